@@ -1,2 +1,4 @@
 -- The definitions of snap_acts, by their modules.
 pub mod Trace
+pub mod Loans
+pub mod Searches

@@ -1,14 +1,19 @@
 //! Runs many schedules of one program, side by side (`batch`) or one after another (`batch_alone`):
-//! the report of the end of each.
+//! the report of the end of each. A run is one of a machine alone (`run_to_end`): no history is
+//! kept, only what callers saw.
 #![tactic(auto)]
 
 ghost use Rattle.std.specs.Prelude.{◌≡◌, IfOk, map};
-ghost use Rattle.snap_runner.specs.End.{end_report};
+ghost use Rattle.snap_batch.specs.End.{end_report};
 
+mod course;
+mod own_code;
+
+pub use course::{Course, run_to_end};
+pub use own_code::OwnCode;
 use rayon::prelude::*;
 use snap_asm_program::Program;
 use snap_report::Report;
-use snap_runner::run_to_end;
 use snap_sched::Schedule;
 use snap_words::{Bits, Kind, KindTag, Multi, Seq};
 use std::alloc::{AllocError, Global};
@@ -75,8 +80,7 @@ pub fn batch_alone(
 {
     let mut collected = Vec::new(alloc);
     for schedule in schedules {
-        let report = end_report(alloc, program, schedule)?;
-        collected.push(report)?;
+        collected.push(end_report(alloc, program, schedule)?)?;
     }
     Ok(collected)
 }

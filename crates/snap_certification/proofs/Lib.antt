@@ -4,3 +4,4 @@ pub mod Findings
 pub mod Sound
 pub mod Complete
 pub mod Chosen
+pub mod Certifying

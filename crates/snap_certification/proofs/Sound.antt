@@ -26,8 +26,8 @@ use Rattle.snap_runs.specs.declared.verdict.Verdict.{Verdict}
 use Rattle.snap_runs.proofs.Audits.{of_scans}
 use Rattle.snap_runs.proofs.Calls.{Calls, EndsWith, IsEnd, UnderAt, UnderCall, item_one, under}
 use Rattle.snap_runs.proofs.Operations.{ends_done, executes_who, same_update, shorter}
-use Rattle.snap_audit_laws.proofs.Complete.{scans_have_verdicts}
-use Rattle.snap_certificate.specs.Certificate.{HasWrite, IsCertificate, IsPointOf, IsWriteOf, WritesAtItem}
+use Rattle.snap_runs.proofs.Complete.{scans_have_verdicts}
+use Rattle.snap_certification.specs.Certificate.{HasWrite, IsCertificate, IsPointOf, IsWriteOf, WritesAtItem}
 use Rattle.snap_certification.specs.Certification.{Evidence, at_line, certificate_of, certificate_point}
 use Rattle.snap_certification.specs.Certification.{certificate_write, certification_of, found_at, point_item}
 use Rattle.snap_certification.specs.Certification.{point_of, points, progress, seen_item}

@@ -23,8 +23,8 @@ use Rattle.snap_runs.specs.Linearization.{IsLinearizable}
 use Rattle.snap_runs.specs.LinearizationPoints.{HasLinearizationPoints}
 use Rattle.snap_runs.specs.Run.{Run, IsValidRun, state, before, item, outcome as outcome_at}
 use Rattle.snap_runs.specs.declared.verdict.Verdict.{Verdict}
-use Rattle.snap_certificate.specs.Certificate as certificate
-use Rattle.snap_certificate.specs.Certificate.{Certificate, IsCertificate, ScanPoint}
+use Rattle.snap_certification.specs.Certificate as certificate
+use Rattle.snap_certification.specs.Certificate.{Certificate, IsCertificate, ScanPoint}
 use Rattle.snap_certification.specs.declared.certificate.Certification.{Certification}
 use Rattle.snap_certification.specs.declared.certificate.Certification.TheVariants as certification
 use Rattle.snap_certification.specs.declared.found.Finding.{Finding}

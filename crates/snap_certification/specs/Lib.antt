@@ -1,2 +1,3 @@
 -- The definitions of snap_certification, by their modules.
 pub mod Certification
+pub mod Certificate

@@ -1,9 +1,11 @@
-//! The certification of a run: the certificate that it has,
-//! or the first thing that is missing for one.
+//! The certification of a run: the certificate that it has, or the first thing that is missing for
+//! one. A run that has a certificate is linearizable, whatever its listing.
 #![tactic(auto)]
 
 ghost use Rattle.snap_certification.specs.Certification.{CertifiedExactly};
 ghost use Rattle.snap_certification.specs.Certification.{CertifiedHasCertificate, PointsCertify};
+ghost use Rattle.snap_certification.specs.Certificate.{CertifiedByPoints, CertifiedHasPlaces};
+ghost use Rattle.snap_certification.specs.Certificate.{CertifiedIsLinearizable};
 
 mod certificate;
 mod found;
@@ -15,7 +17,7 @@ pub use found::{Finding, Lack, Missing, Progress, SeenItem, UpdateWrite};
 pub fn certified_has_certificate()
     ensures { CertifiedHasCertificate }
 {
-    snap_certificate::certified_is_linearizable();
+    certified_is_linearizable();
 }
 
 /// A run is certified exactly where it has a certificate in which updates write at
@@ -23,7 +25,7 @@ pub fn certified_has_certificate()
 pub fn certified_exactly()
     ensures { CertifiedExactly }
 {
-    snap_certificate::certified_by_points();
+    certified_by_points();
 }
 
 /// A run whose operations have linearization points is certified, where its updates write at the
@@ -31,4 +33,24 @@ pub fn certified_exactly()
 #[tactic(auto, using(crate::proofs::Chosen::points_certify))]
 pub fn points_certify()
     ensures { PointsCertify }
+{}
+
+/// A run that has a certificate is linearizable.
+pub fn certified_is_linearizable()
+    ensures { CertifiedIsLinearizable }
+{
+    snap_runs::linearizable_by_points();
+}
+
+/// In such a run each operation has its place.
+pub fn certified_has_places()
+    ensures { CertifiedHasPlaces }
+{
+    snap_runs::placed_by_points();
+}
+
+/// A run has a certificate exactly where its operations have linearization points: so a run of a
+/// listing of one's own can be certified item by item.
+pub fn certified_by_points()
+    ensures { CertifiedByPoints }
 {}

@@ -17,7 +17,7 @@ use Rattle.snap_semantics.specs.declared.process.Item.{Item}
 use Rattle.snap_semantics.specs.declared.process.Item.TheVariants.{Step}
 use Rattle.snap_semantics.specs.declared.process.Activity.{Activity}
 use Rattle.snap_runs.specs.Linearization.{IsLinearizable}
-use Rattle.snap_certificate.specs.Certificate.{IsCertificate}
+use Rattle.snap_certification.specs.Certificate.{IsCertificate}
 use Rattle.snap_runs.specs.Run.{Run, IsValidRun, state, item}
 use Rattle.snap_runs.proofs.Calls.{item_one}
 use Rattle.snap_runs.proofs.Computing.{lt_true, other_number, same_number}

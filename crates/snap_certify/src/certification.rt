@@ -2,7 +2,7 @@
 //! missing.
 ghost use Rattle.std.specs.Prelude.{◌≡◌, IfOk, IsOk, Ok};
 ghost use Rattle.snap_runs.specs.Linearization.{IsLinearizable};
-ghost use Rattle.snap_certificate.specs.Certificate.{IsCertificate};
+ghost use Rattle.snap_certification.specs.Certificate.{IsCertificate};
 ghost use Rattle.snap_certification.specs.Certification.{
   Evidence,
   certificate_of,

@@ -7,7 +7,7 @@ use Rattle.snap_runs.specs.LinearizationPoints.{HasLinearizationPoints}
 use Rattle.snap_runs.specs.Run.{Run, run_of_items}
 use Rattle.snap_runs.specs.Snapshot.{Bounds, IsSnapshotRun}
 use Rattle.snap_shipped.specs.Shipped.{shipped, shipped_bounds}
-use Rattle.snap_promises.specs.Kept.{RunsKeepPromises}
+use Rattle.snap_shipped.specs.Kept.{RunsKeepPromises}
 use Rattle.snap_certification.specs.Certification.{PointsCertify, putting_line}
 use Rattle.snap_certify_laws.specs.Shipped.{RunsAreCertified}
 

@@ -9,6 +9,6 @@ ghost use Rattle.snap_certify_laws.specs.Shipped.{RunsAreCertified};
 pub fn shipped_runs_are_certified()
     ensures { (g : KindTag) → RunsAreCertified g }
 {
-    snap_promises::shipped_runs_keep_promises();
+    snap_shipped::shipped_runs_keep_promises();
     snap_certification::points_certify();
 }

@@ -12,7 +12,7 @@ use Rattle.snap_semantics.specs.declared.refusal.Refusal.{Refusal}
 use Rattle.snap_live_output.specs.declared.fault.LiveRunFault.{LiveRunFault}
 use Rattle.snap_live_output.specs.declared.fault.LiveRunFault.TheVariants as run
 use Rattle.snap_live_output.specs.LiveAnswer.{AnswersLive}
-use Rattle.snap_subject.specs.declared.subject.Subject.{Subject}
+use Rattle.snap_tasks.specs.declared.subject.Subject.{Subject}
 use Rattle.snap_devices.specs.WholeRun.{of_fault, of_live_fault, IsWhole, RefusesLive, Takes, Reads}
 use Rattle.snap_devices.specs.WholeRun.{Sends, ConductsOn, ConductsKeeping, IsKept, done_of}
 use Rattle.snap_devices.specs.declared.fault.ConductFault.{ConductFault}

@@ -10,7 +10,7 @@ use Rattle.snap_live_output.specs.declared.fault.LiveRunFault.{LiveRunFault}
 use Rattle.snap_live_output.specs.declared.fault.LiveRunFault.TheVariants as run
 use Rattle.snap_live_output.specs.LiveOutput.{MayGiveUp, MayWrite, setup_of}
 use Rattle.snap_live_output.specs.Uncalled.{uncalled_of}
-use Rattle.snap_subject.specs.declared.subject.Subject.{Subject}
+use Rattle.snap_tasks.specs.declared.subject.Subject.{Subject}
 use Rattle.snap_devices.specs.declared.fault.ConductFault.{ConductFault}
 use Rattle.snap_devices.specs.declared.fault.ConductFault.TheVariants as fault
 

@@ -10,7 +10,7 @@ use crate::fault::ConductFault;
 use crate::whole_texts::{read_all, write_all};
 use snap_live::Gate;
 use snap_live_output::live_output;
-use snap_subject::Subject;
+use snap_tasks::Subject;
 use std::alloc::Global;
 use std::sync::Wait;
 use std::thread::Threads;

@@ -9,8 +9,8 @@ use Rattle.snap_semantics.specs.Schedule.{Schedule, schedule_of}
 use Rattle.snap_semantics.specs.Token.{lines_of}
 use Rattle.snap_input.specs.Input.{texts_for}
 use Rattle.snap_input.specs.Parts.{part, parts_of}
-use Rattle.snap_subject.specs.declared.subject.Subject.{Subject}
-use Rattle.snap_subject.specs.declared.subject.Subject.TheVariants as subject
+use Rattle.snap_tasks.specs.declared.subject.Subject.{Subject}
+use Rattle.snap_tasks.specs.declared.subject.Subject.TheVariants as subject
 use Rattle.snap_tasks.specs.declared.task.Task.TheVariants as task
 use Rattle.snap_tasks.specs.declared.request.Request.{Request}
 use Rattle.snap_tasks.specs.declared.request.Request.TheVariants.{Do, Live}

@@ -18,7 +18,7 @@ use crate::spot::line_of;
 use snap_expected::is_word;
 use snap_input::split_parts;
 use snap_semantics::{ListingRefusal, Refusal};
-use snap_subject::Subject;
+use snap_tasks::Subject;
 use snap_text::{TextLines, Token, push_numbers, push_text};
 use std::alloc::{AllocError, Global};
 

@@ -3,8 +3,7 @@
 ghost use Rattle.std.specs.Prelude.{◌≡◌};
 ghost use Rattle.snap_explanation.specs.Part.{layout_of};
 
-use snap_subject::Subject;
-use snap_tasks::{Request, Task};
+use snap_tasks::{Request, Subject, Task};
 
 /// The texts behind the listing.
 #[derive(Clone, Copy, PartialEq, Eq)]

@@ -13,7 +13,7 @@ use crate::layout::{Layout, Texts};
 use snap_input::split_parts;
 use snap_sched::read;
 use snap_semantics::{Fault, Refusal};
-use snap_subject::Subject;
+use snap_tasks::Subject;
 use snap_text::line_count;
 use std::alloc::{AllocError, Global};
 

@@ -13,7 +13,7 @@ use Rattle.snap_runs.specs.Audit.{audit, last_call}
 use Rattle.snap_runs.specs.Run.{Run, item, state}
 use Rattle.snap_runs.specs.Scan.{own_steps, takes_step}
 use Rattle.snap_runs.specs.declared.verdict.Verdict.{Verdict}
-use Rattle.snap_promises.specs.Kept.{update_turns}
+use Rattle.snap_shipped.specs.Kept.{update_turns}
 use Rattle.snap_survey.specs.Survey.{asks_update, first_found}
 use Rattle.snap_failure.specs.declared.failures.Failure.{Failure}
 use Rattle.snap_failure.specs.declared.failures.Failure.TheVariants as failure

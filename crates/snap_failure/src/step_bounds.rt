@@ -1,7 +1,7 @@
 //! `most_steps`: how many steps of its own an operation may take before that is a failure: a given
 //! number, or the bound of the shipped listing.
 ghost use Rattle.std.specs.Prelude.{◌≡◌, ◌*◌, ◌≤◌};
-ghost use Rattle.snap_promises.specs.Kept.{update_turns};
+ghost use Rattle.snap_shipped.specs.Kept.{update_turns};
 ghost use Rattle.snap_failure.specs.Failing.{most_steps};
 
 use crate::failures::StepBound;

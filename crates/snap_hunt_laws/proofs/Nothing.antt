@@ -19,7 +19,7 @@ use Rattle.snap_runs.specs.Promises.{HasTrapped}
 use Rattle.snap_runs.specs.Run.{IsValidRun, Run, run_of_items, state}
 use Rattle.snap_runs.specs.declared.verdict.Verdict.{Verdict}
 use Rattle.snap_shipped.specs.Shipped.{shipped}
-use Rattle.snap_promises.specs.Kept.{KeepsPromises, NumbersSuffice, RunsKeepPromises}
+use Rattle.snap_shipped.specs.Kept.{KeepsPromises, NumbersSuffice, RunsKeepPromises}
 use Rattle.snap_chance.specs.Chance.{items_by, schedule_of, start_of}
 use Rattle.snap_chance.specs.Plan.{IsPlan, Plan}
 use Rattle.snap_chance.proofs.Moving.{are_items}

@@ -12,7 +12,7 @@ use Rattle.snap_runs.specs.Run.{IsValidRun, Run, item, outcome}
 use Rattle.snap_runs.specs.Scan.{count, is_not_skipped, own_steps, steps, takes_step}
 use Rattle.snap_runs.specs.WaitFree.{is_alive, turns}
 use Rattle.snap_shipped.specs.Shipped.{shipped, shipped_bounds}
-use Rattle.snap_promises.specs.Kept.{KeepsPromises, update_turns}
+use Rattle.snap_shipped.specs.Kept.{KeepsPromises, update_turns}
 use Rattle.snap_failure.specs.Failing.{long_of, many_steps, most_steps}
 use Rattle.snap_failure.specs.Operations.{StepsAreOfOperations, TakesMore}
 use Rattle.snap_failure.specs.declared.failures.Failure.{Failure}

@@ -5,7 +5,7 @@ use Rattle.std.specs.List.{find, range_with_len}
 use Rattle.snap_words.specs.Kind.{fits}
 use Rattle.snap_words.specs.Shape.{Counts}
 use Rattle.snap_words.specs.declared.kind.KindTag.{KindTag}
-use Rattle.snap_promises.specs.Kept.{update_turns}
+use Rattle.snap_shipped.specs.Kept.{update_turns}
 use Rattle.snap_shipped.specs.Shipped.{shipped}
 use Rattle.snap_chance.specs.Plan.{IsPlan, Plan}
 use Rattle.snap_failure.specs.declared.failures.StepBound.{StepBound}

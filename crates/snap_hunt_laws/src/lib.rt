@@ -9,6 +9,6 @@ ghost use Rattle.snap_hunt_laws.specs.Shipped.{FindsNothing};
 pub fn shipped_listings_have_no_failing_run()
     ensures { (g : KindTag) → FindsNothing g }
 {
-    snap_promises::shipped_runs_keep_promises();
+    snap_shipped::shipped_runs_keep_promises();
     snap_failure::steps_are_of_operations();
 }

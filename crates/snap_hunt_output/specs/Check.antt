@@ -10,7 +10,7 @@ use Rattle.snap_debug_commands.specs.Commands.{commands_of}
 use Rattle.snap_input.specs.Input.{parted}
 use Rattle.snap_input.specs.Parts.{part, parts_of}
 use Rattle.snap_input.specs.Schedules.{schedule_for}
-use Rattle.snap_subject.specs.declared.subject.Subject.TheVariants.{FirstPart}
+use Rattle.snap_tasks.specs.declared.subject.Subject.TheVariants.{FirstPart}
 use Rattle.snap_failure.specs.Failing.{failure_of}
 use Rattle.snap_failure.specs.declared.failures.Failure.{Failure}
 use Rattle.snap_failure.specs.declared.failures.Wanted.{Wanted}

@@ -6,16 +6,15 @@ ghost use Rattle.snap_semantics.specs.declared.refusal.Refusal.TheVariants as re
 ghost use Rattle.snap_debug_commands.specs.Commands.{commands_of};
 ghost use Rattle.snap_input.specs.Input.{parted};
 ghost use Rattle.snap_input.specs.Parts.{parts_of};
-ghost use Rattle.snap_subject.specs.declared.subject.Subject.TheVariants.{FirstPart};
+ghost use Rattle.snap_tasks.specs.declared.subject.Subject.TheVariants.{FirstPart};
 ghost use Rattle.snap_hunt_output.specs.Check.{failure_in_input, failure_in_texts, failure_under};
 
 use snap_asm_program::Program;
 use snap_debug_commands::{Command, read_commands};
 use snap_failure::{Failure, Wanted, failure_over};
-use snap_input::{parts_for, program_for, texts_for};
-use snap_schedules::read_schedule;
+use snap_input::{parts_for, program_for, read_schedule, texts_for};
 use snap_semantics::{Fault, Refusal};
-use snap_subject::Subject;
+use snap_tasks::Subject;
 use std::alloc::Global;
 
 /// Reads commands.

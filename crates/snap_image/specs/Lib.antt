@@ -1,2 +1,2 @@
 -- The definitions of snap_image, by their modules.
-pub use Rattle.snap_image_laws.specs.Laws
+pub use Rattle.snap_image_format.specs.Laws

@@ -3,7 +3,7 @@
 
 pub use snap_image_decoder::{ImageFault, decode};
 pub use snap_image_encoder::encode;
-pub use snap_image_laws::{
+pub use snap_image_format::{
     images_are_bytes, more_than_an_image_is_refused, what_is_decoded_is_an_image,
     what_is_encoded_is_decoded,
 };

@@ -11,8 +11,8 @@ use Rattle.snap_image_format.specs.ImageForms.{Rest}
 use Rattle.snap_image_format.specs.ImageListing.{commented_in, ended, head_in, lines_in}
 use Rattle.snap_semantics.specs.Listing.{checked_targets, line_targets, with_lines}
 use Rattle.snap_semantics.specs.Source.{Source}
-use Rattle.snap_image_laws.proofs.AgainListing.{decodes_all}
-use Rattle.snap_image_laws.proofs.SaidListing.{decodes_only, are_bytes, decoded_is_listing}
+use Rattle.snap_image_format.proofs.AgainListing.{decodes_all}
+use Rattle.snap_image_format.proofs.SaidListing.{decodes_only, are_bytes, decoded_is_listing}
 
 pub only_images : (bytes : List ℕ) → ((i : ℕ) → Fits w8 (slice_index_or bytes i 0)) →
     (answer : Result Commented (Fault ImageRefusal)) →

@@ -5,11 +5,10 @@ ghost use Rattle.snap_semantics.specs.Answers.{Answers};
 ghost use Rattle.snap_image_format.specs.ImageListing.{comment_byte_in, comment_bytes_in};
 ghost use Rattle.snap_image_format.specs.ImageListing.{some_comment_in, comment_in, behind_line_in};
 ghost use Rattle.snap_listing_core.specs.Fields.{seen_comment};
-ghost use Rattle.snap_image_codes.specs.Reads.{Reads};
+ghost use Rattle.snap_image_format.specs.Reads.{Reads};
 
 use crate::fault::ImageFault;
-use snap_image_codes::Cursor;
-use snap_image_format::ImageVersion;
+use snap_image_format::{Cursor, ImageVersion};
 use snap_semantics::ImageRefusal;
 use std::alloc::Global;
 

@@ -10,11 +10,10 @@ ghost use Rattle.snap_listing_core.specs.Fields.{header_source};
 ghost use Rattle.snap_semantics.specs.declared.fault.Fault.TheVariants.{Refused};
 ghost use Rattle.snap_semantics.specs.declared.refusal.ImageRefusal.{ImageRefusal};
 ghost use Rattle.snap_image_decoder.specs.Head.{known_names, opened};
-ghost use Rattle.snap_image_codes.specs.Reads.{Reads};
+ghost use Rattle.snap_image_format.specs.Reads.{Reads};
 
 use crate::fault::ImageFault;
-use snap_image_codes::{Cursor, with_code};
-use snap_image_format::ImageVersion;
+use snap_image_format::{Cursor, ImageVersion, with_code};
 use snap_listing_core::Header;
 use snap_listing_rules::{is_among, is_reserved};
 use snap_semantics::{ImageRefusal, ListingRefusal, Name};

@@ -4,13 +4,12 @@ ghost use Rattle.snap_semantics.specs.Answers.{Answers};
 ghost use Rattle.snap_image_format.specs.Image.{is_number_in};
 ghost use Rattle.snap_image_format.specs.ImageListing.{new_number, line_in, lines_in};
 ghost use Rattle.snap_listing_core.specs.Fields.{header_source};
-ghost use Rattle.snap_image_codes.specs.Reads.{Reads};
+ghost use Rattle.snap_image_format.specs.Reads.{Reads};
 ghost use Rattle.snap_image_decoder.specs.DecoderSteps.{added_line, listed};
 
 use crate::comments::behind_line;
 use crate::fault::ImageFault;
-use snap_image_codes::Cursor;
-use snap_image_format::ImageVersion;
+use snap_image_format::{Cursor, ImageVersion};
 use snap_image_operands::instr;
 use snap_listing_core::Header;
 use snap_listing_rules::{is_line_number, push_line_copy};
@@ -88,9 +87,8 @@ fn add_line(
 {
     match line_at(header, version, line, last, cursor) {
         Ok(found) => {
-            let comment = behind_line(alloc, version, cursor)?;
             push_line_copy(&mut read.lines, &found)?;
-            read.comments.push(comment)?;
+            read.comments.push(behind_line(alloc, version, cursor)?)?;
             Ok(found.number)
         }
         Err(refusal) => Err(ImageFault::Refused(refusal)),

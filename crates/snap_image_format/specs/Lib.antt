@@ -5,3 +5,6 @@ pub mod ImageForms
 pub mod ImageInstrs
 pub mod ImageListing
 pub mod Assembly
+pub mod Widths
+pub mod Laws
+pub mod Reads

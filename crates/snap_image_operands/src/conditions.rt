@@ -4,10 +4,10 @@ ghost use Rattle.snap_image_format.specs.ImageForms.{comparison_in, one_in, two_
 ghost use Rattle.snap_image_format.specs.ImageForms.{three_in, four_in, comparisons_in};
 ghost use Rattle.snap_image_format.specs.ImageForms.{condition_in, where_of_flag, where_in};
 ghost use Rattle.snap_listing_core.specs.Fields.{header_source};
-ghost use Rattle.snap_image_codes.specs.Reads.{Reads};
+ghost use Rattle.snap_image_format.specs.Reads.{Reads};
 
 use crate::terms::term;
-use snap_image_codes::Cursor;
+use snap_image_format::Cursor;
 use snap_listing_core::Header;
 use snap_semantics::{Comparison, Condition, ImageRefusal, Join, Relation};
 

@@ -8,13 +8,12 @@ ghost use Rattle.snap_image_format.specs.ImageInstrs.{view_data_in, view_of_in, 
 ghost use Rattle.snap_image_format.specs.ImageInstrs.{next_in, if_in, if_all_in, goto_in};
 ghost use Rattle.snap_image_format.specs.ImageInstrs.{call_in, return_in, operands_in, instr_in};
 ghost use Rattle.snap_listing_core.specs.Fields.{header_source};
-ghost use Rattle.snap_image_codes.specs.Reads.{Reads};
+ghost use Rattle.snap_image_format.specs.Reads.{Reads};
 ghost use Rattle.snap_image_operands.specs.HasForm.{has_form};
 
 use crate::conditions::{condition, optional_condition};
 use crate::terms::{expr, index};
-use snap_image_codes::Cursor;
-use snap_image_format::InstrTag;
+use snap_image_format::{Cursor, InstrTag};
 use snap_listing_core::Header;
 use snap_listing_rules::{has_bank, has_view, same_kind};
 use snap_semantics::{BitBank, ImageRefusal, Instr, ListingRefusal, Range, Tuple};

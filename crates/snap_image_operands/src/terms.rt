@@ -7,10 +7,9 @@ ghost use Rattle.snap_image_format.specs.ImageForms.{term_of_tag, term_in, plain
 ghost use Rattle.snap_image_format.specs.ImageForms.{sum_expr, not_expr, expr_in};
 ghost use Rattle.snap_semantics.specs.Uses.{FieldUse, HandshakeUse};
 ghost use Rattle.snap_listing_core.specs.Fields.{header_source};
-ghost use Rattle.snap_image_codes.specs.Reads.{Reads};
+ghost use Rattle.snap_image_format.specs.Reads.{Reads};
 
-use snap_image_codes::Cursor;
-use snap_image_format::{ExprTag, TermTag};
+use snap_image_format::{Cursor, ExprTag, TermTag};
 use snap_listing_core::Header;
 use snap_listing_rules::{has_field, has_handshakes};
 use snap_semantics::{Expr, ImageRefusal, Index, ListingRefusal, Term};

@@ -9,8 +9,8 @@ use Rattle.snap_words.specs.declared.kind.KindTag.{KindTag}
 use Rattle.snap_input.proofs.Answered.{both, same_answer}
 use Rattle.snap_input.specs.Input.{checked_parts, counted_parts, listing_for, parted, texts_for}
 use Rattle.snap_shipped.specs.Shipped.{shipped}
-use Rattle.snap_subject.specs.declared.subject.Subject.{Subject}
-use Rattle.snap_subject.specs.declared.subject.Subject.TheVariants.{Shipped}
+use Rattle.snap_tasks.specs.declared.subject.Subject.{Subject}
+use Rattle.snap_tasks.specs.declared.subject.Subject.TheVariants.{Shipped}
 
 -- the parts were counted, and are those that were found
 counted : (checked : Result (Unit {0}) Refusal) (parts found : List (List ℕ)) →

@@ -7,8 +7,8 @@ use Rattle.snap_semantics.specs.Listing.{listing_of}
 use Rattle.snap_semantics.specs.Source.{Source}
 use Rattle.snap_shipped.specs.Shipped.{shipped}
 use Rattle.snap_input.specs.Parts.{part}
-use Rattle.snap_subject.specs.declared.subject.Subject.{Subject}
-use Rattle.snap_subject.specs.declared.subject.Subject.TheVariants as subject
+use Rattle.snap_tasks.specs.declared.subject.Subject.{Subject}
+use Rattle.snap_tasks.specs.declared.subject.Subject.TheVariants as subject
 
 -- the listing that a task runs
 abbrev pub listing_for : Subject → List (List ℕ) → Result Source Refusal

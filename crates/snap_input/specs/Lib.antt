@@ -2,3 +2,4 @@
 pub mod Input
 pub mod Parts
 pub mod Schedules
+pub mod ManySchedules

@@ -1,16 +1,22 @@
 //! What the program reads: the parts of an input, which are the listing that it runs and the texts
-//! after it.
+//! after it; and many schedules, read one after another or side by side.
 #![tactic(auto)]
 
+mod counts;
 mod images;
+mod in_threads;
+mod in_turn;
 mod part_counts;
 mod parts;
 mod schedules;
 mod subject;
 
+pub use counts::check_schedules;
 pub use images::{assemble, list, program_of, upgrade};
+pub use in_threads::read_side_by_side;
+pub use in_turn::{read_schedule, read_schedules, schedules_for};
 pub use part_counts::{MAX_INPUT, count_texts, parts_for};
 pub use parts::{count_separators, split_parts};
 pub use schedules::schedule_for;
-pub use snap_subject::Subject;
+pub use snap_tasks::Subject;
 pub use subject::{program_for, shipped, texts_for};

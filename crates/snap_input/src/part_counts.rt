@@ -9,7 +9,7 @@ ghost use Rattle.snap_input.specs.Parts.{max_input, parts_of};
 
 use crate::parts::{count_separators, split_parts};
 use snap_semantics::{Fault, Refusal};
-use snap_subject::Subject;
+use snap_tasks::Subject;
 use std::alloc::Global;
 
 /// The most bytes that an input may have.

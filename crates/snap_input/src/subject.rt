@@ -4,14 +4,14 @@ ghost use Rattle.std.specs.Prelude.{◌≡◌, ◌<◌, IfOk, length, map};
 ghost use Rattle.snap_semantics.specs.Answers.{Answers};
 ghost use Rattle.snap_input.specs.Input.{listing_for, texts_for};
 ghost use Rattle.snap_shipped.specs.Shipped.{shipped};
-ghost use Rattle.snap_subject.specs.declared.subject.Subject.TheVariants.{FirstPart};
+ghost use Rattle.snap_tasks.specs.declared.subject.Subject.TheVariants.{FirstPart};
 
 use crate::images::program_of;
 use snap_asm_program::Program;
 use snap_loader::load;
 use snap_semantics::{Fault, Refusal};
 use snap_shipped::{listing_b, listing_m, listing_u};
-use snap_subject::Subject;
+use snap_tasks::Subject;
 use snap_words::KindTag;
 use std::alloc::{AllocError, Global};
 

@@ -6,3 +6,4 @@ pub mod Warned
 pub mod Steps
 pub mod Sound
 pub mod Ways
+mod WarningSamples

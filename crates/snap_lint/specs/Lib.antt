@@ -4,3 +4,5 @@ pub mod Flow
 pub mod Fields
 pub mod Warnings
 pub mod Sound
+pub mod Check
+pub mod Lint

@@ -1,23 +1,28 @@
-//! What a listing may run into: the lines to which control may come, and what is to be warned of
-//! there.
+//! What a listing may run into: the lines to which control may come, what is to be warned of there,
+//! and what the tasks `check` and `lint` write of it.
 #![tactic(auto)]
-
-mod concern;
-mod edges;
-mod flow;
-mod lint;
-mod marks;
-mod mode;
-mod traps;
 
 ghost use Rattle.snap_lint.specs.Marks.{ReachedByWays};
 ghost use Rattle.snap_lint.specs.Sound.{SilentNeverTraps, TrapsAreWarnedOf};
 
+mod check;
+mod concern;
+mod edges;
+mod flow;
+mod line_warnings;
+mod listing;
+mod marks;
+mod mode;
+mod text;
+mod traps;
+
+pub use check::check_of;
 pub use concern::{Concern, Warning};
 pub use edges::Edge;
 pub use flow::Flow;
-pub use lint::warnings;
+pub use line_warnings::warnings;
 pub use mode::{Mode, Way};
+pub use text::{lint, lint_of};
 
 /// Whatever the schedule: a process that has trapped, at the end of the listing, at a call within
 /// a call, at an end that its operation does not have or at a register of another process, stands

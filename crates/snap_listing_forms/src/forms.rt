@@ -12,10 +12,8 @@ ghost use Rattle.snap_text.specs.Tokens.{Finds, view_tokens};
 
 use crate::behind::{every_place, expr_behind, index_behind, name_behind};
 use crate::tuples::tuple_at;
+use crate::{condition_at, name_at, named_place_at, place_at, range_at, target_at, where_at};
 use snap_listing_rules::is_line_number;
-use snap_listing_terms::{
-    condition_at, name_at, named_place_at, place_at, range_at, target_at, where_at,
-};
 use snap_semantics::{BitBank, Index, Instr, Line, Symbol};
 use snap_text::{Token, end_at, identifier_at, keyword_at, number_at, symbol_at};
 use snap_words::KindTag;

@@ -7,7 +7,7 @@ use Rattle.snap_semantics.specs.Answers.{refused_as}
 use Rattle.snap_semantics.specs.Source.{Source}
 use Rattle.snap_semantics.specs.declared.refusal.Refusal.TheVariants as refusal
 use Rattle.snap_sched.specs.ScriptText.{Scripts, scripts_of}
-use Rattle.snap_subject.specs.declared.subject.Subject.{Subject}
+use Rattle.snap_tasks.specs.declared.subject.Subject.{Subject}
 use Rattle.snap_input.specs.Input.{checked_parts, listing_for, parted, texts_for}
 use Rattle.snap_input.specs.Parts.{part, parts_of, max_input}
 use Rattle.snap_input.proofs.Answered.{both, not_refused, passed, same_answer, within}

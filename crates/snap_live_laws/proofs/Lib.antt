@@ -7,3 +7,4 @@ mod ScriptsFit
 mod PlaysFit
 pub mod Inputs
 mod Again
+mod Rerun

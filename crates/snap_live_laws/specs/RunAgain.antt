@@ -6,7 +6,7 @@ use Rattle.snap_semantics.specs.ScheduleText.{IsSchedule, schedule_text}
 use Rattle.snap_semantics.specs.declared.process.Item.{Item}
 use Rattle.snap_report.specs.RunReport.{report_at}
 use Rattle.snap_runs.specs.Run.{run_over}
-use Rattle.snap_subject.specs.declared.subject.Subject.{Subject}
+use Rattle.snap_tasks.specs.declared.subject.Subject.{Subject}
 use Rattle.snap_live_output.specs.LiveOutput.{IsLiveText, Setup, setup_of}
 use Rattle.snap_live_laws.specs.Printed.{before_report, report_in}
 

@@ -1,7 +1,8 @@
-//! What is printed of a live run, run again, is the same run.
+//! What is printed of a live run, run again, is the same run, and prints the same report.
 #![tactic(auto)]
 
 ghost use Rattle.snap_live_laws.specs.RunAgain.{LiveRunsAreCut, LiveRunsAreReadAgain};
+ghost use Rattle.snap_live_laws.specs.Rerun.{LiveRunsAreRunAgain};
 
 use snap_sched::{prints_again, reads_only_spelled};
 
@@ -18,4 +19,13 @@ pub fn live_runs_are_read_again()
 {
     prints_again();
     reads_only_spelled();
+}
+
+/// What is printed of a live run before its report, run over the same listing, prints the report of
+/// the live run, byte for byte. It is one part of an input.
+pub fn live_runs_are_run_again()
+    ensures { LiveRunsAreRunAgain }
+{
+    live_runs_are_cut();
+    live_runs_are_read_again();
 }

@@ -11,10 +11,10 @@ use Rattle.snap_semantics.specs.declared.process.Item.{Item}
 use Rattle.snap_semantics.specs.declared.refusal.Refusal.TheVariants as refusal
 use Rattle.snap_sched.specs.ScriptText.{Scripts, scripts_of}
 use Rattle.snap_runs.specs.Run.{Run}
-use Rattle.snap_promises.specs.Kept.{KeepsPromises, NumbersSuffice, RunsKeepPromises}
+use Rattle.snap_shipped.specs.Kept.{KeepsPromises, NumbersSuffice, RunsKeepPromises}
 use Rattle.snap_shipped.specs.Shipped.{shipped}
 use Rattle.snap_input.specs.Parts.{part, parts_of, max_input}
-use Rattle.snap_subject.specs.declared.subject.Subject.TheVariants.{Shipped}
+use Rattle.snap_tasks.specs.declared.subject.Subject.TheVariants.{Shipped}
 use Rattle.snap_input.proofs.Answered.{both, passed, same_answer, within}
 use Rattle.snap_input.proofs.Parting.{of_texts}
 use Rattle.snap_live_desk.specs.Turns.{run_of}

@@ -1,7 +1,7 @@
 -- What a live run answers for an input: the history that it writes, and what is said of operations that call nothing;
 -- or why it writes nothing.
 use Rattle.std.specs.Prelude.{◌≡◌, ℕ, List, Bool, Result, Ok, Err, ⊤}
-use Rattle.snap_subject.specs.declared.subject.Subject.{Subject}
+use Rattle.snap_tasks.specs.declared.subject.Subject.{Subject}
 use Rattle.snap_live_output.specs.LiveOutput.{MayGiveUp, MayWrite, setup_of}
 use Rattle.snap_live_output.specs.Uncalled.{uncalled_of}
 use Rattle.snap_live_output.specs.declared.fault.LiveRunFault.{LiveRunFault}

@@ -16,7 +16,7 @@ use Rattle.snap_semantics.specs.Source.{Source}
 use Rattle.snap_sched.specs.ScriptText.{AreScripts, Scripts, scripts_of}
 use Rattle.snap_runs.specs.Run.{Run, IsValidRun}
 use Rattle.snap_report.specs.RunReport.{report_at}
-use Rattle.snap_subject.specs.declared.subject.Subject.{Subject}
+use Rattle.snap_tasks.specs.declared.subject.Subject.{Subject}
 use Rattle.snap_input.specs.Input.{parted}
 use Rattle.snap_input.specs.Parts.{part, parts_of, max_input}
 use Rattle.snap_live_desk.specs.declared.seat_state.Setting.{Setting}

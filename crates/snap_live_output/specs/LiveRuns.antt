@@ -3,9 +3,9 @@
 use Rattle.std.specs.Prelude.{◌≡◌, ℕ, List}
 use Rattle.snap_words.specs.declared.kind.KindTag.{KindTag}
 use Rattle.snap_runs.specs.Run.{Run, IsValidRun}
-use Rattle.snap_promises.specs.Kept.{KeepsPromises}
+use Rattle.snap_shipped.specs.Kept.{KeepsPromises}
 use Rattle.snap_shipped.specs.Shipped.{shipped}
-use Rattle.snap_subject.specs.declared.subject.Subject.TheVariants.{Shipped}
+use Rattle.snap_tasks.specs.declared.subject.Subject.TheVariants.{Shipped}
 use Rattle.snap_live_output.specs.LiveOutput.{IsLiveOutput, history_text}
 
 -- the text is the history of a run of the listing that is shipped for a kind, which keeps all that is promised of it

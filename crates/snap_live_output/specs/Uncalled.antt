@@ -11,7 +11,7 @@ use Rattle.snap_semantics.specs.declared.process.Op.{Op}
 use Rattle.snap_semantics.specs.declared.refusal.Refusal.{Refusal}
 use Rattle.snap_sched.specs.ScriptText.{Script}
 use Rattle.snap_report.specs.OutcomeText.{reason_text}
-use Rattle.snap_subject.specs.declared.subject.Subject.{Subject}
+use Rattle.snap_tasks.specs.declared.subject.Subject.{Subject}
 use Rattle.snap_live_output.specs.LiveOutput.{Setup, setup_of}
 use Rattle.snap_live_output.specs.declared.uncalled.UncalledCall.{UncalledCall}
 

@@ -2,7 +2,7 @@
 //! history of a run that keeps all its promises.
 ghost use Rattle.snap_live_output.specs.LiveRuns.{LiveRunsAreSnapshots};
 
-use snap_promises::shipped_runs_keep_promises;
+use snap_shipped::shipped_runs_keep_promises;
 
 /// What a live run of a shipped listing writes is the history of a run that keeps all that is
 /// promised of the listing: every finished scan answered the memory's values at one step between

@@ -9,7 +9,7 @@ use crate::played_text::play;
 use crate::setup::setup_of;
 use crate::uncalled::uncalled_text;
 use snap_live::Gate;
-use snap_subject::Subject;
+use snap_tasks::Subject;
 use std::alloc::Global;
 use std::sync::Wait;
 use std::thread::Threads;

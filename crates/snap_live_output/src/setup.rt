@@ -12,7 +12,7 @@ use snap_asm_program::Program;
 use snap_input::{MAX_INPUT, parts_for, program_for, texts_for};
 use snap_sched::Scripts;
 use snap_semantics::{Fault, Refusal};
-use snap_subject::Subject;
+use snap_tasks::Subject;
 use snap_words::{Bits, Kind, KindTag, Multi, Seq, Shape, WordFault};
 use std::alloc::Global;
 use std::marker::Model;

@@ -11,7 +11,7 @@ use Rattle.snap_input.specs.Parts.{part, parts_of}
 use Rattle.snap_input.specs.Schedules.{schedule_for}
 use Rattle.snap_run_output.specs.RunOutput.{end_text, run_listing}
 use Rattle.snap_run_trace.specs.Trace.{trace_text}
-use Rattle.snap_trace_output.specs.Traces.{trace_listing, traces_text}
+use Rattle.snap_run_trace.specs.Traces.{trace_listing, traces_text}
 use Rattle.snap_output.specs.Output.{output_of, run_text}
 use Rattle.snap_output.specs.Refusals.{AreRefusedAlike, RefusesTracesAsRuns}
 use Rattle.snap_output.proofs.Ended.{of_listing}

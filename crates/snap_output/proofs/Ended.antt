@@ -6,10 +6,10 @@ use Rattle.snap_semantics.specs.Source.{Source}
 use Rattle.snap_semantics.specs.declared.refusal.Refusal.{Refusal}
 use Rattle.snap_input.specs.Input.{checked_parts, listing_for, parted, texts_for}
 use Rattle.snap_input.specs.Parts.{part}
-use Rattle.snap_perform.proofs.ToTheEnd.{to_the_end}
+use Rattle.snap_output.proofs.ToTheEnd.{to_the_end}
 use Rattle.snap_run_output.specs.RunOutput.{ended_text, run_listing}
 use Rattle.snap_output.specs.Output.{run_text}
-use Rattle.snap_subject.specs.declared.subject.Subject.{Subject}
+use Rattle.snap_tasks.specs.declared.subject.Subject.{Subject}
 
 -- over a listing and the text of a schedule
 pub of_listing : (l : Source) (texts : List (List ℕ)) → run_text l texts ≡ ended_text l texts

@@ -3,3 +3,4 @@ pub mod Shipping
 pub mod AtOnce
 pub mod Alike
 pub mod Ended
+pub mod ToTheEnd

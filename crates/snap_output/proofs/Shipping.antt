@@ -19,11 +19,11 @@ use Rattle.snap_semantics.specs.declared.refusal.Refusal.TheVariants as refusal
 use Rattle.snap_asm.specs.Laws.{ListsBack}
 use Rattle.snap_sched.specs.Laws.{ReadsOnlySpelled}
 use Rattle.snap_runs.specs.Run.{run_over}
-use Rattle.snap_promises.specs.Kept.{NumbersSuffice, RunsKeepPromises}
+use Rattle.snap_shipped.specs.Kept.{NumbersSuffice, RunsKeepPromises}
 use Rattle.snap_record.proofs.Within.{run_fits}
 use Rattle.snap_audit.specs.VerdictText.{audit_text}
 use Rattle.snap_batch.specs.Reports.{reports_text}
-use Rattle.snap_runner.specs.End.{end_report}
+use Rattle.snap_batch.specs.End.{end_report}
 use Rattle.snap_debug_commands.specs.Commands.{commands_of}
 use Rattle.snap_debug.specs.Session.{performance}
 use Rattle.snap_debug_commands.specs.declared.command.Command.{Command}
@@ -35,12 +35,12 @@ use Rattle.snap_shipped.specs.Shipped.{shipped}
 use Rattle.snap_input.specs.Input.{checked_parts, listing_for, parted, texts_for}
 use Rattle.snap_output.specs.Output.{of_task, output_of, run_text}
 use Rattle.snap_run_output.specs.ScheduleOutput.{audit_listing, batch_text, batched, verdicts_text}
-use Rattle.snap_schedules.specs.Schedules.{checked_schedules, schedules_for}
+use Rattle.snap_input.specs.ManySchedules.{checked_schedules, schedules_for}
 use Rattle.snap_input.specs.Parts.{part, parts_of, max_input}
-use Rattle.snap_perform.proofs.ToTheEnd.{is_run}
+use Rattle.snap_output.proofs.ToTheEnd.{is_run}
 use Rattle.snap_input.specs.Schedules.{fitting, schedule_for}
-use Rattle.snap_perform.specs.Perform.{debug_text, perform_listing, perform_of}
-use Rattle.snap_subject.specs.declared.subject.Subject.{Subject}
+use Rattle.snap_output.specs.Perform.{debug_text, perform_listing, perform_of}
+use Rattle.snap_tasks.specs.declared.subject.Subject.{Subject}
 use Rattle.snap_tasks.specs.declared.task.Task.{Task}
 use Rattle.snap_tasks.specs.declared.task.Task.TheVariants as task
 

@@ -11,7 +11,7 @@ use Rattle.snap_semantics.specs.declared.refusal.Refusal.{Refusal}
 use Rattle.snap_semantics.specs.declared.refusal.Refusal.TheVariants as refusal
 use Rattle.snap_input.specs.Input.{checked_parts}
 use Rattle.snap_input.specs.Parts.{parts_of, max_input}
-use Rattle.snap_schedules.specs.Schedules.{checked_schedules}
+use Rattle.snap_input.specs.ManySchedules.{checked_schedules}
 use Rattle.snap_tasks.specs.declared.task.Task.{Task}
 use Rattle.snap_tasks.specs.declared.task.Task.TheVariants as task
 

@@ -11,19 +11,19 @@ use Rattle.snap_semantics.specs.Schedule.{Schedule, schedule_of}
 use Rattle.snap_semantics.specs.Source.{Source}
 use Rattle.snap_runs.specs.Run.{IsValidRun, run_over}
 use Rattle.snap_audit.specs.VerdictText.{audit_text}
-use Rattle.snap_runner.specs.End.{end_report}
+use Rattle.snap_batch.specs.End.{end_report}
 use Rattle.snap_batch.specs.Reports.{reports_text}
 use Rattle.snap_debug_commands.specs.Commands.{commands_of}
 use Rattle.snap_debug.specs.Session.{performance}
 use Rattle.snap_debug_commands.specs.declared.command.Command.{Command}
 use Rattle.snap_debug_commands.specs.declared.command.Command.TheVariants as command
-use Rattle.snap_promises.specs.Kept.{KeepsPromises}
+use Rattle.snap_shipped.specs.Kept.{KeepsPromises}
 use Rattle.snap_shipped.specs.Shipped.{shipped}
 use Rattle.snap_input.specs.Input.{listing_for, texts_for}
 use Rattle.snap_input.specs.Parts.{part, parts_of, max_input}
 use Rattle.snap_output.specs.Output.{output_of}
-use Rattle.snap_perform.specs.Perform.{perform_of}
-use Rattle.snap_subject.specs.declared.subject.Subject.{Subject}
+use Rattle.snap_output.specs.Perform.{perform_of}
+use Rattle.snap_tasks.specs.declared.subject.Subject.{Subject}
 use Rattle.snap_tasks.specs.declared.task.Task.TheVariants as task
 
 -- For every listing, schedule and debugger commands: the bytes of `perform` are the replies to the commands over the

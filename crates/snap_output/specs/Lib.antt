@@ -3,3 +3,5 @@ pub mod Output
 pub mod AtOnce
 pub mod Headline
 pub mod Refusals
+pub mod Perform
+pub mod Replies

@@ -6,16 +6,16 @@ use Rattle.snap_semantics.specs.declared.refusal.Refusal.TheVariants as refusal
 use Rattle.snap_semantics.specs.Answers.{refused_as}
 use Rattle.snap_image_format.specs.Assembly.{assembled, listed, upgraded}
 use Rattle.snap_semantics.specs.Source.{Source}
-use Rattle.snap_certify_output.specs.Output.{certificates_text}
-use Rattle.snap_lint_text.specs.Check.{check_of}
-use Rattle.snap_lint_text.specs.Lint.{lint_of}
-use Rattle.snap_survey_output.specs.Surveys.{clean_runs, surveyed}
-use Rattle.snap_trace_output.specs.Traces.{traces_text}
+use Rattle.snap_certify.specs.Output.{certificates_text}
+use Rattle.snap_lint.specs.Check.{check_of}
+use Rattle.snap_lint.specs.Lint.{lint_of}
+use Rattle.snap_survey.specs.Surveys.{clean_runs, surveyed}
+use Rattle.snap_run_trace.specs.Traces.{traces_text}
 use Rattle.snap_input.specs.Input.{parted}
 use Rattle.snap_input.specs.Parts.{part, parts_of, max_input}
 use Rattle.snap_run_output.specs.ScheduleOutput.{batched, verdicts_text}
-use Rattle.snap_perform.specs.Perform.{debug_text, perform_listing}
-use Rattle.snap_subject.specs.declared.subject.Subject.{Subject}
+use Rattle.snap_output.specs.Perform.{debug_text, perform_listing}
+use Rattle.snap_tasks.specs.declared.subject.Subject.{Subject}
 use Rattle.snap_tasks.specs.declared.task.Task.{Task}
 use Rattle.snap_tasks.specs.declared.task.Task.TheVariants as task
 

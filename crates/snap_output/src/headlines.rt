@@ -4,8 +4,8 @@ ghost use Rattle.snap_output.specs.Headline.{Headline};
 ghost use Rattle.snap_output.specs.Refusals.{RefusesTracesAsRuns};
 
 use snap_asm::what_is_assembled_lists_back;
-use snap_promises::shipped_runs_keep_promises;
 use snap_sched::reads_only_spelled;
+use snap_shipped::shipped_runs_keep_promises;
 
 /// For every listing, schedule and debugger commands, what is printed is what the table of lines
 /// gives; what is assembled lists back as its source; and what is written with a shipped listing is

@@ -10,15 +10,15 @@ ghost use Rattle.snap_output.specs.AtOnce.{found_at_once};
 ghost use Rattle.snap_output.specs.Output.{clean_of, output_of, run_text};
 ghost use Rattle.snap_tasks.specs.declared.task.Task.TheVariants.{Run, Survey};
 
-use snap_certify_output::certify;
+use crate::debug_task::debug;
+use snap_certify::certify_input;
 use snap_input::{MAX_INPUT, assemble, list, upgrade};
-use snap_lint_text::{check_of, lint_of};
-use snap_perform::debug;
+use snap_lint::{check_of, lint_of};
 use snap_run_output::{PlannedRun, audit, batch, batch_in_threads};
+use snap_run_trace::trace_input;
 use snap_semantics::{Fault, Refusal};
-use snap_survey_output::{SurveyOutput, survey};
+use snap_survey::{SurveyOutput, survey_input};
 use snap_tasks::{Subject, Task};
-use snap_trace_output::trace;
 use std::alloc::Global;
 use std::thread::Threads;
 
@@ -61,7 +61,7 @@ pub fn survey_output(
     if input.len() > MAX_INPUT {
         return Err(Fault::Refused(Refusal::InputTooLong));
     }
-    survey(alloc, subject, input)
+    survey_input(alloc, subject, input)
 }
 
 /// The program and the schedule that an input asks to run, or why it is refused. Of these
@@ -101,12 +101,12 @@ pub fn output_alone(alloc: Global, task: &Task, input: &[u8]) -> Result<Vec<u8>,
         Task::List => list(alloc, input),
         Task::Upgrade => upgrade(alloc, input),
         Task::Run(subject) => run(alloc, subject, input),
-        Task::Trace(subject) => trace(alloc, subject, input),
+        Task::Trace(subject) => trace_input(alloc, subject, input),
         Task::Debug(subject) => debug(alloc, subject, input),
         Task::Audit(subject) => audit(alloc, subject, input),
-        Task::Certify(subject) => certify(alloc, subject, input),
+        Task::Certify(subject) => certify_input(alloc, subject, input),
         Task::Batch(subject) => batch(alloc, subject, input),
-        Task::Survey(subject) => Ok(survey(alloc, subject, input)?.text),
+        Task::Survey(subject) => Ok(survey_input(alloc, subject, input)?.text),
     }
 }
 

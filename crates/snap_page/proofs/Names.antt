@@ -4,8 +4,8 @@ use Rattle.std.specs.Prelude.{IsUtf8, bytes_eq, codes, option_map}
 use Rattle.std.proofs.lemmas.Slice.Eq.{bytes_eq-Decides}
 use Rattle.std.proofs.lemmas.Str.{IsUtf8-nil}
 use Rattle.snap_tasks.specs.Request.{kind_of, request_of}
-use Rattle.snap_subject.specs.declared.subject.Subject.{Subject}
-use Rattle.snap_subject.specs.declared.subject.Subject.TheVariants.{Shipped}
+use Rattle.snap_tasks.specs.declared.subject.Subject.{Subject}
+use Rattle.snap_tasks.specs.declared.subject.Subject.TheVariants.{Shipped}
 use Rattle.snap_page.specs.Page.{subject_of, task_for, task_in}
 
 not_true : (b : Bool) → ¬ (b ≡ true) → b ≡ false

@@ -9,8 +9,8 @@ use Rattle.snap_refusals.specs.RefusalText.{refusal_line}
 use Rattle.snap_tasks.specs.Request.{kind_of, request_of}
 use Rattle.snap_tasks.specs.declared.request.Request.{Request}
 use Rattle.snap_tasks.specs.declared.request.Request.TheVariants.{Do, Live}
-use Rattle.snap_subject.specs.declared.subject.Subject.{Subject}
-use Rattle.snap_subject.specs.declared.subject.Subject.TheVariants.{FirstPart, Shipped}
+use Rattle.snap_tasks.specs.declared.subject.Subject.{Subject}
+use Rattle.snap_tasks.specs.declared.subject.Subject.TheVariants.{FirstPart, Shipped}
 use Rattle.snap_tasks.specs.declared.task.Task.{Task}
 
 -- the listing of this name: that which is shipped for a kind, or where there is no name the first part of the input

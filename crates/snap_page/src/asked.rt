@@ -2,8 +2,7 @@
 ghost use Rattle.std.specs.Prelude.{◌≡◌, IfSome, IsUtf8, None};
 ghost use Rattle.snap_page.specs.Page.{subject_of, task_for, task_of};
 
-use snap_subject::Subject;
-use snap_tasks::{Request, Task, kind_of, request_of};
+use snap_tasks::{Request, Subject, Task, kind_of, request_of};
 
 /// A text that bytes are.
 fn text_of(bytes: &[u8]) -> Option<&str>

@@ -4,7 +4,7 @@ use Rattle.snap_devices.specs.WholeRun.{ConductsBy, ConductsKeeping, done_of}
 use Rattle.snap_devices.specs.declared.fault.ConductFault.{ConductFault}
 use Rattle.snap_devices.specs.declared.fault.ConductFault.TheVariants as fault
 use Rattle.snap_output.specs.Output.{clean_of, output_of}
-use Rattle.snap_subject.specs.declared.subject.Subject.{Subject}
+use Rattle.snap_tasks.specs.declared.subject.Subject.{Subject}
 use Rattle.snap_tasks.specs.declared.task.Task.{Task}
 use Rattle.snap_tasks.specs.declared.task.Task.TheVariants as task
 

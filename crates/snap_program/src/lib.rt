@@ -1,8 +1,11 @@
-//! A whole run of the program: from a byte source to a byte sink.
+//! A whole run of the program: from a byte source to a byte sink, and what the program does about
+//! its command line.
 #![tactic(auto)]
 
+mod answers;
 mod whole_run;
 
+pub use answers::{answer, say_terminal};
 pub use snap_devices::{
     ByteSink, ByteSource, ConductFault, Failed, Std, conduct_live, conduct_live_keeping,
     fault_line, fault_status, write_all,

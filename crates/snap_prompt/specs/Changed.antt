@@ -11,9 +11,9 @@ use Rattle.snap_semantics.specs.declared.process.Outcome.{Outcome}
 use Rattle.snap_semantics.specs.declared.process.Outcome.TheVariants as outcome
 use Rattle.snap_runs.specs.Run.{Run, state}
 use Rattle.snap_report.specs.OutcomeText.{outcome_text}
-use Rattle.snap_changes.specs.Changes.{text_between}
-use Rattle.snap_changes.specs.Owned.{owned_text}
-use Rattle.snap_listing_lines.specs.LineTexts.{NumberedText, text_with, written}
+use Rattle.snap_text.specs.Changes.{text_between}
+use Rattle.snap_text.specs.Owned.{owned_text}
+use Rattle.snap_listing_printer.specs.LineTexts.{NumberedText, text_with, written}
 use Rattle.snap_debug.specs.Replies.{last_of}
 use Rattle.snap_debug.specs.Session.{Session, state_of}
 

@@ -4,9 +4,9 @@ ghost use Rattle.std.specs.Prelude.{◌≡◌, ◌++◌, IfOk, OnOk};
 ghost use Rattle.snap_semantics.specs.Report.{processes_lines};
 ghost use Rattle.snap_prompt.specs.Changed.{state_text};
 
-use snap_changes::push_owned_lines;
 use snap_machine::Machine;
 use snap_report::{process_lines, register_lines};
+use snap_text::push_owned_lines;
 use snap_words::Kind;
 use std::alloc::{AllocError, Global};
 

@@ -3,7 +3,7 @@ ghost use Rattle.std.specs.Prelude.{◌≡◌, ◌++◌, IfOk, OnOk, Ok};
 ghost use Rattle.snap_runs.specs.Run.{run_over};
 ghost use Rattle.snap_debug.specs.Replies.{last_of};
 ghost use Rattle.snap_debug.specs.Session.{answer, commanded, session_report, state_of, total};
-ghost use Rattle.snap_changes.specs.Changes.{text_between};
+ghost use Rattle.snap_text.specs.Changes.{text_between};
 ghost use Rattle.snap_semantics.specs.Report.{position_line};
 ghost use Rattle.snap_semantics.specs.ScheduleText.{schedule_text};
 ghost use Rattle.snap_semantics.specs.Token.{lines_of};
@@ -22,17 +22,16 @@ use crate::last_item::{do_command, go_to, push_item};
 use crate::listed::push_list;
 use crate::meant::{meant, moves, push_help};
 use snap_asm_program::Program;
-use snap_changes::push_changes;
 use snap_debug::{Command, Session};
 use snap_dialog::Respondent;
-use snap_listing_lines::LineTexts;
+use snap_listing_printer::LineTexts;
 use snap_prompt_lines::{Ask, ask_of, is_yes};
 use snap_reach::{Goal, steps_to};
 use snap_report::{head_lines, position_line};
 use snap_sched::{Schedule, print};
 use snap_sched_edits::{Addition, edited};
 use snap_semantics::{CommandRefusal, Fault};
-use snap_text::{push_number, push_text};
+use snap_text::{push_changes, push_number, push_text};
 use snap_words::{Bits, Kind, Multi, Seq};
 use std::alloc::{AllocError, Global};
 use std::marker::Model;
@@ -53,7 +52,7 @@ pub struct Prompt<K: Kind> {
 
 impl<K: Kind> Model for Prompt<K> {
     ghost use Rattle.std.specs.Prelude.{◌≡◌, map};
-    ghost use Rattle.snap_listing_lines.specs.LineTexts.{written};
+    ghost use Rattle.snap_listing_printer.specs.LineTexts.{written};
     ghost use Rattle.snap_prompt.specs.Prompt.{Prompt, schedule_of_run};
 
     ghost Value = { Prompt };

@@ -7,7 +7,7 @@ use Rattle.snap_semantics.specs.Schedule.{Schedule}
 use Rattle.snap_semantics.specs.Source.{Source}
 use Rattle.snap_input.specs.Parts.{part}
 use Rattle.snap_input.specs.Schedules.{schedule_for}
-use Rattle.snap_runner.specs.End.{end_report}
+use Rattle.snap_batch.specs.End.{end_report}
 
 -- what a session without marks is answered to `run`, and the report of the end
 abbrev pub end_text : Source → Schedule → List ℕ

@@ -5,12 +5,12 @@ use Rattle.snap_semantics.specs.Answers.{◌>>=◌}
 use Rattle.snap_semantics.specs.Source.{Source}
 use Rattle.snap_runs.specs.Run.{run_over}
 use Rattle.snap_audit.specs.VerdictText.{audit_text}
-use Rattle.snap_runner.specs.End.{end_report}
+use Rattle.snap_batch.specs.End.{end_report}
 use Rattle.snap_batch.specs.Reports.{reports_text}
 use Rattle.snap_input.specs.Parts.{part}
 use Rattle.snap_input.specs.Schedules.{schedule_for}
-use Rattle.snap_schedules.specs.Schedules.{over_schedules, schedules_for}
-use Rattle.snap_subject.specs.declared.subject.Subject.{Subject}
+use Rattle.snap_input.specs.ManySchedules.{over_schedules, schedules_for}
+use Rattle.snap_tasks.specs.declared.subject.Subject.{Subject}
 
 -- a schedule: the verdicts of its run
 unfoldable pub audit_listing : Source → List ℕ → Result (List ℕ) Refusal

@@ -7,8 +7,8 @@ ghost use Rattle.snap_run_output.specs.ScheduleOutput.{batch_text};
 
 use snap_asm_program::Program;
 use snap_batch::{batch, batch_alone};
+use snap_input::{read_schedules, read_side_by_side};
 use snap_report::Report;
-use snap_schedules::{read_schedules, read_side_by_side};
 use snap_semantics::{Fault, Refusal};
 use snap_text::{push_number, push_text};
 use std::alloc::{AllocError, Global};

@@ -5,7 +5,7 @@ ghost use Rattle.snap_semantics.specs.declared.fault.Fault.TheVariants.{Refused}
 ghost use Rattle.snap_semantics.specs.declared.refusal.Refusal.{Refusal};
 ghost use Rattle.snap_input.specs.Input.{checked_parts, parted, texts_for};
 ghost use Rattle.snap_input.specs.Parts.{max_input, parts_of};
-ghost use Rattle.snap_schedules.specs.Schedules.{checked_schedules};
+ghost use Rattle.snap_input.specs.ManySchedules.{checked_schedules};
 ghost use Rattle.snap_run_output.specs.RunOutput.{end_text, ended_text};
 ghost use Rattle.snap_run_output.specs.ScheduleOutput.{batched, verdicts_text};
 
@@ -13,10 +13,9 @@ use crate::audit_output::audit_program;
 use crate::batch_output::{batch_program, batch_side_by_side};
 use crate::run_output::{PlannedRun, plan, run_planned};
 use snap_asm_program::Program;
-use snap_input::{parts_for, program_for, split_parts, texts_for};
-use snap_schedules::check_schedules;
+use snap_input::{check_schedules, parts_for, program_for, split_parts, texts_for};
 use snap_semantics::{Fault, Refusal};
-use snap_subject::Subject;
+use snap_tasks::Subject;
 use std::alloc::Global;
 use std::thread::Threads;
 

@@ -2,14 +2,14 @@
 //! session. `PlannedRun` has what such a run needs, and nothing of the texts that it was read from.
 ghost use Rattle.std.specs.Prelude.{◌≡◌, IfOk};
 ghost use Rattle.snap_semantics.specs.Answers.{Answers};
-ghost use Rattle.snap_runner.specs.End.{IsEnd};
+ghost use Rattle.snap_batch.specs.End.{IsEnd};
 ghost use Rattle.snap_run_output.specs.RunOutput.{end_text, run_listing};
 
 use snap_asm_program::Program;
+use snap_batch::{Course, run_to_end};
+use snap_input::read_schedule;
 use snap_report::position_line;
-use snap_runner::{Course, run_to_end};
 use snap_sched::Schedule;
-use snap_schedules::read_schedule;
 use snap_semantics::{Fault, Refusal};
 use snap_text::push_text;
 use snap_words::{Bits, Kind, KindTag, Multi, Seq};

@@ -3,8 +3,8 @@ use Rattle.std.proofs.Common.{◌≡◌, ℕ, ◌+◌, Bool, true, false, List, 
 use Rattle.std.proofs.Common.{sym, ap, ◌∙◌, append_assoc, arith}
 use Rattle.std.proofs.lemmas.Slice.Eq.{bytes_eq-Decides}
 use Rattle.std.specs.Prelude.{bytes_eq}
-use Rattle.snap_changes.specs.Changes.{Change, line_with, put_all, replaced_text, text_between}
-use Rattle.snap_changes.proofs.Printing.{one_replaced}
+use Rattle.snap_text.specs.Changes.{Change, line_with, put_all, replaced_text, text_between}
+use Rattle.snap_text.proofs.Printing.{one_replaced}
 
 -- behind as many lines on both sides
 pub apart : (xs ys more less : List (List ℕ)) → length xs ≡ length ys →

@@ -15,9 +15,9 @@ use Rattle.snap_semantics.specs.Table.{done, who}
 use Rattle.snap_semantics.specs.Token.{lines_of}
 use Rattle.snap_runs.specs.Run.{Run, events_of, item, outcome, state}
 use Rattle.snap_runs.proofs.Embedding.{next_state}
-use Rattle.snap_changes.specs.Changes.{behind_first, changes_text, text_between}
-use Rattle.snap_changes.specs.Owned.{owned_text}
-use Rattle.snap_listing_lines.specs.LineTexts.{written}
+use Rattle.snap_text.specs.Changes.{behind_first, changes_text, text_between}
+use Rattle.snap_text.specs.Owned.{owned_text}
+use Rattle.snap_listing_printer.specs.LineTexts.{written}
 use Rattle.snap_report.specs.RunReport.{report_at}
 use Rattle.snap_run_trace.specs.Between.{between, process_text, state_text}
 use Rattle.snap_run_trace.specs.Step.{did_line, done_text}

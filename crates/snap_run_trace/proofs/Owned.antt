@@ -5,7 +5,7 @@ use Rattle.std.proofs.Common.{codes, if◌then◌else◌, refl, sym, ap, ◌∙�
 use Rattle.std.specs.Prelude.{◌==◌}
 use Rattle.std.specs.List.{AllByRecursion}
 use Rattle.snap_semantics.specs.Token.{lines_of, onto_line}
-use Rattle.snap_changes.specs.Owned.{next_owner, owned_line, owned_text, two_words}
+use Rattle.snap_text.specs.Owned.{next_owner, owned_line, owned_text, two_words}
 use Rattle.snap_run_trace.proofs.Wholes.{IsWhole, before, feeds, feeds_append, joined, new_line, no_text}
 
 -- a line has no line feed

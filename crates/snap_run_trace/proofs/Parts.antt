@@ -16,8 +16,8 @@ use Rattle.snap_semantics.specs.Report.{word_lines, word_local, word_text, words
 use Rattle.snap_semantics.specs.Source.{Name}
 use Rattle.snap_semantics.specs.State.{Locals, Memory, NameMap, Process, State, nobody, process_at, values}
 use Rattle.snap_semantics.specs.Token.{lines_of, onto_line}
-use Rattle.snap_changes.specs.Changes.{text_between}
-use Rattle.snap_changes.specs.Owned.{owned_text}
+use Rattle.snap_text.specs.Changes.{text_between}
+use Rattle.snap_text.specs.Owned.{owned_text}
 use Rattle.snap_run_trace.specs.Between.{between, owned, process_text, state_text}
 use Rattle.snap_run_trace.proofs.Wholes.{IsWhole, before, feeds, joined, new_line, no_text}
 use Rattle.snap_run_trace.proofs.Changes as changes

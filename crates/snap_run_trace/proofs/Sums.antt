@@ -2,8 +2,8 @@
 -- the report after item t.
 use Rattle.std.proofs.Common.{◌≡◌, ℕ, zero, suc, [], refl, ap, ◌∙◌}
 use Rattle.snap_runs.specs.Run.{Run}
-use Rattle.snap_changes.specs.Changes.{put_all}
-use Rattle.snap_changes.proofs.Putting.{put_from}
+use Rattle.snap_text.specs.Changes.{put_all}
+use Rattle.snap_text.proofs.Putting.{put_from}
 use Rattle.snap_run_trace.specs.Trace.{changes_to, item_changes, report_lines}
 use Rattle.snap_run_trace.proofs.Changes.{put_after}
 

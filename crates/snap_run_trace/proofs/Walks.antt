@@ -11,7 +11,7 @@ use Rattle.snap_semantics.specs.State.{State, initial, initial_process}
 use Rattle.snap_semantics.specs.Table.{done, who}
 use Rattle.snap_runs.specs.Run.{Run, item, state}
 use Rattle.snap_runs.proofs.Embedding.{next_state}
-use Rattle.snap_listing_lines.specs.LineTexts.{NumberedText, written}
+use Rattle.snap_listing_printer.specs.LineTexts.{NumberedText, written}
 use Rattle.snap_machine.specs.Configuration.{Configuration}
 use Rattle.snap_run_trace.specs.Step.{done_text}
 use Rattle.snap_run_trace.specs.Trace.{item_text, trace_text, trace_to}

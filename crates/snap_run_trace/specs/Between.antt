@@ -6,8 +6,8 @@ use Rattle.snap_semantics.specs.declared.event.Event.{Event}
 use Rattle.snap_semantics.specs.Report.{event_lines, process_lines, processes_lines, register_lines, values_line}
 use Rattle.snap_semantics.specs.State.{State, process_at, values}
 use Rattle.snap_semantics.specs.Token.{lines_of}
-use Rattle.snap_changes.specs.Changes.{text_between}
-use Rattle.snap_changes.specs.Owned.{owned_text}
+use Rattle.snap_text.specs.Changes.{text_between}
+use Rattle.snap_text.specs.Owned.{owned_text}
 
 -- a text of which each line says of whom it speaks
 abbrev pub owned : List ℕ → List ℕ

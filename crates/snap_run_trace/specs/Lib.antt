@@ -3,3 +3,4 @@ pub mod Between
 pub mod Step
 pub mod Trace
 pub mod TraceLaws
+pub mod Traces

@@ -11,7 +11,7 @@ use Rattle.snap_semantics.specs.Run.{event_of}
 use Rattle.snap_semantics.specs.Source.{Source}
 use Rattle.snap_semantics.specs.State.{State, process_at}
 use Rattle.snap_semantics.specs.Table.{done, who}
-use Rattle.snap_listing_lines.specs.LineTexts.{NumberedText, text_with}
+use Rattle.snap_listing_printer.specs.LineTexts.{NumberedText, text_with}
 use Rattle.snap_report.specs.OutcomeText.{outcome_text}
 use Rattle.snap_run_trace.specs.Between.{between, process_text}
 

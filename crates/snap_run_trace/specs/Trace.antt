@@ -2,9 +2,9 @@
 use Rattle.std.specs.Prelude.{ℕ, zero, suc, List, [], ◌++◌, length, map}
 use Rattle.snap_semantics.specs.Token.{lines_of}
 use Rattle.snap_runs.specs.Run.{Run, before, item, outcome}
-use Rattle.snap_changes.specs.Changes.{Change, behind_first, changes_between, changes_text}
-use Rattle.snap_changes.specs.Owned.{owned_text}
-use Rattle.snap_listing_lines.specs.LineTexts.{written}
+use Rattle.snap_text.specs.Changes.{Change, behind_first, changes_between, changes_text}
+use Rattle.snap_text.specs.Owned.{owned_text}
+use Rattle.snap_listing_printer.specs.LineTexts.{written}
 use Rattle.snap_report.specs.RunReport.{report_at}
 use Rattle.snap_run_trace.specs.Step.{did_line}
 

@@ -2,7 +2,7 @@
 -- reports.
 use Rattle.std.specs.Prelude.{◌≡◌, ℕ}
 use Rattle.snap_runs.specs.Run.{Run}
-use Rattle.snap_changes.specs.Changes.{put_all}
+use Rattle.snap_text.specs.Changes.{put_all}
 use Rattle.snap_run_trace.specs.Trace.{changes_to, report_lines}
 
 -- The report is the sum of the trace: put into the lines of the beginning one after another, the changes of the first

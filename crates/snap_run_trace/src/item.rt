@@ -7,12 +7,11 @@ ghost use Rattle.snap_semantics.specs.Table.{done, who};
 ghost use Rattle.snap_run_trace.specs.Between.{owned, process_text};
 ghost use Rattle.snap_run_trace.specs.Step.{done_text, head_text, line_run, number_text, run_text};
 
-use snap_changes::{push_changes, push_owned_lines};
-use snap_listing_lines::LineTexts;
+use snap_listing_printer::LineTexts;
 use snap_machine::Machine;
 use snap_report::{event_lines, outcome_text, process_lines, register_lines, values_line};
 use snap_semantics::{Event, Happening, Item, Outcome, Status, who};
-use snap_text::{push_number, push_text};
+use snap_text::{push_changes, push_number, push_owned_lines, push_text};
 use snap_words::Kind;
 use std::alloc::{AllocError, Global};
 

@@ -5,7 +5,7 @@ ghost use Rattle.snap_run_trace.specs.Trace.{trace_text};
 
 use crate::item::push_item;
 use snap_asm_program::Program;
-use snap_listing_lines::LineTexts;
+use snap_listing_printer::LineTexts;
 use snap_machine::Machine;
 use snap_sched::Schedule;
 use snap_words::Kind;

@@ -46,3 +46,8 @@ pub mod Collecting
 pub mod CleanTests
 pub mod Within
 pub mod Bounded
+pub mod Complete
+pub mod ListingFrame
+pub mod Every
+pub mod Single
+pub mod Keeping

@@ -13,8 +13,8 @@ use Rattle.snap_runs.proofs.Collecting.{Copies, Phase, Away, ReadsFirst, HasFirs
 use Rattle.snap_runs.proofs.Computing.{not_lt, either, whether}
 use Rattle.snap_runs.proofs.Held.{seq_at}
 use Rattle.snap_runs.proofs.ItemCases.{moved}
-use Rattle.snap_runs_frame.proofs.Every as every
-use Rattle.snap_runs_frame.proofs.Frame as frames
+use Rattle.snap_runs.proofs.Every as every
+use Rattle.snap_runs.proofs.ListingFrame as frames
 use Rattle.snap_runs_of_b.specs.Promises.{run_of, double_collect, PassedTestsAreClean}
 use Rattle.snap_runs_of_b.proofs.Algorithm.{Registers, Move, Process, Variables, ProgramCounter, L15, L16, L17, L18}
 use Rattle.snap_runs_of_b.proofs.Algorithm.{L19, L20, L21, L22, L23, L25, L26, L28, L43, L44, number, agree, at_limit}

@@ -5,8 +5,8 @@ use Rattle.std.proofs.Common.{subst, sym, arith}
 use Rattle.std.proofs.lemmas.Bool.{eqb-true}
 use Rattle.snap_runs.specs.Snapshot.{IsSnapshotRun}
 use Rattle.snap_runs.proofs.Prefixes.{write_strongly_linearizable_by_points}
-use Rattle.snap_runs_frame.proofs.Every as every
-use Rattle.snap_runs_frame.proofs.Single as single
+use Rattle.snap_runs.proofs.Every as every
+use Rattle.snap_runs.proofs.Single as single
 use Rattle.snap_runs_of_b.specs.ListingB.{listing_b}
 use Rattle.snap_runs_of_b.specs.Promises.{NeverTraps, ChangesOnlyAt46, WritesItsUpdate, WritesOnce, HavePoints}
 use Rattle.snap_runs_of_b.specs.Promises.{Linearizable, OperationsHavePlaces, WriteStronglyLinearizable, WaitFree}

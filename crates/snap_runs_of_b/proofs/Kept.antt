@@ -10,7 +10,7 @@ use Rattle.snap_runs.proofs.Flow.{IsInScan, InScan, scan_line}
 use Rattle.snap_runs.proofs.Held.{Held}
 use Rattle.snap_runs.proofs.Steady.{Steady}
 use Rattle.snap_runs.proofs.UpdateSteps.{Ahead, Nearer, Resumes}
-use Rattle.snap_runs_frame.proofs.Frame as frames
+use Rattle.snap_runs.proofs.ListingFrame as frames
 use Rattle.snap_runs_of_b.specs.Promises.{run_of}
 use Rattle.snap_runs_of_b.proofs.Algorithm.{Words, Registers, Variables, ProgramCounter, L40, L41, L42, L43, L44, L45}
 use Rattle.snap_runs_of_b.proofs.Algorithm.{L46, L47, IsUpdate, IsLineOf, in_update, tests, move, lines, algorithm}

@@ -6,7 +6,7 @@ use Rattle.snap_semantics.specs.declared.process.Op.{Op}
 use Rattle.snap_semantics.specs.declared.process.Op.TheVariants.{Scan, Update}
 use Rattle.snap_runs.proofs.Algorithm.{when_busy}
 use Rattle.snap_runs.proofs.Steady.{Steady}
-use Rattle.snap_runs_frame.proofs.Single as single
+use Rattle.snap_runs.proofs.Single as single
 use Rattle.snap_runs_of_b.specs.Promises.{run_of, BorrowedViewsAreLent}
 use Rattle.snap_runs_of_b.proofs.Algorithm.{L28, IsLate, counter}
 use Rattle.snap_runs_of_b.proofs.Flows.{embeds}

@@ -8,7 +8,7 @@ use Rattle.snap_runs.proofs.Computing.{not_true, raised_only}
 use Rattle.snap_runs.proofs.Held.{word_at, seq_at}
 use Rattle.snap_runs.proofs.Places.{for_each_at}
 use Rattle.snap_runs.proofs.Steady.{Steady}
-use Rattle.snap_runs_frame.proofs.Single as single
+use Rattle.snap_runs.proofs.Single as single
 use Rattle.snap_runs_of_b.specs.ListingB as listing
 use Rattle.snap_runs_of_b.specs.Promises.{run_of, MovesAreWrites}
 use Rattle.snap_runs_of_b.proofs.Algorithm.{L21, L22, agree, moved_at, counted}

@@ -12,8 +12,8 @@ use Rattle.snap_runs.proofs.Collecting as collecting
 use Rattle.snap_runs.proofs.Collecting.{Copies, Phase, Away, ReadsFirst, HasFirst, ReadsSecond, HasSecond, Collected}
 use Rattle.snap_runs.proofs.Computing.{not_lt, either, whether}
 use Rattle.snap_runs.proofs.ItemCases.{moved}
-use Rattle.snap_runs_frame.proofs.Every as every
-use Rattle.snap_runs_frame.proofs.Frame as frames
+use Rattle.snap_runs.proofs.Every as every
+use Rattle.snap_runs.proofs.ListingFrame as frames
 use Rattle.snap_runs_of_m.specs.Promises.{run_of, double_collect, PassedTestsAreClean}
 use Rattle.snap_runs_of_m.proofs.Algorithm.{Registers, Move, Process, Variables, ProgramCounter, L16, L17, L18, L19}
 use Rattle.snap_runs_of_m.proofs.Algorithm.{L20, L21, L22, L23, L24, L25, L26, L27, L28, L29, L30, L31, L32, L33, L34}

@@ -5,7 +5,7 @@ use Rattle.std.proofs.Common.{inl, inr}
 use Rattle.snap_semantics.specs.declared.process.Item.{Item}
 use Rattle.snap_runs.proofs.Algorithm.{Mode, Scanning, Embedded, Updating, memory_after, happens}
 use Rattle.snap_runs.proofs.Computing.{either}
-use Rattle.snap_runs_frame.proofs.Keeping as keeping
+use Rattle.snap_runs.proofs.Keeping as keeping
 use Rattle.snap_runs_of_m.proofs.Algorithm.{Registers, Move, State, Variables, ProgramCounter, L16, L18, L20, L23}
 use Rattle.snap_runs_of_m.proofs.Algorithm.{L26, L29, L30, L32, L35, L37, L52, L53, L54, L55, L57, move, first_to}
 use Rattle.snap_runs_of_m.proofs.Algorithm.{return_to, embed_to, same_at, all_still, third_move, algorithm}

@@ -3,7 +3,7 @@
 use Rattle.std.specs.Prelude.{◌+◌, ◌*◌, ◌<◌, None}
 use Rattle.std.proofs.Common.{arith}
 use Rattle.snap_runs.proofs.Prefixes.{write_strongly_linearizable_by_points}
-use Rattle.snap_runs_frame.proofs.Every as every
+use Rattle.snap_runs.proofs.Every as every
 use Rattle.snap_runs_of_m.specs.ListingM.{listing_m}
 use Rattle.snap_runs_of_m.specs.Promises.{NeverTraps, ChangesOnlyAt57, WritesItsUpdate, WritesOnce, HavePoints}
 use Rattle.snap_runs_of_m.specs.Promises.{Linearizable, OperationsHavePlaces, WriteStronglyLinearizable, WaitFree}

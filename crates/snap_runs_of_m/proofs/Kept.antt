@@ -10,7 +10,7 @@ use Rattle.snap_runs.proofs.Flow.{IsInScan, scan_line}
 use Rattle.snap_runs.proofs.Held.{Held}
 use Rattle.snap_runs.proofs.Steady.{Steady}
 use Rattle.snap_runs.proofs.UpdateSteps.{Ahead, Nearer, Resumes}
-use Rattle.snap_runs_frame.proofs.Frame as frames
+use Rattle.snap_runs.proofs.ListingFrame as frames
 use Rattle.snap_runs_of_m.specs.Promises.{run_of}
 use Rattle.snap_runs_of_m.proofs.Algorithm.{Registers, Variables, ProgramCounter, L50, L51, L52, L53, L54, L55, L56}
 use Rattle.snap_runs_of_m.proofs.Algorithm.{L57, L58, IsUpdate, IsLineOf, in_update, tests, move, lines, algorithm}

@@ -18,7 +18,7 @@ use Rattle.snap_runs.proofs.Executing as executing
 use Rattle.snap_runs.proofs.Flow.{IsUpdateOf, update_of}
 use Rattle.snap_runs.proofs.Flow as flow
 use Rattle.snap_runs.proofs.Scans as scans
-use Rattle.snap_runs_frame.proofs.Every as every
+use Rattle.snap_runs.proofs.Every as every
 use Rattle.snap_runs_of_m.specs.Promises.{run_of, BorrowedViewsAreLent}
 use Rattle.snap_runs_of_m.proofs.Algorithm.{Registers, Process, L37, L52, L55, L57, view_at, after_55, counter}
 use Rattle.snap_runs_of_m.proofs.Algorithm.{IsLate, lines, algorithm}

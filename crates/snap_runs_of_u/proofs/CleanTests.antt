@@ -14,8 +14,8 @@ use Rattle.snap_runs.proofs.Computing.{not_lt, same_from, either, whether}
 use Rattle.snap_runs.proofs.Held.{seq_at, word_at}
 use Rattle.snap_runs.proofs.ItemCases.{moved}
 use Rattle.snap_runs.proofs.Places.{all_pass}
-use Rattle.snap_runs_frame.proofs.Every as every
-use Rattle.snap_runs_frame.proofs.Frame as frames
+use Rattle.snap_runs.proofs.Every as every
+use Rattle.snap_runs.proofs.ListingFrame as frames
 use Rattle.snap_runs_of_u.specs.Promises.{double_collect, PassedTestsAreClean}
 use Rattle.snap_runs_of_u.proofs.Algorithm.{Words, Move, Process, Control, Variables, ProgramCounter, L11, L12, L13}
 use Rattle.snap_runs_of_u.proofs.Algorithm.{L14, L15, L16, L17, L18, L19, L21, L22, L24, L30, number, agree, compared}

@@ -9,7 +9,7 @@ use Rattle.snap_runs.proofs.Flow.{IsInScan, InScan, scan_line}
 use Rattle.snap_runs.proofs.Held.{Held}
 use Rattle.snap_runs.proofs.Steady.{Steady}
 use Rattle.snap_runs.proofs.UpdateSteps.{Ahead, Nearer, Resumes}
-use Rattle.snap_runs_frame.proofs.Frame as frames
+use Rattle.snap_runs.proofs.ListingFrame as frames
 use Rattle.snap_runs_of_u.specs.Promises.{run_of, SequenceNumbersSuffice}
 use Rattle.snap_runs_of_u.proofs.Algorithm.{Words, Variables, ProgramCounter, L30, L31, L32, L33, IsUpdate, IsLineOf}
 use Rattle.snap_runs_of_u.proofs.Algorithm.{in_update, tests, move, lines, algorithm}

@@ -6,7 +6,7 @@ use Rattle.snap_semantics.specs.declared.process.Op.{Op}
 use Rattle.snap_semantics.specs.declared.process.Op.TheVariants.{Scan, Update}
 use Rattle.snap_runs.proofs.Algorithm.{when_busy}
 use Rattle.snap_runs.proofs.Held.{seq_at}
-use Rattle.snap_runs_frame.proofs.Single as single
+use Rattle.snap_runs.proofs.Single as single
 use Rattle.snap_runs_of_u.specs.Promises.{BorrowedViewsAreLent}
 use Rattle.snap_runs_of_u.proofs.Algorithm.{Control, L24, IsLate, counter}
 use Rattle.snap_runs_of_u.proofs.Flows.{embeds}

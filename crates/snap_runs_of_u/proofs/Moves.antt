@@ -7,7 +7,7 @@ use Rattle.snap_runs.proofs.Algorithm.{Mode, At}
 use Rattle.snap_runs.proofs.Computing.{differs, not_true, raised_only}
 use Rattle.snap_runs.proofs.Held.{word_at, seq_at, before_seq}
 use Rattle.snap_runs.proofs.Places.{for_each_at}
-use Rattle.snap_runs_frame.proofs.Single as single
+use Rattle.snap_runs.proofs.Single as single
 use Rattle.snap_runs_of_u.specs.ListingU as u
 use Rattle.snap_runs_of_u.specs.Promises.{MovesAreWrites}
 use Rattle.snap_runs_of_u.proofs.Algorithm.{L17, L18, agree, moved_at, counted}

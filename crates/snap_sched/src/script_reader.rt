@@ -104,8 +104,7 @@ fn each_script(alloc: Global, forms: &[ScriptForm], n: u64) -> Result<Vec<Script
     let mut scripts = Vec::new(alloc);
     let mut k = 0;
     while k < n {
-        let script = script_of(alloc, forms, k + 1)?;
-        scripts.push(script)?;
+        scripts.push(script_of(alloc, forms, k + 1)?)?;
         k += 1;
     }
     Ok(scripts)

@@ -17,9 +17,9 @@ use Rattle.snap_svg.specs.declared.shape.Shape.{Shape}
 use Rattle.snap_svg.specs.declared.shape.Shape.TheVariants as shape
 use Rattle.snap_svg.specs.declared.shape.Span.{Span}
 use Rattle.snap_svg.specs.declared.shape.Written.{Written}
-use Rattle.snap_loans.specs.Loans.{scan_before, source_of, step_at}
-use Rattle.snap_loans.specs.Searches.{first_meeting, last_before}
-use Rattle.snap_loans.specs.declared.wanted.Wanted.TheVariants as wanted
+use Rattle.snap_acts.specs.Loans.{scan_before, source_of, step_at}
+use Rattle.snap_acts.specs.Searches.{first_meeting, last_before}
+use Rattle.snap_acts.specs.declared.wanted.Wanted.TheVariants as wanted
 
 abbrev pub spot_of : Step → Spot
 spot_of s = record { process = s.process; item = s.item; line = s.line }

@@ -2,8 +2,8 @@
 //! writes, borrowed views and more.
 ghost use Rattle.std.specs.Prelude.{◌≡◌, ◌≤◌, ◌<◌, ◌+◌, ◌++◌, ◌∷◌, []};
 ghost use Rattle.std.specs.Prelude.{IfOk, IfSome, OnOk, drop, length, option_map};
-ghost use Rattle.snap_loans.specs.Searches.{last_before};
-ghost use Rattle.snap_loans.specs.declared.wanted.Wanted.TheVariants as wanted;
+ghost use Rattle.snap_acts.specs.Searches.{last_before};
+ghost use Rattle.snap_acts.specs.declared.wanted.Wanted.TheVariants as wanted;
 ghost use Rattle.snap_svg.specs.declared.shape.Shape.TheVariants as shape;
 ghost use Rattle.snap_shapes.specs.Shapes.{
   bar_of,
@@ -21,8 +21,7 @@ ghost use Rattle.snap_shapes.specs.Shapes.{
   written_at,
 };
 
-use snap_acts::{Act, Step};
-use snap_loans::{Wanted, first_from, last_before, scan_before, source_of};
+use snap_acts::{Act, Step, Wanted, first_from, last_before, scan_before, source_of};
 use snap_semantics::Op;
 use snap_svg::{Bar, End, Loan, Period, Read, Shape, Span, Spot, Write, Written};
 use snap_words::View;

@@ -2,3 +2,4 @@
 pub mod TextOfU
 pub mod TextOfB
 pub mod TextOfM
+mod Kept

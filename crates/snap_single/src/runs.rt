@@ -4,13 +4,12 @@ ghost use Rattle.snap_words.specs.Kind.{fits};
 ghost use Rattle.snap_words.specs.declared.kind.KindTag.TheVariants as kind;
 ghost use Rattle.snap_runs.specs.Run.{IsValidRun, run_over};
 ghost use Rattle.snap_runs_of_u.specs.ListingU.{listing_u};
-ghost use Rattle.snap_promises.specs.Kept.{KeepsPromises};
+ghost use Rattle.snap_shipped.specs.Kept.{KeepsPromises};
 
 use snap_loader::load;
-use snap_promises::shipped_runs_keep_promises;
 use snap_record::{Record, record_over};
 use snap_sched::Schedule;
-use snap_shipped::listing_u;
+use snap_shipped::{listing_u, shipped_runs_keep_promises};
 use snap_words::Seq;
 use std::alloc::{AllocError, Global};
 

@@ -3,3 +3,4 @@ pub mod Survey
 pub mod Tally
 pub mod Summary
 pub mod SurveyText
+pub mod Surveys

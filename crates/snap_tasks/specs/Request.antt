@@ -4,7 +4,7 @@ use Rattle.std.specs.Prelude.{ℕ, ◌≤◌, List, Option, Some, None, ⊤, byt
 use Rattle.snap_words.specs.Shape.{max_items}
 use Rattle.snap_words.specs.declared.kind.KindTag.{KindTag}
 use Rattle.snap_words.specs.declared.kind.KindTag.TheVariants as kind
-use Rattle.snap_subject.specs.declared.subject.Subject.{Subject}
+use Rattle.snap_tasks.specs.declared.subject.Subject.{Subject}
 use Rattle.snap_tasks.specs.declared.task.Task.TheVariants as task
 use Rattle.snap_tasks.specs.declared.request.Request.{Request}
 use Rattle.snap_tasks.specs.declared.request.Request.TheVariants.{Do, Live}

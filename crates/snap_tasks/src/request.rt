@@ -3,8 +3,8 @@
 ghost use Rattle.std.specs.Prelude.{◌≡◌, IfSome};
 ghost use Rattle.snap_tasks.specs.Request.{HasLimit, IsLimit, request_of, kind_of};
 
+use crate::subject::Subject;
 use crate::task::Task;
-use snap_subject::Subject;
 use snap_words::KindTag;
 
 /// What a command line asks for.

@@ -1,6 +1,6 @@
 //! `Task`: what the program is to do with its input, as check, assemble, run, trace, debug or
 //! audit.
-use snap_subject::Subject;
+use crate::subject::Subject;
 
 /// What the program is to do with its input.
 #[derive(Clone, Copy, PartialEq, Eq)]

@@ -13,3 +13,6 @@ pub mod Sound
 pub mod Space
 pub mod Splits
 pub mod Texts
+pub mod Places
+pub mod Putting
+pub mod Printing

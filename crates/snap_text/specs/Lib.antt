@@ -4,3 +4,6 @@ pub mod Lines
 pub mod Numbers
 pub mod Calls
 pub mod Laws
+pub mod Changes
+pub mod ChangeLaws
+pub mod Owned

@@ -1,20 +1,27 @@
-//! Texts in tokens and lines, and texts put together.
+//! Texts in tokens and lines, texts put together, and what changed from one text to another, line by
+//! line.
 #![tactic(auto)]
 
 mod calls;
+mod change_laws;
+mod changed;
 mod comments;
 mod laws;
 mod layout;
 mod lexer;
 mod lines;
 mod numbers;
+mod owned;
 mod push;
 mod rules;
 
+pub use change_laws::changes_make_the_new_text;
+pub use changed::{behind_first_line, push_changes};
 pub use comments::line_comments;
 pub use laws::{what_is_commented_is_read, what_is_laid_out_is_read};
 pub use layout::{push_laid_out, push_tokens};
 pub use lexer::{Token, tokens};
 pub use lines::{CallLine, NumberLine, TextLines, TokenLine, line_count};
+pub use owned::push_owned_lines;
 pub use push::{push_number, push_numbers, push_text};
 pub use rules::{end_at, identifier_at, keyword_at, number_at, symbol_at};

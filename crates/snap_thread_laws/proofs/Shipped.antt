@@ -7,7 +7,7 @@ use Rattle.snap_semantics.specs.declared.process.Item.{Item}
 use Rattle.snap_sched.specs.ScriptText.{Script}
 use Rattle.snap_runs.specs.Linearization.{IsLinearizable}
 use Rattle.snap_runs.specs.Run.{IsValidRun, Run}
-use Rattle.snap_promises.specs.Kept.{NumbersSuffice, RunsKeepPromises}
+use Rattle.snap_shipped.specs.Kept.{NumbersSuffice, RunsKeepPromises}
 use Rattle.snap_live_desk.specs.Turns.{run_of, setting_of, turns_of}
 use Rattle.snap_live_desk.specs.declared.seat.Turn.{Turn}
 use Rattle.snap_live_desk.specs.declared.seat_state.Setting.{Setting}

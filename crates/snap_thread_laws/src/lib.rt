@@ -8,7 +8,7 @@ ghost use Rattle.snap_thread_laws.specs.ShippedLaws.{ClosedDesksAreLinearizable}
 ghost use Rattle.snap_thread_laws.specs.ShippedLaws.{LiveRunsAreLinearizable};
 
 use snap_live::Gate;
-use snap_promises::shipped_runs_keep_promises;
+use snap_shipped::shipped_runs_keep_promises;
 
 /// The operations of a run are those of which its threads are told.
 #[tactic(auto, using(crate::proofs::Operations::operations_are_told))]

@@ -2,9 +2,9 @@
 use Rattle.std.proofs.Common.{◌≡◌, ◌<◌, ◌≤◌, ◌-◌, ◌++◌, ◌∙◌, ℕ, zero, suc, List, Option, Some, None, IfSome, sym}
 use Rattle.std.proofs.Common.{subst, append_assoc, arith}
 use Rattle.snap_acts.specs.declared.act.Step.{Step}
-use Rattle.snap_loans.specs.Loans.{view_taken}
-use Rattle.snap_loans.specs.declared.loans.Borrowed.{Borrowed}
-use Rattle.snap_loans.specs.declared.loans.ScanPlaces.{ScanPlaces}
+use Rattle.snap_acts.specs.Loans.{view_taken}
+use Rattle.snap_acts.specs.declared.loans.Borrowed.{Borrowed}
+use Rattle.snap_acts.specs.declared.loans.ScanPlaces.{ScanPlaces}
 use Rattle.snap_why.specs.Answer.{chain_lines, lender_of, view_lines}
 
 -- once the view of a scan is told, its lender's is next

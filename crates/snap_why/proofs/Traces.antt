@@ -17,7 +17,7 @@ use Rattle.snap_acts.specs.Trace.{step_of, steps_of, trace_of}
 use Rattle.snap_acts.specs.declared.act.Act.{Act}
 use Rattle.snap_acts.specs.declared.act.Act.TheVariants as act
 use Rattle.snap_acts.specs.declared.act.Step.{Step}
-use Rattle.snap_loans.specs.Loans.{step_at}
+use Rattle.snap_acts.specs.Loans.{step_at}
 use Rattle.snap_why.specs.Why.{trapped_at, trapped_by}
 
 many : (s : Source) (n : Counts) (S : State) (t : ℕ) (xs : List Item) → length (steps_of s n S t xs) ≡ length xs

@@ -5,9 +5,9 @@ use Rattle.std.specs.Prelude.{codes, decimal, nat_eq, if◌then◌else◌}
 use Rattle.snap_runs.specs.declared.verdict.Verdict.{Verdict}
 use Rattle.snap_audit.specs.VerdictText.{verdict_line}
 use Rattle.snap_acts.specs.declared.act.Step.{Step}
-use Rattle.snap_loans.specs.Loans.{view_taken, step_at}
-use Rattle.snap_loans.specs.declared.loans.Borrowed.{Borrowed}
-use Rattle.snap_loans.specs.declared.loans.ScanPlaces.{ScanPlaces}
+use Rattle.snap_acts.specs.Loans.{view_taken, step_at}
+use Rattle.snap_acts.specs.declared.loans.Borrowed.{Borrowed}
+use Rattle.snap_acts.specs.declared.loans.ScanPlaces.{ScanPlaces}
 
 -- `: goto T`
 unfoldable pub goto_text : ℕ → List ℕ

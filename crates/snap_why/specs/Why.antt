@@ -9,9 +9,9 @@ use Rattle.snap_acts.specs.Trace.{trace_of}
 use Rattle.snap_acts.specs.declared.act.Act.{Act}
 use Rattle.snap_acts.specs.declared.act.Act.TheVariants as act
 use Rattle.snap_acts.specs.declared.act.Step.{Step}
-use Rattle.snap_loans.specs.Loans.{step_at}
-use Rattle.snap_loans.specs.Searches.{first_meeting, last_before}
-use Rattle.snap_loans.specs.declared.wanted.Wanted.TheVariants as wanted
+use Rattle.snap_acts.specs.Loans.{step_at}
+use Rattle.snap_acts.specs.Searches.{first_meeting, last_before}
+use Rattle.snap_acts.specs.declared.wanted.Wanted.TheVariants as wanted
 use Rattle.snap_why.specs.Answer.{answer_lines, goto_line, verdict_with}
 use Rattle.snap_why.specs.Trap.{trap_lines}
 

@@ -1,15 +1,14 @@
 //! What `why` prints of an answered scan: its point, its double collects, and from whom it borrowed
 //! its view, if it did.
 ghost use Rattle.std.specs.Prelude.{◌≡◌, ◌≤◌, ◌<◌, ◌++◌, ◌-◌, IfSome, OnOk, Some, get_or, length};
-ghost use Rattle.snap_loans.specs.Loans.{step_at};
+ghost use Rattle.snap_acts.specs.Loans.{step_at};
 ghost use Rattle.snap_why.specs.Answer.{answer_lines, call_lines, chain_lines, goto_line};
 ghost use Rattle.snap_why.specs.Answer.{goto_text, lender_lines, lender_of, point_line};
 ghost use Rattle.snap_why.specs.Answer.{process_text, scan_lines, taken_lines, taken_or_own};
 ghost use Rattle.snap_why.specs.Answer.{verdict_with, view_lines, writer_lines, written_lines};
 
-use snap_acts::Step;
+use snap_acts::{Borrowed, ScanPlaces, Step, view_taken};
 use snap_audit::{Verdict, verdict_line};
-use snap_loans::{Borrowed, ScanPlaces, view_taken};
 use snap_text::{push_number, push_text};
 use std::alloc::AllocError;
 

@@ -6,7 +6,7 @@ ghost use Rattle.snap_words.specs.Shape.{IsOneOf};
 ghost use Rattle.snap_semantics.specs.State.{process_at};
 ghost use Rattle.snap_runs.specs.Audit.{audit};
 ghost use Rattle.snap_runs.specs.Run.{run_over, state};
-ghost use Rattle.snap_listing_lines.specs.LineTexts.{written};
+ghost use Rattle.snap_listing_printer.specs.LineTexts.{written};
 ghost use Rattle.snap_acts.specs.Trace.{trace_of};
 ghost use Rattle.snap_why.specs.Trap.{trap_lines};
 ghost use Rattle.snap_why.specs.Why.{item_of, item_there, nothing_line};
@@ -14,11 +14,10 @@ ghost use Rattle.snap_why.specs.Why.{nothing_lines, trapped_at, trapped_by, why_
 
 use crate::answer::{item_at, push_answer, push_goto_line, verdict_with};
 use crate::trap::push_trap;
-use snap_acts::{Act, Step, trace};
+use snap_acts::{Act, Step, Wanted, first_from, last_before, trace};
 use snap_asm_program::Program;
 use snap_audit::{Verdict, audit};
-use snap_listing_lines::LineTexts;
-use snap_loans::{Wanted, first_from, last_before};
+use snap_listing_printer::LineTexts;
 use snap_record::{Record, record_over};
 use snap_sched::Schedule;
 use snap_text::push_text;

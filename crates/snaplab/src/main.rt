@@ -4,11 +4,8 @@
 ghost use Rattle.std.specs.Prelude.{IfOk};
 ghost use Rattle.snap_command_line.specs.Limits.{HasLimits};
 
-mod answers;
-
-use answers::{answer, say_terminal};
 use snap_command_line::{CommandLine, read_arguments};
-use snap_devices::Std;
+use snap_program::{Std, answer, say_terminal};
 use std::alloc::AllocError;
 use std::io::{self, IsTerminal};
 use std::process::ExitCode;

@@ -9,8 +9,8 @@ use Rattle.snap_debug_commands.specs.CommandForms as commands
 use Rattle.snap_input.specs.Input.{parted}
 use Rattle.snap_output.specs.Output.{output_of}
 use Rattle.snap_input.specs.Schedules.{schedule_for}
-use Rattle.snap_perform.specs.Perform.{perform_listing}
-use Rattle.snap_subject.specs.declared.subject.Subject.TheVariants as subject
+use Rattle.snap_output.specs.Perform.{perform_listing}
+use Rattle.snap_tasks.specs.declared.subject.Subject.TheVariants as subject
 use Rattle.snap_tasks.specs.declared.task.Task.TheVariants as task
 
 -- an update of kind bit: handshake bits in the word, a toggle and a handshake bit

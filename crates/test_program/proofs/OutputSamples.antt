@@ -10,7 +10,7 @@ use Rattle.snap_image_format.specs.ImageInstrs as instrs
 use Rattle.snap_image_format.specs.ImageListing as images
 use Rattle.snap_semantics.specs.Listing.{listing_of, listing_of_lines, header_of}
 use Rattle.snap_semantics.specs.ListingForms as forms
-use Rattle.snap_lint_text.specs.Check.{check_of}
+use Rattle.snap_lint.specs.Check.{check_of}
 use Rattle.snap_output.specs.Output.{output_of}
 use Rattle.snap_semantics.specs.declared.refusal.ImageRefusal.TheVariants.{Truncated}
 use Rattle.snap_semantics.specs.declared.refusal.ListingRefusal.TheVariants.{BadHeader}

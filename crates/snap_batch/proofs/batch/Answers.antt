@@ -2,7 +2,7 @@
 -- The report of each schedule's end, in the order of the schedules, whichever thread made it and when.
 use Rattle.std.proofs.Common.{◌∙◌, ap}
 use Rattle.rayon.specs.Lists.{min_len_base}
-use Rattle.snap_runner.specs.End.{end_report}
+use Rattle.snap_batch.specs.End.{end_report}
 use Rattle.snap_batch.proofs.Orders.{side_by_side}
 use Rattle.snap_batch.proofs.batch.Goals as goal
 

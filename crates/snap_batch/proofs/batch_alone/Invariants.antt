@@ -1,7 +1,7 @@
 -- `batch_alone` of snap_batch (src/lib.rt): what holds at the head of each of its loops.
 -- The same in one thread.
 use Rattle.std.proofs.Common.{◌≡◌, ◌++◌, drop, map}
-use Rattle.snap_runner.specs.End.{end_report}
+use Rattle.snap_batch.specs.End.{end_report}
 use Rattle.snap_batch.proofs.batch_alone.Given as goal
 
 -- the reports so far, and those of the schedules that are left

@@ -2,7 +2,7 @@
 -- A run is certified exactly where it has a certificate in which updates write at the line that is chosen.
 use Rattle.std.specs.Prelude.{◌≡◌, Ok, Err, IsOk, Result, refl}
 use Rattle.snap_runs.specs.Run.{Run, IsValidRun}
-use Rattle.snap_certificate.specs.Certificate.{Certificate, IsCertificate}
+use Rattle.snap_certification.specs.Certificate.{Certificate, IsCertificate}
 use Rattle.snap_certification.specs.Certification.{Evidence, certificate_of, certification_of, write_line}
 use Rattle.snap_certification.specs.declared.found.Missing.{Missing}
 use Rattle.snap_certification.proofs.Sound.{certificate_is}

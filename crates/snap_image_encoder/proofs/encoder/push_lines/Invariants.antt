@@ -6,7 +6,7 @@ use Rattle.snap_semantics.specs.Comments.{IsComment}
 use Rattle.snap_image_format.specs.Image.{lines_image}
 use Rattle.snap_image_format.specs.declared.image.ImageVersion.TheVariants.{Second}
 use Rattle.snap_listing_core.specs.Fields.{seen_comment}
-use Rattle.snap_image_laws.specs.Widths.{HasShortNumbers}
+use Rattle.snap_image_format.specs.Widths.{HasShortNumbers}
 use Rattle.snap_image_encoder.proofs.encoder.push_lines.Given as goal
 
 -- the lines that are left, with their comments, follow those that were added

@@ -3,7 +3,7 @@
 use Rattle.std.proofs.Common.{map, sym}
 use Rattle.snap_input.specs.Parts.{parts_of}
 use Rattle.snap_run_output.specs.ScheduleOutput.{batch_text, batched}
-use Rattle.snap_schedules.proofs.Schedules.{of_schedules}
+use Rattle.snap_input.proofs.ManySchedules.{of_schedules}
 use Rattle.snap_run_output.proofs.inputs.batch.Goals as goal
 
 pub returns-clause-output : goal.returns-clause-output

@@ -3,7 +3,7 @@
 use Rattle.std.proofs.Common.{map, sym}
 use Rattle.snap_input.specs.Parts.{parts_of}
 use Rattle.snap_run_output.specs.ScheduleOutput.{batch_text, batched}
-use Rattle.snap_schedules.proofs.Schedules.{if_schedules}
+use Rattle.snap_input.proofs.ManySchedules.{if_schedules}
 use Rattle.snap_run_output.proofs.inputs.batch_in_threads.Goals as goal
 
 pub returns-clause-output : goal.returns-clause-output

@@ -4,7 +4,7 @@ use Rattle.std.proofs.Common.{◌≡◌, ◌+◌, ◌++◌, ap, arith, map, sym,
 use Rattle.snap_semantics.specs.Source.{Source}
 use Rattle.snap_semantics.specs.State.{initial}
 use Rattle.snap_runs.specs.Run.{run_over}
-use Rattle.snap_listing_lines.specs.LineTexts.{seen_line, written}
+use Rattle.snap_listing_printer.specs.LineTexts.{seen_line, written}
 use Rattle.snap_machine.specs.Configuration.{Configuration}
 use Rattle.snap_run_trace.specs.Step.{done_text}
 use Rattle.snap_run_trace.proofs.Walks.{all_told, begun, next_few, next_fits, one_more}

@@ -2,7 +2,7 @@
 -- What each item of a program's run over a schedule did, and what it changed.
 use Rattle.std.proofs.Common.{map}
 use Rattle.snap_runs.specs.Run.{run_over}
-use Rattle.snap_listing_lines.specs.LineTexts.{seen_line}
+use Rattle.snap_listing_printer.specs.LineTexts.{seen_line}
 use Rattle.snap_run_trace.proofs.Walks.{Going}
 use Rattle.snap_run_trace.proofs.run_trace.trace.Given as goal
 

@@ -9,11 +9,11 @@ loop-k-preserved c =
     let more : c.loop-k.k < c.args.n = omega arith in
     let made = c.loop-k.scripts.items in
     let all = c.push.new.self.items in
-    let script = c.in_ok-script.script in
+    let script = c.in_ok-script_of.field-0 in
     let added = c.in_ok-push.ensures.items in
     record {
       told =
-          script_told c.args.forms.now c.args.n c.loop-k.k made all script more c.in_ok-script.ensures added
+          script_told c.args.forms.now c.args.n c.loop-k.k made all script more c.in_ok-script_of.ensures added
           ∙ c.loop-k.invariant.told;
       each = one_longer made all script c.loop-k.k added c.loop-k.invariant.each;
       within = omega (arith, more);

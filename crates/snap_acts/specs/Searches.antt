@@ -1,0 +1,81 @@
+-- `Wanted`: searches in the trace of a run for the first or the last step of a sort, such as the end of an operation.
+use Rattle.std.specs.Prelude.{ℕ, zero, suc, Bool, true, false, ◌&&◌, ◌||◌, List, [], ◌∷◌}
+use Rattle.std.specs.Prelude.{Option, Some, None, nat_eq, if◌then◌else◌, get_or}
+use Rattle.snap_acts.specs.declared.act.Act.{Act}
+use Rattle.snap_acts.specs.declared.act.Act.TheVariants as act
+use Rattle.snap_acts.specs.declared.act.Step.{Step}
+use Rattle.snap_acts.specs.declared.wanted.Wanted.{Wanted}
+use Rattle.snap_acts.specs.declared.wanted.Wanted.TheVariants as wanted
+
+-- an operation ends
+abbrev pub is_end : Act → Bool
+is_end (act.Answer view) = true
+is_end act.Done = true
+is_end act.Crash = true
+is_end act.Trap = true
+is_end _ = false
+
+-- the scan of an update ends
+abbrev pub is_leave : Act → Bool
+is_leave act.Leave = true
+is_leave _ = false
+
+abbrev pub is_write : Act → Bool
+is_write (act.Write word values) = true
+is_write _ = false
+
+abbrev pub writes_word : ℕ → Act → Bool
+writes_word k (act.Write word values) = nat_eq word k
+writes_word k _ = false
+
+abbrev pub reads_word : ℕ → Act → Bool
+reads_word k (act.Read word) = nat_eq word k
+reads_word k _ = false
+
+abbrev pub publishes : ℕ → Act → Bool
+publishes k (act.Publish j) = nat_eq j k
+publishes k _ = false
+
+-- the scan of an update begins
+abbrev pub is_enter : Act → Bool
+is_enter act.Enter = true
+is_enter _ = false
+
+-- a view is taken that another scan left
+abbrev pub takes_view : Act → Bool
+takes_view (act.Borrow word) = true
+takes_view (act.Look k) = true
+takes_view _ = false
+
+-- a scan is answered, or a process traps
+abbrev pub is_answer_or_trap : Act → Bool
+is_answer_or_trap (act.Answer view) = true
+is_answer_or_trap act.Trap = true
+is_answer_or_trap _ = false
+
+-- whether a step is what is wanted
+abbrev pub meets : Wanted → Step → Bool
+meets (wanted.End i) s = nat_eq s.process i && is_end s.act
+meets (wanted.Leave i) s = nat_eq s.process i && is_leave s.act
+meets (wanted.Closing i) s = nat_eq s.process i && (is_leave s.act || is_end s.act)
+meets wanted.Write s = is_write s.act
+meets (wanted.WriteOf k) s = writes_word k s.act
+meets (wanted.ReadOf i k) s = nat_eq s.process i && reads_word k s.act
+meets (wanted.Published k) s = publishes k s.act
+meets (wanted.Enter i) s = nat_eq s.process i && is_enter s.act
+meets (wanted.Taking i) s = nat_eq s.process i && takes_view s.act
+meets wanted.AnswerOrTrap s = is_answer_or_trap s.act
+
+-- the first of these steps that is what is wanted
+abbrev pub first_meeting : Wanted → List Step → Option Step
+first_meeting w [] = None
+first_meeting w (s ∷ ss) = if meets w s then Some s else first_meeting w ss
+
+-- stands where there is no step
+abbrev pub no_step : Step
+no_step = record { process = 0; item = 0; line = 0; act = act.Other }
+
+-- the last of the first k places at which there is what is wanted; places count from 0
+abbrev pub last_before : Wanted → List Step → ℕ → Option ℕ
+last_before w ss zero = None
+last_before w ss (suc k) = if meets w (get_or ss k no_step) then Some k else last_before w ss k

@@ -1,0 +1,181 @@
+//! `Wanted`, `first_from` and `last_before`: searches in the trace of a run for a step, such as the
+//! end of an operation or a write.
+ghost use Rattle.std.specs.Prelude.{◌≡◌, ◌≤◌, ◌<◌, IfSome, drop, length, option_map};
+ghost use Rattle.snap_acts.specs.Searches.{
+  first_meeting,
+  is_answer_or_trap,
+  is_end,
+  is_enter,
+  is_leave,
+  is_write,
+  last_before,
+  meets,
+  publishes,
+  reads_word,
+  takes_view,
+  writes_word,
+};
+
+use crate::{Act, Step};
+
+/// A step that is searched for.
+#[derive(Clone, Copy)]
+pub enum Wanted {
+    /// The end of an operation of a process.
+    End(u32),
+    /// The end of the scan of an update of a process.
+    Leave(u32),
+    /// That, or the end of its operation.
+    Closing(u32),
+    Write,
+    WriteOf(u64),
+    /// A process reads a word.
+    ReadOf(u32, u64),
+    /// The view of a process is written.
+    Published(u64),
+    /// The scan of an update of a process begins.
+    Enter(u32),
+    /// A process takes a view.
+    Taking(u32),
+    /// A scan is answered, or a process traps.
+    AnswerOrTrap,
+}
+
+/// Whether an operation ends.
+fn is_end(act: &Act) -> bool
+    ensures { result ≡ is_end act.now }
+{
+    match act {
+        Act::Answer(_) => true,
+        Act::Done => true,
+        Act::Crash => true,
+        Act::Trap => true,
+        _ => false,
+    }
+}
+
+/// Whether the scan of an update ends.
+fn is_leave(act: &Act) -> bool
+    ensures { result ≡ is_leave act.now }
+{
+    match act {
+        Act::Leave => true,
+        _ => false,
+    }
+}
+
+fn is_write(act: &Act) -> bool
+    ensures { result ≡ is_write act.now }
+{
+    match act {
+        Act::Write(_, _) => true,
+        _ => false,
+    }
+}
+
+fn writes_word(k: u64, act: &Act) -> bool
+    ensures { result ≡ writes_word k act.now }
+{
+    match act {
+        Act::Write(word, _) => *word == k,
+        _ => false,
+    }
+}
+
+fn reads_word(k: u64, act: &Act) -> bool
+    ensures { result ≡ reads_word k act.now }
+{
+    match act {
+        Act::Read(word) => *word == k,
+        _ => false,
+    }
+}
+
+fn publishes(k: u64, act: &Act) -> bool
+    ensures { result ≡ publishes k act.now }
+{
+    match act {
+        Act::Publish(j) => *j == k,
+        _ => false,
+    }
+}
+
+/// Whether the scan of an update begins.
+fn is_enter(act: &Act) -> bool
+    ensures { result ≡ is_enter act.now }
+{
+    match act {
+        Act::Enter => true,
+        _ => false,
+    }
+}
+
+/// Whether a view is taken.
+fn takes_view(act: &Act) -> bool
+    ensures { result ≡ takes_view act.now }
+{
+    match act {
+        Act::Borrow(_) => true,
+        Act::Look(_) => true,
+        _ => false,
+    }
+}
+
+/// Whether a scan is answered, or a process traps.
+fn is_answer_or_trap(act: &Act) -> bool
+    ensures { result ≡ is_answer_or_trap act.now }
+{
+    match act {
+        Act::Answer(_) => true,
+        Act::Trap => true,
+        _ => false,
+    }
+}
+
+/// Whether a step is what is wanted.
+fn meets(wanted: Wanted, step: &Step) -> bool
+    ensures { result ≡ meets wanted step.now }
+{
+    match wanted {
+        Wanted::End(i) => step.process == i && is_end(&step.act),
+        Wanted::Leave(i) => step.process == i && is_leave(&step.act),
+        Wanted::Closing(i) => step.process == i && (is_leave(&step.act) || is_end(&step.act)),
+        Wanted::Write => is_write(&step.act),
+        Wanted::WriteOf(k) => writes_word(k, &step.act),
+        Wanted::ReadOf(i, k) => step.process == i && reads_word(k, &step.act),
+        Wanted::Published(k) => publishes(k, &step.act),
+        Wanted::Enter(i) => step.process == i && is_enter(&step.act),
+        Wanted::Taking(i) => step.process == i && takes_view(&step.act),
+        Wanted::AnswerOrTrap => is_answer_or_trap(&step.act),
+    }
+}
+
+/// The first step from a place on that is what is wanted.
+pub fn first_from(steps: &[Step], from: usize, wanted: Wanted) -> Option<&Step>
+    ensures { option_map (λ s. s.now) result ≡ first_meeting wanted (drop from steps.now) }
+{
+    let mut k = from;
+    while k < steps.len() {
+        if meets(wanted, &steps[k]) {
+            return Some(&steps[k]);
+        }
+        k += 1;
+    }
+    None
+}
+
+/// The last of the first places at which there is what is wanted.
+pub fn last_before(steps: &[Step], count: usize, wanted: Wanted) -> Option<usize>
+    requires { count ≤ length steps.now }
+    ensures place { result ≡ last_before wanted steps.now count }
+    ensures within { IfSome result (λ k. k < count) }
+{
+    let mut k = count;
+    while k > 0 {
+        if meets(wanted, &steps[k - 1]) {
+            return Some(k - 1);
+        }
+        k -= 1;
+    }
+    None
+}

@@ -1,2 +1,0 @@
--- The proofs of snap_certificate, by their modules.
-pub mod Certifying

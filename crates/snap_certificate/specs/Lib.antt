@@ -1,2 +1,0 @@
--- The definitions of snap_certificate, by their modules.
-pub mod Certificate

@@ -1,0 +1,58 @@
+//! `certify_program`: reads a schedule, runs a listing over it, and prints the run's certification.
+ghost use Rattle.std.specs.Prelude.{◌≡◌, IfOk};
+ghost use Rattle.snap_runs.specs.Run.{run_over};
+ghost use Rattle.snap_semantics.specs.Answers.{Answers};
+ghost use Rattle.snap_certify.specs.CertificationText.{certificate_text};
+ghost use Rattle.snap_certify.specs.Output.{certify_listing};
+
+use crate::text::certification_text;
+use snap_asm_program::Program;
+use snap_input::schedule_for;
+use snap_record::record_over;
+use snap_sched::Schedule;
+use snap_semantics::{Fault, Refusal};
+use snap_words::{Bits, Kind, KindTag, Multi, Seq};
+use std::alloc::{AllocError, Global};
+
+/// What the run of a program under a schedule is certified by.
+fn certify_run<K: Kind>(
+    alloc: Global,
+    program: &Program,
+    schedule: &Schedule,
+) -> Result<Vec<u8>, AllocError>
+    requires { program.now.kind ≡ K.TAG }
+    ensures { IfOk result
+        (λ out. out.items ≡ certificate_text (run_over program.now schedule.now)) }
+{
+    let record = record_over::<K>(alloc, program, schedule)?;
+    certification_text(alloc, &record)
+}
+
+/// What the run of a program of a kind is certified by.
+#[tactic(auto, unfolding(crate::specs::Output::certify_listing))]
+fn certify_kind<K: Kind>(
+    alloc: Global,
+    program: &Program,
+    schedule: &[u8],
+) -> Result<Vec<u8>, Fault<Refusal>>
+    requires { program.now.kind ≡ K.TAG }
+    ensures { Answers (λ out. out.items) result (certify_listing program.now schedule.now) }
+{
+    let schedule = schedule_for::<K>(alloc, program, schedule)?;
+    Ok(certify_run::<K>(alloc, program, &schedule)?)
+}
+
+/// What the run of a program under a schedule is certified by, or what is missing.
+pub fn certify_program(
+    alloc: Global,
+    program: &Program,
+    schedule: &[u8],
+) -> Result<Vec<u8>, Fault<Refusal>>
+    ensures { Answers (λ out. out.items) result (certify_listing program.now schedule.now) }
+{
+    match program.kind() {
+        KindTag::Seq => certify_kind::<Seq>(alloc, program, schedule),
+        KindTag::Bits => certify_kind::<Bits>(alloc, program, schedule),
+        KindTag::Multi => certify_kind::<Multi>(alloc, program, schedule),
+    }
+}

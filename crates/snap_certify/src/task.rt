@@ -1,0 +1,48 @@
+//! `certify_input`: what the task `certify` writes for an input.
+ghost use Rattle.std.specs.Prelude.{◌≡◌, ◌≤◌, ◌<◌, Err, length, map};
+ghost use Rattle.snap_semantics.specs.Answers.{Answers};
+ghost use Rattle.snap_semantics.specs.declared.fault.Fault.TheVariants.{Refused};
+ghost use Rattle.snap_semantics.specs.declared.refusal.Refusal.{Refusal};
+ghost use Rattle.snap_input.specs.Input.{checked_parts, parted};
+ghost use Rattle.snap_input.specs.Parts.{max_input, parts_of};
+ghost use Rattle.snap_certify.specs.Output.{certificates_text};
+
+use crate::program::certify_program;
+use snap_asm_program::Program;
+use snap_input::{parts_for, program_for, texts_for};
+use snap_semantics::{Fault, Refusal};
+use snap_tasks::Subject;
+use std::alloc::Global;
+
+/// Where the operations of a program under the schedule that a text is took place, or what is
+/// missing.
+fn certify_texts(
+    alloc: Global,
+    program: &Program,
+    texts: &[&[u8]],
+) -> Result<Vec<u8>, Fault<Refusal>>
+    requires { 0 < length texts.now }
+    ensures { Answers (λ out. out.items) result
+        (certificates_text program.now (map (λ text. text.now) texts.now)) }
+{
+    certify_program(alloc, program, texts[0])
+}
+
+/// The certification of a listing under a schedule.
+#[tactic(auto, unfolding(snap_input::specs::Input::parted))]
+pub fn certify_input(
+    alloc: Global,
+    subject: Subject,
+    input: &[u8],
+) -> Result<Vec<u8>, Fault<Refusal>>
+    requires { length input.now ≤ max_input }
+    ensures output { Answers (λ out. out.items) result
+        (parted subject 1 (parts_of input.now) certificates_text) }
+    ensures counted { (r : Refusal) → checked_parts subject 1 (parts_of input.now) ≡ Err r →
+        result ≡ Err (Refused r) }
+{
+    let parts = parts_for(alloc, subject, 1, input)?;
+    let program = program_for(alloc, subject, parts.as_slice())?;
+    let texts = texts_for(subject, parts.as_slice());
+    certify_texts(alloc, &program, texts)
+}

@@ -1,0 +1,178 @@
+//! `certification_text`: the printed certification of a run, a line for each operation in the order
+//! of linearization points, or the line of what is missing.
+ghost use Rattle.std.specs.Prelude.{◌≡◌, ◌++◌, IfOk, OnOk, drop};
+ghost use Rattle.snap_certification.specs.Certification.{seen_certification};
+ghost use Rattle.snap_certify.specs.CertificationText.{
+  certificate_text,
+  in_order,
+  lack_text,
+  missing_line,
+  places_text,
+  reason_text,
+  scan_line,
+  text_of,
+  update_line,
+  update_lines,
+  writes_after,
+  writes_until,
+};
+
+use crate::order::{in_order, point_item};
+use crate::{Certification, Lack, Missing, UpdateWrite, certify};
+use snap_record::Record;
+use snap_runs::Verdict;
+use snap_text::{push_number, push_text};
+use snap_words::Kind;
+use std::alloc::{AllocError, Global};
+
+/// `update I call C place T word W value V`.
+#[tactic(auto, using(snap_text::proofs::Texts::joined))]
+fn update_line(out: &mut Vec<u8>, write: &UpdateWrite) -> Result<(), AllocError>
+    ensures { OnOk result (out.new.items ≡ out.old.items ++ update_line write.now) }
+{
+    push_text(out, b"update ")?;
+    push_number(out, u64::from(write.process))?;
+    push_text(out, b" call ")?;
+    push_number(out, write.call)?;
+    push_text(out, b" place ")?;
+    push_number(out, write.item)?;
+    push_text(out, b" word ")?;
+    push_number(out, write.word)?;
+    push_text(out, b" value ")?;
+    push_number(out, write.value)?;
+    push_text(out, b"\n")
+}
+
+/// `scan I call C place T answer E`.
+#[tactic(auto, using(snap_text::proofs::Texts::joined))]
+fn scan_line(out: &mut Vec<u8>, verdict: &Verdict) -> Result<(), AllocError>
+    ensures { OnOk result (out.new.items ≡ out.old.items ++ scan_line verdict.now) }
+{
+    push_text(out, b"scan ")?;
+    push_number(out, u64::from(verdict.process))?;
+    push_text(out, b" call ")?;
+    push_number(out, verdict.call)?;
+    push_text(out, b" place ")?;
+    push_number(out, point_item(verdict))?;
+    push_text(out, b" answer ")?;
+    push_number(out, verdict.answer)?;
+    push_text(out, b"\n")
+}
+
+/// The lines of the writes from a place on.
+fn update_lines(out: &mut Vec<u8>, writes: &[UpdateWrite], from: usize) -> Result<(), AllocError>
+    ensures { OnOk result (out.new.items ≡ out.old.items ++ update_lines (drop from writes.now)) }
+{
+    let mut k = from;
+    while k < writes.len() {
+        update_line(out, &writes[k])?;
+        k += 1;
+    }
+    Ok(())
+}
+
+/// The lines of the next writes up to an item, and which write comes then.
+fn writes_until(
+    out: &mut Vec<u8>,
+    writes: &[UpdateWrite],
+    next: usize,
+    item: u64,
+) -> Result<usize, AllocError>
+    ensures text { OnOk result (out.new.items ≡
+        out.old.items ++ update_lines (writes_until item (drop next writes.now))) }
+    ensures left { IfOk result (λ k. drop k writes.now ≡ writes_after item (drop next writes.now)) }
+{
+    let mut k = next;
+    while k < writes.len() {
+        if writes[k].item > item {
+            return Ok(k);
+        }
+        update_line(out, &writes[k])?;
+        k += 1;
+    }
+    Ok(k)
+}
+
+/// The lines of writes and scans, in the order of their places.
+fn places_text(
+    out: &mut Vec<u8>,
+    writes: &[UpdateWrite],
+    scans: &[Verdict],
+) -> Result<(), AllocError>
+    ensures { OnOk result (out.new.items ≡ out.old.items ++ places_text writes.now scans.now) }
+{
+    let mut next = 0;
+    for scan in scans {
+        next = writes_until(out, writes, next, point_item(scan))?;
+        scan_line(out, scan)?;
+    }
+    update_lines(out, writes, next)
+}
+
+/// What is missing, in words.
+fn lack_text(out: &mut Vec<u8>, lack: Lack) -> Result<(), AllocError>
+    ensures { OnOk result (out.new.items ≡ out.old.items ++ lack_text lack) }
+{
+    match lack {
+        Lack::Line => push_text(out, b"another line changes the values"),
+        Lack::Update => push_text(out, b"a scan executes the line at which updates write"),
+        Lack::FirstWrite => push_text(out, b"the update writes twice"),
+        Lack::OwnValue => push_text(out, b"the update writes something else"),
+        Lack::Write => push_text(out, b"the update ends without its write"),
+        Lack::Point => push_text(out, b"the scan has no point"),
+    }
+}
+
+/// `: WHAT; this refutes the argument by points, not linearizability`.
+#[tactic(auto, using(snap_text::proofs::Texts::joined))]
+fn reason_text(out: &mut Vec<u8>, lack: Lack) -> Result<(), AllocError>
+    ensures { OnOk result (out.new.items ≡ out.old.items ++ reason_text lack) }
+{
+    push_text(out, b": ")?;
+    lack_text(out, lack)?;
+    push_text(
+        out,
+        b"; this refutes the argument by points, not linearizability\n",
+    )
+}
+
+/// `process I call C item T: WHAT; this refutes the argument by points, not linearizability`.
+#[tactic(auto, using(snap_text::proofs::Texts::joined))]
+fn missing_line(out: &mut Vec<u8>, missing: &Missing) -> Result<(), AllocError>
+    ensures { OnOk result (out.new.items ≡ out.old.items ++ missing_line missing.now) }
+{
+    push_text(out, b"process ")?;
+    push_number(out, u64::from(missing.process))?;
+    push_text(out, b" call ")?;
+    push_number(out, missing.call)?;
+    push_text(out, b" item ")?;
+    push_number(out, missing.item)?;
+    reason_text(out, missing.lack)
+}
+
+/// The text of a certification.
+fn text_of(alloc: Global, certification: &Certification) -> Result<Vec<u8>, AllocError>
+    ensures { IfOk result (λ out. out.items ≡ text_of (seen_certification certification.now)) }
+{
+    let mut out = Vec::new(alloc);
+    match certification {
+        Certification::Certified(found) => {
+            let scans = in_order(alloc, found.points.as_slice())?;
+            push_text(&mut out, b"linearizable by these points\n")?;
+            places_text(&mut out, found.writes.as_slice(), scans.as_slice())?;
+        }
+        Certification::Missing(missing) => missing_line(&mut out, missing)?,
+    }
+    Ok(out)
+}
+
+/// What a record is certified by, a line for each operation in the order of places; or what is
+/// missing, in one line.
+pub fn certification_text<K: Kind>(
+    alloc: Global,
+    history: &Record<K>,
+) -> Result<Vec<u8>, AllocError>
+    ensures { IfOk result (λ out. out.items ≡ certificate_text history.now) }
+{
+    text_of(alloc, &certify(alloc, history)?)
+}

@@ -1,0 +1,61 @@
+//! `read_schedule` and `read_schedules`: the schedules that texts are, whose shapes are to fit the
+//! kind of a program's listing.
+ghost use Rattle.std.specs.Prelude.{◌≡◌, map};
+ghost use Rattle.snap_semantics.specs.Answers.{Answers};
+ghost use Rattle.snap_input.specs.Schedules.{schedule_for};
+ghost use Rattle.snap_input.specs.ManySchedules.{schedules_for};
+
+use crate::schedule_for;
+use snap_asm_program::Program;
+use snap_sched::Schedule;
+use snap_semantics::{Fault, Refusal};
+use snap_words::{Bits, Kind, KindTag, Multi, Seq};
+use std::alloc::Global;
+
+/// Reads schedules whose shapes fit the kind of a program.
+pub fn schedules_for<K: Kind>(
+    alloc: Global,
+    program: &Program,
+    texts: &[&[u8]],
+) -> Result<Vec<Schedule>, Fault<Refusal>>
+    requires { program.now.kind ≡ K.TAG }
+    ensures { Answers (λ ss. ss.items) result
+        (schedules_for program.now (map (λ text. text.now) texts.now)) }
+{
+    let mut schedules = Vec::new(alloc);
+    for text in texts {
+        schedules.push(schedule_for::<K>(alloc, program, text)?)?;
+    }
+    Ok(schedules)
+}
+
+/// Reads schedules whose shapes fit a program, one after another.
+pub fn read_schedules(
+    alloc: Global,
+    program: &Program,
+    texts: &[&[u8]],
+) -> Result<Vec<Schedule>, Fault<Refusal>>
+    ensures { Answers (λ ss. ss.items) result
+        (schedules_for program.now (map (λ text. text.now) texts.now)) }
+{
+    match program.kind() {
+        KindTag::Seq => schedules_for::<Seq>(alloc, program, texts),
+        KindTag::Bits => schedules_for::<Bits>(alloc, program, texts),
+        KindTag::Multi => schedules_for::<Multi>(alloc, program, texts),
+    }
+}
+
+/// Reads a schedule whose shape fits a program.
+pub fn read_schedule(
+    alloc: Global,
+    program: &Program,
+    text: &[u8],
+) -> Result<Schedule, Fault<Refusal>>
+    ensures { Answers (λ s. s) result (schedule_for program.now text.now) }
+{
+    match program.kind() {
+        KindTag::Seq => schedule_for::<Seq>(alloc, program, text),
+        KindTag::Bits => schedule_for::<Bits>(alloc, program, text),
+        KindTag::Multi => schedule_for::<Multi>(alloc, program, text),
+    }
+}

@@ -1,0 +1,38 @@
+//! `check_of`: what the task `check` writes of a text, the listing's kind and number of lines, or
+//! why it is no listing.
+ghost use Rattle.std.specs.Prelude.{◌≡◌, ◌<◌, Err, IfOk, length};
+ghost use Rattle.snap_semantics.specs.Answers.{Answers};
+ghost use Rattle.snap_lint.specs.Check.{check_line, check_of};
+ghost use Rattle.snap_semantics.specs.declared.fault.Fault.TheVariants.{Refused};
+ghost use Rattle.snap_semantics.specs.declared.refusal.ListingRefusal.TheVariants.{TooLong};
+ghost use Rattle.snap_semantics.specs.declared.refusal.Refusal.TheVariants as refusal;
+
+use crate::listing::read_listing;
+use snap_listing::{Listing, kind_keyword};
+use snap_semantics::{Fault, Refusal};
+use snap_text::{push_number, push_text};
+use std::alloc::{AllocError, Global};
+
+/// The kind of a listing, and how many numbered lines it has.
+#[tactic(auto, using(snap_text::proofs::Texts::joined))]
+fn check_line(alloc: Global, listing: &Listing) -> Result<Vec<u8>, AllocError>
+    ensures { IfOk result (λ line. line.items ≡ check_line listing.now) }
+{
+    let mut line = Vec::new(alloc);
+    push_text(&mut line, b"ok: ")?;
+    push_text(&mut line, kind_keyword(listing.kind()))?;
+    push_text(&mut line, b", ")?;
+    push_number(&mut line, listing.lines().len() as u64)?;
+    push_text(&mut line, b" lines\n")?;
+    Ok(line)
+}
+
+/// What is said of a text that is a listing, or why it is none.
+#[tactic(auto, unfolding(crate::specs::Check::check_of))]
+pub fn check_of(alloc: Global, text: &[u8]) -> Result<Vec<u8>, Fault<Refusal>>
+    ensures output { Answers (λ out. out.items) result (check_of text.now) }
+    ensures too_long { 65536 < length text.now → result ≡ Err (Refused (refusal.Listing TooLong)) }
+{
+    let listing = read_listing(alloc, text)?;
+    Ok(check_line(alloc, &listing)?)
+}

@@ -1,0 +1,72 @@
+//! `lint_of`: what the task `lint` writes of a text, the warnings of the listing, or why it is no
+//! listing.
+ghost use Rattle.std.specs.Prelude.{◌≡◌, ◌<◌, ◌++◌, Err, IfOk, OnOk, length};
+ghost use Rattle.snap_semantics.specs.declared.fault.Fault.TheVariants.{Refused};
+ghost use Rattle.snap_semantics.specs.declared.refusal.ListingRefusal.TheVariants.{TooLong};
+ghost use Rattle.snap_semantics.specs.declared.refusal.Refusal.TheVariants as refusal;
+ghost use Rattle.snap_semantics.specs.Answers.{Answers};
+ghost use Rattle.snap_lint.specs.Warnings.{warnings};
+ghost use Rattle.snap_lint.specs.Lint.{concern_text, lint_of, warning_line, warnings_text};
+
+use crate::listing::read_listing;
+use crate::{Concern, Warning, warnings};
+use snap_listing::Listing;
+use snap_semantics::{Fault, Refusal};
+use snap_text::{push_number, push_text};
+use std::alloc::{AllocError, Global};
+
+/// What is said of a line.
+fn concern_text(concern: Concern) -> &'static [u8]
+    ensures { result.now ≡ concern_text concern }
+{
+    match concern {
+        Concern::OffEnd => b"may run off the end",
+        Concern::Nested => b"may call within a call",
+        Concern::BadEnd => b"may return or finish where its operation does not end so",
+        Concern::Owner => b"may write a register of another process",
+        Concern::Unreached => b"is never reached",
+        Concern::Endless => b"leads to no end",
+        Concern::NoWrite => b"may finish an update that has written no word",
+    }
+}
+
+/// Adds the line of a warning.
+#[tactic(auto, using(snap_text::proofs::Texts::joined))]
+fn push_warning(out: &mut Vec<u8>, warning: &Warning) -> Result<(), AllocError>
+    ensures { OnOk result (out.new.items ≡ out.old.items ++ warning_line warning.now) }
+{
+    push_text(out, b"line ")?;
+    push_number(out, warning.line)?;
+    push_text(out, b": ")?;
+    push_text(out, concern_text(warning.concern))?;
+    push_text(out, b"\n")
+}
+
+/// The lines of warnings.
+fn warnings_text(alloc: Global, warnings: &[Warning]) -> Result<Vec<u8>, AllocError>
+    ensures { IfOk result (λ out. out.items ≡ warnings_text warnings.now) }
+{
+    let mut out = Vec::new(alloc);
+    for warning in warnings {
+        push_warning(&mut out, warning)?;
+    }
+    Ok(out)
+}
+
+/// The text of the warnings of a listing.
+pub fn lint(alloc: Global, listing: &Listing) -> Result<Vec<u8>, AllocError>
+    ensures { IfOk result (λ out. out.items ≡ warnings_text (warnings listing.now)) }
+{
+    let warnings = warnings(alloc, listing)?;
+    warnings_text(alloc, warnings.as_slice())
+}
+
+/// What is warned of in a text that is a listing, or why it is none.
+#[tactic(auto, unfolding(crate::specs::Lint::lint_of))]
+pub fn lint_of(alloc: Global, text: &[u8]) -> Result<Vec<u8>, Fault<Refusal>>
+    ensures output { Answers (λ out. out.items) result (lint_of text.now) }
+    ensures too_long { 65536 < length text.now → result ≡ Err (Refused (refusal.Listing TooLong)) }
+{
+    let listing = read_listing(alloc, text)?;
+    Ok(lint(alloc, &listing)?)
+}

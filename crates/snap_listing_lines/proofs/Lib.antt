@@ -1,2 +1,0 @@
--- The proofs of snap_listing_lines, by their modules.
-pub mod Written

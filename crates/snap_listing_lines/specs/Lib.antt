@@ -1,2 +1,0 @@
--- The definitions of snap_listing_lines, by their modules.
-pub mod LineTexts

@@ -1,0 +1,2 @@
+-- The definitions of snap_listing_printer, by their modules.
+pub mod LineTexts

@@ -1,2 +1,0 @@
--- The definitions of snap_listing_terms, by their modules.
-pub mod Rules

@@ -1,0 +1,12 @@
+-- `push_answers` of snap_output (src/debug_output.rt): what holds at the head of each of its loops.
+-- Commands, each with what a session answers to it.
+use Rattle.std.proofs.Common.{◌≡◌, ◌++◌, drop}
+use Rattle.snap_debug.specs.Session.{after_commands, replies_text}
+use Rattle.snap_output.proofs.debug_output.push_answers.Given as goal
+
+-- the replies so far and those to the commands that are left, which lead where all of them lead
+abbrev pub invariant-loop-command : goal.invariant-loop-command
+invariant-loop-command g l =
+    (l.out.items ++ replies_text l.session (drop l.command-index l.commands)
+    ≡ l.fn.out.items ++ replies_text l.fn.session l.commands)
+    × (after_commands l.session (drop l.command-index l.commands) ≡ after_commands l.fn.session l.commands)

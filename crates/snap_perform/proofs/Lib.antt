@@ -1,2 +1,0 @@
--- The proofs of snap_perform, by their modules.
-pub mod ToTheEnd

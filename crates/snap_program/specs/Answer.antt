@@ -1,0 +1,150 @@
+-- `AnswersLine`: what snaplab does about its command line, what it reads, writes and says, and the status that it
+-- ends with.
+use Rattle.std.specs.Prelude.{◌≡◌, ℕ, Vec, Bool, true, List, [], ◌++◌, Option, Some, None, Result, Ok, Err}
+use Rattle.std.specs.Prelude.{if◌then◌else◌, codes, string_bytes, take}
+use Rattle.std.specs.Global.{Global}
+use Rattle.std.specs.Io.KnownBytes.{Appends}
+use Rattle.snap_command_line.specs.declared.command_line.Invocation.{Invocation}
+use Rattle.snap_command_line.specs.declared.command_line.CommandLine.{CommandLine}
+use Rattle.snap_command_line.specs.declared.command_line.CommandLine.TheVariants.{Asks, Help, Wrong, NoText}
+use Rattle.snap_tasks.specs.declared.request.Request.{Request}
+use Rattle.snap_tasks.specs.declared.request.Request.TheVariants as request
+use Rattle.snap_tasks.specs.declared.task.Task.{Task}
+use Rattle.snap_tasks.specs.declared.task.Task.TheVariants as task
+use Rattle.snap_tasks.specs.declared.subject.Subject.{Subject}
+use Rattle.snap_devices.specs.WholeRun.{ConductsKeeping, ConductsLiveKeeping, Sends, done_of}
+use Rattle.snap_program.specs.TaskRun.{ConductsSurvey, IsOutputOf, RefusesTask}
+use Rattle.snap_explanation.specs.Explanation.{explanation}
+use Rattle.snap_explanation.specs.Part.{layout_of}
+use Rattle.snap_devices.specs.FaultText.{fault_text}
+use Rattle.snap_devices.specs.ExitStatus.{fault_status}
+use Rattle.snap_devices.specs.declared.fault.ConductFault.{ConductFault}
+use Rattle.snap_devices.specs.declared.fault.ConductFault.TheVariants.{Memory, Refused, Live, Read, Write}
+
+-- the status of a whole run: 0 where all of its output was written, and nowhere else
+abbrev pub exit_status : Result (Unit {0}) ConductFault → ℕ
+exit_status (Ok done) = 0
+exit_status (Err fault) = fault_status fault
+
+-- the status of a strict survey: 4 where all of its output was written, and a run is not clean
+abbrev pub strict_status : Result Bool ConductFault → ℕ
+strict_status (Ok clean) = if clean then 0 else 4
+strict_status (Err fault) = fault_status fault
+
+-- the listing of a strict survey, where one is asked for
+abbrev pub strict_subject : (strict : Bool) → Request → Option Subject
+strict_subject true (request.Do (task.Survey subject)) = Some subject
+strict_subject _ _ = None
+
+-- The device for messages took a text, or as much of its front as it would.
+abbrev pub Says : List ℕ → (said said_after : Option (List ℕ)) → Type 0
+Says text said said_after = (count : ℕ) × Appends said said_after (take count text)
+
+-- A fault is told in a line; where there is none, nothing is said.
+abbrev pub SaysFault : Result (Unit {0}) ConductFault → (said said_after : Option (List ℕ)) → Type 0
+SaysFault (Ok done) said said_after = said ≡ said_after
+SaysFault (Err fault) said said_after = Says (fault_text fault ++ codes "\n") said said_after
+
+-- what is said behind the line of a fault, where refusals are explained
+abbrev pub why : Request → (input : List ℕ) → ConductFault → List ℕ
+why asked input (Refused r) = explanation (layout_of asked) input r
+why asked input Memory = []
+why asked input (Live r) = []
+why asked input Read = []
+why asked input (Write count) = []
+
+abbrev pub explained : (explains : Bool) → Request → (input : List ℕ) → ConductFault → List ℕ
+explained explains asked input fault = if explains then why asked input fault else []
+
+-- A fault is told in a line, and what explains it stands behind that line; where there is none, nothing is said.
+abbrev pub SaysWhy : (explains : Bool) → Request → (input : List ℕ) → Result (Unit {0}) ConductFault →
+    (said said_after : Option (List ℕ)) → Type 0
+SaysWhy explains asked input (Ok done) said said_after = said ≡ said_after
+SaysWhy explains asked input (Err fault) said said_after =
+    Says ((fault_text fault ++ codes "\n") ++ explained explains asked input fault) said said_after
+
+-- A whole live run: where it was written, what is said of the operations that call nothing.
+abbrev pub SaysUncalled : (explains : Bool) → Request → (input : List ℕ) → Result (Vec ℕ Global) ConductFault →
+    (said said_after : Option (List ℕ)) → Type 0
+SaysUncalled explains asked input (Ok uncalled) said said_after = Says uncalled.items said said_after
+SaysUncalled explains asked input (Err fault) said said_after = SaysWhy explains asked input (Err fault) said said_after
+
+-- What is said where the input is read from a terminal.
+abbrev pub terminal_line : List ℕ
+terminal_line = codes "reading from the terminal; end with Ctrl-D\n"
+
+-- It is said where an input is asked for, and nothing else.
+abbrev pub SaysTerminal : {E : Type 0} → Result CommandLine E → (said said_after : Option (List ℕ)) → Type 0
+SaysTerminal (Ok (Asks asked)) said said_after = Says terminal_line said said_after
+SaysTerminal _ said said_after = said ≡ said_after
+
+-- What is said of arguments that are no text.
+abbrev pub no_text_line : List ℕ
+no_text_line = codes "error: the words of the command line are no text\n"
+
+-- What the program does about a task: what it takes of its source, what it gives its sink and its device for
+-- messages, and its status. Where an input is refused, it is the one that is explained.
+abbrev pub AnswersTask : Task → Invocation → (status : ℕ) →
+    (left left_after taken taken_after said said_after : Option (List ℕ)) →
+    (reader_failed writer_failed writer_stalled : Bool) → Type 0
+AnswersTask task asked status left left_after taken taken_after said said_after r w s =
+    (done : Result (Unit {0}) ConductFault) × (kept : List ℕ) × (status ≡ exit_status done)
+    × ConductsKeeping (IsOutputOf task) (RefusesTask task) kept done left left_after taken taken_after r w s
+    × SaysWhy asked.explains asked.request kept done said said_after
+
+-- What it does about a live run, at no gate.
+abbrev pub AnswersLively : Subject → (limit : ℕ) → Invocation → (status : ℕ) →
+    (left left_after taken taken_after said said_after : Option (List ℕ)) →
+    (reader_failed writer_failed writer_stalled : Bool) → Type 0
+AnswersLively subject limit asked status left left_after taken taken_after said said_after r w s =
+    (done : Result (Vec ℕ Global) ConductFault) × (kept : List ℕ) × (status ≡ exit_status (done_of done))
+    × ConductsLiveKeeping (λ process turn answer. answer ≡ true) subject limit kept done left
+    left_after taken taken_after r w s
+    × SaysUncalled asked.explains asked.request kept done said said_after
+
+-- What it does about what was asked for.
+abbrev pub AnswersRequest : Request → Invocation → (status : ℕ) →
+    (left left_after taken taken_after said said_after : Option (List ℕ)) →
+    (reader_failed writer_failed writer_stalled : Bool) → Type 0
+AnswersRequest (request.Do task) asked status left left_after taken taken_after said said_after r w s =
+    AnswersTask task asked status left left_after taken taken_after said said_after r w s
+AnswersRequest (request.Live subject limit) asked status left left_after taken taken_after said said_after r w s =
+    AnswersLively subject limit asked status left left_after taken taken_after said said_after r w s
+
+-- What it does about a strict survey.
+abbrev pub AnswersStrictly : Subject → Invocation → (status : ℕ) →
+    (left left_after taken taken_after said said_after : Option (List ℕ)) →
+    (reader_failed writer_failed writer_stalled : Bool) → Type 0
+AnswersStrictly subject asked status left left_after taken taken_after said said_after r w s =
+    (done : Result Bool ConductFault) × (kept : List ℕ) × (status ≡ strict_status done)
+    × ConductsSurvey done subject kept left left_after taken taken_after r w s
+    × SaysWhy asked.explains asked.request kept (done_of done) said said_after
+
+-- The one or the other, where a strict survey of this listing is asked for, or none.
+abbrev pub AnswersAsked : Option Subject → Invocation → (status : ℕ) →
+    (left left_after taken taken_after said said_after : Option (List ℕ)) →
+    (reader_failed writer_failed writer_stalled : Bool) → Type 0
+AnswersAsked None asked status left left_after taken taken_after said said_after r w s =
+    AnswersRequest asked.request asked status left left_after taken taken_after said said_after r w s
+AnswersAsked (Some subject) asked status left left_after taken taken_after said said_after r w s =
+    AnswersStrictly subject asked status left left_after taken taken_after said said_after r w s
+
+-- What the program does about a command line, or where there was no memory to read it: what it takes of its source,
+-- what it gives its sink and its device for messages, and its status.
+abbrev pub AnswersLine : {E : Type 0} → Result CommandLine E → (status : ℕ) →
+    (left left_after taken taken_after said said_after : Option (List ℕ)) →
+    (reader_failed writer_failed writer_stalled : Bool) → Type 0
+AnswersLine (Ok (Asks asked)) status left left_after taken taken_after said said_after r w s =
+    AnswersAsked (strict_subject asked.strict asked.request) asked status left left_after taken
+    taken_after said said_after r w s
+AnswersLine (Ok (Help text)) status left left_after taken taken_after said said_after r w s =
+    (left ≡ left_after) × ((done : Result (Unit {0}) ConductFault) × (status ≡ exit_status done)
+    × Sends done (string_bytes text) taken taken_after w s
+    × SaysFault done said said_after)
+AnswersLine (Ok (Wrong text)) status left left_after taken taken_after said said_after r w s =
+    (status ≡ 2) × (left ≡ left_after) × (taken ≡ taken_after) × Says (string_bytes text) said said_after
+AnswersLine (Ok NoText) status left left_after taken taken_after said said_after r w s =
+    (status ≡ 2) × (left ≡ left_after) × (taken ≡ taken_after) × Says no_text_line said said_after
+AnswersLine (Err e) status left left_after taken taken_after said said_after r w s =
+    (status ≡ exit_status (Err Memory)) × (left ≡ left_after) × (taken ≡ taken_after)
+    × SaysFault (Err Memory) said said_after

@@ -1,0 +1,303 @@
+//! `answer`: what snaplab does about its command line, over any source, sink and device for
+//! messages, and the status of it.
+ghost use Rattle.std.specs.Prelude.{◌≡◌, ◌++◌, false, codes, IfOk, OnOk, OnErr};
+ghost use Rattle.snap_command_line.specs.Limits.{HasLimits};
+ghost use Rattle.snap_devices.specs.FaultText.{fault_text};
+ghost use Rattle.snap_tasks.specs.Request.{HasLimit};
+ghost use Rattle.snap_tasks.specs.declared.request.Request.TheVariants.{Live};
+ghost use Rattle.snap_program.specs.Answer.{AnswersLine, AnswersLively, AnswersRequest, AnswersStrictly};
+ghost use Rattle.snap_program.specs.Answer.{AnswersTask, Says, SaysFault, SaysTerminal, explained};
+ghost use Rattle.snap_program.specs.Answer.{exit_status, strict_subject};
+
+use crate::whole_run::{conduct_keeping, conduct_survey};
+use snap_command_line::{CommandLine, Invocation};
+use snap_devices::{
+    ByteSink, ByteSource, ConductFault, conduct_live_keeping, fault_line, fault_status, write_all,
+};
+use snap_explanation::{explanation, layout_of};
+use snap_live::NoGate;
+use snap_tasks::{Request, Subject, Task};
+use std::alloc::{AllocError, Global};
+use std::sync::Wait;
+use std::thread::Threads;
+
+/// What is said of arguments that are no text.
+const NO_TEXT: &[u8] = b"error: the words of the command line are no text\n";
+
+/// The status of a strict survey where a run is not clean.
+const NOT_CLEAN: u8 = 4;
+
+/// What is said where the input is read from a terminal.
+const TERMINAL: &[u8] = b"reading from the terminal; end with Ctrl-D\n";
+
+/// Says a text. Where the device does not take it, nothing more is said.
+#[tactic(auto, using(crate::proofs::Said::said))]
+fn say<E: ByteSink>(text: &[u8], errors: &mut E)
+    requires { E.has_failed errors.old ≡ false }
+    ensures { Says text.now (E.taken errors.old) (E.taken errors.new) }
+{
+    let _said = write_all(errors, text);
+}
+
+/// Says why nothing, or not all, was written. There may be no memory for that line either.
+#[tactic(auto, using(crate::proofs::Said::nothing_said))]
+fn complain<E: ByteSink>(alloc: Global, fault: &ConductFault, errors: &mut E)
+    requires { E.has_failed errors.old ≡ false }
+    ensures { Says (fault_text fault.now ++ codes "\n") (E.taken errors.old) (E.taken errors.new) }
+{
+    match (fault, fault_line(alloc, fault)) {
+        (_, Ok(line)) => say(line.as_slice(), errors),
+        (ConductFault::Memory, Err(_)) => say(b"refused: Memory\n", errors),
+        (_, Err(_)) => {}
+    }
+}
+
+/// The status of a whole run, whose fault it tells.
+fn finish<E: ByteSink>(alloc: Global, done: &Result<(), ConductFault>, errors: &mut E) -> u8
+    requires { E.has_failed errors.old ≡ false }
+    ensures status { result ≡ exit_status done.now }
+    ensures says { SaysFault done.now (E.taken errors.old) (E.taken errors.new) }
+{
+    match done {
+        Ok(()) => 0,
+        Err(fault) => {
+            complain(alloc, fault, errors);
+            fault_status(fault)
+        }
+    }
+}
+
+/// Adds what is said behind the line of a fault, where refusals are explained.
+fn push_explained(
+    alloc: Global,
+    asked: &Invocation,
+    input: &[u8],
+    fault: &ConductFault,
+    line: &mut Vec<u8>,
+) -> Result<(), AllocError>
+    ensures ok { OnOk result (line.new.items
+        ≡ line.old.items ++ explained asked.now.explains asked.now.request input.now fault.now) }
+    ensures unchanged { OnErr result (line.new.items ≡ line.old.items) }
+{
+    if !asked.explains {
+        return Ok(());
+    }
+    match fault {
+        ConductFault::Refused(refusal) => {
+            let layout = layout_of(&asked.request);
+            let text = explanation(alloc, layout, input, refusal)?;
+            line.extend_from_slice(text.as_slice())
+        }
+        ConductFault::Memory
+        | ConductFault::Live(_)
+        | ConductFault::Read
+        | ConductFault::Write(_) => Ok(()),
+    }
+}
+
+/// Says why nothing, or not all, was written, and explains it where that is asked for. There may be
+/// no memory for that either.
+#[tactic(auto, using(crate::proofs::Said::explained_said, crate::proofs::Said::said_front))]
+fn explain<E: ByteSink>(
+    alloc: Global,
+    asked: &Invocation,
+    input: &[u8],
+    fault: &ConductFault,
+    errors: &mut E,
+)
+    requires { E.has_failed errors.old ≡ false }
+    ensures { Says ((fault_text fault.now ++ codes "\n")
+        ++ explained asked.now.explains asked.now.request input.now fault.now)
+        (E.taken errors.old) (E.taken errors.new) }
+{
+    match fault_line(alloc, fault) {
+        Ok(mut line) => {
+            let _explained = push_explained(alloc, asked, input, fault, &mut line);
+            say(line.as_slice(), errors);
+        }
+        Err(_) => complain(alloc, fault, errors),
+    }
+}
+
+/// Does a task, says why where it is not done, and answers the status of it.
+fn do_task<R: ByteSource, W: ByteSink, E: ByteSink>(
+    rt: &(impl Threads + Sync),
+    alloc: Global,
+    asked: &Invocation,
+    task: &Task,
+    source: &mut R,
+    sink: &mut W,
+    errors: &mut E,
+) -> u8
+    requires source { R.has_failed source.old ≡ false }
+    requires sink { W.has_failed sink.old ≡ false }
+    requires goes_on { W.is_stalled sink.old ≡ false }
+    requires errors { E.has_failed errors.old ≡ false }
+    ensures { AnswersTask task.now asked.now result (R.left source.old) (R.left source.new)
+        (W.taken sink.old) (W.taken sink.new)
+        (E.taken errors.old) (E.taken errors.new) (R.has_failed source.new) (W.has_failed sink.new)
+        (W.is_stalled sink.new) }
+{
+    let mut input = Vec::new(alloc);
+    match conduct_keeping(rt, alloc, task, source, sink, &mut input) {
+        Ok(()) => 0,
+        Err(fault) => {
+            explain(alloc, asked, input.as_slice(), &fault, errors);
+            fault_status(&fault)
+        }
+    }
+}
+
+/// Plays live, says why where that is not done, and which operations call nothing where it is, and
+/// answers the status of it.
+fn play_live<R: ByteSource, W: ByteSink, E: ByteSink>(
+    rt: &(impl Threads + Wait + Sync),
+    alloc: Global,
+    asked: &Invocation,
+    subject: Subject,
+    limit: u64,
+    source: &mut R,
+    sink: &mut W,
+    errors: &mut E,
+) -> u8
+    requires limit { HasLimit (Live subject limit) }
+    requires source { R.has_failed source.old ≡ false }
+    requires sink { W.has_failed sink.old ≡ false }
+    requires goes_on { W.is_stalled sink.old ≡ false }
+    requires errors { E.has_failed errors.old ≡ false }
+    ensures { AnswersLively subject limit asked.now result (R.left source.old) (R.left source.new)
+        (W.taken sink.old) (W.taken sink.new)
+        (E.taken errors.old) (E.taken errors.new) (R.has_failed source.new) (W.has_failed sink.new)
+        (W.is_stalled sink.new) }
+{
+    let mut input = Vec::new(alloc);
+    match conduct_live_keeping(rt, alloc, subject, limit, &NoGate, source, sink, &mut input) {
+        Ok(uncalled) => {
+            say(uncalled.as_slice(), errors);
+            0
+        }
+        Err(fault) => {
+            explain(alloc, asked, input.as_slice(), &fault, errors);
+            fault_status(&fault)
+        }
+    }
+}
+
+/// Does what is asked for, and answers the status of it.
+fn do_asked<R: ByteSource, W: ByteSink, E: ByteSink>(
+    rt: &(impl Threads + Wait + Sync),
+    alloc: Global,
+    asked: &Invocation,
+    source: &mut R,
+    sink: &mut W,
+    errors: &mut E,
+) -> u8
+    requires limit { HasLimit asked.now.request }
+    requires source { R.has_failed source.old ≡ false }
+    requires sink { W.has_failed sink.old ≡ false }
+    requires goes_on { W.is_stalled sink.old ≡ false }
+    requires errors { E.has_failed errors.old ≡ false }
+    ensures { AnswersRequest asked.now.request asked.now result (R.left source.old)
+        (R.left source.new) (W.taken sink.old) (W.taken sink.new)
+        (E.taken errors.old) (E.taken errors.new) (R.has_failed source.new) (W.has_failed sink.new)
+        (W.is_stalled sink.new) }
+{
+    match asked.request {
+        Request::Do(task) => do_task(rt, alloc, asked, &task, source, sink, errors),
+        Request::Live(subject, limit) => {
+            play_live(rt, alloc, asked, subject, limit, source, sink, errors)
+        }
+    }
+}
+
+/// The listing of a strict survey, where one is asked for.
+fn strict_subject(asked: &Invocation) -> Option<Subject>
+    ensures { result ≡ strict_subject asked.now.strict asked.now.request }
+{
+    match (asked.strict, asked.request) {
+        (true, Request::Do(Task::Survey(subject))) => Some(subject),
+        _ => None,
+    }
+}
+
+/// Surveys, says why where it is not done, and answers the status of it, which tells whether all
+/// runs are clean.
+fn survey_strictly<R: ByteSource, W: ByteSink, E: ByteSink>(
+    alloc: Global,
+    asked: &Invocation,
+    subject: Subject,
+    source: &mut R,
+    sink: &mut W,
+    errors: &mut E,
+) -> u8
+    requires source { R.has_failed source.old ≡ false }
+    requires sink { W.has_failed sink.old ≡ false }
+    requires goes_on { W.is_stalled sink.old ≡ false }
+    requires errors { E.has_failed errors.old ≡ false }
+    ensures { AnswersStrictly subject asked.now result (R.left source.old) (R.left source.new)
+        (W.taken sink.old) (W.taken sink.new)
+        (E.taken errors.old) (E.taken errors.new) (R.has_failed source.new) (W.has_failed sink.new)
+        (W.is_stalled sink.new) }
+{
+    let mut input = Vec::new(alloc);
+    match conduct_survey(alloc, subject, source, sink, &mut input) {
+        Ok(true) => 0,
+        Ok(false) => NOT_CLEAN,
+        Err(fault) => {
+            explain(alloc, asked, input.as_slice(), &fault, errors);
+            fault_status(&fault)
+        }
+    }
+}
+
+/// Says that the input is read from a terminal, where one is asked for.
+pub fn say_terminal<E: ByteSink>(line: &Result<CommandLine, AllocError>, errors: &mut E)
+    requires { E.has_failed errors.old ≡ false }
+    ensures { SaysTerminal line.now (E.taken errors.old) (E.taken errors.new) }
+{
+    match line {
+        Ok(CommandLine::Asks(_)) => say(TERMINAL, errors),
+        _ => {}
+    }
+}
+
+/// Does what a command line asks for, and answers the status of it. `rt` is the leave to start
+/// threads and to wait for them.
+pub fn answer<R: ByteSource, W: ByteSink, E: ByteSink>(
+    rt: &(impl Threads + Wait + Sync),
+    alloc: Global,
+    line: &Result<CommandLine, AllocError>,
+    source: &mut R,
+    sink: &mut W,
+    errors: &mut E,
+) -> u8
+    requires limits { IfOk line.now HasLimits }
+    requires source { R.has_failed source.old ≡ false }
+    requires sink { W.has_failed sink.old ≡ false }
+    requires goes_on { W.is_stalled sink.old ≡ false }
+    requires errors { E.has_failed errors.old ≡ false }
+    ensures { AnswersLine line.now result (R.left source.old) (R.left source.new) (W.taken sink.old)
+        (W.taken sink.new)
+        (E.taken errors.old) (E.taken errors.new) (R.has_failed source.new) (W.has_failed sink.new)
+        (W.is_stalled sink.new) }
+{
+    match line {
+        Ok(CommandLine::Asks(asked)) => match strict_subject(asked) {
+            Some(subject) => survey_strictly(alloc, asked, subject, source, sink, errors),
+            None => do_asked(rt, alloc, asked, source, sink, errors),
+        },
+        Ok(CommandLine::Help(text)) => {
+            let done = write_all(sink, text.as_bytes());
+            finish(alloc, &done, errors)
+        }
+        Ok(CommandLine::Wrong(text)) => {
+            say(text.as_bytes(), errors);
+            2
+        }
+        Ok(CommandLine::NoText) => {
+            say(NO_TEXT, errors);
+            2
+        }
+        Err(_) => finish(alloc, &Err(ConductFault::Memory), errors),
+    }
+}

@@ -1,2 +1,0 @@
--- The proofs of snap_promises, by their modules.
-mod Kept

@@ -1,2 +1,0 @@
--- The definitions of snap_promises, by their modules.
-pub mod Kept

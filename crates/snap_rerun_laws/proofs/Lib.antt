@@ -1,2 +1,0 @@
--- The proofs of snap_rerun_laws, by their modules.
-mod Rerun

@@ -1,2 +1,0 @@
--- The definitions of snap_rerun_laws, by their modules.
-pub mod Rerun

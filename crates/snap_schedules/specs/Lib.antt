@@ -1,2 +1,0 @@
--- The definitions of snap_schedules, by their modules.
-pub mod Schedules

@@ -1,0 +1,126 @@
+//! `survey_runs`: what the runs of one listing over many schedules came to, a line for each and one
+//! for all of them.
+ghost use Rattle.std.specs.Prelude.{◌≡◌, ◌++◌, IfOk, OnOk, map};
+ghost use Rattle.std.specs.List.{list_all};
+ghost use Rattle.snap_semantics.specs.Answers.{Answers};
+ghost use Rattle.snap_survey.specs.SurveyText.{survey_lines, surveys_text};
+ghost use Rattle.snap_survey.specs.Surveys.{are_clean, is_clean, survey_over, survey_text};
+
+use crate::{Survey, summary_line, summary_of, survey, survey_line};
+use snap_asm_program::Program;
+use snap_input::schedules_for;
+use snap_sched::Schedule;
+use snap_semantics::{Fault, Refusal};
+use snap_words::{Bits, Kind, KindTag, Multi, Seq};
+use std::alloc::{AllocError, Global};
+
+/// What the run over each of these schedules came to, in the order of the schedules.
+fn surveys<K: Kind>(
+    alloc: Global,
+    program: &Program,
+    schedules: &[Schedule],
+) -> Result<Vec<Survey>, AllocError>
+    requires { program.now.kind ≡ K.TAG }
+    ensures { IfOk result (λ surveys. surveys.items
+        ≡ map (survey_over program.now) schedules.now) }
+{
+    let mut surveys = Vec::new(alloc);
+    for schedule in schedules {
+        surveys.push(survey::<K>(alloc, program, schedule)?)?;
+    }
+    Ok(surveys)
+}
+
+/// Adds the lines of surveys, each with the number of its schedule.
+fn push_survey_lines(out: &mut Vec<u8>, surveys: &[Survey]) -> Result<(), AllocError>
+    ensures { OnOk result (out.new.items ≡ out.old.items ++ survey_lines 1 surveys.now) }
+{
+    for k in 0..surveys.len() {
+        survey_line(out, k as u64 + 1, &surveys[k])?;
+    }
+    Ok(())
+}
+
+/// A line for each survey, and one for all of them.
+fn surveys_text(alloc: Global, surveys: &[Survey]) -> Result<Vec<u8>, AllocError>
+    ensures { IfOk result (λ out. out.items ≡ surveys_text surveys.now) }
+{
+    let mut out = Vec::new(alloc);
+    push_survey_lines(&mut out, surveys)?;
+    summary_line(&mut out, &summary_of(surveys))?;
+    Ok(out)
+}
+
+/// Whether each finished scan of a run has a point, and no item trapped its process.
+fn is_clean(survey: &Survey) -> bool
+    ensures { result ≡ is_clean survey.now }
+{
+    survey.scans_without_point == 0 && survey.traps == 0
+}
+
+/// Whether each run is clean.
+fn are_clean(surveys: &[Survey]) -> bool
+    ensures { result ≡ list_all is_clean surveys.now }
+{
+    surveys.iter().all(|survey| is_clean(survey))
+}
+
+/// What is written of many runs, and whether each of them is clean.
+#[derive(Drop)]
+pub struct SurveyOutput {
+    pub text: Vec<u8>,
+    pub clean: bool,
+}
+
+/// What a program of a kind came to under many schedules.
+#[tactic(auto, unfolding(crate::specs::Surveys::survey_text, crate::specs::Surveys::are_clean))]
+fn survey_kind<K: Kind>(
+    alloc: Global,
+    program: &Program,
+    texts: &[&[u8]],
+) -> Result<SurveyOutput, Fault<Refusal>>
+    requires { program.now.kind ≡ K.TAG }
+    ensures text { Answers (λ out. out.text.items) result
+        (survey_text program.now (map (λ text. text.now) texts.now)) }
+    ensures clean { Answers (λ out. out.clean) result
+        (are_clean program.now (map (λ text. text.now) texts.now)) }
+{
+    let schedules = schedules_for::<K>(alloc, program, texts)?;
+    let surveys = surveys::<K>(alloc, program, schedules.as_slice())?;
+    let text = surveys_text(alloc, surveys.as_slice())?;
+    let clean = are_clean(surveys.as_slice());
+    Ok(SurveyOutput { text, clean })
+}
+
+/// What the run of a program over each of many schedules came to, a line for each, and one for all
+/// of them; and whether each of the runs is clean.
+pub fn survey_runs(
+    alloc: Global,
+    program: &Program,
+    texts: &[&[u8]],
+) -> Result<SurveyOutput, Fault<Refusal>>
+    ensures text { Answers (λ out. out.text.items) result
+        (survey_text program.now (map (λ text. text.now) texts.now)) }
+    ensures clean { Answers (λ out. out.clean) result
+        (are_clean program.now (map (λ text. text.now) texts.now)) }
+{
+    match program.kind() {
+        KindTag::Seq => survey_kind::<Seq>(alloc, program, texts),
+        KindTag::Bits => survey_kind::<Bits>(alloc, program, texts),
+        KindTag::Multi => survey_kind::<Multi>(alloc, program, texts),
+    }
+}
+
+/// What the run of a program over each of many schedules came to, a line for each, and one for all
+/// of them.
+pub fn survey_program(
+    alloc: Global,
+    program: &Program,
+    texts: &[&[u8]],
+) -> Result<Vec<u8>, Fault<Refusal>>
+    ensures { Answers (λ out. out.items) result
+        (survey_text program.now (map (λ text. text.now) texts.now)) }
+{
+    let found = survey_runs(alloc, program, texts)?;
+    Ok(found.text)
+}

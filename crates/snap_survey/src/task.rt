@@ -1,0 +1,35 @@
+//! `survey_input`: what the task `survey` writes for an input.
+ghost use Rattle.std.specs.Prelude.{◌≡◌, ◌≤◌, Err, length};
+ghost use Rattle.snap_semantics.specs.Answers.{Answers};
+ghost use Rattle.snap_semantics.specs.declared.fault.Fault.TheVariants.{Refused};
+ghost use Rattle.snap_semantics.specs.declared.refusal.Refusal.{Refusal};
+ghost use Rattle.snap_input.specs.Parts.{max_input, parts_of};
+ghost use Rattle.snap_input.specs.ManySchedules.{checked_schedules};
+ghost use Rattle.snap_survey.specs.Surveys.{clean_runs, surveyed};
+
+use crate::survey_output::{SurveyOutput, survey_runs};
+use snap_input::{check_schedules, program_for, split_parts, texts_for};
+use snap_semantics::{Fault, Refusal};
+use snap_tasks::Subject;
+use std::alloc::Global;
+
+/// What the runs of a listing under many schedules came to, and whether each of them is clean.
+#[tactic(auto, unfolding(crate::specs::Surveys::surveyed, crate::specs::Surveys::clean_runs))]
+pub fn survey_input(
+    alloc: Global,
+    subject: Subject,
+    input: &[u8],
+) -> Result<SurveyOutput, Fault<Refusal>>
+    requires { length input.now ≤ max_input }
+    ensures output { Answers (λ out. out.text.items) result
+        (surveyed subject (parts_of input.now)) }
+    ensures clean { Answers (λ out. out.clean) result (clean_runs subject (parts_of input.now)) }
+    ensures counted { (r : Refusal) → checked_schedules subject (parts_of input.now) ≡ Err r →
+        result ≡ Err (Refused r) }
+{
+    check_schedules(subject, input)?;
+    let parts = split_parts(alloc, input)?;
+    let program = program_for(alloc, subject, parts.as_slice())?;
+    let texts = texts_for(subject, parts.as_slice());
+    survey_runs(alloc, &program, texts)
+}

@@ -1,0 +1,103 @@
+//! `push_changes`: prints what changed from one text to
+//! another, old lines after `- ` and new ones after `+ `.
+ghost use Rattle.std.specs.Prelude.{◌≡◌, ◌<◌, ◌+◌, ◌++◌, ◌∷◌, IfOk, OnOk, codes, length};
+ghost use Rattle.snap_semantics.specs.Token.{lines_of};
+ghost use Rattle.snap_text.specs.Changes.{behind_first, changes_between, changes_text};
+ghost use Rattle.snap_text.specs.Changes.{line_with, replaced_text, text_between};
+
+use crate::push_text;
+use std::alloc::AllocError;
+
+/// The first line, without its line feed, and the lines behind it.
+pub(crate) fn split_line(bytes: &[u8]) -> (&[u8], &[u8])
+    requires { 0 < length bytes.now }
+    ensures lines { lines_of bytes.now ≡ result.0.now ∷ lines_of result.1.now }
+    ensures shorter { length result.1.now < length bytes.now }
+{
+    let mut len = 0;
+    while len < bytes.len() {
+        if bytes[len] == b'\n' {
+            return (&bytes[..len], &bytes[len + 1..]);
+        }
+        len += 1;
+    }
+    (bytes, &bytes[bytes.len()..])
+}
+
+/// The text behind its first line.
+pub fn behind_first_line(text: &[u8]) -> &[u8]
+    ensures { lines_of result.now ≡ behind_first (lines_of text.now) }
+{
+    if text.is_empty() {
+        return text;
+    }
+    let (_first, rest) = split_line(text);
+    rest
+}
+
+/// Adds a line behind a mark.
+#[tactic(auto, using(crate::proofs::Texts::joined))]
+fn push_line(out: &mut Vec<u8>, mark: &[u8], line: &[u8]) -> Result<(), AllocError>
+    ensures { OnOk result (out.new.items ≡ out.old.items ++ line_with mark.now line.now) }
+{
+    push_text(out, mark)?;
+    push_text(out, line)?;
+    push_text(out, b"\n")
+}
+
+/// Adds what stands in the place of a line now, where it is another line.
+#[tactic(auto, using(crate::proofs::Texts::joined))]
+fn push_replaced(out: &mut Vec<u8>, before: &[u8], after: &[u8]) -> Result<(), AllocError>
+    ensures { OnOk result (out.new.items ≡ out.old.items ++ replaced_text before.now after.now) }
+{
+    if before == after {
+        return Ok(());
+    }
+    push_line(out, b"- ", before)?;
+    push_line(out, b"+ ", after)
+}
+
+/// Adds what changed in the first line, and gives the lines behind it.
+fn push_first<'a>(
+    out: &mut Vec<u8>,
+    before: &'a [u8],
+    after: &'a [u8],
+) -> Result<(&'a [u8], &'a [u8]), AllocError>
+    requires { 0 < length before.now + length after.now }
+    ensures text { IfOk result (λ rest.
+        out.new.items ++ text_between (lines_of rest.0.now) (lines_of rest.1.now)
+        ≡ out.old.items ++ text_between (lines_of before.now) (lines_of after.now)) }
+    ensures shorter { IfOk result (λ rest.
+        length rest.0.now + length rest.1.now < length before.now + length after.now) }
+{
+    if before.is_empty() {
+        let (line, rest) = split_line(after);
+        push_line(out, b"+ ", line)?;
+        return Ok((before, rest));
+    }
+    if after.is_empty() {
+        let (line, rest) = split_line(before);
+        push_line(out, b"- ", line)?;
+        return Ok((rest, after));
+    }
+    let (old, rest_before) = split_line(before);
+    let (new, rest_after) = split_line(after);
+    push_replaced(out, old, new)?;
+    Ok((rest_before, rest_after))
+}
+
+/// Adds what changed from one text to another: each line that went behind `- `,
+/// and each that came behind `+ `.
+pub fn push_changes(out: &mut Vec<u8>, before: &[u8], after: &[u8]) -> Result<(), AllocError>
+    ensures { OnOk result (out.new.items ≡ out.old.items
+        ++ changes_text (changes_between (lines_of before.now) (lines_of after.now))) }
+{
+    let mut old = before;
+    let mut new = after;
+    while !old.is_empty() || !new.is_empty() {
+        let (rest_old, rest_new) = push_first(out, old, new)?;
+        old = rest_old;
+        new = rest_new;
+    }
+    Ok(())
+}

@@ -1,0 +1,73 @@
+//! `push_owned_lines`: the lines of a text, each indented one with its
+//! owner, the first two words of the line above that is not indented.
+ghost use Rattle.std.specs.Prelude.{◌≡◌, ◌≤◌, ◌++◌, [], OnOk, codes, length};
+ghost use Rattle.snap_semantics.specs.Token.{lines_of};
+ghost use Rattle.snap_text.specs.Owned.{next_owner, owned_line, owned_text, two_words, word_len};
+
+use crate::changed::split_line;
+use crate::push_text;
+use std::alloc::AllocError;
+
+/// How many bytes stand before the first space.
+fn word_len(bytes: &[u8]) -> usize
+    ensures value { result ≡ word_len bytes.now }
+    ensures within { result ≤ length bytes.now }
+{
+    let mut len = 0;
+    while len < bytes.len() && bytes[len] != b' ' {
+        len += 1;
+    }
+    len
+}
+
+/// The first two words of a line.
+fn two_words(line: &[u8]) -> &[u8]
+    ensures { result.now ≡ two_words line.now }
+{
+    let first = word_len(line);
+    if first == line.len() {
+        return line;
+    }
+    let second = word_len(&line[first + 1..]);
+    &line[..first + 1 + second]
+}
+
+/// Of whom the lines behind a line speak that are indented.
+fn next_owner<'a>(owner: &'a [u8], line: &'a [u8]) -> &'a [u8]
+    ensures { result.now ≡ next_owner owner.now line.now }
+{
+    match line {
+        [b' ', ..] => owner,
+        _ => two_words(line),
+    }
+}
+
+/// Adds a line, with its owner in place of its first space where it is indented.
+fn push_owned_line(out: &mut Vec<u8>, owner: &[u8], line: &[u8]) -> Result<(), AllocError>
+    ensures { OnOk result (out.new.items ≡ out.old.items ++ owned_line owner.now line.now) }
+{
+    match line {
+        [b' ', rest @ ..] => {
+            push_text(out, owner)?;
+            push_text(out, rest)
+        }
+        _ => push_text(out, line),
+    }
+}
+
+/// Adds the lines of a text, each indented one with its owner: the first two words of the line
+/// above that is not indented.
+pub fn push_owned_lines(out: &mut Vec<u8>, text: &[u8]) -> Result<(), AllocError>
+    ensures { OnOk result (out.new.items ≡ out.old.items ++ owned_text [] (lines_of text.now)) }
+{
+    let mut rest = text;
+    let mut owner: &[u8] = b"";
+    while !rest.is_empty() {
+        let (line, behind) = split_line(rest);
+        push_owned_line(out, owner, line)?;
+        push_text(out, b"\n")?;
+        owner = next_owner(owner, line);
+        rest = behind;
+    }
+    Ok(())
+}

@@ -1,2 +1,0 @@
--- The definitions of snap_trace_output, by their modules.
-pub mod Traces

@@ -1,2 +1,0 @@
--- The proofs of snaplab, by their modules.
-pub mod Said

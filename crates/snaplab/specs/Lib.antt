@@ -1,2 +1,0 @@
--- The definitions of snaplab, by their modules.
-pub mod Answer

@@ -45,12 +45,21 @@ fn live<'a>(alloc: Global) -> Result<Command<'a>, AllocError> {
     .arg(limit)
 }
 
+/// An option without a value.
+fn flag<'a>(alloc: Global, name: &'a str, help: &'a str) -> Arg<'a> {
+    Arg::new(alloc, name)
+        .long(name)
+        .action(ArgAction::SetTrue)
+        .help(help)
+}
+
 /// The subcommand that surveys runs.
 fn survey<'a>(alloc: Global) -> Result<Command<'a>, AllocError> {
-    let strict = Arg::new(alloc, "strict")
-        .long("strict")
-        .action(ArgAction::SetTrue)
-        .help("Ends with status 4 where a run has a scan without a point, or a trap");
+    let strict = flag(
+        alloc,
+        "strict",
+        "Ends with status 4 where a run has a scan without a point, or a trap",
+    );
     running(
         alloc,
         "survey",
@@ -61,11 +70,12 @@ fn survey<'a>(alloc: Global) -> Result<Command<'a>, AllocError> {
 
 /// The option that has refusals explained.
 fn explain<'a>(alloc: Global) -> Arg<'a> {
-    Arg::new(alloc, "explain")
-        .long("explain")
-        .action(ArgAction::SetTrue)
-        .global(true)
-        .help("Explains on standard error where and why an input is refused")
+    flag(
+        alloc,
+        "explain",
+        "Explains on standard error where and why an input is refused",
+    )
+    .global(true)
 }
 
 /// The subcommands that read a text or an image and take no option, each with what it does.

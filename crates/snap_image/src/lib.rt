@@ -1,7 +1,14 @@
 //! Images of listings: encoded and decoded, and their laws.
 #![tactic(auto)]
 
-pub use snap_image_decoder::{ImageFault, decode};
+mod comments;
+mod decoder;
+mod fault;
+mod head;
+mod lines;
+
+pub use decoder::decode;
+pub use fault::ImageFault;
 pub use snap_image_encoder::encode;
 pub use snap_image_format::{
     images_are_bytes, more_than_an_image_is_refused, what_is_decoded_is_an_image,

@@ -1,13 +1,12 @@
 //! `answer`: what snaplab does about its command line, over any source, sink and device for
 //! messages, and the status of it.
-ghost use Rattle.std.specs.Prelude.{◌≡◌, ◌++◌, false, codes, IfOk, OnOk, OnErr};
+ghost use Rattle.std.specs.Prelude.{◌≡◌, ◌++◌, false, IfOk, OnOk, OnErr, Err};
 ghost use Rattle.snap_command_line.specs.Limits.{HasLimits};
-ghost use Rattle.snap_devices.specs.FaultText.{fault_text};
 ghost use Rattle.snap_tasks.specs.Request.{HasLimit};
 ghost use Rattle.snap_tasks.specs.declared.request.Request.TheVariants.{Live};
 ghost use Rattle.snap_program.specs.Answer.{AnswersLine, AnswersLively, AnswersRequest, AnswersStrictly};
-ghost use Rattle.snap_program.specs.Answer.{AnswersTask, Says, SaysFault, SaysTerminal, explained};
-ghost use Rattle.snap_program.specs.Answer.{exit_status, strict_subject};
+ghost use Rattle.snap_program.specs.Answer.{AnswersTask, Says, SaysFault, SaysTerminal, SaysWhy};
+ghost use Rattle.snap_program.specs.Answer.{Tells, exit_status, explained, strict_subject};
 
 use crate::whole_run::{conduct_keeping, conduct_survey};
 use snap_command_line::{CommandLine, Invocation};
@@ -21,6 +20,9 @@ use std::alloc::{AllocError, Global};
 use std::sync::Wait;
 use std::thread::Threads;
 
+/// What is said where there is no memory for the line of a fault.
+const NO_MEMORY: &[u8] = b"refused: Memory\n";
+
 /// What is said of arguments that are no text.
 const NO_TEXT: &[u8] = b"error: the words of the command line are no text\n";
 
@@ -31,24 +33,23 @@ const NOT_CLEAN: u8 = 4;
 const TERMINAL: &[u8] = b"reading from the terminal; end with Ctrl-D\n";
 
 /// Says a text. Where the device does not take it, nothing more is said.
-#[tactic(auto, using(crate::proofs::Said::said))]
 fn say<E: ByteSink>(text: &[u8], errors: &mut E)
     requires { E.has_failed errors.old ≡ false }
-    ensures { Says text.now (E.taken errors.old) (E.taken errors.new) }
+    ensures { Says text.now (E.taken errors.old) (E.taken errors.new) (E.has_failed errors.new)
+        (E.is_stalled errors.new) }
 {
     let _said = write_all(errors, text);
 }
 
-/// Says why nothing, or not all, was written. There may be no memory for that line either.
-#[tactic(auto, using(crate::proofs::Said::nothing_said))]
+/// Says why nothing, or not all, was written, or that there is no memory for that line.
 fn complain<E: ByteSink>(alloc: Global, fault: &ConductFault, errors: &mut E)
     requires { E.has_failed errors.old ≡ false }
-    ensures { Says (fault_text fault.now ++ codes "\n") (E.taken errors.old) (E.taken errors.new) }
+    ensures { Tells fault.now (E.taken errors.old) (E.taken errors.new) (E.has_failed errors.new)
+        (E.is_stalled errors.new) }
 {
-    match (fault, fault_line(alloc, fault)) {
-        (_, Ok(line)) => say(line.as_slice(), errors),
-        (ConductFault::Memory, Err(_)) => say(b"refused: Memory\n", errors),
-        (_, Err(_)) => {}
+    match fault_line(alloc, fault) {
+        Ok(line) => say(line.as_slice(), errors),
+        Err(_) => say(NO_MEMORY, errors),
     }
 }
 
@@ -56,7 +57,8 @@ fn complain<E: ByteSink>(alloc: Global, fault: &ConductFault, errors: &mut E)
 fn finish<E: ByteSink>(alloc: Global, done: &Result<(), ConductFault>, errors: &mut E) -> u8
     requires { E.has_failed errors.old ≡ false }
     ensures status { result ≡ exit_status done.now }
-    ensures says { SaysFault done.now (E.taken errors.old) (E.taken errors.new) }
+    ensures says { SaysFault done.now (E.taken errors.old) (E.taken errors.new)
+        (E.has_failed errors.new) (E.is_stalled errors.new) }
 {
     match done {
         Ok(()) => 0,
@@ -95,9 +97,9 @@ fn push_explained(
     }
 }
 
-/// Says why nothing, or not all, was written, and explains it where that is asked for. There may be
-/// no memory for that either.
-#[tactic(auto, using(crate::proofs::Said::explained_said, crate::proofs::Said::said_front))]
+/// Says why nothing, or not all, was written, and explains it where that is asked for and there is
+/// memory for it.
+#[tactic(auto, using(crate::proofs::Said::explained_said))]
 fn explain<E: ByteSink>(
     alloc: Global,
     asked: &Invocation,
@@ -106,9 +108,9 @@ fn explain<E: ByteSink>(
     errors: &mut E,
 )
     requires { E.has_failed errors.old ≡ false }
-    ensures { Says ((fault_text fault.now ++ codes "\n")
-        ++ explained asked.now.explains asked.now.request input.now fault.now)
-        (E.taken errors.old) (E.taken errors.new) }
+    ensures { SaysWhy asked.now.explains asked.now.request input.now (Err fault.now)
+        (E.taken errors.old) (E.taken errors.new) (E.has_failed errors.new)
+        (E.is_stalled errors.new) }
 {
     match fault_line(alloc, fault) {
         Ok(mut line) => {
@@ -136,7 +138,7 @@ fn do_task<R: ByteSource, W: ByteSink, E: ByteSink>(
     ensures { AnswersTask task.now asked.now result (R.left source.old) (R.left source.new)
         (W.taken sink.old) (W.taken sink.new)
         (E.taken errors.old) (E.taken errors.new) (R.has_failed source.new) (W.has_failed sink.new)
-        (W.is_stalled sink.new) }
+        (W.is_stalled sink.new) (E.has_failed errors.new) (E.is_stalled errors.new) }
 {
     let mut input = Vec::new(alloc);
     match conduct_keeping(rt, alloc, task, source, sink, &mut input) {
@@ -168,7 +170,7 @@ fn play_live<R: ByteSource, W: ByteSink, E: ByteSink>(
     ensures { AnswersLively subject limit asked.now result (R.left source.old) (R.left source.new)
         (W.taken sink.old) (W.taken sink.new)
         (E.taken errors.old) (E.taken errors.new) (R.has_failed source.new) (W.has_failed sink.new)
-        (W.is_stalled sink.new) }
+        (W.is_stalled sink.new) (E.has_failed errors.new) (E.is_stalled errors.new) }
 {
     let mut input = Vec::new(alloc);
     match conduct_live_keeping(rt, alloc, subject, limit, &NoGate, source, sink, &mut input) {
@@ -200,7 +202,7 @@ fn do_asked<R: ByteSource, W: ByteSink, E: ByteSink>(
     ensures { AnswersRequest asked.now.request asked.now result (R.left source.old)
         (R.left source.new) (W.taken sink.old) (W.taken sink.new)
         (E.taken errors.old) (E.taken errors.new) (R.has_failed source.new) (W.has_failed sink.new)
-        (W.is_stalled sink.new) }
+        (W.is_stalled sink.new) (E.has_failed errors.new) (E.is_stalled errors.new) }
 {
     match asked.request {
         Request::Do(task) => do_task(rt, alloc, asked, &task, source, sink, errors),
@@ -237,7 +239,7 @@ fn survey_strictly<R: ByteSource, W: ByteSink, E: ByteSink>(
     ensures { AnswersStrictly subject asked.now result (R.left source.old) (R.left source.new)
         (W.taken sink.old) (W.taken sink.new)
         (E.taken errors.old) (E.taken errors.new) (R.has_failed source.new) (W.has_failed sink.new)
-        (W.is_stalled sink.new) }
+        (W.is_stalled sink.new) (E.has_failed errors.new) (E.is_stalled errors.new) }
 {
     let mut input = Vec::new(alloc);
     match conduct_survey(alloc, subject, source, sink, &mut input) {
@@ -253,7 +255,8 @@ fn survey_strictly<R: ByteSource, W: ByteSink, E: ByteSink>(
 /// Says that the input is read from a terminal, where one is asked for.
 pub fn say_terminal<E: ByteSink>(line: &Result<CommandLine, AllocError>, errors: &mut E)
     requires { E.has_failed errors.old ≡ false }
-    ensures { SaysTerminal line.now (E.taken errors.old) (E.taken errors.new) }
+    ensures { SaysTerminal line.now (E.taken errors.old) (E.taken errors.new)
+        (E.has_failed errors.new) (E.is_stalled errors.new) }
 {
     match line {
         Ok(CommandLine::Asks(_)) => say(TERMINAL, errors),
@@ -279,7 +282,7 @@ pub fn answer<R: ByteSource, W: ByteSink, E: ByteSink>(
     ensures { AnswersLine line.now result (R.left source.old) (R.left source.new) (W.taken sink.old)
         (W.taken sink.new)
         (E.taken errors.old) (E.taken errors.new) (R.has_failed source.new) (W.has_failed sink.new)
-        (W.is_stalled sink.new) }
+        (W.is_stalled sink.new) (E.has_failed errors.new) (E.is_stalled errors.new) }
 {
     match line {
         Ok(CommandLine::Asks(asked)) => match strict_subject(asked) {

@@ -6,7 +6,7 @@ use std::marker::Model;
 
 /// A name, seen as the list of its letters. Names that are declared have 1 to 8 letters; a longer
 /// identifier in a name's place is kept by its first nine, which no declared name has.
-#[derive(Clone, Copy, Debug, PartialEq, Eq, Hash)]
+#[derive(Clone, Copy, Debug, PartialEq, Eq)]
 pub struct Name {
     letters: [u8; 9],
     len: u8,

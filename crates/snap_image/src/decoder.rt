@@ -1,0 +1,67 @@
+//! `decode`: the listing whose image these bytes are, with
+//! its comments, or the first reason why they are no image.
+ghost use Rattle.std.specs.Prelude.{◌≡◌, ◌≢◌, ℕ, List, ◌∷◌, ◌++◌, IfOk, None, Ok, Err, take};
+ghost use Rattle.snap_semantics.specs.Answers.{Answers};
+ghost use Rattle.snap_semantics.specs.Comments.{Commented, IsCommented};
+ghost use Rattle.snap_image_format.specs.Image.{CanSay, IsImageOf, image_in, signature};
+ghost use Rattle.snap_image_format.specs.ImageCodes.{of_code, versions};
+ghost use Rattle.snap_image_format.specs.ImageListing.{commented_in};
+ghost use Rattle.snap_semantics.specs.Listing.{checked_targets, line_targets};
+ghost use Rattle.snap_semantics.specs.declared.fault.Fault.TheVariants.{Refused};
+ghost use Rattle.snap_image_format.specs.declared.image.ImageVersion.{ImageVersion};
+ghost use Rattle.snap_semantics.specs.declared.refusal.ImageRefusal.{ImageRefusal};
+ghost use Rattle.snap_semantics.specs.declared.refusal.ImageRefusal.TheVariants.{NotAnImage};
+ghost use Rattle.snap_semantics.specs.declared.refusal.ImageRefusal.TheVariants.{Version};
+ghost use Rattle.snap_image.specs.Head.{opened};
+
+use crate::fault::ImageFault;
+use crate::head::head;
+use crate::lines::lines;
+use snap_listing_core::{CommentedListing, Header, Listing};
+use snap_listing_rules::{checked_target, checked_targets};
+use snap_semantics::{ImageRefusal, Line, ListingRefusal};
+use std::alloc::Global;
+
+/// Each target has to be a line.
+fn targets(header: &Header, lines: &[Line]) -> Result<(), ListingRefusal>
+    ensures { result ≡ checked_targets lines.now (header.now.scan ∷ header.now.update
+        ∷ line_targets lines.now) }
+{
+    checked_target(lines, header.scan)?;
+    checked_target(lines, header.update)?;
+    checked_targets(lines)
+}
+
+/// The listing whose image these bytes are, with its comments, or the first reason why they are
+/// none.
+#[tactic(auto, unfolding(snap_image_format::specs::ImageListing::commented_in))]
+fn decoded(alloc: Global, image: &[u8]) -> Result<CommentedListing, ImageFault>
+    ensures answer { Answers (λ l. l) result (commented_in image.now) }
+    ensures opened { (e : ImageRefusal) → opened image.now ≡ Err e → result ≡ Err (Refused e) }
+{
+    let (version, header, count, mut cursor) = head(alloc, image)?;
+    let read = lines(alloc, &header, version, count, &mut cursor)?;
+    cursor.ended()?;
+    match targets(&header, read.lines.as_slice()) {
+        Ok(()) => {
+            let listing = Listing::of(header, read.lines);
+            Ok(CommentedListing::of(listing, read.comments))
+        }
+        Err(refusal) => Err(ImageFault::Refused(ImageRefusal::Invalid(refusal))),
+    }
+}
+
+/// The listing whose image these bytes are, with its comments, or the first reason why they are
+/// none: it is refused exactly where no listing has this image in either version. Takes memory for
+/// the listing and its comments alone.
+pub fn decode(alloc: Global, image: &[u8]) -> Result<CommentedListing, ImageFault>
+    ensures answer { Answers (λ l. l) result (commented_in image.now) }
+    ensures image { IfOk result (λ l. IsImageOf image.now l) }
+    ensures every { (v : ImageVersion) (c : Commented) → IsCommented c → CanSay v c →
+        image.now ≡ image_in v c → Answers (λ l. l) result (Ok c) }
+    ensures not_an_image { take 4 image.now ≢ signature → result ≡ Err (Refused NotAnImage) }
+    ensures version { (b : ℕ) (rest : List ℕ) → image.now ≡ signature ++ b ∷ rest →
+        of_code versions b ≡ None → result ≡ Err (Refused Version) }
+{
+    decoded(alloc, image)
+}

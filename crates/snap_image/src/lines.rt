@@ -1,0 +1,118 @@
+//! `lines`: reads the lines of an image, each with its comment (`CommentedLines`).
+ghost use Rattle.std.specs.Prelude.{◌≡◌};
+ghost use Rattle.snap_semantics.specs.Answers.{Answers};
+ghost use Rattle.snap_image_format.specs.Image.{is_number_in};
+ghost use Rattle.snap_image_format.specs.ImageListing.{new_number, line_in, lines_in};
+ghost use Rattle.snap_listing_core.specs.Fields.{header_source};
+ghost use Rattle.snap_image_format.specs.Reads.{Reads};
+ghost use Rattle.snap_image.specs.DecoderSteps.{added_line, listed};
+
+use crate::comments::behind_line;
+use crate::fault::ImageFault;
+use snap_image_format::{Cursor, ImageVersion};
+use snap_image_operands::instr;
+use snap_listing_core::Header;
+use snap_listing_rules::{is_line_number, push_line_copy};
+use snap_semantics::{ImageRefusal, Line, ListingRefusal};
+use std::alloc::Global;
+
+/// The largest line number of the first version.
+const MAX_FIRST_NUMBER: u64 = 999;
+
+/// Lines, and for each of them its comment, if it has one.
+#[derive(Drop)]
+pub struct CommentedLines {
+    pub lines: Vec<Line>,
+    pub comments: Vec<Option<Vec<u8>>>,
+}
+
+/// Whether a version has this line number.
+fn is_number_in(version: ImageVersion, number: u64) -> bool
+    ensures { result ≡ is_number_in version number }
+{
+    match version {
+        ImageVersion::First => 1 <= number && number <= MAX_FIRST_NUMBER,
+        ImageVersion::Second => is_line_number(number),
+    }
+}
+
+/// A line number of a version, above the last one.
+fn checked_number(
+    version: ImageVersion,
+    line: u64,
+    last: u64,
+    number: u64,
+) -> Result<(), ImageRefusal>
+    ensures { result ≡ new_number version line last number }
+{
+    if !is_number_in(version, number) {
+        Err(ImageRefusal::Invalid(ListingRefusal::BadLine(line)))
+    } else if number <= last {
+        Err(ImageRefusal::Invalid(ListingRefusal::NumberNotRising(line)))
+    } else {
+        Ok(())
+    }
+}
+
+/// The line of this place, behind line number `last`.
+#[tactic(auto, unfolding(snap_image_format::specs::ImageListing::line_in))]
+fn line_at(
+    header: &Header,
+    version: ImageVersion,
+    line: u64,
+    last: u64,
+    cursor: &mut Cursor<'_>,
+) -> Result<Line, ImageRefusal>
+    ensures { Reads result cursor.new (line_in (header_source header.now) version line last
+        cursor.old) }
+{
+    let number = cursor.short()?;
+    checked_number(version, line, last, number)?;
+    let instr = instr(header, line, cursor)?;
+    Ok(Line { number, instr })
+}
+
+/// Adds the line of this place with its comment, and gives its number.
+fn add_line(
+    alloc: Global,
+    header: &Header,
+    version: ImageVersion,
+    line: u64,
+    last: u64,
+    read: &mut CommentedLines,
+    cursor: &mut Cursor<'_>,
+) -> Result<u64, ImageFault>
+    ensures { Answers (λ number. (number, listed read.new, cursor.new)) result
+        (added_line (header_source header.now) version line last (listed read.old) cursor.old) }
+{
+    match line_at(header, version, line, last, cursor) {
+        Ok(found) => {
+            push_line_copy(&mut read.lines, &found)?;
+            read.comments.push(behind_line(alloc, version, cursor)?)?;
+            Ok(found.number)
+        }
+        Err(refusal) => Err(ImageFault::Refused(refusal)),
+    }
+}
+
+/// So many lines, with their comments.
+pub fn lines(
+    alloc: Global,
+    header: &Header,
+    version: ImageVersion,
+    count: u64,
+    cursor: &mut Cursor<'_>,
+) -> Result<CommentedLines, ImageFault>
+    ensures { Answers (λ read. (listed read, cursor.new)) result
+        (lines_in (header_source header.now) version count 1 0 cursor.old) }
+{
+    let mut read = CommentedLines {
+        lines: Vec::new(alloc),
+        comments: Vec::new(alloc),
+    };
+    let mut last = 0;
+    for place in 0..count {
+        last = add_line(alloc, header, version, place + 1, last, &mut read, cursor)?;
+    }
+    Ok(read)
+}

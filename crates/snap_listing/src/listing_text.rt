@@ -1,0 +1,21 @@
+//! `read_known`: reads a text that is known to be a listing, so that only memory can be missing.
+ghost use Rattle.std.specs.Prelude.{◌≡◌, IfOk, Ok};
+ghost use Rattle.snap_semantics.specs.Listing.{listing_of};
+ghost use Rattle.snap_listing.specs.ListingTexts.{IsListingText};
+
+use crate::fault::ListingFault;
+use crate::reader::read;
+use snap_listing_core::Listing;
+use std::alloc::{AllocError, Global};
+
+/// The listing of a text that is one: nothing but memory can be missing.
+pub fn read_known(alloc: Global, text: &[u8]) -> Result<Listing, AllocError>
+    requires { IsListingText text.now }
+    ensures { IfOk result (λ l. listing_of text.now ≡ Ok l) }
+{
+    match read(alloc, text) {
+        Ok(listing) => Ok(listing),
+        Err(ListingFault::Memory) => Err(AllocError),
+        Err(ListingFault::Refused(_)) => unreachable!(),
+    }
+}

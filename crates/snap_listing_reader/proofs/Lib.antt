@@ -1,6 +1,0 @@
--- The proofs of snap_listing_reader, by their modules.
-pub mod KnownListings
-pub mod Lines
-pub mod Names
-pub mod ReadComments
-pub mod TextLength

@@ -1,6 +1,6 @@
 -- What the encoder adds before the lines of an image, part by part,
 -- is `head_image`: signature, version, kind, names and entries.
-use Rattle.std.proofs.Common.{◌≡◌, ℕ, List, [], ◌∷◌, ◌++◌, Result, Ok, Err, OnOk, sym, ap, ◌∙◌, append_assoc}
+use Rattle.std.proofs.Common.{◌≡◌, ℕ, List, [], ◌∷◌, ◌++◌, sym, ap, ◌∙◌, append_assoc}
 use Rattle.snap_words.specs.declared.kind.KindTag.{KindTag}
 use Rattle.snap_image_format.specs.declared.image.ImageVersion.TheVariants.{Second}
 use Rattle.snap_image_format.specs.Image.{signature, table_image, head_image}
@@ -20,10 +20,6 @@ head_parts s =
     ap (λ (z : List ℕ). signature ++ version_code Second ∷ kind_code s.kind ∷ z)
     (sym (four_parts (table_image s.scalars) (table_image s.rows) (table_image s.words)
     (table_image s.views) (entries_image s)))
-
-pub on_ok_as : {A E : Type 0} (r : Result A E) (P Q : Type 0) → (P → Q) → OnOk r P → OnOk r Q
-on_ok_as (Ok x) P Q f h = f h
-on_ok_as (Err e) P Q f h = h
 
 -- the parts, added one behind the other
 pub head_pushed : (s : Source) (k : KindTag) (o a v b c : List ℕ) →

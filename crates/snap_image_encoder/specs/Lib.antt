@@ -1,2 +1,3 @@
 -- The definitions of snap_image_encoder, by their modules.
 pub mod Operands
+pub mod Adds

@@ -1,2 +1,3 @@
 -- The definitions of snap_listing_printer, by their modules.
 pub mod LineTexts
+pub mod Spelled

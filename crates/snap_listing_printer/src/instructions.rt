@@ -1,5 +1,5 @@
 //! Spells the lines of a listing as tokens: tuples, instructions and the header lines.
-ghost use Rattle.std.specs.Prelude.{◌≡◌, [], ◌∷◌, ◌++◌, map, OnOk, codes};
+ghost use Rattle.std.specs.Prelude.{◌≡◌, [], ◌∷◌, ◌++◌, map, codes};
 ghost use Rattle.snap_semantics.specs.declared.instr.Instr.TheVariants as instr;
 ghost use Rattle.snap_semantics.specs.declared.instr.Tuple.TheVariants as tuple;
 ghost use Rattle.snap_semantics.specs.declared.text.Symbol.TheVariants as symbol;
@@ -7,11 +7,11 @@ ghost use Rattle.snap_semantics.specs.Spelling.{spelled_expr, spelled_tuple, ban
 ghost use Rattle.snap_semantics.specs.Spelling.{spelled_instr, spelled_line, kind_keyword};
 ghost use Rattle.snap_semantics.specs.Spelling.{spelled_names, spelled_entry};
 ghost use Rattle.snap_semantics.specs.Token.{Identifier, Sign};
+ghost use Rattle.snap_listing_printer.specs.Spelled.{Spells};
 
 use crate::spelling::Spelling;
 use snap_semantics::{BitBank, Condition, Expr, Index, Instr, Line, Name, Range, Symbol, Tuple};
 use snap_words::KindTag;
-use std::alloc::AllocError;
 
 /// The keyword of a bank of bits.
 fn bank_keyword(bank: BitBank) -> &'static [u8]
@@ -36,37 +36,30 @@ pub fn kind_keyword(kind: KindTag) -> &'static [u8]
 
 impl<'a> Spelling<'a> {
     /// The next expression of a tuple.
-    fn push_next_expr(&mut self, expr: &'a Expr) -> Result<(), AllocError>
-        ensures { OnOk result (self.new ≡ self.old ++ Sign symbol.Comma ∷ spelled_expr expr.now) }
+    fn push_next_expr(&mut self, expr: &'a Expr)
+        ensures { Spells self.old self.new (Sign symbol.Comma ∷ spelled_expr expr.now) }
     {
-        self.push_sign(Symbol::Comma)?;
-        self.push_expr(expr)
+        self.push_sign(Symbol::Comma);
+        self.push_expr(expr);
     }
 
     /// The next name of a tuple.
-    fn push_next_name(&mut self, name: &'a Name) -> Result<(), AllocError>
-        ensures { OnOk result (self.new ≡ self.old ++ Sign symbol.Comma ∷ Identifier name.now
-            ∷ []) }
+    fn push_next_name(&mut self, name: &'a Name)
+        ensures { Spells self.old self.new (Sign symbol.Comma ∷ Identifier name.now ∷ []) }
     {
-        self.push_sign(Symbol::Comma)?;
-        self.push_name(name)
+        self.push_sign(Symbol::Comma);
+        self.push_name(name);
     }
 
     /// `(E, E, S)`.
-    fn push_seq_tuple(
-        &mut self,
-        datum: &'a Expr,
-        seq: &'a Expr,
-        view: &'a Name,
-    ) -> Result<(), AllocError>
-        ensures { OnOk result (self.new ≡ self.old
-            ++ spelled_tuple (tuple.Seq datum.now seq.now view.now)) }
+    fn push_seq_tuple(&mut self, datum: &'a Expr, seq: &'a Expr, view: &'a Name)
+        ensures { Spells self.old self.new (spelled_tuple (tuple.Seq datum.now seq.now view.now)) }
     {
-        self.push_sign(Symbol::OpenParenthesis)?;
-        self.push_expr(datum)?;
-        self.push_next_expr(seq)?;
-        self.push_next_name(view)?;
-        self.push_sign(Symbol::CloseParenthesis)
+        self.push_sign(Symbol::OpenParenthesis);
+        self.push_expr(datum);
+        self.push_next_expr(seq);
+        self.push_next_name(view);
+        self.push_sign(Symbol::CloseParenthesis);
     }
 
     /// `(E, R, E, S)`.
@@ -76,193 +69,156 @@ impl<'a> Spelling<'a> {
         handshakes: &'a Name,
         toggle: &'a Expr,
         view: &'a Name,
-    ) -> Result<(), AllocError>
-        ensures { OnOk result (self.new ≡ self.old
-            ++ spelled_tuple (tuple.Bits datum.now handshakes.now toggle.now view.now)) }
+    )
+        ensures { Spells self.old self.new
+            (spelled_tuple (tuple.Bits datum.now handshakes.now toggle.now view.now)) }
     {
-        self.push_sign(Symbol::OpenParenthesis)?;
-        self.push_expr(datum)?;
-        self.push_next_name(handshakes)?;
-        self.push_next_expr(toggle)?;
-        self.push_next_name(view)?;
-        self.push_sign(Symbol::CloseParenthesis)
+        self.push_sign(Symbol::OpenParenthesis);
+        self.push_expr(datum);
+        self.push_next_name(handshakes);
+        self.push_next_expr(toggle);
+        self.push_next_name(view);
+        self.push_sign(Symbol::CloseParenthesis);
     }
 
     /// `(E, E, E)`.
-    fn push_multi_tuple(
-        &mut self,
-        datum: &'a Expr,
-        id: &'a Expr,
-        toggle: &'a Expr,
-    ) -> Result<(), AllocError>
-        ensures { OnOk result (self.new ≡ self.old
-            ++ spelled_tuple (tuple.Multi datum.now id.now toggle.now)) }
+    fn push_multi_tuple(&mut self, datum: &'a Expr, id: &'a Expr, toggle: &'a Expr)
+        ensures { Spells self.old self.new
+            (spelled_tuple (tuple.Multi datum.now id.now toggle.now)) }
     {
-        self.push_sign(Symbol::OpenParenthesis)?;
-        self.push_expr(datum)?;
-        self.push_next_expr(id)?;
-        self.push_next_expr(toggle)?;
-        self.push_sign(Symbol::CloseParenthesis)
+        self.push_sign(Symbol::OpenParenthesis);
+        self.push_expr(datum);
+        self.push_next_expr(id);
+        self.push_next_expr(toggle);
+        self.push_sign(Symbol::CloseParenthesis);
     }
 
     /// A tuple.
-    fn push_tuple(&mut self, tuple: &'a Tuple) -> Result<(), AllocError>
-        ensures { OnOk result (self.new ≡ self.old ++ spelled_tuple tuple.now) }
+    fn push_tuple(&mut self, tuple: &'a Tuple)
+        ensures { Spells self.old self.new (spelled_tuple tuple.now) }
     {
         match tuple {
             Tuple::Seq(datum, seq, view) => self.push_seq_tuple(datum, seq, view),
             Tuple::Bits(datum, handshakes, toggle, view) => {
-                self.push_bits_tuple(datum, handshakes, toggle, view)
+                self.push_bits_tuple(datum, handshakes, toggle, view);
             }
             Tuple::Multi(datum, id, toggle) => self.push_multi_tuple(datum, id, toggle),
         }
     }
 
     /// `let X = E`.
-    fn push_let(&mut self, scalar: &'a Name, value: &'a Expr) -> Result<(), AllocError>
-        ensures { OnOk result (self.new ≡ self.old
-            ++ spelled_instr (instr.Let scalar.now value.now)) }
+    fn push_let(&mut self, scalar: &'a Name, value: &'a Expr)
+        ensures { Spells self.old self.new (spelled_instr (instr.Let scalar.now value.now)) }
     {
-        self.push_identifier(b"let")?;
-        self.push_name(scalar)?;
-        self.push_sign(Symbol::Equal)?;
-        self.push_expr(value)
+        self.push_identifier(b"let");
+        self.push_name(scalar);
+        self.push_sign(Symbol::Equal);
+        self.push_expr(value);
     }
 
     /// `let R[I] = E`.
-    fn push_let_place(
-        &mut self,
-        row: &'a Name,
-        index: &'a Index,
-        value: &'a Expr,
-    ) -> Result<(), AllocError>
-        ensures { OnOk result (self.new ≡ self.old
-            ++ spelled_instr (instr.LetPlace row.now index.now value.now)) }
+    fn push_let_place(&mut self, row: &'a Name, index: &'a Index, value: &'a Expr)
+        ensures { Spells self.old self.new
+            (spelled_instr (instr.LetPlace row.now index.now value.now)) }
     {
-        self.push_identifier(b"let")?;
-        self.push_place(row, index)?;
-        self.push_sign(Symbol::Equal)?;
-        self.push_expr(value)
+        self.push_identifier(b"let");
+        self.push_place(row, index);
+        self.push_sign(Symbol::Equal);
+        self.push_expr(value);
     }
 
     /// `get W[I] = r[J]`.
-    fn push_get(
-        &mut self,
-        words: &'a Name,
-        index: &'a Index,
-        register: &'a Index,
-    ) -> Result<(), AllocError>
-        ensures { OnOk result (self.new ≡ self.old
-            ++ spelled_instr (instr.Get words.now index.now register.now)) }
+    fn push_get(&mut self, words: &'a Name, index: &'a Index, register: &'a Index)
+        ensures { Spells self.old self.new
+            (spelled_instr (instr.Get words.now index.now register.now)) }
     {
-        self.push_identifier(b"get")?;
-        self.push_place(words, index)?;
-        self.push_sign(Symbol::Equal)?;
-        self.push_identifier(b"r")?;
-        self.push_bracketed(register)
+        self.push_identifier(b"get");
+        self.push_place(words, index);
+        self.push_sign(Symbol::Equal);
+        self.push_identifier(b"r");
+        self.push_bracketed(register);
     }
 
     /// `bit X = q[I,J]`, and so `p`.
-    fn push_bit(
-        &mut self,
-        scalar: &'a Name,
-        bank: BitBank,
-        first: &'a Index,
-        second: &'a Index,
-    ) -> Result<(), AllocError>
-        ensures { OnOk result (self.new ≡ self.old
-            ++ spelled_instr (instr.Bit scalar.now bank first.now second.now)) }
+    fn push_bit(&mut self, scalar: &'a Name, bank: BitBank, first: &'a Index, second: &'a Index)
+        ensures { Spells self.old self.new
+            (spelled_instr (instr.Bit scalar.now bank first.now second.now)) }
     {
-        self.push_identifier(b"bit")?;
-        self.push_name(scalar)?;
-        self.push_sign(Symbol::Equal)?;
-        self.push_identifier(bank_keyword(bank))?;
-        self.push_pair(first, second)
+        self.push_identifier(b"bit");
+        self.push_name(scalar);
+        self.push_sign(Symbol::Equal);
+        self.push_identifier(bank_keyword(bank));
+        self.push_pair(first, second);
     }
 
     /// `look S = v[I]`.
-    fn push_look(&mut self, view: &'a Name, index: &'a Index) -> Result<(), AllocError>
-        ensures { OnOk result (self.new ≡ self.old
-            ++ spelled_instr (instr.Look view.now index.now)) }
+    fn push_look(&mut self, view: &'a Name, index: &'a Index)
+        ensures { Spells self.old self.new (spelled_instr (instr.Look view.now index.now)) }
     {
-        self.push_identifier(b"look")?;
-        self.push_name(view)?;
-        self.push_sign(Symbol::Equal)?;
-        self.push_identifier(b"v")?;
-        self.push_bracketed(index)
+        self.push_identifier(b"look");
+        self.push_name(view);
+        self.push_sign(Symbol::Equal);
+        self.push_identifier(b"v");
+        self.push_bracketed(index);
     }
 
     /// `put r[I] = ` and a tuple.
-    fn push_put(&mut self, index: &'a Index, tuple: &'a Tuple) -> Result<(), AllocError>
-        ensures { OnOk result (self.new ≡ self.old
-            ++ spelled_instr (instr.Put index.now tuple.now)) }
+    fn push_put(&mut self, index: &'a Index, tuple: &'a Tuple)
+        ensures { Spells self.old self.new (spelled_instr (instr.Put index.now tuple.now)) }
     {
-        self.push_identifier(b"put")?;
-        self.push_identifier(b"r")?;
-        self.push_bracketed(index)?;
-        self.push_sign(Symbol::Equal)?;
-        self.push_tuple(tuple)
+        self.push_identifier(b"put");
+        self.push_identifier(b"r");
+        self.push_bracketed(index);
+        self.push_sign(Symbol::Equal);
+        self.push_tuple(tuple);
     }
 
     /// `put q[I,J] = E`, and so `p`.
-    fn push_put_bit(
-        &mut self,
-        bank: BitBank,
-        first: &'a Index,
-        second: &'a Index,
-        value: &'a Expr,
-    ) -> Result<(), AllocError>
-        ensures { OnOk result (self.new ≡ self.old
-            ++ spelled_instr (instr.PutBit bank first.now second.now value.now)) }
+    fn push_put_bit(&mut self, bank: BitBank, first: &'a Index, second: &'a Index, value: &'a Expr)
+        ensures { Spells self.old self.new
+            (spelled_instr (instr.PutBit bank first.now second.now value.now)) }
     {
-        self.push_identifier(b"put")?;
-        self.push_identifier(bank_keyword(bank))?;
-        self.push_pair(first, second)?;
-        self.push_sign(Symbol::Equal)?;
-        self.push_expr(value)
+        self.push_identifier(b"put");
+        self.push_identifier(bank_keyword(bank));
+        self.push_pair(first, second);
+        self.push_sign(Symbol::Equal);
+        self.push_expr(value);
     }
 
     /// `put v[I] = S`.
-    fn push_put_view(&mut self, index: &'a Index, view: &'a Name) -> Result<(), AllocError>
-        ensures { OnOk result (self.new ≡ self.old
-            ++ spelled_instr (instr.PutView index.now view.now)) }
+    fn push_put_view(&mut self, index: &'a Index, view: &'a Name)
+        ensures { Spells self.old self.new (spelled_instr (instr.PutView index.now view.now)) }
     {
-        self.push_identifier(b"put")?;
-        self.push_identifier(b"v")?;
-        self.push_bracketed(index)?;
-        self.push_sign(Symbol::Equal)?;
-        self.push_name(view)
+        self.push_identifier(b"put");
+        self.push_identifier(b"v");
+        self.push_bracketed(index);
+        self.push_sign(Symbol::Equal);
+        self.push_name(view);
     }
 
     /// `view S = data(W)`.
-    fn push_view_data(&mut self, view: &'a Name, words: &'a Name) -> Result<(), AllocError>
-        ensures { OnOk result (self.new ≡ self.old
-            ++ spelled_instr (instr.ViewData view.now words.now)) }
+    fn push_view_data(&mut self, view: &'a Name, words: &'a Name)
+        ensures { Spells self.old self.new (spelled_instr (instr.ViewData view.now words.now)) }
     {
-        self.push_identifier(b"view")?;
-        self.push_name(view)?;
-        self.push_sign(Symbol::Equal)?;
-        self.push_identifier(b"data")?;
-        self.push_sign(Symbol::OpenParenthesis)?;
-        self.push_name(words)?;
-        self.push_sign(Symbol::CloseParenthesis)
+        self.push_identifier(b"view");
+        self.push_name(view);
+        self.push_sign(Symbol::Equal);
+        self.push_identifier(b"data");
+        self.push_sign(Symbol::OpenParenthesis);
+        self.push_name(words);
+        self.push_sign(Symbol::CloseParenthesis);
     }
 
     /// `view S = view(W[I])`.
-    fn push_view_of(
-        &mut self,
-        view: &'a Name,
-        words: &'a Name,
-        index: &'a Index,
-    ) -> Result<(), AllocError>
-        ensures { OnOk result (self.new ≡ self.old
-            ++ spelled_instr (instr.ViewOf view.now words.now index.now)) }
+    fn push_view_of(&mut self, view: &'a Name, words: &'a Name, index: &'a Index)
+        ensures { Spells self.old self.new
+            (spelled_instr (instr.ViewOf view.now words.now index.now)) }
     {
-        self.push_identifier(b"view")?;
-        self.push_name(view)?;
-        self.push_sign(Symbol::Equal)?;
-        self.push_identifier(b"view")?;
-        self.push_word_place(words, index)
+        self.push_identifier(b"view");
+        self.push_name(view);
+        self.push_sign(Symbol::Equal);
+        self.push_identifier(b"view");
+        self.push_word_place(words, index);
     }
 
     /// `each G: R[@] = E where C`.
@@ -272,99 +228,86 @@ impl<'a> Spelling<'a> {
         row: &'a Name,
         value: &'a Expr,
         condition: &'a Option<Condition>,
-    ) -> Result<(), AllocError>
-        ensures { OnOk result (self.new ≡ self.old
-            ++ spelled_instr (instr.Each range row.now value.now condition.now)) }
+    )
+        ensures { Spells self.old self.new
+            (spelled_instr (instr.Each range row.now value.now condition.now)) }
     {
-        self.push_identifier(b"each")?;
-        self.push_range(range)?;
-        self.push_sign(Symbol::Colon)?;
-        self.push_name(row)?;
-        self.push_sign(Symbol::OpenBracket)?;
-        self.push_sign(Symbol::At)?;
-        self.push_sign(Symbol::CloseBracket)?;
-        self.push_sign(Symbol::Equal)?;
-        self.push_expr(value)?;
-        self.push_where(condition)
+        self.push_identifier(b"each");
+        self.push_range(range);
+        self.push_sign(Symbol::Colon);
+        self.push_name(row);
+        self.push_sign(Symbol::OpenBracket);
+        self.push_sign(Symbol::At);
+        self.push_sign(Symbol::CloseBracket);
+        self.push_sign(Symbol::Equal);
+        self.push_expr(value);
+        self.push_where(condition);
     }
 
     /// `first X G: C goto N`.
-    fn push_first(
-        &mut self,
-        scalar: &'a Name,
-        range: Range,
-        condition: &'a Condition,
-        target: u64,
-    ) -> Result<(), AllocError>
-        ensures { OnOk result (self.new ≡ self.old
-            ++ spelled_instr (instr.First scalar.now range condition.now target)) }
+    fn push_first(&mut self, scalar: &'a Name, range: Range, condition: &'a Condition, target: u64)
+        ensures { Spells self.old self.new
+            (spelled_instr (instr.First scalar.now range condition.now target)) }
     {
-        self.push_identifier(b"first")?;
-        self.push_name(scalar)?;
-        self.push_range(range)?;
-        self.push_sign(Symbol::Colon)?;
-        self.push_condition(condition)?;
-        self.push_target(target)
+        self.push_identifier(b"first");
+        self.push_name(scalar);
+        self.push_range(range);
+        self.push_sign(Symbol::Colon);
+        self.push_condition(condition);
+        self.push_target(target);
     }
 
     /// `next X G goto N`.
-    fn push_next(&mut self, scalar: &'a Name, range: Range, target: u64) -> Result<(), AllocError>
-        ensures { OnOk result (self.new ≡ self.old
-            ++ spelled_instr (instr.Next scalar.now range target)) }
+    fn push_next(&mut self, scalar: &'a Name, range: Range, target: u64)
+        ensures { Spells self.old self.new (spelled_instr (instr.Next scalar.now range target)) }
     {
-        self.push_identifier(b"next")?;
-        self.push_name(scalar)?;
-        self.push_range(range)?;
-        self.push_target(target)
+        self.push_identifier(b"next");
+        self.push_name(scalar);
+        self.push_range(range);
+        self.push_target(target);
     }
 
     /// `if C goto N`.
-    fn push_if(&mut self, condition: &'a Condition, target: u64) -> Result<(), AllocError>
-        ensures { OnOk result (self.new ≡ self.old
-            ++ spelled_instr (instr.If condition.now target)) }
+    fn push_if(&mut self, condition: &'a Condition, target: u64)
+        ensures { Spells self.old self.new (spelled_instr (instr.If condition.now target)) }
     {
-        self.push_identifier(b"if")?;
-        self.push_condition(condition)?;
-        self.push_target(target)
+        self.push_identifier(b"if");
+        self.push_condition(condition);
+        self.push_target(target);
     }
 
     /// `if all G: C goto N`.
-    fn push_if_all(
-        &mut self,
-        range: Range,
-        condition: &'a Condition,
-        target: u64,
-    ) -> Result<(), AllocError>
-        ensures { OnOk result (self.new ≡ self.old
-            ++ spelled_instr (instr.IfAll range condition.now target)) }
+    fn push_if_all(&mut self, range: Range, condition: &'a Condition, target: u64)
+        ensures { Spells self.old self.new
+            (spelled_instr (instr.IfAll range condition.now target)) }
     {
-        self.push_identifier(b"if")?;
-        self.push_identifier(b"all")?;
-        self.push_range(range)?;
-        self.push_sign(Symbol::Colon)?;
-        self.push_condition(condition)?;
-        self.push_target(target)
+        self.push_identifier(b"if");
+        self.push_identifier(b"all");
+        self.push_range(range);
+        self.push_sign(Symbol::Colon);
+        self.push_condition(condition);
+        self.push_target(target);
     }
 
     /// `call N`.
-    fn push_call(&mut self, target: u64) -> Result<(), AllocError>
-        ensures { OnOk result (self.new ≡ self.old ++ spelled_instr (instr.Call target)) }
+    fn push_call(&mut self, target: u64)
+        ensures { Spells self.old self.new (spelled_instr (instr.Call target)) }
     {
-        self.push_identifier(b"call")?;
-        self.push_number(target)
+        self.push_identifier(b"call");
+        self.push_number(target);
     }
 
     /// `return S`.
-    fn push_return(&mut self, view: &'a Name) -> Result<(), AllocError>
-        ensures { OnOk result (self.new ≡ self.old ++ spelled_instr (instr.Return view.now)) }
+    fn push_return(&mut self, view: &'a Name)
+        ensures { Spells self.old self.new (spelled_instr (instr.Return view.now)) }
     {
-        self.push_identifier(b"return")?;
-        self.push_name(view)
+        self.push_identifier(b"return");
+        self.push_name(view);
     }
 
     /// An instruction.
-    fn push_instr(&mut self, instr: &'a Instr) -> Result<(), AllocError>
-        ensures { OnOk result (self.new ≡ self.old ++ spelled_instr instr.now) }
+    fn push_instr(&mut self, instr: &'a Instr)
+        ensures { Spells self.old self.new (spelled_instr instr.now) }
     {
         match instr {
             Instr::Let(scalar, value) => self.push_let(scalar, value),
@@ -374,21 +317,21 @@ impl<'a> Spelling<'a> {
             Instr::Look(view, index) => self.push_look(view, index),
             Instr::Put(index, tuple) => self.push_put(index, tuple),
             Instr::PutBit(bank, first, second, value) => {
-                self.push_put_bit(*bank, first, second, value)
+                self.push_put_bit(*bank, first, second, value);
             }
             Instr::PutView(index, view) => self.push_put_view(index, view),
             Instr::ViewData(view, words) => self.push_view_data(view, words),
             Instr::ViewOf(view, words, index) => self.push_view_of(view, words, index),
             Instr::Each(range, row, value, condition) => {
-                self.push_each(*range, row, value, condition)
+                self.push_each(*range, row, value, condition);
             }
             Instr::First(scalar, range, condition, target) => {
-                self.push_first(scalar, *range, condition, *target)
+                self.push_first(scalar, *range, condition, *target);
             }
             Instr::Next(scalar, range, target) => self.push_next(scalar, *range, *target),
             Instr::If(condition, target) => self.push_if(condition, *target),
             Instr::IfAll(range, condition, target) => {
-                self.push_if_all(*range, condition, *target)
+                self.push_if_all(*range, condition, *target);
             }
             Instr::Goto(target) => self.push_target(*target),
             Instr::Call(target) => self.push_call(*target),
@@ -398,39 +341,37 @@ impl<'a> Spelling<'a> {
     }
 
     /// A numbered line.
-    pub fn push_line(&mut self, line: &'a Line) -> Result<(), AllocError>
-        ensures { OnOk result (self.new ≡ self.old ++ spelled_line line.now) }
+    pub fn push_line(&mut self, line: &'a Line)
+        ensures { Spells self.old self.new (spelled_line line.now) }
     {
-        self.push_number(line.number)?;
-        self.push_sign(Symbol::Colon)?;
-        self.push_instr(&line.instr)
+        self.push_number(line.number);
+        self.push_sign(Symbol::Colon);
+        self.push_instr(&line.instr);
     }
 
     /// The line of the kind.
-    pub fn push_kind(&mut self, kind: KindTag) -> Result<(), AllocError>
-        ensures { OnOk result (self.new ≡ self.old
-            ++ spelled_names (codes "kind") (kind_keyword kind ∷ [])) }
+    pub fn push_kind(&mut self, kind: KindTag)
+        ensures { Spells self.old self.new (spelled_names (codes "kind") (kind_keyword kind ∷ [])) }
     {
-        self.push_identifier(b"kind")?;
-        self.push_identifier(kind_keyword(kind))
+        self.push_identifier(b"kind");
+        self.push_identifier(kind_keyword(kind));
     }
 
     /// A keyword and names.
-    pub fn push_names(&mut self, keyword: &'a [u8], names: &'a [Name]) -> Result<(), AllocError>
-        ensures { OnOk result (self.new ≡ self.old ++ spelled_names keyword.now names.now) }
+    pub fn push_names(&mut self, keyword: &'a [u8], names: &'a [Name])
+        ensures { Spells self.old self.new (spelled_names keyword.now names.now) }
     {
-        self.push_identifier(keyword)?;
+        self.push_identifier(keyword);
         for name in names {
-            self.push_name(name)?;
+            self.push_name(name);
         }
-        Ok(())
     }
 
     /// A keyword and the number of a line.
-    pub fn push_entry(&mut self, keyword: &'a [u8], number: u64) -> Result<(), AllocError>
-        ensures { OnOk result (self.new ≡ self.old ++ spelled_entry keyword.now number) }
+    pub fn push_entry(&mut self, keyword: &'a [u8], number: u64)
+        ensures { Spells self.old self.new (spelled_entry keyword.now number) }
     {
-        self.push_identifier(keyword)?;
-        self.push_number(number)
+        self.push_identifier(keyword);
+        self.push_number(number);
     }
 }

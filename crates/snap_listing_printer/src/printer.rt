@@ -19,8 +19,8 @@ fn push_kind_line(out: &mut Vec<u8>, alloc: Global, kind: KindTag) -> Result<(),
         ++ line_text (spelled_names (codes "kind") (kind_keyword kind ∷ []))) }
 {
     let mut line = Spelling::new(alloc);
-    line.push_kind(kind)?;
-    push_laid_out(out, line.tokens())
+    line.push_kind(kind);
+    push_laid_out(out, line.tokens()?)
 }
 
 /// Adds a line of a keyword and names.
@@ -34,8 +34,8 @@ fn push_names_line(
         ++ line_text (spelled_names keyword.now names.now)) }
 {
     let mut line = Spelling::new(alloc);
-    line.push_names(keyword, names)?;
-    push_laid_out(out, line.tokens())
+    line.push_names(keyword, names);
+    push_laid_out(out, line.tokens()?)
 }
 
 /// Adds a line of a keyword and the number of a line.
@@ -49,8 +49,8 @@ fn push_entry_line(
         ++ line_text (spelled_entry keyword.now number)) }
 {
     let mut line = Spelling::new(alloc);
-    line.push_entry(keyword, number)?;
-    push_laid_out(out, line.tokens())
+    line.push_entry(keyword, number);
+    push_laid_out(out, line.tokens()?)
 }
 
 /// Adds the end of a line with this comment.
@@ -76,8 +76,9 @@ fn push_numbered_line(
         ++ line_to (comment_end (seen_comment comment.now)) (spelled_line numbered.now)) }
 {
     let mut line = Spelling::new(alloc);
-    line.push_line(numbered)?;
-    push_tokens(out, line.tokens())?;
+    line.push_line(numbered);
+    let tokens = line.tokens()?;
+    push_tokens(out, tokens)?;
     push_comment_end(out, comment)
 }
 

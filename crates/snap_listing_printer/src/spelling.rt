@@ -1,6 +1,6 @@
 //! `Spelling`: the tokens of a listing's line, as far as it
 //! is spelled; spells its indices, terms and conditions.
-ghost use Rattle.std.specs.Prelude.{◌≡◌, [], ◌∷◌, ◌++◌, OnOk};
+ghost use Rattle.std.specs.Prelude.{◌≡◌, [], ◌∷◌, ◌++◌, false, IfOk};
 ghost use Rattle.snap_semantics.specs.declared.instr.Term.TheVariants as term;
 ghost use Rattle.snap_semantics.specs.ListingForms.{join_keyword};
 ghost use Rattle.snap_semantics.specs.Spelling.{spelled_index, spelled_place, field_keyword};
@@ -10,6 +10,7 @@ ghost use Rattle.snap_semantics.specs.Spelling.{spelled_where, spelled_range, sp
 ghost use Rattle.snap_semantics.specs.Spelling.{spelled_pair, in_brackets, in_parentheses};
 ghost use Rattle.snap_semantics.specs.Token.{Identifier, Number, Sign};
 ghost use Rattle.snap_text.specs.Tokens.{view_token, view_tokens};
+ghost use Rattle.snap_listing_printer.specs.Spelled.{Spells};
 
 use snap_listing_rules::join_keyword;
 use snap_semantics::{
@@ -18,22 +19,13 @@ use snap_semantics::{
 use snap_text::Token;
 use snap_words::Field;
 use std::alloc::{AllocError, Global};
-use std::marker::Model;
 
-/// The tokens of a line, as far as it is spelled.
+/// The tokens of a line, as far as it is spelled. Where there was no memory for one of them, the
+/// spelling has failed, and takes no more.
 #[derive(Drop)]
 pub struct Spelling<'a> {
     tokens: Vec<Token<'a>>,
-}
-
-impl<'a> Model for Spelling<'a> {
-    ghost use Rattle.std.specs.Prelude.{List};
-    ghost use Rattle.snap_semantics.specs.Token.{Token};
-    ghost use Rattle.snap_text.specs.Tokens.{view_tokens};
-
-    ghost Value = { List Token };
-
-    ghost view = { λ s. view_tokens s.tokens.items };
+    failed: bool,
 }
 
 /// The keyword of a field.
@@ -87,126 +79,131 @@ fn range_keyword(range: Range) -> &'static [u8]
 impl<'a> Spelling<'a> {
     /// Nothing yet.
     pub fn new(alloc: Global) -> Spelling<'a>
-        ensures { result ≡ [] }
+        ensures tokens { view_tokens result.tokens.items ≡ [] }
+        ensures well { result.failed ≡ false }
     {
         Spelling {
             tokens: Vec::new(alloc),
+            failed: false,
         }
     }
 
-    /// Its tokens.
-    pub fn tokens(&self) -> &[Token<'a>]
-        ensures { view_tokens result.now ≡ self.now }
+    /// Its tokens, unless it has failed.
+    pub fn tokens(&self) -> Result<&[Token<'a>], AllocError>
+        ensures { IfOk result (λ tokens. (self.now.failed ≡ false)
+            × (tokens.now ≡ self.now.tokens.items)) }
     {
-        self.tokens.as_slice()
+        if self.failed {
+            return Err(AllocError);
+        }
+        Ok(self.tokens.as_slice())
+    }
+
+    /// A token.
+    fn push(&mut self, token: Token<'a>)
+        ensures { Spells self.old self.new (view_token token.entry ∷ []) }
+    {
+        if !self.failed {
+            self.failed = self.tokens.push(token).is_err();
+        }
     }
 
     /// An identifier.
-    pub fn push_identifier(&mut self, word: &'a [u8]) -> Result<(), AllocError>
-        ensures { OnOk result (self.new ≡ self.old ++ Identifier word.now ∷ []) }
+    pub fn push_identifier(&mut self, word: &'a [u8])
+        ensures { Spells self.old self.new (Identifier word.now ∷ []) }
     {
-        self.tokens.push(Token::Identifier(word))?;
-        Ok(())
+        self.push(Token::Identifier(word));
     }
 
     /// A number.
-    pub fn push_number(&mut self, number: u64) -> Result<(), AllocError>
-        ensures { OnOk result (self.new ≡ self.old ++ Number number ∷ []) }
+    pub fn push_number(&mut self, number: u64)
+        ensures { Spells self.old self.new (Number number ∷ []) }
     {
-        self.tokens.push(Token::Number(number))?;
-        Ok(())
+        self.push(Token::Number(number));
     }
 
     /// A symbol.
-    pub fn push_sign(&mut self, symbol: Symbol) -> Result<(), AllocError>
-        ensures { OnOk result (self.new ≡ self.old ++ Sign symbol ∷ []) }
+    pub fn push_sign(&mut self, symbol: Symbol)
+        ensures { Spells self.old self.new (Sign symbol ∷ []) }
     {
-        self.tokens.push(Token::Sign(symbol))?;
-        Ok(())
+        self.push(Token::Sign(symbol));
     }
 
     /// A name.
-    pub fn push_name(&mut self, name: &'a Name) -> Result<(), AllocError>
-        ensures { OnOk result (self.new ≡ self.old ++ Identifier name.now ∷ []) }
+    pub fn push_name(&mut self, name: &'a Name)
+        ensures { Spells self.old self.new (Identifier name.now ∷ []) }
     {
-        self.push_identifier(name.letters())
+        self.push_identifier(name.letters());
     }
 
     /// An index.
-    pub fn push_index(&mut self, index: &'a Index) -> Result<(), AllocError>
-        ensures { OnOk result (self.new ≡ self.old ++ spelled_index index.now) }
+    pub fn push_index(&mut self, index: &'a Index)
+        ensures { Spells self.old self.new (spelled_index index.now) }
     {
-        self.tokens.push(index_token(index))?;
-        Ok(())
+        self.push(index_token(index));
     }
 
     /// `[I]`.
-    pub fn push_bracketed(&mut self, index: &'a Index) -> Result<(), AllocError>
-        ensures { OnOk result (self.new ≡ self.old ++ in_brackets (spelled_index index.now)) }
+    pub fn push_bracketed(&mut self, index: &'a Index)
+        ensures { Spells self.old self.new (in_brackets (spelled_index index.now)) }
     {
-        self.push_sign(Symbol::OpenBracket)?;
-        self.push_index(index)?;
-        self.push_sign(Symbol::CloseBracket)
+        self.push_sign(Symbol::OpenBracket);
+        self.push_index(index);
+        self.push_sign(Symbol::CloseBracket);
     }
 
     /// `[I,J]`.
-    pub fn push_pair(&mut self, first: &'a Index, second: &'a Index) -> Result<(), AllocError>
-        ensures { OnOk result (self.new ≡ self.old ++ spelled_pair first.now second.now) }
+    pub fn push_pair(&mut self, first: &'a Index, second: &'a Index)
+        ensures { Spells self.old self.new (spelled_pair first.now second.now) }
     {
-        self.push_sign(Symbol::OpenBracket)?;
-        self.push_index(first)?;
-        self.push_sign(Symbol::Comma)?;
-        self.push_index(second)?;
-        self.push_sign(Symbol::CloseBracket)
+        self.push_sign(Symbol::OpenBracket);
+        self.push_index(first);
+        self.push_sign(Symbol::Comma);
+        self.push_index(second);
+        self.push_sign(Symbol::CloseBracket);
     }
 
     /// A local and `[I]`.
-    pub fn push_place(&mut self, name: &'a Name, index: &'a Index) -> Result<(), AllocError>
-        ensures { OnOk result (self.new ≡ self.old ++ spelled_place name.now index.now) }
+    pub fn push_place(&mut self, name: &'a Name, index: &'a Index)
+        ensures { Spells self.old self.new (spelled_place name.now index.now) }
     {
-        self.push_name(name)?;
-        self.push_bracketed(index)
+        self.push_name(name);
+        self.push_bracketed(index);
     }
 
     /// `(W[I])`.
-    pub fn push_word_place(&mut self, words: &'a Name, index: &'a Index) -> Result<(), AllocError>
-        ensures { OnOk result (self.new ≡ self.old
-            ++ in_parentheses (spelled_place words.now index.now)) }
+    pub fn push_word_place(&mut self, words: &'a Name, index: &'a Index)
+        ensures { Spells self.old self.new (in_parentheses (spelled_place words.now index.now)) }
     {
-        self.push_sign(Symbol::OpenParenthesis)?;
-        self.push_place(words, index)?;
-        self.push_sign(Symbol::CloseParenthesis)
+        self.push_sign(Symbol::OpenParenthesis);
+        self.push_place(words, index);
+        self.push_sign(Symbol::CloseParenthesis);
     }
 
     /// `handshake(W[I],J)`.
-    fn push_handshake(
-        &mut self,
-        words: &'a Name,
-        index: &'a Index,
-        handshake: &'a Index,
-    ) -> Result<(), AllocError>
-        ensures { OnOk result (self.new ≡ self.old
-            ++ spelled_term (term.Handshake words.now index.now handshake.now)) }
+    fn push_handshake(&mut self, words: &'a Name, index: &'a Index, handshake: &'a Index)
+        ensures { Spells self.old self.new
+            (spelled_term (term.Handshake words.now index.now handshake.now)) }
     {
-        self.push_identifier(b"hand")?;
-        self.push_sign(Symbol::OpenParenthesis)?;
-        self.push_place(words, index)?;
-        self.push_sign(Symbol::Comma)?;
-        self.push_index(handshake)?;
-        self.push_sign(Symbol::CloseParenthesis)
+        self.push_identifier(b"hand");
+        self.push_sign(Symbol::OpenParenthesis);
+        self.push_place(words, index);
+        self.push_sign(Symbol::Comma);
+        self.push_index(handshake);
+        self.push_sign(Symbol::CloseParenthesis);
     }
 
     /// A term.
-    pub fn push_term(&mut self, term: &'a Term) -> Result<(), AllocError>
-        ensures { OnOk result (self.new ≡ self.old ++ spelled_term term.now) }
+    pub fn push_term(&mut self, term: &'a Term)
+        ensures { Spells self.old self.new (spelled_term term.now) }
     {
         match term {
             Term::Index(index) => self.push_index(index),
             Term::Arg => self.push_identifier(b"arg"),
             Term::Row(row, index) => self.push_place(row, index),
             Term::Field(field, words, index) => {
-                self.push_identifier(field_keyword(*field))?;
-                self.push_word_place(words, index)
+                self.push_identifier(field_keyword(*field));
+                self.push_word_place(words, index);
             }
             Term::Handshake(words, index, handshake) => self.push_handshake(
                 words, index, handshake,
@@ -215,90 +212,90 @@ impl<'a> Spelling<'a> {
     }
 
     /// An expression.
-    pub fn push_expr(&mut self, expr: &'a Expr) -> Result<(), AllocError>
-        ensures { OnOk result (self.new ≡ self.old ++ spelled_expr expr.now) }
+    pub fn push_expr(&mut self, expr: &'a Expr)
+        ensures { Spells self.old self.new (spelled_expr expr.now) }
     {
         match expr {
             Expr::Term(term) => self.push_term(term),
             Expr::Sum(left, right) => {
-                self.push_term(left)?;
-                self.push_sign(Symbol::Plus)?;
-                self.push_term(right)
+                self.push_term(left);
+                self.push_sign(Symbol::Plus);
+                self.push_term(right);
             }
             Expr::Not(term) => {
-                self.push_identifier(b"not")?;
-                self.push_term(term)
+                self.push_identifier(b"not");
+                self.push_term(term);
             }
         }
     }
 
     /// A comparison.
-    fn push_comparison(&mut self, comparison: &'a Comparison) -> Result<(), AllocError>
-        ensures { OnOk result (self.new ≡ self.old ++ spelled_comparison comparison.now) }
+    fn push_comparison(&mut self, comparison: &'a Comparison)
+        ensures { Spells self.old self.new (spelled_comparison comparison.now) }
     {
-        self.push_term(&comparison.left)?;
-        self.push_sign(relation_symbol(comparison.relation))?;
-        self.push_term(&comparison.right)
+        self.push_term(&comparison.left);
+        self.push_sign(relation_symbol(comparison.relation));
+        self.push_term(&comparison.right);
     }
 
     /// A comparison behind `and` or `or`.
-    fn push_joined(&mut self, join: Join, comparison: &'a Comparison) -> Result<(), AllocError>
-        ensures { OnOk result (self.new ≡ self.old ++ Identifier (join_keyword join)
-            ∷ spelled_comparison comparison.now) }
+    fn push_joined(&mut self, join: Join, comparison: &'a Comparison)
+        ensures { Spells self.old self.new
+            (Identifier (join_keyword join) ∷ spelled_comparison comparison.now) }
     {
-        self.push_identifier(join_keyword(join))?;
-        self.push_comparison(comparison)
+        self.push_identifier(join_keyword(join));
+        self.push_comparison(comparison);
     }
 
     /// A condition.
-    pub fn push_condition(&mut self, condition: &'a Condition) -> Result<(), AllocError>
-        ensures { OnOk result (self.new ≡ self.old ++ spelled_condition condition.now) }
+    pub fn push_condition(&mut self, condition: &'a Condition)
+        ensures { Spells self.old self.new (spelled_condition condition.now) }
     {
         match condition {
             Condition::One(first) => self.push_comparison(first),
             Condition::Two(join, first, second) => {
-                self.push_comparison(first)?;
-                self.push_joined(*join, second)
+                self.push_comparison(first);
+                self.push_joined(*join, second);
             }
             Condition::Three(join, first, second, third) => {
-                self.push_comparison(first)?;
-                self.push_joined(*join, second)?;
-                self.push_joined(*join, third)
+                self.push_comparison(first);
+                self.push_joined(*join, second);
+                self.push_joined(*join, third);
             }
             Condition::Four(join, first, second, third, fourth) => {
-                self.push_comparison(first)?;
-                self.push_joined(*join, second)?;
-                self.push_joined(*join, third)?;
-                self.push_joined(*join, fourth)
+                self.push_comparison(first);
+                self.push_joined(*join, second);
+                self.push_joined(*join, third);
+                self.push_joined(*join, fourth);
             }
         }
     }
 
     /// `where C`, or nothing.
-    pub fn push_where(&mut self, condition: &'a Option<Condition>) -> Result<(), AllocError>
-        ensures { OnOk result (self.new ≡ self.old ++ spelled_where condition.now) }
+    pub fn push_where(&mut self, condition: &'a Option<Condition>)
+        ensures { Spells self.old self.new (spelled_where condition.now) }
     {
         match condition {
-            None => Ok(()),
+            None => {}
             Some(condition) => {
-                self.push_identifier(b"where")?;
-                self.push_condition(condition)
+                self.push_identifier(b"where");
+                self.push_condition(condition);
             }
         }
     }
 
     /// `n` or `w`.
-    pub fn push_range(&mut self, range: Range) -> Result<(), AllocError>
-        ensures { OnOk result (self.new ≡ self.old ++ spelled_range range ∷ []) }
+    pub fn push_range(&mut self, range: Range)
+        ensures { Spells self.old self.new (spelled_range range ∷ []) }
     {
-        self.push_identifier(range_keyword(range))
+        self.push_identifier(range_keyword(range));
     }
 
     /// `goto N`.
-    pub fn push_target(&mut self, target: u64) -> Result<(), AllocError>
-        ensures { OnOk result (self.new ≡ self.old ++ spelled_target target) }
+    pub fn push_target(&mut self, target: u64)
+        ensures { Spells self.old self.new (spelled_target target) }
     {
-        self.push_identifier(b"goto")?;
-        self.push_number(target)
+        self.push_identifier(b"goto");
+        self.push_number(target);
     }
 }

@@ -2,6 +2,7 @@
 -- Adds lines, each with its comment behind it.
 use Rattle.std.proofs.Common.{◌≡◌, ◌++◌, drop, length, map}
 use Rattle.std.specs.List.{AllByRecursion}
+use Rattle.std.specs.Prelude.{false}
 use Rattle.snap_semantics.specs.Comments.{IsComment}
 use Rattle.snap_image_format.specs.Image.{lines_image}
 use Rattle.snap_image_format.specs.declared.image.ImageVersion.TheVariants.{Second}
@@ -13,8 +14,11 @@ use Rattle.snap_image_encoder.proofs.encoder.push_lines.Given as goal
 abbrev pub invariant-loop-place : goal.invariant-loop-place
 invariant-loop-place l = record {
   pushed :
-      l.out.items ++ lines_image Second l.listing (drop l.place l.lines) (map seen_comment (drop l.place l.comments))
-      ≡ l.fn.out.items ++ lines_image Second l.listing l.lines (map seen_comment l.comments);
+      l.out.failed ≡ false →
+      (l.fn.out.failed ≡ false)
+      × (l.out.bytes.items ++ lines_image Second l.listing (drop l.place l.lines)
+      (map seen_comment (drop l.place l.comments))
+      ≡ l.fn.out.bytes.items ++ lines_image Second l.listing l.lines (map seen_comment l.comments));
   short : AllByRecursion HasShortNumbers (drop l.place l.lines);
   comments : AllByRecursion IsComment (map seen_comment (drop l.place l.comments));
   each_line : length (drop l.place l.comments) ≡ length (drop l.place l.lines);

@@ -2,12 +2,17 @@
 -- Adds names, each behind its length.
 use Rattle.std.proofs.Common.{◌≡◌, ◌++◌, drop}
 use Rattle.std.specs.List.{AllByRecursion}
+use Rattle.std.specs.Prelude.{false}
 use Rattle.snap_image_format.specs.Image.{names_image}
 use Rattle.snap_semantics.specs.IsListing.{IsName}
 use Rattle.snap_image_encoder.proofs.encoder.push_names.Given as goal
 
 abbrev pub invariant-loop-name : goal.invariant-loop-name
 invariant-loop-name l = record {
-  pushed : l.out.items ++ names_image (drop l.name-index l.names) ≡ l.fn.out.items ++ names_image l.names;
+  pushed :
+      l.out.failed ≡ false →
+      (l.fn.out.failed ≡ false)
+      × (l.out.bytes.items ++ names_image (drop l.name-index l.names)
+      ≡ l.fn.out.bytes.items ++ names_image l.names);
   named : AllByRecursion IsName (drop l.name-index l.names);
 }

@@ -12,7 +12,7 @@ use Rattle.snap_listing_printer.proofs.printer.push_numbered_line.Goals as goal
 
 pub returns : goal.returns
 returns c =
-    let tokens : view_tokens c.tokens.result.now ≡ spelled_line c.args.numbered.now = search rules in
+    let tokens : view_tokens c.in_ok-tokens.tokens.now ≡ spelled_line c.args.numbered.now = search rules in
     line_pushed c.push_comment_end.result
     (comment_end (seen_comment c.args.comment.now)) c.args.out.now.items c.push_tokens.new.out.items
     c.push_comment_end.new.out.items (spelled_line c.args.numbered.now)

@@ -1,3 +1,2 @@
 -- The definitions of snap_image_encoder, by their modules.
 pub mod Operands
-pub mod Adds

@@ -16,9 +16,9 @@ invariant-loop-place l = record {
   pushed :
       l.out.failed ≡ false →
       (l.fn.out.failed ≡ false)
-      × (l.out.bytes.items ++ lines_image Second l.listing (drop l.place l.lines)
+      × (l.out.text ++ lines_image Second l.listing (drop l.place l.lines)
       (map seen_comment (drop l.place l.comments))
-      ≡ l.fn.out.bytes.items ++ lines_image Second l.listing l.lines (map seen_comment l.comments));
+      ≡ l.fn.out.text ++ lines_image Second l.listing l.lines (map seen_comment l.comments));
   short : AllByRecursion HasShortNumbers (drop l.place l.lines);
   comments : AllByRecursion IsComment (map seen_comment (drop l.place l.comments));
   each_line : length (drop l.place l.comments) ≡ length (drop l.place l.lines);

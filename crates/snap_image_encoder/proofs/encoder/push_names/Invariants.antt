@@ -12,7 +12,7 @@ invariant-loop-name l = record {
   pushed :
       l.out.failed ≡ false →
       (l.fn.out.failed ≡ false)
-      × (l.out.bytes.items ++ names_image (drop l.name-index l.names)
-      ≡ l.fn.out.bytes.items ++ names_image l.names);
+      × (l.out.text ++ names_image (drop l.name-index l.names)
+      ≡ l.fn.out.text ++ names_image l.names);
   named : AllByRecursion IsName (drop l.name-index l.names);
 }

@@ -1,0 +1,2 @@
+-- The definitions of snap_draft, by their modules.
+pub mod Drafted

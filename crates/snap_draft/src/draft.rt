@@ -1,0 +1,64 @@
+//! `Draft`: a text that is put together.
+ghost use Rattle.std.specs.Prelude.{◌≡◌, [], false, decimal, IfOk};
+ghost use Rattle.snap_draft.specs.Drafted.{Adds};
+
+use snap_text::{push_number, push_text};
+use std::alloc::{AllocError, Global};
+use std::marker::Model;
+
+/// A text, as far as it is put together. Where there was no memory for one of its pieces, it has
+/// failed, and takes no more.
+#[derive(Drop)]
+pub struct Draft {
+    bytes: Vec<u8>,
+    failed: bool,
+}
+
+impl Model for Draft {
+    ghost use Rattle.snap_draft.specs.Drafted.{Drafted};
+
+    ghost Value = { Drafted };
+
+    ghost view = { λ d. record { text = d.bytes.items; failed = d.failed } };
+}
+
+impl Draft {
+    /// Nothing yet.
+    pub fn new(alloc: Global) -> Draft
+        ensures text { result.text ≡ [] }
+        ensures well { result.failed ≡ false }
+    {
+        Draft {
+            bytes: Vec::new(alloc),
+            failed: false,
+        }
+    }
+
+    /// Adds a text.
+    pub fn push(&mut self, text: &[u8])
+        ensures { Adds self.old self.new text.now }
+    {
+        if !self.failed {
+            self.failed = push_text(&mut self.bytes, text).is_err();
+        }
+    }
+
+    /// Adds a number in digits.
+    pub fn push_number(&mut self, number: u64)
+        ensures { Adds self.old self.new (decimal number) }
+    {
+        if !self.failed {
+            self.failed = push_number(&mut self.bytes, number).is_err();
+        }
+    }
+
+    /// The whole text, unless it has failed.
+    pub fn finish(self) -> Result<Vec<u8>, AllocError>
+        ensures { IfOk result (λ text. (self.failed ≡ false) × (text.items ≡ self.text)) }
+    {
+        if self.failed {
+            return Err(AllocError);
+        }
+        Ok(self.bytes)
+    }
+}

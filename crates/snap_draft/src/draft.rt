@@ -1,8 +1,9 @@
 //! `Draft`: a text that is put together.
 ghost use Rattle.std.specs.Prelude.{◌≡◌, [], false, decimal, IfOk};
+ghost use Rattle.snap_semantics.specs.Report.{numbers_text};
 ghost use Rattle.snap_draft.specs.Drafted.{Adds};
 
-use snap_text::{push_number, push_text};
+use snap_text::{push_number, push_numbers, push_text};
 use std::alloc::{AllocError, Global};
 use std::marker::Model;
 
@@ -49,6 +50,15 @@ impl Draft {
     {
         if !self.failed {
             self.failed = push_number(&mut self.bytes, number).is_err();
+        }
+    }
+
+    /// Adds each number behind a space.
+    pub fn push_numbers(&mut self, numbers: &[u64])
+        ensures { Adds self.old self.new (numbers_text numbers.now) }
+    {
+        if !self.failed {
+            self.failed = push_numbers(&mut self.bytes, numbers).is_err();
         }
     }
 

@@ -13,6 +13,7 @@ use crate::refusal::PictureRefusal;
 use crate::sought::{Sought, count};
 use snap_acts::trace;
 use snap_asm_program::Program;
+use snap_draft::Draft;
 use snap_record::{Record, record_over};
 use snap_sched::Schedule;
 use snap_semantics::Fault;
@@ -96,7 +97,7 @@ fn counts_of<K: Kind>(history: &Record<K>, shapes: &[Shape]) -> Counts
 }
 
 /// The picture of a run of which these shapes are drawn.
-#[tactic(auto, using(snap_text::proofs::Texts::joined), unfolding(crate::specs::Picture::picture_by))]
+#[tactic(auto, unfolding(crate::specs::Picture::picture_by))]
 fn picture_by<K: Kind>(
     alloc: Global,
     history: &Record<K>,
@@ -110,12 +111,12 @@ fn picture_by<K: Kind>(
         (option_map (λ t. t.now) listing.entry) schedule.now
         look.now.style.now look.now.legend.now) }
 {
-    let mut out = Vec::new(alloc);
-    push_head(&mut out, window, &counts_of(history, shapes), look.style)?;
-    push_input(&mut out, listing, schedule)?;
-    push_shapes(&mut out, window, shapes)?;
-    push_foot(&mut out, window, look.legend)?;
-    Ok(out)
+    let mut out = Draft::new(alloc);
+    push_head(&mut out, window, &counts_of(history, shapes), look.style);
+    push_input(&mut out, listing, schedule);
+    push_shapes(&mut out, window, shapes);
+    push_foot(&mut out, window, look.legend);
+    out.finish()
 }
 
 /// The picture of a program's run over a schedule.

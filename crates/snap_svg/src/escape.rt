@@ -1,5 +1,6 @@
 //! `push_escaped`: any text, put into an SVG element with markup and unprinted bytes replaced.
-ghost use Rattle.std.specs.Prelude.{◌≡◌, ◌++◌, ◌<◌, OnOk};
+ghost use Rattle.std.specs.Prelude.{◌≡◌, ◌<◌};
+ghost use Rattle.snap_draft.specs.Drafted.{Adds};
 ghost use Rattle.snap_svg.specs.Escape.{
   BeginsNoTag,
   ComesBack,
@@ -12,8 +13,7 @@ ghost use Rattle.snap_svg.specs.Escape.{
   reference,
 };
 
-use snap_text::push_text;
-use std::alloc::AllocError;
+use snap_draft::Draft;
 
 /// Whether a byte is a part of markup.
 fn is_markup(byte: u8) -> bool
@@ -45,36 +45,35 @@ fn plane(byte: u8) -> &'static [u8]
 }
 
 /// Adds the reference that stands for a byte.
-#[tactic(auto, using(snap_text::proofs::Texts::joined), unfolding(crate::specs::Escape::reference))]
-fn push_reference(out: &mut Vec<u8>, byte: u8) -> Result<(), AllocError>
-    ensures { OnOk result (out.new.items ≡ out.old.items ++ reference byte) }
+#[tactic(auto, unfolding(crate::specs::Escape::reference))]
+fn push_reference(out: &mut Draft, byte: u8)
+    ensures { Adds out.old out.new (reference byte) }
 {
-    push_text(out, b"&#x")?;
-    push_text(out, plane(byte))?;
+    out.push(b"&#x");
+    out.push(plane(byte));
     let digits = [hex_digit(byte / 16), hex_digit(byte % 16), b';'];
-    push_text(out, &digits)
+    out.push(&digits);
 }
 
 /// Adds what stands for a byte.
 #[tactic(auto, unfolding(crate::specs::Escape::escaped_byte))]
-fn push_byte(out: &mut Vec<u8>, byte: u8) -> Result<(), AllocError>
-    ensures { OnOk result (out.new.items ≡ out.old.items ++ escaped_byte byte) }
+fn push_byte(out: &mut Draft, byte: u8)
+    ensures { Adds out.old out.new (escaped_byte byte) }
 {
     if is_printed(byte) && !is_markup(byte) {
-        push_text(out, &[byte])
+        out.push(&[byte])
     } else {
-        push_reference(out, byte)
+        push_reference(out, byte);
     }
 }
 
 /// Adds what stands for a text.
-pub fn push_escaped(out: &mut Vec<u8>, text: &[u8]) -> Result<(), AllocError>
-    ensures { OnOk result (out.new.items ≡ out.old.items ++ escaped text.now) }
+pub fn push_escaped(out: &mut Draft, text: &[u8])
+    ensures { Adds out.old out.new (escaped text.now) }
 {
     for byte in text {
-        push_byte(out, *byte)?;
+        push_byte(out, *byte);
     }
-    Ok(())
 }
 
 /// What is escaped begins no tag.

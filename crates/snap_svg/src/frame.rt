@@ -1,5 +1,6 @@
 //! The SVG around what is drawn of a run: title, lanes, numbers of items, legend.
-ghost use Rattle.std.specs.Prelude.{◌≡◌, ◌++◌, ◌+◌, ◌<◌, ◌≤◌, OnOk, option_map};
+ghost use Rattle.std.specs.Prelude.{◌≡◌, ◌+◌, ◌<◌, ◌≤◌, option_map};
+ghost use Rattle.snap_draft.specs.Drafted.{Adds};
 ghost use Rattle.snap_svg.specs.FrameText.{
   all_lanes,
   all_ticks,
@@ -28,9 +29,8 @@ ghost use Rattle.snap_svg.specs.FrameText.{
 use crate::elements::{edges_text, line_text, words_head};
 use crate::escape::push_escaped;
 use crate::window::{Window, y_of};
-use snap_text::{push_number, push_text};
+use snap_draft::Draft;
 use snap_words::KindTag;
-use std::alloc::AllocError;
 
 /// What a title says of a run.
 #[derive(Clone, Copy)]
@@ -58,57 +58,53 @@ fn kind_name(kind: KindTag) -> &'static [u8]
 }
 
 /// The opening of a picture of this height.
-#[tactic(auto, using(snap_text::proofs::Texts::joined), unfolding(crate::specs::FrameText::opening_of))]
-fn opening_of(out: &mut Vec<u8>, height: u64) -> Result<(), AllocError>
-    ensures { OnOk result (out.new.items ≡ out.old.items ++ opening_of height) }
+#[tactic(auto, unfolding(crate::specs::FrameText::opening_of))]
+fn opening_of(out: &mut Draft, height: u64)
+    ensures { Adds out.old out.new (opening_of height) }
 {
-    push_text(
-        out,
-        b"<svg xmlns=\"http://www.w3.org/2000/svg\" role=\"img\" viewBox=\"0 0 1600 ",
-    )?;
-    push_number(out, height)?;
-    push_text(out, b"\">\n")
+    out.push(b"<svg xmlns=\"http://www.w3.org/2000/svg\" role=\"img\" viewBox=\"0 0 1600 ");
+    out.push_number(height);
+    out.push(b"\">\n");
 }
 
 #[tactic(auto, unfolding(crate::specs::FrameText::opening))]
-fn opening(out: &mut Vec<u8>, window: &Window) -> Result<(), AllocError>
-    ensures { OnOk result (out.new.items ≡ out.old.items ++ opening window.now) }
+fn opening(out: &mut Draft, window: &Window)
+    ensures { Adds out.old out.new (opening window.now) }
 {
-    opening_of(out, window.height())
+    opening_of(out, window.height());
 }
 
 /// A listing of this kind and shape, and which of its items.
-#[tactic(auto, using(snap_text::proofs::Texts::joined), unfolding(crate::specs::FrameText::items_words))]
+#[tactic(auto, unfolding(crate::specs::FrameText::items_words))]
 fn items_words(
-    out: &mut Vec<u8>,
+    out: &mut Draft,
     kind: &[u8],
     processes: u64,
     words: u64,
     first: u64,
     last: u64,
     total: u64,
-) -> Result<(), AllocError>
-    ensures { OnOk result (out.new.items ≡ out.old.items
-        ++ items_words kind.now processes words first last total) }
+)
+    ensures { Adds out.old out.new (items_words kind.now processes words first last total) }
 {
-    push_text(out, b"A listing of kind ")?;
-    push_text(out, kind)?;
-    push_text(out, b", shape ")?;
-    push_number(out, processes)?;
-    push_text(out, b" ")?;
-    push_number(out, words)?;
-    push_text(out, b": items ")?;
-    push_number(out, first)?;
-    push_text(out, b" to ")?;
-    push_number(out, last)?;
-    push_text(out, b" of ")?;
-    push_number(out, total)
+    out.push(b"A listing of kind ");
+    out.push(kind);
+    out.push(b", shape ");
+    out.push_number(processes);
+    out.push(b" ");
+    out.push_number(words);
+    out.push(b": items ");
+    out.push_number(first);
+    out.push(b" to ");
+    out.push_number(last);
+    out.push(b" of ");
+    out.push_number(total);
 }
 
 /// Which listing, and which items of its run.
 #[tactic(auto, unfolding(crate::specs::FrameText::title_words))]
-fn title_words(out: &mut Vec<u8>, window: &Window, counts: &Counts) -> Result<(), AllocError>
-    ensures { OnOk result (out.new.items ≡ out.old.items ++ title_words window.now counts.now) }
+fn title_words(out: &mut Draft, window: &Window, counts: &Counts)
+    ensures { Adds out.old out.new (title_words window.now counts.now) }
 {
     items_words(
         out,
@@ -118,120 +114,109 @@ fn title_words(out: &mut Vec<u8>, window: &Window, counts: &Counts) -> Result<()
         window.first(),
         window.to(),
         counts.items,
-    )
+    );
 }
 
 /// What is left out.
-fn thin_words(out: &mut Vec<u8>, window: &Window) -> Result<(), AllocError>
-    ensures { OnOk result (out.new.items ≡ out.old.items ++ thin_words window.now) }
+fn thin_words(out: &mut Draft, window: &Window)
+    ensures { Adds out.old out.new (thin_words window.now) }
 {
     if window.is_thin() {
-        push_text(
-            out,
-            b". Thinned: reads, tests and scans of updates are left out",
-        )
-    } else {
-        Ok(())
+        out.push(b". Thinned: reads, tests and scans of updates are left out");
     }
 }
 
-#[tactic(auto, using(snap_text::proofs::Texts::joined), unfolding(crate::specs::FrameText::counts_words))]
-fn counts_words(out: &mut Vec<u8>, window: &Window, counts: &Counts) -> Result<(), AllocError>
-    ensures { OnOk result (out.new.items ≡ out.old.items ++ counts_words window.now counts.now) }
+#[tactic(auto, unfolding(crate::specs::FrameText::counts_words))]
+fn counts_words(out: &mut Draft, window: &Window, counts: &Counts)
+    ensures { Adds out.old out.new (counts_words window.now counts.now) }
 {
-    push_text(out, b"In the whole run: scans answered ")?;
-    push_number(out, counts.scans)?;
-    push_text(out, b", of these without a point ")?;
-    push_number(out, counts.without_point)?;
-    push_text(out, b", updates called ")?;
-    push_number(out, counts.updates)?;
-    thin_words(out, window)
+    out.push(b"In the whole run: scans answered ");
+    out.push_number(counts.scans);
+    out.push(b", of these without a point ");
+    out.push_number(counts.without_point);
+    out.push(b", updates called ");
+    out.push_number(counts.updates);
+    thin_words(out, window);
 }
 
 /// The name of the picture.
-#[tactic(auto, using(snap_text::proofs::Texts::joined), unfolding(crate::specs::FrameText::name_text))]
-fn name_text(out: &mut Vec<u8>, window: &Window, counts: &Counts) -> Result<(), AllocError>
-    ensures { OnOk result (out.new.items ≡ out.old.items ++ name_text window.now counts.now) }
+#[tactic(auto, unfolding(crate::specs::FrameText::name_text))]
+fn name_text(out: &mut Draft, window: &Window, counts: &Counts)
+    ensures { Adds out.old out.new (name_text window.now counts.now) }
 {
-    push_text(out, b"<title>")?;
-    title_words(out, window, counts)?;
-    push_text(out, b"</title>\n")
+    out.push(b"<title>");
+    title_words(out, window, counts);
+    out.push(b"</title>\n");
 }
 
 /// The title, in sight, with what was counted.
-#[tactic(auto, using(snap_text::proofs::Texts::joined), unfolding(crate::specs::FrameText::titles))]
-fn titles(out: &mut Vec<u8>, window: &Window, counts: &Counts) -> Result<(), AllocError>
-    ensures { OnOk result (out.new.items ≡ out.old.items ++ titles window.now counts.now) }
+#[tactic(auto, unfolding(crate::specs::FrameText::titles))]
+fn titles(out: &mut Draft, window: &Window, counts: &Counts)
+    ensures { Adds out.old out.new (titles window.now counts.now) }
 {
-    words_head(out, b"title", 12, 30)?;
-    title_words(out, window, counts)?;
-    push_text(out, b"</text>\n")?;
-    words_head(out, b"counts", 12, 54)?;
-    counts_words(out, window, counts)?;
-    push_text(out, b"</text>\n")
+    words_head(out, b"title", 12, 30);
+    title_words(out, window, counts);
+    out.push(b"</text>\n");
+    words_head(out, b"counts", 12, 54);
+    counts_words(out, window, counts);
+    out.push(b"</text>\n");
 }
 
 /// A listing, where one is given.
-#[tactic(auto, using(snap_text::proofs::Texts::joined), unfolding(crate::specs::FrameText::listing_part))]
-fn listing_part(out: &mut Vec<u8>, listing: Option<&[u8]>) -> Result<(), AllocError>
-    ensures { OnOk result (out.new.items ≡ out.old.items
-        ++ listing_part (option_map (λ t. t.now) listing.entry)) }
+#[tactic(auto, unfolding(crate::specs::FrameText::listing_part))]
+fn listing_part(out: &mut Draft, listing: Option<&[u8]>)
+    ensures { Adds out.old out.new (listing_part (option_map (λ t. t.now) listing.entry)) }
 {
     let Some(text) = listing else {
-        return Ok(());
+        return;
     };
-    push_escaped(out, text)?;
-    push_text(out, b"\n%\n")
+    push_escaped(out, text);
+    out.push(b"\n%\n");
 }
 
 /// Adds the input of the run, as it is given to `snaplab run`.
-#[tactic(auto, using(snap_text::proofs::Texts::joined), unfolding(crate::specs::FrameText::input_text))]
-pub fn push_input(
-    out: &mut Vec<u8>,
-    listing: Option<&[u8]>,
-    schedule: &[u8],
-) -> Result<(), AllocError>
-    ensures { OnOk result (out.new.items ≡ out.old.items
-        ++ input_text (option_map (λ t. t.now) listing.entry) schedule.now) }
+#[tactic(auto, unfolding(crate::specs::FrameText::input_text))]
+pub fn push_input(out: &mut Draft, listing: Option<&[u8]>, schedule: &[u8])
+    ensures { Adds out.old out.new
+        (input_text (option_map (λ t. t.now) listing.entry) schedule.now) }
 {
-    push_text(out, b"<metadata>")?;
-    listing_part(out, listing)?;
-    push_escaped(out, schedule)?;
-    push_text(out, b"</metadata>\n")
+    out.push(b"<metadata>");
+    listing_part(out, listing);
+    push_escaped(out, schedule);
+    out.push(b"</metadata>\n");
 }
 
 /// The lane of a process, with its name at a height.
-#[tactic(auto, using(snap_text::proofs::Texts::joined), unfolding(crate::specs::FrameText::lane_box))]
-fn lane_box(out: &mut Vec<u8>, process: u64, y: u64, name_y: u64) -> Result<(), AllocError>
-    ensures { OnOk result (out.new.items ≡ out.old.items ++ lane_box process y name_y) }
+#[tactic(auto, unfolding(crate::specs::FrameText::lane_box))]
+fn lane_box(out: &mut Draft, process: u64, y: u64, name_y: u64)
+    ensures { Adds out.old out.new (lane_box process y name_y) }
 {
-    push_text(out, b"<rect class=\"lane\"")?;
-    edges_text(out, 110, y, 1460, 56)?;
-    push_text(out, b"/>")?;
-    words_head(out, b"who", 12, name_y)?;
-    push_text(out, b"process ")?;
-    push_number(out, process)?;
-    push_text(out, b"</text>\n")
+    out.push(b"<rect class=\"lane\"");
+    edges_text(out, 110, y, 1460, 56);
+    out.push(b"/>");
+    words_head(out, b"who", 12, name_y);
+    out.push(b"process ");
+    out.push_number(process);
+    out.push(b"</text>\n");
 }
 
 /// The lane of a process.
 #[tactic(auto, unfolding(crate::specs::FrameText::lane_text))]
-fn lane_text(out: &mut Vec<u8>, process: u32) -> Result<(), AllocError>
-    ensures { OnOk result (out.new.items ≡ out.old.items ++ lane_text process) }
+fn lane_text(out: &mut Draft, process: u32)
+    ensures { Adds out.old out.new (lane_text process) }
 {
     let y = y_of(process);
-    lane_box(out, u64::from(process), y, y + 34)
+    lane_box(out, u64::from(process), y, y + 34);
 }
 
 /// The lanes of so many processes.
-fn lanes_text(out: &mut Vec<u8>, count: u64) -> Result<(), AllocError>
+fn lanes_text(out: &mut Draft, count: u64)
     requires { count ≤ 64 }
-    ensures { OnOk result (out.new.items ≡ out.old.items ++ lanes_text count) }
+    ensures { Adds out.old out.new (lanes_text count) }
 {
     for k in 0..count {
-        lane_text(out, k as u32 + 1)?;
+        lane_text(out, k as u32 + 1);
     }
-    Ok(())
 }
 
 /// How far apart the numbers of items stand, for so many items.
@@ -254,99 +239,83 @@ fn step_of(count: u64) -> u64
 }
 
 /// The number of an item, below the lanes.
-#[tactic(auto, using(snap_text::proofs::Texts::joined), unfolding(crate::specs::FrameText::tick_text))]
-fn tick_text(out: &mut Vec<u8>, window: &Window, item: u64) -> Result<(), AllocError>
-    ensures { OnOk result (out.new.items ≡ out.old.items ++ tick_text window.now item) }
+#[tactic(auto, unfolding(crate::specs::FrameText::tick_text))]
+fn tick_text(out: &mut Draft, window: &Window, item: u64)
+    ensures { Adds out.old out.new (tick_text window.now item) }
 {
     let x = window.x_of(item);
     let y = window.y_end();
-    line_text(out, b"tick", x, y, x, y + 6)?;
-    words_head(out, b"number", x, y + 22)?;
-    push_number(out, item)?;
-    push_text(out, b"</text>\n")
+    line_text(out, b"tick", x, y, x, y + 6);
+    words_head(out, b"number", x, y + 22);
+    out.push_number(item);
+    out.push(b"</text>\n");
 }
 
 /// The number of an item that is drawn.
-fn tick_or_none(out: &mut Vec<u8>, window: &Window, item: u64) -> Result<(), AllocError>
-    ensures { OnOk result (out.new.items ≡ out.old.items ++ tick_or_none window.now item) }
+fn tick_or_none(out: &mut Draft, window: &Window, item: u64)
+    ensures { Adds out.old out.new (tick_or_none window.now item) }
 {
     if item <= window.to() {
-        tick_text(out, window, item)
-    } else {
-        Ok(())
+        tick_text(out, window, item);
     }
 }
 
 /// So many numbers, a step apart, from the first one on.
-fn ticks_text(
-    out: &mut Vec<u8>,
-    window: &Window,
-    step: u64,
-    first: u64,
-    count: u64,
-) -> Result<(), AllocError>
+fn ticks_text(out: &mut Draft, window: &Window, step: u64, first: u64, count: u64)
     requires { (step ≤ 2000) × ((first ≤ 1002000) × (count ≤ 20001)) }
-    ensures { OnOk result (out.new.items ≡ out.old.items
-        ++ ticks_text window.now step first count) }
+    ensures { Adds out.old out.new (ticks_text window.now step first count) }
 {
     let mut item = first;
     let mut k = 0;
     while k < count {
-        tick_or_none(out, window, item)?;
+        tick_or_none(out, window, item);
         item += step;
         k += 1;
     }
-    Ok(())
 }
 
 /// The numbers of items.
 #[tactic(auto, using(crate::proofs::Places::quotient_le))]
-fn all_ticks(out: &mut Vec<u8>, window: &Window, step: u64) -> Result<(), AllocError>
+fn all_ticks(out: &mut Draft, window: &Window, step: u64)
     requires { (0 < step) × (step ≤ 2000) }
-    ensures { OnOk result (out.new.items ≡ out.old.items ++ all_ticks window.now step) }
+    ensures { Adds out.old out.new (all_ticks window.now step) }
 {
     let from = window.from();
     let first = from - from % step + step;
-    ticks_text(out, window, step, first, window.count() / step + 1)
+    ticks_text(out, window, step, first, window.count() / step + 1);
 }
 
 /// The lanes, and the numbers of items below them.
-#[tactic(auto, using(snap_text::proofs::Texts::joined), unfolding(crate::specs::FrameText::all_lanes))]
-fn all_lanes(out: &mut Vec<u8>, window: &Window) -> Result<(), AllocError>
-    ensures { OnOk result (out.new.items ≡ out.old.items ++ all_lanes window.now) }
+#[tactic(auto, unfolding(crate::specs::FrameText::all_lanes))]
+fn all_lanes(out: &mut Draft, window: &Window)
+    ensures { Adds out.old out.new (all_lanes window.now) }
 {
-    lanes_text(out, window.processes())?;
-    all_ticks(out, window, step_of(window.count()))
+    lanes_text(out, window.processes());
+    all_ticks(out, window, step_of(window.count()));
 }
 
 /// Adds what stands before the shapes.
-#[tactic(auto, using(snap_text::proofs::Texts::joined), unfolding(crate::specs::FrameText::head_text))]
-pub fn push_head(
-    out: &mut Vec<u8>,
-    window: &Window,
-    counts: &Counts,
-    style: &[u8],
-) -> Result<(), AllocError>
-    ensures { OnOk result (out.new.items ≡ out.old.items
-        ++ head_text window.now counts.now style.now) }
+#[tactic(auto, unfolding(crate::specs::FrameText::head_text))]
+pub fn push_head(out: &mut Draft, window: &Window, counts: &Counts, style: &[u8])
+    ensures { Adds out.old out.new (head_text window.now counts.now style.now) }
 {
-    opening(out, window)?;
-    name_text(out, window, counts)?;
-    push_text(out, style)?;
-    titles(out, window, counts)?;
-    words_head(out, b"who", 12, 106)?;
-    push_text(out, b"values</text>\n")?;
-    all_lanes(out, window)
+    opening(out, window);
+    name_text(out, window, counts);
+    out.push(style);
+    titles(out, window, counts);
+    words_head(out, b"who", 12, 106);
+    out.push(b"values</text>\n");
+    all_lanes(out, window);
 }
 
 /// Adds what stands behind the shapes.
-#[tactic(auto, using(snap_text::proofs::Texts::joined), unfolding(crate::specs::FrameText::foot_text))]
-pub fn push_foot(out: &mut Vec<u8>, window: &Window, legend: &[u8]) -> Result<(), AllocError>
-    ensures { OnOk result (out.new.items ≡ out.old.items ++ foot_text window.now legend.now) }
+#[tactic(auto, unfolding(crate::specs::FrameText::foot_text))]
+pub fn push_foot(out: &mut Draft, window: &Window, legend: &[u8])
+    ensures { Adds out.old out.new (foot_text window.now legend.now) }
 {
-    push_text(out, b"<g class=\"legend\" transform=\"translate(12 ")?;
-    push_number(out, window.y_end() + 50)?;
-    push_text(out, b")\">")?;
-    push_text(out, legend)?;
-    push_text(out, b"</g>\n</svg>\n")
+    out.push(b"<g class=\"legend\" transform=\"translate(12 ");
+    out.push_number(window.y_end() + 50);
+    out.push(b")\">");
+    out.push(legend);
+    out.push(b"</g>\n</svg>\n");
 }

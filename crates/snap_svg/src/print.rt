@@ -1,12 +1,13 @@
 //! `push_shapes`: the SVG of the shapes of a run, as far as they are in the picture's `Window`.
-ghost use Rattle.std.specs.Prelude.{◌≡◌, ◌++◌, OnOk};
+ghost use Rattle.std.specs.Prelude.{◌≡◌};
+ghost use Rattle.snap_draft.specs.Drafted.{Adds};
 ghost use Rattle.snap_svg.specs.ShapeText.{is_drawn, shape_text, shapes_text};
 
 use crate::bars::{bar_text, embedded_text, none_text, period_text, point_text};
 use crate::shape::Shape;
 use crate::spots::{crash_text, loan_text, read_text, test_text, trap_text, write_text};
 use crate::window::Window;
-use std::alloc::AllocError;
+use snap_draft::Draft;
 
 /// Whether it is drawn.
 fn is_drawn(window: &Window, shape: &Shape) -> bool
@@ -28,8 +29,8 @@ fn is_drawn(window: &Window, shape: &Shape) -> bool
 }
 
 /// What is drawn of a run.
-fn shape_text(out: &mut Vec<u8>, window: &Window, shape: &Shape) -> Result<(), AllocError>
-    ensures { OnOk result (out.new.items ≡ out.old.items ++ shape_text window.now shape.now) }
+fn shape_text(out: &mut Draft, window: &Window, shape: &Shape)
+    ensures { Adds out.old out.new (shape_text window.now shape.now) }
 {
     match shape {
         Shape::Values(period) => period_text(out, window, period),
@@ -47,13 +48,12 @@ fn shape_text(out: &mut Vec<u8>, window: &Window, shape: &Shape) -> Result<(), A
 }
 
 /// Adds the shapes that are drawn, one after another: a later one lies above.
-pub fn push_shapes(out: &mut Vec<u8>, window: &Window, shapes: &[Shape]) -> Result<(), AllocError>
-    ensures { OnOk result (out.new.items ≡ out.old.items ++ shapes_text window.now shapes.now) }
+pub fn push_shapes(out: &mut Draft, window: &Window, shapes: &[Shape])
+    ensures { Adds out.old out.new (shapes_text window.now shapes.now) }
 {
     for shape in shapes {
         if is_drawn(window, shape) {
-            shape_text(out, window, shape)?;
+            shape_text(out, window, shape);
         }
     }
-    Ok(())
 }

@@ -1,16 +1,14 @@
 -- `embedded_box` writes the SVG of a scan within an update, piece after piece, as its definition has it.
-use Rattle.std.proofs.Common.{◌≡◌, ◌++◌, append_assoc, codes}
-use Rattle.std.proofs.lemmas.Result.{on_ok_weaker}
+use Rattle.std.proofs.Common.{append_assoc}
 use Rattle.snap_svg.specs.ShapeText.{embedded_box}
 use Rattle.snap_svg.proofs.bars.embedded_box.Goals as goal
 
 pub returns : goal.returns
 unfolding embedded_box
-returns c =
-    on_ok_weaker {P = c.push_text-3.new.out.items ≡ c.push_text-2.new.out.items ++ codes "</svg>\n"}
-    {Q = c.push_text-3.new.out.items ≡ c.args.out.now.items ++ embedded_box c.args.span c.args.x c.args.y c.args.width}
-    c.push_text-3.result
-    (λ e.
-    rw (e, c.in_ok-push_text-2.ensures, c.in_ok-push_text.ensures, c.in_ok-span_text.ensures, c.in_ok-box_head.ensures)
-    (simp append_assoc))
-    c.push_text-3.ensures
+returns c = λ well.
+    let e5 = c.push-3.ensures well in
+    let e4 = c.push-2.ensures e5.0 in
+    let e3 = c.push.ensures e4.0 in
+    let e2 = c.span_text.ensures e3.0 in
+    let e1 = c.box_head.ensures e2.0 in
+    (e1.0, rw (e5.1, e4.1, e3.1, e2.1, e1.1) (simp append_assoc))

@@ -1,23 +1,17 @@
 -- `found_words` writes what the SVG of a scan's point says, piece after piece, as its definition has it.
-use Rattle.std.proofs.Common.{◌≡◌, ◌++◌, append_assoc, codes}
-use Rattle.std.proofs.lemmas.Result.{on_ok_weaker}
+use Rattle.std.proofs.Common.{append_assoc}
 use Rattle.snap_svg.specs.ShapeText.{found_words}
 use Rattle.snap_svg.proofs.bars.found_words.Goals as goal
 
 pub returns : goal.returns
 unfolding found_words
-returns c =
-    on_ok_weaker {P = c.push_text-4.new.out.items ≡ c.push_number-2.new.out.items ++ codes "</title>"}
-    {Q = c.push_text-4.new.out.items ≡ c.args.out.now.items
-    ++ found_words c.args.scan c.args.item c.args.values.now c.args.collects} c.push_text-4.result
-    (λ e. rw (
-      e,
-      c.in_ok-push_number-2.ensures,
-      c.in_ok-push_text-3.ensures,
-      c.in_ok-push_numbers.ensures,
-      c.in_ok-push_text-2.ensures,
-      c.in_ok-push_number.ensures,
-      c.in_ok-push_text.ensures,
-      c.in_ok-span_text.ensures,
-    ) (simp append_assoc))
-    c.push_text-4.ensures
+returns c = λ well.
+    let e8 = c.push-4.ensures well in
+    let e7 = c.push_number-2.ensures e8.0 in
+    let e6 = c.push-3.ensures e7.0 in
+    let e5 = c.push_numbers.ensures e6.0 in
+    let e4 = c.push-2.ensures e5.0 in
+    let e3 = c.push_number.ensures e4.0 in
+    let e2 = c.push.ensures e3.0 in
+    let e1 = c.span_text.ensures e2.0 in
+    (e1.0, rw (e8.1, e7.1, e6.1, e5.1, e4.1, e3.1, e2.1, e1.1) (simp append_assoc))

@@ -1,24 +1,18 @@
 -- `none_box` writes the SVG of a scan without a point, piece after piece, as its definition has it.
-use Rattle.std.proofs.Common.{◌≡◌, ◌++◌, append_assoc, codes}
-use Rattle.std.proofs.lemmas.Result.{on_ok_weaker}
+use Rattle.std.proofs.Common.{append_assoc}
 use Rattle.snap_svg.specs.ShapeText.{none_box}
 use Rattle.snap_svg.proofs.bars.none_box.Goals as goal
 
 pub returns : goal.returns
 unfolding none_box
-returns c =
-    on_ok_weaker {P = c.push_text-3.new.out.items ≡ c.words_head.new.out.items ++ codes "point none</text></g>\n"}
-    {Q = c.push_text-3.new.out.items
-    ≡ c.args.out.now.items ++ none_box c.args.span c.args.x c.args.right c.args.y c.args.width} c.push_text-3.result
-    (λ e. rw (
-      e,
-      c.in_ok-words_head.ensures,
-      c.in_ok-line_text-2.ensures,
-      c.in_ok-line_text.ensures,
-      c.in_ok-push_text-2.ensures,
-      c.in_ok-edges_text.ensures,
-      c.in_ok-push_text.ensures,
-      c.in_ok-span_text.ensures,
-      c.in_ok-group_head.ensures,
-    ) (simp append_assoc))
-    c.push_text-3.ensures
+returns c = λ well.
+    let e9 = c.push-3.ensures well in
+    let e8 = c.words_head.ensures e9.0 in
+    let e7 = c.line_text-2.ensures e8.0 in
+    let e6 = c.line_text.ensures e7.0 in
+    let e5 = c.push-2.ensures e6.0 in
+    let e4 = c.edges_text.ensures e5.0 in
+    let e3 = c.push.ensures e4.0 in
+    let e2 = c.span_text.ensures e3.0 in
+    let e1 = c.group_head.ensures e2.0 in
+    (e1.0, rw (e9.1, e8.1, e7.1, e6.1, e5.1, e4.1, e3.1, e2.1, e1.1) (simp append_assoc))

@@ -1,20 +1,14 @@
 -- `box_head` writes the beginning of an SVG box, piece after piece, as its definition has it.
-use Rattle.std.proofs.Common.{◌≡◌, ◌++◌, append_assoc, codes}
-use Rattle.std.proofs.lemmas.Result.{on_ok_weaker}
+use Rattle.std.proofs.Common.{append_assoc}
 use Rattle.snap_svg.specs.Elements.{box_head}
 use Rattle.snap_svg.proofs.elements.box_head.Goals as goal
 
 pub returns : goal.returns
 unfolding box_head
-returns c =
-    on_ok_weaker {P = c.push_text-4.new.out.items ≡ c.edges_text.new.out.items ++ codes "><title>"}
-    {Q = c.push_text-4.new.out.items ≡ c.args.out.now.items
-    ++ box_head c.args.class.now c.args.x c.args.y c.args.width c.args.height} c.push_text-4.result
-    (λ e. rw (
-      e,
-      c.in_ok-edges_text.ensures,
-      c.in_ok-push_text-3.ensures,
-      c.in_ok-push_text-2.ensures,
-      c.in_ok-push_text.ensures,
-    ) (simp append_assoc))
-    c.push_text-4.ensures
+returns c = λ well.
+    let e5 = c.push-4.ensures well in
+    let e4 = c.edges_text.ensures e5.0 in
+    let e3 = c.push-3.ensures e4.0 in
+    let e2 = c.push-2.ensures e3.0 in
+    let e1 = c.push.ensures e2.0 in
+    (e1.0, rw (e5.1, e4.1, e3.1, e2.1, e1.1) (simp append_assoc))

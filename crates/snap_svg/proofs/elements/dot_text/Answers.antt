@@ -1,13 +1,13 @@
 -- `dot_text` writes the SVG of a dot, piece after piece, as its definition has it.
-use Rattle.std.proofs.Common.{◌≡◌, ◌++◌, append_assoc, codes}
-use Rattle.std.proofs.lemmas.Result.{on_ok_weaker}
+use Rattle.std.proofs.Common.{append_assoc}
 use Rattle.snap_svg.specs.Elements.{dot_text}
 use Rattle.snap_svg.proofs.elements.dot_text.Goals as goal
 
 pub returns : goal.returns
 unfolding dot_text
-returns c =
-    on_ok_weaker {P = c.push_text-2.new.out.items ≡ c.attribute-2.new.out.items ++ codes "/>"}
-    {Q = c.push_text-2.new.out.items ≡ c.args.out.now.items ++ dot_text c.args.x c.args.y} c.push_text-2.result
-    (λ e. rw (e, c.in_ok-attribute-2.ensures, c.in_ok-attribute.ensures, c.in_ok-push_text.ensures) (simp append_assoc))
-    c.push_text-2.ensures
+returns c = λ well.
+    let e4 = c.push-2.ensures well in
+    let e3 = c.attribute-2.ensures e4.0 in
+    let e2 = c.attribute.ensures e3.0 in
+    let e1 = c.push.ensures e2.0 in
+    (e1.0, rw (e4.1, e3.1, e2.1, e1.1) (simp append_assoc))

@@ -1,29 +1,22 @@
 -- `items_words` writes which listing, and which items of its run, an SVG picture shows, piece after piece, as its
 -- definition has it.
-use Rattle.std.proofs.Common.{◌≡◌, ◌++◌, append_assoc, decimal}
-use Rattle.std.proofs.lemmas.Result.{on_ok_weaker}
+use Rattle.std.proofs.Common.{append_assoc}
 use Rattle.snap_svg.specs.FrameText.{items_words}
 use Rattle.snap_svg.proofs.frame.items_words.Goals as goal
 
 pub returns : goal.returns
 unfolding items_words
-returns c =
-    on_ok_weaker {P = c.push_number-5.new.out.items ≡ c.push_text-7.new.out.items ++ decimal c.args.total}
-    {Q = c.push_number-5.new.out.items ≡ c.args.out.now.items
-    ++ items_words c.args.kind.now c.args.processes c.args.words c.args.first c.args.last c.args.total}
-    c.push_number-5.result
-    (λ e. rw (
-      e,
-      c.in_ok-push_text-7.ensures,
-      c.in_ok-push_number-4.ensures,
-      c.in_ok-push_text-6.ensures,
-      c.in_ok-push_number-3.ensures,
-      c.in_ok-push_text-5.ensures,
-      c.in_ok-push_number-2.ensures,
-      c.in_ok-push_text-4.ensures,
-      c.in_ok-push_number.ensures,
-      c.in_ok-push_text-3.ensures,
-      c.in_ok-push_text-2.ensures,
-      c.in_ok-push_text.ensures,
-    ) (simp append_assoc))
-    c.push_number-5.ensures
+returns c = λ well.
+    let e12 = c.push_number-5.ensures well in
+    let e11 = c.push-7.ensures e12.0 in
+    let e10 = c.push_number-4.ensures e11.0 in
+    let e9 = c.push-6.ensures e10.0 in
+    let e8 = c.push_number-3.ensures e9.0 in
+    let e7 = c.push-5.ensures e8.0 in
+    let e6 = c.push_number-2.ensures e7.0 in
+    let e5 = c.push-4.ensures e6.0 in
+    let e4 = c.push_number.ensures e5.0 in
+    let e3 = c.push-3.ensures e4.0 in
+    let e2 = c.push-2.ensures e3.0 in
+    let e1 = c.push.ensures e2.0 in
+    (e1.0, rw (e12.1, e11.1, e10.1, e9.1, e8.1, e7.1, e6.1, e5.1, e4.1, e3.1, e2.1, e1.1) (simp append_assoc))

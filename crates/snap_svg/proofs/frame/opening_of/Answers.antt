@@ -1,13 +1,12 @@
 -- `opening_of` writes the opening of an SVG picture, piece after piece, as its definition has it.
-use Rattle.std.proofs.Common.{◌≡◌, ◌++◌, append_assoc, codes}
-use Rattle.std.proofs.lemmas.Result.{on_ok_weaker}
+use Rattle.std.proofs.Common.{append_assoc}
 use Rattle.snap_svg.specs.FrameText.{opening_of}
 use Rattle.snap_svg.proofs.frame.opening_of.Goals as goal
 
 pub returns : goal.returns
 unfolding opening_of
-returns c =
-    on_ok_weaker {P = c.push_text-2.new.out.items ≡ c.push_number.new.out.items ++ codes "\">\n"}
-    {Q = c.push_text-2.new.out.items ≡ c.args.out.now.items ++ opening_of c.args.height} c.push_text-2.result
-    (λ e. rw (e, c.in_ok-push_number.ensures, c.in_ok-push_text.ensures) (simp append_assoc))
-    c.push_text-2.ensures
+returns c = λ well.
+    let e3 = c.push-2.ensures well in
+    let e2 = c.push_number.ensures e3.0 in
+    let e1 = c.push.ensures e2.0 in
+    (e1.0, rw (e3.1, e2.1, e1.1) (simp append_assoc))

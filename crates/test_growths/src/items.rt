@@ -58,27 +58,62 @@ fn report_of(alloc: Global, machine: &Machine<Bits>) -> Result<Vec<u8>, AllocErr
     Ok(text)
 }
 
+/// Writes the report of a machine.
+fn tell_report(rt: &HostRuntime, machine: &Machine<Bits>) -> Result<(), Trouble> {
+    let text = tried!(rt, report_of(rt.alloc(), machine));
+    tell(rt, text.as_slice())
+}
+
+/// Does an item, and writes what came of it.
+fn do_item(rt: &HostRuntime, machine: &mut Machine<Bits>, item: Item) -> Result<(), Trouble> {
+    let outcome = tried!(rt, apply(machine, item));
+    tell_outcome(rt, &outcome)
+}
+
+/// Does an item, takes it back, writes what came of it, and does it again.
+fn do_item_twice(rt: &HostRuntime, machine: &mut Machine<Bits>, item: Item) -> Result<(), Trouble> {
+    let outcome = tried!(rt, apply_and_revert(machine, item));
+    tell_outcome(rt, &outcome)?;
+    let _outcome = tried!(rt, apply(machine, item));
+    Ok(())
+}
+
+/// Does each item of a schedule.
+fn do_items(
+    rt: &HostRuntime,
+    machine: &mut Machine<Bits>,
+    schedule: &Schedule,
+) -> Result<(), Trouble> {
+    for item in schedule.items().iter() {
+        do_item(rt, machine, item)?;
+    }
+    Ok(())
+}
+
+/// Does each item of a schedule, takes it back, and does it again.
+fn do_items_twice(
+    rt: &HostRuntime,
+    machine: &mut Machine<Bits>,
+    schedule: &Schedule,
+) -> Result<(), Trouble> {
+    for item in schedule.items().iter() {
+        do_item_twice(rt, machine, item)?;
+    }
+    Ok(())
+}
+
 /// Each item of a schedule is done.
 pub fn play(rt: &HostRuntime) -> Result<(), Trouble> {
     let schedule = read(rt.alloc(), QUICK)?;
     let mut machine = new_machine(rt.alloc(), &schedule)?;
-    for item in schedule.items().iter() {
-        let outcome = tried!(rt, apply(&mut machine, item));
-        tell_outcome(rt, &outcome)?;
-    }
-    let text = tried!(rt, report_of(rt.alloc(), &machine));
-    tell(rt, text.as_slice())
+    do_items(rt, &mut machine, &schedule)?;
+    tell_report(rt, &machine)
 }
 
 /// Each item of a schedule is done, taken back, and done again.
 pub fn play_back(rt: &HostRuntime) -> Result<(), Trouble> {
     let schedule = read(rt.alloc(), QUICK)?;
     let mut machine = new_machine(rt.alloc(), &schedule)?;
-    for item in schedule.items().iter() {
-        let outcome = tried!(rt, apply_and_revert(&mut machine, item));
-        tell_outcome(rt, &outcome)?;
-        let _outcome = tried!(rt, apply(&mut machine, item));
-    }
-    let text = tried!(rt, report_of(rt.alloc(), &machine));
-    tell(rt, text.as_slice())
+    do_items_twice(rt, &mut machine, &schedule)?;
+    tell_report(rt, &machine)
 }

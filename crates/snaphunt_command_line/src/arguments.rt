@@ -49,26 +49,22 @@ fn number<'a>(
     most: u64,
     usual: &'a str,
     help: &'a str,
-) -> Result<Arg<'a>, AllocError> {
-    Ok(
-        Arg::new(alloc, name)
-            .long(name)
-            .value_name("N")
-            .value_parser(ValueParser::unsigned(least, most))
-            .default_value(usual)
-            .help(help),
-    )
+) -> Arg<'a> {
+    Arg::new(alloc, name)
+        .long(name)
+        .value_name("N")
+        .value_parser(ValueParser::unsigned(least, most))
+        .default_value(usual)
+        .help(help)
 }
 
 /// The argument that says that priorities decide who moves.
-fn depth<'a>(alloc: Global) -> Result<Arg<'a>, AllocError> {
-    Ok(
-        Arg::new(alloc, "depth")
-            .long("depth")
-            .value_name("D")
-            .value_parser(ValueParser::unsigned(1, MAX_DEPTH))
-            .help("Priorities, lowered at D - 1 turns, decide which process moves"),
-    )
+fn depth<'a>(alloc: Global) -> Arg<'a> {
+    Arg::new(alloc, "depth")
+        .long("depth")
+        .value_name("D")
+        .value_parser(ValueParser::unsigned(1, MAX_DEPTH))
+        .help("Priorities, lowered at D - 1 turns, decide which process moves")
 }
 
 /// The arguments that say how many processes and words there are.
@@ -81,7 +77,7 @@ fn with_shape<'a>(alloc: Global, command: Command<'a>) -> Result<Command<'a>, Al
             MAX_COUNT,
             "3",
             "How many processes there are",
-        )?)?
+        ))?
         .arg(number(
             alloc,
             "words",
@@ -89,7 +85,7 @@ fn with_shape<'a>(alloc: Global, command: Command<'a>) -> Result<Command<'a>, Al
             MAX_COUNT,
             "0",
             "How many words there are; 0: one for each process",
-        )?)
+        ))
 }
 
 /// The arguments that say how schedules are made.
@@ -102,7 +98,7 @@ fn with_plan<'a>(alloc: Global, command: Command<'a>) -> Result<Command<'a>, All
         .help("How processes take turns");
     with_shape(alloc, command)?
         .arg(pace)?
-        .arg(depth(alloc)?)?
+        .arg(depth(alloc))?
         .arg(number(
             alloc,
             "turns",
@@ -110,7 +106,7 @@ fn with_plan<'a>(alloc: Global, command: Command<'a>) -> Result<Command<'a>, All
             MAX_TURNS,
             "120",
             "How many turns a schedule has",
-        )?)?
+        ))?
         .arg(number(
             alloc,
             "crash",
@@ -118,7 +114,7 @@ fn with_plan<'a>(alloc: Global, command: Command<'a>) -> Result<Command<'a>, All
             1_000,
             "0",
             "How many of a thousand turns are crashes",
-        )?)?
+        ))?
         .arg(number(
             alloc,
             "repeat",
@@ -126,7 +122,7 @@ fn with_plan<'a>(alloc: Global, command: Command<'a>) -> Result<Command<'a>, All
             4_294_967_295,
             "1",
             "In half of the runs values are from 0 to this; 0: in none",
-        )?)
+        ))
 }
 
 /// The arguments that say what is hunted.
@@ -146,7 +142,7 @@ fn with_failures<'a>(alloc: Global, command: Command<'a>) -> Result<Command<'a>,
             1_000_000,
             "0",
             "Hunts an operation of more own steps than this; 0: than the shipped listing takes",
-        )?)?
+        ))?
         .arg(number(
             alloc,
             "collects",
@@ -154,7 +150,7 @@ fn with_failures<'a>(alloc: Global, command: Command<'a>) -> Result<Command<'a>,
             1_000_000,
             "0",
             "Hunts a scan of more double collects than this; 0: none",
-        )?)
+        ))
 }
 
 /// The arguments that a hunt takes.
@@ -178,7 +174,7 @@ fn command<'a>(alloc: Global) -> Result<Command<'a>, AllocError> {
             MAX_RUNS,
             "100000",
             "How many runs are made",
-        )?)?
+        ))?
         .arg(number(
             alloc,
             "seed",
@@ -186,7 +182,7 @@ fn command<'a>(alloc: Global) -> Result<Command<'a>, AllocError> {
             u64::MAX,
             "1",
             "What decides all schedules",
-        )?)?;
+        ))?;
     with_plan(alloc, command)
 }
 

@@ -1,5 +1,5 @@
 //! `Draft`: a text that is put together.
-ghost use Rattle.std.specs.Prelude.{◌≡◌, [], false, decimal, IfOk};
+ghost use Rattle.std.specs.Prelude.{◌≡◌, [], false, true, decimal, MatchResult};
 ghost use Rattle.snap_semantics.specs.Report.{numbers_text};
 ghost use Rattle.snap_draft.specs.Drafted.{Adds};
 
@@ -62,9 +62,10 @@ impl Draft {
         }
     }
 
-    /// The whole text, unless it has failed.
+    /// The whole text, and an error where it has failed, and only there.
     pub fn finish(self) -> Result<Vec<u8>, AllocError>
-        ensures { IfOk result (λ text. (self.failed ≡ false) × (text.items ≡ self.text)) }
+        ensures { MatchResult result (λ text. (self.failed ≡ false) × (text.items ≡ self.text))
+            (λ _. self.failed ≡ true) }
     {
         if self.failed {
             return Err(AllocError);

@@ -1,6 +1,6 @@
 //! `Spelling`: the tokens of a listing's line, as far as it
 //! is spelled; spells its indices, terms and conditions.
-ghost use Rattle.std.specs.Prelude.{◌≡◌, [], ◌∷◌, ◌++◌, false, IfOk};
+ghost use Rattle.std.specs.Prelude.{◌≡◌, [], ◌∷◌, ◌++◌, false, true, MatchResult};
 ghost use Rattle.snap_semantics.specs.declared.instr.Term.TheVariants as term;
 ghost use Rattle.snap_semantics.specs.ListingForms.{join_keyword};
 ghost use Rattle.snap_semantics.specs.Spelling.{spelled_index, spelled_place, field_keyword};
@@ -88,10 +88,10 @@ impl<'a> Spelling<'a> {
         }
     }
 
-    /// Its tokens, unless it has failed.
+    /// Its tokens, and an error where it has failed, and only there.
     pub fn tokens(&self) -> Result<&[Token<'a>], AllocError>
-        ensures { IfOk result (λ tokens. (self.now.failed ≡ false)
-            × (tokens.now ≡ self.now.tokens.items)) }
+        ensures { MatchResult result (λ tokens. (self.now.failed ≡ false)
+            × (tokens.now ≡ self.now.tokens.items)) (λ _. self.now.failed ≡ true) }
     {
         if self.failed {
             return Err(AllocError);

@@ -177,10 +177,9 @@ class Prover:
         unread = next((it for it in lines if is_unread(it, edit.texts)), None)
         if unread or not re.match(r"only=\d+ proved=|logic=", lines[-1]) or status not in (0, 1):
             raise Bad(unread or next((it for it in lines if "error" in it), lines[-1]))
-        if not edit.functions:
-            return status == 1
+        # (a line may go on, as 'fn NAME: proved, may wait')
         of_it = [it for it in lines for name in edit.functions if re.match(rf"fn {edit.crate}::(.*::)?{name}: ", it)]
-        return any(not it.endswith(": proved") for it in of_it)
+        return status == 1 and (not edit.functions or any(": proved" not in it for it in of_it))
 
     def is_proved(self, crate, texts, functions, kept):
         """Whether all these functions are proved, or the whole crate where there are none."""

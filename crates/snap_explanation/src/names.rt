@@ -1,6 +1,7 @@
 //! The token of a line that a refusal is about: a name that is unknown or declared twice, the
 //! nearest known name, or a target that is no line.
-ghost use Rattle.std.specs.Prelude.{◌≡◌, ◌≤◌, ◌++◌, IfOk, OnOk, length, drop, map, option_map};
+ghost use Rattle.std.specs.Prelude.{◌≡◌, ◌≤◌, ◌++◌, IfOk, OnOk, bytes_eq, length, drop, map};
+ghost use Rattle.std.specs.Prelude.{option_map};
 ghost use Rattle.snap_semantics.specs.Token.{text_lines};
 ghost use Rattle.snap_text.specs.Tokens.{view_token, view_tokens};
 ghost use Rattle.snap_expected.specs.Steps.{view_placed_token};
@@ -76,6 +77,13 @@ pub fn nth_token<'a>(index: usize, tokens: &[PlacedToken<'a>]) -> Option<PlacedT
         rest = behind;
     }
     None
+}
+
+/// Whether two words are the same.
+pub fn same_word(one: &[u8], other: &[u8]) -> bool
+    ensures { result ≡ bytes_eq one.now other.now }
+{
+    one == other
 }
 
 /// Whether a word is one of these.
@@ -271,7 +279,9 @@ fn later(word: &[u8]) -> &[u8]
 fn is_same_later(one: &[u8], other: &[u8]) -> bool
     ensures { result ≡ is_same_later one.now other.now }
 {
-    later(one) == later(other) || later(one) == other || one == later(other)
+    same_word(later(one), later(other))
+        || same_word(later(one), other)
+        || same_word(one, later(other))
 }
 
 /// Whether two words are one letter away.

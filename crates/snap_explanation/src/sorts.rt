@@ -6,7 +6,7 @@ ghost use Rattle.snap_explanation.specs.Sorts.{sort_of_keyword, is_sort, names_o
 ghost use Rattle.snap_explanation.specs.Sorts.{source_in, of_sort};
 ghost use Rattle.snap_explanation.specs.Views.{view_names};
 
-use crate::names::is_among;
+use crate::names::{is_among, same_word};
 use snap_listing_rules::is_reserved;
 use snap_semantics::Sort;
 use snap_words::KindTag;
@@ -26,13 +26,13 @@ pub struct Names<'a> {
 fn sort_of_keyword(word: &[u8]) -> Option<Sort>
     ensures { result ≡ sort_of_keyword word.now }
 {
-    if word == b"scalar".as_slice() {
+    if same_word(word, b"scalar") {
         Some(Sort::Scalar)
-    } else if word == b"row".as_slice() {
+    } else if same_word(word, b"row") {
         Some(Sort::Row)
-    } else if word == b"words".as_slice() {
+    } else if same_word(word, b"words") {
         Some(Sort::Words)
-    } else if word == b"view".as_slice() {
+    } else if same_word(word, b"view") {
         Some(Sort::View)
     } else {
         None
@@ -78,11 +78,11 @@ fn names_of<'a>(
 fn kind_of_keyword(word: &[u8]) -> Option<KindTag>
     ensures { result ≡ kind_of_keyword word.now }
 {
-    if word == b"seq".as_slice() {
+    if same_word(word, b"seq") {
         Some(KindTag::Seq)
-    } else if word == b"bit".as_slice() {
+    } else if same_word(word, b"bit") {
         Some(KindTag::Bits)
-    } else if word == b"multi".as_slice() {
+    } else if same_word(word, b"multi") {
         Some(KindTag::Multi)
     } else {
         None

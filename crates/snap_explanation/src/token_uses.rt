@@ -9,6 +9,7 @@ ghost use Rattle.snap_explanation.specs.TokenUses.{tuple_use, use_at, is_view_wo
 ghost use Rattle.snap_explanation.specs.TokenUses.{slot_of_word, slot_inside, slot_after};
 ghost use Rattle.snap_explanation.specs.Views.{view_use};
 
+use crate::names::same_word;
 use crate::spot::front;
 use snap_expected::{PlacedToken, is_symbol};
 use snap_listing_rules::is_reserved;
@@ -120,13 +121,13 @@ fn sort_at(instr: &Instr, slot: Slot, behind: &[PlacedToken<'_>]) -> Sort
 fn field_of_keyword(word: &[u8]) -> Option<Field>
     ensures { result ≡ field_of_keyword word.now }
 {
-    if word == b"seq".as_slice() {
+    if same_word(word, b"seq") {
         Some(Field::Seq)
-    } else if word == b"data".as_slice() {
+    } else if same_word(word, b"data") {
         Some(Field::Datum)
-    } else if word == b"toggle".as_slice() {
+    } else if same_word(word, b"toggle") {
         Some(Field::Toggle)
-    } else if word == b"id".as_slice() {
+    } else if same_word(word, b"id") {
         Some(Field::Id)
     } else {
         None
@@ -148,15 +149,15 @@ fn word_use(instr: &Instr, word: &[u8], behind: &[PlacedToken<'_>]) -> Option<Us
     ensures { option_map view_use result
         ≡ word_use instr.now word.now (placed_tokens behind.now) }
 {
-    if word == b"q".as_slice() {
+    if same_word(word, b"q") {
         Some(Use::Bank(Bank::Q))
-    } else if word == b"p".as_slice() {
+    } else if same_word(word, b"p") {
         Some(Use::Bank(Bank::P))
-    } else if word == b"v".as_slice() {
+    } else if same_word(word, b"v") {
         Some(Use::Bank(Bank::V))
-    } else if word == b"hand".as_slice() {
+    } else if same_word(word, b"hand") {
         Some(Use::Handshake)
-    } else if word == b"view".as_slice() {
+    } else if same_word(word, b"view") {
         if opens_with(Symbol::OpenParenthesis, behind) {
             Some(Use::View)
         } else {
@@ -215,19 +216,19 @@ pub fn use_at<'a>(
 fn is_view_word(word: &[u8]) -> bool
     ensures { result ≡ is_view_word word.now }
 {
-    word == b"look".as_slice() || word == b"return".as_slice() || word == b"view".as_slice()
+    same_word(word, b"look") || same_word(word, b"return") || same_word(word, b"view")
 }
 
 /// Whether a `words` local stands behind a word.
 fn is_words_word(word: &[u8]) -> bool
     ensures { result ≡ is_words_word word.now }
 {
-    word == b"get".as_slice()
-        || word == b"data".as_slice()
-        || word == b"seq".as_slice()
-        || word == b"toggle".as_slice()
-        || word == b"id".as_slice()
-        || word == b"hand".as_slice()
+    same_word(word, b"get")
+        || same_word(word, b"data")
+        || same_word(word, b"seq")
+        || same_word(word, b"toggle")
+        || same_word(word, b"id")
+        || same_word(word, b"hand")
 }
 
 /// What stands behind a reserved word.

@@ -1,8 +1,9 @@
 //! `advice`: what the explanation of a refused input advises at the token where a line is lost.
-ghost use Rattle.std.specs.Prelude.{◌≡◌, ◌++◌, OnOk, map, option_map};
+ghost use Rattle.std.specs.Prelude.{◌≡◌, map, option_map};
 ghost use Rattle.std.specs.List.{list_all};
 ghost use Rattle.snap_semantics.specs.Token.{is_digit, is_lexeme_byte};
 ghost use Rattle.snap_text.specs.Tokens.{view_token};
+ghost use Rattle.snap_draft.specs.Drafted.{Adds};
 ghost use Rattle.snap_expected.specs.Steps.{view_placed_token};
 ghost use Rattle.snap_explanation.specs.Advice.{firm, symbol_advice, word_advice, value_advice};
 ghost use Rattle.snap_explanation.specs.Advice.{is_bank, name_advice, is_joining, end_advice};
@@ -16,13 +17,13 @@ ghost use Rattle.snap_explanation.specs.Advice.{lexeme_advice, foreign_advice, b
 ghost use Rattle.snap_explanation.specs.Advice.{stray_advice, advice_line};
 
 use crate::names::nth_token;
+use snap_draft::Draft;
 use snap_expected::{
     Keyword, LineSort, PlacedToken, Wanted, is_bit_bank, is_identifier, is_lexeme_byte, is_line,
     is_name, is_symbol, is_word, may_pass,
 };
 use snap_semantics::Symbol;
-use snap_text::{Token, push_text};
-use std::alloc::AllocError;
+use snap_text::Token;
 
 /// What values are.
 const VALUES: &[u8] = b"a value is a number, a name, `arg`, `n`, `w`, `me`, `word`, `R[I]`, \
@@ -545,13 +546,12 @@ pub fn stray_advice(piece: &[u8]) -> &'static [u8]
 }
 
 /// Adds a line of advice, where there is one.
-#[tactic(auto, using(snap_text::proofs::Texts::joined))]
-pub fn push_advice(out: &mut Vec<u8>, advice: &[u8]) -> Result<(), AllocError>
-    ensures { OnOk result (out.new.items ≡ out.old.items ++ advice_line advice.now) }
+pub fn push_advice(out: &mut Draft, advice: &[u8])
+    ensures { Adds out.old out.new (advice_line advice.now) }
 {
     if advice.is_empty() {
-        return Ok(());
+        return;
     }
-    push_text(out, advice)?;
-    push_text(out, b"\n")
+    out.push(advice);
+    out.push(b"\n");
 }

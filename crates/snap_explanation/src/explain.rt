@@ -1,7 +1,8 @@
 //! `explanation`: what is said of a refused input after the line that refuses it, for each kind of
 //! refusal.
-ghost use Rattle.std.specs.Prelude.{◌≡◌, ◌++◌, IfOk, OnOk, drop, map, option_map};
+ghost use Rattle.std.specs.Prelude.{◌≡◌, IfOk, OnOk, drop, map, option_map};
 ghost use Rattle.snap_semantics.specs.Token.{lines_of, text_lines};
+ghost use Rattle.snap_draft.specs.Drafted.{Adds};
 ghost use Rattle.snap_expected.specs.Pieces.{placed_of};
 ghost use Rattle.snap_expected.specs.Steps.{view_placed, view_placed_token, view_lost};
 ghost use Rattle.snap_explanation.specs.Explanation.{token_advice, sort_advice, piece_of};
@@ -17,15 +18,13 @@ ghost use Rattle.snap_explanation.specs.Explanation.{again_text};
 ghost use Rattle.snap_explanation.specs.Explanation.{again_spot, rising_text, number_at_token};
 ghost use Rattle.snap_explanation.specs.Explanation.{rising_spot};
 ghost use Rattle.snap_explanation.specs.Explanation.{listing_explained, item_sort};
-ghost use Rattle.snap_explanation.specs.Explanation.{schedule_explained, shape_explained};
+ghost use Rattle.snap_explanation.specs.Explanation.{schedule_explained};
 ghost use Rattle.snap_explanation.specs.Explanation.{commands_explained};
-ghost use Rattle.snap_explanation.specs.Explanation.{part_explained, explanation};
+ghost use Rattle.snap_explanation.specs.Explanation.{leading_spot, part_explained, explanation};
 ghost use Rattle.snap_explanation.specs.Spot.{nth_line, piece_at};
 ghost use Rattle.snap_expected.specs.declared.sorts.Header.TheVariants.{Kind};
-ghost use Rattle.snap_semantics.specs.declared.refusal.ListingRefusal.TheVariants.{NoSuchLine};
-ghost use Rattle.snap_semantics.specs.declared.refusal.ListingRefusal.TheVariants.{BadName};
 ghost use Rattle.snap_semantics.specs.declared.refusal.ListingRefusal.TheVariants.{BadHeader};
-ghost use Rattle.snap_explanation.specs.Names.{first_such, is_bad, nth_token};
+ghost use Rattle.snap_explanation.specs.Names.{first_such, is_bad, leading_line, nth_token};
 ghost use Rattle.snap_explanation.specs.Sorts.{kind_in};
 ghost use Rattle.snap_explanation.specs.Views.{view_declared, view_misuse, view_names, view_part};
 
@@ -42,38 +41,32 @@ use crate::said::{push_said, push_said_number};
 use crate::sorts::{Names, kind_in, names_in};
 use crate::spot::{column_of, line_of, piece_at, push_line_spot, push_shown, push_spot};
 use crate::texts::push_expected_line;
+use snap_draft::Draft;
 use snap_expected::{
     Header, LineSort, LostPlace, PlacedToken, PlacedTokens, lost_in, placed_tokens,
 };
 use snap_semantics::{CommandRefusal, ListingRefusal, Refusal, ScheduleRefusal};
-use snap_text::{TextLines, Token, push_text};
+use snap_text::{TextLines, Token};
 use std::alloc::{AllocError, Global};
 
 /// Adds what is no token.
-fn push_stray_words(out: &mut Vec<u8>, piece: &[u8]) -> Result<(), AllocError>
-    ensures { OnOk result (out.new.items ≡ out.old.items ++ stray_words piece.now) }
+fn push_stray_words(out: &mut Draft, piece: &[u8])
+    ensures { Adds out.old out.new (stray_words piece.now) }
 {
-    push_text(out, b"`")?;
-    push_shown(out, piece)?;
-    push_text(out, b"` is no token\n")
+    out.push(b"`");
+    push_shown(out, piece);
+    out.push(b"` is no token\n");
 }
 
 /// Adds what is said of a byte that begins no token.
-#[tactic(auto, using(snap_text::proofs::Texts::joined), unfolding(crate::specs::Explanation::stray_text))]
-fn push_stray(
-    out: &mut Vec<u8>,
-    part: &Part<'_>,
-    line: u64,
-    text: &[u8],
-    column: usize,
-) -> Result<(), AllocError>
-    ensures { OnOk result (out.new.items ≡ out.old.items
-        ++ stray_text (view_part part.now) line text.now column) }
+#[tactic(auto, unfolding(crate::specs::Explanation::stray_text))]
+fn push_stray(out: &mut Draft, part: &Part<'_>, line: u64, text: &[u8], column: usize)
+    ensures { Adds out.old out.new (stray_text (view_part part.now) line text.now column) }
 {
     let piece = piece_at(column, text);
-    push_spot(out, part, line, text, column)?;
-    push_stray_words(out, piece)?;
-    push_advice(out, stray_advice(piece))
+    push_spot(out, part, line, text, column);
+    push_stray_words(out, piece);
+    push_advice(out, stray_advice(piece));
 }
 
 /// What stands at a token, which may be the end of the line.
@@ -87,112 +80,104 @@ fn piece_of<'a>(text: &'a [u8], token: Option<PlacedToken<'_>>) -> &'a [u8]
 }
 
 /// Adds what is advised at a token.
-#[tactic(auto, using(snap_text::proofs::Texts::joined))]
-fn push_token_advice(
-    out: &mut Vec<u8>,
-    place: &LostPlace,
-    token: Option<PlacedToken<'_>>,
-) -> Result<(), AllocError>
-    ensures { OnOk result (out.new.items ≡ out.old.items
-        ++ token_advice (view_lost place.now) (option_map view_placed_token token.entry)) }
+fn push_token_advice(out: &mut Draft, place: &LostPlace, token: Option<PlacedToken<'_>>)
+    ensures { Adds out.old out.new
+        (token_advice (view_lost place.now) (option_map view_placed_token token.entry)) }
 {
     match token {
         Some(token) => push_advice(out, advice(place.wanted.as_slice(), &token.token)),
-        None => Ok(()),
+        None => {}
     }
 }
 
 /// Adds what is said of a line that is lost at a place.
-#[tactic(auto, using(snap_text::proofs::Texts::joined), unfolding(crate::specs::Explanation::lost_text))]
+#[tactic(auto, unfolding(crate::specs::Explanation::lost_text))]
 fn push_lost(
-    out: &mut Vec<u8>,
+    out: &mut Draft,
     part: &Part<'_>,
     line: u64,
     text: &[u8],
     tokens: &[PlacedToken<'_>],
     place: &LostPlace,
-) -> Result<(), AllocError>
-    ensures { OnOk result (out.new.items ≡ out.old.items
-        ++ lost_text (view_part part.now) line text.now (map view_placed_token tokens.now)
+)
+    ensures { Adds out.old out.new
+        (lost_text (view_part part.now) line text.now (map view_placed_token tokens.now)
         (view_lost place.now)) }
 {
     let token = nth_token(place.before, tokens);
-    push_spot(out, part, line, text, column_of(text, token))?;
-    push_expected_line(out, place.wanted.as_slice(), piece_of(text, token))?;
-    push_token_advice(out, place, token)
+    push_spot(out, part, line, text, column_of(text, token));
+    push_expected_line(out, place.wanted.as_slice(), piece_of(text, token));
+    push_token_advice(out, place, token);
 }
 
 /// Adds what is advised of a line of a sort by its tokens.
-fn push_sort_advice(
-    out: &mut Vec<u8>,
-    sort: LineSort,
-    tokens: &[PlacedToken<'_>],
-) -> Result<(), AllocError>
-    ensures { OnOk result (out.new.items ≡ out.old.items
-        ++ sort_advice sort (map view_placed_token tokens.now)) }
+fn push_sort_advice(out: &mut Draft, sort: LineSort, tokens: &[PlacedToken<'_>])
+    ensures { Adds out.old out.new (sort_advice sort (map view_placed_token tokens.now)) }
 {
-    push_advice(out, form_advice(sort, tokens))
+    push_advice(out, form_advice(sort, tokens));
 }
 
 /// Adds what is said of a line that is lost, or of one that has no place at which it is.
-#[tactic(auto, using(snap_text::proofs::Texts::joined))]
 fn push_lost_or_line(
-    out: &mut Vec<u8>,
+    out: &mut Draft,
     part: &Part<'_>,
     sort: LineSort,
     line: u64,
     text: &[u8],
     tokens: &[PlacedToken<'_>],
     place: &Option<LostPlace>,
-) -> Result<(), AllocError>
-    ensures { OnOk result (out.new.items ≡ out.old.items
-        ++ lost_or_line (view_part part.now) sort line text.now (map view_placed_token tokens.now)
+)
+    ensures { Adds out.old out.new
+        (lost_or_line (view_part part.now) sort line text.now (map view_placed_token tokens.now)
         (option_map view_lost place.now)) }
 {
     match place {
         Some(place) => {
-            push_lost(out, part, line, text, tokens, place)?;
-            push_sort_advice(out, sort, tokens)
+            push_lost(out, part, line, text, tokens, place);
+            push_sort_advice(out, sort, tokens);
         }
         None => push_line_spot(out, part, line, text),
     }
 }
 
 /// Adds what is said of a line with a byte that begins no token, or else of one that is lost.
-#[tactic(auto, using(snap_text::proofs::Texts::joined, crate::proofs::Counts::same_tokens))]
+#[tactic(auto, using(crate::proofs::Counts::same_tokens))]
 fn push_placed_form(
     alloc: Global,
-    out: &mut Vec<u8>,
+    out: &mut Draft,
     part: &Part<'_>,
     sort: LineSort,
     line: u64,
     text: &[u8],
     placed: &PlacedTokens<'_>,
 ) -> Result<(), AllocError>
-    ensures { OnOk result (out.new.items ≡ out.old.items
-        ++ form_text_of (view_part part.now) sort line text.now (view_placed placed.now)) }
+    ensures { OnOk result (Adds out.old out.new
+        (form_text_of (view_part part.now) sort line text.now (view_placed placed.now))) }
 {
     match placed.stray {
-        Some(column) => push_stray(out, part, line, text, column),
+        Some(column) => {
+            push_stray(out, part, line, text, column);
+            Ok(())
+        }
         None => {
             let tokens = placed.tokens.as_slice();
             let place = lost_in(alloc, sort, tokens)?;
-            push_lost_or_line(out, part, sort, line, text, tokens, &place)
+            push_lost_or_line(out, part, sort, line, text, tokens, &place);
+            Ok(())
         }
     }
 }
 
 /// Adds what is said of a line that has not the form of its sort.
-#[tactic(auto, using(snap_text::proofs::Texts::joined), unfolding(crate::specs::Explanation::form_text))]
+#[tactic(auto, unfolding(crate::specs::Explanation::form_text))]
 fn push_form(
     alloc: Global,
-    out: &mut Vec<u8>,
+    out: &mut Draft,
     part: &Part<'_>,
     sort: LineSort,
     line: u64,
 ) -> Result<(), AllocError>
-    ensures { OnOk result (out.new.items ≡ out.old.items
-        ++ form_text (view_part part.now) sort line) }
+    ensures { OnOk result (Adds out.old out.new (form_text (view_part part.now) sort line)) }
 {
     let text = line_of(part.text, line);
     let placed = placed_tokens(alloc, text)?;
@@ -200,27 +185,27 @@ fn push_form(
 }
 
 /// Adds a place at a token, where there is one, and what is said of it.
-#[tactic(auto, using(snap_text::proofs::Texts::joined), unfolding(crate::specs::Explanation::token_spot))]
+#[tactic(auto, unfolding(crate::specs::Explanation::token_spot))]
 fn push_token_spot(
-    out: &mut Vec<u8>,
+    out: &mut Draft,
     part: &Part<'_>,
     line: u64,
     token: Option<PlacedToken<'_>>,
     said: &[u8],
-) -> Result<(), AllocError>
-    ensures { OnOk result (out.new.items ≡ out.old.items
-        ++ token_spot (view_part part.now) line (option_map view_placed_token token.entry) said.now) }
+)
+    ensures { Adds out.old out.new
+        (token_spot (view_part part.now) line (option_map view_placed_token token.entry) said.now) }
 {
     let text = line_of(part.text, line);
     match token {
-        Some(token) => push_spot(out, part, line, text, token.column)?,
-        None => push_line_spot(out, part, line, text)?,
+        Some(token) => push_spot(out, part, line, text, token.column),
+        None => push_line_spot(out, part, line, text),
     }
-    push_text(out, said)
+    out.push(said);
 }
 
 /// The tokens of a line of a part.
-#[tactic(auto, using(snap_text::proofs::Texts::joined), unfolding(crate::specs::Explanation::placed_line))]
+#[tactic(auto, unfolding(crate::specs::Explanation::placed_line))]
 fn placed_line<'a>(
     alloc: Global,
     part: &Part<'a>,
@@ -292,62 +277,65 @@ const WRONG: &[u8] =
     b"a name of another sort stands here, or one that is not declared, or a register, a field or a tuple that this kind of registers has not\n";
 
 /// Adds what is said of a token that is not right.
-#[tactic(auto, using(snap_text::proofs::Texts::joined))]
 fn push_misuse_spot(
-    out: &mut Vec<u8>,
+    out: &mut Draft,
     part: &Part<'_>,
     line: u64,
     names: &Names<'_>,
     misuse: Option<Misuse<'_>>,
-) -> Result<(), AllocError>
-    ensures { OnOk result (out.new.items ≡ out.old.items
-        ++ misuse_spot (view_part part.now) line (view_names names.now)
+)
+    ensures { Adds out.old out.new
+        (misuse_spot (view_part part.now) line (view_names names.now)
         (option_map view_misuse misuse.entry)) }
 {
     match misuse {
         Some(misuse) => {
-            push_token_spot(out, part, line, Some(misuse.token), b"")?;
-            push_misuse(out, names, &misuse)
+            push_token_spot(out, part, line, Some(misuse.token), b"");
+            push_misuse(out, names, &misuse);
         }
         None => push_token_spot(out, part, line, None, WRONG),
     }
 }
 
 /// Adds what is said of a line that speaks of what is not right, where names are declared.
-#[tactic(auto, using(snap_text::proofs::Texts::joined), unfolding(crate::specs::Explanation::names_spot))]
+#[tactic(auto, unfolding(crate::specs::Explanation::names_spot))]
 fn push_names_spot(
     alloc: Global,
-    out: &mut Vec<u8>,
+    out: &mut Draft,
     part: &Part<'_>,
     line: u64,
     names: &Names<'_>,
 ) -> Result<(), AllocError>
-    ensures { OnOk result (out.new.items ≡ out.old.items
-        ++ names_spot (view_part part.now) line (view_names names.now)) }
+    ensures { OnOk result (Adds out.old out.new
+        (names_spot (view_part part.now) line (view_names names.now))) }
 {
     let tokens = placed_line(alloc, part, line)?;
     let misuse = wrong_in_line(alloc, names, tokens.as_slice())?;
-    push_misuse_spot(out, part, line, names, misuse)
+    push_misuse_spot(out, part, line, names, misuse);
+    Ok(())
 }
 
 /// Adds what is said of a line that speaks of what is not right, behind these words of a header.
 fn push_words_spot(
     alloc: Global,
-    out: &mut Vec<u8>,
+    out: &mut Draft,
     part: &Part<'_>,
     line: u64,
     words: &[&[u8]],
 ) -> Result<(), AllocError>
-    ensures { OnOk result (out.new.items ≡ out.old.items
-        ++ words_spot (view_part part.now) line (map (λ w. w.now) words.now)
-        (kind_in (map (λ w. w.now) words.now))) }
+    ensures { OnOk result (Adds out.old out.new
+        (words_spot (view_part part.now) line (map (λ w. w.now) words.now) (kind_in (map
+        (λ w. w.now) words.now)))) }
 {
     match kind_in(words) {
         Some(kind) => {
             let names = names_in(alloc, kind, words)?;
             push_names_spot(alloc, out, part, line, &names)
         }
-        None => push_token_spot(out, part, line, None, WRONG),
+        None => {
+            push_token_spot(out, part, line, None, WRONG);
+            Ok(())
+        }
     }
 }
 
@@ -355,88 +343,81 @@ fn push_words_spot(
 #[tactic(auto, unfolding(crate::specs::Explanation::uses_spot))]
 fn push_uses_spot(
     alloc: Global,
-    out: &mut Vec<u8>,
+    out: &mut Draft,
     part: &Part<'_>,
     line: u64,
 ) -> Result<(), AllocError>
-    ensures { OnOk result (out.new.items ≡ out.old.items
-        ++ uses_spot (view_part part.now) line) }
+    ensures { OnOk result (Adds out.old out.new (uses_spot (view_part part.now) line)) }
 {
     let words = words_before(alloc, line, part.text)?;
     push_words_spot(alloc, out, part, line, words.as_slice())
 }
 
 /// Adds the place where a name is declared.
-#[tactic(auto, using(snap_text::proofs::Texts::joined), unfolding(crate::specs::Explanation::place_text))]
-fn push_place(out: &mut Vec<u8>, name: &[u8], found: Declared<'_>) -> Result<(), AllocError>
-    ensures { OnOk result (out.new.items ≡ out.old.items
-        ++ place_text name.now (view_declared found.entry)) }
+#[tactic(auto, unfolding(crate::specs::Explanation::place_text))]
+fn push_place(out: &mut Draft, name: &[u8], found: Declared<'_>)
+    ensures { Adds out.old out.new (place_text name.now (view_declared found.entry)) }
 {
-    push_said(out, b"`", name, b"`")?;
-    push_said_number(out, b" is declared in line ", found.line)?;
-    push_said(out, b" of the listing, as `", found.keyword, b"`\n")
+    push_said(out, b"`", name, b"`");
+    push_said_number(out, b" is declared in line ", found.line);
+    push_said(out, b" of the listing, as `", found.keyword, b"`\n");
 }
 
 /// Adds where a name is declared.
-fn push_declared(
-    out: &mut Vec<u8>,
-    name: &[u8],
-    found: Option<Declared<'_>>,
-) -> Result<(), AllocError>
-    ensures { OnOk result (out.new.items ≡ out.old.items
-        ++ declared_text name.now (option_map view_declared found.entry)) }
+fn push_declared(out: &mut Draft, name: &[u8], found: Option<Declared<'_>>)
+    ensures { Adds out.old out.new (declared_text name.now (option_map view_declared found.entry)) }
 {
     match found {
         Some(found) => push_place(out, name, found),
-        None => push_text(out, b"this name is declared before\n"),
+        None => out.push(b"this name is declared before\n"),
     }
 }
 
 /// Adds where the name at a token is declared.
 fn push_again(
     alloc: Global,
-    out: &mut Vec<u8>,
+    out: &mut Draft,
     part: &Part<'_>,
     token: Option<PlacedToken<'_>>,
 ) -> Result<(), AllocError>
-    ensures { OnOk result (out.new.items ≡ out.old.items
-        ++ again_text (view_part part.now) (option_map view_placed_token token.entry)) }
+    ensures { OnOk result (Adds out.old out.new
+        (again_text (view_part part.now) (option_map view_placed_token token.entry))) }
 {
     let Some(token) = token else {
         return Ok(());
     };
     let name = letters_of(&token.token);
     let found = declared_at(alloc, name, part.text)?;
-    push_declared(out, name, found)
+    push_declared(out, name, found);
+    Ok(())
 }
 
 /// Adds what is said of a name that is declared before.
-#[tactic(auto, using(snap_text::proofs::Texts::joined), unfolding(crate::specs::Explanation::again_spot))]
+#[tactic(auto, unfolding(crate::specs::Explanation::again_spot))]
 fn push_again_spot(
     alloc: Global,
-    out: &mut Vec<u8>,
+    out: &mut Draft,
     part: &Part<'_>,
     line: u64,
 ) -> Result<(), AllocError>
-    ensures { OnOk result (out.new.items ≡ out.old.items
-        ++ again_spot (view_part part.now) line) }
+    ensures { OnOk result (Adds out.old out.new (again_spot (view_part part.now) line)) }
 {
     let known = words_before(alloc, line, part.text)?;
     let tokens = placed_line(alloc, part, line)?;
     let token = first_again(known, tokens.as_slice())?;
-    push_token_spot(out, part, line, token, b"")?;
+    push_token_spot(out, part, line, token, b"");
     push_again(alloc, out, part, token)
 }
 
 /// Adds that a number is not above the one before.
-#[tactic(auto, using(snap_text::proofs::Texts::joined), unfolding(crate::specs::Explanation::rising_text))]
-fn push_rising(out: &mut Vec<u8>, number: u64, last: Numbered) -> Result<(), AllocError>
-    ensures { OnOk result (out.new.items ≡ out.old.items ++ rising_text number last) }
+#[tactic(auto, unfolding(crate::specs::Explanation::rising_text))]
+fn push_rising(out: &mut Draft, number: u64, last: Numbered)
+    ensures { Adds out.old out.new (rising_text number last) }
 {
-    push_said_number(out, b"the numbers of lines rise: number ", number)?;
-    push_said_number(out, b" comes after line ", last.line)?;
-    push_said_number(out, b" of the listing, which has number ", last.number)?;
-    push_text(out, b"\n")
+    push_said_number(out, b"the numbers of lines rise: number ", number);
+    push_said_number(out, b" comes after line ", last.line);
+    push_said_number(out, b" of the listing, which has number ", last.number);
+    out.push(b"\n");
 }
 
 /// The number at a token.
@@ -455,37 +436,38 @@ fn number_at_token(token: Option<PlacedToken<'_>>) -> u64
 }
 
 /// Adds what is said of a number that is not above the one before.
-#[tactic(auto, using(snap_text::proofs::Texts::joined), unfolding(crate::specs::Explanation::rising_spot))]
+#[tactic(auto, unfolding(crate::specs::Explanation::rising_spot))]
 fn push_rising_spot(
     alloc: Global,
-    out: &mut Vec<u8>,
+    out: &mut Draft,
     part: &Part<'_>,
     line: u64,
 ) -> Result<(), AllocError>
-    ensures { OnOk result (out.new.items ≡ out.old.items
-        ++ rising_spot (view_part part.now) line) }
+    ensures { OnOk result (Adds out.old out.new (rising_spot (view_part part.now) line)) }
 {
     let token = token_at(alloc, part, line, 0)?;
     let last = last_before(alloc, line, part.text)?;
-    push_token_spot(out, part, line, token, b"")?;
-    push_rising(out, number_at_token(token), last)
+    push_token_spot(out, part, line, token, b"");
+    push_rising(out, number_at_token(token), last);
+    Ok(())
 }
 
 /// Adds what is said of a target that is no line.
-#[tactic(auto, using(snap_text::proofs::Texts::joined), unfolding(crate::specs::Explanation::listing_explained))]
 fn push_leading_spot(
     alloc: Global,
-    out: &mut Vec<u8>,
+    out: &mut Draft,
     part: &Part<'_>,
     number: u64,
 ) -> Result<(), AllocError>
-    ensures { OnOk result (out.new.items ≡ out.old.items
-        ++ listing_explained (view_part part.now) (NoSuchLine number)) }
+    ensures { OnOk result (Adds out.old out.new
+        (leading_spot (view_part part.now) number
+        (leading_line number (text_lines part.now.text.now)))) }
 {
     let line = leading_line(alloc, number, part.text)?;
     let tokens = placed_line(alloc, part, line)?;
     let token = first_led(number, tokens.as_slice());
-    push_token_spot(out, part, line, token, b"no line has this number\n")
+    push_token_spot(out, part, line, token, b"no line has this number\n");
+    Ok(())
 }
 
 /// The first token behind the first one that may not be declared as a name.
@@ -500,19 +482,20 @@ fn first_bad_behind<'a>(tokens: &[PlacedToken<'a>]) -> Option<PlacedToken<'a>>
 }
 
 /// Adds what is said of a name that may not be declared.
-#[tactic(auto, using(snap_text::proofs::Texts::joined), unfolding(crate::specs::Explanation::listing_explained))]
 fn push_bad_spot(
     alloc: Global,
-    out: &mut Vec<u8>,
+    out: &mut Draft,
     part: &Part<'_>,
     line: u64,
 ) -> Result<(), AllocError>
-    ensures { OnOk result (out.new.items ≡ out.old.items
-        ++ listing_explained (view_part part.now) (BadName line)) }
+    ensures { OnOk result (Adds out.old out.new
+        (token_spot (view_part part.now) line
+        (first_such is_bad (drop 1 (placed_line (view_part part.now) line))) BAD_NAME.now)) }
 {
     let tokens = placed_line(alloc, part, line)?;
     let token = first_bad_behind(tokens.as_slice());
-    push_token_spot(out, part, line, token, BAD_NAME)
+    push_token_spot(out, part, line, token, BAD_NAME);
+    Ok(())
 }
 
 /// What is said of a name that may not be declared.
@@ -521,47 +504,48 @@ const BAD_NAME: &[u8] = b"a name has at most eight letters, and is no reserved w
 /// Adds what is said of a line that is refused at its first token.
 fn push_first_spot(
     alloc: Global,
-    out: &mut Vec<u8>,
+    out: &mut Draft,
     part: &Part<'_>,
     line: u64,
     said: &[u8],
 ) -> Result<(), AllocError>
-    ensures { OnOk result (out.new.items ≡ out.old.items
-        ++ token_spot (view_part part.now) line (nth_token 0 (placed_line (view_part part.now) line)) said.now) }
+    ensures { OnOk result (Adds out.old out.new
+        (token_spot (view_part part.now) line (nth_token 0 (placed_line
+        (view_part part.now) line)) said.now)) }
 {
     let token = token_at(alloc, part, line, 0)?;
-    push_token_spot(out, part, line, token, said)
+    push_token_spot(out, part, line, token, said);
+    Ok(())
 }
 
 /// Adds what is said of a header line that is not the one expected.
-#[tactic(auto, using(snap_text::proofs::Texts::joined), unfolding(crate::specs::Explanation::listing_explained))]
-fn push_header(
-    alloc: Global,
-    out: &mut Vec<u8>,
-    part: &Part<'_>,
-    line: u64,
-) -> Result<(), AllocError>
-    ensures { OnOk result (out.new.items ≡ out.old.items
-        ++ listing_explained (view_part part.now) (BadHeader line)) }
+#[tactic(auto, unfolding(crate::specs::Explanation::listing_explained))]
+fn push_header(alloc: Global, out: &mut Draft, part: &Part<'_>, line: u64) -> Result<(), AllocError>
+    ensures { OnOk result (Adds out.old out.new
+        (listing_explained (view_part part.now) (BadHeader line))) }
 {
     let header = header_at(alloc, line, part.text)?;
     push_form(alloc, out, part, LineSort::Header(header), line)
 }
 
+/// What is said of a listing with too many names or lines.
+const TOO_MANY: &[u8] = b"a listing has at most 32 names and 200 lines\n";
+
 /// Adds what is said of a refused listing.
-#[tactic(auto, using(snap_text::proofs::Texts::joined), unfolding(crate::specs::Explanation::listing_explained))]
+#[tactic(auto, unfolding(crate::specs::Explanation::listing_explained))]
 fn push_listing(
     alloc: Global,
-    out: &mut Vec<u8>,
+    out: &mut Draft,
     part: &Part<'_>,
     refusal: &ListingRefusal,
 ) -> Result<(), AllocError>
-    ensures { OnOk result (out.new.items ≡ out.old.items
-        ++ listing_explained (view_part part.now) refusal.now) }
+    ensures { OnOk result (Adds out.old out.new
+        (listing_explained (view_part part.now) refusal.now)) }
 {
     match refusal {
         ListingRefusal::TooLong => {
-            push_text(out, b"the text of a listing has at most 65536 bytes\n")
+            out.push(b"the text of a listing has at most 65536 bytes\n");
+            Ok(())
         }
         ListingRefusal::BadHeader(line) => push_header(alloc, out, part, *line),
         ListingRefusal::BadLine(line) => push_form(alloc, out, part, LineSort::Numbered, *line),
@@ -571,13 +555,10 @@ fn push_listing(
         }
         ListingRefusal::NameTwice(line) => push_again_spot(alloc, out, part, *line),
         ListingRefusal::NoSuchLine(target) => push_leading_spot(alloc, out, part, *target),
-        ListingRefusal::TooMany(line) => push_token_spot(
-            out,
-            part,
-            *line,
-            None,
-            b"a listing has at most 32 names and 200 lines\n",
-        ),
+        ListingRefusal::TooMany(line) => {
+            push_token_spot(out, part, *line, None, TOO_MANY);
+            Ok(())
+        }
         ListingRefusal::BadName(line) => push_bad_spot(alloc, out, part, *line),
     }
 }
@@ -600,19 +581,22 @@ const NO_FIT: &[u8] =
     b"registers of kind seq and bit have one word for each process: `shape N N`\n";
 
 /// Adds what is said of a refused schedule.
-#[tactic(auto, using(snap_text::proofs::Texts::joined), unfolding(crate::specs::Explanation::schedule_explained))]
+#[tactic(auto, unfolding(crate::specs::Explanation::schedule_explained))]
 fn push_schedule(
     alloc: Global,
-    out: &mut Vec<u8>,
+    out: &mut Draft,
     layout: Layout,
     part: &Part<'_>,
     refusal: &ScheduleRefusal,
 ) -> Result<(), AllocError>
-    ensures { OnOk result (out.new.items ≡ out.old.items
-        ++ schedule_explained layout (view_part part.now) refusal.now) }
+    ensures { OnOk result (Adds out.old out.new
+        (schedule_explained layout (view_part part.now) refusal.now)) }
 {
     match refusal {
-        ScheduleRefusal::TooLong => push_text(out, b"a schedule has at most 4194304 bytes\n"),
+        ScheduleRefusal::TooLong => {
+            out.push(b"a schedule has at most 4194304 bytes\n");
+            Ok(())
+        }
         ScheduleRefusal::BadShape => {
             let line = first_number(alloc, part.text)?;
             push_form(alloc, out, part, LineSort::Shape, line)
@@ -632,48 +616,50 @@ fn push_schedule(
 }
 
 /// Adds what is said of a shape that does not fit the kind.
-#[tactic(auto, using(snap_text::proofs::Texts::joined), unfolding(crate::specs::Explanation::shape_explained))]
-fn push_shape(alloc: Global, out: &mut Vec<u8>, part: &Part<'_>) -> Result<(), AllocError>
-    ensures { OnOk result (out.new.items ≡ out.old.items
-        ++ shape_explained (view_part part.now) (first_number (text_lines part.now.text.now))) }
+fn push_shape(alloc: Global, out: &mut Draft, part: &Part<'_>) -> Result<(), AllocError>
+    ensures { OnOk result (Adds out.old out.new
+        (token_spot (view_part part.now) (first_number (text_lines part.now.text.now))
+        (nth_token 2 (placed_line (view_part part.now)
+        (first_number (text_lines part.now.text.now)))) NO_FIT.now)) }
 {
     let line = first_number(alloc, part.text)?;
     let token = token_at(alloc, part, line, 2)?;
-    push_token_spot(out, part, line, token, NO_FIT)
+    push_token_spot(out, part, line, token, NO_FIT);
+    Ok(())
 }
 
 /// Adds what is said of refused commands.
-#[tactic(auto, using(snap_text::proofs::Texts::joined), unfolding(crate::specs::Explanation::commands_explained))]
+#[tactic(auto, unfolding(crate::specs::Explanation::commands_explained))]
 fn push_commands(
     alloc: Global,
-    out: &mut Vec<u8>,
+    out: &mut Draft,
     part: &Part<'_>,
     refusal: &CommandRefusal,
 ) -> Result<(), AllocError>
-    ensures { OnOk result (out.new.items ≡ out.old.items
-        ++ commands_explained (view_part part.now) refusal.now) }
+    ensures { OnOk result (Adds out.old out.new
+        (commands_explained (view_part part.now) refusal.now)) }
 {
     match refusal {
         CommandRefusal::BadCommand(line) => push_form(alloc, out, part, LineSort::Command, *line),
-        CommandRefusal::TooLong => push_text(
-            out,
-            b"there are at most 10000 commands, in 1048576 bytes\n",
-        ),
+        CommandRefusal::TooLong => {
+            out.push(b"there are at most 10000 commands, in 1048576 bytes\n");
+            Ok(())
+        }
         _ => Ok(()),
     }
 }
 
 /// Adds what is said of a refused part.
-#[tactic(auto, using(snap_text::proofs::Texts::joined), unfolding(crate::specs::Explanation::part_explained))]
+#[tactic(auto, unfolding(crate::specs::Explanation::part_explained, crate::specs::Explanation::shape_explained))]
 fn push_part(
     alloc: Global,
-    out: &mut Vec<u8>,
+    out: &mut Draft,
     layout: Layout,
     part: &Part<'_>,
     refusal: &Refusal,
 ) -> Result<(), AllocError>
-    ensures { OnOk result (out.new.items ≡ out.old.items
-        ++ part_explained layout (view_part part.now) refusal.now) }
+    ensures { OnOk result (Adds out.old out.new
+        (part_explained layout (view_part part.now) refusal.now)) }
 {
     match refusal {
         Refusal::Listing(refusal) => push_listing(alloc, out, part, refusal),
@@ -684,8 +670,39 @@ fn push_part(
     }
 }
 
+/// Adds what is said of a refused input behind the line that refuses it.
+#[tactic(auto, unfolding(crate::specs::Explanation::explanation))]
+fn push_explanation(
+    alloc: Global,
+    out: &mut Draft,
+    layout: Layout,
+    input: &[u8],
+    refusal: &Refusal,
+) -> Result<(), AllocError>
+    ensures { OnOk result (Adds out.old out.new (explanation layout input.now refusal.now)) }
+{
+    match refusal {
+        Refusal::InputTooLong => {
+            out.push(b"an input has at most 16777216 bytes\n");
+            Ok(())
+        }
+        Refusal::WrongParts(_) => {
+            push_parts(alloc, out, layout, input)?;
+            push_order_advice(alloc, out, layout, input, refusal)
+        }
+        Refusal::Image(_) => {
+            out.push(b"an image is taken, as `snaplab assemble` writes it\n");
+            Ok(())
+        }
+        _ => {
+            let part = part_place(alloc, layout, input, refusal)?;
+            push_part(alloc, out, layout, &part, refusal)?;
+            push_order_advice(alloc, out, layout, input, refusal)
+        }
+    }
+}
+
 /// What is said of a refused input behind the line that refuses it.
-#[tactic(auto, using(snap_text::proofs::Texts::joined), unfolding(crate::specs::Explanation::explanation))]
 pub fn explanation(
     alloc: Global,
     layout: Layout,
@@ -694,22 +711,7 @@ pub fn explanation(
 ) -> Result<Vec<u8>, AllocError>
     ensures { IfOk result (λ text. text.items ≡ explanation layout input.now refusal.now) }
 {
-    let mut out = Vec::new(alloc);
-    match refusal {
-        Refusal::InputTooLong => push_text(&mut out, b"an input has at most 16777216 bytes\n")?,
-        Refusal::WrongParts(_) => {
-            push_parts(alloc, &mut out, layout, input)?;
-            push_order_advice(alloc, &mut out, layout, input, refusal)?;
-        }
-        Refusal::Image(_) => push_text(
-            &mut out,
-            b"an image is taken, as `snaplab assemble` writes it\n",
-        )?,
-        _ => {
-            let part = part_place(alloc, layout, input, refusal)?;
-            push_part(alloc, &mut out, layout, &part, refusal)?;
-            push_order_advice(alloc, &mut out, layout, input, refusal)?;
-        }
-    }
-    Ok(out)
+    let mut out = Draft::new(alloc);
+    push_explanation(alloc, &mut out, layout, input, refusal)?;
+    out.finish()
 }

@@ -1,7 +1,8 @@
 //! What is said of the parts of an input: of their number, and of one that stands in another one's
 //! place.
-ghost use Rattle.std.specs.Prelude.{◌≡◌, ◌++◌, IfOk, OnOk, map, option_map, take};
+ghost use Rattle.std.specs.Prelude.{◌≡◌, IfOk, OnOk, map, option_map, take};
 ghost use Rattle.snap_semantics.specs.Token.{begins_with, lines_of, text_lines};
+ghost use Rattle.snap_draft.specs.Drafted.{Adds};
 ghost use Rattle.snap_input.specs.Parts.{parts_of};
 ghost use Rattle.snap_text.specs.Tokens.{view_tokens};
 ghost use Rattle.snap_explanation.specs.Inputs.{parts_words, lines_behind, separators};
@@ -15,11 +16,12 @@ ghost use Rattle.snap_explanation.specs.Inputs.{formless_line, whole_advice, ord
 use crate::layout::{Layout, Texts};
 use crate::part::{lines_through, part_at};
 use crate::spot::line_of;
+use snap_draft::Draft;
 use snap_expected::is_word;
 use snap_input::split_parts;
 use snap_semantics::{ListingRefusal, Refusal};
 use snap_tasks::Subject;
-use snap_text::{TextLines, Token, push_numbers, push_text};
+use snap_text::{TextLines, Token};
 use std::alloc::{AllocError, Global};
 
 /// The most lines `%` that are told.
@@ -75,49 +77,57 @@ fn first_lines(lines: &[u64]) -> &[u64]
 
 /// Adds what stands before the lines `%`.
 #[tactic(auto, unfolding(crate::specs::Inputs::separators_front))]
-fn push_separators_front(out: &mut Vec<u8>) -> Result<(), AllocError>
-    ensures { OnOk result (out.new.items ≡ out.old.items ++ separators_front) }
+fn push_separators_front(out: &mut Draft)
+    ensures { Adds out.old out.new (separators_front) }
 {
-    push_text(out, b"\nthe lines `%` of the input, the first eight:")
+    out.push(b"\nthe lines `%` of the input, the first eight:");
 }
 
 /// Adds the lines `%` of an input, the first ones of them.
-#[tactic(auto, using(snap_text::proofs::Texts::joined), unfolding(crate::specs::Inputs::some_separators))]
-fn push_some_separators(out: &mut Vec<u8>, lines: &[u64]) -> Result<(), AllocError>
-    ensures { OnOk result (out.new.items ≡ out.old.items ++ some_separators lines.now) }
+#[tactic(auto, unfolding(crate::specs::Inputs::some_separators))]
+fn push_some_separators(out: &mut Draft, lines: &[u64])
+    ensures { Adds out.old out.new (some_separators lines.now) }
 {
-    push_separators_front(out)?;
-    push_numbers(out, first_lines(lines))?;
-    push_text(out, b"\n")
+    push_separators_front(out);
+    out.push_numbers(first_lines(lines));
+    out.push(b"\n");
 }
 
 /// Adds where the lines `%` of an input are.
-#[tactic(auto, using(snap_text::proofs::Texts::joined), unfolding(crate::specs::Inputs::separator_words))]
-fn push_separators(out: &mut Vec<u8>, lines: &[u64]) -> Result<(), AllocError>
-    ensures { OnOk result (out.new.items ≡ out.old.items ++ separator_words lines.now) }
+#[tactic(auto, unfolding(crate::specs::Inputs::separator_words))]
+fn push_separators(out: &mut Draft, lines: &[u64])
+    ensures { Adds out.old out.new (separator_words lines.now) }
 {
     if lines.len() == 0 {
-        push_text(out, b"\nno line of the input is `%` alone\n")
+        out.push(b"\nno line of the input is `%` alone\n")
     } else {
         push_some_separators(out, lines)
     }
 }
 
+/// The lines behind the parts of an input.
+fn part_ends(alloc: Global, input: &[u8]) -> Result<Vec<u64>, AllocError>
+    ensures { IfOk result (λ lines. lines.items ≡ lines_behind 0 (parts_of input.now)) }
+{
+    let parts = split_parts(alloc, input)?;
+    lines_behind(alloc, parts.as_slice())
+}
+
 /// Adds how many parts are taken, and where the lines `%` are.
-#[tactic(auto, using(snap_text::proofs::Texts::joined), unfolding(crate::specs::Inputs::parts_explained))]
+#[tactic(auto, unfolding(crate::specs::Inputs::parts_explained))]
 pub fn push_parts(
     alloc: Global,
-    out: &mut Vec<u8>,
+    out: &mut Draft,
     layout: Layout,
     input: &[u8],
 ) -> Result<(), AllocError>
-    ensures { OnOk result (out.new.items ≡ out.old.items ++ parts_explained layout input.now) }
+    ensures { OnOk result (Adds out.old out.new (parts_explained layout input.now)) }
 {
-    push_text(out, parts_words(layout))?;
-    let parts = split_parts(alloc, input)?;
-    let lines = lines_behind(alloc, parts.as_slice())?;
+    let lines = part_ends(alloc, input)?;
     let lines = lines.as_slice();
-    push_separators(out, &lines[..lines.len().saturating_sub(1)])
+    out.push(parts_words(layout));
+    push_separators(out, &lines[..lines.len().saturating_sub(1)]);
+    Ok(())
 }
 
 /// Whether the first token of a line is this word.
@@ -258,13 +268,13 @@ fn order_advice(
 /// Adds what is said of a part that stands in another one's place.
 pub fn push_order_advice(
     alloc: Global,
-    out: &mut Vec<u8>,
+    out: &mut Draft,
     layout: Layout,
     input: &[u8],
     refusal: &Refusal,
 ) -> Result<(), AllocError>
-    ensures { OnOk result (out.new.items ≡ out.old.items
-        ++ order_advice layout input.now refusal.now) }
+    ensures { OnOk result (Adds out.old out.new (order_advice layout input.now refusal.now)) }
 {
-    push_text(out, order_advice(alloc, layout, input, refusal)?)
+    out.push(order_advice(alloc, layout, input, refusal)?);
+    Ok(())
 }

@@ -1,8 +1,9 @@
 //! The first token of a numbered line that is not as the kind and the declared names of the listing
 //! have it, and what is said of it.
-ghost use Rattle.std.specs.Prelude.{◌≡◌, ◌++◌, Ok, Err, IfOk, IfErr, OnOk, map, option_map};
+ghost use Rattle.std.specs.Prelude.{◌≡◌, Ok, Err, IfOk, IfErr, map, option_map};
 ghost use Rattle.snap_semantics.specs.Spelling.{kind_keyword};
 ghost use Rattle.snap_text.specs.Tokens.{view_token};
+ghost use Rattle.snap_draft.specs.Drafted.{Adds};
 ghost use Rattle.snap_expected.specs.Steps.{view_placed_token};
 ghost use Rattle.snap_explanation.specs.Misuse.{is_right, step_at, first_wrong, wrong_in_line};
 ghost use Rattle.snap_explanation.specs.Misuse.{letters_of, sort_words, declared_words, usage};
@@ -18,11 +19,12 @@ use crate::names::nearest;
 use crate::said::push_said;
 use crate::sorts::{Names, is_sort, of_sort, sort_of};
 use crate::token_uses::{Slot, Use, slot_after, use_at};
+use snap_draft::Draft;
 use snap_expected::PlacedToken;
 use snap_listing_forms::line_form;
 use snap_listing_rules::{has_bank, has_field, has_handshakes, has_view, same_kind};
 use snap_semantics::{Instr, Sort};
-use snap_text::{Token, push_text};
+use snap_text::Token;
 use snap_words::KindTag;
 use std::alloc::{AllocError, Global};
 
@@ -182,32 +184,30 @@ fn some_name<'a>(word: &[u8], names: &[&'a [u8]]) -> Option<&'a [u8]>
 }
 
 /// Adds that the sort belongs here, and a name of it, where there is one.
-fn push_some(out: &mut Vec<u8>, name: Option<&[u8]>) -> Result<(), AllocError>
-    ensures { OnOk result (out.new.items ≡ out.old.items
-        ++ some_words (option_map (λ w. w.now) name.entry)) }
+fn push_some(out: &mut Draft, name: Option<&[u8]>)
+    ensures { Adds out.old out.new (some_words (option_map (λ w. w.now) name.entry)) }
 {
     match name {
         Some(name) => push_said(out, b" belongs here: `", name, b"` is one\n"),
-        None => push_text(out, b" belongs here: none is declared\n"),
+        None => out.push(b" belongs here: none is declared\n"),
     }
 }
 
 /// Adds what is said of a name that is of another sort, or of none.
-#[tactic(auto, using(snap_text::proofs::Texts::joined), unfolding(crate::specs::Misuse::name_text))]
+#[tactic(auto, unfolding(crate::specs::Misuse::name_text))]
 fn push_name_text(
-    out: &mut Vec<u8>,
+    out: &mut Draft,
     names: &Names<'_>,
     word: &[u8],
     wanted: Sort,
     found: Option<Sort>,
-) -> Result<(), AllocError>
-    ensures { OnOk result (out.new.items ≡ out.old.items
-        ++ name_text (view_names names.now) word.now wanted found) }
+)
+    ensures { Adds out.old out.new (name_text (view_names names.now) word.now wanted found) }
 {
-    push_said(out, b"`", word, b"` is ")?;
-    push_said(out, declared_words(found), b"; ", sort_words(wanted))?;
-    push_some(out, some_name(word, of_sort(names, wanted)))?;
-    push_advice(out, usage(found))
+    push_said(out, b"`", word, b"` is ");
+    push_said(out, declared_words(found), b"; ", sort_words(wanted));
+    push_some(out, some_name(word, of_sort(names, wanted)));
+    push_advice(out, usage(found));
 }
 
 /// The name of a kind.
@@ -257,57 +257,44 @@ fn tuple_words(kind: KindTag) -> &'static [u8]
 }
 
 /// Adds what registers or words of a kind are or have, and that they have not what a word says.
-#[tactic(auto, using(snap_text::proofs::Texts::joined), unfolding(crate::specs::Misuse::lack_text))]
-fn push_lack(
-    out: &mut Vec<u8>,
-    front: &[u8],
-    name: &[u8],
-    middle: &[u8],
-    have: &[u8],
-    word: &[u8],
-) -> Result<(), AllocError>
-    ensures { OnOk result (out.new.items ≡ out.old.items
-        ++ lack_text front.now name.now middle.now have.now word.now) }
+#[tactic(auto, unfolding(crate::specs::Misuse::lack_text))]
+fn push_lack(out: &mut Draft, front: &[u8], name: &[u8], middle: &[u8], have: &[u8], word: &[u8])
+    ensures { Adds out.old out.new (lack_text front.now name.now middle.now have.now word.now) }
 {
-    push_said(out, front, name, middle)?;
-    push_said(out, have, word, b"`\n")
+    push_said(out, front, name, middle);
+    push_said(out, have, word, b"`\n");
 }
 
 /// Adds that registers of a kind have no such bank.
-fn push_bank_text(out: &mut Vec<u8>, kind: KindTag, word: &[u8]) -> Result<(), AllocError>
-    ensures { OnOk result (out.new.items ≡ out.old.items ++ bank_text kind word.now) }
+fn push_bank_text(out: &mut Draft, kind: KindTag, word: &[u8])
+    ensures { Adds out.old out.new (bank_text kind word.now) }
 {
     let name = kind_keyword(kind);
     let have = banks_words(kind);
-    push_lack(out, b"registers of kind ", name, b" are ", have, word)
+    push_lack(out, b"registers of kind ", name, b" are ", have, word);
 }
 
 /// Adds that words of a kind have no such field.
-fn push_field_text(out: &mut Vec<u8>, kind: KindTag, word: &[u8]) -> Result<(), AllocError>
-    ensures { OnOk result (out.new.items ≡ out.old.items ++ field_text kind word.now) }
+fn push_field_text(out: &mut Draft, kind: KindTag, word: &[u8])
+    ensures { Adds out.old out.new (field_text kind word.now) }
 {
     let name = kind_keyword(kind);
     let have = fields_words(kind);
-    push_lack(out, b"words of kind ", name, b" have ", have, word)
+    push_lack(out, b"words of kind ", name, b" have ", have, word);
 }
 
 /// Adds what the tuple of a kind is.
-#[tactic(auto, using(snap_text::proofs::Texts::joined), unfolding(crate::specs::Misuse::tuple_text))]
-fn push_tuple_text(out: &mut Vec<u8>, kind: KindTag) -> Result<(), AllocError>
-    ensures { OnOk result (out.new.items ≡ out.old.items ++ tuple_text kind) }
+#[tactic(auto, unfolding(crate::specs::Misuse::tuple_text))]
+fn push_tuple_text(out: &mut Draft, kind: KindTag)
+    ensures { Adds out.old out.new (tuple_text kind) }
 {
-    push_said(out, b"a tuple of kind ", kind_keyword(kind), b" is ")?;
-    push_text(out, tuple_words(kind))
+    push_said(out, b"a tuple of kind ", kind_keyword(kind), b" is ");
+    out.push(tuple_words(kind));
 }
 
 /// Adds what is said of a token that is not right.
-pub fn push_misuse(
-    out: &mut Vec<u8>,
-    names: &Names<'_>,
-    misuse: &Misuse<'_>,
-) -> Result<(), AllocError>
-    ensures { OnOk result (out.new.items ≡ out.old.items
-        ++ misuse_text (view_names names.now) (view_misuse misuse.now)) }
+pub fn push_misuse(out: &mut Draft, names: &Names<'_>, misuse: &Misuse<'_>)
+    ensures { Adds out.old out.new (misuse_text (view_names names.now) (view_misuse misuse.now)) }
 {
     let word = letters_of(&misuse.token.token);
     match misuse.spoken {

@@ -1,25 +1,24 @@
 //! Texts put together.
-ghost use Rattle.std.specs.Prelude.{◌≡◌, ◌++◌, OnOk};
+ghost use Rattle.snap_draft.specs.Drafted.{Adds};
 ghost use Rattle.snap_explanation.specs.Said.{said, said_number};
 
-use snap_text::{push_number, push_text};
-use std::alloc::AllocError;
+use snap_draft::Draft;
 
 /// Adds three pieces, one behind the other.
-#[tactic(auto, using(snap_text::proofs::Texts::joined), unfolding(crate::specs::Said::said))]
-pub fn push_said(out: &mut Vec<u8>, one: &[u8], two: &[u8], three: &[u8]) -> Result<(), AllocError>
-    ensures { OnOk result (out.new.items ≡ out.old.items ++ said one.now two.now three.now) }
+#[tactic(auto, unfolding(crate::specs::Said::said))]
+pub fn push_said(out: &mut Draft, one: &[u8], two: &[u8], three: &[u8])
+    ensures { Adds out.old out.new (said one.now two.now three.now) }
 {
-    push_text(out, one)?;
-    push_text(out, two)?;
-    push_text(out, three)
+    out.push(one);
+    out.push(two);
+    out.push(three);
 }
 
 /// Adds a number behind a piece.
-#[tactic(auto, using(snap_text::proofs::Texts::joined), unfolding(crate::specs::Said::said_number))]
-pub fn push_said_number(out: &mut Vec<u8>, piece: &[u8], number: u64) -> Result<(), AllocError>
-    ensures { OnOk result (out.new.items ≡ out.old.items ++ said_number piece.now number) }
+#[tactic(auto, unfolding(crate::specs::Said::said_number))]
+pub fn push_said_number(out: &mut Draft, piece: &[u8], number: u64)
+    ensures { Adds out.old out.new (said_number piece.now number) }
 {
-    push_text(out, piece)?;
-    push_number(out, number)
+    out.push(piece);
+    out.push_number(number);
 }

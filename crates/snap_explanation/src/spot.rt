@@ -1,8 +1,9 @@
 //! `push_spot`: shows a place of a refused input: where it is, its line, and a mark under its
 //! column.
-ghost use Rattle.std.specs.Prelude.{◌≡◌, ◌≤◌, ◌<◌, ◌+◌, ◌-◌, ◌^◌, ◌++◌, ℕ, IfOk, OnOk, length, map};
+ghost use Rattle.std.specs.Prelude.{◌≡◌, ◌≤◌, ◌<◌, length};
 ghost use Rattle.std.specs.Prelude.{replicate, option_map, take, drop, ◌∷◌};
 ghost use Rattle.snap_semantics.specs.Token.{lines_of};
+ghost use Rattle.snap_draft.specs.Drafted.{Adds};
 ghost use Rattle.snap_expected.specs.Steps.{view_placed_token};
 ghost use Rattle.snap_explanation.specs.Spot.{nth_line, comment_start, piece_at, column_of};
 ghost use Rattle.snap_explanation.specs.Spot.{shown_byte, shown, left_out, part_name_text};
@@ -11,9 +12,8 @@ ghost use Rattle.snap_explanation.specs.Spot.{column_words, marked, window, mark
 ghost use Rattle.snap_explanation.specs.Views.{view_part};
 
 use crate::part::{Part, PartName};
+use snap_draft::Draft;
 use snap_expected::{PlacedToken, piece_len};
-use snap_text::{push_number, push_text};
-use std::alloc::{AllocError, Global};
 
 /// The most bytes of a line that are shown.
 const WINDOW: usize = 72;
@@ -84,43 +84,38 @@ fn shown_byte(byte: u8) -> u8
 }
 
 /// Adds bytes as they are shown.
-#[tactic(auto, using(snap_text::proofs::Texts::joined))]
-pub fn push_shown(out: &mut Vec<u8>, bytes: &[u8]) -> Result<(), AllocError>
-    ensures { OnOk result (out.new.items ≡ out.old.items ++ shown bytes.now) }
+pub fn push_shown(out: &mut Draft, bytes: &[u8])
+    ensures { Adds out.old out.new (shown bytes.now) }
 {
     for byte in bytes {
-        out.push(shown_byte(*byte))?;
+        out.push(&[shown_byte(*byte)]);
     }
-    Ok(())
 }
 
 /// Adds spaces.
-#[tactic(auto, using(snap_text::proofs::Texts::joined))]
-fn push_spaces(out: &mut Vec<u8>, count: usize) -> Result<(), AllocError>
-    ensures { OnOk result (out.new.items ≡ out.old.items ++ replicate count 32) }
+fn push_spaces(out: &mut Draft, count: usize)
+    ensures { Adds out.old out.new (replicate count 32) }
 {
     let mut left = count;
     while left > 0 {
-        out.push(b' ')?;
+        out.push(b" ");
         left -= 1;
     }
-    Ok(())
 }
 
 /// Adds what a part is.
-#[tactic(auto, using(snap_text::proofs::Texts::joined))]
-fn push_part_name(out: &mut Vec<u8>, name: PartName) -> Result<(), AllocError>
-    ensures { OnOk result (out.new.items ≡ out.old.items ++ part_name_text name) }
+fn push_part_name(out: &mut Draft, name: PartName)
+    ensures { Adds out.old out.new (part_name_text name) }
 {
     match name {
-        PartName::Listing => push_text(out, b"the listing"),
-        PartName::Schedule => push_text(out, b"the schedule"),
+        PartName::Listing => out.push(b"the listing"),
+        PartName::Schedule => out.push(b"the schedule"),
         PartName::NthSchedule(number) => {
-            push_text(out, b"schedule ")?;
-            push_number(out, number as u64)
+            out.push(b"schedule ");
+            out.push_number(number as u64);
         }
-        PartName::Scripts => push_text(out, b"the scripts"),
-        PartName::Commands => push_text(out, b"the commands"),
+        PartName::Scripts => out.push(b"the scripts"),
+        PartName::Commands => out.push(b"the commands"),
     }
 }
 
@@ -136,112 +131,99 @@ fn line_of_input(before: u64, line: u64) -> u64
 }
 
 /// Adds the line of the input.
-#[tactic(auto, using(snap_text::proofs::Texts::joined), unfolding(crate::specs::Spot::input_words))]
-fn push_input_words(out: &mut Vec<u8>, part: &Part<'_>, line: u64) -> Result<(), AllocError>
-    ensures { OnOk result (out.new.items ≡ out.old.items ++ input_words (view_part part.now) line) }
+#[tactic(auto, unfolding(crate::specs::Spot::input_words))]
+fn push_input_words(out: &mut Draft, part: &Part<'_>, line: u64)
+    ensures { Adds out.old out.new (input_words (view_part part.now) line) }
 {
-    push_text(out, b"line ")?;
-    push_number(out, line_of_input(part.before, line))
+    out.push(b"line ");
+    out.push_number(line_of_input(part.before, line));
 }
 
 /// Adds the line of a part.
-#[tactic(auto, using(snap_text::proofs::Texts::joined), unfolding(crate::specs::Spot::line_words))]
-fn push_line_words(out: &mut Vec<u8>, line: u64) -> Result<(), AllocError>
-    ensures { OnOk result (out.new.items ≡ out.old.items ++ line_words line) }
+#[tactic(auto, unfolding(crate::specs::Spot::line_words))]
+fn push_line_words(out: &mut Draft, line: u64)
+    ensures { Adds out.old out.new (line_words line) }
 {
-    push_text(out, b" of the input, line ")?;
-    push_number(out, line)?;
-    push_text(out, b" of ")
+    out.push(b" of the input, line ");
+    out.push_number(line);
+    out.push(b" of ");
 }
 
 /// Adds where a line of a part stands.
-#[tactic(auto, using(snap_text::proofs::Texts::joined), unfolding(crate::specs::Spot::line_place))]
-fn push_line_place(out: &mut Vec<u8>, part: &Part<'_>, line: u64) -> Result<(), AllocError>
-    ensures { OnOk result (out.new.items ≡ out.old.items ++ line_place (view_part part.now) line) }
+#[tactic(auto, unfolding(crate::specs::Spot::line_place))]
+fn push_line_place(out: &mut Draft, part: &Part<'_>, line: u64)
+    ensures { Adds out.old out.new (line_place (view_part part.now) line) }
 {
-    push_input_words(out, part, line)?;
-    push_line_words(out, line)?;
-    push_part_name(out, part.name)
+    push_input_words(out, part, line);
+    push_line_words(out, line);
+    push_part_name(out, part.name);
 }
 
 /// Adds a line of text around a column.
-#[tactic(auto, using(snap_text::proofs::Texts::joined), unfolding(crate::specs::Spot::window))]
-fn push_window(out: &mut Vec<u8>, line: &[u8], column: usize) -> Result<(), AllocError>
-    ensures { OnOk result (out.new.items ≡ out.old.items ++ window line.now column) }
+#[tactic(auto, unfolding(crate::specs::Spot::window))]
+fn push_window(out: &mut Draft, line: &[u8], column: usize)
+    ensures { Adds out.old out.new (window line.now column) }
 {
-    push_text(out, b"    ")?;
+    out.push(b"    ");
     push_shown(
         out,
         front(behind(line, column.saturating_sub(BEFORE_MARK)), WINDOW),
-    )?;
-    push_text(out, b"\n")
+    );
+    out.push(b"\n");
 }
 
 /// Adds a mark under a column.
-#[tactic(auto, using(snap_text::proofs::Texts::joined), unfolding(crate::specs::Spot::mark))]
-fn push_mark(out: &mut Vec<u8>, column: usize) -> Result<(), AllocError>
-    ensures { OnOk result (out.new.items ≡ out.old.items ++ mark column) }
+#[tactic(auto, unfolding(crate::specs::Spot::mark))]
+fn push_mark(out: &mut Draft, column: usize)
+    ensures { Adds out.old out.new (mark column) }
 {
-    push_text(out, b"    ")?;
+    out.push(b"    ");
     push_spaces(
         out,
         column
             .saturating_sub(1)
             .saturating_sub(column.saturating_sub(BEFORE_MARK)),
-    )?;
-    push_text(out, b"^\n")
+    );
+    out.push(b"^\n");
 }
 
 /// Adds a column.
-#[tactic(auto, using(snap_text::proofs::Texts::joined), unfolding(crate::specs::Spot::column_words))]
-fn push_column_words(out: &mut Vec<u8>, column: usize) -> Result<(), AllocError>
-    ensures { OnOk result (out.new.items ≡ out.old.items ++ column_words column) }
+#[tactic(auto, unfolding(crate::specs::Spot::column_words))]
+fn push_column_words(out: &mut Draft, column: usize)
+    ensures { Adds out.old out.new (column_words column) }
 {
-    push_text(out, b", column ")?;
-    push_number(out, column as u64)?;
-    push_text(out, b":\n")
+    out.push(b", column ");
+    out.push_number(column as u64);
+    out.push(b":\n");
 }
 
 /// Adds a line around a column, marked.
-#[tactic(auto, using(snap_text::proofs::Texts::joined), unfolding(crate::specs::Spot::marked))]
-fn push_marked(out: &mut Vec<u8>, text: &[u8], column: usize) -> Result<(), AllocError>
-    ensures { OnOk result (out.new.items ≡ out.old.items ++ marked text.now column) }
+#[tactic(auto, unfolding(crate::specs::Spot::marked))]
+fn push_marked(out: &mut Draft, text: &[u8], column: usize)
+    ensures { Adds out.old out.new (marked text.now column) }
 {
-    push_window(out, text, column)?;
-    push_mark(out, column)
+    push_window(out, text, column);
+    push_mark(out, column);
 }
 
 /// Adds a place: where it stands, its line, and a mark under its column.
-#[tactic(auto, using(snap_text::proofs::Texts::joined), unfolding(crate::specs::Spot::spot))]
-pub fn push_spot(
-    out: &mut Vec<u8>,
-    part: &Part<'_>,
-    line: u64,
-    text: &[u8],
-    column: usize,
-) -> Result<(), AllocError>
-    ensures { OnOk result (out.new.items ≡ out.old.items
-        ++ spot (view_part part.now) line text.now column) }
+#[tactic(auto, unfolding(crate::specs::Spot::spot))]
+pub fn push_spot(out: &mut Draft, part: &Part<'_>, line: u64, text: &[u8], column: usize)
+    ensures { Adds out.old out.new (spot (view_part part.now) line text.now column) }
 {
-    push_line_place(out, part, line)?;
-    push_column_words(out, column)?;
-    push_marked(out, text, column)
+    push_line_place(out, part, line);
+    push_column_words(out, column);
+    push_marked(out, text, column);
 }
 
 /// Adds a line as a place, where no column of it is one.
-#[tactic(auto, using(snap_text::proofs::Texts::joined), unfolding(crate::specs::Spot::line_spot))]
-pub fn push_line_spot(
-    out: &mut Vec<u8>,
-    part: &Part<'_>,
-    line: u64,
-    text: &[u8],
-) -> Result<(), AllocError>
-    ensures { OnOk result (out.new.items ≡ out.old.items
-        ++ line_spot (view_part part.now) line text.now) }
+#[tactic(auto, unfolding(crate::specs::Spot::line_spot))]
+pub fn push_line_spot(out: &mut Draft, part: &Part<'_>, line: u64, text: &[u8])
+    ensures { Adds out.old out.new (line_spot (view_part part.now) line text.now) }
 {
-    push_line_place(out, part, line)?;
-    push_text(out, b":\n")?;
-    push_window(out, text, 1)
+    push_line_place(out, part, line);
+    out.push(b":\n");
+    push_window(out, text, 1);
 }
 
 /// The first line, without its line feed, and the lines behind it.

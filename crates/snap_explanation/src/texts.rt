@@ -1,13 +1,13 @@
 //! Says what was expected at a place of a refused input, in words, and what was found there.
-ghost use Rattle.std.specs.Prelude.{◌≡◌, ◌++◌, OnOk};
+ghost use Rattle.std.specs.Prelude.{◌≡◌};
+ghost use Rattle.snap_draft.specs.Drafted.{Adds};
 ghost use Rattle.snap_explanation.specs.Texts.{symbol_words, keyword_words, wanted_words};
 ghost use Rattle.snap_explanation.specs.Texts.{expected_words, found_words, expected_line};
 
 use crate::spot::push_shown;
+use snap_draft::Draft;
 use snap_expected::{Keyword, Wanted, may_pass};
 use snap_semantics::{Join, Symbol};
-use snap_text::push_text;
-use std::alloc::AllocError;
 
 fn symbol_words(symbol: Symbol) -> &'static [u8]
     ensures { result.now ≡ symbol_words symbol }
@@ -87,47 +87,42 @@ fn wanted_words(wanted: Wanted) -> &'static [u8]
 }
 
 /// Adds all that may stand next.
-#[tactic(auto, using(snap_text::proofs::Texts::joined))]
-fn push_expected(out: &mut Vec<u8>, wanted: &[Wanted]) -> Result<(), AllocError>
-    ensures { OnOk result (out.new.items ≡ out.old.items ++ expected_words wanted.now) }
+fn push_expected(out: &mut Draft, wanted: &[Wanted])
+    ensures { Adds out.old out.new (expected_words wanted.now) }
 {
     let mut rest = wanted;
     while let [first, behind @ ..] = rest {
-        push_text(out, wanted_words(*first))?;
+        out.push(wanted_words(*first));
         if !may_pass(*first) {
-            return Ok(());
+            return;
         }
-        push_text(out, b", or ")?;
+        out.push(b", or ");
         rest = behind;
     }
-    push_text(out, b"the end of the line")
+    out.push(b"the end of the line");
 }
 
 /// Adds what stands at a place.
-#[tactic(auto, using(snap_text::proofs::Texts::joined))]
-fn push_found(out: &mut Vec<u8>, piece: &[u8]) -> Result<(), AllocError>
-    ensures { OnOk result (out.new.items ≡ out.old.items ++ found_words piece.now) }
+fn push_found(out: &mut Draft, piece: &[u8])
+    ensures { Adds out.old out.new (found_words piece.now) }
 {
     if piece.is_empty() {
-        return push_text(out, b"the end of the line");
+        out.push(b"the end of the line");
+        return;
     }
-    push_text(out, b"`")?;
-    push_shown(out, piece)?;
-    push_text(out, b"`")
+    out.push(b"`");
+    push_shown(out, piece);
+    out.push(b"`");
 }
 
 /// Adds what was expected at a place, and what stands there.
-#[tactic(auto, using(snap_text::proofs::Texts::joined), unfolding(crate::specs::Texts::expected_line))]
-pub fn push_expected_line(
-    out: &mut Vec<u8>,
-    wanted: &[Wanted],
-    piece: &[u8],
-) -> Result<(), AllocError>
-    ensures { OnOk result (out.new.items ≡ out.old.items ++ expected_line wanted.now piece.now) }
+#[tactic(auto, unfolding(crate::specs::Texts::expected_line))]
+pub fn push_expected_line(out: &mut Draft, wanted: &[Wanted], piece: &[u8])
+    ensures { Adds out.old out.new (expected_line wanted.now piece.now) }
 {
-    push_text(out, b"expected ")?;
-    push_expected(out, wanted)?;
-    push_text(out, b"; found ")?;
-    push_found(out, piece)?;
-    push_text(out, b"\n")
+    out.push(b"expected ");
+    push_expected(out, wanted);
+    out.push(b"; found ");
+    push_found(out, piece);
+    out.push(b"\n");
 }

@@ -1,13 +1,12 @@
--- `push_line_words` of snap_explanation (src/spot.rt): the proof of what its contract says.
--- Adds the line of a part.
-use Rattle.std.proofs.Common.{codes}
-use Rattle.std.specs.Prelude.{decimal}
+-- `push_line_words` writes the line of a part, piece after piece, as its definition has it.
+use Rattle.std.proofs.Common.{append_assoc}
 use Rattle.snap_explanation.specs.Spot.{line_words}
-use Rattle.snap_explanation.proofs.Joined.{three_ok}
 use Rattle.snap_explanation.proofs.spot.push_line_words.Goals as goal
 
 pub returns : goal.returns
 unfolding line_words
-returns c =
-    three_ok c.push_text-2.result c.args.out.now.items (codes " of the input, line ") (decimal c.args.line)
-    (codes " of ") _ _ _ c.in_ok-push_text.ensures c.in_ok-push_number.ensures c.push_text-2.ensures
+returns c = λ well.
+    let e3 = c.push-2.ensures well in
+    let e2 = c.push_number.ensures e3.0 in
+    let e1 = c.push.ensures e2.0 in
+    (e1.0, rw (e3.1, e2.1, e1.1) (simp append_assoc))

@@ -1,11 +1,12 @@
 -- `push_expected` of snap_explanation (src/texts.rt): what holds at the head of each of its loops.
 -- Adds all that may stand next.
-use Rattle.std.proofs.Common.{◌≡◌, ◌++◌, length}
+use Rattle.std.proofs.Common.{length}
 use Rattle.snap_explanation.specs.Texts.{expected_words}
+use Rattle.snap_explanation.proofs.Joined.{AddsBut}
 use Rattle.snap_explanation.proofs.texts.push_expected.Given as goal
 
 abbrev pub invariant-loop-rest : goal.invariant-loop-rest
-invariant-loop-rest l = l.out.items ++ expected_words l.rest ≡ l.fn.out.items ++ expected_words l.wanted
+invariant-loop-rest l = AddsBut l.fn.out l.out (expected_words l.rest) (expected_words l.wanted)
 
 abbrev pub decreases-loop-rest : goal.decreases-loop-rest
 decreases-loop-rest l = length l.rest

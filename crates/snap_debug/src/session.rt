@@ -1,5 +1,6 @@
 //! A debugger's session over a listing and a schedule.
-ghost use Rattle.std.specs.Prelude.{◌≡◌, ◌≤◌, ◌-◌, IfOk, None, OnErr, Some, if◌then◌else◌, length};
+ghost use Rattle.std.specs.Prelude.{◌≡◌, ◌<◌, ◌≤◌, ◌-◌, IfOk, None, OnErr, OnOk, Some};
+ghost use Rattle.std.specs.Prelude.{if◌then◌else◌, length};
 ghost use Rattle.snap_semantics.specs.Answers.{Answers};
 ghost use Rattle.snap_report.specs.RunReport.{report_at};
 ghost use Rattle.snap_runs.specs.Run.{run_over};
@@ -12,10 +13,13 @@ ghost use Rattle.snap_debug.specs.Session.{
   checked_breakpoint,
   checked_register,
   has_process,
+  marks_line,
   opened,
   position_text,
   reopened,
+  with_marks,
 };
+ghost use Rattle.snap_debug_checkpoints.specs.Recording.{IsReversible, start};
 ghost use Rattle.snap_debug_commands.specs.declared.command.Command.TheVariants as command;
 
 use crate::marks::Marks;
@@ -72,6 +76,28 @@ impl<K: Kind> Model for Session<K> {
     ghost invariant = { λ s. IsReversible s.recording.run s.here
         × (s.here.current.position ≤ s.recording.reached)
         × (0 < s.here.current.position → start s.here < s.here.current.position) };
+}
+
+/// Brings a machine to a position that is recorded. Where there is no memory for that, it stays.
+fn bring_to<K: Kind>(
+    alloc: Global,
+    here: &mut ReversibleMachine<K>,
+    recording: &Recording<K>,
+    position: u64,
+) -> Result<(), AllocError>
+    requires leads { IsReversible recording.now.run here.old }
+    requires last { 0 < here.old.current.position → start here.old < here.old.current.position }
+    requires reached { position ≤ recording.now.reached }
+    ensures leads { IsReversible recording.now.run here.new }
+    ensures last { 0 < here.new.current.position → start here.new < here.new.current.position }
+    ensures moved { OnOk result (here.new.current.position ≡ position) }
+    ensures unchanged { OnErr result (here.new.current.position ≡ here.old.current.position) }
+{
+    if here.is_near(recording, position) {
+        return here.go_to(recording, position);
+    }
+    *here = ReversibleMachine::to(alloc, recording, position)?;
+    Ok(())
 }
 
 impl<K: Kind> Session<K> {
@@ -156,11 +182,7 @@ impl<K: Kind> Session<K> {
     {
         self.recording.reach(position)?;
         let reply = position_reply(self.alloc, position, self.total())?;
-        if self.here.is_near(&self.recording, position) {
-            self.here.go_to(&self.recording, position)?;
-        } else {
-            self.here = ReversibleMachine::to(self.alloc, &self.recording, position)?;
-        }
+        bring_to(self.alloc, &mut self.here, &self.recording, position)?;
         Ok(reply)
     }
 
@@ -265,6 +287,17 @@ impl<K: Kind> Session<K> {
         }
     }
 
+    /// Takes these marks for its own, and answers how many there are.
+    fn take_marks(&mut self, marks: Marks) -> Result<Reply, AllocError>
+        ensures taken { IfOk result (λ reply. self.new ≡ with_marks marks self.old) }
+        ensures reply { IfOk result (λ reply. reply ≡ marks_line marks) }
+        ensures unchanged { OnErr result (self.new ≡ self.old) }
+    {
+        let reply = marks_reply(self.alloc, &marks)?;
+        self.marks = marks;
+        Ok(reply)
+    }
+
     /// Sets a breakpoint.
     fn set_break(&mut self, b: Breakpoint) -> Result<Reply, Fault<CommandRefusal>>
         ensures obeys { Obeys (λ r. r) result self.old (command.Break b) self.new }
@@ -272,9 +305,7 @@ impl<K: Kind> Session<K> {
     {
         self.check_breakpoint(b)?;
         let marks = self.marks.with_break(self.alloc, b)?;
-        let reply = marks_reply(self.alloc, &marks)?;
-        self.marks = marks;
-        Ok(reply)
+        Ok(self.take_marks(marks)?)
     }
 
     /// Takes a breakpoint away.
@@ -284,9 +315,7 @@ impl<K: Kind> Session<K> {
     {
         self.check_breakpoint(b)?;
         let marks = self.marks.without_break(self.alloc, b)?;
-        let reply = marks_reply(self.alloc, &marks)?;
-        self.marks = marks;
-        Ok(reply)
+        Ok(self.take_marks(marks)?)
     }
 
     /// Watches a register.
@@ -296,9 +325,7 @@ impl<K: Kind> Session<K> {
     {
         self.check_register(a)?;
         let marks = self.marks.with_watch(self.alloc, a)?;
-        let reply = marks_reply(self.alloc, &marks)?;
-        self.marks = marks;
-        Ok(reply)
+        Ok(self.take_marks(marks)?)
     }
 
     /// Watches a register no more.
@@ -308,9 +335,7 @@ impl<K: Kind> Session<K> {
     {
         self.check_register(a)?;
         let marks = self.marks.without_watch(self.alloc, a)?;
-        let reply = marks_reply(self.alloc, &marks)?;
-        self.marks = marks;
-        Ok(reply)
+        Ok(self.take_marks(marks)?)
     }
 
     /// Shows a register.

@@ -6,6 +6,8 @@ ghost use Rattle.std.specs.List.{list_any};
 ghost use Rattle.snap_words.specs.Shape.{IsOneOf};
 ghost use Rattle.snap_semantics.specs.State.{process_at};
 ghost use Rattle.snap_machine.specs.SeenContents.{seen_contents};
+ghost use Rattle.snap_semantics.specs.Table.{who};
+ghost use Rattle.snap_runs.specs.Run.{item};
 ghost use Rattle.snap_runs.specs.Update.{is_at};
 ghost use Rattle.snap_debug.specs.Marks.{is_stop, last_stop, next_stop, same_contents, same_word};
 ghost use Rattle.snap_debug.specs.Stops.{AreAt, differs, or_before, stands_at, stops_between};
@@ -137,6 +139,22 @@ fn stops_between<K: Kind>(before: &Machine<K>, after: &Machine<K>, i: u32, marks
         || any_differs(before, after, marks.watches())
 }
 
+/// Does the next item at a position, and answers whose it is.
+fn pass_item<K: Kind>(
+    recording: &Recording<K>,
+    current: &mut Checkpoint<K>,
+) -> Result<u32, AllocError>
+    requires stands { IsCheckpoint recording.now.run current.old }
+    requires reached { current.old.position < recording.now.reached }
+    ensures stands { IfOk result (λ _. IsCheckpoint recording.now.run current.new) }
+    ensures position { IfOk result (λ _. current.new.position ≡ current.old.position + 1) }
+    ensures process { let r = recording.now.run in
+        IfOk result (λ i. (i ≡ who (item r (current.old.position + 1))) × IsOneOf r.shape.n i) }
+{
+    let (process, _outcome) = recording.advance(current)?;
+    Ok(process)
+}
+
 impl<K: Kind> Walk<K> {
     /// From a machine at a position on.
     fn new(start: &Checkpoint<K>) -> Result<Walk<K>, AllocError>
@@ -159,9 +177,9 @@ impl<K: Kind> Walk<K> {
         ensures stop { IfOk result (λ stop. stop ≡ is_stop recording.now.run marks.now
             (self.old.before.position + 1)) }
     {
-        let (process, _outcome) = recording.advance(&mut self.after)?;
+        let process = pass_item(recording, &mut self.after)?;
         let stop = stops_between(&self.before.machine, &self.after.machine, process, marks);
-        let _same = recording.advance(&mut self.before)?;
+        let _same = pass_item(recording, &mut self.before)?;
         Ok(stop)
     }
 }
@@ -189,7 +207,7 @@ pub fn next_stop<K: Kind>(
     let mut current = here.copy()?;
     while current.position < total {
         recording.reach(current.position + 1)?;
-        let (process, _outcome) = recording.advance(&mut current)?;
+        let process = pass_item(recording, &mut current)?;
         if stops_between(&here.machine, &current.machine, process, marks) {
             return Ok(current.position);
         }
@@ -202,6 +220,28 @@ fn later(stop: bool, t: u64, last: Option<u64>) -> Option<u64>
     ensures { result ≡ (if stop then Some t else last) }
 {
     if stop { Some(t) } else { last }
+}
+
+/// The last stop on the way of two machines to a position, where there is one.
+fn last_on_way<K: Kind>(
+    walk: &mut Walk<K>,
+    recording: &Recording<K>,
+    position: u64,
+    marks: &Marks,
+) -> Result<Option<u64>, AllocError>
+    requires walk { AreAt recording.now.run walk.old }
+    requires before { walk.old.before.position < position }
+    requires reached { position ≤ recording.now.reached }
+    ensures { let r = recording.now.run in
+        IfOk result (λ last. last_stop r marks.now position
+        ≡ or_before last (last_stop r marks.now (walk.old.before.position + 1))) }
+{
+    let mut last = None;
+    while walk.before.position + 1 < position {
+        let stop = walk.step(recording, marks)?;
+        last = later(stop, walk.before.position, last);
+    }
+    Ok(last)
 }
 
 /// The last stop between a checkpoint and a position, where there is one.
@@ -219,12 +259,7 @@ fn last_between<K: Kind>(
         ≡ or_before last (last_stop r marks.now (start.now.position + 1))) }
 {
     let mut walk = Walk::new(start)?;
-    let mut last = None;
-    while walk.before.position + 1 < position {
-        let stop = walk.step(recording, marks)?;
-        last = later(stop, walk.before.position, last);
-    }
-    Ok(last)
+    last_on_way(&mut walk, recording, position, marks)
 }
 
 /// The last stop before a position, and 0 where there is none: sought from checkpoint to

@@ -45,62 +45,10 @@ returns-then-stops_between-clause-stop g c =
     let lt : c.loop-current.current.position < length c.args.recording.now.run.items = omega (arith, size, below) in
     let w =
     walked c.args.recording.now.run c.reach.new.self.run c.args.marks.now c.args.here.now c.loop-current.current
-    c.advance.new.current c.in_ok-process.process c.stops_between.result
+    c.pass_item.new.current c.in_ok-process.process c.stops_between.result
     (more.run ∙ before.run) before.stands lt before.unchanged did.stands did.position
     did.process.0 c.stops_between.ensures in
     w.here c.if-stops_between.true ∙ before.passed
-
-pub loop-current-preserved-else-stops_between : goal.loop-current-preserved-else-stops_between
-loop-current-preserved-else-stops_between g c =
-    let before = c.loop-current.invariant in
-    let did = c.in_ok-process.ensures in
-    let more = c.in_ok-reach.ensures in
-    let size = c.total-total.ensures in
-    let below = c.loop-current-test.true in
-    let lt : c.loop-current.current.position < length c.args.recording.now.run.items = omega (arith, size, below) in
-    let w =
-    walked c.args.recording.now.run c.reach.new.self.run c.args.marks.now c.args.here.now c.loop-current.current
-    c.advance.new.current c.in_ok-process.process c.stops_between.result
-    (more.run ∙ before.run) before.stands lt before.unchanged did.stands did.position
-    did.process.0 c.stops_between.ensures in
-    let at = did.position in
-    let far = more.reached in
-    let start = before.grows in
-    let on = more.grows in
-    record {
-      run = more.run ∙ before.run;
-      grows = omega (arith, start, on);
-      stands = w.stands;
-      reached = omega (arith, at, far);
-      unchanged = w.unchanged c.if-stops_between.false;
-      passed = w.later c.if-stops_between.false ∙ before.passed;
-    }
-
-pub loop-current-preserved-else-stops_between-2 : goal.loop-current-preserved-else-stops_between-2
-loop-current-preserved-else-stops_between-2 g c =
-    let before = c.loop-current.invariant in
-    let did = c.in_ok-process.ensures in
-    let more = c.in_ok-reach.ensures in
-    let size = c.total-total.ensures in
-    let below = c.loop-current-test.true in
-    let lt : c.loop-current.current.position < length c.args.recording.now.run.items = omega (arith, size, below) in
-    let w =
-    walked c.args.recording.now.run c.reach.new.self.run c.args.marks.now c.args.here.now c.loop-current.current
-    c.advance.new.current c.in_ok-process.process c.stops_between.result
-    (more.run ∙ before.run) before.stands lt before.unchanged did.stands did.position
-    did.process.0 c.stops_between.ensures in
-    let at = did.position in
-    let far = more.reached in
-    let start = before.grows in
-    let on = more.grows in
-    record {
-      run = more.run ∙ before.run;
-      grows = omega (arith, start, on);
-      stands = w.stands;
-      reached = omega (arith, at, far);
-      unchanged = w.unchanged c.if-stops_between.false;
-      passed = w.later c.if-stops_between.false ∙ before.passed;
-    }
 
 pub loop-current-preserved : goal.loop-current-preserved
 loop-current-preserved g c =
@@ -112,7 +60,7 @@ loop-current-preserved g c =
     let lt : c.loop-current.current.position < length c.args.recording.now.run.items = omega (arith, size, below) in
     let w =
     walked c.args.recording.now.run c.reach.new.self.run c.args.marks.now c.args.here.now c.loop-current.current
-    c.advance.new.current c.in_ok-process.process c.stops_between.result
+    c.pass_item.new.current c.in_ok-process.process c.stops_between.result
     (more.run ∙ before.run) before.stands lt before.unchanged did.stands did.position
     did.process.0 c.stops_between.ensures in
     let at = did.position in

@@ -9,5 +9,5 @@ returns-clause-stop g c =
     let old = c.args.self.now in
     let did = c.in_ok-process.ensures in
     c.stops_between-stop.ensures
-    ∙ stop_between c.args.recording.now.run c.args.marks.now old.before old.after c.advance.new.current
+    ∙ stop_between c.args.recording.now.run c.args.marks.now old.before old.after c.pass_item.new.current
     c.in_ok-process.process c.requires.walk.before did.stands did.position c.requires.walk.same did.process.0

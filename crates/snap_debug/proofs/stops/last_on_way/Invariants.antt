@@ -1,9 +1,9 @@
--- `last_between` of snap_debug (src/stops.rt): what holds at the head of each of its loops.
--- The last stop between a checkpoint and a position, where there is one.
+-- `last_on_way` of snap_debug (src/stops.rt): what holds at the head of each of its loops.
+-- The last stop on the way of two machines to a position, where there is one.
 use Rattle.std.proofs.Common.{◌≡◌, ◌<◌, ◌+◌, ◌-◌}
 use Rattle.snap_debug.specs.Marks.{last_stop}
 use Rattle.snap_debug.specs.Stops.{AreAt, or_before}
-use Rattle.snap_debug.proofs.stops.last_between.Given as goal
+use Rattle.snap_debug.proofs.stops.last_on_way.Given as goal
 
 -- the last stop so far is known
 abbrev pub invariant-loop-walk : goal.invariant-loop-walk
@@ -13,7 +13,7 @@ invariant-loop-walk g l =
       walk : AreAt r l.walk;
       before : l.walk.before.position < l.position;
       found : last_stop r l.marks (l.walk.before.position + 1)
-          ≡ or_before l.last (last_stop r l.marks (l.start.position + 1));
+          ≡ or_before l.last (last_stop r l.marks (l.fn.walk.before.position + 1));
     }
 
 abbrev pub decreases-loop-walk : goal.decreases-loop-walk

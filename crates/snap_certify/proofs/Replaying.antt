@@ -176,6 +176,10 @@ pub ok_then : {X E : Type 0} (res : Result X E) (P Q : X → Type 0) → ((x : X
 ok_then (Ok x) P Q f h = f x h
 ok_then (Err e) P Q f h = tt
 
+pub on_all : {X E P : Type 0} (res : Result X E) → P → OnOk res P
+on_all (Ok x) p = p
+on_all (Err e) p = tt
+
 pub on_then : {X E P Q : Type 0} (res : Result X E) → (P → Q) → OnOk res P → OnOk res Q
 on_then (Ok x) f h = f h
 on_then (Err e) f h = tt
@@ -225,3 +229,7 @@ none_of (Some m) not = absurd (not m refl)
 pub some_of : (o : Option Missing) (P : Missing → Type 0) (m : Missing) → o ≡ Some m → IfSome o P → P m
 some_of None P m is h = absurd cc
 some_of (Some x) P m is h = let same : x ≡ m = cc in subst P same h
+
+pub some_then : {X : Type 0} (o : Option X) (P Q : X → Type 0) → ((x : X) → P x → Q x) → IfSome o P → IfSome o Q
+some_then None P Q f h = tt
+some_then (Some x) P Q f h = f x h

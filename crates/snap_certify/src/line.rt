@@ -8,9 +8,11 @@ ghost use Rattle.snap_certification.specs.Certification.{
   putting_line,
   write_line,
 };
+ghost use Rattle.snap_certify.specs.Replay.{machine_at};
 
 use crate::replay::{first_machine, see_next};
 use snap_certification::SeenItem;
+use snap_machine::Machine;
 use snap_record::Record;
 use snap_semantics::{Instr, Line};
 use snap_words::Kind;
@@ -30,19 +32,30 @@ fn executed_line(item: &SeenItem) -> Option<u64>
     Some(item.activity?.line)
 }
 
-/// The line of the first item that changes the values.
-fn changing_line<K: Kind>(alloc: Global, history: &Record<K>) -> Result<Option<u64>, AllocError>
+/// The line of the first item that changes the values, which a machine finds that does the items.
+fn found_line<K: Kind>(
+    machine: &mut Machine<K>,
+    history: &Record<K>,
+) -> Result<Option<u64>, AllocError>
+    requires { machine.old ≡ machine_at history.now 0 }
     ensures { IfOk result (λ l. l ≡ changing_line history.now 0 (length history.now.items)) }
 {
-    let mut machine = first_machine(alloc, history)?;
     let count = history.items().len() as u64;
     for t in 0..count {
-        let item = see_next(&mut machine, history, t)?;
+        let item = see_next(machine, history, t)?;
         if changes(&item) {
             return Ok(executed_line(&item));
         }
     }
     Ok(None)
+}
+
+/// The line of the first item that changes the values.
+fn changing_line<K: Kind>(alloc: Global, history: &Record<K>) -> Result<Option<u64>, AllocError>
+    ensures { IfOk result (λ l. l ≡ changing_line history.now 0 (length history.now.items)) }
+{
+    let mut machine = first_machine(alloc, history)?;
+    found_line(&mut machine, history)
 }
 
 /// Whether a line writes a word.

@@ -1,6 +1,7 @@
 //! `certification_text`: the printed certification of a run, a line for each operation in the order
 //! of linearization points, or the line of what is missing.
-ghost use Rattle.std.specs.Prelude.{◌≡◌, ◌++◌, IfOk, OnOk, drop};
+ghost use Rattle.std.specs.Prelude.{◌≡◌, ◌++◌, IfOk, OnOk, codes, drop};
+ghost use Rattle.snap_draft.specs.Drafted.{Adds};
 ghost use Rattle.snap_certification.specs.Certification.{seen_certification};
 ghost use Rattle.snap_certify.specs.CertificationText.{
   certificate_text,
@@ -19,6 +20,7 @@ ghost use Rattle.snap_certify.specs.CertificationText.{
 
 use crate::order::{in_order, point_item};
 use crate::{Certification, Lack, Missing, UpdateWrite, certify};
+use snap_draft::Draft;
 use snap_record::Record;
 use snap_runs::Verdict;
 use snap_text::{push_number, push_text};
@@ -26,87 +28,75 @@ use snap_words::Kind;
 use std::alloc::{AllocError, Global};
 
 /// `update I call C place T word W value V`.
-#[tactic(auto, using(snap_text::proofs::Texts::joined))]
-fn update_line(out: &mut Vec<u8>, write: &UpdateWrite) -> Result<(), AllocError>
-    ensures { OnOk result (out.new.items ≡ out.old.items ++ update_line write.now) }
+fn update_line(out: &mut Draft, write: &UpdateWrite)
+    ensures { Adds out.old out.new (update_line write.now) }
 {
-    push_text(out, b"update ")?;
-    push_number(out, u64::from(write.process))?;
-    push_text(out, b" call ")?;
-    push_number(out, write.call)?;
-    push_text(out, b" place ")?;
-    push_number(out, write.item)?;
-    push_text(out, b" word ")?;
-    push_number(out, write.word)?;
-    push_text(out, b" value ")?;
-    push_number(out, write.value)?;
-    push_text(out, b"\n")
+    out.push(b"update ");
+    out.push_number(u64::from(write.process));
+    out.push(b" call ");
+    out.push_number(write.call);
+    out.push(b" place ");
+    out.push_number(write.item);
+    out.push(b" word ");
+    out.push_number(write.word);
+    out.push(b" value ");
+    out.push_number(write.value);
+    out.push(b"\n");
 }
 
 /// `scan I call C place T answer E`.
-#[tactic(auto, using(snap_text::proofs::Texts::joined))]
-fn scan_line(out: &mut Vec<u8>, verdict: &Verdict) -> Result<(), AllocError>
-    ensures { OnOk result (out.new.items ≡ out.old.items ++ scan_line verdict.now) }
+fn scan_line(out: &mut Draft, verdict: &Verdict)
+    ensures { Adds out.old out.new (scan_line verdict.now) }
 {
-    push_text(out, b"scan ")?;
-    push_number(out, u64::from(verdict.process))?;
-    push_text(out, b" call ")?;
-    push_number(out, verdict.call)?;
-    push_text(out, b" place ")?;
-    push_number(out, point_item(verdict))?;
-    push_text(out, b" answer ")?;
-    push_number(out, verdict.answer)?;
-    push_text(out, b"\n")
+    out.push(b"scan ");
+    out.push_number(u64::from(verdict.process));
+    out.push(b" call ");
+    out.push_number(verdict.call);
+    out.push(b" place ");
+    out.push_number(point_item(verdict));
+    out.push(b" answer ");
+    out.push_number(verdict.answer);
+    out.push(b"\n");
 }
 
 /// The lines of the writes from a place on.
-fn update_lines(out: &mut Vec<u8>, writes: &[UpdateWrite], from: usize) -> Result<(), AllocError>
-    ensures { OnOk result (out.new.items ≡ out.old.items ++ update_lines (drop from writes.now)) }
+fn update_lines(out: &mut Draft, writes: &[UpdateWrite], from: usize)
+    ensures { Adds out.old out.new (update_lines (drop from writes.now)) }
 {
     let mut k = from;
     while k < writes.len() {
-        update_line(out, &writes[k])?;
+        update_line(out, &writes[k]);
         k += 1;
     }
-    Ok(())
 }
 
 /// The lines of the next writes up to an item, and which write comes then.
-fn writes_until(
-    out: &mut Vec<u8>,
-    writes: &[UpdateWrite],
-    next: usize,
-    item: u64,
-) -> Result<usize, AllocError>
-    ensures text { OnOk result (out.new.items ≡
-        out.old.items ++ update_lines (writes_until item (drop next writes.now))) }
-    ensures left { IfOk result (λ k. drop k writes.now ≡ writes_after item (drop next writes.now)) }
+fn writes_until(out: &mut Draft, writes: &[UpdateWrite], next: usize, item: u64) -> usize
+    ensures text { Adds out.old out.new
+        (update_lines (writes_until item (drop next writes.now))) }
+    ensures left { drop result writes.now ≡ writes_after item (drop next writes.now) }
 {
     let mut k = next;
     while k < writes.len() {
         if writes[k].item > item {
-            return Ok(k);
+            return k;
         }
-        update_line(out, &writes[k])?;
+        update_line(out, &writes[k]);
         k += 1;
     }
-    Ok(k)
+    k
 }
 
 /// The lines of writes and scans, in the order of their places.
-fn places_text(
-    out: &mut Vec<u8>,
-    writes: &[UpdateWrite],
-    scans: &[Verdict],
-) -> Result<(), AllocError>
-    ensures { OnOk result (out.new.items ≡ out.old.items ++ places_text writes.now scans.now) }
+fn places_text(out: &mut Draft, writes: &[UpdateWrite], scans: &[Verdict])
+    ensures { Adds out.old out.new (places_text writes.now scans.now) }
 {
     let mut next = 0;
     for scan in scans {
-        next = writes_until(out, writes, next, point_item(scan))?;
-        scan_line(out, scan)?;
+        next = writes_until(out, writes, next, point_item(scan));
+        scan_line(out, scan);
     }
-    update_lines(out, writes, next)
+    update_lines(out, writes, next);
 }
 
 /// What is missing, in words.
@@ -150,20 +140,41 @@ fn missing_line(out: &mut Vec<u8>, missing: &Missing) -> Result<(), AllocError>
     reason_text(out, missing.lack)
 }
 
+/// The text of a certified run: its operations in the order of their places.
+fn certified_text(
+    alloc: Global,
+    writes: &[UpdateWrite],
+    scans: &[Verdict],
+) -> Result<Vec<u8>, AllocError>
+    ensures { IfOk result (λ out. out.items
+        ≡ codes "linearizable by these points\n" ++ places_text writes.now scans.now) }
+{
+    let mut out = Draft::new(alloc);
+    out.push(b"linearizable by these points\n");
+    places_text(&mut out, writes, scans);
+    out.finish()
+}
+
+/// The text of what is missing.
+fn missing_text(alloc: Global, missing: &Missing) -> Result<Vec<u8>, AllocError>
+    ensures { IfOk result (λ out. out.items ≡ missing_line missing.now) }
+{
+    let mut out = Vec::new(alloc);
+    missing_line(&mut out, missing)?;
+    Ok(out)
+}
+
 /// The text of a certification.
 fn text_of(alloc: Global, certification: &Certification) -> Result<Vec<u8>, AllocError>
     ensures { IfOk result (λ out. out.items ≡ text_of (seen_certification certification.now)) }
 {
-    let mut out = Vec::new(alloc);
     match certification {
         Certification::Certified(found) => {
             let scans = in_order(alloc, found.points.as_slice())?;
-            push_text(&mut out, b"linearizable by these points\n")?;
-            places_text(&mut out, found.writes.as_slice(), scans.as_slice())?;
+            certified_text(alloc, found.writes.as_slice(), scans.as_slice())
         }
-        Certification::Missing(missing) => missing_line(&mut out, missing)?,
+        Certification::Missing(missing) => missing_text(alloc, missing),
     }
-    Ok(out)
 }
 
 /// What a record is certified by, a line for each operation in the order of places; or what is

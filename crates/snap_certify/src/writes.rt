@@ -1,6 +1,6 @@
 //! The writes of a record's updates (`UpdateWrite`), found item by item for its certification; or
 //! what is missing.
-ghost use Rattle.std.specs.Prelude.{◌≡◌, ◌-◌, ◌<◌};
+ghost use Rattle.std.specs.Prelude.{◌≡◌, ◌-◌, ◌+◌, ◌<◌, []};
 ghost use Rattle.std.specs.Prelude.{Err, IfOk, IfSome, MatchResult, None, Ok, OnOk};
 ghost use Rattle.std.specs.Prelude.{bytes_eq, get_or, length, replicate, slice_set};
 ghost use Rattle.snap_words.specs.Shape.{IsOneOf};
@@ -17,11 +17,12 @@ ghost use Rattle.snap_certification.specs.Certification.{
   written,
 };
 ghost use Rattle.snap_certification.specs.declared.found.Progress.{Progress};
-ghost use Rattle.snap_certify.specs.Replay.{fresh};
+ghost use Rattle.snap_certify.specs.Replay.{AreProgress, fresh, machine_at};
 
 use crate::line::changes;
 use crate::replay::{first_machine, see_next};
 use snap_certification::{Finding, Lack, Missing, Progress, SeenItem, UpdateWrite};
+use snap_machine::Machine;
 use snap_record::Record;
 use snap_semantics::{Activity, Op, Outcome};
 use snap_words::{Kind, Shape};
@@ -223,6 +224,82 @@ fn add_finding(all: &mut Vec<UpdateWrite>, found: Finding) -> Result<Option<Miss
     }
 }
 
+/// Does the item after the first `t`, notes it, and adds the write that it makes to those before it;
+/// or answers what is missing there.
+fn note_next<K: Kind>(
+    alloc: Global,
+    machine: &mut Machine<K>,
+    history: &Record<K>,
+    line: u64,
+    t: u64,
+    progress: &mut Vec<Progress>,
+    all: &mut Vec<UpdateWrite>,
+) -> Result<Option<Missing>, AllocError>
+    requires short { t < length history.now.items }
+    requires there { machine.old ≡ machine_at history.now t }
+    requires progress { AreProgress history.now line t progress.old.items }
+    requires found { writes history.now line t ≡ Ok all.old.items }
+    ensures there { OnOk result (machine.new ≡ machine_at history.now (t + 1)) }
+    ensures progress { OnOk result (AreProgress history.now line (t + 1) progress.new.items) }
+    ensures found { IfOk result (λ missing.
+        missing ≡ None → writes history.now line (t + 1) ≡ Ok all.new.items) }
+    ensures lacks { IfOk result (λ missing.
+        IfSome missing (λ m. writes history.now line (t + 1) ≡ Err m)) }
+{
+    // The run of a record is a valid one.
+    let _items = history.items();
+    let item = see_next(machine, history, t)?;
+    let found = note_item(alloc, line, t + 1, &item, progress)?;
+    add_finding(all, found)
+}
+
+/// Finds the writes of a run from its first item on, or answers the first thing that is missing.
+fn find_writes<K: Kind>(
+    alloc: Global,
+    machine: &mut Machine<K>,
+    history: &Record<K>,
+    line: u64,
+    progress: &mut Vec<Progress>,
+    all: &mut Vec<UpdateWrite>,
+) -> Result<Option<Missing>, AllocError>
+    requires there { machine.old ≡ machine_at history.now 0 }
+    requires progress { AreProgress history.now line 0 progress.old.items }
+    requires none { all.old.items ≡ [] }
+    ensures found { IfOk result (λ missing.
+        missing ≡ None → writes history.now line (length history.now.items) ≡ Ok all.new.items) }
+    ensures lacks { IfOk result (λ missing.
+        IfSome missing (λ m. writes history.now line (length history.now.items) ≡ Err m)) }
+{
+    let count = history.items().len() as u64;
+    for t in 0..count {
+        let missing = note_next(alloc, machine, history, line, t, progress, all)?;
+        if let Some(missing) = missing {
+            return Ok(Some(missing));
+        }
+    }
+    Ok(None)
+}
+
+/// Finds the writes of a run by a machine that does its items, or answers the first thing that is
+/// missing.
+fn first_missing<K: Kind>(
+    alloc: Global,
+    history: &Record<K>,
+    line: u64,
+    progress: &mut Vec<Progress>,
+    all: &mut Vec<UpdateWrite>,
+) -> Result<Option<Missing>, AllocError>
+    requires progress { AreProgress history.now line 0 progress.old.items }
+    requires none { all.old.items ≡ [] }
+    ensures found { IfOk result (λ missing.
+        missing ≡ None → writes history.now line (length history.now.items) ≡ Ok all.new.items) }
+    ensures lacks { IfOk result (λ missing.
+        IfSome missing (λ m. writes history.now line (length history.now.items) ≡ Err m)) }
+{
+    let mut machine = first_machine(alloc, history)?;
+    find_writes(alloc, &mut machine, history, line, progress, all)
+}
+
 /// The writes of a run in which updates write at a line, or the first thing that is missing there.
 pub(crate) fn writes<K: Kind>(
     alloc: Global,
@@ -233,17 +310,10 @@ pub(crate) fn writes<K: Kind>(
         (λ all. writes history.now line (length history.now.items) ≡ Ok all.items)
         (λ missing. writes history.now line (length history.now.items) ≡ Err missing)) }
 {
-    let mut machine = first_machine(alloc, history)?;
     let mut progress = new_progress(alloc, history.machine().shape())?;
     let mut all = Vec::new(alloc);
-    let count = history.items().len() as u64;
-    for t in 0..count {
-        let item = see_next(&mut machine, history, t)?;
-        let found = note_item(alloc, line, t + 1, &item, &mut progress)?;
-        let missing = add_finding(&mut all, found)?;
-        if let Some(missing) = missing {
-            return Ok(Err(missing));
-        }
+    match first_missing(alloc, history, line, &mut progress, &mut all)? {
+        None => Ok(Ok(all)),
+        Some(missing) => Ok(Err(missing)),
     }
-    Ok(Ok(all))
 }

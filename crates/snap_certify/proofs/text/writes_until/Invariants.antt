@@ -1,13 +1,15 @@
 -- `writes_until` of snap_certify (src/text.rt): what holds at the head of each of its loops.
 -- The lines of the next writes up to an item, and which write comes then.
-use Rattle.std.proofs.Common.{◌≡◌, ◌++◌, ◌-◌, drop, length}
+use Rattle.std.proofs.Common.{◌≡◌, ◌++◌, ◌-◌, drop, false, length}
 use Rattle.snap_certify.specs.CertificationText.{update_lines, writes_after, writes_until}
 use Rattle.snap_certify.proofs.text.writes_until.Given as goal
 
 abbrev pub invariant-loop-k : goal.invariant-loop-k
 invariant-loop-k l =
-    (l.out.items ++ update_lines (writes_until l.item (drop l.k l.writes))
-    ≡ l.fn.out.items ++ update_lines (writes_until l.item (drop l.next l.writes)))
+    (l.out.failed ≡ false →
+    (l.fn.out.failed ≡ false)
+    × (l.out.text ++ update_lines (writes_until l.item (drop l.k l.writes))
+    ≡ l.fn.out.text ++ update_lines (writes_until l.item (drop l.next l.writes))))
     × (writes_after l.item (drop l.k l.writes) ≡ writes_after l.item (drop l.next l.writes))
 
 abbrev pub decreases-loop-k : goal.decreases-loop-k

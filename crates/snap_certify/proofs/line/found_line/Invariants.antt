@@ -1,9 +1,9 @@
--- `changing_line` of snap_certify (src/line.rt): what holds at the head of each of its loops.
--- The line of the first item that changes the values.
+-- `found_line` of snap_certify (src/line.rt): what holds at the head of each of its loops.
+-- The line of the first item that changes the values, which a machine finds that does the items.
 use Rattle.std.proofs.Common.{◌≡◌, ◌-◌, length}
 use Rattle.snap_certification.specs.Certification.{changing_line}
 use Rattle.snap_certify.specs.Replay.{machine_at}
-use Rattle.snap_certify.proofs.line.changing_line.Given as goal
+use Rattle.snap_certify.proofs.line.found_line.Given as goal
 
 -- no item so far changes the values
 abbrev pub invariant-loop-t : goal.invariant-loop-t

@@ -1,8 +1,8 @@
--- `changing_line` of snap_certify (src/line.rt): the proof of what its contract says.
--- The line of the first item that changes the values.
+-- `found_line` of snap_certify (src/line.rt): the proof of what its contract says.
+-- The line of the first item that changes the values, which a machine finds that does the items.
 use Rattle.std.proofs.Common.{◌≡◌, ◌<◌, ◌≤◌, length, sym, ap, ◌∙◌, arith}
 use Rattle.snap_certify.proofs.Replaying.{changing_end, changing_here, changing_later}
-use Rattle.snap_certify.proofs.line.changing_line.Goals as goal
+use Rattle.snap_certify.proofs.line.found_line.Goals as goal
 
 pub returns-then-changes : goal.returns-then-changes
 returns-then-changes g c =

@@ -103,7 +103,6 @@ impl<K: Kind> Record<K> {
     {
         Ok(Record {
             alloc,
-            machine: Machine::new(alloc, program, shape)?,
             items: History::new(alloc),
             values: Row::zeros(alloc, shape.w())?,
             changes: Vec::new(alloc),
@@ -111,6 +110,8 @@ impl<K: Kind> Record<K> {
             collects: zeros(alloc, shape.n())?,
             at_events: Vec::new(alloc),
             roles: new_roles(alloc, program)?,
+            // Last, so that nothing fails where there is a machine to let go of.
+            machine: Machine::new(alloc, program, shape)?,
         })
     }
 

@@ -11,6 +11,7 @@ ghost use Rattle.snap_semantics.specs.ListingForms.{finish_form, form_of_keyword
 ghost use Rattle.snap_text.specs.Tokens.{Finds, view_tokens};
 
 use crate::behind::{every_place, expr_behind, index_behind, name_behind};
+use crate::terms::same_word;
 use crate::tuples::tuple_at;
 use crate::{condition_at, name_at, named_place_at, place_at, range_at, target_at, where_at};
 use snap_listing_rules::is_line_number;
@@ -29,7 +30,9 @@ fn let_form(tokens: &[Token<'_>]) -> Option<Instr>
     let Some((value, rest)) = expr_behind(Symbol::Equal, false, rest) else {
         return None;
     };
-    end_at(rest)?;
+    let Some(()) = end_at(rest) else {
+        return None;
+    };
     Some(Instr::Let(scalar, value))
 }
 
@@ -44,7 +47,9 @@ fn let_place_form(tokens: &[Token<'_>]) -> Option<Instr>
     let Some((value, rest)) = expr_behind(Symbol::Equal, false, rest) else {
         return None;
     };
-    end_at(rest)?;
+    let Some(()) = end_at(rest) else {
+        return None;
+    };
     Some(Instr::LetPlace(row, place, value))
 }
 
@@ -56,12 +61,18 @@ fn get_form(tokens: &[Token<'_>]) -> Option<Instr>
     let Some(((words, place), rest)) = named_place_at(false, tokens) else {
         return None;
     };
-    let rest = symbol_at(Symbol::Equal, rest)?;
-    let rest = keyword_at(b"r", rest)?;
+    let Some(rest) = symbol_at(Symbol::Equal, rest) else {
+        return None;
+    };
+    let Some(rest) = keyword_at(b"r", rest) else {
+        return None;
+    };
     let Some((register, rest)) = place_at(false, rest) else {
         return None;
     };
-    end_at(rest)?;
+    let Some(()) = end_at(rest) else {
+        return None;
+    };
     Some(Instr::Get(words, place, register))
 }
 
@@ -101,12 +112,18 @@ fn bit_form(tokens: &[Token<'_>]) -> Option<Instr>
     let Some((scalar, rest)) = name_at(tokens) else {
         return None;
     };
-    let rest = symbol_at(Symbol::Equal, rest)?;
-    let (bank, rest) = bit_bank_at(rest)?;
+    let Some(rest) = symbol_at(Symbol::Equal, rest) else {
+        return None;
+    };
+    let Some((bank, rest)) = bit_bank_at(rest) else {
+        return None;
+    };
     let Some(((first, second), rest)) = pair_at(rest) else {
         return None;
     };
-    end_at(rest)?;
+    let Some(()) = end_at(rest) else {
+        return None;
+    };
     Some(Instr::Bit(scalar, bank, first, second))
 }
 
@@ -118,12 +135,18 @@ fn look_form(tokens: &[Token<'_>]) -> Option<Instr>
     let Some((view, rest)) = name_at(tokens) else {
         return None;
     };
-    let rest = symbol_at(Symbol::Equal, rest)?;
-    let rest = keyword_at(b"v", rest)?;
+    let Some(rest) = symbol_at(Symbol::Equal, rest) else {
+        return None;
+    };
+    let Some(rest) = keyword_at(b"v", rest) else {
+        return None;
+    };
     let Some((register, rest)) = place_at(false, rest) else {
         return None;
     };
-    end_at(rest)?;
+    let Some(()) = end_at(rest) else {
+        return None;
+    };
     Some(Instr::Look(view, register))
 }
 
@@ -132,15 +155,21 @@ fn look_form(tokens: &[Token<'_>]) -> Option<Instr>
 fn put_form(kind: KindTag, tokens: &[Token<'_>]) -> Option<Instr>
     ensures { Finds (λ x. x) result (put_form kind (view_tokens tokens.now)) }
 {
-    let rest = keyword_at(b"r", tokens)?;
+    let Some(rest) = keyword_at(b"r", tokens) else {
+        return None;
+    };
     let Some((register, rest)) = place_at(false, rest) else {
         return None;
     };
-    let rest = symbol_at(Symbol::Equal, rest)?;
+    let Some(rest) = symbol_at(Symbol::Equal, rest) else {
+        return None;
+    };
     let Some((tuple, rest)) = tuple_at(kind, rest) else {
         return None;
     };
-    end_at(rest)?;
+    let Some(()) = end_at(rest) else {
+        return None;
+    };
     Some(Instr::Put(register, tuple))
 }
 
@@ -149,14 +178,18 @@ fn put_form(kind: KindTag, tokens: &[Token<'_>]) -> Option<Instr>
 fn put_bit_form(tokens: &[Token<'_>]) -> Option<Instr>
     ensures { Finds (λ x. x) result (put_bit_form (view_tokens tokens.now)) }
 {
-    let (bank, rest) = bit_bank_at(tokens)?;
+    let Some((bank, rest)) = bit_bank_at(tokens) else {
+        return None;
+    };
     let Some(((first, second), rest)) = pair_at(rest) else {
         return None;
     };
     let Some((value, rest)) = expr_behind(Symbol::Equal, false, rest) else {
         return None;
     };
-    end_at(rest)?;
+    let Some(()) = end_at(rest) else {
+        return None;
+    };
     Some(Instr::PutBit(bank, first, second, value))
 }
 
@@ -165,14 +198,18 @@ fn put_bit_form(tokens: &[Token<'_>]) -> Option<Instr>
 fn put_view_form(tokens: &[Token<'_>]) -> Option<Instr>
     ensures { Finds (λ x. x) result (put_view_form (view_tokens tokens.now)) }
 {
-    let rest = keyword_at(b"v", tokens)?;
+    let Some(rest) = keyword_at(b"v", tokens) else {
+        return None;
+    };
     let Some((register, rest)) = place_at(false, rest) else {
         return None;
     };
     let Some((view, rest)) = name_behind(Symbol::Equal, rest) else {
         return None;
     };
-    end_at(rest)?;
+    let Some(()) = end_at(rest) else {
+        return None;
+    };
     Some(Instr::PutView(register, view))
 }
 
@@ -184,13 +221,21 @@ fn view_data_form(tokens: &[Token<'_>]) -> Option<Instr>
     let Some((view, rest)) = name_at(tokens) else {
         return None;
     };
-    let rest = symbol_at(Symbol::Equal, rest)?;
-    let rest = keyword_at(b"data", rest)?;
+    let Some(rest) = symbol_at(Symbol::Equal, rest) else {
+        return None;
+    };
+    let Some(rest) = keyword_at(b"data", rest) else {
+        return None;
+    };
     let Some((words, rest)) = name_behind(Symbol::OpenParenthesis, rest) else {
         return None;
     };
-    let rest = symbol_at(Symbol::CloseParenthesis, rest)?;
-    end_at(rest)?;
+    let Some(rest) = symbol_at(Symbol::CloseParenthesis, rest) else {
+        return None;
+    };
+    let Some(()) = end_at(rest) else {
+        return None;
+    };
     Some(Instr::ViewData(view, words))
 }
 
@@ -202,14 +247,24 @@ fn view_of_form(tokens: &[Token<'_>]) -> Option<Instr>
     let Some((view, rest)) = name_at(tokens) else {
         return None;
     };
-    let rest = symbol_at(Symbol::Equal, rest)?;
-    let rest = keyword_at(b"view", rest)?;
-    let rest = symbol_at(Symbol::OpenParenthesis, rest)?;
+    let Some(rest) = symbol_at(Symbol::Equal, rest) else {
+        return None;
+    };
+    let Some(rest) = keyword_at(b"view", rest) else {
+        return None;
+    };
+    let Some(rest) = symbol_at(Symbol::OpenParenthesis, rest) else {
+        return None;
+    };
     let Some(((words, place), rest)) = named_place_at(false, rest) else {
         return None;
     };
-    let rest = symbol_at(Symbol::CloseParenthesis, rest)?;
-    end_at(rest)?;
+    let Some(rest) = symbol_at(Symbol::CloseParenthesis, rest) else {
+        return None;
+    };
+    let Some(()) = end_at(rest) else {
+        return None;
+    };
     Some(Instr::ViewOf(view, words, place))
 }
 
@@ -218,16 +273,22 @@ fn view_of_form(tokens: &[Token<'_>]) -> Option<Instr>
 fn each_form(tokens: &[Token<'_>]) -> Option<Instr>
     ensures { Finds (λ x. x) result (each_form (view_tokens tokens.now)) }
 {
-    let (range, rest) = range_at(tokens)?;
+    let Some((range, rest)) = range_at(tokens) else {
+        return None;
+    };
     let Some((row, rest)) = name_behind(Symbol::Colon, rest) else {
         return None;
     };
-    let rest = every_place(rest)?;
+    let Some(rest) = every_place(rest) else {
+        return None;
+    };
     let Some((value, rest)) = expr_behind(Symbol::Equal, true, rest) else {
         return None;
     };
     let (condition, rest) = where_at(rest);
-    end_at(rest)?;
+    let Some(()) = end_at(rest) else {
+        return None;
+    };
     Some(Instr::Each(range, row, value, condition))
 }
 
@@ -239,13 +300,21 @@ fn first_form(tokens: &[Token<'_>]) -> Option<Instr>
     let Some((scalar, rest)) = name_at(tokens) else {
         return None;
     };
-    let (range, rest) = range_at(rest)?;
-    let rest = symbol_at(Symbol::Colon, rest)?;
+    let Some((range, rest)) = range_at(rest) else {
+        return None;
+    };
+    let Some(rest) = symbol_at(Symbol::Colon, rest) else {
+        return None;
+    };
     let Some((condition, rest)) = condition_at(true, rest) else {
         return None;
     };
-    let (target, rest) = target_at(rest)?;
-    end_at(rest)?;
+    let Some((target, rest)) = target_at(rest) else {
+        return None;
+    };
+    let Some(()) = end_at(rest) else {
+        return None;
+    };
     Some(Instr::First(scalar, range, condition, target))
 }
 
@@ -257,9 +326,15 @@ fn next_form(tokens: &[Token<'_>]) -> Option<Instr>
     let Some((scalar, rest)) = name_at(tokens) else {
         return None;
     };
-    let (range, rest) = range_at(rest)?;
-    let (target, rest) = target_at(rest)?;
-    end_at(rest)?;
+    let Some((range, rest)) = range_at(rest) else {
+        return None;
+    };
+    let Some((target, rest)) = target_at(rest) else {
+        return None;
+    };
+    let Some(()) = end_at(rest) else {
+        return None;
+    };
     Some(Instr::Next(scalar, range, target))
 }
 
@@ -271,8 +346,12 @@ fn if_form(tokens: &[Token<'_>]) -> Option<Instr>
     let Some((condition, rest)) = condition_at(false, tokens) else {
         return None;
     };
-    let (target, rest) = target_at(rest)?;
-    end_at(rest)?;
+    let Some((target, rest)) = target_at(rest) else {
+        return None;
+    };
+    let Some(()) = end_at(rest) else {
+        return None;
+    };
     Some(Instr::If(condition, target))
 }
 
@@ -281,14 +360,24 @@ fn if_form(tokens: &[Token<'_>]) -> Option<Instr>
 fn if_all_form(tokens: &[Token<'_>]) -> Option<Instr>
     ensures { Finds (λ x. x) result (if_all_form (view_tokens tokens.now)) }
 {
-    let rest = keyword_at(b"all", tokens)?;
-    let (range, rest) = range_at(rest)?;
-    let rest = symbol_at(Symbol::Colon, rest)?;
+    let Some(rest) = keyword_at(b"all", tokens) else {
+        return None;
+    };
+    let Some((range, rest)) = range_at(rest) else {
+        return None;
+    };
+    let Some(rest) = symbol_at(Symbol::Colon, rest) else {
+        return None;
+    };
     let Some((condition, rest)) = condition_at(true, rest) else {
         return None;
     };
-    let (target, rest) = target_at(rest)?;
-    end_at(rest)?;
+    let Some((target, rest)) = target_at(rest) else {
+        return None;
+    };
+    let Some(()) = end_at(rest) else {
+        return None;
+    };
     Some(Instr::IfAll(range, condition, target))
 }
 
@@ -297,8 +386,12 @@ fn if_all_form(tokens: &[Token<'_>]) -> Option<Instr>
 fn goto_form(tokens: &[Token<'_>]) -> Option<Instr>
     ensures { Finds (λ x. x) result (goto_form (view_tokens tokens.now)) }
 {
-    let (target, rest) = number_at(tokens)?;
-    end_at(rest)?;
+    let Some((target, rest)) = number_at(tokens) else {
+        return None;
+    };
+    let Some(()) = end_at(rest) else {
+        return None;
+    };
     Some(Instr::Goto(target))
 }
 
@@ -307,8 +400,12 @@ fn goto_form(tokens: &[Token<'_>]) -> Option<Instr>
 fn call_form(tokens: &[Token<'_>]) -> Option<Instr>
     ensures { Finds (λ x. x) result (call_form (view_tokens tokens.now)) }
 {
-    let (target, rest) = number_at(tokens)?;
-    end_at(rest)?;
+    let Some((target, rest)) = number_at(tokens) else {
+        return None;
+    };
+    let Some(()) = end_at(rest) else {
+        return None;
+    };
     Some(Instr::Call(target))
 }
 
@@ -320,7 +417,9 @@ fn return_form(tokens: &[Token<'_>]) -> Option<Instr>
     let Some((view, rest)) = name_at(tokens) else {
         return None;
     };
-    end_at(rest)?;
+    let Some(()) = end_at(rest) else {
+        return None;
+    };
     Some(Instr::Return(view))
 }
 
@@ -329,7 +428,9 @@ fn return_form(tokens: &[Token<'_>]) -> Option<Instr>
 fn finish_form(tokens: &[Token<'_>]) -> Option<Instr>
     ensures { Finds (λ x. x) result (finish_form (view_tokens tokens.now)) }
 {
-    end_at(tokens)?;
+    let Some(()) = end_at(tokens) else {
+        return None;
+    };
     Some(Instr::Finish)
 }
 
@@ -386,33 +487,33 @@ fn if_forms(tokens: &[Token<'_>]) -> Option<Instr>
 fn form_of_keyword(kind: KindTag, word: &[u8], tokens: &[Token<'_>]) -> Option<Instr>
     ensures { Finds (λ x. x) result (form_of_keyword kind word.now (view_tokens tokens.now)) }
 {
-    if word == b"let".as_slice() {
+    if same_word(word, b"let") {
         let_forms(tokens)
-    } else if word == b"get".as_slice() {
+    } else if same_word(word, b"get") {
         get_form(tokens)
-    } else if word == b"bit".as_slice() {
+    } else if same_word(word, b"bit") {
         bit_form(tokens)
-    } else if word == b"look".as_slice() {
+    } else if same_word(word, b"look") {
         look_form(tokens)
-    } else if word == b"put".as_slice() {
+    } else if same_word(word, b"put") {
         put_forms(kind, tokens)
-    } else if word == b"view".as_slice() {
+    } else if same_word(word, b"view") {
         view_forms(tokens)
-    } else if word == b"each".as_slice() {
+    } else if same_word(word, b"each") {
         each_form(tokens)
-    } else if word == b"first".as_slice() {
+    } else if same_word(word, b"first") {
         first_form(tokens)
-    } else if word == b"next".as_slice() {
+    } else if same_word(word, b"next") {
         next_form(tokens)
-    } else if word == b"if".as_slice() {
+    } else if same_word(word, b"if") {
         if_forms(tokens)
-    } else if word == b"goto".as_slice() {
+    } else if same_word(word, b"goto") {
         goto_form(tokens)
-    } else if word == b"call".as_slice() {
+    } else if same_word(word, b"call") {
         call_form(tokens)
-    } else if word == b"return".as_slice() {
+    } else if same_word(word, b"return") {
         return_form(tokens)
-    } else if word == b"finish".as_slice() {
+    } else if same_word(word, b"finish") {
         finish_form(tokens)
     } else {
         None
@@ -424,10 +525,18 @@ fn form_of_keyword(kind: KindTag, word: &[u8], tokens: &[Token<'_>]) -> Option<I
 pub fn line_form(kind: KindTag, tokens: &[Token<'_>]) -> Option<Line>
     ensures { Finds (λ x. x) result (line_form kind (view_tokens tokens.now)) }
 {
-    let (number, rest) = number_at(tokens)?;
-    let rest = symbol_at(Symbol::Colon, rest)?;
-    let (word, rest) = identifier_at(rest)?;
-    let instr = form_of_keyword(kind, word, rest)?;
+    let Some((number, rest)) = number_at(tokens) else {
+        return None;
+    };
+    let Some(rest) = symbol_at(Symbol::Colon, rest) else {
+        return None;
+    };
+    let Some((word, rest)) = identifier_at(rest) else {
+        return None;
+    };
+    let Some(instr) = form_of_keyword(kind, word, rest) else {
+        return None;
+    };
     if is_line_number(number) {
         Some(Line { number, instr })
     } else {

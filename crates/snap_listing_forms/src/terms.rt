@@ -1,5 +1,5 @@
 //! Reads names, indices and terms at the front of the tokens of a listing's line.
-ghost use Rattle.std.specs.Prelude.{◌≡◌};
+ghost use Rattle.std.specs.Prelude.{◌≡◌, bytes_eq};
 ghost use Rattle.snap_semantics.specs.ListingForms.{name_of_identifier, name_at};
 ghost use Rattle.snap_semantics.specs.ListingForms.{index_of_identifier, number_index};
 ghost use Rattle.snap_semantics.specs.ListingForms.{place_index, identifier_index, index_at};
@@ -12,6 +12,13 @@ use snap_listing_rules::is_reserved;
 use snap_semantics::{Index, Name, Symbol, Term};
 use snap_text::{Token, identifier_at, keyword_at, number_at, symbol_at};
 use snap_words::Field;
+
+/// Whether two words are the same.
+pub fn same_word(one: &[u8], other: &[u8]) -> bool
+    ensures { result ≡ bytes_eq one.now other.now }
+{
+    one == other
+}
 
 /// An identifier in a name's place; of a long one the first nine letters.
 pub fn name_of_identifier(word: &[u8]) -> Option<Name>
@@ -40,13 +47,13 @@ pub fn name_at<'a, 'b>(tokens: &'a [Token<'b>]) -> Option<(Name, &'a [Token<'b>]
 pub fn index_of_identifier(word: &[u8]) -> Option<Index>
     ensures { result ≡ index_of_identifier word.now }
 {
-    if word == b"n".as_slice() {
+    if same_word(word, b"n") {
         Some(Index::Processes)
-    } else if word == b"w".as_slice() {
+    } else if same_word(word, b"w") {
         Some(Index::Words)
-    } else if word == b"me".as_slice() {
+    } else if same_word(word, b"me") {
         Some(Index::Me)
-    } else if word == b"word".as_slice() {
+    } else if same_word(word, b"word") {
         Some(Index::Word)
     } else {
         let name = name_of_identifier(word)?;
@@ -173,13 +180,13 @@ pub fn row_term<'a, 'b>(
 pub fn field_of_keyword(word: &[u8]) -> Option<Field>
     ensures { result ≡ field_of_keyword word.now }
 {
-    if word == b"seq".as_slice() {
+    if same_word(word, b"seq") {
         Some(Field::Seq)
-    } else if word == b"data".as_slice() {
+    } else if same_word(word, b"data") {
         Some(Field::Datum)
-    } else if word == b"toggle".as_slice() {
+    } else if same_word(word, b"toggle") {
         Some(Field::Toggle)
-    } else if word == b"id".as_slice() {
+    } else if same_word(word, b"id") {
         Some(Field::Id)
     } else {
         None

@@ -1,6 +1,6 @@
 -- The proofs of snap_explanation, by their modules.
 pub mod Counts
 pub mod Cuts
-pub mod Joined
+pub mod Grown
 pub mod SpokenTokens
 pub mod FirstWrong

@@ -2,7 +2,7 @@
 -- Adds bytes as they are shown.
 use Rattle.std.proofs.Common.{drop}
 use Rattle.snap_explanation.specs.Spot.{shown}
-use Rattle.snap_explanation.proofs.Joined.{AddsBut}
+use Rattle.snap_explanation.proofs.Grown.{AddsBut}
 use Rattle.snap_explanation.proofs.spot.push_shown.Given as goal
 
 abbrev pub invariant-loop-byte : goal.invariant-loop-byte

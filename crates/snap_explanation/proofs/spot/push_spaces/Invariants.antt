@@ -1,7 +1,7 @@
 -- `push_spaces` of snap_explanation (src/spot.rt): what holds at the head of each of its loops.
 -- Adds spaces.
 use Rattle.std.proofs.Common.{replicate}
-use Rattle.snap_explanation.proofs.Joined.{AddsBut}
+use Rattle.snap_explanation.proofs.Grown.{AddsBut}
 use Rattle.snap_explanation.proofs.spot.push_spaces.Given as goal
 
 abbrev pub invariant-loop-left : goal.invariant-loop-left

@@ -2,7 +2,7 @@
 -- Adds all that may stand next.
 use Rattle.std.proofs.Common.{length}
 use Rattle.snap_explanation.specs.Texts.{expected_words}
-use Rattle.snap_explanation.proofs.Joined.{AddsBut}
+use Rattle.snap_explanation.proofs.Grown.{AddsBut}
 use Rattle.snap_explanation.proofs.texts.push_expected.Given as goal
 
 abbrev pub invariant-loop-rest : goal.invariant-loop-rest

@@ -23,12 +23,22 @@ use snap_words::Kind;
 use std::alloc::{AllocError, Global};
 
 /// A machine, and what callers saw of the items that it has done.
-#[derive(Drop)]
 pub struct Course<K: Kind> {
     pub machine: Machine<OwnCode<K>>,
     pub events: Vec<Event>,
     /// How many items it has done.
     pub done: u64,
+}
+
+impl<K: Kind> Drop for Course<K> {
+    // Written out, so that it is proved here and not once more wherever one is dropped.
+    fn drop(self) {
+        let Course {
+            machine: _,
+            events: _,
+            done: _,
+        } = self;
+    }
 }
 
 /// Whether an item is a step of a process that is not busy: it does nothing, however often it

@@ -30,10 +30,19 @@ use std::marker::Model;
 pub const MAX_MARKS: usize = 64;
 
 /// Breakpoints and watched registers, each in the order in which they were set.
-#[derive(Drop)]
 pub struct Marks {
     breaks: Vec<Breakpoint>,
     watches: Vec<Address>,
+}
+
+impl Drop for Marks {
+    // Written out, so that it is proved here and not once more wherever one is dropped.
+    fn drop(self) {
+        let Marks {
+            breaks: _,
+            watches: _,
+        } = self;
+    }
 }
 
 impl Model for Marks {

@@ -22,10 +22,19 @@ use snap_words::{Address, Field, Kind, field_of, same_handshakes, view_of};
 use std::alloc::AllocError;
 
 /// Two machines at one position.
-#[derive(Drop)]
 pub struct Walk<K: Kind> {
     before: Checkpoint<K>,
     after: Checkpoint<K>,
+}
+
+impl<K: Kind> Drop for Walk<K> {
+    // Written out, so that it is proved here and not once more wherever one is dropped.
+    fn drop(self) {
+        let Walk {
+            before: _,
+            after: _,
+        } = self;
+    }
 }
 
 /// Whether these are the same numbers.

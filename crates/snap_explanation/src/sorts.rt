@@ -13,13 +13,25 @@ use snap_words::KindTag;
 use std::alloc::{AllocError, Global};
 
 /// The names of a listing by their sorts, and its kind.
-#[derive(Drop)]
 pub struct Names<'a> {
     pub kind: KindTag,
     pub scalars: Vec<&'a [u8]>,
     pub rows: Vec<&'a [u8]>,
     pub words: Vec<&'a [u8]>,
     pub views: Vec<&'a [u8]>,
+}
+
+impl Drop for Names<'_> {
+    // Written out, so that it is proved here and not once more wherever one is dropped.
+    fn drop(self) {
+        let Names {
+            kind: _,
+            scalars: _,
+            rows: _,
+            words: _,
+            views: _,
+        } = self;
+    }
 }
 
 /// The sort that a header line declares, by its first word.

@@ -25,10 +25,16 @@ pub(crate) enum StoredItem {
 
 /// Items in order, seen as their list and as whether there is room for one more. Operations are
 /// kept for calls alone.
-#[derive(Drop)]
 pub struct History {
     items: Vec<StoredItem>,
     calls: Vec<Called>,
+}
+
+impl Drop for History {
+    // Written out, so that it is proved here and not once more wherever one is dropped.
+    fn drop(self) {
+        let History { items: _, calls: _ } = self;
+    }
 }
 
 impl Model for History {

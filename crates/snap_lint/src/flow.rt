@@ -24,7 +24,6 @@ use std::alloc::{AllocError, Global};
 use std::marker::Model;
 
 /// The lines to which control may come, by what the process is at; and those from which it may end.
-#[derive(Drop)]
 pub struct Flow {
     scan: Vec<u64>,
     scan_call: Vec<u64>,
@@ -33,6 +32,21 @@ pub struct Flow {
     out: Vec<u64>,
     call_out: Vec<u64>,
     unwritten: Vec<u64>,
+}
+
+impl Drop for Flow {
+    // Written out, so that it is proved here and not once more wherever one is dropped.
+    fn drop(self) {
+        let Flow {
+            scan: _,
+            scan_call: _,
+            update: _,
+            update_call: _,
+            out: _,
+            call_out: _,
+            unwritten: _,
+        } = self;
+    }
 }
 
 impl Model for Flow {

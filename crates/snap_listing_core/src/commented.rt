@@ -7,10 +7,19 @@ use crate::listing::Listing;
 use std::marker::Model;
 
 /// A listing, and for each of its lines its comment, if it has one: the bytes behind its `#`.
-#[derive(Drop)]
 pub struct CommentedListing {
     listing: Listing,
     comments: Vec<Option<Vec<u8>>>,
+}
+
+impl Drop for CommentedListing {
+    // Written out, so that it is proved here and not once more wherever one is dropped.
+    fn drop(self) {
+        let CommentedListing {
+            listing: _,
+            comments: _,
+        } = self;
+    }
 }
 
 impl Model for CommentedListing {
@@ -44,7 +53,11 @@ impl CommentedListing {
     pub fn into_listing(self) -> Listing
         ensures { result ≡ self.source }
     {
-        self.listing
+        let CommentedListing {
+            listing,
+            comments: _,
+        } = self;
+        listing
     }
 
     /// The comments of its lines, in their order. With the listing they keep the rules of comments.

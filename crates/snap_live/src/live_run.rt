@@ -59,12 +59,18 @@ impl Turns {
 }
 
 /// What all workers did.
-#[derive(Drop)]
 pub struct LiveRun<K: Kind> {
     /// The record of all turns.
     pub kept: Record<K>,
     /// The turns of each process, in the order of processes.
     pub turns: Vec<Turns>,
+}
+
+impl<K: Kind> Drop for LiveRun<K> {
+    // Written out, so that it is proved here and not once more wherever one is dropped.
+    fn drop(self) {
+        let LiveRun { kept: _, turns: _ } = self;
+    }
 }
 
 /// The promise of a worker, about what it is given.

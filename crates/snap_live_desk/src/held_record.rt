@@ -13,9 +13,15 @@ use std::alloc::{AllocError, Global};
 use std::marker::Model;
 
 /// A record in a box, so that it moves as a pointer.
-#[derive(Drop)]
 pub struct HeldRecord<K: Kind> {
     record: Box<Record<K>>,
+}
+
+impl<K: Kind> Drop for HeldRecord<K> {
+    // Written out, so that it is proved here and not once more wherever one is dropped.
+    fn drop(self) {
+        let HeldRecord { record: _ } = self;
+    }
 }
 
 impl<K: Kind> Model for HeldRecord<K> {

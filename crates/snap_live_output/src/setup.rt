@@ -18,10 +18,19 @@ use std::alloc::Global;
 use std::marker::Model;
 
 /// A program, and a script for each process.
-#[derive(Drop)]
 pub struct Setup {
     program: Program,
     scripts: Scripts,
+}
+
+impl Drop for Setup {
+    // Written out, so that it is proved here and not once more wherever one is dropped.
+    fn drop(self) {
+        let Setup {
+            program: _,
+            scripts: _,
+        } = self;
+    }
 }
 
 impl Model for Setup {

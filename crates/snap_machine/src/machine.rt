@@ -52,12 +52,23 @@ use std::alloc::{AllocError, Global};
 use std::marker::Model;
 
 /// Processes that run a program over registers, seen as the program, the shape and the state.
-#[derive(Drop)]
 pub struct Machine<K: Kind> {
     alloc: Global,
     program: Program,
     registers: Registers<K>,
     processes: Vec<SlotProcess<K>>,
+}
+
+impl<K: Kind> Drop for Machine<K> {
+    // Written out, so that it is proved here and not once more wherever one is dropped.
+    fn drop(self) {
+        let Machine {
+            alloc: _,
+            program: _,
+            registers: _,
+            processes: _,
+        } = self;
+    }
 }
 
 impl<K: Kind> Model for Machine<K> {

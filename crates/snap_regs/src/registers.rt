@@ -25,13 +25,25 @@ use std::alloc::{AllocError, Global};
 use std::marker::Model;
 
 /// The registers of a shape, seen as the shape and the memory that they make. Indices count from 1.
-#[derive(Drop)]
 pub struct Registers<K: Kind> {
     shape: Shape,
     words: Vec<K::Word>,
     q: BitRows,
     p: BitRows,
     views: Vec<View>,
+}
+
+impl<K: Kind> Drop for Registers<K> {
+    // Written out, so that it is proved here and not once more wherever one is dropped.
+    fn drop(self) {
+        let Registers {
+            shape: _,
+            words: _,
+            q: _,
+            p: _,
+            views: _,
+        } = self;
+    }
 }
 
 impl<K: Kind> Model for Registers<K> {

@@ -15,7 +15,6 @@ use std::marker::Model;
 
 /// A list of fewer than 2^32 items, kept as its greatest segments: steps of one process side by
 /// side take 8 bytes, however many they are.
-#[derive(Drop)]
 pub struct Items {
     segments: Vec<SegmentStart>,
     /// The segments that are calls and crashes.
@@ -23,6 +22,18 @@ pub struct Items {
     len: u32,
     /// The process whose steps the last segment is, where it is steps.
     stepping: Option<u32>,
+}
+
+impl Drop for Items {
+    // Written out, so that it is proved here and not once more wherever one is dropped.
+    fn drop(self) {
+        let Items {
+            segments: _,
+            singles: _,
+            len: _,
+            stepping: _,
+        } = self;
+    }
 }
 
 impl Model for Items {

@@ -13,10 +13,16 @@ pub const MAX_BYTES: usize = 4_194_304;
 
 /// A shape, and the items in order. Its processes are there, and there are at most `MAX_ITEMS`
 /// items.
-#[derive(Drop)]
 pub struct Schedule {
     shape: Shape,
     items: Items,
+}
+
+impl Drop for Schedule {
+    // Written out, so that it is proved here and not once more wherever one is dropped.
+    fn drop(self) {
+        let Schedule { shape: _, items: _ } = self;
+    }
 }
 
 impl Model for Schedule {

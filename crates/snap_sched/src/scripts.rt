@@ -9,10 +9,19 @@ use std::marker::Model;
 
 /// What a process asks for, in order, and the turn at which it crashes, counted from 1, where it
 /// does.
-#[derive(Drop)]
 pub struct Script {
     operations: Vec<Op>,
     crash: Option<u64>,
+}
+
+impl Drop for Script {
+    // Written out, so that it is proved here and not once more wherever one is dropped.
+    fn drop(self) {
+        let Script {
+            operations: _,
+            crash: _,
+        } = self;
+    }
 }
 
 impl Model for Script {
@@ -24,10 +33,19 @@ impl Model for Script {
 }
 
 /// A shape, and a script for each of its processes.
-#[derive(Drop)]
 pub struct Scripts {
     shape: Shape,
     scripts: Vec<Script>,
+}
+
+impl Drop for Scripts {
+    // Written out, so that it is proved here and not once more wherever one is dropped.
+    fn drop(self) {
+        let Scripts {
+            shape: _,
+            scripts: _,
+        } = self;
+    }
 }
 
 impl Model for Scripts {

@@ -16,9 +16,19 @@ pub enum Happening {
 }
 
 /// An event of a process at an item, counted from 1.
-#[derive(Drop)]
 pub struct Event {
     pub item: u64,
     pub process: u32,
     pub what: Happening,
+}
+
+impl Drop for Event {
+    // Written out, so that it is proved here and not once more wherever one is dropped.
+    fn drop(self) {
+        let Event {
+            item: _,
+            process: _,
+            what: _,
+        } = self;
+    }
 }

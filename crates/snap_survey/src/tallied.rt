@@ -21,10 +21,19 @@ use snap_words::{Kind, Shape};
 use std::alloc::{AllocError, Global};
 
 /// A record, and what its items came to.
-#[derive(Drop)]
 struct TalliedRecord<K: Kind> {
     record: Record<K>,
     tally: Tally,
+}
+
+impl<K: Kind> Drop for TalliedRecord<K> {
+    // Written out, so that it is proved here and not once more wherever one is dropped.
+    fn drop(self) {
+        let TalliedRecord {
+            record: _,
+            tally: _,
+        } = self;
+    }
 }
 
 impl<K: Kind> TalliedRecord<K> {

@@ -24,11 +24,3 @@ loop-k-preserved g c =
     one_done c.args.self.now c.args.items.now c.args.count c.loop-k.k c.loop-k.self c.add.new.self c.loop-k.left
     c.next.new.self c.in-Some.item
     c.loop-k.invariant lt c.in-Some.ensures.steps c.in_ok-_outcome.ensures.done.0
-
-pub loop-k-preserved-in_ok-_outcome-2 : goal.loop-k-preserved-in_ok-_outcome-2
-loop-k-preserved-in_ok-_outcome-2 g c =
-    let test = c.loop-k-test.true in
-    let lt : c.loop-k.k < c.args.count = omega (arith, test) in
-    one_done c.args.self.now c.args.items.now c.args.count c.loop-k.k c.loop-k.self c.add.new.self c.loop-k.left
-    c.next.new.self c.in-Some.item
-    c.loop-k.invariant lt c.in-Some.ensures.steps c.in_ok-_outcome.ensures.done.0

@@ -22,13 +22,16 @@ class Bad(Exception):
 
 
 class Edit:
-    """An edit: what it is called, the texts of the files that it changes, and the functions whose contracts it is to break."""
+    """An edit: what it is called, what it replaces, the texts of the files that it changes, and the functions whose contracts it is to
+    break. It is of bodies alone where all that it replaces stands in these functions."""
 
     def __init__(self, path):
         self.crate = path.split("/crates/")[-1].split("/")[0]
         self.name = f"{self.crate}/{os.path.basename(path)[: -len('.edit')]}"
+        self.replacements = []
         self.texts = {}
         self.functions = []
+        self.is_of_bodies = True
         named, file, old = [], None, None
         with open(path, encoding="utf-8") as text:
             lines = text.read().splitlines()
@@ -46,19 +49,36 @@ class Edit:
             else:
                 raise Bad(f"what is this line: {line}")
         self.functions = named or self.functions
+        self.is_of_bodies = self.is_of_bodies and not named and bool(self.functions)
 
     def replace(self, file, old, new):
-        if file not in self.texts:
-            with open(f"{TOP}/crates/{self.crate}/{file}", encoding="utf-8") as text:
-                self.texts[file] = text.read()
-        count = self.texts[file].count(old)
-        if count != 1:
-            raise Bad(f"{file} has {count} times: {old}")
-        start = self.texts[file].index(old)
-        self.texts[file] = self.texts[file].replace(old, new)
-        if file.startswith("src/"):
-            found = functions_at(file, self.texts[file], start, start + len(new))
-            self.functions += [it for it in found if it not in self.functions]
+        self.replacements.append((file, old, new))
+        start = replace_in(self.texts, self.crate, file, old, new)
+        found = functions_at(file, self.texts[file], start, start + len(new)) if file.startswith("src/") else []
+        self.is_of_bodies = self.is_of_bodies and bool(found)
+        self.functions += [it for it in found if it not in self.functions]
+
+
+def replace_in(texts, crate, file, old, new):
+    """Replaces a text that stands once in a file of a crate, in the texts of its files that were changed already, and gives its place."""
+    if file not in texts:
+        with open(f"{TOP}/crates/{crate}/{file}", encoding="utf-8") as text:
+            texts[file] = text.read()
+    count = texts[file].count(old)
+    if count != 1:
+        raise Bad(f"{file} has {count} times: {old}")
+    start = texts[file].index(old)
+    texts[file] = texts[file].replace(old, new)
+    return start
+
+
+def texts_of(edits):
+    """The texts of a crate's files with all of these edits."""
+    texts = {}
+    for edit in edits:
+        for file, old, new in edit.replacements:
+            replace_in(texts, edit.crate, file, old, new)
+    return texts
 
 
 def functions_in(crate):
@@ -129,10 +149,14 @@ class Prover:
     def lacking(self, crate):
         """The first crate below a crate whose library is missing, or older than what it is made of."""
         for name in self.all_below(crate):
-            library = f"{TOP}/crates/{name}/out/rlib/{name}.rlib/format"
-            if not os.path.isfile(library) or any(os.path.getmtime(it) > os.path.getmtime(library) for it in files_of(name)):
+            if not is_newer(f"{TOP}/crates/{name}/out/rlib/{name}.rlib/format", name):
                 return name
         return None
+
+    def has_proved(self, crate):
+        """Whether the gate has proved the crate as it stands: it has left its library, which only a proved crate has."""
+        library = f"{TOP}/crates/{crate}/out/rlib/{crate}.rlib/format"
+        return is_newer(library, crate) and not self.lacking(crate)
 
     def need_libraries(self, crate):
         """Makes the libraries below a crate that the gate has not left here."""
@@ -171,15 +195,18 @@ class Prover:
             ran = subprocess.run([*self.words(crate), "--incremental", kept, *only], errors="replace", **how)
             return ran.returncode, ran.stdout.rstrip("\n").split("\n")
 
-    def is_refused(self, edit, kept):
-        """Whether the prover refuses one of the functions of an edit."""
-        status, lines = self.check(edit.crate, edit.texts, edit.functions, kept)
-        unread = next((it for it in lines if is_unread(it, edit.texts)), None)
+    def refused(self, edits, kept):
+        """Those of a crate's edits, made together, of which the prover refuses a function for what stands in that function itself."""
+        crate, texts = edits[0].crate, texts_of(edits)
+        status, lines = self.check(crate, texts, [name for it in edits for name in it.functions], kept)
+        unread = next((it for it in lines if is_unread(it, texts)), None)
         if unread or not re.match(r"only=\d+ proved=|logic=", lines[-1]) or status not in (0, 1):
             raise Bad(unread or next((it for it in lines if "error" in it), lines[-1]))
-        # (a line may go on, as 'fn NAME: proved, may wait')
-        of_it = [it for it in lines for name in edit.functions if re.match(rf"fn {edit.crate}::(.*::)?{name}: ", it)]
-        return status == 1 and (not edit.functions or any(": proved" not in it for it in of_it))
+        return [it for it in edits if status == 1 and (not it.functions or any(is_of_own(crate, name, lines) for name in it.functions))]
+
+    def is_refused(self, edit, kept):
+        """Whether the prover refuses one of the functions of an edit."""
+        return bool(self.refused([edit], kept))
 
     def is_proved(self, crate, texts, functions, kept):
         """Whether all these functions are proved, or the whole crate where there are none."""
@@ -192,6 +219,18 @@ def files_of(crate, parts=PARTS):
     for part in parts:
         for at, _, names in os.walk(f"{TOP}/crates/{crate}/{part}"):
             yield from (os.path.join(at, name) for name in names)
+
+
+def is_newer(made, crate):
+    """Whether a file is there, and newer than all that a crate is made of."""
+    return os.path.isfile(made) and all(os.path.getmtime(it) <= os.path.getmtime(made) for it in files_of(crate))
+
+
+def is_of_own(crate, name, lines):
+    """Whether the prover says of a function that it is not proved, and not only that it calls one that is not."""
+    # (a line may go on, as 'fn NAME: proved, may wait')
+    of_it = [it for it in lines if re.match(rf"fn {crate}::(.*::)?{name}: ", it)]
+    return any(not re.search(": proved|: no proof: it calls ", it) for it in of_it)
 
 
 def is_unread(line, texts):

@@ -146,26 +146,17 @@ class Prover:
                 found[name] = None
         return found
 
-    def lacking(self, crate):
-        """The first crate below a crate whose library is missing, or older than what it is made of."""
-        for name in self.all_below(crate):
-            if not is_newer(f"{TOP}/crates/{name}/out/rlib/{name}.rlib/format", name):
-                return name
-        return None
-
     def has_proved(self, crate):
-        """Whether the gate has proved the crate as it stands: it has left its library, which only a proved crate has."""
-        library = f"{TOP}/crates/{crate}/out/rlib/{crate}.rlib/format"
-        return is_newer(library, crate) and not self.lacking(crate)
+        """Whether the crate is proved as it stands: it has its library, which only a proved crate has, and so have those below it."""
+        return all(is_newer(library_of(it), it) for it in [crate, *self.all_below(crate)])
 
     def need_libraries(self, crate):
         """Makes the libraries below a crate that the gate has not left here."""
-        made = None
-        while lacking := self.lacking(crate):
-            if lacking == made:
-                sys.exit(f"'rt lib' made no library of {lacking} in out/rlib")
-            made = lacking
-            subprocess.run(["rt", "lib"], cwd=f"{TOP}/crates/{lacking}", check=True)
+        for name in self.all_below(crate):
+            if not is_newer(library_of(name), name):
+                subprocess.run(["rt", "lib"], cwd=f"{TOP}/crates/{name}", check=True)
+                # (one of the same text is kept, and keeps its time)
+                os.utime(library_of(name))
 
     def words(self, crate):
         """The prover's words for a check of a crate."""
@@ -219,6 +210,11 @@ def files_of(crate, parts=PARTS):
     for part in parts:
         for at, _, names in os.walk(f"{TOP}/crates/{crate}/{part}"):
             yield from (os.path.join(at, name) for name in names)
+
+
+def library_of(crate):
+    """The file that stands for the library of a crate."""
+    return f"{TOP}/crates/{crate}/out/rlib/{crate}.rlib/format"
 
 
 def is_newer(made, crate):

@@ -2,3 +2,5 @@
 pub mod Forms
 pub mod Commands
 pub mod NotLost
+pub mod SpokenTokens
+pub mod FirstWrong

@@ -2,5 +2,3 @@
 pub mod Counts
 pub mod Cuts
 pub mod Grown
-pub mod SpokenTokens
-pub mod FirstWrong

@@ -11,4 +11,3 @@ pub mod Misuse
 pub mod Inputs
 pub mod Explanation
 pub mod Views
-pub mod Laws

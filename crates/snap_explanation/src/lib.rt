@@ -5,7 +5,6 @@
 mod advice;
 mod explain;
 mod inputs;
-mod laws;
 mod layout;
 mod misuse;
 mod names;
@@ -17,5 +16,4 @@ mod texts;
 mod token_uses;
 
 pub use explain::explanation;
-pub use laws::a_line_is_refused_for_the_token_found;
 pub use layout::{Layout, Texts, layout_of};

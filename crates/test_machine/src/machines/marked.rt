@@ -22,7 +22,7 @@ impl Kind for Marked {
     ghost use Rattle.snap_words.specs.Kind.{is_bit};
     ghost use Rattle.snap_words.specs.Word.{Word};
     ghost use Rattle.snap_words.specs.declared.kind.KindTag.TheVariants as tag;
-    ghost use Rattle.test_machine.specs.declared.tests.marked.MarkedWord.{MarkedWord};
+    ghost use Rattle.test_machine.specs.declared.machines.marked.MarkedWord.{MarkedWord};
 
     type Word = MarkedWord;
 

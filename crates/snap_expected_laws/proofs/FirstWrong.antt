@@ -17,7 +17,7 @@ use Rattle.snap_listing_grammar.proofs.HasForms.{Holds}
 use Rattle.snap_listing_grammar.proofs.SpelledForms.{LineIs, line_is}
 use Rattle.snap_listing_grammar.proofs.SpelledTerms.{Shorts}
 use Rattle.snap_expected.specs.Pieces.{PlacedToken}
-use Rattle.snap_explanation.specs.Laws.{check_of}
+use Rattle.snap_expected_laws.specs.RefusedForToken.{check_of}
 use Rattle.snap_explanation.specs.Misuse.{Misuse, is_right, right_or, step_at, goes_on}
 use Rattle.snap_explanation.specs.Misuse.{first_wrong, wrong_in_form, wrong_in_line}
 use Rattle.snap_explanation.specs.Names.{tokens_of_placed}
@@ -25,7 +25,7 @@ use Rattle.snap_explanation.specs.Sorts.{is_sort}
 use Rattle.snap_explanation.specs.TokenUses.{use_at, slot_after, with_use, token_uses}
 use Rattle.snap_explanation.specs.declared.token_uses.Slot.{Slot}
 use Rattle.snap_explanation.specs.declared.token_uses.Slot.TheVariants as slot
-use Rattle.snap_explanation.proofs.SpokenTokens.{Spoken, instr_reads}
+use Rattle.snap_expected_laws.proofs.SpokenTokens.{Spoken, instr_reads}
 
 abbrev Done : Type 0
 Done = Result (Unit {0}) ListingRefusal

@@ -48,7 +48,7 @@ use Rattle.snap_semantics.specs.Uses.{Use, Named, BankUse, FieldUse, HandshakeUs
 use Rattle.snap_semantics.specs.Uses.{index_uses, term_uses, expr_uses, comparison_uses}
 use Rattle.snap_semantics.specs.Uses.{condition_uses, where_uses, tuple_uses, instr_uses}
 use Rattle.snap_listing_grammar.proofs.Alls.{all_first, all_rest, all_both}
-use Rattle.snap_explanation.specs.Laws.{SpeaksName}
+use Rattle.snap_expected_laws.specs.RefusedForToken.{SpeaksName}
 use Rattle.snap_explanation.specs.TokenUses.{opens_with, ends_with_view, lone_sort, sort_at, field_use, word_use}
 use Rattle.snap_explanation.specs.TokenUses.{slot_of_word, with_use, token_uses}
 use Rattle.snap_explanation.specs.declared.token_uses.Slot.{Slot}

@@ -1,5 +1,6 @@
 //! Tests of turns at a desk, also of seats in threads, and of scripts that are played there at
-//! once.
+//! once; and of whole runs of the program, on devices in memory. What the program writes for an
+//! input is tried by the program itself, in `.ci/cases`.
 #![tactic(auto)]
 
 #[cfg(test)]
@@ -8,6 +9,8 @@ mod benches;
 mod conducts;
 #[cfg(test)]
 mod desks;
+#[cfg(test)]
+mod devices_of_memory;
 #[cfg(test)]
 mod gates;
 #[cfg(test)]
@@ -18,5 +21,7 @@ mod meeting;
 mod numbers;
 #[cfg(test)]
 mod programs;
+#[cfg(test)]
+mod runs;
 #[cfg(test)]
 mod seats;

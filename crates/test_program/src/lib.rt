@@ -1,8 +1,3 @@
-//! Tests of whole runs of the program, through its public calls. What the program writes for an input
-//! is tried by the program itself, in `.ci/cases`.
+//! Worked samples of what the program writes, from the bytes that it reads to the bytes that it
+//! writes: they are computed from the definitions alone.
 #![tactic(auto)]
-
-#[cfg(test)]
-mod devices_of_memory;
-#[cfg(test)]
-mod runs;

@@ -1,8 +1,8 @@
--- `TrickleByteSource::read` of test_program (src/devices_of_memory.rt): the proof of what its contract says.
+-- `TrickleByteSource::read` of test_live (src/devices_of_memory.rt): the proof of what its contract says.
 use Rattle.std.proofs.Common.{◌≡◌, ℕ, ◌<◌, length, List, [], ◌∷◌, ◌++◌, take, drop}
 use Rattle.std.proofs.Common.{slice_index_or, slice_set, refl, arith}
 use Rattle.snap_input.proofs.Splits.{some_left}
-use Rattle.test_program.proofs.devices_of_memory.TrickleByteSource.read.Goals as goal
+use Rattle.test_live.proofs.devices_of_memory.TrickleByteSource.read.Goals as goal
 
 one_moved : (rest buffer : List ℕ) → 0 < length rest → 0 < length buffer →
     rest ≡ take 1 (slice_set buffer 0 (slice_index_or (take 1 rest) 0 0)) ++ drop 1 rest

@@ -147,8 +147,9 @@ class Prover:
         return found
 
     def has_proved(self, crate):
-        """Whether the crate is proved as it stands: it has its library, which only a proved crate has, and so have those below it."""
-        return all(is_newer(library_of(it), it) for it in [crate, *self.all_below(crate)])
+        """Whether the crate is proved as it stands: it has a library, which only a proved crate has, newer than its sources and those
+        of all crates below it."""
+        return all(is_newer(library_of(crate), it) for it in [crate, *self.all_below(crate)])
 
     def need_libraries(self, crate):
         """Makes the libraries below a crate that the gate has not left here."""

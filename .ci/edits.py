@@ -10,6 +10,7 @@ import shutil
 import subprocess
 import sys
 import tempfile
+import time
 
 sys.dont_write_bytecode = True
 TOP = os.path.realpath(os.path.join(os.path.dirname(os.path.abspath(__file__)), ".."))
@@ -130,6 +131,8 @@ class Prover:
         said = subprocess.run(["rt", "doc"], stdout=subprocess.PIPE, text=True, check=True).stdout
         self.kit = os.path.dirname(os.path.realpath(said.strip()))
         self.below, self.kinds = {}, {}
+        # of each check the crate, and how long it took
+        self.checks = []
         with open(f"{TOP}/crates.txt", encoding="utf-8") as lines:
             for line in lines:
                 head, colon, names = line.partition("#")[0].partition(":")
@@ -184,7 +187,9 @@ class Prover:
                     out.write(text)
             only = [word for name in functions for word in ("--only", name)]
             how = {"cwd": copy, "stdin": subprocess.DEVNULL, "stdout": subprocess.PIPE, "stderr": subprocess.STDOUT, "timeout": MOST_SECONDS}
+            begun = time.monotonic()
             ran = subprocess.run([*self.words(crate), "--incremental", kept, *only], errors="replace", **how)
+            self.checks.append((crate, time.monotonic() - begun))
             return ran.returncode, ran.stdout.rstrip("\n").split("\n")
 
     def refused(self, edits, kept):

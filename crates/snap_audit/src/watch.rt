@@ -3,7 +3,6 @@
 ghost use Rattle.std.specs.Prelude.{◌≡◌, ◌≤◌, ◌<◌, ◌+◌, ◌++◌, ◌∷◌, [], ℕ, IfOk, IsTrue, OnOk};
 ghost use Rattle.std.specs.Prelude.{◌-◌, false, length, map, option_to_list, replicate, slice_index, ◌^◌};
 ghost use Rattle.snap_words.specs.Shape.{IsOneOf, max_items};
-ghost use Rattle.snap_semantics.specs.Source.{instr_at};
 ghost use Rattle.snap_semantics.specs.State.{values};
 ghost use Rattle.snap_semantics.specs.Table.{who};
 ghost use Rattle.snap_semantics.specs.declared.event.Event.{Event};
@@ -13,14 +12,14 @@ ghost use Rattle.snap_runs.specs.Run.{Run, run_over};
 ghost use Rattle.snap_runs.specs.StepRoles.{StepRole, is_test, is_write, step_role_of};
 ghost use Rattle.snap_record.specs.History.{changes_to, counted};
 ghost use Rattle.snap_history.specs.Longer.{with_item, with_items};
-ghost use Rattle.snap_record.specs.Roles.{AreRoles, role_of};
+ghost use Rattle.snap_record.specs.Roles.{AreRoles};
 ghost use Rattle.snap_audit.specs.Watch.{Watches, is_test_line, is_write_line};
 
 use crate::sweep::sweep;
 use snap_asm_program::Program;
 use snap_history::event_of;
 use snap_machine::Machine;
-use snap_record::{Change, LineRole, Row, new_roles, note_values, role_of};
+use snap_record::{Change, LineRole, Row, new_roles, note_values, role_in};
 use snap_runs::Verdict;
 use snap_sched::Schedule;
 use snap_semantics::{Event, Item, Outcome, Status, who};
@@ -60,17 +59,6 @@ impl<K: Kind> Drop for Watch<K> {
     }
 }
 
-/// What the line of this number is.
-fn role_at(program: &Program, roles: &[LineRole], line: u64) -> LineRole
-    requires { AreRoles program.now roles.now }
-    ensures { result ≡ role_of (instr_at program.now.lines line) }
-{
-    match roles.get(line as usize) {
-        Some(role) => *role,
-        None => role_of(program.listing().instr(line)),
-    }
-}
-
 /// What the line is that an item does. An item that does none writes no word, and tests nothing for
 /// all.
 #[inline(always)]
@@ -87,7 +75,7 @@ fn item_role<K: Kind>(machine: &Machine<K>, roles: &[LineRole], item: Item) -> L
         return LineRole::Nothing;
     };
     match machine.status(i) {
-        Status::Busy(activity) => role_at(machine.program(), roles, activity.line),
+        Status::Busy(activity) => role_in(roles, activity.line),
         Status::Idle => LineRole::Nothing,
         Status::Trapped(_, _) => LineRole::Nothing,
         Status::Crashed(_) => LineRole::Nothing,

@@ -1,13 +1,12 @@
 -- A line with its first piece taken off: how its tokens with their columns, `placed_from`, go on after a lexeme, a
 -- symbol or a byte that begins no token.
-use Rattle.std.proofs.Common.{◌≡◌, ℕ, ◌+◌, ◌-◌, ◌<◌, ◌≤◌, List, [], ◌∷◌, ◌++◌, length, take, drop, get_or, Option}
+use Rattle.std.proofs.Common.{◌≡◌, ℕ, ◌+◌, ◌<◌, List, [], ◌∷◌, ◌++◌, length, take, drop, get_or, Option}
 use Rattle.std.proofs.Common.{Some, None, refl, sym, ap, ◌∙◌, arith, true, false, Bool, ◌&&◌, ◌||◌, nat_eq, add-one}
 use Rattle.std.proofs.Common.{if◌then◌else◌, subst, append-nil, append_assoc}
 use Rattle.std.proofs.lemmas.Bool.{eqb-true, and_parts}
-use Rattle.std.proofs.lemmas.Grind.{common_steps}
 use Rattle.snap_semantics.specs.Token.{Token, begins_with, is_lexeme_byte, tokens_of}
 use Rattle.snap_text.specs.Tokens.{lexeme_len}
-use Rattle.snap_expected.specs.Pieces.{PlacedToken, PlacedTokens, begins_lexeme, is_joined, onto_piece, pieces_of}
+use Rattle.snap_expected.specs.Pieces.{PlacedToken, PlacedTokens, is_joined, onto_piece, pieces_of}
 use Rattle.snap_expected.specs.Pieces.{piece_len, first_placed, onto_placed, placed_from}
 
 -- tokens before others

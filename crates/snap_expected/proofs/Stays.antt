@@ -1,6 +1,6 @@
 -- `stays`: a line that is lost at a token is lost there, whatever follows the token.
 use Rattle.std.proofs.Common.{◌≡◌, ℕ, ◌+◌, ◌≤◌, Bool, true, false, List, [], ◌∷◌, ◌++◌, length, Option, Some, None}
-use Rattle.std.proofs.Common.{if◌then◌else◌, refl, ap, arith}
+use Rattle.std.proofs.Common.{if◌then◌else◌, ap, arith}
 use Rattle.snap_semantics.specs.Token.{Token}
 use Rattle.snap_expected.specs.declared.wanted.Wanted.{Wanted}
 use Rattle.snap_expected.specs.Lost.{Place, lost, lost_at, step, may_end}

@@ -7,7 +7,6 @@ use Rattle.snap_semantics.specs.declared.text.Symbol.TheVariants as symbol
 use Rattle.snap_semantics.specs.ListingForms.{join_keyword}
 use Rattle.snap_semantics.specs.Token.{Token}
 use Rattle.snap_words.specs.Shape.{max_count, max_items}
-use Rattle.snap_expected.specs.declared.wanted.Keyword.{Keyword}
 use Rattle.snap_expected.specs.declared.wanted.Keyword.TheVariants as keyword
 use Rattle.snap_expected.specs.declared.wanted.Wanted.{Wanted}
 use Rattle.snap_expected.specs.declared.wanted.Wanted.TheVariants as wanted

@@ -1,6 +1,6 @@
 -- `StaysLost`: where a line of an input is lost at a token, so is each line that begins with the tokens up to that
 -- one.
-use Rattle.std.specs.Prelude.{◌≡◌, ℕ, List, ◌∷◌, ◌++◌, length, Some}
+use Rattle.std.specs.Prelude.{◌≡◌, List, ◌∷◌, ◌++◌, length, Some}
 use Rattle.snap_semantics.specs.Token.{Token}
 use Rattle.snap_expected.specs.declared.sorts.LineSort.{LineSort}
 use Rattle.snap_expected.specs.Lost.{Place, lost_in}

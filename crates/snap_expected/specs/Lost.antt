@@ -1,6 +1,6 @@
 -- `lost_in`: where a line of an input is lost, the first token with which no line of its sort goes on; and what is
 -- wanted there.
-use Rattle.std.specs.Prelude.{ℕ, ◌+◌, Bool, true, false, ◌&&◌, List, [], ◌∷◌, ◌++◌, Option, Some, None, if◌then◌else◌}
+use Rattle.std.specs.Prelude.{ℕ, ◌+◌, Bool, true, ◌&&◌, List, [], ◌∷◌, ◌++◌, Option, Some, None, if◌then◌else◌}
 use Rattle.snap_semantics.specs.declared.text.Symbol.TheVariants as symbol
 use Rattle.snap_semantics.specs.Token.{Token}
 use Rattle.snap_expected.specs.declared.wanted.Keyword.TheVariants as keyword

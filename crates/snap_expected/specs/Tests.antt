@@ -1,7 +1,6 @@
 -- Tests of a token, by which lines of an input are followed: whether it is a word, a name, a number in bounds, an
 -- index, a field, ..
 use Rattle.std.specs.Prelude.{ℕ, Bool, true, false, ◌&&◌, ◌||◌, not, List, nat_lt, nat_le, bytes_eq, codes}
-use Rattle.snap_words.specs.Shape.{max_count}
 use Rattle.snap_semantics.specs.declared.text.Symbol.{Symbol}
 use Rattle.snap_semantics.specs.declared.text.Symbol.TheVariants as symbol
 use Rattle.snap_semantics.specs.ListingForms.{is_reserved, is_line_number}

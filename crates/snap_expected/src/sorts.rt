@@ -1,7 +1,7 @@
 //! `LineSort`: the sorts of lines of an input: of a listing, a schedule, scripts or commands.
 
 /// A header line of a listing.
-#[derive(Clone, Copy, PartialEq, Eq)]
+#[derive(Clone, Copy)]
 pub enum Header {
     Kind,
     Scalars,
@@ -13,7 +13,7 @@ pub enum Header {
 }
 
 /// A line of a listing, of a schedule, of scripts or of commands.
-#[derive(Clone, Copy, PartialEq, Eq)]
+#[derive(Clone, Copy)]
 pub enum LineSort {
     Header(Header),
     /// A line with a number and an instruction.

@@ -2,7 +2,7 @@
 use snap_semantics::{Join, Symbol};
 
 /// A word of a line that stands for itself.
-#[derive(Clone, Copy, PartialEq, Eq)]
+#[derive(Clone, Copy)]
 pub enum Keyword {
     Kind,
     Scalar,
@@ -21,7 +21,7 @@ pub enum Keyword {
 
 /// A part of a line: a token, or tokens in a row by their rule. A rule with a `bool` is that of
 /// quantifiers, where `@` may be an index, if it is true.
-#[derive(Clone, Copy, PartialEq, Eq)]
+#[derive(Clone, Copy)]
 pub enum Wanted {
     Symbol(Symbol),
     Keyword(Keyword),

@@ -10,5 +10,6 @@ pub mod Events
 pub mod Searches
 pub mod Doing
 pub mod Within
+pub mod LastLine
 pub mod LineRoles
 pub mod PlainSteps

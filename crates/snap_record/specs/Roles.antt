@@ -1,6 +1,6 @@
 -- `LineRole`: which lines of a listing write a word, test, or return a view, for a record to note; a table by line
 -- number (`AreRoles`).
-use Rattle.std.specs.Prelude.{◌≡◌, ℕ, ◌<◌, List, length, Option, Some, None, get_or}
+use Rattle.std.specs.Prelude.{◌≡◌, ℕ, ◌≤◌, Bool, true, false, List, Option, Some, None, get_or}
 use Rattle.snap_semantics.specs.Source.{Source, instr_at}
 use Rattle.snap_semantics.specs.declared.instr.Instr.{Instr}
 use Rattle.snap_semantics.specs.declared.instr.Instr.TheVariants.{Put, IfAll, Return}
@@ -19,6 +19,24 @@ abbrev pub role_of : Option Instr → LineRole
 role_of None = role.Nothing
 role_of (Some i) = instr_role i
 
--- so many of the first numbers have the roles of their lines
+-- the role that a table has for a number; one that it does not have is no line's
+abbrev pub role_in : List LineRole → ℕ → LineRole
+role_in ms k = get_or ms k role.Nothing
+
+-- a table of the roles of all lines
 abbrev pub AreRoles : Source → List LineRole → Type 0
-AreRoles s ms = (k : ℕ) → k < length ms → (d : LineRole) → get_or ms k d ≡ role_of (instr_at s.lines k)
+AreRoles s ms = (k : ℕ) → role_in ms k ≡ role_of (instr_at s.lines k)
+
+-- no line has this number, or a greater one
+abbrev pub NoneBeyond : Source → ℕ → Type 0
+NoneBeyond s n = (k : ℕ) → n ≤ k → instr_at s.lines k ≡ None
+
+-- whether a role tells that a record notes nothing of the line
+abbrev pub is_plain : LineRole → Bool
+is_plain role.Nothing = true
+is_plain _ = false
+
+-- whether a role tells all that a record notes of the line
+abbrev pub is_telling : LineRole → Bool
+is_telling role.Return = false
+is_telling _ = true

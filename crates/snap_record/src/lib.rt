@@ -16,7 +16,7 @@ pub use fault::RecordFault;
 pub use history::{Change, note_values};
 pub use over::record_over;
 pub use record::{MAX_ITEMS, Record};
-pub use roles::{LineRole, new_roles, role_of};
+pub use roles::{LineRole, new_roles, role_in};
 pub use row::Row;
 pub use snap_history::History;
 pub use walk::advance;

@@ -1,16 +1,16 @@
 //! `LineRole`: which lines of a program write a word, test, or return a view; a record looks it up
 //! by line number.
-ghost use Rattle.std.specs.Prelude.{◌≡◌, IfOk, IfSome, IsTrue, option_map};
+ghost use Rattle.std.specs.Prelude.{◌≡◌, IfOk, IfSome, IsTrue, is_some, option_map};
 ghost use Rattle.snap_semantics.specs.Source.{Source, instr_at};
 ghost use Rattle.snap_semantics.specs.State.{Locals};
 ghost use Rattle.snap_semantics.specs.declared.process.Activity.{Activity};
 ghost use Rattle.snap_runs.specs.StepRoles.{step_role_at, Nothing};
-ghost use Rattle.snap_record.specs.Roles.{AreRoles, role_of};
+ghost use Rattle.snap_record.specs.Roles.{AreRoles, NoneBeyond, is_plain, is_telling, role_in, role_of};
 ghost use Rattle.snap_record.specs.SeenRoles.{seen_step_role};
 
 use crate::step_role::StepRole;
 use snap_asm_program::Program;
-use snap_semantics::{Instr, Line};
+use snap_semantics::Instr;
 use std::alloc::{AllocError, Global};
 
 /// A line that writes a word, one that tests for all, one that may answer a scan, or another.
@@ -23,7 +23,7 @@ pub enum LineRole {
 }
 
 /// What an instruction is.
-pub fn role_of(instr: Option<&Instr>) -> LineRole
+fn role_of(instr: Option<&Instr>) -> LineRole
     ensures { result ≡ role_of (option_map (λ i. i.now) instr.entry) }
 {
     match instr {
@@ -34,11 +34,12 @@ pub fn role_of(instr: Option<&Instr>) -> LineRole
     }
 }
 
-/// The number after that of the last line: no line has it, or a greater one. No result depends on
-/// it, since a line that is not looked up beforehand is looked up when it is run.
-fn end_number(lines: &[Line]) -> u64 {
-    match lines.last() {
-        Some(line) => line.number.saturating_add(1),
+/// The number after that of the last line.
+fn end_number(program: &Program) -> u64
+    ensures { NoneBeyond program.now result }
+{
+    match program.listing().lines().last() {
+        Some(line) => line.number + 1,
         None => 0,
     }
 }
@@ -49,19 +50,30 @@ pub fn new_roles(alloc: Global, program: &Program) -> Result<Vec<LineRole>, Allo
 {
     let listing = program.listing();
     let mut roles = Vec::new(alloc);
-    for number in 0..end_number(listing.lines()) {
+    for number in 0..end_number(program) {
         roles.push(role_of(listing.instr(number)))?;
     }
     Ok(roles)
 }
 
+/// The role of the line with this number. One that the table does not have is no line's.
+#[inline(always)]
+pub fn role_in(roles: &[LineRole], line: u64) -> LineRole
+    ensures { result ≡ role_in roles.now line }
+{
+    match roles.get(line as usize) {
+        Some(role) => *role,
+        None => LineRole::Nothing,
+    }
+}
+
 /// What a line does, where its number tells that.
 pub fn step_role_by(roles: &[LineRole], line: u64) -> Option<StepRole>
-    ensures { (a : Activity) (l : Locals) (s : Source) → AreRoles s roles.now →
+    ensures told { is_some result ≡ is_telling (role_in roles.now line) }
+    ensures role { (a : Activity) (l : Locals) (s : Source) → AreRoles s roles.now →
         IfSome result (λ d. seen_step_role d ≡ step_role_at a l (instr_at s.lines line)) }
 {
-    let role = *roles.get(line as usize)?;
-    match role {
+    match role_in(roles, line) {
         LineRole::Write => Some(StepRole::Write),
         LineRole::Test => Some(StepRole::Test),
         LineRole::Return => None,
@@ -73,11 +85,12 @@ pub fn step_role_by(roles: &[LineRole], line: u64) -> Option<StepRole>
 /// nothing.
 #[inline(always)]
 pub fn is_plain(roles: &[LineRole], line: u64) -> bool
-    ensures { (a : Activity) (l : Locals) (s : Source) → AreRoles s roles.now → IsTrue result →
+    ensures told { result ≡ is_plain (role_in roles.now line) }
+    ensures role { (a : Activity) (l : Locals) (s : Source) → AreRoles s roles.now → IsTrue result →
         step_role_at a l (instr_at s.lines line) ≡ Nothing }
 {
-    match roles.get(line as usize) {
-        Some(LineRole::Nothing) => true,
+    match role_in(roles, line) {
+        LineRole::Nothing => true,
         _ => false,
     }
 }

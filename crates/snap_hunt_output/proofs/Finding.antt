@@ -1,12 +1,12 @@
 -- How a hunt's output is right: a run that fails is found to fail alike when only its kind of failure is wanted, and
 -- a hunt of a text is one of its listing (`IsHunted`).
-use Rattle.std.proofs.Common.{◌≡◌, ℕ, List, Bool, true, false, Option, Some, None, is_some, if◌then◌else◌, Result, Ok}
-use Rattle.std.proofs.Common.{Err, refl, sym, ap, subst, ◌∙◌}
+use Rattle.std.proofs.Common.{◌≡◌, ℕ, List, Bool, true, false, Option, Some, None, is_some, if◌then◌else◌, Ok}
+use Rattle.std.proofs.Common.{refl, sym, ap, subst, ◌∙◌}
 use Rattle.std.specs.Prelude.{option_map}
-use Rattle.snap_semantics.specs.Answers.{refused_as}
-use Rattle.snap_semantics.specs.Listing.{listing_of}
-use Rattle.snap_semantics.specs.declared.refusal.Refusal.TheVariants as refusal
-use Rattle.snap_hunt_output.specs.Hunted.{IsHunted, IsHuntedOf, run_kind}
+use Rattle.snap_hunt_output.specs.Hunted.{IsDue, IsFaultOf, IsHunted, IsHuntedOf, IsNoRefusal}
+use Rattle.snap_hunt_output.specs.Hunted.{asked_source, first_of, run_kind}
+use Rattle.snap_hunt_output.specs.declared.hunted.HuntFault.{HuntFault}
+use Rattle.snap_hunt_output.specs.declared.hunted.HuntFault.TheVariants.{Memory, Refused, Unsaid}
 use Rattle.snap_hunt_output.specs.declared.asked.Asked.{Asked}
 use Rattle.snap_hunt_output.specs.declared.hunted.Hunted.{Hunted}
 use Rattle.snap_semantics.specs.Schedule.{Schedule}
@@ -63,13 +63,20 @@ fails_over l p w seed k s is h e = record {
   fails = subst (λ (x : Schedule). fails_with l w x.shape x.items ≡ true) (sym is) e;
 }
 
--- an answer that is no refusal
-pub not_refused : {A E F : Type 0} (f : E → F) (r : Result A E) (x : A) → refused_as f r ≡ Ok x → r ≡ Ok x
-not_refused f (Ok y) x e = let same : y ≡ x = cc in ap Ok same
-not_refused f (Err r) x e = absurd cc
-
 -- what a hunt of a program comes to is what one of its listing does
 pub hunted_by : (text : List ℕ) (a : Asked) (l : Source) (h : Hunted) →
-    refused_as refusal.Listing (listing_of text) ≡ Ok l → IsHuntedOf l a h → IsHunted text a h
-hunted_by text a l h is hunted =
-    record { listing = l; is = not_refused refusal.Listing (listing_of text) l is; hunted = hunted }
+    asked_source text a ≡ Ok l → IsHuntedOf l a h → IsHunted text a h
+hunted_by text a l h is hunted = record { listing = l; is = is; hunted = hunted }
+
+-- a fault that refuses nothing, where a run fails
+pub fault_by : (l : Source) (a : Asked) (k : ℕ) (e : HuntFault) → first_of l a ≡ Some k → IsNoRefusal e → IsFaultOf l a e
+fault_by l a k Memory is h = tt
+fault_by l a k (Refused r) is h = h
+fault_by l a k Unsaid is h = ap is_some is
+
+-- a fault of a hunt of the listing that is asked for
+pub due_by : (text : List ℕ) (a : Asked) (l : Source) (e : HuntFault) → asked_source text a ≡ Ok l → IsFaultOf l a e →
+    IsDue text a e
+due_by text a l Memory is h = tt
+due_by text a l (Refused r) is h = absurd h
+due_by text a l Unsaid is h = (l, is, h)

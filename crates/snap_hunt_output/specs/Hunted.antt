@@ -1,12 +1,15 @@
 -- `IsHunted`: what a hunt comes to, that no run fails, or the first that does (`IsFound`) and an input of a run that
--- fails as it does.
-use Rattle.std.specs.Prelude.{◌≡◌, ℕ, List, Option, Some, None, option_map, Ok}
+-- fails as it does; `asked_source`, the listing that is asked for, or why it is refused.
+use Rattle.std.specs.Prelude.{◌≡◌, ℕ, List, Option, Some, None, option_map, Result, Ok, Err, ⊤, true, is_some, if◌then◌else◌}
 use Rattle.std.specs.List.{find, range_with_len}
+use Rattle.snap_words.specs.declared.shape.WordFault.TheVariants.{BadShape}
+use Rattle.snap_semantics.specs.Answers.{◌>>=◌, refused_as}
 use Rattle.snap_semantics.specs.Listing.{listing_of}
 use Rattle.snap_semantics.specs.Source.{Source}
 use Rattle.snap_semantics.specs.declared.fault.Fault.{Fault}
 use Rattle.snap_semantics.specs.declared.fault.Fault.TheVariants as fault
 use Rattle.snap_semantics.specs.declared.refusal.Refusal.{Refusal}
+use Rattle.snap_semantics.specs.declared.refusal.Refusal.TheVariants as refusal
 use Rattle.snap_chance.specs.Plan.{Plan}
 use Rattle.snap_failure.specs.Failing.{failure_of}
 use Rattle.snap_failure.specs.Kinds.{kind_of}
@@ -14,13 +17,13 @@ use Rattle.snap_failure.specs.declared.failures.Failure.{Failure}
 use Rattle.snap_failure.specs.declared.failures.FailureKind.{FailureKind}
 use Rattle.snap_failure.specs.declared.failures.Wanted.{Wanted}
 use Rattle.snap_hunt.specs.Hunt.{fails, run_of}
-use Rattle.snap_hunt_output.specs.Asked.{owned}
+use Rattle.snap_hunt_output.specs.Asked.{fits_kind, owned}
 use Rattle.snap_hunt_output.specs.Check.{failure_in_input}
 use Rattle.snap_hunt_output.specs.declared.asked.Asked.{Asked}
 use Rattle.snap_hunt_output.specs.declared.hunted.Hunted.{Hunted}
 use Rattle.snap_hunt_output.specs.declared.hunted.Hunted.TheVariants as hunted
 use Rattle.snap_hunt_output.specs.declared.hunted.HuntFault.{HuntFault}
-use Rattle.snap_hunt_output.specs.declared.hunted.HuntFault.TheVariants.{Memory, Refused}
+use Rattle.snap_hunt_output.specs.declared.hunted.HuntFault.TheVariants.{Memory, Refused, Unsaid}
 
 -- the first of the runs that fails
 abbrev pub first_of : Source → Asked → Option ℕ
@@ -41,13 +44,37 @@ abbrev pub IsHuntedOf : Source → Asked → Hunted → Type 0
 IsHuntedOf l a hunted.NoneFails = first_of l a ≡ None
 IsHuntedOf l a (hunted.Fails k f input) = IsFound l a k f input.items
 
+-- the listing of a hunt; it is refused as `check` refuses it, and where the shape does not fit its kind
+abbrev pub asked_source : List ℕ → Asked → Result Source Refusal
+asked_source text a = do
+  l ← refused_as refusal.Listing (listing_of text)
+  if fits_kind l.kind a.plan.shape then Ok l else Err (refusal.Words BadShape)
+
 -- what a hunt comes to, for the listing that a text is
 pub record IsHunted (text : List ℕ) (a : Asked) (h : Hunted) : Type 0 where
   pub listing : Source
-  pub is : listing_of text ≡ Ok listing
+  pub is : asked_source text a ≡ Ok listing
   pub hunted : IsHuntedOf listing a h
 
 -- a fault as one of a hunt
 abbrev pub hunt_fault : Fault Refusal → HuntFault
 hunt_fault fault.Memory = Memory
 hunt_fault (fault.Refused r) = Refused r
+
+-- a fault that refuses nothing
+abbrev pub IsNoRefusal : HuntFault → Type 0
+IsNoRefusal Memory = ⊤
+IsNoRefusal (Refused r) = ⊥
+IsNoRefusal Unsaid = ⊤
+
+-- a fault of a hunt of a listing: it refuses nothing, and unless memory ran out a run fails
+abbrev pub IsFaultOf : Source → Asked → HuntFault → Type 0
+IsFaultOf l a Memory = ⊤
+IsFaultOf l a (Refused r) = ⊥
+IsFaultOf l a Unsaid = is_some (first_of l a) ≡ true
+
+-- a fault that is due: a refusal is that of what is asked for, and where nothing is refused it is one of its listing
+abbrev pub IsDue : List ℕ → Asked → HuntFault → Type 0
+IsDue text a Memory = ⊤
+IsDue text a (Refused r) = asked_source text a ≡ Err r
+IsDue text a Unsaid = (l : Source) × (asked_source text a ≡ Ok l) × (is_some (first_of l a) ≡ true)

@@ -1,9 +1,11 @@
 //! `hunt_listing`: a whole hunt, which ends in `Hunted`: no run of a listing fails, or the first
 //! that does, with the input of a small run that fails too.
-ghost use Rattle.std.specs.Prelude.{◌≡◌, ◌<◌, ◌^◌, IfOk, Ok, Some};
+ghost use Rattle.std.specs.Prelude.{◌≡◌, ◌<◌, ◌^◌, IfErr, IfOk, Ok, Some};
 ghost use Rattle.snap_failure.specs.Kinds.{kind_of};
 ghost use Rattle.snap_hunt_output.specs.Check.{failure_in_input};
-ghost use Rattle.snap_hunt_output.specs.Hunted.{IsHunted, IsHuntedOf, hunt_fault, run_kind};
+ghost use Rattle.snap_semantics.specs.Answers.{Answers};
+ghost use Rattle.snap_hunt_output.specs.Hunted.{IsDue, IsFaultOf, IsHunted, IsHuntedOf, IsNoRefusal};
+ghost use Rattle.snap_hunt_output.specs.Hunted.{asked_source, hunt_fault, run_kind};
 ghost use Rattle.snap_hunt_output.specs.declared.hunted.HuntFault.TheVariants.{Memory};
 
 use crate::asked::{Asked, fits_kind, owned};
@@ -68,8 +70,9 @@ fn run_kind(
     asked: &Asked,
     run: u64,
 ) -> Result<FailureKind, HuntFault>
-    ensures { IfOk result (λ k.
+    ensures kind { IfOk result (λ k.
         run_kind program.now plan.now asked.now.wanted asked.now.seed run ≡ Some k) }
+    ensures fault { IfErr result IsNoRefusal }
 {
     let schedule = schedule_of(alloc, asked.seed, run, plan)?;
     match failure_over(alloc, program, &schedule, &asked.wanted)? {
@@ -89,6 +92,7 @@ fn small_input(
     kind: FailureKind,
 ) -> Result<Vec<u8>, HuntFault>
     requires { run_kind program.now plan.now asked.now.wanted asked.now.seed run ≡ Some kind }
+    ensures { IfErr result IsNoRefusal }
 {
     let schedule = schedule_of(alloc, asked.seed, run, plan)?;
     let _shape = schedule.shape();
@@ -109,18 +113,21 @@ fn checked(
 ) -> Result<Failure, HuntFault>
     ensures says { IfOk result (λ f. failure_in_input wanted.now input.now ≡ Ok (Some f)) }
     ensures alike { IfOk result (λ f. kind_of f ≡ kind) }
+    ensures fault { IfErr result IsNoRefusal }
 {
     if input.len() > MAX_INPUT {
         return Err(HuntFault::Unsaid);
     }
-    match failure_in_input(alloc, input, wanted)? {
-        Some(failure) if failure.is_kind(kind) => Ok(failure),
+    match failure_in_input(alloc, input, wanted) {
+        Ok(Some(failure)) if failure.is_kind(kind) => Ok(failure),
+        Err(Fault::Memory) => Err(HuntFault::Memory),
         _ => Err(HuntFault::Unsaid),
     }
 }
 
 /// The first of the runs of a program that fails, as an input of a small run that fails too;
 /// or that none of them does.
+#[tactic(auto, using(crate::proofs::Finding::fault_by))]
 fn hunt_program<W: Watcher>(
     rt: &(impl Threads + Sync),
     alloc: Global,
@@ -130,7 +137,8 @@ fn hunt_program<W: Watcher>(
     watcher: &mut W,
 ) -> Result<Hunted, HuntFault>
     requires { asked.now.runs < 2 ^ 63 }
-    ensures { IfOk result (IsHuntedOf program.now asked.now) }
+    ensures hunted { IfOk result (IsHuntedOf program.now asked.now) }
+    ensures fault { IfErr result (IsFaultOf program.now asked.now) }
 {
     let plan = owned(program.kind(), &asked.plan);
     let found = first_failing(
@@ -156,9 +164,21 @@ fn hunt_program<W: Watcher>(
     })
 }
 
+/// The program of a listing that is asked for, where the shape fits its kind.
+fn asked_program(alloc: Global, listing: &[u8], asked: &Asked) -> Result<Program, Fault<Refusal>>
+    ensures { Answers (λ p. p) result (asked_source listing.now asked.now) }
+{
+    let program = program_of(alloc, listing)?;
+    if !fits_kind(program.kind(), asked.plan.shape()) {
+        return Err(Fault::Refused(Refusal::Words(WordFault::BadShape)));
+    }
+    Ok(program)
+}
+
 /// The first of the runs of a listing that fails, as an input of a small run that fails too; or
-/// that none of them does.
-#[tactic(auto, using(crate::proofs::Finding::hunted_by))]
+/// that none of them does. A listing is refused as it is elsewhere, and where the shape does not
+/// fit its kind.
+#[tactic(auto, using(crate::proofs::Finding::hunted_by, crate::proofs::Finding::due_by))]
 pub fn hunt_listing<W: Watcher>(
     rt: &(impl Threads + Sync),
     alloc: Global,
@@ -167,11 +187,9 @@ pub fn hunt_listing<W: Watcher>(
     watcher: &mut W,
 ) -> Result<Hunted, HuntFault>
     requires { asked.now.runs < 2 ^ 63 }
-    ensures { IfOk result (IsHunted listing.now asked.now) }
+    ensures hunted { IfOk result (IsHunted listing.now asked.now) }
+    ensures refused { IfErr result (IsDue listing.now asked.now) }
 {
-    let program = program_of(alloc, listing)?;
-    if !fits_kind(program.kind(), asked.plan.shape()) {
-        return Err(HuntFault::Refused(Refusal::Words(WordFault::BadShape)));
-    }
+    let program = asked_program(alloc, listing, asked)?;
     hunt_program(rt, alloc, listing, &program, asked, watcher)
 }

@@ -2,6 +2,13 @@
 
 const MOST_LINES = 1500, SHOWN_LINES = 40, EDGE = 8, MOST_LETTERS = 300000, SHOWN_LETTERS = 2000;
 
+// Where each line of a text begins, and where one behind the last would: a long text is not cut into all its lines.
+function startsOf(text) {
+    const starts = [0];
+    while (starts.at(-1) <= text.length) starts.push(text.indexOf('\n', starts.at(-1)) + 1 || text.length + 1);
+    return starts;
+}
+
 class Editor {
     constructor(root, label, onInput) {
         this.root = root;
@@ -25,15 +32,16 @@ class Editor {
 
     // Shows a text, of a long one the lines around this one. They stay until this one comes near to an end of them.
     show(text, around = 0) {
-        if (this.text !== text) this.lines = text.split('\n');
-        const long = this.lines.length > MOST_LINES || text.length > MOST_LETTERS;
-        const last = Math.max(this.lines.length - SHOWN_LINES, 0), most = this.first + SHOWN_LINES - EDGE;
+        if (this.text !== text) this.starts = startsOf(text);
+        const {starts} = this, count = starts.length - 1, long = count > MOST_LINES || text.length > MOST_LETTERS;
+        const last = Math.max(count - SHOWN_LINES, 0), most = this.first + SHOWN_LINES - EDGE;
         const kept = this.first <= last && around >= this.first + EDGE && around < most;
         const first = !long ? 0 : kept ? this.first : within(around - SHOWN_LINES / 2, 0, last);
         if (this.text === text && this.first === first) return;
         Object.assign(this, {text, first});
-        const cut = line => line.slice(0, SHOWN_LETTERS);
-        const part = long ? this.lines.slice(first, first + SHOWN_LINES).map(cut) : this.lines, shown = part.join('\n');
+        const lines = long ? Math.min(count, SHOWN_LINES) : count, letters = long ? SHOWN_LETTERS : Infinity;
+        const line = k => text.slice(starts[k], Math.min(starts[k + 1] - 1, starts[k] + letters));
+        const part = Array.from({length: lines}, (_, k) => line(first + k)), shown = part.join('\n');
         this.area.readOnly = long;
         if (this.area.value !== shown) this.area.value = shown;
         const longest = Math.max(...part.map(line => line.length));

@@ -213,6 +213,24 @@ class Tab:
         """What the module answers to a subcommand, the kind of a shipped listing and an input."""
         return self.ask_module("page_output", (sub.encode(), shipped.encode(), given))
 
+    def watch_tasks(self):
+        """Begins to note what the page's thread does."""
+        self.ask("Tracing.start", traceConfig={"includedCategories": ["toplevel"]}, transferMode="ReportEvents")
+
+    def longest_tasks(self, count=3):
+        """The longest tasks of pages since then: milliseconds of a processor's time, without the time that others had it."""
+        self.ask("Tracing.end")
+        told, noted = None, []
+        while told != "Tracing.tracingComplete":
+            event = self.browser.events.get(timeout=60)
+            told = event.get("method")
+            if told == "Tracing.dataCollected":
+                noted += event["params"]["value"]
+        pages = {(one["pid"], one["tid"]) for one in noted
+                 if one["name"] == "thread_name" and one["args"]["name"] == "CrRendererMain"}
+        tasks = [one["tdur"] for one in noted if one["ph"] == "X" and "tdur" in one and (one["pid"], one["tid"]) in pages]
+        return [round(each / 1000) for each in sorted(tasks)[:-count - 1:-1]]
+
     def close(self):
         self.browser.ask("Target.closeTarget", targetId=self.target)
 

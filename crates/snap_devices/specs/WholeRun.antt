@@ -10,6 +10,7 @@ use Rattle.snap_live_output.specs.declared.fault.LiveRunFault.{LiveRunFault}
 use Rattle.snap_live_output.specs.declared.fault.LiveRunFault.TheVariants as run
 use Rattle.snap_live_output.specs.LiveOutput.{MayGiveUp, MayWrite, setup_of}
 use Rattle.snap_live_output.specs.Uncalled.{uncalled_of}
+use Rattle.snap_streams.specs.Sent as sent
 use Rattle.snap_tasks.specs.declared.subject.Subject.{Subject}
 use Rattle.snap_devices.specs.declared.fault.ConductFault.{ConductFault}
 use Rattle.snap_devices.specs.declared.fault.ConductFault.TheVariants as fault
@@ -42,10 +43,7 @@ Reads (Err e) before after failed =
 -- writing sent all of a text, or the first count bytes
 abbrev pub Sends : Result (Unit {0}) ConductFault → List ℕ → Option (List ℕ) → Option (List ℕ) →
     (failed stalled : Bool) → Type 0
-Sends (Ok done) text before after failed stalled = Appends before after text
-Sends (Err e) text before after failed stalled =
-    (count : ℕ) × (e ≡ fault.Write count) × (count < length text) × Appends before after (take count text)
-    × ((failed ≡ true) ⊎ (stalled ≡ true))
+Sends answer text before after failed stalled = sent.Sends fault.Write answer text before after failed stalled
 
 -- what has been written by a run that answered so, where an input may have these outputs
 -- and be refused for these reasons

@@ -3,11 +3,12 @@
 ghost use Rattle.std.specs.Prelude.{◌≡◌};
 ghost use Rattle.snap_devices.specs.WholeRun.{of_fault, of_live_fault};
 ghost use Rattle.snap_devices.specs.ExitStatus.{fault_status};
-ghost use Rattle.snap_devices.specs.declared.fault.ConductFault.TheVariants.{Memory};
+ghost use Rattle.snap_devices.specs.declared.fault.ConductFault.TheVariants.{Memory, Write};
 
 use snap_live::LiveRefusal;
 use snap_live_output::LiveRunFault;
 use snap_semantics::{Fault, Refusal};
+use snap_streams::Unsent;
 use std::alloc::{AllocError, AllocFailed};
 use thiserror::Error;
 
@@ -62,6 +63,14 @@ impl From<Fault<Refusal>> for ConductFault {
             Fault::Memory => ConductFault::Memory,
             Fault::Refused(refusal) => ConductFault::Refused(refusal),
         }
+    }
+}
+
+impl From<Unsent> for ConductFault {
+    ghost from_gives = { λ unsent fault. fault ≡ Write unsent.count };
+
+    fn from(unsent: Unsent) -> ConductFault {
+        ConductFault::Write(unsent.count)
     }
 }
 

@@ -4,12 +4,11 @@ ghost use Rattle.std.specs.Prelude.{◌≡◌, ◌≤◌, false};
 ghost use Rattle.snap_words.specs.Shape.{max_items};
 ghost use Rattle.snap_devices.specs.WholeRun.{ConductsLive, ConductsLiveKeeping};
 
-use crate::byte_sink::ByteSink;
-use crate::byte_source::ByteSource;
 use crate::fault::ConductFault;
 use crate::whole_texts::{read_all, write_all};
 use snap_live::Gate;
 use snap_live_output::live_output;
+use snap_streams::{ByteSink, ByteSource};
 use snap_tasks::Subject;
 use std::alloc::Global;
 use std::sync::Wait;

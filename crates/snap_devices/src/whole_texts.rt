@@ -2,10 +2,9 @@
 ghost use Rattle.std.specs.Prelude.{◌≡◌, false};
 ghost use Rattle.snap_devices.specs.WholeRun.{Reads, Sends};
 
-use crate::byte_sink::ByteSink;
-use crate::byte_source::ByteSource;
 use crate::fault::ConductFault;
 use snap_input::MAX_INPUT;
+use snap_streams::{ByteSink, ByteSource};
 use std::alloc::Global;
 
 /// The bytes of one read.
@@ -35,13 +34,5 @@ pub fn write_all<W: ByteSink>(sink: &mut W, text: &[u8]) -> Result<(), ConductFa
     ensures { Sends result text.now (W.taken sink.old) (W.taken sink.new) (W.has_failed sink.new)
         (W.is_stalled sink.new) }
 {
-    let mut sent = 0;
-    while sent < text.len() {
-        match sink.write(&text[sent..]) {
-            Ok(0) => return Err(ConductFault::Write(sent as u64)),
-            Ok(count) => sent += count,
-            Err(_) => return Err(ConductFault::Write(sent as u64)),
-        }
-    }
-    Ok(())
+    Ok(snap_streams::write_all(sink, text)?)
 }

@@ -16,23 +16,23 @@ appends_then (Some xs) None w a b x y = absurd x
 appends_then (Some xs) (Some ys) None a b x y = absurd y
 appends_then (Some xs) (Some ys) (Some zs) a b x y = y ∙ ap (λ (t : List ℕ). t ++ b) x ∙ append_assoc xs a b
 
-appends_nothing : (u : Option (List ℕ)) → Appends u u []
+pub appends_nothing : (u : Option (List ℕ)) → Appends u u []
 appends_nothing None = tt
 appends_nothing (Some xs) = sym (append-nil xs)
 
 -- events that passed one after the other
-one_passes : (u v : Option (List Event)) (e : Event) → Passes u v e → PassesAll u v (e ∷ [])
+pub one_passes : (u v : Option (List Event)) (e : Event) → Passes u v e → PassesAll u v (e ∷ [])
 one_passes None v e h = tt
 one_passes (Some xs) None e h = absurd h
 one_passes (Some xs) (Some ys) e h = h
 
-all_pass : (u v w : Option (List Event)) (a b : List Event) → PassesAll u v a → PassesAll v w b → PassesAll u w (a ++ b)
+pub all_pass : (u v w : Option (List Event)) (a b : List Event) → PassesAll u v a → PassesAll v w b → PassesAll u w (a ++ b)
 all_pass None v w a b x y = tt
 all_pass (Some xs) None w a b x y = absurd x
 all_pass (Some xs) (Some ys) None a b x y = absurd y
 all_pass (Some xs) (Some ys) (Some zs) a b x y = y ∙ ap (λ (t : List Event). t ++ b) x ∙ append_assoc xs a b
 
-nothing_passes : (u : Option (List Event)) → PassesAll u u []
+pub nothing_passes : (u : Option (List Event)) → PassesAll u u []
 nothing_passes None = tt
 nothing_passes (Some xs) = sym (append-nil xs)
 
@@ -58,7 +58,7 @@ first_of_lines b (c ∷ cs) = elim (b == 10)
     ]
 
 -- the transcript, from the first line on
-transcript_of : {S : Type 0} (prompt : S → List ℕ) (answer : S → List ℕ → Answer S) (s : S) (xs : List ℕ) →
+pub transcript_of : {S : Type 0} (prompt : S → List ℕ) (answer : S → List ℕ → Answer S) (s : S) (xs : List ℕ) →
     transcript prompt answer s (typed_lines xs) ≡ prompt s ++ ((answer_or_end answer s (kept (take_through 10 xs))).text
     ++ (if (answer_or_end answer s (kept (take_through 10 xs))).goes_on
     then transcript prompt answer (answer_or_end answer s (kept (take_through 10 xs))).state
@@ -137,7 +137,7 @@ shown_all prompt answer s now later (Some all) left u v w more h shows off =
     (appends_then u v w h.2 (turn_text prompt answer now (kept (take_through 10 h.0))) h.3 t.1)
 
 -- a dialog and one turn more
-dialog_more : {S : Type 0} (prompt : S → List ℕ) (answer : S → List ℕ → Answer S) (s now : S)
+pub dialog_more : {S : Type 0} (prompt : S → List ℕ) (answer : S → List ℕ → Answer S) (s now : S)
     (lines : List (List ℕ)) (line : List ℕ) → GoesOn answer s lines now →
     dialog prompt answer s (lines ++ line ∷ []) ≡ dialog prompt answer s lines ++ turn prompt answer now line
 dialog_more prompt answer s now [] line h = ap (λ x. turn prompt answer x line) (sym h)

@@ -1,6 +1,6 @@
 -- `dialog`: before each line a prompt is shown, and after it the answer; `transcript` is what is shown in all.
-use Rattle.std.specs.Prelude.{◌≡◌, ℕ, List, [], ◌∷◌, ◌++◌, Bool, true, false, if◌then◌else◌}
-use Rattle.snap_dialog.specs.Event.{Event, said, typed}
+use Rattle.std.specs.Prelude.{◌≡◌, ℕ, List, [], ◌∷◌, ◌++◌, Bool, true, false, if◌then◌else◌, Option, ⊤}
+use Rattle.snap_dialog.specs.Event.{Event, PassesPart, said, typed}
 
 -- what is answered to a line, what the respondent is from there on, and whether the dialog goes on
 pub record Answer (S : Type 0) : Type 0 where
@@ -38,6 +38,19 @@ IsDialog answer s [] = ⊥
 IsDialog answer s (line ∷ []) = (answer_or_end answer s line).goes_on ≡ false
 IsDialog answer s (line ∷ next ∷ lines) =
     ((answer_or_end answer s line).goes_on ≡ true) × IsDialog answer (answer_or_end answer s line).state (next ∷ lines)
+
+-- no line before the last ends the dialog
+abbrev pub NoneEndsBefore : {S : Type 0} → (S → List ℕ → Answer S) → S → List (List ℕ) → Type 0
+NoneEndsBefore answer s [] = ⊤
+NoneEndsBefore answer s (line ∷ []) = ⊤
+NoneEndsBefore answer s (line ∷ next ∷ lines) = ((answer_or_end answer s line).goes_on ≡ true)
+    × NoneEndsBefore answer (answer_or_end answer s line).state (next ∷ lines)
+
+-- a beginning of a dialog has passed
+abbrev pub IsBrokenOff : {S : Type 0} → (S → List ℕ) → (S → List ℕ → Answer S) → S →
+    (before after : Option (List Event)) → Type 0
+IsBrokenOff prompt answer s before after = (lines : List (List ℕ)) × NoneEndsBefore answer s lines
+    × PassesPart before after (dialog prompt answer s lines)
 
 -- What is shown for the lines of an input: to each the prompt and its answer, up to the one that ends the dialog; and
 -- where no line does, one more prompt.

@@ -1,5 +1,5 @@
 -- A dialog at a console between two of its turns: the lines so far (`GoesOn`), what has passed and what was shown.
-use Rattle.std.specs.Prelude.{◌≡◌, ℕ, List, [], ◌∷◌, ◌++◌, true, Option, Some, IfSome}
+use Rattle.std.specs.Prelude.{◌≡◌, ℕ, ◌+◌, ◌≤◌, List, [], ◌∷◌, ◌++◌, length, true, Option, Some, IfSome}
 use Rattle.std.specs.Io.BufRead.{take_through, drop_through}
 use Rattle.std.specs.Io.KnownBytes.{Appends}
 use Rattle.snap_dialog.specs.Dialog.{Answer, answer_or_end, dialog, transcript}
@@ -31,3 +31,8 @@ abbrev pub HasKept : Option (List ℕ) → Option (List ℕ) → List ℕ → Ty
 HasKept first left line = IfSome first (λ all. (rest : List ℕ) × (left ≡ Some rest) × (seen : List ℕ)
     × (take_through 10 all ≡ seen ++ take_through 10 rest)
     × (drop_through 10 all ≡ drop_through 10 rest) × (line ≡ kept seen))
+
+-- So many turns, or bytes of a line, have taken at least as many bytes of the input `first`, of which there is `left`.
+abbrev pub HasTaken : ℕ → Option (List ℕ) → Option (List ℕ) → Type 0
+HasTaken count first left =
+    IfSome first (λ all. (rest : List ℕ) × (left ≡ Some rest) × (count + length rest ≤ length all))

@@ -1,9 +1,11 @@
 //! Consoles: where lines are typed, and texts are shown.
-ghost use Rattle.std.specs.Prelude.{◌≡◌, ℕ, List, Option, None, IfOk, IfSome, OnOk};
+ghost use Rattle.std.specs.Prelude.{◌≡◌, ℕ, List, Option, None, IfErr, IfOk, IfSome, OnOk};
 ghost use Rattle.std.specs.Io.BufRead.{take_through, DropsThrough};
-ghost use Rattle.std.specs.Io.KnownBytes.{Appends, Keeps};
-ghost use Rattle.snap_dialog.specs.Event.{Event, said, typed, Passes};
+ghost use Rattle.snap_dialog.specs.Event.{Event, Says, Shows, Types};
+ghost use Rattle.snap_dialog.specs.Failures.{MayEndLine, failure_of};
 ghost use Rattle.snap_dialog.specs.TypedLines.{kept};
+ghost use Rattle.snap_dialog.specs.declared.fault.DialogFault.{DialogFault};
+ghost use Rattle.snap_dialog.specs.declared.fault.DialogFault.TheVariants.{Write};
 
 use crate::fault::DialogFault;
 use std::alloc::Global;
@@ -19,19 +21,27 @@ pub trait Console {
     /// The bytes that were shown, where they are known.
     ghost shown: { Self → Option (List ℕ) } = { λ _. None };
 
-    /// Shows a text now.
+    /// What of it has failed, where something has.
+    ghost failure: { Self → Option DialogFault };
+
+    /// Shows a text now. Where its device fails, a beginning of the text was shown.
     fn say(&mut self, text: &[u8]) -> Result<(), DialogFault>
-        ensures event { OnOk result (Passes (passed self.old) (passed self.new) (said text.now)) }
-        ensures shows { OnOk result (Appends (shown self.old) (shown self.new) text.now) }
-        ensures left { left self.new ≡ left self.old };
+        requires { failure self.old ≡ None }
+        ensures event { Says result (passed self.old) (passed self.new) text.now }
+        ensures shows { Shows result (shown self.old) (shown self.new) text.now }
+        ensures left { left self.new ≡ left self.old }
+        ensures failure { failure self.new ≡ failure_of result }
+        ensures fails { IfErr result (λ fault. fault ≡ Write) };
 
     /// Waits for a line, of which it keeps as much as a line may have and one byte more. Only at
     /// the end of the input it is empty.
     fn line(&mut self, alloc: Global) -> Result<Vec<u8>, DialogFault>
-        ensures event { IfOk result (λ line.
-            Passes (passed self.old) (passed self.new) (typed line.items)) }
+        requires { failure self.old ≡ None }
+        ensures event { Types result (passed self.old) (passed self.new) }
         ensures line { IfOk result (λ line.
             IfSome (left self.old) (λ xs. line.items ≡ kept (take_through 10 xs))) }
         ensures left { OnOk result (DropsThrough (left self.old) (left self.new) 10) }
-        ensures shows { shown self.new ≡ shown self.old };
+        ensures shows { shown self.new ≡ shown self.old }
+        ensures failure { failure self.new ≡ failure_of result }
+        ensures fails { IfErr result (λ fault. MayEndLine fault (left self.old)) };
 }

@@ -1,7 +1,8 @@
 //! `DialogFault`: why a dialog at a console was broken off.
 ghost use Rattle.std.specs.Prelude.{◌≡◌};
-ghost use Rattle.snap_dialog.specs.declared.fault.DialogFault.TheVariants.{Memory};
+ghost use Rattle.snap_dialog.specs.declared.fault.DialogFault.TheVariants.{Memory, Write};
 
+use snap_streams::Unsent;
 use std::alloc::{AllocError, AllocFailed};
 use thiserror::Error;
 
@@ -32,5 +33,13 @@ impl<T: Drop> From<AllocFailed<T>> for DialogFault {
 
     fn from(_error: AllocFailed<T>) -> DialogFault {
         DialogFault::Memory
+    }
+}
+
+impl From<Unsent> for DialogFault {
+    ghost from_gives = { λ _ fault. fault ≡ Write };
+
+    fn from(_unsent: Unsent) -> DialogFault {
+        DialogFault::Write
     }
 }

@@ -1,13 +1,14 @@
-//! `Terminal`: a console for dialogs, made of a reader and a writer.
+//! `Terminal`: a console for dialogs, made of a byte source and a byte sink.
 ghost use Rattle.std.specs.Prelude.{◌≡◌};
+ghost use Rattle.snap_dialog.specs.Failures.{failure_in};
 
 use crate::console::Console;
 use crate::fault::DialogFault;
 use crate::typed_line::read_line;
+use snap_streams::{ByteSink, ByteSource, write_all};
 use std::alloc::Global;
-use std::io::{Read, Write};
 
-/// A reader and a writer, as those of the process.
+/// A source of what is typed and a sink of what is shown, as those of the process.
 #[derive(Drop)]
 pub struct Terminal<R, W> {
     reader: R,
@@ -24,16 +25,16 @@ impl<R, W> Terminal<R, W> {
     }
 }
 
-impl<R: Read, W: Write> Console for Terminal<R, W> {
-    ghost left = { λ t. R.remaining t.reader };
+impl<R: ByteSource, W: ByteSink> Console for Terminal<R, W> {
+    ghost left = { λ t. R.left t.reader };
 
-    ghost shown = { λ t. W.contents t.writer };
+    ghost shown = { λ t. W.taken t.writer };
+
+    ghost failure = { λ t. failure_in (R.has_failed t.reader) (W.has_failed t.writer)
+        (W.is_stalled t.writer) };
 
     fn say(&mut self, text: &[u8]) -> Result<(), DialogFault> {
-        if self.writer.write_all(text).is_err() || self.writer.flush().is_err() {
-            return Err(DialogFault::Write);
-        }
-        Ok(())
+        Ok(write_all(&mut self.writer, text)?)
     }
 
     fn line(&mut self, alloc: Global) -> Result<Vec<u8>, DialogFault> {

@@ -1,20 +1,25 @@
 //! `read_line`: reads a line that is typed at a console, byte by byte, and keeps no more of it than
 //! a line may have.
-ghost use Rattle.std.specs.Prelude.{◌≡◌, ◌<◌, IfOk, IfSome, OnOk, length};
+ghost use Rattle.std.specs.Prelude.{◌≡◌, ◌<◌, false, is_err, IfErr, IfOk, IfSome, OnOk, length};
 ghost use Rattle.std.specs.Io.BufRead.{take_through, DropsThrough};
+ghost use Rattle.snap_dialog.specs.Failures.{MayEndLine, is_read_fault};
 ghost use Rattle.snap_dialog.specs.TypedLines.{GivesNext, kept, with_byte};
+ghost use Rattle.snap_dialog.specs.declared.fault.DialogFault.TheVariants.{Read};
 
 use crate::fault::DialogFault;
+use snap_streams::ByteSource;
 use std::alloc::{AllocError, Global};
-use std::io::Read;
 
 /// The most bytes that a line may have.
 const MAX_LINE: usize = 1_048_576;
 
 /// The next byte, where there is one.
-fn next_byte<R: Read>(reader: &mut R) -> Result<Option<u8>, DialogFault>
-    ensures { IfOk result (λ next.
-        GivesNext next (R.remaining reader.old) (R.remaining reader.new)) }
+fn next_byte<R: ByteSource>(reader: &mut R) -> Result<Option<u8>, DialogFault>
+    requires { R.has_failed reader.old ≡ false }
+    ensures byte { IfOk result (λ next.
+        GivesNext next (R.left reader.old) (R.left reader.new)) }
+    ensures failed { R.has_failed reader.new ≡ is_err result }
+    ensures fault { IfErr result (λ fault. fault ≡ Read) }
 {
     let mut byte = [0u8; 1];
     match reader.read(&mut byte) {
@@ -35,11 +40,15 @@ fn keep_byte(line: &mut Vec<u8>, byte: u8) -> Result<(), AllocError>
 }
 
 /// Reads a line with its line feed, and no byte behind it. Of a line that is too long it keeps one
-/// byte more than a line may have.
-pub fn read_line<R: Read>(alloc: Global, reader: &mut R) -> Result<Vec<u8>, DialogFault>
+/// byte more than a line may have. It fails with its source, for want of memory, or where the bytes
+/// of a line are more than can be counted.
+pub fn read_line<R: ByteSource>(alloc: Global, reader: &mut R) -> Result<Vec<u8>, DialogFault>
+    requires { R.has_failed reader.old ≡ false }
     ensures line { IfOk result (λ line.
-        IfSome (R.remaining reader.old) (λ xs. line.items ≡ kept (take_through 10 xs))) }
-    ensures rest { OnOk result (DropsThrough (R.remaining reader.old) (R.remaining reader.new) 10) }
+        IfSome (R.left reader.old) (λ xs. line.items ≡ kept (take_through 10 xs))) }
+    ensures rest { OnOk result (DropsThrough (R.left reader.old) (R.left reader.new) 10) }
+    ensures failed { R.has_failed reader.new ≡ is_read_fault result }
+    ensures fails { IfErr result (λ fault. MayEndLine fault (R.left reader.old)) }
 {
     let mut line = Vec::new(alloc);
     for _count in 0..u64::MAX {

@@ -1,6 +1,7 @@
 -- `status_of`: the status that snapdb, the debugger with a prompt, ends with: 1 where something is refused, 3 where a
--- device failed.
-use Rattle.std.specs.Prelude.{ℕ}
+-- device failed; and `EndsFor`, why it ends so.
+use Rattle.std.specs.Prelude.{◌≡◌, ◌⊎◌, ℕ, List, Option, Some, ⊤}
+use Rattle.snap_dialog.specs.Failures.{AreCountless}
 use Rattle.snap_dialog.specs.declared.fault.DialogFault.{DialogFault}
 use Rattle.snap_dialog.specs.declared.fault.DialogFault.TheVariants as dialog
 use Rattle.snap_semantics.specs.declared.fault.Fault as given
@@ -26,3 +27,11 @@ status_of (start.Refused r) = 1
 status_of (start.File reason) = 1
 status_of start.Read = 3
 status_of start.Write = 3
+
+-- why there was no dialog, or no whole one: what has failed of the console, where these bytes were left to be typed
+abbrev pub EndsFor : StartFault → (failed : Option DialogFault) → (left : Option (List ℕ)) → Type 0
+EndsFor start.Memory failed left = ⊤
+EndsFor (start.Refused r) failed left = ⊤
+EndsFor (start.File reason) failed left = ⊥
+EndsFor start.Read failed left = (failed ≡ Some dialog.Read) ⊎ AreCountless left
+EndsFor start.Write failed left = failed ≡ Some dialog.Write

@@ -11,6 +11,7 @@ use snap_dialog::Terminal;
 use snap_files::{FileFault, read_named, reason};
 use snap_input::{program_of, shipped};
 use snap_semantics::Refusal;
+use snap_streams::Std;
 use snapdb_command_line::{Asked, asked_of};
 use std::io::IsTerminal;
 use std::process::ExitCode;
@@ -57,7 +58,7 @@ fn talk_over(rt: &HostRuntime, program: &Program, schedule: &str) -> u8 {
         Err(fault) => return complain(rt, schedule, fault),
     };
     let shows = rt.stdin().is_terminal();
-    let mut console = Terminal::new(rt.reader(), io::writer(rt));
+    let mut console = Terminal::new(Std::new(rt.reader()), Std::new(io::writer(rt)));
     match talk_about(rt.alloc(), program, text.as_slice(), shows, &mut console) {
         Ok(()) => 0,
         Err(fault) => complain(rt, schedule, fault),

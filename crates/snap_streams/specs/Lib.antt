@@ -1,0 +1,2 @@
+-- The definitions of snap_streams, by their modules.
+pub mod Sent

@@ -1,0 +1,17 @@
+-- `Sends`: what a sink has taken of a text that was written to it.
+use Rattle.std.specs.Prelude.{◌≡◌, ℕ, ◌<◌, Bool, true, List, take, length, Option, Result, Ok, Err, ◌⊎◌}
+use Rattle.std.specs.Io.KnownBytes.{Appends}
+use Rattle.snap_streams.specs.declared.sending.Unsent.{Unsent}
+
+-- so many bytes of a text were taken, and no more
+abbrev pub unsent : ℕ → Unsent
+unsent n = record { count = n }
+
+-- Writing sent all of a text; or the first `count` bytes, and then the sink failed or took nothing. The fault
+-- says how many.
+abbrev pub Sends : {E : Type 0} → (ℕ → E) → Result (Unit {0}) E → List ℕ → Option (List ℕ) → Option (List ℕ) →
+    (failed stalled : Bool) → Type 0
+Sends fault (Ok done) text before after failed stalled = Appends before after text
+Sends fault (Err e) text before after failed stalled =
+    (count : ℕ) × (e ≡ fault count) × (count < length text) × Appends before after (take count text)
+    × ((failed ≡ true) ⊎ (stalled ≡ true))

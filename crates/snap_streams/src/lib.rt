@@ -1,0 +1,16 @@
+//! Byte sources and sinks: from where a program reads, and to where it writes.
+#![tactic(auto)]
+
+mod byte_sink;
+mod byte_source;
+mod sending;
+mod standard;
+
+pub use byte_sink::ByteSink;
+pub use byte_source::ByteSource;
+pub use sending::{Unsent, write_all};
+pub use standard::Std;
+
+/// The device failed.
+#[derive(Clone, Copy)]
+pub struct Failed;

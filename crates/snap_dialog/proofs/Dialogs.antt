@@ -26,7 +26,8 @@ one_passes None v e h = tt
 one_passes (Some xs) None e h = absurd h
 one_passes (Some xs) (Some ys) e h = h
 
-pub all_pass : (u v w : Option (List Event)) (a b : List Event) → PassesAll u v a → PassesAll v w b → PassesAll u w (a ++ b)
+pub all_pass : (u v w : Option (List Event)) (a b : List Event) → PassesAll u v a → PassesAll v w b → PassesAll u w
+    (a ++ b)
 all_pass None v w a b x y = tt
 all_pass (Some xs) None w a b x y = absurd x
 all_pass (Some xs) (Some ys) None a b x y = absurd y

@@ -7,7 +7,8 @@ use Rattle.std.specs.Io.BufRead.{take_through, drop_through, DropsThrough}
 use Rattle.std.specs.Io.KnownBytes.{Appends}
 use Rattle.std.proofs.lemmas.Bool.{true≢false}
 use Rattle.std.proofs.lemmas.List.{take-append-drop}
-use Rattle.snap_dialog.specs.Dialog.{Answer, IsBrokenOff, NoneEndsBefore, answer_or_end, dialog, transcript, turn, turn_text}
+use Rattle.snap_dialog.specs.Dialog.{Answer, IsBrokenOff, NoneEndsBefore, answer_or_end, dialog, transcript, turn}
+use Rattle.snap_dialog.specs.Dialog.{turn_text}
 use Rattle.snap_dialog.specs.Event.{Event, said, typed, Passes, PassesAll, PassesPart, Shows, ShowsPart}
 use Rattle.snap_dialog.specs.Failures.{AreCountless, MayEndDialog}
 use Rattle.snap_dialog.specs.Talks.{GoesOn, HasPassed, HasShown, HasTaken}
@@ -69,7 +70,8 @@ then_in_part u v w a b first h =
     (a ++ h.0, h.1, append_assoc a h.0 h.1 ∙ ap (λ t. a ++ t) h.2, appends_then u v w a h.0 first h.3)
 
 -- a turn whose prompt alone has passed, and one whose answer alone has not
-pub prompt_alone : {S : Type 0} (prompt : S → List ℕ) (answer : S → List ℕ → Answer S) (s : S) (u v w : Option (List Event))
+pub prompt_alone : {S : Type 0} (prompt : S → List ℕ) (answer : S → List ℕ → Answer S) (s : S) (u v w : Option
+    (List Event))
     (asked : List ℕ) → Passes u v (said asked) → w ≡ v → asked ≡ prompt s →
     (line : List ℕ) × PassesPart u w (turn prompt answer s line)
 prompt_alone prompt answer s u v w asked first same is_prompt = (
@@ -100,7 +102,8 @@ answer_left prompt answer s u v w x asked line first second same is_prompt = (
 )
 
 -- what a turn shows before its prompt, with a part of it, with all of it, and with a part of its answer
-pub shows_nothing : {S : Type 0} (prompt : S → List ℕ) (answer : S → List ℕ → Answer S) (s : S) (left u : Option (List ℕ)) →
+pub shows_nothing : {S : Type 0} (prompt : S → List ℕ) (answer : S → List ℕ → Answer S) (s : S) (left u : Option
+    (List ℕ)) →
     IfSome left (λ xs. ShowsPart u u (turn_text prompt answer s (kept (take_through 10 xs))))
 shows_nothing prompt answer s None u = tt
 shows_nothing prompt answer s (Some xs) u = nothing_shown u (turn_text prompt answer s (kept (take_through 10 xs)))
@@ -127,9 +130,11 @@ pub shows_of_answer : {S : Type 0} (prompt : S → List ℕ) (answer : S → Lis
     IfSome left (λ xs. ShowsPart u w (turn_text prompt answer s (kept (take_through 10 xs))))
 shows_of_answer prompt answer s None after u v still w asked line same told first is_prompt at read is_still is_line
     second is_answer = tt
-shows_of_answer prompt answer s (Some xs) after u v still w asked line same told first is_prompt at read is_still is_line
+shows_of_answer prompt answer s
+    (Some xs) after u v still w asked line same told first is_prompt at read is_still is_line
     second is_answer =
-    let known : line ≡ kept (take_through 10 xs) = subst (λ o. IfSome o (λ ys. line ≡ kept (take_through 10 ys))) at read in
+    let known : line ≡ kept (take_through 10 xs) = subst (λ o. IfSome o (λ ys. line ≡ kept
+        (take_through 10 ys))) at read in
     let is_text : told ≡ (answer_or_end answer s (kept (take_through 10 xs))).text =
     is_answer ∙ ap (λ l. (answer_or_end answer s l).text) (is_line ∙ known) in
     then_in_part u v w (prompt s) (answer_or_end answer s (kept (take_through 10 xs))).text
@@ -156,7 +161,8 @@ none_ends_before answer s now (first ∷ next ∷ lines) line h =
 pub between_turns : {S : Type 0} (prompt : S → List ℕ) (answer : S → List ℕ → Answer S) (s now : S)
     (u v : Option (List Event)) → HasPassed prompt answer s now u v → IsBrokenOff prompt answer s u v
 between_turns prompt answer s now u v h =
-    (h.0, none_ends answer s now h.0 h.1, (dialog prompt answer s h.0, [], append-nil (dialog prompt answer s h.0), h.2))
+    (h.0, none_ends answer s now h.0 h.1, (dialog prompt answer s h.0, [], append-nil
+        (dialog prompt answer s h.0), h.2))
 
 pub within_turn : {S : Type 0} (prompt : S → List ℕ) (answer : S → List ℕ → Answer S) (s now : S)
     (u v w : Option (List Event)) → HasPassed prompt answer s now u v →
@@ -222,7 +228,8 @@ pub turn_taken : {S : Type 0} (prompt : S → List ℕ) (answer : S → List ℕ
     TurnShown prompt answer now later left v w more → more ≡ true → HasTaken (count + 1) first next
 turn_taken prompt answer now later count None left next v w more h drops shows on = tt
 turn_taken {S} prompt answer now later count (Some all) left next v w more h drops shows on =
-    go h.0 h.2 (subst (λ o. DropsThrough o next 10) h.1 drops) (subst (λ o. TurnShown prompt answer now later o v w more) h.1 shows) where
+    go h.0 h.2 (subst (λ o. DropsThrough o next 10) h.1 drops) (subst
+        (λ o. TurnShown prompt answer now later o v w more) h.1 shows) where
       go : (rest : List ℕ) → count + length rest ≤ length all → DropsThrough (Some rest) next 10 →
           TurnShown prompt answer now later (Some rest) v w more → HasTaken (count + 1) (Some all) next
       go [] fits drops shows = absurd (true≢false (sym on ∙ shows.0.1))

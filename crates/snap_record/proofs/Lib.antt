@@ -1,5 +1,6 @@
 -- The proofs of snap_record, by their modules.
 pub mod Locals
+pub mod KeptLocals
 pub mod Names
 pub mod Histories
 pub mod Values

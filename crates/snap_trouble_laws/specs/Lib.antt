@@ -1,0 +1,2 @@
+-- The definitions of snap_trouble_laws, by their modules.
+pub mod Told

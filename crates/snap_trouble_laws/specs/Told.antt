@@ -1,0 +1,74 @@
+-- `TrapsAreTold`: what `why` tells of a trap, the operand at which the line of a process traps, is what the table of
+-- lines has.
+use Rattle.std.specs.Prelude.{◌≡◌, ◌<◌, ℕ, suc, [], length, Option, Some, None, Result, Ok, Err, ⊤}
+use Rattle.snap_semantics.specs.IsListing.{AreDistinct}
+use Rattle.snap_semantics.specs.Listing.{all_names}
+use Rattle.snap_semantics.specs.Readers.{local_value}
+use Rattle.snap_semantics.specs.Source.{Name, instr_at}
+use Rattle.snap_semantics.specs.State.{Locals, State, process_at, value_at}
+use Rattle.snap_semantics.specs.Table.{Effect, effect_at}
+use Rattle.snap_semantics.specs.declared.process.Activity.{Activity}
+use Rattle.snap_semantics.specs.declared.process.Cause.{Cause}
+use Rattle.snap_semantics.specs.declared.process.Cause.TheVariants as cause
+use Rattle.snap_semantics.specs.declared.process.Item.TheVariants.{Step}
+use Rattle.snap_semantics.specs.declared.process.Outcome.TheVariants.{Trapped}
+use Rattle.snap_semantics.specs.declared.process.Status.TheVariants.{Busy}
+use Rattle.snap_runs.specs.Run.{Run, item, outcome, state}
+use Rattle.snap_troubles.specs.Troubles.{row_in, words_in}
+use Rattle.snap_why.specs.Trap.{trouble_of}
+use Rattle.snap_troubles.specs.declared.trouble.Trouble.{Trouble}
+use Rattle.snap_troubles.specs.declared.trouble.Trouble.TheVariants.{NoPlace, LargeSum, NoBit, NotOwn}
+
+-- the cause of a trap at such an operand
+abbrev pub cause_of : Trouble → Cause
+cause_of (NoPlace i value count) = cause.Index
+cause_of (LargeSum x y) = cause.Overflow
+cause_of (NoBit x) = cause.NotABit
+cause_of (NotOwn b i j) = cause.Owner
+
+-- causes of which no operand tells: where control goes
+abbrev pub IsOfControl : Cause → Type 0
+IsOfControl cause.Index = ⊥
+IsOfControl cause.Overflow = ⊥
+IsOfControl cause.NotABit = ⊥
+IsOfControl cause.Owner = ⊥
+IsOfControl cause.Nested = ⊤
+IsOfControl cause.BadEnd = ⊤
+IsOfControl cause.OffEnd = ⊤
+
+-- An operand is told exactly where the line traps for one, and for its cause.
+abbrev pub Tells : {A : Type 0} → Option Trouble → Result A Cause → Type 0
+Tells (Some t) found = found ≡ Err (cause_of t)
+Tells None (Ok effect) = ⊤
+Tells None (Err c) = IsOfControl c
+
+-- What is found under a name among all locals is what is found among those of its sort: no name has two sorts.
+pub record HaveOneSort (l : Locals) : Type 0 where
+  pub rows : (x : Name) → row_in (local_value l x) ≡ value_at x l.rows []
+  pub words : (x : Name) → words_in (local_value l x) ≡ value_at x l.words []
+
+-- the cause of a trap is that of the operand that is told, and one of control where none is
+abbrev pub Names : Option Trouble → Cause → Type 0
+Names (Some t) c = c ≡ cause_of t
+Names None c = IsOfControl c
+
+-- the operand that is told of process i, which stands so in a state
+abbrev pub told_of : Run → State → (i : ℕ) → Activity → Option Trouble
+told_of r S i a =
+    trouble_of r.source r.shape S (record { process = i; op = a.op; place = 0 }) (instr_at r.source.lines a.line)
+
+-- what a step of process i would do in a state
+abbrev pub effect_of : Run → State → (i : ℕ) → Activity → Result Effect Cause
+effect_of r S i a =
+    effect_at r.source
+    (record { shape = r.shape; me = i; op = a.op; locals = (process_at S i).locals; place = 0 })
+    S.memory a (instr_at r.source.lines a.line)
+
+-- In each state of a run of any listing, what is told of a process that stands at a line is what a step would trap for;
+-- and what is told after a step that trapped is what it trapped for.
+pub record TrapsAreTold : Type 0 where
+  pub before : (r : Run) (t i : ℕ) (a : Activity) → AreDistinct (all_names r.source) →
+      Tells (told_of r (state r t) i a) (effect_of r (state r t) i a)
+  pub after : (r : Run) (t i : ℕ) (a : Activity) (c : Cause) → AreDistinct (all_names r.source) → t < length r.items →
+      item r (suc t) ≡ Step i → (process_at (state r t) i).status ≡ Busy a → outcome r (suc t) ≡ Trapped c →
+      Names (told_of r (state r (suc t)) i a) c

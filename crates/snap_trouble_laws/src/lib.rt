@@ -1,0 +1,12 @@
+//! What is told of a trap is what the table of lines has: the operand that is named is the one for
+//! which the line traps.
+#![tactic(auto)]
+
+ghost use Rattle.snap_trouble_laws.specs.Told.{TrapsAreTold};
+
+/// In each state of a run of any listing, the operand that is told of a process at a line is the one
+/// for which a step would trap, and none is told where it would not, or for where control goes. What
+/// is told after a step that trapped is what it trapped for.
+pub fn traps_are_told()
+    ensures { TrapsAreTold }
+{}

@@ -14,6 +14,8 @@ use Rattle.snap_semantics.specs.State.{Locals, NameMap, initial_process, process
 use Rattle.snap_semantics.specs.State.{with_words}
 use Rattle.snap_semantics.specs.Uses.{is_among}
 use Rattle.snap_runs.specs.Run.{Run, state}
+use Rattle.snap_asm_program.proofs.Alone.{behind_distinct}
+use Rattle.snap_asm_program.proofs.Distinct.{front_apart, right_false}
 use Rattle.snap_record.proofs.KeptLocals.{in_each_state}
 use Rattle.snap_record.proofs.Names.{not_named, set_lacks}
 use Rattle.snap_troubles.specs.Troubles.{row_in, words_in}
@@ -54,23 +56,7 @@ words_has x y v l h = record {
 -- a name among the first of distinct ones is not among the others
 behind : (x : Name) (xs ys : List Name) → is_among x (xs ++ ys) ≡ false → is_among x ys ≡ false
 behind x [] ys h = h
-behind x (z ∷ xs) ys h = by_name (bytes_eq x z) h (behind x xs ys) where
-  by_name : (b : Bool) → (b || is_among x (xs ++ ys)) ≡ false →
-      (is_among x (xs ++ ys) ≡ false → is_among x ys ≡ false) → is_among x ys ≡ false
-  by_name true h rest = absurd cc
-  by_name false h rest = rest h
-
-front : (x : Name) (xs ys : List Name) → is_among x (xs ++ ys) ≡ false → is_among x xs ≡ false
-front x [] ys h = refl
-front x (z ∷ xs) ys h = by_name (bytes_eq x z) h (front x xs ys) where
-  by_name : (b : Bool) → (b || is_among x (xs ++ ys)) ≡ false →
-      (is_among x (xs ++ ys) ≡ false → is_among x xs ≡ false) → (b || is_among x xs) ≡ false
-  by_name true h rest = absurd cc
-  by_name false h rest = rest h
-
-others : (xs ys : List Name) → AreDistinct (xs ++ ys) → AreDistinct ys
-others [] ys h = h
-others (x ∷ xs) ys h = others xs ys h.1
+behind x (z ∷ xs) ys h = behind x xs ys (right_false (bytes_eq x z) (is_among x (xs ++ ys)) h)
 
 apart : (x : Name) (xs ys : List Name) → AreDistinct (xs ++ ys) → (is_among x xs ≡ false) ⊎ (is_among x ys ≡ false)
 apart x [] ys h = inl refl
@@ -84,16 +70,16 @@ apart x (z ∷ xs) ys h = by_name (bytes_eq x z) refl (apart x xs ys h.1) where
 -- at first
 has_at_first : (x : Name) (s : Source) (n : Counts) → AreDistinct (all_names s) → Has x (initial_process s n).locals
 has_at_first x s n h =
-    let rest = others s.scalars (s.rows ++ (s.words ++ s.views)) h in record {
+    let rest = behind_distinct s.scalars (s.rows ++ (s.words ++ s.views)) h in record {
       scalar_row =
           either (apart x s.scalars (s.rows ++ (s.words ++ s.views)) h) (not_named x _ s.scalars)
-          (λ e. not_named x _ s.rows (front x s.rows (s.words ++ s.views) e));
+          (λ e. not_named x _ s.rows (front_apart x s.rows (s.words ++ s.views) e));
       scalar_words =
           either (apart x s.scalars (s.rows ++ (s.words ++ s.views)) h) (not_named x _ s.scalars)
-          (λ e. not_named x _ s.words (front x s.words s.views (behind x s.rows (s.words ++ s.views) e)));
+          (λ e. not_named x _ s.words (front_apart x s.words s.views (behind x s.rows (s.words ++ s.views) e)));
       row_words =
           either (apart x s.rows (s.words ++ s.views) rest) (not_named x _ s.rows)
-          (λ e. not_named x _ s.words (front x s.words s.views e));
+          (λ e. not_named x _ s.words (front_apart x s.words s.views e));
     }
 
 -- what is found among the values of a sort

@@ -133,8 +133,8 @@ shows_of_answer prompt answer s None after u v still w asked line same told firs
 shows_of_answer prompt answer s
     (Some xs) after u v still w asked line same told first is_prompt at read is_still is_line
     second is_answer =
-    let known : line ≡ kept (take_through 10 xs) = subst (λ o. IfSome o (λ ys. line ≡ kept
-        (take_through 10 ys))) at read in
+    let known : line ≡ kept (take_through 10 xs) =
+    subst (λ o. IfSome o (λ ys. line ≡ kept (take_through 10 ys))) at read in
     let is_text : told ≡ (answer_or_end answer s (kept (take_through 10 xs))).text =
     is_answer ∙ ap (λ l. (answer_or_end answer s l).text) (is_line ∙ known) in
     then_in_part u v w (prompt s) (answer_or_end answer s (kept (take_through 10 xs))).text
@@ -161,8 +161,8 @@ none_ends_before answer s now (first ∷ next ∷ lines) line h =
 pub between_turns : {S : Type 0} (prompt : S → List ℕ) (answer : S → List ℕ → Answer S) (s now : S)
     (u v : Option (List Event)) → HasPassed prompt answer s now u v → IsBrokenOff prompt answer s u v
 between_turns prompt answer s now u v h =
-    (h.0, none_ends answer s now h.0 h.1, (dialog prompt answer s h.0, [], append-nil
-        (dialog prompt answer s h.0), h.2))
+    let whole = dialog prompt answer s h.0 in
+    (h.0, none_ends answer s now h.0 h.1, (whole, [], append-nil whole, h.2))
 
 pub within_turn : {S : Type 0} (prompt : S → List ℕ) (answer : S → List ℕ → Answer S) (s now : S)
     (u v w : Option (List Event)) → HasPassed prompt answer s now u v →
@@ -228,8 +228,8 @@ pub turn_taken : {S : Type 0} (prompt : S → List ℕ) (answer : S → List ℕ
     TurnShown prompt answer now later left v w more → more ≡ true → HasTaken (count + 1) first next
 turn_taken prompt answer now later count None left next v w more h drops shows on = tt
 turn_taken {S} prompt answer now later count (Some all) left next v w more h drops shows on =
-    go h.0 h.2 (subst (λ o. DropsThrough o next 10) h.1 drops) (subst
-        (λ o. TurnShown prompt answer now later o v w more) h.1 shows) where
+    go h.0 h.2 (subst (λ o. DropsThrough o next 10) h.1 drops)
+    (subst (λ o. TurnShown prompt answer now later o v w more) h.1 shows) where
       go : (rest : List ℕ) → count + length rest ≤ length all → DropsThrough (Some rest) next 10 →
           TurnShown prompt answer now later (Some rest) v w more → HasTaken (count + 1) (Some all) next
       go [] fits drops shows = absurd (true≢false (sym on ∙ shows.0.1))

@@ -99,7 +99,7 @@ line_told l shape S t m a (instr.LetPlace x i e) h =
     tells_then (place_trouble (context_of shape S t) i (places shape)) _ _ _
     (place_takes (context_of shape S t) i (places shape))
     (λ k. tells_last (expr_trouble (context_of shape S t) e) _ _ (expr_takes (context_of shape S t) e h)
-        (λ v. on_tells _ _))
+    (λ v. on_tells _ _))
 line_told l shape S t m a (instr.Get x i j) h =
     tells_then (place_trouble (context_of shape S t) i (places shape)) _ _ _
     (place_takes (context_of shape S t) i (places shape))

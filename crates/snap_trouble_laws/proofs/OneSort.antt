@@ -134,7 +134,7 @@ one_sort r t i distinct =
     (has_at_first x r.source r.shape distinct) in record {
       rows = λ x.
           row_from (find_name x l.scalars) (find_name x l.rows) (find_name x l.words) (find_name x l.views)
-              (has x).scalar_row
+          (has x).scalar_row
           ∙ sym (value_from x l.rows);
       words = λ x.
           words_from (find_name x l.scalars) (find_name x l.rows) (find_name x l.words) (find_name x l.views)

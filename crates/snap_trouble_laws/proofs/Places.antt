@@ -60,10 +60,10 @@ pub values_take : (shape : Counts) (S : State) (t : Taker) (x : Name) (e : Expr)
     (each_of (λ q. each_value (at_place (context_of shape S t) q) x e k) (range_with_len p more))
 values_take shape S t x e k p zero h = ([], refl)
 values_take shape S t x e k p (suc more) h =
-    takes_then (or_else (expr_trouble (context_of shape S (taker_at t p)) e) (where_trouble (context_of shape S
-        (taker_at t p)) k))
+    let c = context_of shape S (taker_at t p) in
+    takes_then (or_else (expr_trouble c e) (where_trouble c k))
     (values_trouble shape S t e k (p + 1) more) (each_value (at_place (context_of shape S t) p) x e k) _
-    (value_takes (context_of shape S (taker_at t p)) x e k h)
+    (value_takes c x e k h)
     (λ v. takes_last (values_trouble shape S t e k (p + 1) more) _ (λ vs. v ∷ vs)
     (values_take shape S t x e k (p + 1) more h))
 
@@ -104,9 +104,8 @@ word_of_three : (o p q z : Option Trouble) (x y u : ℕ) (r s v : Result ℕ Cau
     Gives p y s → Gives q u v → Takes z (with_bits (word x y u)) → Takes (or_else o (or_else p (or_else q z)))
     ((r >>= λ a. s >>= λ b. v >>= λ d. Ok (word a b d)) >>= λ parts. with_bits parts)
 word_of_three None p q z x y u r s v word h k l m =
-    subst (λ e. Takes (or_else p (or_else q z)) ((e >>= λ a. s >>= λ b. v >>= λ d. Ok
-        (word a b d)) >>= λ parts. with_bits parts))
-    (sym h) (word_of_two p q z y u s v (word x) k l m)
+    subst (λ e. Takes (or_else p (or_else q z))
+    ((e >>= λ a. s >>= λ b. v >>= λ d. Ok (word a b d)) >>= λ parts. with_bits parts)) (sym h) (word_of_two p q z y u s v (word x) k l m)
 word_of_three (Some t) p q z x y u r s v word h k l m =
     ap (λ e. (e >>= λ a. s >>= λ b. v >>= λ d. Ok (word a b d)) >>= λ parts. with_bits parts) h
 
@@ -138,5 +137,5 @@ tuple_takes c (tuple.Multi d i t) h =
     (expr_number c d) (expr_number c i) (expr_number c t) (expr_value c d) (expr_value c i) (expr_value c t) _
     (expr_gives c d h) (expr_gives c i h) (expr_gives c t h)
     (subst (λ o. Takes o (with_bits (word_by (expr_number c d) (expr_number c i) (expr_number c t))))
-    (or_none (bit_trouble (expr_number c t))) (word_takes (word_by (expr_number c d) (expr_number c i)
-        (expr_number c t))))
+    (or_none (bit_trouble (expr_number c t)))
+    (word_takes (word_by (expr_number c d) (expr_number c i) (expr_number c t))))

@@ -18,7 +18,7 @@ use Rattle.snap_runs.specs.Run.{Run, item, outcome, state}
 use Rattle.snap_runs.proofs.Embedding.{next_state}
 use Rattle.snap_troubles.specs.declared.trouble.Trouble.{Trouble}
 use Rattle.snap_why.specs.Trap.{trouble_of}
-use Rattle.snap_trouble_laws.specs.Told.{HaveOneSort, Names, Tells, effect_of, told_of}
+use Rattle.snap_trouble_laws.specs.Told.{HaveOneSort, Names, Tells, effect_of, standing, told_of}
 use Rattle.snap_trouble_laws.proofs.Effects.{line_told}
 use Rattle.snap_trouble_laws.proofs.OneSort.{one_sort}
 
@@ -26,8 +26,7 @@ use Rattle.snap_trouble_laws.proofs.OneSort.{one_sort}
 at_line : (r : Run) (S : State) (i : ℕ) (m : Memory) (a : Activity) (o : Option Instr) →
     HaveOneSort (process_at S i).locals →
     Tells (trouble_of r.source r.shape S (record { process = i; op = a.op; place = 0 }) o)
-    (effect_at r.source (record { shape = r.shape; me = i; op = a.op; locals =
-        (process_at S i).locals; place = 0 }) m a o)
+    (effect_at r.source (standing r i a (process_at S i).locals) m a o)
 at_line r S i m a None h = tt
 at_line r S i m a (Some line) h =
     line_told r.source r.shape S (record { process = i; op = a.op; place = 0 }) m a line h
@@ -77,8 +76,8 @@ told_after r t i a c distinct fits is_step busy traps =
     let there : process_at (state r (suc t)) i ≡ q =
     ap (λ (T : State). process_at T i) left ∙ set_there S.processes (i - 1) q a busy in
     let told : Tells (told_of r (state r (suc t)) i a) (effect_of r S i a) =
-    subst (λ (l : Locals). Tells (told_of r (state r (suc t)) i a) (effect_at r.source
-    (record { shape = r.shape; me = i; op = a.op; locals = l; place = 0 }) S.memory a (instr_at r.source.lines a.line)))
+    subst (λ (l : Locals). Tells (told_of r (state r (suc t)) i a)
+    (effect_at r.source (standing r i a l) S.memory a (instr_at r.source.lines a.line)))
     (ap (λ (u : Process). u.locals) there)
     (at_line r (state r (suc t)) i S.memory a (instr_at r.source.lines a.line) (one_sort r (suc t) i distinct)) in
     names (told_of r (state r (suc t)) i a) (effect_of r S i a) c told by.0

@@ -112,13 +112,13 @@ pub expr_gives : (c : Context) (e : Expr) → HaveOneSort c.locals → Gives (ex
 expr_gives c (expr.Term t) h = term_gives c t h
 expr_gives c (expr.Sum t u) h =
     gives_then (term_trouble c t) _ (term_number c t) (expr_number c (expr.Sum t u)) (term_value c t) _
-        (term_gives c t h)
+    (term_gives c t h)
     (gives_then (term_trouble c u) _ (term_number c u) (expr_number c (expr.Sum t u)) (term_value c u) _
-        (term_gives c u h)
+    (term_gives c u h)
     (sum_gives (term_number c t) (term_number c u)))
 expr_gives c (expr.Not t) h =
     gives_last (term_trouble c t) (term_number c t) (negated (term_number c t)) (term_value c t) _
-        (term_gives c t h) refl
+    (term_gives c t h) refl
 
 pub expr_takes : (c : Context) (e : Expr) → HaveOneSort c.locals → Takes (expr_trouble c e) (expr_value c e)
 expr_takes c e h = takes (expr_trouble c e) (expr_number c e) (expr_value c e) (expr_gives c e h)

@@ -7,6 +7,7 @@ use Rattle.snap_semantics.specs.Readers.{local_value}
 use Rattle.snap_semantics.specs.Source.{Name, instr_at}
 use Rattle.snap_semantics.specs.State.{Locals, State, process_at, value_at}
 use Rattle.snap_semantics.specs.Table.{Effect, effect_at}
+use Rattle.snap_semantics.specs.Value.{Context}
 use Rattle.snap_semantics.specs.declared.process.Activity.{Activity}
 use Rattle.snap_semantics.specs.declared.process.Cause.{Cause}
 use Rattle.snap_semantics.specs.declared.process.Cause.TheVariants as cause
@@ -57,12 +58,14 @@ abbrev pub told_of : Run → State → (i : ℕ) → Activity → Option Trouble
 told_of r S i a =
     trouble_of r.source r.shape S (record { process = i; op = a.op; place = 0 }) (instr_at r.source.lines a.line)
 
+-- who takes the operands of a line: process i, with these locals
+abbrev pub standing : Run → (i : ℕ) → Activity → Locals → Context
+standing r i a l = record { shape = r.shape; me = i; op = a.op; locals = l; place = 0 }
+
 -- what a step of process i would do in a state
 abbrev pub effect_of : Run → State → (i : ℕ) → Activity → Result Effect Cause
 effect_of r S i a =
-    effect_at r.source
-    (record { shape = r.shape; me = i; op = a.op; locals = (process_at S i).locals; place = 0 })
-    S.memory a (instr_at r.source.lines a.line)
+    effect_at r.source (standing r i a (process_at S i).locals) S.memory a (instr_at r.source.lines a.line)
 
 -- In each state of a run of any listing, what is told of a process that stands at a line is what a step would trap for;
 -- and what is told after a step that trapped is what it trapped for.

@@ -22,8 +22,9 @@ use Rattle.snap_troubles.specs.Troubles.{expr_trouble, line_trouble, owner_troub
 use Rattle.snap_troubles.specs.Troubles.{values_trouble}
 use Rattle.snap_troubles.specs.declared.taker.Taker.{Taker}
 use Rattle.snap_troubles.specs.declared.trouble.Trouble.{Trouble}
-use Rattle.snap_trouble_laws.specs.Told.{HaveOneSort, Tells}
+use Rattle.snap_trouble_laws.specs.Told.{Tells}
 use Rattle.snap_trouble_laws.proofs.Places.{conditions_take, tuple_takes, values_take}
+use Rattle.snap_trouble_laws.proofs.Values.{HaveOneSort}
 use Rattle.snap_trouble_laws.proofs.Values.{Gives, Takes, bit_gives, condition_takes, expr_gives, expr_takes}
 use Rattle.snap_trouble_laws.proofs.Values.{owner_gives}
 use Rattle.snap_trouble_laws.proofs.Values.{place_gives, takes}

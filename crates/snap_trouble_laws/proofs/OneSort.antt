@@ -19,10 +19,10 @@ use Rattle.snap_asm_program.proofs.Distinct.{front_apart, right_false}
 use Rattle.snap_record.proofs.KeptLocals.{in_each_state}
 use Rattle.snap_record.proofs.Names.{not_named, set_lacks}
 use Rattle.snap_troubles.specs.Troubles.{row_in, words_in}
-use Rattle.snap_trouble_laws.specs.Told.{HaveOneSort}
+use Rattle.snap_trouble_laws.proofs.Values.{HaveOneSort}
 
 -- of scalars, rows and words, this name has one at most
-record Has (x : Name) (l : Locals) : Type 0 where
+record HasOneSort (x : Name) (l : Locals) : Type 0 where
   pub scalar_row : (find_name x l.scalars ≡ None) ⊎ (find_name x l.rows ≡ None)
   pub scalar_words : (find_name x l.scalars ≡ None) ⊎ (find_name x l.words ≡ None)
   pub row_words : (find_name x l.rows ≡ None) ⊎ (find_name x l.words ≡ None)
@@ -32,21 +32,21 @@ either : {A B C D : Type 0} → A ⊎ B → (A → C) → (B → D) → C ⊎ D
 either (inl a) f g = inl (f a)
 either (inr b) f g = inr (g b)
 
-scalar_has : (x y : Name) (v : ℕ) (l : Locals) → Has x l → Has x (with_scalar y v l)
+scalar_has : (x y : Name) (v : ℕ) (l : Locals) → HasOneSort x l → HasOneSort x (with_scalar y v l)
 scalar_has x y v l h = record {
   scalar_row = either h.scalar_row (set_lacks x y v l.scalars) (λ e. e);
   scalar_words = either h.scalar_words (set_lacks x y v l.scalars) (λ e. e);
   row_words = h.row_words;
 }
 
-row_has : (x y : Name) (v : List ℕ) (l : Locals) → Has x l → Has x (with_row y v l)
+row_has : (x y : Name) (v : List ℕ) (l : Locals) → HasOneSort x l → HasOneSort x (with_row y v l)
 row_has x y v l h = record {
   scalar_row = either h.scalar_row (λ e. e) (set_lacks x y v l.rows);
   scalar_words = h.scalar_words;
   row_words = either h.row_words (set_lacks x y v l.rows) (λ e. e);
 }
 
-words_has : (x y : Name) (v : List Word) (l : Locals) → Has x l → Has x (with_words y v l)
+words_has : (x y : Name) (v : List Word) (l : Locals) → HasOneSort x l → HasOneSort x (with_words y v l)
 words_has x y v l h = record {
   scalar_row = h.scalar_row;
   scalar_words = either h.scalar_words (λ e. e) (set_lacks x y v l.words);
@@ -68,7 +68,8 @@ apart x (z ∷ xs) ys h = by_name (bytes_eq x z) refl (apart x xs ys h.1) where
   by_name false is rest = rest
 
 -- at first
-has_at_first : (x : Name) (s : Source) (n : Counts) → AreDistinct (all_names s) → Has x (initial_process s n).locals
+has_at_first : (x : Name) (s : Source) (n : Counts) → AreDistinct (all_names s) →
+    HasOneSort x (initial_process s n).locals
 has_at_first x s n h =
     let rest = behind_distinct s.scalars (s.rows ++ (s.words ++ s.views)) h in record {
       scalar_row =
@@ -127,8 +128,8 @@ words_from None None None None h k = refl
 pub one_sort : (r : Run) (t i : ℕ) → AreDistinct (all_names r.source) → HaveOneSort (process_at (state r t) i).locals
 one_sort r t i distinct =
     let l = (process_at (state r t) i).locals in
-    let has : (x : Name) → Has x l = λ x.
-    in_each_state (Has x) (scalar_has x) (row_has x) (words_has x)
+    let has : (x : Name) → HasOneSort x l = λ x.
+    in_each_state (HasOneSort x) (scalar_has x) (row_has x) (words_has x)
     (λ y v l h. record { scalar_row = h.scalar_row; scalar_words = h.scalar_words; row_words = h.row_words })
     (record { scalar_row = inl refl; scalar_words = inl refl; row_words = inl refl }) r t i
     (has_at_first x r.source r.shape distinct) in record {

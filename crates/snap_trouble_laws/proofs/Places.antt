@@ -24,7 +24,7 @@ use Rattle.snap_troubles.specs.Troubles.{where_trouble}
 use Rattle.snap_troubles.specs.declared.taker.Taker.{Taker}
 use Rattle.snap_troubles.specs.declared.trouble.Trouble.{Trouble}
 use Rattle.snap_troubles.specs.declared.trouble.Trouble.TheVariants.{NoBit}
-use Rattle.snap_trouble_laws.specs.Told.{HaveOneSort}
+use Rattle.snap_trouble_laws.proofs.Values.{HaveOneSort}
 use Rattle.snap_trouble_laws.proofs.Values.{Gives, Takes, condition_takes, expr_gives, expr_takes, takes_last}
 use Rattle.snap_trouble_laws.proofs.Values.{takes_then}
 
@@ -100,12 +100,13 @@ word_of_two (Some t) p q x y r s word h k l = ap (λ u. (u >>= λ a. s >>= λ b.
     (word a b)) >>= λ parts. with_bits parts) h
 
 word_of_three : (o p q z : Option Trouble) (x y u : ℕ) (r s v : Result ℕ Cause) (word : ℕ → ℕ → ℕ → Word) →
-    Gives o x r →
-    Gives p y s → Gives q u v → Takes z (with_bits (word x y u)) → Takes (or_else o (or_else p (or_else q z)))
+    Gives o x r → Gives p y s → Gives q u v → Takes z (with_bits (word x y u)) →
+    Takes (or_else o (or_else p (or_else q z)))
     ((r >>= λ a. s >>= λ b. v >>= λ d. Ok (word a b d)) >>= λ parts. with_bits parts)
 word_of_three None p q z x y u r s v word h k l m =
     subst (λ e. Takes (or_else p (or_else q z))
-    ((e >>= λ a. s >>= λ b. v >>= λ d. Ok (word a b d)) >>= λ parts. with_bits parts)) (sym h) (word_of_two p q z y u s v (word x) k l m)
+    ((e >>= λ a. s >>= λ b. v >>= λ d. Ok (word a b d)) >>= λ parts. with_bits parts)) (sym h)
+    (word_of_two p q z y u s v (word x) k l m)
 word_of_three (Some t) p q z x y u r s v word h k l m =
     ap (λ e. (e >>= λ a. s >>= λ b. v >>= λ d. Ok (word a b d)) >>= λ parts. with_bits parts) h
 

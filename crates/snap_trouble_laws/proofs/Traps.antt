@@ -18,9 +18,10 @@ use Rattle.snap_runs.specs.Run.{Run, item, outcome, state}
 use Rattle.snap_runs.proofs.Embedding.{next_state}
 use Rattle.snap_troubles.specs.declared.trouble.Trouble.{Trouble}
 use Rattle.snap_why.specs.Trap.{trouble_of}
-use Rattle.snap_trouble_laws.specs.Told.{HaveOneSort, Names, Tells, effect_of, standing, told_of}
+use Rattle.snap_trouble_laws.specs.Told.{IsCauseOf, Tells, effect_of, standing, told_of}
 use Rattle.snap_trouble_laws.proofs.Effects.{line_told}
 use Rattle.snap_trouble_laws.proofs.OneSort.{one_sort}
+use Rattle.snap_trouble_laws.proofs.Values.{HaveOneSort}
 
 -- the line at which a process stands, where it is there, whatever memory holds
 at_line : (r : Run) (S : State) (i : ℕ) (m : Memory) (a : Activity) (o : Option Instr) →
@@ -37,10 +38,11 @@ told_before r t i a distinct =
     at_line r (state r t) i (state r t).memory a (instr_at r.source.lines a.line) (one_sort r t i distinct)
 
 -- the cause of a step that traps
-names : (o : Option Trouble) (found : Result Effect Cause) (c : Cause) → Tells o found → found ≡ Err c → Names o c
-names None (Ok e) c h is = absurd cc
-names None (Err d) c h is = subst (λ f. Tells None f) is h
-names (Some t) found c h is = cc
+cause_told : (o : Option Trouble) (found : Result Effect Cause) (c : Cause) → Tells o found → found ≡ Err c →
+    IsCauseOf o c
+cause_told None (Ok e) c h is = absurd cc
+cause_told None (Err d) c h is = subst (λ f. Tells None f) is h
+cause_told (Some t) found c h is = cc
 
 -- a step that traps leaves the locals of its process
 trapped_by : (S : State) (i : ℕ) (a : Activity) (l : Locals) (found : Result Effect Cause) (c : Cause) →
@@ -64,7 +66,7 @@ set_there (q ∷ ps) (suc k) p a busy = set_there ps k p a busy
 pub told_after : (r : Run) (t i : ℕ) (a : Activity) (c : Cause) → AreDistinct (all_names r.source) →
     t < length r.items →
     item r (suc t) ≡ Step i → (process_at (state r t) i).status ≡ Busy a → outcome r (suc t) ≡ outcomes.Trapped c →
-    Names (told_of r (state r (suc t)) i a) c
+    IsCauseOf (told_of r (state r (suc t)) i a) c
 told_after r t i a c distinct fits is_step busy traps =
     let S = state r t in
     let p = process_at S i in
@@ -80,4 +82,4 @@ told_after r t i a c distinct fits is_step busy traps =
     (effect_at r.source (standing r i a l) S.memory a (instr_at r.source.lines a.line)))
     (ap (λ (u : Process). u.locals) there)
     (at_line r (state r (suc t)) i S.memory a (instr_at r.source.lines a.line) (one_sort r (suc t) i distinct)) in
-    names (told_of r (state r (suc t)) i a) (effect_of r S i a) c told by.0
+    cause_told (told_of r (state r (suc t)) i a) (effect_of r S i a) c told by.0

@@ -1,5 +1,5 @@
 -- What is told of the operands of a line, of its terms, expressions and conditions, is what the table of lines takes.
-use Rattle.std.proofs.Common.{◌≡◌, ℕ, ◌+◌, ◌-◌, ◌^◌, ◌<◌, Option, Some, None, Result, Ok, Err, Bool, true, false}
+use Rattle.std.proofs.Common.{◌≡◌, ℕ, ◌+◌, ◌-◌, ◌^◌, ◌<◌, Option, Some, None, Result, Ok, Err, Bool, true, false, []}
 use Rattle.std.proofs.Common.{min, nat_lt, if◌then◌else◌, slice_index, slice_index_or, refl, sym, ap, subst, ◌∙◌, arith}
 use Rattle.std.proofs.lemmas.Bool.{ltb-true}
 use Rattle.std.proofs.lemmas.Grind.{common_steps}
@@ -9,7 +9,10 @@ use Rattle.snap_words.specs.Word.{no_word}
 use Rattle.snap_words.specs.declared.address.Bank.{Bank}
 use Rattle.snap_words.specs.declared.kind.KindTag.{KindTag}
 use Rattle.snap_semantics.specs.Answers.{◌>>=◌}
+use Rattle.snap_semantics.specs.Readers.{local_value}
 use Rattle.snap_semantics.specs.Rules.{or_else}
+use Rattle.snap_semantics.specs.Source.{Name}
+use Rattle.snap_semantics.specs.State.{Locals, value_at}
 use Rattle.snap_semantics.specs.Table.{bit_value, owned}
 use Rattle.snap_semantics.specs.Value.{Context, checked_sum, comparison_holds, condition_holds, expr_value}
 use Rattle.snap_semantics.specs.Value.{index_value, joined, place_in, relates, term_value}
@@ -25,9 +28,15 @@ use Rattle.snap_semantics.specs.declared.process.Cause.{Cause}
 use Rattle.snap_semantics.specs.declared.process.Cause.TheVariants as cause
 use Rattle.snap_troubles.specs.Troubles.{bit_trouble, comparison_trouble, condition_trouble, expr_number, expr_trouble}
 use Rattle.snap_troubles.specs.Troubles.{negated, owner_trouble, place_trouble, sum_trouble, term_number, term_trouble}
+use Rattle.snap_troubles.specs.Troubles.{row_in, words_in}
 use Rattle.snap_troubles.specs.declared.trouble.Trouble.{Trouble}
 use Rattle.snap_troubles.specs.declared.trouble.Trouble.TheVariants.{NoPlace, LargeSum, NoBit, NotOwn}
-use Rattle.snap_trouble_laws.specs.Told.{HaveOneSort, cause_of}
+use Rattle.snap_trouble_laws.specs.Told.{cause_of}
+
+-- What is found under a name among all locals is what is found among those of its sort: no name has two sorts.
+pub record HaveOneSort (l : Locals) : Type 0 where
+  pub rows : (x : Name) → row_in (local_value l x) ≡ value_at x l.rows []
+  pub words : (x : Name) → words_in (local_value l x) ≡ value_at x l.words []
 
 -- an operand is told exactly where there is no value, and then for its cause
 abbrev pub Takes : {A : Type 0} → Option Trouble → Result A Cause → Type 0

@@ -1,11 +1,10 @@
 -- `TrapsAreTold`: what `why` tells of a trap, the operand at which the line of a process traps, is what the table of
 -- lines has.
-use Rattle.std.specs.Prelude.{◌≡◌, ◌<◌, ℕ, suc, [], length, Option, Some, None, Result, Ok, Err, ⊤}
+use Rattle.std.specs.Prelude.{◌≡◌, ◌<◌, ℕ, suc, length, Option, Some, None, Result, Ok, Err, ⊤}
 use Rattle.snap_semantics.specs.IsListing.{AreDistinct}
 use Rattle.snap_semantics.specs.Listing.{all_names}
-use Rattle.snap_semantics.specs.Readers.{local_value}
-use Rattle.snap_semantics.specs.Source.{Name, instr_at}
-use Rattle.snap_semantics.specs.State.{Locals, State, process_at, value_at}
+use Rattle.snap_semantics.specs.Source.{instr_at}
+use Rattle.snap_semantics.specs.State.{Locals, State, process_at}
 use Rattle.snap_semantics.specs.Table.{Effect, effect_at}
 use Rattle.snap_semantics.specs.Value.{Context}
 use Rattle.snap_semantics.specs.declared.process.Activity.{Activity}
@@ -15,7 +14,6 @@ use Rattle.snap_semantics.specs.declared.process.Item.TheVariants.{Step}
 use Rattle.snap_semantics.specs.declared.process.Outcome.TheVariants.{Trapped}
 use Rattle.snap_semantics.specs.declared.process.Status.TheVariants.{Busy}
 use Rattle.snap_runs.specs.Run.{Run, item, outcome, state}
-use Rattle.snap_troubles.specs.Troubles.{row_in, words_in}
 use Rattle.snap_why.specs.Trap.{trouble_of}
 use Rattle.snap_troubles.specs.declared.trouble.Trouble.{Trouble}
 use Rattle.snap_troubles.specs.declared.trouble.Trouble.TheVariants.{NoPlace, LargeSum, NoBit, NotOwn}
@@ -43,15 +41,10 @@ Tells (Some t) found = found ≡ Err (cause_of t)
 Tells None (Ok effect) = ⊤
 Tells None (Err c) = IsOfControl c
 
--- What is found under a name among all locals is what is found among those of its sort: no name has two sorts.
-pub record HaveOneSort (l : Locals) : Type 0 where
-  pub rows : (x : Name) → row_in (local_value l x) ≡ value_at x l.rows []
-  pub words : (x : Name) → words_in (local_value l x) ≡ value_at x l.words []
-
 -- the cause of a trap is that of the operand that is told, and one of control where none is
-abbrev pub Names : Option Trouble → Cause → Type 0
-Names (Some t) c = c ≡ cause_of t
-Names None c = IsOfControl c
+abbrev pub IsCauseOf : Option Trouble → Cause → Type 0
+IsCauseOf (Some t) c = c ≡ cause_of t
+IsCauseOf None c = IsOfControl c
 
 -- the operand that is told of process i, which stands so in a state
 abbrev pub told_of : Run → State → (i : ℕ) → Activity → Option Trouble
@@ -74,4 +67,4 @@ pub record TrapsAreTold : Type 0 where
       Tells (told_of r (state r t) i a) (effect_of r (state r t) i a)
   pub after : (r : Run) (t i : ℕ) (a : Activity) (c : Cause) → AreDistinct (all_names r.source) → t < length r.items →
       item r (suc t) ≡ Step i → (process_at (state r t) i).status ≡ Busy a → outcome r (suc t) ≡ Trapped c →
-      Names (told_of r (state r (suc t)) i a) c
+      IsCauseOf (told_of r (state r (suc t)) i a) c

@@ -22,7 +22,7 @@ use Rattle.snap_troubles.specs.Troubles.{expr_trouble, line_trouble, owner_troub
 use Rattle.snap_troubles.specs.Troubles.{values_trouble}
 use Rattle.snap_troubles.specs.declared.taker.Taker.{Taker}
 use Rattle.snap_troubles.specs.declared.trouble.Trouble.{Trouble}
-use Rattle.snap_trouble_laws.specs.Told.{Tells}
+use Rattle.snap_trouble_laws.specs.Told.{IsTold}
 use Rattle.snap_trouble_laws.proofs.Places.{conditions_take, tuple_takes, values_take}
 use Rattle.snap_trouble_laws.proofs.Values.{HaveOneSort}
 use Rattle.snap_trouble_laws.proofs.Values.{Gives, Takes, bit_gives, condition_takes, expr_gives, expr_takes}
@@ -31,54 +31,55 @@ use Rattle.snap_trouble_laws.proofs.Values.{place_gives, takes}
 
 -- an operand, and what comes after it
 tells_then : {A B : Type 0} (o p : Option Trouble) (found : Result A Cause) (f : A → Result B Cause) →
-    Takes o found → ((v : A) → Tells p (f v)) → Tells (or_else o p) (found >>= f)
-tells_then None p found f h k = subst (λ r. Tells p (r >>= f)) (sym h.1) (k h.0)
+    Takes o found → ((v : A) → IsTold p (f v)) → IsTold (or_else o p) (found >>= f)
+tells_then None p found f h k = subst (λ r. IsTold p (r >>= f)) (sym h.1) (k h.0)
 tells_then (Some t) p found f h k = ap (λ r. r >>= f) h
 
 tells_last : {A B : Type 0} (o : Option Trouble) (found : Result A Cause) (f : A → Result B Cause) →
-    Takes o found → ((v : A) → Tells None (f v)) → Tells o (found >>= f)
-tells_last None found f h k = subst (λ r. Tells None (r >>= f)) (sym h.1) (k h.0)
+    Takes o found → ((v : A) → IsTold None (f v)) → IsTold o (found >>= f)
+tells_last None found f h k = subst (λ r. IsTold None (r >>= f)) (sym h.1) (k h.0)
 tells_last (Some t) found f h k = ap (λ r. r >>= f) h
 
 -- an operand whose value decides
 tells_by : {A B : Type 0} (o p : Option Trouble) (v : A) (found : Result A Cause) (f : A → Result B Cause) →
-    Gives o v found → Tells p (f v) → Tells (or_else o p) (found >>= f)
-tells_by None p v found f h k = subst (λ r. Tells p (r >>= f)) (sym h) k
+    Gives o v found → IsTold p (f v) → IsTold (or_else o p) (found >>= f)
+tells_by None p v found f h k = subst (λ r. IsTold p (r >>= f)) (sym h) k
 tells_by (Some t) p v found f h k = ap (λ r. r >>= f) h
 
 -- two steps that are one operand
 tells_both : {A B C : Type 0} (o p : Option Trouble) (found : Result A Cause) (f : A → Result B Cause) (g : B →
     Result C Cause) →
-    Takes o (found >>= f) → ((v : B) → Tells p (g v)) → Tells (or_else o p) (found >>= λ v. f v >>= g)
+    Takes o (found >>= f) → ((v : B) → IsTold p (g v)) → IsTold (or_else o p) (found >>= λ v. f v >>= g)
 tells_both o p (Ok v) f g h k = tells_then o p (f v) g h k
 tells_both None p (Err e) f g h k = absurd cc
 tells_both (Some t) p (Err e) f g h k = ap (λ r. r >>= g) h
 
 -- the following line, which is there or not
-on_tells : (k : Option ℕ) (f : ℕ → Effect) → Tells None (on k f)
+on_tells : (k : Option ℕ) (f : ℕ → Effect) → IsTold None (on k f)
 on_tells None f = tt
 on_tells (Some line) f = tt
 
-goes_tells : (b : Bool) (e : Effect) (k : Option ℕ) (f : ℕ → Effect) → Tells None (if b then Ok e else on k f)
+goes_tells : (b : Bool) (e : Effect) (k : Option ℕ) (f : ℕ → Effect) → IsTold None (if b then Ok e else on k f)
 goes_tells true e k f = tt
 goes_tells false e k f = on_tells k f
 
 first_tells : (s : Source) (a : Activity) (m : Memory) (l : Locals) (x : Name) (target : ℕ) (p : Option ℕ) →
-    Tells None (first_goes s a m l x target p)
+    IsTold None (first_goes s a m l x target p)
 first_tells s a m l x target None = on_tells _ _
 first_tells s a m l x target (Some p) = tt
 
 call_tells : (s : Source) (a : Activity) (m : Memory) (l : Locals) (target : ℕ) (link : Option ℕ) →
-    Tells None (call_goes s a m l target link)
+    IsTold None (call_goes s a m l target link)
 call_tells s a m l target (Some link) = tt
 call_tells s a m l target None = on_tells _ _
 
-return_tells : (m : Memory) (l : Locals) (v : List ℕ) (o : Op) (link : Option ℕ) → Tells None (return_goes m l v o link)
+return_tells : (m : Memory) (l : Locals) (v : List ℕ) (o : Op) (link : Option ℕ) →
+    IsTold None (return_goes m l v o link)
 return_tells m l v o (Some link) = tt
 return_tells m l v op.Scan None = tt
 return_tells m l v (op.Update word value) None = tt
 
-finish_tells : (o : Op) (link : Option ℕ) → Tells None (finish_goes o link)
+finish_tells : (o : Op) (link : Option ℕ) → IsTold None (finish_goes o link)
 finish_tells (op.Update word value) None = tt
 finish_tells (op.Update word value) (Some link) = tt
 finish_tells op.Scan link = tt
@@ -93,7 +94,7 @@ owner_takes kind c b i j x = takes (owner_trouble kind c b i j) x _ (owner_gives
 -- each form of a line
 pub line_told : (l : Source) (shape : Counts) (S : State) (t : Taker) (m : Memory) (a : Activity) (i : Instr) →
     HaveOneSort (process_at S t.process).locals →
-    Tells (line_trouble l.kind shape S t i) (effect l (context_of shape S t) m a i)
+    IsTold (line_trouble l.kind shape S t i) (effect l (context_of shape S t) m a i)
 line_told l shape S t m a (instr.Let x e) h =
     tells_last (expr_trouble (context_of shape S t) e) _ _ (expr_takes (context_of shape S t) e h) (λ v. on_tells _ _)
 line_told l shape S t m a (instr.LetPlace x i e) h =

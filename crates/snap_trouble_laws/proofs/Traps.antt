@@ -18,7 +18,7 @@ use Rattle.snap_runs.specs.Run.{Run, item, outcome, state}
 use Rattle.snap_runs.proofs.Embedding.{next_state}
 use Rattle.snap_troubles.specs.declared.trouble.Trouble.{Trouble}
 use Rattle.snap_why.specs.Trap.{trouble_of}
-use Rattle.snap_trouble_laws.specs.Told.{IsCauseOf, Tells, effect_of, standing, told_of}
+use Rattle.snap_trouble_laws.specs.Told.{IsCauseOf, IsTold, effect_there, standing, trouble_there}
 use Rattle.snap_trouble_laws.proofs.Effects.{line_told}
 use Rattle.snap_trouble_laws.proofs.OneSort.{one_sort}
 use Rattle.snap_trouble_laws.proofs.Values.{HaveOneSort}
@@ -26,22 +26,22 @@ use Rattle.snap_trouble_laws.proofs.Values.{HaveOneSort}
 -- the line at which a process stands, where it is there, whatever memory holds
 at_line : (r : Run) (S : State) (i : ℕ) (m : Memory) (a : Activity) (o : Option Instr) →
     HaveOneSort (process_at S i).locals →
-    Tells (trouble_of r.source r.shape S (record { process = i; op = a.op; place = 0 }) o)
+    IsTold (trouble_of r.source r.shape S (record { process = i; op = a.op; place = 0 }) o)
     (effect_at r.source (standing r i a (process_at S i).locals) m a o)
 at_line r S i m a None h = tt
 at_line r S i m a (Some line) h =
     line_told r.source r.shape S (record { process = i; op = a.op; place = 0 }) m a line h
 
 pub told_before : (r : Run) (t i : ℕ) (a : Activity) → AreDistinct (all_names r.source) →
-    Tells (told_of r (state r t) i a) (effect_of r (state r t) i a)
+    IsTold (trouble_there r (state r t) i a) (effect_there r (state r t) i a)
 told_before r t i a distinct =
     at_line r (state r t) i (state r t).memory a (instr_at r.source.lines a.line) (one_sort r t i distinct)
 
 -- the cause of a step that traps
-cause_told : (o : Option Trouble) (found : Result Effect Cause) (c : Cause) → Tells o found → found ≡ Err c →
+cause_told : (o : Option Trouble) (found : Result Effect Cause) (c : Cause) → IsTold o found → found ≡ Err c →
     IsCauseOf o c
 cause_told None (Ok e) c h is = absurd cc
-cause_told None (Err d) c h is = subst (λ f. Tells None f) is h
+cause_told None (Err d) c h is = subst (λ f. IsTold None f) is h
 cause_told (Some t) found c h is = cc
 
 -- a step that traps leaves the locals of its process
@@ -66,20 +66,20 @@ set_there (q ∷ ps) (suc k) p a busy = set_there ps k p a busy
 pub told_after : (r : Run) (t i : ℕ) (a : Activity) (c : Cause) → AreDistinct (all_names r.source) →
     t < length r.items →
     item r (suc t) ≡ Step i → (process_at (state r t) i).status ≡ Busy a → outcome r (suc t) ≡ outcomes.Trapped c →
-    IsCauseOf (told_of r (state r (suc t)) i a) c
+    IsCauseOf (trouble_there r (state r (suc t)) i a) c
 told_after r t i a c distinct fits is_step busy traps =
     let S = state r t in
     let p = process_at S i in
-    let steps : done r.source r.shape S (item r (suc t)) ≡ leave S i a p.locals (effect_of r S i a) =
+    let steps : done r.source r.shape S (item r (suc t)) ≡ leave S i a p.locals (effect_there r S i a) =
     ap (λ x. done r.source r.shape S x) is_step ∙ ap (λ (u : Status). step r.source r.shape S i p u) busy in
-    let by = trapped_by S i a p.locals (effect_of r S i a) c (sym (ap (λ x. x.1) steps) ∙ traps) in
+    let by = trapped_by S i a p.locals (effect_there r S i a) c (sym (ap (λ x. x.1) steps) ∙ traps) in
     let q : Process = record { status = Trapped c a; locals = p.locals } in
     let left : state r (suc t) ≡ with_process S i q = next_state r t fits ∙ ap (λ x. x.0) steps ∙ by.1 in
     let there : process_at (state r (suc t)) i ≡ q =
     ap (λ (T : State). process_at T i) left ∙ set_there S.processes (i - 1) q a busy in
-    let told : Tells (told_of r (state r (suc t)) i a) (effect_of r S i a) =
-    subst (λ (l : Locals). Tells (told_of r (state r (suc t)) i a)
+    let told : IsTold (trouble_there r (state r (suc t)) i a) (effect_there r S i a) =
+    subst (λ (l : Locals). IsTold (trouble_there r (state r (suc t)) i a)
     (effect_at r.source (standing r i a l) S.memory a (instr_at r.source.lines a.line)))
     (ap (λ (u : Process). u.locals) there)
     (at_line r (state r (suc t)) i S.memory a (instr_at r.source.lines a.line) (one_sort r (suc t) i distinct)) in
-    cause_told (told_of r (state r (suc t)) i a) (effect_of r S i a) c told by.0
+    cause_told (trouble_there r (state r (suc t)) i a) (effect_there r S i a) c told by.0

@@ -31,7 +31,7 @@ use Rattle.snap_troubles.specs.Troubles.{negated, owner_trouble, place_trouble, 
 use Rattle.snap_troubles.specs.Troubles.{row_in, words_in}
 use Rattle.snap_troubles.specs.declared.trouble.Trouble.{Trouble}
 use Rattle.snap_troubles.specs.declared.trouble.Trouble.TheVariants.{NoPlace, LargeSum, NoBit, NotOwn}
-use Rattle.snap_trouble_laws.specs.Told.{cause_of}
+use Rattle.snap_trouble_laws.specs.Told.{trouble_cause}
 
 -- What is found under a name among all locals is what is found among those of its sort: no name has two sorts.
 pub record HaveOneSort (l : Locals) : Type 0 where
@@ -41,12 +41,12 @@ pub record HaveOneSort (l : Locals) : Type 0 where
 -- an operand is told exactly where there is no value, and then for its cause
 abbrev pub Takes : {A : Type 0} → Option Trouble → Result A Cause → Type 0
 Takes {A} None found = (v : A) × (found ≡ Ok v)
-Takes (Some t) found = found ≡ Err (cause_of t)
+Takes (Some t) found = found ≡ Err (trouble_cause t)
 
 -- and the value, where there is one, is this
 abbrev pub Gives : {A : Type 0} → Option Trouble → A → Result A Cause → Type 0
 Gives None v found = found ≡ Ok v
-Gives (Some t) v found = found ≡ Err (cause_of t)
+Gives (Some t) v found = found ≡ Err (trouble_cause t)
 
 pub takes : {A : Type 0} (o : Option Trouble) (v : A) (found : Result A Cause) → Gives o v found → Takes o found
 takes None v found h = (v, h)

@@ -19,11 +19,11 @@ use Rattle.snap_troubles.specs.declared.trouble.Trouble.{Trouble}
 use Rattle.snap_troubles.specs.declared.trouble.Trouble.TheVariants.{NoPlace, LargeSum, NoBit, NotOwn}
 
 -- the cause of a trap at such an operand
-abbrev pub cause_of : Trouble → Cause
-cause_of (NoPlace i value count) = cause.Index
-cause_of (LargeSum x y) = cause.Overflow
-cause_of (NoBit x) = cause.NotABit
-cause_of (NotOwn b i j) = cause.Owner
+abbrev pub trouble_cause : Trouble → Cause
+trouble_cause (NoPlace i value count) = cause.Index
+trouble_cause (LargeSum x y) = cause.Overflow
+trouble_cause (NoBit x) = cause.NotABit
+trouble_cause (NotOwn b i j) = cause.Owner
 
 -- causes of which no operand tells: where control goes
 abbrev pub IsOfControl : Cause → Type 0
@@ -36,19 +36,19 @@ IsOfControl cause.BadEnd = ⊤
 IsOfControl cause.OffEnd = ⊤
 
 -- An operand is told exactly where the line traps for one, and for its cause.
-abbrev pub Tells : {A : Type 0} → Option Trouble → Result A Cause → Type 0
-Tells (Some t) found = found ≡ Err (cause_of t)
-Tells None (Ok effect) = ⊤
-Tells None (Err c) = IsOfControl c
+abbrev pub IsTold : {A : Type 0} → Option Trouble → Result A Cause → Type 0
+IsTold (Some t) found = found ≡ Err (trouble_cause t)
+IsTold None (Ok effect) = ⊤
+IsTold None (Err c) = IsOfControl c
 
 -- the cause of a trap is that of the operand that is told, and one of control where none is
 abbrev pub IsCauseOf : Option Trouble → Cause → Type 0
-IsCauseOf (Some t) c = c ≡ cause_of t
+IsCauseOf (Some t) c = c ≡ trouble_cause t
 IsCauseOf None c = IsOfControl c
 
 -- the operand that is told of process i, which stands so in a state
-abbrev pub told_of : Run → State → (i : ℕ) → Activity → Option Trouble
-told_of r S i a =
+abbrev pub trouble_there : Run → State → (i : ℕ) → Activity → Option Trouble
+trouble_there r S i a =
     trouble_of r.source r.shape S (record { process = i; op = a.op; place = 0 }) (instr_at r.source.lines a.line)
 
 -- who takes the operands of a line: process i, with these locals
@@ -56,15 +56,15 @@ abbrev pub standing : Run → (i : ℕ) → Activity → Locals → Context
 standing r i a l = record { shape = r.shape; me = i; op = a.op; locals = l; place = 0 }
 
 -- what a step of process i would do in a state
-abbrev pub effect_of : Run → State → (i : ℕ) → Activity → Result Effect Cause
-effect_of r S i a =
+abbrev pub effect_there : Run → State → (i : ℕ) → Activity → Result Effect Cause
+effect_there r S i a =
     effect_at r.source (standing r i a (process_at S i).locals) S.memory a (instr_at r.source.lines a.line)
 
 -- In each state of a run of any listing, what is told of a process that stands at a line is what a step would trap for;
 -- and what is told after a step that trapped is what it trapped for.
 pub record TrapsAreTold : Type 0 where
   pub before : (r : Run) (t i : ℕ) (a : Activity) → AreDistinct (all_names r.source) →
-      Tells (told_of r (state r t) i a) (effect_of r (state r t) i a)
+      IsTold (trouble_there r (state r t) i a) (effect_there r (state r t) i a)
   pub after : (r : Run) (t i : ℕ) (a : Activity) (c : Cause) → AreDistinct (all_names r.source) → t < length r.items →
       item r (suc t) ≡ Step i → (process_at (state r t) i).status ≡ Busy a → outcome r (suc t) ≡ Trapped c →
-      IsCauseOf (told_of r (state r (suc t)) i a) c
+      IsCauseOf (trouble_there r (state r (suc t)) i a) c

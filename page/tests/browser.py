@@ -220,12 +220,16 @@ class Tab:
     def longest_tasks(self, count=3):
         """The longest tasks of pages since then: milliseconds of a processor's time, without the time that others had it."""
         self.ask("Tracing.end")
-        told, noted = None, []
+        told, noted, others = None, [], []
         while told != "Tracing.tracingComplete":
             event = self.browser.events.get(timeout=60)
             told = event.get("method")
             if told == "Tracing.dataCollected":
                 noted += event["params"]["value"]
+            elif told != "Tracing.tracingComplete":
+                others.append(event)
+        for event in others:
+            self.browser.events.put(event)
         pages = {(one["pid"], one["tid"]) for one in noted
                  if one["name"] == "thread_name" and one["args"]["name"] == "CrRendererMain"}
         tasks = [one["tdur"] for one in noted if one["ph"] == "X" and "tdur" in one and (one["pid"], one["tid"]) in pages]

@@ -2,6 +2,7 @@
 use Rattle.std.proofs.Common.{◌≡◌, ℕ, Bool, true, false, ◌||◌, List, [], ◌∷◌, ◌++◌, Option, Some, None}
 use Rattle.std.proofs.Common.{option_map, if◌then◌else◌, ◌⊎◌, inl, inr, refl, sym, subst, ◌∙◌}
 use Rattle.std.specs.Prelude.{bytes_eq}
+use Rattle.std.proofs.Math.Logic.{⊎_map}
 use Rattle.std.proofs.lemmas.Slice.Eq.{bytes_eq-Decides}
 use Rattle.snap_words.specs.Shape.{Counts}
 use Rattle.snap_words.specs.Word.{Word}
@@ -28,29 +29,25 @@ record HasOneSort (x : Name) (l : Locals) : Type 0 where
   pub row_words : (find_name x l.rows ≡ None) ⊎ (find_name x l.words ≡ None)
 
 -- another value of a name that is there
-either : {A B C D : Type 0} → A ⊎ B → (A → C) → (B → D) → C ⊎ D
-either (inl a) f g = inl (f a)
-either (inr b) f g = inr (g b)
-
 scalar_has : (x y : Name) (v : ℕ) (l : Locals) → HasOneSort x l → HasOneSort x (with_scalar y v l)
 scalar_has x y v l h = record {
-  scalar_row = either h.scalar_row (set_lacks x y v l.scalars) (λ e. e);
-  scalar_words = either h.scalar_words (set_lacks x y v l.scalars) (λ e. e);
+  scalar_row = ⊎_map (set_lacks x y v l.scalars) (λ e. e) h.scalar_row;
+  scalar_words = ⊎_map (set_lacks x y v l.scalars) (λ e. e) h.scalar_words;
   row_words = h.row_words;
 }
 
 row_has : (x y : Name) (v : List ℕ) (l : Locals) → HasOneSort x l → HasOneSort x (with_row y v l)
 row_has x y v l h = record {
-  scalar_row = either h.scalar_row (λ e. e) (set_lacks x y v l.rows);
+  scalar_row = ⊎_map (λ e. e) (set_lacks x y v l.rows) h.scalar_row;
   scalar_words = h.scalar_words;
-  row_words = either h.row_words (set_lacks x y v l.rows) (λ e. e);
+  row_words = ⊎_map (set_lacks x y v l.rows) (λ e. e) h.row_words;
 }
 
 words_has : (x y : Name) (v : List Word) (l : Locals) → HasOneSort x l → HasOneSort x (with_words y v l)
 words_has x y v l h = record {
   scalar_row = h.scalar_row;
-  scalar_words = either h.scalar_words (λ e. e) (set_lacks x y v l.words);
-  row_words = either h.row_words (λ e. e) (set_lacks x y v l.words);
+  scalar_words = ⊎_map (λ e. e) (set_lacks x y v l.words) h.scalar_words;
+  row_words = ⊎_map (λ e. e) (set_lacks x y v l.words) h.row_words;
 }
 
 -- a name among the first of distinct ones is not among the others
@@ -73,14 +70,15 @@ has_at_first : (x : Name) (s : Source) (n : Counts) → AreDistinct (all_names s
 has_at_first x s n h =
     let rest = behind_distinct s.scalars (s.rows ++ (s.words ++ s.views)) h in record {
       scalar_row =
-          either (apart x s.scalars (s.rows ++ (s.words ++ s.views)) h) (not_named x _ s.scalars)
-          (λ e. not_named x _ s.rows (front_apart x s.rows (s.words ++ s.views) e));
+          ⊎_map (not_named x _ s.scalars) (λ e. not_named x _ s.rows (front_apart x s.rows (s.words ++ s.views) e))
+          (apart x s.scalars (s.rows ++ (s.words ++ s.views)) h);
       scalar_words =
-          either (apart x s.scalars (s.rows ++ (s.words ++ s.views)) h) (not_named x _ s.scalars)
-          (λ e. not_named x _ s.words (front_apart x s.words s.views (behind x s.rows (s.words ++ s.views) e)));
+          ⊎_map (not_named x _ s.scalars)
+          (λ e. not_named x _ s.words (front_apart x s.words s.views (behind x s.rows (s.words ++ s.views) e)))
+          (apart x s.scalars (s.rows ++ (s.words ++ s.views)) h);
       row_words =
-          either (apart x s.rows (s.words ++ s.views) rest) (not_named x _ s.rows)
-          (λ e. not_named x _ s.words (front_apart x s.words s.views e));
+          ⊎_map (not_named x _ s.rows) (λ e. not_named x _ s.words (front_apart x s.words s.views e))
+          (apart x s.rows (s.words ++ s.views) rest);
     }
 
 -- what is found among the values of a sort

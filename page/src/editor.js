@@ -2,7 +2,7 @@
 // itself, and its row of the margin is as high. A long text is shown in part, and cannot be edited there.
 import {$, fill, make, within} from './elements.js';
 
-const MOST_LINES = 1500, EDGE = 8, MOST_LETTERS = 300000, SHOWN_LETTERS = 2000;
+const MOST_LINES = 1500, EDGE = 8, ROOM = 42, MOST_LETTERS = 300000, SHOWN_LETTERS = 2000;
 export const SHOWN_LINES = 40;
 
 // Where each line of a text begins, and where one behind the last would: a long text is not cut into all its lines.
@@ -19,6 +19,7 @@ export class Editor {
         this.gutter = make('div', {className: 'gutter', tabIndex: 0, role: 'listbox', ariaLabel: `Margin: ${label}`});
         this.back = make('div', {className: 'back', ariaHidden: 'true'});
         this.first = this.active = this.columns = 0;
+        this.seen = [-1];
         this.part = [];
         this.starts = [0];
         this.text = this.letter = null;
@@ -93,6 +94,7 @@ export class Editor {
         if (!wide) return;
         this.columns = Math.floor((this.back.clientWidth - 13) / wide);
         this.part.forEach((_, k) => this.measure(k));
+        this.reveal(...this.seen);
     }
 
     // What stands in the margin, for each text line its children, their key and what is read out; and coloured lines.
@@ -109,12 +111,17 @@ export class Editor {
         });
     }
 
-    // Scrolls a line into view, but not under the hands of one who types.
-    reveal(line) {
-        const row = this.gutter.children[line - this.first], {root} = this;
-        if (!row || document.activeElement === this.area || root.scrollHeight <= root.clientHeight) return;
-        const over = root.scrollTop - row.offsetTop, under = row.offsetHeight + 21 - over - root.clientHeight;
-        root.scrollTop += under > 0 ? under : over > 0 ? -over : 0;
+    // Scrolls a line into view, and if both fit another one too, but not under the hands of one who types.
+    reveal(line, other = line) {
+        this.seen = [line, other];
+        const {root} = this, rows = [line, other].map(each => this.gutter.children[each - this.first]);
+        const [row = rows[1], more = row] = rows, room = root.clientHeight;
+        if (!row || document.activeElement === this.area || root.scrollHeight <= room) return;
+        const near = Math.abs(row.offsetTop - more.offsetTop) < room - ROOM ? more : row;
+        const top = Math.min(row.offsetTop, near.offsetTop);
+        const end = Math.max(row.offsetTop + row.offsetHeight, near.offsetTop + near.offsetHeight) + ROOM / 2;
+        if (top < root.scrollTop) root.scrollTop = top;
+        else if (end > root.scrollTop + room) root.scrollTop = end - room;
     }
 
     activate(line) {

@@ -49,9 +49,8 @@ function showMargins() {
             label: `${at}line ${line + 1}: ${scheduleEditor.part[line - scheduleEditor.first]}`};
     }, [...stale ? [] : [[here, 'now']], ...named('schedule')]);
     scheduleEditor.reveal(bad.schedule[0] ?? here);
-    listingEditor.reveal(bad.listing[0] ?? (executed < 0 ? now : executed));
-    if (!bad.listing.length && executed >= 0 && now >= 0) listingEditor.reveal(now);
-    listingEditor.reveal(bad.listing[0] ?? executed);
+    if (bad.listing.length) listingEditor.reveal(bad.listing[0]);
+    else listingEditor.reveal(executed < 0 ? now : executed, now);
 }
 
 // How many of a line's items are behind the position.

@@ -98,7 +98,7 @@ function start() {
     watchPanes();
     watchTimeline();
     asker.start();
-    return takeFirst().then(() => {
+    return takeFirst(embedded).then(() => {
         Object.assign(state, {past: [], future: []});
         showState();
         watchDrafts(embedded);
@@ -106,8 +106,9 @@ function start() {
 }
 
 // At the beginning: the work of the last visit, what the address has, or the first lesson in its middle.
-async function takeFirst() {
-    if (!await takeDraft() && !await takeHash()) await choose(data.first, {middle: true});
+async function takeFirst(embedded) {
+    const taken = !embedded && await takeDraft() || await takeHash();
+    if (!taken) await choose(data.first, {middle: true});
 }
 
 try {

@@ -10,7 +10,7 @@ import {showTexts} from './listing.js';
 import {showState} from './main.js';
 
 const BIG = 300000, QUIET = 120, MOST_ITEMS_DRAWN = 50000, MOST_DRAWN = 20000, MOST_DRAWN_FAST = 2000;
-const MOST_UNDONE = 500, MOST_UNDONE_LETTERS = 3e7, PAUSE = 1500;
+const MOST_NAMES = 300, MOST_UNDONE = 500, MOST_UNDONE_LETTERS = 3e7, PAUSE = 1500;
 const NO_VERDICTS = {numbers: readVerdicts(''), near: [], none: new Set()};
 export const state = {
     listing: '', schedule: '', at: 0, marks: new Set(), idea: null, goal: null,
@@ -118,14 +118,21 @@ export function toggle(mark) {
 export async function refresh(go = '') {
     const serial = ++state.serial, {listing, schedule, at, run, report, shownRun} = state;
     const known = !go && report && shownRun === run && report.at === at - 1 ? report : null;
-    const marks = go ? markCommands() : [], total = state.items?.total;
-    const answer = await asker.ask('look', {listing, schedule, at, go, marks, total, wantsBefore: !known && at > 0});
+    const marks = go ? markCommands() : [], total = state.items?.total, wantsBefore = !known && at > 0;
+    const names = shownRun === run ? namesOf(report) : null;
+    const answer = await asker.ask('look', {listing, schedule, at, go, marks, total, wantsBefore, names});
     if (!answer) return;
     if (answer.items?.from && schedule === state.schedule) state.items = answer.items;
     if (answer.code === OUTPUT) take(answer, serial === state.serial, run, known);
     else if (serial === state.serial) state.refusal = readRefusal(answer);
     showState();
     askAudit();
+}
+
+// The names of what a state has, where these are not many: other states of the run have the same.
+function namesOf({registers, processes}) {
+    if (registers.length > MOST_NAMES) return null;
+    return {registers: registers.map(line => line.split(' = ')[0]), processes: processes.length};
 }
 
 // Takes what was told. What an item changed is told by the state before it, of the same run; what changed since

@@ -31,20 +31,24 @@ export function showTimeline() {
     Object.assign(box, {ariaValueMax: total, ariaValueNow: at, ariaValueText: `item ${at} of ${total}: ${outcome()}`});
 }
 
-// How high a lane is.
+// How high a lane is, and how large its letters are, beside what is usual.
+const large = () => document.body.classList.contains('present') ? 1.25 : 1;
+
 function highOf(n) {
+    if (large() > 1 && n <= 3) return 36;
     if (n > 8) return 12;
     if (document.body.classList.contains('small')) return n <= 3 ? 20 : 14;
     return n <= 3 ? 30 : n <= 5 ? 24 : 16;
 }
 
-// How many operations and borrowings are over: more of the picture is told where another one is.
+// How many operations, borrowings, traps and writes are past: more of the picture is told where another one is.
 function pastOf(at) {
     const {operations: {to}, shapes} = state;
     let count = 0;
     for (const item of to) if (item && item <= at) count++;
     for (const {item} of shapes?.loan ?? []) if (item <= at) count++;
     for (const {item} of shapes?.trap ?? []) if (item <= at) count++;
+    for (const {item} of shapes?.write ?? []) if (item <= at) count++;
     return count;
 }
 
@@ -143,7 +147,7 @@ function write(words, ink, left, top, wide, size) {
     pen.beginPath();
     pen.rect(left, top, wide, line.high + 4);
     pen.clip();
-    Object.assign(pen, {fillStyle: colour(ink), font: `${size}px system-ui, "DejaVu Sans", sans-serif`});
+    Object.assign(pen, {fillStyle: colour(ink), font: `${size * large()}px system-ui, "DejaVu Sans", sans-serif`});
     pen.fillText(words, left + 6, top + (line.high - 6) / 2 + 1);
     pen.restore();
 }

@@ -1,6 +1,6 @@
 // The worker: asks the module, and reads its answers, so that the page is never held up.
-import {OUTPUT, TRAPPED, ended, inputOf, readItems, readOperations, readSession, readShapes, readVerdicts, verdictAt,
-    wordsAt} from './text.js';
+import {OUTPUT, TRAPPED, ended, inputOf, readHead, readItems, readOperations, readSession, readShapes, readVerdicts,
+    verdictAt, wordsAt} from './text.js';
 import {Glue} from './glue.js';
 
 const NEAR = 60;        // so many scans, the last ones, are told of in words, and as many without a point
@@ -35,16 +35,31 @@ function findStop({listing, schedule, at, marks, go}) {
     return {code: OUTPUT, stop, refused};
 }
 
+// The commands that show a position: its values, these registers, and so many processes.
+const showing = ({registers, processes}, at) => [`goto ${at}`, 'values', ...registers.map(name => `show ${name}`),
+    ...Array.from({length: processes}, (_, k) => `show ${k + 1}`)];
+
+// The report that their replies make.
+function shownReport(replies, {registers, processes}, at) {
+    const first = replies.findIndex(({command}) => command === 'values'), shown = replies.slice(first);
+    const heads = shown.slice(registers.length + 1, registers.length + processes + 1).map(({lines: [head, ...locals]}) =>
+        ({...readHead(head), locals: locals.map(line => line.slice(2)).join('\n')}));
+    const lines = shown.slice(1, registers.length + 1).map(reply => reply.lines[0]);
+    return {at, values: shown[0].lines[0].slice(7), registers: lines, processes: heads};
+}
+
 // A position of the run, or the one to which 'run' or 'rrun' leads from there, or to which these commands lead; and
-// where it is wanted the state one item before it. Without the number of its items the schedule is read here.
-function look({listing, schedule, total, marks, at, go, commands, wantsBefore}) {
+// where it is wanted the state one item before it, in the same session where the names of what it has are known.
+// Without the number of its items the schedule is read here.
+function look({listing, schedule, total, marks, at, go, commands, wantsBefore, names}) {
     const items = total === undefined ? readItems(schedule) : {total}, texts = listing + '\0' + schedule;
     const found = go ? findStop({listing, schedule, at, marks, go}) : {code: OUTPUT, stop: at, refused: []};
     if (found.code !== OUTPUT) return {...found, items};
     const known = commands !== undefined || texts === told, place = Math.min(found.stop, items.total);
     const end = place >= items.total;
-    const asked = commands ?? [...known || end ? [] : [`goto ${items.total}`, 'events'], `goto ${place}`, 'where']
-        .join('\n');
+    const both = names && (wantsBefore || go) && place > 0 && commands === undefined;
+    const asked = commands ?? [...known || end ? [] : [`goto ${items.total}`, 'events'],
+        ...both ? showing(names, place - 1) : [], `goto ${place}`, 'where'].join('\n');
     const answer = askOf('debug', listing, schedule, asked);
     if (answer.code !== OUTPUT) return {...answer, items};
     const {replies, report: {events, ...report}} = readSession(answer.text);
@@ -53,7 +68,8 @@ function look({listing, schedule, total, marks, at, go, commands, wantsBefore}) 
     const last = replies.at(-1)?.lines.find(line => line.startsWith('last '))?.slice(5) ?? 'none';
     if (!alike) operations = readOperations(text);
     if (commands === undefined) told = texts;
-    const before = (wantsBefore || go) && report.at ? reportAt(listing, schedule, report.at - 1) : null;
+    const before = both ? shownReport(replies, names, place - 1) :
+        (wantsBefore || go) && report.at ? reportAt(listing, schedule, report.at - 1) : null;
     return {code: OUTPUT, report, last, before, refused: found.refused, items, operations: alike ? null : operations};
 }
 

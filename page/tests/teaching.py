@@ -162,8 +162,6 @@ def try_changes(page, count):
     count.check("and what it changed, beside what was", "0\u21925" in changed and "0\u21921" in changed, changed)
     page.key("r")
     count.check("and again at the next", page.at() == "Item 54 of 64" and "5\u21926" in page.text("#memory"), page.text("#memory"))
-    page.key("End")
-    count.check("what changed since is underlined", page.run("document.querySelectorAll('#memory .since').length") >= 0)
     page.key("Home", "End")
     count.check("after a jump too", page.run("document.querySelector('#memory .since')?.title ?? ''") == "was 0 0 at item 0",
                 page.run("document.querySelector('#memory .since')?.title ?? ''"))
@@ -200,8 +198,12 @@ def try_texts(page, count):
     box = page.run("(() => { const r = document.getElementById('edge-left').getBoundingClientRect(); return [r.x + r.width / 2, r.y + 200]; })()")
     page.tab.mouse(box[0], box[1], (box[0] - 60, box[1]), (box[0] - 120, box[1]))
     count.check("and dragged", page.run("document.getElementById('left').getBoundingClientRect().width") < wider - 80)
-    for mark in ("a",):
-        count.check("a long line typed goes on below itself", page.run("document.querySelector('#listing textarea').wrap") != "off", mark)
+    page.choose(0)
+    type_text(page, "listing", "# " + "word " * 60)
+    told = page.run("(() => { const a = document.querySelector('#listing textarea'), rows = document.querySelectorAll('#listing .gutter > div'); return ["
+                    "a.scrollWidth - a.clientWidth, a.scrollHeight - a.clientHeight, rows[rows.length - 1].offsetHeight / rows[0].offsetHeight]; })()")
+    count.check("a long line typed goes on below itself, and its row with it", told[0] == 0 and told[1] <= 0 and told[2] >= 4, told)
+    page.leave()
 
 
 def try_zoomed(page, count):
@@ -331,7 +333,7 @@ def try_untold(page, count):
     colours = page.run("(() => { const s = getComputedStyle(document.body), all = n => s.getPropertyValue(n).trim(); return [all('--scan-bar'), all('--update-bar'), "
                        "...Array.from({length: 8}, (_, k) => all('--p' + k))]; })()")
     style = read("docs", "pictures", "borrowed-view.svg")
-    count.check("operations have the colours of a picture, and no process has", colours[0] in style and colours[1] in style and
+    count.check("operations have the colours of a picture, and no process has", all(colours) and colours[0] in style and colours[1] in style and
                 not set(colours[:2]) & set(colours[2:]), colours)
     page.click("#change")
     page.choose(FIRST_IDEA + 3)
@@ -402,6 +404,45 @@ def try_movers(page, count):
     page.click("#end")
     page.click("#memory .writer", 1)
     count.check("a value leads to its write", page.at() == "Item 54 of 64", page.at())
+
+
+CONTRAST = """(() => {
+    const parts = c => (c.match(/[\\d.]+/g) ?? []).map(Number), light = ([r, g, b]) => [r, g, b].map(v => v / 255).map(v =>
+        v <= .03928 ? v / 12.92 : ((v + .055) / 1.055) ** 2.4).reduce((sum, v, k) => sum + v * [.2126, .7152, .0722][k], 0);
+    const ground = e => { for (; e; e = e.parentElement) { const c = parts(getComputedStyle(e).backgroundColor);
+        if (c.length === 3 || c[3] > 0) return c; } return [255, 255, 255]; };
+    const found = [], walker = document.createTreeWalker(document.body, NodeFilter.SHOW_TEXT);
+    let count = 0;
+    while (walker.nextNode()) {
+        const e = walker.currentNode.parentElement;
+        if (!walker.currentNode.data.trim() || !e.checkVisibility() || e.closest('.back, script, :disabled, .badge, option')) continue;
+        const [a, b] = [light(parts(getComputedStyle(e).color)), light(ground(e))].sort((x, y) => y - x), ratio = (a + .05) / (b + .05);
+        count++;
+        if (ratio < 4.5) found.push(`${ratio.toFixed(2)} ${e.tagName} ${e.className} ${walker.currentNode.data.slice(0, 30)}`);
+    }
+    return [count, found];
+})()"""
+
+
+def try_contrast(page, count):
+    """What is written is at least 4.5 times as light as its ground, or as dark."""
+    page.choose(FIRST_IDEA + 3)
+    page.click("#change")
+    page.click("#end")
+    page.click("#verdicts .none")
+    page.click("#memory [data-register='r 1']")
+    for name in ("light", "dark"):
+        page.tab.look(1280, 720, name == "dark")
+        page.key("ArrowLeft", "ArrowRight")
+        seen, low = page.run(CONTRAST)
+        count.check(f"contrast, {name}: {seen} texts", seen > 60 and not low, low[:6])
+        listing = page.value("#listing textarea")
+        page.write("listing", listing.replace("24: return s", "24: retort s"))
+        low = [one for one in page.run(CONTRAST)[1]]
+        count.check(f"contrast of a refusal, {name}", not low, low[:6])
+        page.leave()
+        page.click("#undo")
+    page.tab.look(**PROJECTOR)
 
 
 def try_play(page, count):
@@ -475,7 +516,8 @@ def main():
     with browser.Browser() as running:
         page = fresh(running.tab(**PROJECTOR))
         for trial in (try_first_seconds, try_position, try_keys_after_a_choice, try_loans, try_keeping, try_changes, try_texts, try_zoomed,
-                      try_exercises, try_refusals, try_opening, try_notes, try_traps, try_untold, try_margin, try_movers, try_play, try_png):
+                      try_exercises, try_refusals, try_opening, try_notes, try_traps, try_untold, try_margin, try_movers, try_contrast, try_play,
+                      try_png):
             attempt(trial, count, page)
         attempt(try_without_module, count, page, running)
         attempt(try_addresses, count, page, running)

@@ -2,7 +2,7 @@
 import {$, data, say} from './elements.js';
 import {asker, aside, failure, readRefusal, stopAsking} from './asker.js';
 import {timelineFocus} from './editor.js';
-import {change, goTo, parted, press, refresh, state, toggle, undo} from './state.js';
+import {change, goOn, goTo, parted, press, refresh, state, toggle, undo} from './state.js';
 import {takeDraft, watchDrafts} from './drafts.js';
 import {asHash, asInput, copyFrame, copyLink, copyText, openFile, save, showPicture, takeHash} from './files.js';
 import {lastProcess, listingEditor, showTexts, toggleBreak} from './listing.js';
@@ -28,7 +28,7 @@ const BUTTONS = {
 // Keys of their own, beside those that page.html writes at buttons; it lists them all.
 const KEYS = {
     PageUp: () => goTo(state.at - 10), PageDown: () => goTo(state.at + 10), b: () => toggleBreak(breakLine()),
-    w: watchFocused, l: () => listingEditor.gutter.focus(), m: () => $('memory').querySelector('button').focus(),
+    w: watchFocused, u: goToLine, e: goToEnd, l: () => listingEditor.gutter.focus(), m: () => $('memory').querySelector('button').focus(),
     p: () => $('processes').querySelector('button:not(:disabled)').focus(), t: () => $('timeline').focus(),
 };
 
@@ -49,6 +49,18 @@ function closeHello() {
 function breakLine() {
     if (document.activeElement === listingEditor.gutter) return listingEditor.active + listingEditor.first;
     return state.lines.get(lastProcess()?.at)?.place;
+}
+
+function goToEnd() {
+    return lastProcess() ? goOn(lastProcess().who) : say('No process has moved yet.');
+}
+
+// The process of the last item goes to the line of the margin.
+function goToLine() {
+    const place = document.activeElement === listingEditor.gutter ? breakLine() : -1;
+    const line = [...state.lines.values()].find(one => one.place === place);
+    if (!line) return say('Choose a numbered line in the margin of the listing first: l leads there.');
+    return lastProcess() ? goOn(lastProcess().who, line.number) : say('No process has moved yet.');
 }
 
 function watchFocused() {

@@ -2,7 +2,7 @@
 import {OUTPUT} from './text.js';
 import {$, badge, compared, fill, make} from './elements.js';
 import {aside} from './asker.js';
-import {hindrance, parted, press, state, withItem} from './state.js';
+import {goOn, hindrance, parted, press, state, withItem} from './state.js';
 
 export const cards = [];
 const MOST_CHANGES = 4, MANY = 16, PARTS = ['what', 'next', 'peek', 'changes', 'locals'];
@@ -24,7 +24,10 @@ function makeCard(who) {
         button('scan', 'is called for a scan', () => 'scan'),
         button('update', 'is called for an update', pressed => updateOf(who, pressed)),
         button('crash', 'crashes: it stops for good', () => 'crash')];
-    const head = make('div', {className: 'head'}, badge(who), what, ...buttons);
+    const on = make('button', {className: 'finish', ariaLabel: `to the end, process ${who}`, onclick: () => goOn(who),
+        title: `Process ${who} takes as many steps as lead to the end of its operation`}, '\u25B6\u25AE');
+    buttons.push(on);
+    const head = make('div', {className: 'head'}, badge(who), what, buttons[0], on, ...buttons.slice(1, 4));
     const group = {className: 'process', role: 'group', ariaLabel: `Process ${who}`, style: `--p: var(--p${who % 8})`};
     const box = make('div', group, head, next, peek, details);
     $('processes').append(box);
@@ -58,7 +61,7 @@ function showCard(card, {who, what, at, link}, lines, moved) {
         'idle: a scan or an update can be called';
     fill(card.next, [next], () => [next]);
     card.box.classList.toggle('last', moved === who);
-    [['step', ''], ['scan', 'scan'], ['update', 'update'], ['crash', 'crash']].forEach(([, call], k) => {
+    ['', 'scan', 'update', 'crash', ''].forEach((call, k) => {
         const button = card.buttons[k], why = hindrance(who, call);
         if (button.disabled !== Boolean(why)) button.disabled = Boolean(why);
         const title = why || button.dataset.title || button.title;

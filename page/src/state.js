@@ -10,7 +10,7 @@ import {showTexts} from './listing.js';
 import {showState} from './main.js';
 
 const BIG = 300000, QUIET = 120, MOST_ITEMS_DRAWN = 50000, MOST_DRAWN = 20000, MOST_DRAWN_FAST = 2000;
-const MOST_NAMES = 300, MOST_UNDONE = 500, MOST_UNDONE_LETTERS = 3e7, PAUSE = 1500;
+const MOST_STEPS = 5000, MOST_NAMES = 300, MOST_UNDONE = 500, MOST_UNDONE_LETTERS = 3e7, PAUSE = 1500;
 const NO_VERDICTS = {numbers: readVerdicts(''), near: [], none: new Set()};
 export const state = {
     listing: '', schedule: '', at: 0, marks: new Set(), idea: null, goal: null,
@@ -159,14 +159,14 @@ function dropMark(command, refusal) {
 function askAudit() {
     clearTimeout(state.timer);
     state.timer = 0;
-    const {listing, schedule, operations: {answers}, audited, refusal, shapes} = state;
+    const {listing, schedule, operations: {answers}, audited, refusal, shapes, thread} = state;
     const texts = audited?.listing === listing && (audited.schedule === schedule || state.appended);
     const known = texts && audited.answers === answers, few = (state.report?.total ?? 0) <= MOST_ITEMS_DRAWN;
     const seen = !few || shapes?.schedule === schedule && isSeen(shapes);
     if (refusal || known && seen) return;
     state.timer = setTimeout(async () => {
         state.timer = 0;
-        const {thread} = state;
+        if (thread !== state.thread) return;
         const [answer] = await Promise.all([known ? null : asker.ask('audit', {listing, schedule}), askShapes()]);
         if (thread !== state.thread) return;
         if (answer?.code === OUTPUT)
@@ -222,6 +222,23 @@ export function press(who, what = '') {
     if (why) return say(why);
     const text = withItem(schedule, items, at, `${who} ${what}`.trim());
     return change({schedule: text, at: at + 1}, {appended: at >= items.total, kept: true});
+}
+
+// As many steps of a process as lead it to the end of its operation, or to a line.
+export async function goOn(who, line = 0) {
+    const {items, at, schedule, listing, refusal, run} = state, why = hindrance(who, '');
+    if (refusal?.name || !items || schedule.length > BIG) return say('This schedule is too long for that, or refused.');
+    if (why) return say(why);
+    const most = Math.min(MOST_STEPS, MOST_ITEMS - at);
+    const before = at < items.total ? parted(schedule, items, at)[0] : schedule;
+    const longer = `${ended(before)}${who}*${most}\n`;
+    const answer = await aside.ask('reach', {listing, schedule: longer, at, most, who, line});
+    if (answer?.code !== OUTPUT || run !== state.run || at !== state.at) return null;
+    const where = line ? `to line ${line}` : 'to the end of its operation';
+    if (!answer.steps) return say(`No step of ${most} of process ${who} alone leads ${where}.`);
+    const steps = answer.steps > 1 ? `${who}*${answer.steps}` : String(who);
+    return change({schedule: withItem(schedule, items, at, steps), at: at + answer.steps},
+        {appended: at >= items.total, kept: true});
 }
 
 export function withItem(schedule, items, at, item) {

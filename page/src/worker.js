@@ -42,7 +42,8 @@ const showing = ({registers, processes}, at) => [`goto ${at}`, 'values', ...regi
 // The report that their replies make.
 function shownReport(replies, {registers, processes}, at) {
     const first = replies.findIndex(({command}) => command === 'values'), shown = replies.slice(first);
-    const heads = shown.slice(registers.length + 1, registers.length + processes + 1).map(({lines: [head, ...locals]}) =>
+    const last = shown.slice(registers.length + 1, registers.length + processes + 1);
+    const heads = last.map(({lines: [head, ...locals]}) =>
         ({...readHead(head), locals: locals.map(line => line.slice(2)).join('\n')}));
     const lines = shown.slice(1, registers.length + 1).map(reply => reply.lines[0]);
     return {at, values: shown[0].lines[0].slice(7), registers: lines, processes: heads};
@@ -77,6 +78,23 @@ function look({listing, schedule, total, marks, at, go, commands, wantsBefore, n
 function reportAt(listing, schedule, at) {
     const answer = askOf('debug', listing, schedule, `goto ${at}`);
     return answer.code === OUTPUT ? readSession(answer.text).report : null;
+}
+
+// How many steps of a process lead from a position to the end of its operation, or to a line; 0 where none of so many
+// do. The schedule has these steps after the position.
+function reach({listing, schedule, at, most, who, line}) {
+    const asked = line ? `goto ${at}\nbreak ${who} ${line}\nrun\nwhere` : `goto ${at + most}\nevents`;
+    const answer = askOf('debug', listing, schedule, asked);
+    if (answer.code !== OUTPUT) return answer;
+    const {replies, report} = readSession(answer.text);
+    if (line) {
+        const there = report.at > at && report.processes[who - 1].at === line;
+        return {code: OUTPUT, steps: there ? report.at - at : 0};
+    }
+    const events = replies.find(({command}) => command === 'events').lines.slice(1).map(one => one.split(' '));
+    const end = events.find(([, item, one, what]) =>
+        Number(item) > at && Number(one) === who && /answer|done/.test(what));
+    return {code: OUTPUT, steps: end ? Number(end[1]) - at : 0};
 }
 
 // What one item more would do: the report after it, and its outcome.
@@ -116,7 +134,7 @@ async function start(letters) {
     return {code: OUTPUT};
 }
 
-const TASKS = {start, look, audit, draw, peek, tryInput,
+const TASKS = {start, look, audit, draw, peek, reach, tryInput,
     answer: ({name, texts, numbers}) => glue.answer(name, texts, numbers)};
 
 onmessage = async ({data: {kind, request}}) => {

@@ -400,6 +400,20 @@ def try_movers(page, count):
     at = page.run("snaplab.state.report.processes[1].at")
     count.check("what a step would do is told before, and comes so", "would be stepped" in told and f"then at {at}" in told and all(
         one.split(" = ")[0] in told for one in changed), [told, changed, at])
+    page.choose(0)
+    page.click(".process .scan", 1)
+    page.click(".process .finish", 1)
+    count.check("a click leads to the end of an operation", page.schedule() == "shape 3 3\n2 scan\n2*17\n" and "answered 0 0 0" in page.text("#where"),
+                page.schedule() + page.text("#where"))
+    page.click("#undo")
+    page.leave()
+    page.key("Home", "ArrowRight")
+    row = page.run("snaplab.state.listing.split('\\n').findIndex(l => l.startsWith('14:'))")
+    page.key("l", *["ArrowUp"] * 60, *["ArrowDown"] * row, "u")
+    count.check("a key leads to a line", "scan at 14" in page.text(".process:nth-child(2) .what") and page.schedule() == "shape 3 3\n2 scan\n2*8\n",
+                page.schedule() + page.text("#note"))
+    page.key("e")
+    count.check("and one to the end", page.schedule() == "shape 3 3\n2 scan\n2*8\n2*9\n" and page.at() == "Item 18 of 18", page.schedule())
     page.choose(FIRST_IDEA + 2)
     page.click("#end")
     page.click("#memory .writer", 1)

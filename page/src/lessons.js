@@ -19,6 +19,12 @@ export function fillLessons() {
     const groups = data.groups.map(([name, places]) =>
         make('section', {}, make('h3', {}, name), ...places.map(button)));
     $('lessons-list').replaceChildren(...groups);
+    $('lessons-list').onkeydown = event => {
+        const all = [...$('lessons-list').querySelectorAll('button')], way = {ArrowUp: -1, ArrowDown: 1}[event.key];
+        if (!way) return;
+        event.preventDefault();
+        all.at((all.indexOf(event.target) + way) % all.length).focus();
+    };
 }
 
 export function openLessons() {
@@ -122,10 +128,17 @@ function goalWords({who, view, collects, point, items}) {
     return words.filter(Boolean).join(' ');
 }
 
-// A verdict in words, with the loan that the module's picture draws last in its scan.
-export function verdictWords({who, call, answer, point, collects}) {
+// The loan that the module's picture draws last in a scan, where it draws up to the answer.
+function loanOf({who, call, answer}) {
+    const {shapes} = state;
+    if (!shapes || shapes.to < answer) return undefined;
+    return shapes.loan.findLast(each => each.who === who && each.item > call && each.item <= answer);
+}
+
+// A verdict in words, with who lent its view.
+export function verdictWords(verdict) {
+    const {point, collects} = verdict, loan = loanOf(verdict);
     const where = point ? `point ${point}` : '\u2717 point none', many = collects === 1 ? '' : 's';
-    const loan = state.shapes?.loan.findLast(each => each.who === who && each.item > call && each.item <= answer);
     const lent = loan ? `, view of process ${loan.lender} (its scan that ended at item ${loan.ended})` : '';
     return `${where}, ${collects} double collect${many}${lent}`;
 }
@@ -137,7 +150,7 @@ export function showVerdicts() {
     const told = [...left ? [`${left} other ones are not listed.`] : [],
         ...over.length ? [] : [near.length || audited ? 'No scan has ended here yet.' : '']];
     const row = verdict => {
-        const {who, call, answer, point, view} = verdict, why = whyOf(verdict);
+        const {who, call, answer, point, view} = verdict, why = loanOf(verdict)?.title ?? '';
         const words = ` scan, items ${call} to ${answer}, answers ${view}: ${verdictWords(verdict)}`;
         const title = point ? `To its point: the first state since its call that has these values. ${why}` : why;
         const button = {className: point ? '' : 'none', title, onclick: () => goTo(point || answer)};
@@ -146,12 +159,6 @@ export function showVerdicts() {
     const more = later ? [[`${later} more end${later === 1 ? 's' : ''} later.`]] : [];
     fill($('verdicts'), [near, over.length, shapes?.loan, audited, left], () =>
         [...told.map(each => [each]), ...over.map(row), ...more].map(each => make('li', {}, ...each)));
-}
-
-// What the module's picture says of a scan's borrowing.
-function whyOf({who, call, answer}) {
-    const loan = state.shapes?.loan.findLast(each => each.who === who && each.item > call && each.item <= answer);
-    return loan?.title ?? '';
 }
 
 export function outcome() {

@@ -28,7 +28,8 @@ const BUTTONS = {
 // Keys of their own, beside those that page.html writes at buttons; it lists them all.
 const KEYS = {
     PageUp: () => goTo(state.at - 10), PageDown: () => goTo(state.at + 10), b: () => toggleBreak(breakLine()),
-    w: watchFocused, u: goToLine, e: goToEnd, l: () => listingEditor.gutter.focus(), m: () => $('memory').querySelector('button').focus(),
+    w: watchFocused, u: goToLine, e: goToEnd, l: () => listingEditor.gutter.focus(),
+    m: () => $('memory').querySelector('button').focus(),
     p: () => $('processes').querySelector('button:not(:disabled)').focus(), t: () => $('timeline').focus(),
 };
 

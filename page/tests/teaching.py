@@ -438,6 +438,50 @@ CONTRAST = """(() => {
 })()"""
 
 
+def try_lessons(page, count):
+    """Three lessons, by clicks and by keys alone, in each size, light and dark: each caption is on the screen, and the end is told."""
+    for name, how in (("1440 x 900", {"width": 1440, "height": 900}), ("1280 x 720", PROJECTOR), ("200 %", ZOOMED), ("a phone", PHONE)):
+        for dark in (False, True):
+            page.tab.look(how["width"], how["height"], dark, how.get("scale", 1), how.get("mobile", False))
+            page.run("scrollTo(0, 0)")
+            for idea, answer in ((1, "answers 0 0: point 1,"), (3, "answers 0 5: point 24,"), (10, "answers 0 5 7: point 78,")):
+                hidden, told = walk_lesson(page, idea, dark)
+                end = page.text("#verdicts")
+                count.check(f"{name}, {'dark, by keys' if dark else 'light, by clicks'}: idea {idea}", not hidden and told >= 4 and answer in end,
+                            [hidden[:2], told, end])
+    page.tab.look(**PROJECTOR)
+
+
+def walk_lesson(page, idea, keys):
+    """Goes through a lesson; the captions that are not on the screen, and how many there are."""
+    if keys:
+        page.key("o")
+        while True:
+            title = page.run("document.activeElement.textContent")
+            if title.startswith(f"{idea}. "):
+                break
+            page.tab.key("ArrowDown")
+        page.tab.key("Enter")
+        page.tab.settled()
+    else:
+        page.choose(FIRST_IDEA + idea - 1)
+    hidden, told = [], set()
+    for _ in range(30):
+        at = page.at().split()
+        told.add(page.text("#caption"))
+        box = page.run("(() => { const r = document.getElementById('caption').getBoundingClientRect(), f = document.querySelector('footer')"
+                       ".getBoundingClientRect(); return [r.top, r.bottom, f.top, r.height]; })()")
+        if box[0] < 0 or box[1] > box[2] or not box[3]:
+            hidden.append((page.text("#caption"), box))
+        if at[1] == at[3]:
+            break
+        if keys:
+            page.key("n")
+        else:
+            page.click("#next")
+    return hidden, len(told)
+
+
 def try_contrast(page, count):
     """What is written is at least 4.5 times as light as its ground, or as dark."""
     page.choose(FIRST_IDEA + 3)
@@ -491,11 +535,15 @@ def try_addresses(page, count, running):
         file.flush()
         host = Page(running.tab(address="file://" + file.name, wait=False))
         host.tab.until("document.querySelector('iframe') !== null")
-        host.run("new Promise(done => setTimeout(done, 2500))")
+        host.run("new Promise(done => setTimeout(done, 500))")
         frames = host.tab.ask("Page.getFrameTree")["frameTree"].get("childFrames", [])
         world = host.tab.ask("Page.createIsolatedWorld", frameId=frames[0]["frame"]["id"])["executionContextId"]
-        shown = host.tab.ask("Runtime.evaluate", expression="document.querySelector('#where .at')?.innerText + getComputedStyle(document.querySelector('.files')).display",
-                             contextId=world, returnByValue=True)["result"].get("value")
+        said = "document.querySelector('#where .at')?.innerText + getComputedStyle(document.querySelector('.files') ?? document.body).display"
+        for _ in range(60):
+            shown = host.tab.ask("Runtime.evaluate", expression=said, contextId=world, returnByValue=True)["result"].get("value")
+            if str(shown).startswith("Item"):
+                break
+            host.run("new Promise(done => setTimeout(done, 250))")
         count.check("a frame opens at the position, without what it does not need", shown == "Item 24 of 64none", shown)
         host.tab.close()
     bomb = other.run("""(async () => { const big = new Blob([JSON.stringify({input: ' '.repeat(40000000)})]);
@@ -530,7 +578,7 @@ def main():
     with browser.Browser() as running:
         page = fresh(running.tab(**PROJECTOR))
         for trial in (try_first_seconds, try_position, try_keys_after_a_choice, try_loans, try_keeping, try_changes, try_texts, try_zoomed,
-                      try_exercises, try_refusals, try_opening, try_notes, try_traps, try_untold, try_margin, try_movers, try_contrast, try_play,
+                      try_exercises, try_refusals, try_opening, try_notes, try_traps, try_untold, try_margin, try_movers, try_lessons, try_contrast, try_play,
                       try_png):
             attempt(trial, count, page)
         attempt(try_without_module, count, page, running)

@@ -5,9 +5,9 @@ import {goTo, state, toggle} from './state.js';
 const MATRIX = 8;       // up to so many processes the bits are shown as a matrix
 
 export function showMemory() {
-    const {report, before, since, marks, shapes, at} = state, touched = touchedRegister();
+    const {report, before, since, marks} = state, touched = touchedRegister();
     const key = [report.values, report.registers, before?.registers ?? [], before?.values, since?.registers ?? [],
-        [...marks], touched, shapes?.write, at];
+        since?.at, [...marks], touched];
     fill($('memory'), key, () => {
         const focused = /** @type {HTMLElement} */ (document.activeElement)?.dataset?.register;
         queueMicrotask(() => focused && $('memory').querySelector(`[data-register="${focused}"]`)?.focus());

@@ -15,7 +15,7 @@ complete -c snaplab -n "not __fish_seen_subcommand_from $commands" -a audit -d '
 complete -c snaplab -n "not __fish_seen_subcommand_from $commands" -a certify -d 'say where each operation took place, if each has a linearization point'
 complete -c snaplab -n "not __fish_seen_subcommand_from $commands" -a batch -d 'run a listing under many schedules'
 complete -c snaplab -n "not __fish_seen_subcommand_from $commands" -a survey -d 'say what the run of each of many schedules came to'
-complete -c snaplab -n "not __fish_seen_subcommand_from $commands" -a live -d 'play scripts, each process in a thread of its own'
+complete -c snaplab -n "not __fish_seen_subcommand_from $commands" -a live -d 'play scripts live, each process in a thread of its own'
 complete -c snaplab -n "not __fish_seen_subcommand_from $commands" -a help -d 'print help'
 complete -c snaplab -n '__fish_seen_subcommand_from help' -a "$commands"
 complete -c snaplab -n '__fish_seen_subcommand_from run trace debug audit certify batch survey live' -l shipped -x -a 'seq bit multi' -d 'take the shipped listing of this kind'

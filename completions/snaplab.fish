@@ -12,7 +12,7 @@ complete -c snaplab -n "not __fish_seen_subcommand_from $commands" -a run -d 'ru
 complete -c snaplab -n "not __fish_seen_subcommand_from $commands" -a trace -d 'say what each item of a schedule did, and what it changed'
 complete -c snaplab -n "not __fish_seen_subcommand_from $commands" -a debug -d 'run a listing under a schedule, by debugger commands'
 complete -c snaplab -n "not __fish_seen_subcommand_from $commands" -a audit -d 'say of each finished scan which state it stands for'
-complete -c snaplab -n "not __fish_seen_subcommand_from $commands" -a certify -d 'say where each operation took place, if each has a linearization point'
+complete -c snaplab -n "not __fish_seen_subcommand_from $commands" -a certify -d 'say where each operation took place, or what is missing for that'
 complete -c snaplab -n "not __fish_seen_subcommand_from $commands" -a batch -d 'run a listing under many schedules'
 complete -c snaplab -n "not __fish_seen_subcommand_from $commands" -a survey -d 'say what the run of each of many schedules came to'
 complete -c snaplab -n "not __fish_seen_subcommand_from $commands" -a live -d 'play scripts live, each process in a thread of its own'

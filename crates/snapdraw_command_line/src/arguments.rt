@@ -13,6 +13,14 @@ const VERSION: &str = "0.1.0";
 /// The kinds that `--shipped` takes.
 const KINDS: &[&str] = &["seq", "bit", "multi"];
 
+/// What stands under the options.
+const MORE: &str = "\
+Reads: the files LISTING and SCHEDULE, or SCHEDULE alone with --shipped
+
+Examples:
+  snapdraw examples/u.txt examples/prompt/borrowed/schedule.txt > run.svg
+  snapdraw --shipped seq examples/shipped-borrowed-view/stdin --reads > run.svg";
+
 /// A picture that is asked for.
 #[derive(Clone, Copy)]
 pub struct Drawing<'a> {
@@ -37,17 +45,18 @@ fn command<'a>(alloc: Global) -> Result<Command<'a>, AllocError> {
         .long("shipped")
         .value_name("KIND")
         .value_parser(KINDS)
-        .help("Takes the shipped listing of this kind of registers; no LISTING is named then");
+        .help("Draws the shipped listing of this kind of registers;{n}no LISTING is named");
     let files = Arg::new(alloc, "FILE").required(true).num_args(1..=2).help(
         "A listing and a schedule; a schedule alone with --shipped",
     );
     let reads = Arg::new(alloc, "reads")
         .long("reads")
         .action(ArgAction::SetTrue)
-        .help("Draws a line from the last write of a word to each read of it");
+        .help("Draws a line from the last write of a word to each{n}read of it");
     Command::new(alloc, "snapdraw")
         .about("Draws the run of a listing under a schedule as SVG")
         .version(VERSION)
+        .after_help(MORE)
         .arg(files)?
         .arg(shipped)?
         .arg(item_option(alloc, "from", "The first item that is drawn"))?

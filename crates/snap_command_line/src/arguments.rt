@@ -1,12 +1,17 @@
 //! `request_of_arguments`: the subcommands and options that snaplab takes, and what they ask for.
-ghost use Rattle.std.specs.Prelude.{IfOk, IfSome};
+ghost use Rattle.std.specs.Prelude.{◌≡◌, IfOk, IfSome, codes};
+ghost use Rattle.clap.specs.Matches.{first_value, found_of};
+ghost use Rattle.clap.specs.declared.parser.matches.ArgMatches.{ArgMatches};
 ghost use Rattle.snap_tasks.specs.Request.{HasLimit, IsLimit};
+ghost use Rattle.snap_command_line.specs.Invocations.{IsAsked, IsAskedBy, IsLimitIn};
+ghost use Rattle.snap_command_line.specs.Invocations.{limit_or_usual, subject_of};
 
 use crate::command_line::Invocation;
 use crate::texts::{HELP, LIVE, OF_RUNS, OF_TEXTS, SURVEY, Told};
 use clap::builder::ValueParser;
 use clap::error::ErrorKind;
 use clap::{Arg, ArgAction, ArgMatches, Command, Error};
+use snap_options::{is_given, number_of};
 use snap_tasks::{Subject, kind_of, request_of};
 use snap_words::MAX_ITEMS;
 use std::alloc::{AllocError, Global};
@@ -114,34 +119,45 @@ fn command<'a>(alloc: Global) -> Result<Command<'a>, AllocError> {
     command.subcommand(survey(alloc)?)?.subcommand(live(alloc)?)
 }
 
-/// The limit that a subcommand's arguments ask for, where it takes one. It takes no other than
-/// these.
-fn limit_of(arguments: &ArgMatches<'_>) -> u64
-    ensures { IsLimit result }
+/// The limit that is given, where it is one that processes may have, and else the usual one.
+fn limit_or_usual(given: Option<u64>) -> u64
+    ensures value { result ≡ limit_or_usual given }
+    ensures limit { IsLimit result }
 {
-    match arguments.get_one::<u64>("limit") {
+    match given {
         Some(limit) if 1 <= limit && limit <= MAX_ITEMS => limit,
         _ => USUAL_LIMIT,
     }
 }
 
+/// The limit that a subcommand's arguments ask for, where it takes one. It takes no other than
+/// these.
+fn limit_of(arguments: &ArgMatches<'_>) -> u64
+    ensures given { IsLimitIn (found_of arguments.now) result }
+    ensures limit { IsLimit result }
+{
+    limit_or_usual(number_of(arguments, "limit"))
+}
+
 /// The listing that a subcommand's arguments ask for.
-fn subject_of(arguments: &ArgMatches<'_>) -> Option<Subject> {
+fn subject_of(arguments: &ArgMatches<'_>) -> Option<Subject>
+    ensures { result ≡ subject_of (first_value (found_of arguments.now) (codes "shipped")) }
+{
     match arguments.get_str("shipped") {
         Some(kind) => Some(Subject::Shipped(kind_of(kind)?)),
         None => Some(Subject::FirstPart),
     }
 }
 
-/// What the arguments of a subcommand ask for.
-fn request_by(matches: &ArgMatches<'_>) -> Option<Invocation>
-    ensures { IfSome result (λ asked. HasLimit asked.request) }
+/// What the subcommand of this name asks for, by its own arguments and by all of them.
+fn asked_by(name: &str, own: &ArgMatches<'_>, all: &ArgMatches<'_>) -> Option<Invocation>
+    ensures asked { IfSome result (IsAskedBy name.now (found_of own.now) (found_of all.now)) }
+    ensures limit { IfSome result (λ asked. HasLimit asked.request) }
 {
-    let (name, arguments) = matches.subcommand()?;
-    let subject = subject_of(arguments)?;
-    let request = request_of(name, subject, limit_of(arguments))?;
-    let explains = matches.get_flag("explain");
-    let strict = arguments.get_flag("strict");
+    let subject = subject_of(own)?;
+    let request = request_of(name, subject, limit_of(own))?;
+    let explains = is_given(all, "explain");
+    let strict = is_given(own, "strict");
     Some(Invocation {
         request,
         explains,
@@ -157,9 +173,19 @@ fn names_a_file(matches: &ArgMatches<'_>) -> bool {
     }
 }
 
+/// What the arguments of a subcommand ask for.
+fn request_by(matches: &ArgMatches<'_>) -> Option<Invocation>
+    ensures asked { IfSome result (IsAsked matches.now) }
+    ensures limit { IfSome result (λ asked. HasLimit asked.request) }
+{
+    let (name, arguments) = matches.subcommand()?;
+    asked_by(name, arguments, matches)
+}
+
 /// What the arguments ask for, the program's own name first.
 pub fn request_of_arguments<'a>(alloc: Global, arguments: &'a [String]) -> Result<Invocation, Error>
-    ensures { IfOk result (λ asked. HasLimit asked.request) }
+    ensures asked { IfOk result (λ asked. (m : ArgMatches) × IsAsked m asked) }
+    ensures limit { IfOk result (λ asked. HasLimit asked.request) }
 {
     let mut command = command(alloc)?;
     let matches = command.try_get_matches_from_mut(arguments)?;

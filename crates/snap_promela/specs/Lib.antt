@@ -1,0 +1,2 @@
+-- The definitions of snap_promela, by their modules.
+pub mod Model

@@ -1,0 +1,18 @@
+//! Promela models of a listing and scripts, for the model checker Spin: `model_text` writes one.
+//! The translation is not proved: it is tried by simulations, which are compared with runs.
+#![tactic(auto)]
+
+mod ends;
+mod lines;
+mod model;
+mod monitor;
+mod processes;
+mod puts;
+mod quantifiers;
+mod refusal;
+mod report;
+mod terms;
+mod writer;
+
+pub use model::model_text;
+pub use refusal::ModelRefusal;

@@ -1,0 +1,166 @@
+//! `Writer`: the text of a model as far as it is written, and the numbers and names in it.
+ghost use Rattle.std.specs.Prelude.{◌≡◌};
+ghost use Rattle.snap_promela.specs.Model.{is_beyond};
+
+use memchr::memchr;
+use snap_draft::Draft;
+use snap_listing_core::Listing;
+use snap_sched::Scripts;
+use snap_semantics::Name;
+use snap_words::KindTag;
+use std::alloc::{AllocError, Global};
+
+/// The least number that is not written as itself.
+const LEAST_BEYOND: u64 = 2_147_483_648;
+
+/// The greatest number that is not written as what it lacks to 2^64.
+const MOST_BEYOND: u64 = 18_446_744_071_562_067_967;
+
+/// Whether no number of a model stands for this one.
+pub(crate) fn is_beyond(number: u64) -> bool
+    ensures { result ≡ is_beyond number }
+{
+    LEAST_BEYOND <= number && number <= MOST_BEYOND
+}
+
+/// Where a line is written: the process, the number of the line, the place of a quantifier, and
+/// the row whose old values are kept aside.
+#[derive(Clone, Copy)]
+pub(crate) struct Here {
+    pub(crate) me: u64,
+    pub(crate) line: u64,
+    pub(crate) place: u64,
+    pub(crate) aside: Option<Name>,
+}
+
+impl Here {
+    /// The same at another place of a quantifier.
+    pub(crate) fn at(&self, place: u64) -> Here {
+        Here {
+            me: self.me,
+            line: self.line,
+            place,
+            aside: self.aside,
+        }
+    }
+}
+
+/// A model of a listing and scripts, as far as it is written, and a number for which none stands,
+/// where there was one.
+pub(crate) struct Writer<'a> {
+    draft: Draft,
+    beyond: Option<u64>,
+    pub(crate) listing: &'a Listing,
+    pub(crate) scripts: &'a Scripts,
+    /// How many processes there are.
+    pub(crate) n: u64,
+    /// How many words there are.
+    pub(crate) w: u64,
+}
+
+impl<'a> Drop for Writer<'a> {
+    // Written out, so that it is proved here and not once more wherever one is dropped.
+    fn drop(self) {
+        let Writer {
+            draft: _,
+            beyond: _,
+            listing: _,
+            scripts: _,
+            n: _,
+            w: _,
+        } = self;
+    }
+}
+
+impl<'a> Writer<'a> {
+    /// Nothing yet.
+    pub(crate) fn new(alloc: Global, listing: &'a Listing, scripts: &'a Scripts) -> Writer<'a> {
+        let shape = scripts.shape();
+        Writer {
+            draft: Draft::new(alloc),
+            beyond: None,
+            listing,
+            scripts,
+            n: shape.n(),
+            w: shape.w(),
+        }
+    }
+
+    /// The kind of the registers.
+    pub(crate) fn kind(&self) -> KindTag {
+        self.listing.kind()
+    }
+
+    /// How many places rows and `words` locals have.
+    pub(crate) fn places(&self) -> u64 {
+        if self.n < self.w { self.w } else { self.n }
+    }
+
+    /// A text.
+    pub(crate) fn say(&mut self, text: &[u8]) {
+        self.draft.push(text);
+    }
+
+    /// A number in digits.
+    pub(crate) fn number(&mut self, number: u64) {
+        self.draft.push_number(number);
+    }
+
+    /// A text, with the next of these numbers for each `$`.
+    pub(crate) fn fill(&mut self, text: &[u8], numbers: &[u64]) {
+        let mut rest = text;
+        for number in numbers {
+            rest = self.fill_one(rest, *number);
+        }
+        self.say(rest);
+    }
+
+    /// The front of a text as far as its first `$`, and a number for this. What is left is the
+    /// result.
+    fn fill_one<'b>(&mut self, text: &'b [u8], number: u64) -> &'b [u8] {
+        match memchr(b'$', text) {
+            Some(k) => {
+                self.say(&text[..k]);
+                self.number(number);
+                &text[k + 1..]
+            }
+            None => text,
+        }
+    }
+
+    /// A number of 64 bits, as a number of a model: the greatest ones are below 0.
+    pub(crate) fn value(&mut self, number: u64) {
+        if is_beyond(number) {
+            self.beyond = Some(number);
+            self.say(b"0");
+        } else if number < LEAST_BEYOND {
+            self.number(number);
+        } else {
+            self.fill(b"(-$ - 1)", &[u64::MAX - number]);
+        }
+    }
+
+    /// A local, by the letter of its sort and its name.
+    pub(crate) fn local(&mut self, sort: &[u8], name: &Name) {
+        self.say(sort);
+        self.say(name.letters());
+    }
+
+    /// The number for which none stands, where there was one.
+    pub(crate) fn beyond(&self) -> Option<u64> {
+        self.beyond
+    }
+
+    /// The whole text.
+    pub(crate) fn finish(self) -> Result<Vec<u8>, AllocError> {
+        let Writer {
+            draft,
+            beyond: _,
+            listing: _,
+            scripts: _,
+            n: _,
+            w: _,
+        } = self;
+        draft.finish()
+    }
+}

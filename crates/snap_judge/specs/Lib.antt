@@ -1,0 +1,4 @@
+-- The definitions of snap_judge, by their modules.
+pub mod History
+pub mod Linearizable
+pub mod Steps

@@ -1,0 +1,5 @@
+-- The lemmas of snap_judge, by their modules.
+pub mod SearchSlots
+pub mod SearchMoves
+pub mod SearchLost
+pub mod SearchLater

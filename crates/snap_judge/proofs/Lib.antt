@@ -3,3 +3,6 @@ pub mod SearchSlots
 pub mod SearchMoves
 pub mod SearchLost
 pub mod SearchLater
+pub mod Goes
+pub mod SearchPass
+pub mod Passing

@@ -139,18 +139,19 @@ module _ (i : ℕ) (rest : List Step) where
           (subst (λ (a : Action). Explains ms (Ends i ∷ rest) (after V a) (set S (o.process - 1) (Taken o))) act e) in
       next go.0 (go.2 ∙ same) go.1
 
-  fails_by : (n : ℕ) (ms : List Move) (V : List ℕ) (S : List Slot) (o : Operation) → at S (i - 1) ≡ Open o →
-      AllFail V S → leading ms ≡ n → Explains ms (Ends i ∷ rest) V S → ⊥
+  fails_by : (n : ℕ) (ms : List Move) (V : List ℕ) (S : List Slot) →
+      ((o : Operation) → at S (i - 1) ≡ Taken o → ⊥) → AllFail V S → leading ms ≡ n →
+      Explains ms (Ends i ∷ rest) V S → ⊥
   unfolding leading
-  fails_by n [] V S o is all same e = e
-  fails_by n (Pass ∷ ms) V S o is all same e = open_not_taken (at S (i - 1)) o e.0.0 is e.0.1
-  fails_by zero (Take o' ∷ ms) V S o is all same e = let never : ⊥ = omega (arith, same) in never
-  fails_by (suc n) (Take o' ∷ ms) V S o is all same e =
+  fails_by n [] V S never all same e = e
+  fails_by n (Pass ∷ ms) V S never all same e = never e.0.0 e.0.1
+  fails_by zero (Take o' ∷ ms) V S never all same e = let none : ⊥ = omega (arith, same) in none
+  fails_by (suc n) (Take o' ∷ ms) V S never all same e =
       fails_at n ms V S o' e.0 e.1 e.2 (omega (arith, same)) (all (o'.process - 1) o' e.0 refl)
-      (λ ms' less f. fails_by n ms' V S o is all less f)
+      (λ ms' less f. fails_by n ms' V S never all less f)
 
-  -- Before an end of an operation that has not taken place: if each operation that has to take place now fails, then
-  -- nothing explains what is left.
-  pub nothing_explains : (V : List ℕ) (S : List Slot) (o : Operation) → at S (i - 1) ≡ Open o → AllFail V S →
-      CanBeExplained (Ends i ∷ rest) V S → ⊥
-  nothing_explains V S o is all e = fails_by (leading e.0) e.0 V S o is all refl e.1
+  -- Before an end of what has not taken place: if each operation that has to take place now fails, then nothing
+  -- explains what is left.
+  pub nothing_explains : (V : List ℕ) (S : List Slot) → ((o : Operation) → at S (i - 1) ≡ Taken o → ⊥) →
+      AllFail V S → CanBeExplained (Ends i ∷ rest) V S → ⊥
+  nothing_explains V S never all e = fails_by (leading e.0) e.0 V S never all refl e.1

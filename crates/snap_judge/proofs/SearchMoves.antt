@@ -9,7 +9,7 @@ use Rattle.snap_runs.specs.Linearization.{Allows, after}
 use Rattle.snap_judge.specs.Steps.{Step, Calls, Ends, Waits, Slot, Free, Open, Taken, MayPass, passed, slot, with_slot}
 use Rattle.snap_judge.specs.Steps.{Move, Take, Pass, Explains, CanBeExplained}
 use Rattle.snap_judge.proofs.SearchSlots.{at, one_open, one_taken, open_not_taken, open_within, Apart, IsThere, place_of}
-use Rattle.snap_judge.proofs.SearchSlots.{passes_by, may_pass, may_pass_back, passed_with, called_anew, turned, still_open, opened}
+use Rattle.snap_judge.proofs.SearchSlots.{passes_by, may_pass, may_pass_back, passed_with, nothing_passes, turned, still_open, opened}
 use Rattle.snap_words.specs.Shape.{IsOneOf}
 
 -- It is a scan.
@@ -73,9 +73,7 @@ module _ (p : ℕ) (o : Operation) (Traceless : List Step → List ℕ → List 
       let go = next (passed S x) (passes_by x S p apart ∙ is) (keeps_passing x xs V S no_trace) e in
       (Pass ∷ go.0, (may_pass x S p (Taken o) apart may,
       subst (λ (T : List Slot). Explains go.0 xs V T) (sym (passed_with x S p (Taken o) apart)) go.1))
-  passing ms x xs V S is no_trace (inr there) may e next =
-      let anew = called_anew x S p o (Taken o) there is may in
-      (Pass ∷ ms, (anew.0, subst (λ (T : List Slot). Explains ms xs V T) (sym anew.1) e))
+  passing ms x xs V S is no_trace (inr there) may e next = absurd (nothing_passes x S p o there is may)
 
   taking : (ms : List Move) (o' : Operation) (xs : List Step) (V : List ℕ) (S : List Slot) → at S p ≡ Open o →
       Traceless xs V S → (p ≡ o'.process - 1) ⊎ (p ≡ o'.process - 1 → ⊥) → slot S o'.process ≡ Open o' →

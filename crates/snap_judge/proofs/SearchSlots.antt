@@ -93,14 +93,14 @@ pub turned : {p q : ℕ} → (p ≡ q → ⊥) → q ≡ p → ⊥
 turned differ e = differ (sym e)
 
 pub may_pass : (x : Step) (S : List Slot) (p : ℕ) (s : Slot) → Apart x p → MayPass S x → MayPass (set S p s) x
-may_pass (Calls o) S p s apart may = tt
+may_pass (Calls o) S p s apart may = get_or-set_other S p (o.process - 1) s Free (turned apart) ∙ may
 may_pass (Ends i) S p s apart may =
     (may.0, get_or-set_other S p (i - 1) s Free (turned apart) ∙ may.1)
 may_pass Waits S p s apart may = tt
 
 -- and back
 pub may_pass_back : (x : Step) (S : List Slot) (p : ℕ) (s : Slot) → Apart x p → MayPass (set S p s) x → MayPass S x
-may_pass_back (Calls o) S p s apart may = tt
+may_pass_back (Calls o) S p s apart may = sym (get_or-set_other S p (o.process - 1) s Free (turned apart)) ∙ may
 may_pass_back (Ends i) S p s apart may =
     (may.0, sym (get_or-set_other S p (i - 1) s Free (turned apart)) ∙ may.1)
 may_pass_back Waits S p s apart may = tt
@@ -111,14 +111,12 @@ passed_with (Calls o) S p s apart = set_comm S p (o.process - 1) s (Open o) apar
 passed_with (Ends i) S p s apart = set_comm S p (i - 1) s Free apart
 passed_with Waits S p s apart = refl
 
--- Of an open slot, only a call may pass, which sets it anew.
-pub called_anew : (x : Step) (S : List Slot) (p : ℕ) (o : Operation) (s : Slot) → IsThere x p → at S p ≡ Open o →
-    MayPass S x → MayPass (set S p s) x × (passed (set S p s) x ≡ passed S x)
-called_anew (Calls o') S p o s there is may =
-    (tt, ap (λ (q : ℕ). set (set S q s) (o'.process - 1) (Open o')) there ∙ set-set S (o'.process - 1) s (Open o'))
-called_anew (Ends i) S p o s there is may =
-    absurd (open_not_taken (at S p) o may.0 is (ap (at S) there ∙ may.1))
-called_anew Waits S p o s there is may = absurd there
+-- Nothing passes that is of an open slot.
+pub nothing_passes : (x : Step) (S : List Slot) (p : ℕ) (o : Operation) → IsThere x p → at S p ≡ Open o →
+    MayPass S x → ⊥
+nothing_passes (Calls o') S p o there is may = open_not_free (at S p) o is (ap (at S) there ∙ may)
+nothing_passes (Ends i) S p o there is may = open_not_taken (at S p) o may.0 is (ap (at S) there ∙ may.1)
+nothing_passes Waits S p o there is may = there
 
 -- What is open behind a taking was open before it.
 still_by : (S : List Slot) (q p : ℕ) (o' o : Operation) → (p ≡ q) ⊎ (p ≡ q → ⊥) → (q < length S) ⊎ (length S ≤ q) →

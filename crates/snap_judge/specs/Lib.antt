@@ -2,3 +2,4 @@
 pub mod History
 pub mod Linearizable
 pub mod Steps
+pub mod Kept

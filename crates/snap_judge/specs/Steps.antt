@@ -74,9 +74,9 @@ slot slots i = slice_index_or slots (i - 1) Free
 abbrev pub with_slot : List Slot → ℕ → Slot → List Slot
 with_slot slots i s = slice_set slots (i - 1) s
 
--- An end comes only when what ends has taken place.
+-- A call comes where its process has nothing open, and an end only when what ends has taken place.
 abbrev pub MayPass : List Slot → Step → Type 0
-MayPass slots (Calls o) = Unit {0}
+MayPass slots (Calls o) = slot slots o.process ≡ Free
 MayPass slots (Ends i) = (o : Operation) × (slot slots i ≡ Taken o)
 MayPass slots Waits = Unit {0}
 

@@ -4,9 +4,14 @@
 ghost use Rattle.snap_judge.specs.Linearizable.{LinearizableFromTheBeginning};
 ghost use Rattle.snap_judge.specs.Steps.{HistoriesAreExplained};
 
+mod advance;
+mod config;
 mod history;
+mod operation;
+mod scans;
 
 pub use history::History;
+pub use operation::{Action, Operation};
 
 /// The moves that explain a history take a linearization of it, and each linearization is taken by
 /// such moves.

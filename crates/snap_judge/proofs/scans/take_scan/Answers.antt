@@ -1,0 +1,30 @@
+-- `take_scan` of snap_judge (src/scans.rt).
+use Rattle.std.proofs.Common.{◌≡◌, ℕ, ◌<◌, length, get_or, ◌∙◌, sym, arith, refl, subst, List, ap}
+use Rattle.std.proofs.lemmas.List.{get_or_default}
+use Rattle.snap_runs.specs.Linearization.{after}
+use Rattle.snap_runs.specs.Operation.{Sees}
+use Rattle.snap_judge.specs.declared.config.Slot.{Slot as KeptSlot}
+use Rattle.snap_judge.specs.declared.config.Slot.TheVariants as kept_slot
+use Rattle.snap_judge.proofs.Goes.{scan_taken}
+use Rattle.snap_judge.proofs.scans.take_scan.Goals as goal
+
+-- what is read at a place within a list is there at any default
+there : (slots : List KeptSlot) (p : ℕ) (s s' : KeptSlot) → p < length slots → s ≡ get_or slots p s → s ≡ s' →
+    get_or slots p kept_slot.Free ≡ s'
+there slots p s s' lt is same = get_or_default slots p kept_slot.Free s lt ∙ sym is ∙ same
+
+pub sees-requires : goal.sees-requires
+sees-requires c =
+    (c.requires.config.placed c.args.place c.in-Open.call
+    (there c.args.config.now.slots.items c.args.place c.index.result.now (kept_slot.Open c.in-Open.call)
+    c.requires.place c.index.ensures c.in-Open.is)).1
+
+pub returns-in_ok-push-clause-goes_on : goal.returns-in_ok-push-clause-goes_on
+returns-in_ok-push-clause-goes_on c =
+    let seen = c.sees.ensures.0 c.if-sees.true in
+    scan_taken c.args.steps.now c.args.order.now.items c.args.config.now _ c.args.place c.in-Open.call
+    refl (sym (ap (after c.args.config.now.values.items)
+    (seen ∙ ap Sees c.as_slice.ensures.value))) refl c.requires.config
+    (there c.args.config.now.slots.items c.args.place c.index.result.now (kept_slot.Open c.in-Open.call)
+    c.requires.place c.index.ensures c.in-Open.is)
+    c.push.new.self.items c.in_ok-push.ensures.items (seen ∙ ap Sees c.as_slice.ensures.value)

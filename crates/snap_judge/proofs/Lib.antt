@@ -3,3 +3,11 @@ pub mod SearchSlots
 pub mod SearchMoves
 pub mod SearchLost
 pub mod SearchLater
+pub mod ExplainedLists
+pub mod ExplainedTurns
+pub mod ExplainedPasses
+pub mod ExplainedNext
+pub mod ExplainedEvents
+pub mod ExplainedHistories
+pub mod SoundMoves
+pub mod CompleteMoves

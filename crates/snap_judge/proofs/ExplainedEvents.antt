@@ -369,10 +369,13 @@ same_from h (x ∷ xs) p g a b ha hb same le = elim (cases_lt a.call g.0) [
   | inr more ↦ same_from h xs g.0 g.2 a b ha hb same more
 ]
 
+-- It ends after its call.
+pub ends_later : (h : History) (o : Operation) (t : ℕ) → IsOperationOf h o → o.end ≡ Some t → o.call < t
+ends_later h o t its end = (subst (λ (n : Option ℕ). CameToEnd h.events o.process o.call n o.action) end its.came).0
+
 pub are_sound : (h : History) → IsHistory h → AreSound h
 are_sound h is = record {
-  ends_later = λ o t its end.
-      (subst (λ (n : Option ℕ). CameToEnd h.events o.process o.call n o.action) end its.came).0;
+  ends_later = ends_later h;
   of_process = λ o its.
       process_of h.shape (λ i. Free) h.events is.follow
       (event o.process o.call (what.Call (called_as o.action))) its.called;

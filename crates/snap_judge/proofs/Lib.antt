@@ -9,5 +9,6 @@ pub mod ExplainedPasses
 pub mod ExplainedNext
 pub mod ExplainedEvents
 pub mod ExplainedHistories
+pub mod ExplainedBeginnings
 pub mod SoundMoves
 pub mod CompleteMoves

@@ -1,4 +1,5 @@
--- What may be taken from some event on, is all, in order, and is run by the object, is taken by some moves.
+-- Operations that may be taken from some event on, are all, are in order in time, and are run by the object, are taken
+-- by some moves.
 use Rattle.std.proofs.Common.{◌≡◌, ℕ, ◌-◌, ◌<◌, List, [], ◌∷◌, refl, ap, sym, subst, arith, inl, inr, ◌∙◌}
 use Rattle.std.proofs.Common.{slice_index_or, slice_set}
 use Rattle.std.specs.List.{Contains}
@@ -14,7 +15,7 @@ use Rattle.snap_judge.proofs.ExplainedTurns.{AreSound, Goes, IsOver, SlotsAt, St
 use Rattle.snap_judge.proofs.ExplainedPasses.{fits_after_take, fits_behind}
 use Rattle.snap_judge.proofs.SoundMoves.{Runs}
 
--- Moves explain these steps, and take these operations.
+-- Some moves explain these steps, and take these operations.
 abbrev pub AreTaken : List Step → List ℕ → List Slot → List Operation → Type 0
 AreTaken xs values slots left = (moves : List Move) × Explains moves xs values slots × (taken moves ≡ left)
 
@@ -101,7 +102,7 @@ module _ (h : History) (sound : AreSound h) where
         ]
       ]
 
-  -- Past an event that may be passed, the rest is taken.
+  -- An event that may be passed is passed, and the rest is taken behind it.
   behind : (p q : ℕ) (x : Step) (xs : List Step) → Turned h p q x →
       ((v : List ℕ) (ss : List Slot) (os : List Operation) → SlotsAt h q ss → Runs h q ss v os → AreTaken xs v ss os) →
       (v : List ℕ) (ss : List Slot) (os : List Operation) → SlotsAt h p ss → Runs h p ss v os → MayPass ss x →

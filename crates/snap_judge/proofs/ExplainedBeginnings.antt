@@ -1,6 +1,7 @@
 -- `LinearizableFromTheBeginning`: of a linearization the operations up to the first one that is called later, without
 -- the scans that have not been answered yet, and without the ends that come later.
-use Rattle.std.proofs.Common.{◌≡◌, ℕ, zero, suc, ◌<◌, ◌≤◌, ◌⊎◌, List, [], ◌∷◌, refl, ap, sym, subst, arith, inl, inr, ◌∙◌}
+use Rattle.std.proofs.Common.{◌≡◌, ℕ, zero, suc, ◌<◌, ◌≤◌, ◌⊎◌, List, [], ◌∷◌, refl, ap, sym, subst, arith, ◌∙◌}
+use Rattle.std.proofs.Common.{inl, inr}
 use Rattle.std.proofs.Common.{Option, Some, None, max, replicate, take}
 use Rattle.std.specs.List.{AllByRecursion, AllPairs, Contains}
 use Rattle.std.proofs.lemmas.Bool.{cases_lt}
@@ -13,7 +14,8 @@ use Rattle.snap_runs.proofs.Order.{Apart, Pairs, all_pairs, keeps_order}
 use Rattle.snap_judge.specs.History.{History}
 use Rattle.snap_judge.specs.Linearizable.{CameToEnd, IsOperationOf, called_as}
 use Rattle.snap_judge.specs.Linearizable.{LinearizableFromTheBeginning, ends_as, event, up_to}
-use Rattle.snap_judge.proofs.ExplainedLists.{contains_cases, contains_head, contains_none, contains_tail, each_contained}
+use Rattle.snap_judge.proofs.ExplainedLists.{contains_cases, contains_head, contains_none, contains_tail}
+use Rattle.snap_judge.proofs.ExplainedLists.{each_contained}
 use Rattle.snap_judge.proofs.ExplainedLists.{each_weaker, pairs_apart, pairs_by_recursion, pairs_head, pairs_tail}
 use Rattle.snap_judge.proofs.ExplainedNext.{Rises}
 use Rattle.snap_judge.proofs.ExplainedEvents.{ends_later}
@@ -56,7 +58,7 @@ cut (x ∷ es) (suc k) rising =
       },
     )
 
--- an operation as the beginning tells of it
+-- Operation y is what the first k events tell of operation o, which was called below number p.
 record IsKept (h : History) (k p : ℕ) (o y : Operation) : Type 0 where
   operation : IsOperationOf (up_to k h) y
   call : y.call ≡ o.call
@@ -64,13 +66,13 @@ record IsKept (h : History) (k p : ℕ) (o y : Operation) : Type 0 where
   end : (t : ℕ) → y.end ≡ Some t → o.end ≡ Some t
   same : (t : ℕ) → o.end ≡ Some t → t < p → o ≡ y
 
--- a scan that is answered later
+-- The operation is a scan that has no answer below number p.
 record IsLate (p : ℕ) (o : Operation) : Type 0 where
   view : List ℕ
   sees : o.action ≡ Sees view
   later : (t : ℕ) → o.end ≡ Some t → p ≤ t
 
--- The first operations of a list, as the beginning tells of them.
+-- The operations ys are the first ones of os, as the first k events tell of them.
 record IsBeginning (h : History) (k p : ℕ) (values : List ℕ) (os ys : List Operation) : Type 0 where
   each : AllByRecursion (IsOperationOf (up_to k h)) ys
   pairs : Pairs Apart ys
@@ -146,7 +148,7 @@ module _ (h : History) (k p : ℕ) (c : IsCut h.events k p) where
           absurd (subst (CameToEnd h.events o.process o.call None) acts
           (subst (λ (n : Option ℕ). CameToEnd h.events o.process o.call n o.action) at is.came))
 
-  -- one that is called later, and all behind it, are left out
+  -- An operation that is called later, and all behind it, are left out.
   none_left : (values : List ℕ) (o : Operation) (os : List Operation) → IsOperationOf h o → p ≤ o.call →
       AllByRecursion (Apart o) os → IsBeginning h k p values (o ∷ os) []
   none_left values o os is le apart = record {
@@ -162,7 +164,7 @@ module _ (h : History) (k p : ℕ) (c : IsCut h.events k p) where
     ];
   }
 
-  -- a scan that is answered later is left out
+  -- A scan that is answered later is left out.
   scan_left : (values : List ℕ) (o : Operation) (os ys : List Operation) → IsLate p o →
       IsBeginning h k p (after values o.action) os ys → IsBeginning h k p values (o ∷ os) ys
   scan_left values o os ys late b = record {
@@ -182,7 +184,7 @@ module _ (h : History) (k p : ℕ) (c : IsCut h.events k p) where
     ];
   }
 
-  -- each other one is kept
+  -- An operation that is called below number p, and is no such scan, is kept.
   one_kept : (values : List ℕ) (o y : Operation) (os ys : List Operation) → IsKept h k p o y →
       AllByRecursion (Apart o) os → RunsFrom values (o ∷ os) →
       IsBeginning h k p (after values o.action) os ys → IsBeginning h k p values (o ∷ os) (y ∷ ys)
@@ -240,7 +242,7 @@ module _ (h : History) (k p : ℕ) (c : IsCut h.events k p) where
         ]
       ]
 
-  -- an operation of the beginning that has ended there is one of the whole
+  -- An operation of the first k events that has ended there is one of the whole history.
   of_whole : (o : Operation) (t : ℕ) → IsOperationOf (up_to k h) o → o.end ≡ Some t → IsOperationOf h o × (t < p)
   of_whole o t is end =
       let came = subst (λ (n : Option ℕ). CameToEnd (take k h.events) o.process o.call n o.action) end is.came in

@@ -9,7 +9,8 @@ use Rattle.snap_semantics.specs.declared.event.Happening.TheVariants as what
 use Rattle.snap_semantics.specs.declared.process.Op.{Op}
 use Rattle.snap_semantics.specs.declared.process.Op.TheVariants as op
 use Rattle.snap_runs.specs.Operation.{Action, Operation, Sees, Sets}
-use Rattle.snap_judge.specs.History.{Busy, Caller, Free, History, IsHistory, MayCome, MayFollow, caller_after, with_caller}
+use Rattle.snap_judge.specs.History.{Busy, Caller, Free, History, IsHistory, MayCome, MayFollow, caller_after}
+use Rattle.snap_judge.specs.History.{with_caller}
 use Rattle.snap_judge.specs.Linearizable.{CameToEnd, IsOperationOf, called_as, ends_as, event}
 use Rattle.snap_judge.specs.Steps.{Calls, Ends, Step, Waits, answered_step, end_number, next_of, scan_step, step_of}
 use Rattle.snap_judge.specs.Steps.{steps_of, update_end}
@@ -19,7 +20,7 @@ use Rattle.snap_judge.proofs.ExplainedNext.{Rises, answers_scan, busy_after_call
 use Rattle.snap_judge.proofs.ExplainedNext.{next_some, process_of, update_next, with_other, with_same}
 use Rattle.snap_judge.proofs.ExplainedTurns.{AreSound, Begins, Goes, IsOver, Stops, Turned}
 
--- Process i has called this, and come to nothing since, up to number p.
+-- Process i has called operation o, and has come to nothing since, up to number p.
 pub record OpenCall (h : History) (p i : ℕ) (o : Op) : Type 0 where
   pub call : ℕ
   pub before : call < p
@@ -34,7 +35,7 @@ pub record Suffix (h : History) (p : ℕ) (callers : ℕ → Caller) (es : List 
   pub follow : MayFollow h.shape callers es
   pub busy : (i : ℕ) (o : Op) → callers i ≡ Busy o → OpenCall h p i o
 
--- all events
+-- All events are those from number 0 on.
 first_suffix : (h : History) → IsHistory h → Suffix h 0 (λ i. Free) h.events
 first_suffix h is = record {
   inside = λ e has. (has, omega arith);
@@ -72,7 +73,7 @@ record IsCalled (h : History) (i c : ℕ) (w : Happening) (o : Operation) : Type
   called : w ≡ what.Call (called_as o.action)
   came : CameToEnd h.events i c o.end o.action
 
--- an event after which its process comes to no call
+-- Between its call and its end, or after its call without an end, the process of an operation comes to no call.
 not_after_call : (h : History) (i c : ℕ) (end : Option ℕ) (a : Action) (x : Event) (o : Op) →
     CameToEnd h.events i c end a → Contains h.events x → x.process ≡ i → c < x.item → x.what ≡ what.Call o →
     ((t : ℕ) → end ≡ Some t → x.item < t) → ⊥
@@ -316,7 +317,8 @@ module _ (h : History) (p : ℕ) (callers : ℕ → Caller) (e : Event) (es : Li
       let le : p ≤ e.item = at_most in
       record {
         later = omega arith;
-        calls = λ y is from lt. let one = here (event y.process y.call (what.Call (called_as y.action))) is.called from lt in
+        calls = λ y is from lt.
+            let one = here (event y.process y.call (what.Call (called_as y.action))) is.called from lt in
             let at : e.item ≡ y.call = ap (λ (z : Event). z.item) one in
             subst (λ (z : Event). step_of z.process z.item z.what es ≡ Calls y) (sym one)
             (subst (λ c. step_of y.process c (what.Call (called_as y.action)) es
@@ -369,7 +371,7 @@ same_from h (x ∷ xs) p g a b ha hb same le = elim (cases_lt a.call g.0) [
   | inr more ↦ same_from h xs g.0 g.2 a b ha hb same more
 ]
 
--- It ends after its call.
+-- An operation ends after its call.
 pub ends_later : (h : History) (o : Operation) (t : ℕ) → IsOperationOf h o → o.end ≡ Some t → o.call < t
 ends_later h o t its end = (subst (λ (n : Option ℕ). CameToEnd h.events o.process o.call n o.action) end its.came).0
 

@@ -16,7 +16,7 @@ use Rattle.snap_judge.proofs.ExplainedEvents.{are_sound, goes}
 use Rattle.snap_judge.proofs.SoundMoves.{sound_moves}
 use Rattle.snap_judge.proofs.CompleteMoves.{complete_moves}
 
--- no operation ends before it is called
+-- No operation ends before it is called.
 not_before_itself : (h : History) → AreSound h → (o : Operation) → IsOperationOf h o → EndedBefore o o → ⊥
 not_before_itself h sound o is ended =
     let late : o.call < ended.0 = sound.ends_later o ended.0 is ended.1 in
@@ -39,7 +39,8 @@ sound h is moves e =
         | inr has ↦ has
       ];
       order = keeps_order (taken moves)
-          (each_weaker (IsOperationOf h) (λ o. EndedBefore o o → ⊥) (taken moves) (not_before_itself h laws) each) r.pairs;
+          (each_weaker (IsOperationOf h) (λ o. EndedBefore o o → ⊥) (taken moves) (not_before_itself h laws) each)
+          r.pairs;
       runs = r.runs;
     }
 

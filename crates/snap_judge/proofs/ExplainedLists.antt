@@ -26,7 +26,7 @@ contains_cases {X} x y xs h = at h.0 h.1 h.2
 pub contains_none : {X : Type 0} (y : X) → Contains [] y → ⊥
 contains_none y h = let lt : h.0 < 0 = h.1 in omega arith
 
--- of the first element and each later one
+-- What holds of all pairs holds of the first element and each later one.
 pub pairs_head : {X : Type 0} (R : X → X → Type 0) (x y : X) (xs : List X) → AllPairs R (x ∷ xs) → Contains xs y → R x y
 pairs_head R x y xs h has =
     let lt : has.0 < length xs = has.1 in
@@ -35,7 +35,7 @@ pairs_head R x y xs h has =
 pub pairs_tail : {X : Type 0} (R : X → X → Type 0) (x : X) (xs : List X) → AllPairs R (x ∷ xs) → AllPairs R xs
 pairs_tail R x xs h i j d lt short = h (suc i) (suc j) d (omega arith) (omega arith)
 
--- a property of each element of a list
+-- What holds of each element holds of one that the list contains.
 pub each_contained : {X : Type 0} (P : X → Type 0) (y : X) (xs : List X) → AllByRecursion P xs → Contains xs y → P y
 each_contained P y [] h has = absurd (contains_none y has)
 each_contained P y (x ∷ xs) h has =
@@ -54,7 +54,7 @@ pub each_both : {X : Type 0} (P Q S : X → Type 0) (xs : List X) → ((x : X) �
 each_both P Q S [] gives h g = tt
 each_both P Q S (x ∷ xs) gives h g = (gives x h.0 g.0, each_both P Q S xs gives h.1 g.1)
 
--- the pairs of a list that is in order in time, and has no call twice
+-- the pairs of a list in which no call stands twice, and which is in order in time
 pub pairs_apart : (os : List Operation) → AllPairs (λ (a b : Operation). a.call ≡ b.call → ⊥) os → KeepsOrder os →
     AllPairs Apart os
 pairs_apart os once order i j d lt short =

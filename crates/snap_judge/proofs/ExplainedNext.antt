@@ -14,11 +14,11 @@ use Rattle.snap_judge.specs.Steps.{next_of}
 use Rattle.snap_judge.proofs.ExplainedLists.{contains_cases, contains_head, contains_none, contains_tail, pairs_head}
 use Rattle.snap_judge.proofs.ExplainedLists.{pairs_tail}
 
--- its number is below the other one's
+-- The first event's number is below the second one's.
 abbrev pub Rises : Event → Event → Type 0
 Rises a b = a.item < b.item
 
--- what a process is at, once this one has come to that
+-- what a process is at after an event: of its own, or of another process
 pub with_same : (callers : ℕ → Caller) (i j : ℕ) (c : Caller) → j ≡ i → with_caller callers i c j ≡ c
 with_same callers i j c same = ap (λ (t : Bool). if t then c else callers j) (eq-eqb j i same)
 
@@ -31,7 +31,7 @@ next_here i e es same = ap (λ (t : Bool). if t then Some e else next_of i es) (
 next_later : (i : ℕ) (e : Event) (es : List Event) → (e.process ≡ i → ⊥) → next_of i (e ∷ es) ≡ next_of i es
 next_later i e es other = ap (λ (t : Bool). if t then Some e else next_of i es) (ne_eqb e.process i other)
 
--- the one with no other before it
+-- The next event of a process is the one with no other of that process before it.
 pub next_is : (i : ℕ) (es : List Event) (x : Event) → AllPairs Rises es → Contains es x → x.process ≡ i →
     ((z : Event) → Contains es z → z.process ≡ i → z.item < x.item → ⊥) → next_of i es ≡ Some x
 next_is i [] x rising has its none = absurd (contains_none x has)
@@ -44,7 +44,7 @@ next_is i (e ∷ es) x rising has its none = elim (contains_cases e x es has) [
   ]
 ]
 
--- What is next is there, and no other stands before it.
+-- Event x of process i is there, and no other of that process stands before it.
 pub record IsNext (i : ℕ) (es : List Event) (x : Event) : Type 0 where
   pub there : Contains es x
   pub its : x.process ≡ i
@@ -118,7 +118,8 @@ pub update_next : (shape : Counts) (callers : ℕ → Caller) (es : List Event) 
     callers i ≡ Busy (op.Update word value) → MayFollow shape callers es → next_of i es ≡ Some x →
     (x.what ≡ what.Done)
     ⊎ ((x.what ≡ what.Crash) × ((z : Event) → Contains es z → z.process ≡ i → z.what ≡ what.Crash))
-update_next shape callers [] i word value x is f next = absurd (let no : ◌≡◌ {A = Option Event} None (Some x) = next in cc)
+update_next shape callers [] i word value x is f next =
+    absurd (let no : ◌≡◌ {A = Option Event} None (Some x) = next in cc)
 update_next shape callers (e ∷ es) i word value x is f next = elim (cases_eq i e.process) [
   | inl here ↦ (let both : Some e ≡ Some x = sym (next_here i e es (sym here)) ∙ next in let same : e ≡ x = cc in
       elim (update_ends shape word value e.what
@@ -148,7 +149,7 @@ update_next shape callers (e ∷ es) i word value x is f next = elim (cases_eq i
       ])
 ]
 
--- what a process was at, that answers, or is done, or calls
+-- what a process was at that answers or is done, and what it does that is at an operation afterwards
 pub answers_scan : (shape : Counts) (c : Caller) (view : List ℕ) → MayCome shape c (what.Answer view) → c ≡ Busy op.Scan
 answers_scan shape Free view h = absurd h
 answers_scan shape (Busy op.Scan) view h = refl

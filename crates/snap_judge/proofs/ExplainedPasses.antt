@@ -13,7 +13,7 @@ use Rattle.snap_judge.proofs.ExplainedLists.{set_cases, set_other, set_same}
 use Rattle.snap_judge.proofs.ExplainedTurns.{AreSound, Fits, Live, SlotsAt, Turned, gone, in_slot, place_within}
 use Rattle.snap_judge.proofs.ExplainedTurns.{same_place, take_slots}
 
--- It may be taken from this number on: it is called there, or open now.
+-- The operation may be taken from this number on: it is called there, or is open now.
 abbrev pub MayBeTaken : History → ℕ → List Slot → Operation → Type 0
 MayBeTaken h p slots y =
     IsOperationOf h y × ((p ≤ y.call) ⊎ (slice_index_or slots (y.process - 1) Free ≡ Open y))
@@ -88,7 +88,7 @@ module _ (h : History) (sound : AreSound h) where
         | inr same ↦ held ∙ sym same
       ]
 
-  -- What may be taken behind an event may be so before it, and it is all.
+  -- What is left to be taken behind an event is left to be taken before it.
   pub fits_before : (p q : ℕ) (x : Step) (slots : List Slot) (left : List Operation) → Turned h p q x →
       SlotsAt h p slots → MayPass slots x → Fits h q (passed slots x) left → Fits h p slots left
   fits_before p q x slots left t s may f = record {
@@ -103,7 +103,7 @@ module _ (h : History) (sound : AreSound h) where
     ];
   }
 
-  -- What may be taken before an event may be so behind it, once the event may be passed.
+  -- What is left to be taken before an event is left to be taken behind it, if the event may be passed.
   open_behind : (p q : ℕ) (x : Step) (slots : List Slot) → Turned h p q x → SlotsAt h p slots → MayPass slots x →
       (y : Operation) → slice_index_or slots (y.process - 1) Free ≡ Open y →
       slice_index_or (passed slots x) (y.process - 1) Free ≡ Open y
@@ -169,7 +169,7 @@ module _ (h : History) (sound : AreSound h) where
     ];
   }
 
-  -- An open operation takes place: the rest may be taken then.
+  -- Once an open operation has taken place, the others are left to be taken.
   pub fits_after_take : (p : ℕ) (o : Operation) (slots : List Slot) (left : List Operation) → SlotsAt h p slots →
       slice_index_or slots (o.process - 1) Free ≡ Open o → AllByRecursion (Apart o) left → Fits h p slots (o ∷ left) →
       Fits h p (slice_set slots (o.process - 1) (Taken o)) left
@@ -201,7 +201,7 @@ module _ (h : History) (sound : AreSound h) where
             let one : o ≡ y = cc in a.0 (ap (λ (z : Operation). z.call) one)) now),
       )
 
-  -- An operation that takes place, and what may be taken then, may be taken before, and it is all.
+  -- Before an open operation takes place, it and what is left then are left to be taken.
   pub fits_before_take : (p : ℕ) (o : Operation) (slots : List Slot) (left : List Operation) → SlotsAt h p slots →
       slice_index_or slots (o.process - 1) Free ≡ Open o →
       Fits h p (slice_set slots (o.process - 1) (Taken o)) left → Fits h p slots (o ∷ left)

@@ -12,13 +12,13 @@ use Rattle.snap_judge.specs.Linearizable.{IsOperationOf}
 use Rattle.snap_judge.specs.Steps.{Calls, Ends, Free, Open, Slot, Step, Taken, Waits, passed}
 use Rattle.snap_judge.proofs.ExplainedLists.{all_free, set_cases, set_other, set_same}
 
--- It was called before this number, and has no end before it.
+-- The operation was called before this number, and has no end before it.
 pub record Live (h : History) (p : ℕ) (o : Operation) : Type 0 where
   pub operation : IsOperationOf h o
   pub called : o.call < p
   pub going : (t : ℕ) → o.end ≡ Some t → p ≤ t
 
--- Between these numbers the operation is called, and nothing else of its process goes on.
+-- Between these numbers the operation is called, and no other one of its process is going on.
 pub record Begins (h : History) (p q : ℕ) (o : Operation) : Type 0 where
   pub operation : IsOperationOf h o
   pub from : p ≤ o.call
@@ -42,7 +42,7 @@ pub record Turned (h : History) (p q : ℕ) (x : Step) : Type 0 where
   pub ends : (y : Operation) (t : ℕ) → IsOperationOf h y → y.end ≡ Some t → p ≤ t → t < q → x ≡ Ends y.process
   pub stops : (i : ℕ) → x ≡ Ends i → Stops h p q i
 
--- Nothing comes from this number on.
+-- No operation is called, and none ends, from this number on.
 pub record IsOver (h : History) (p : ℕ) : Type 0 where
   pub called : (y : Operation) → IsOperationOf h y → y.call < p
   pub ended : (y : Operation) (t : ℕ) → IsOperationOf h y → y.end ≡ Some t → t < p
@@ -52,7 +52,7 @@ abbrev pub Goes : History → List Step → ℕ → Type 0
 Goes h [] p = IsOver h p
 Goes h (x ∷ xs) p = (q : ℕ) × Turned h p q x × Goes h xs q
 
--- What holds of each operation.
+-- Each operation ends after its call, is one of a process that there is, and is known by its call.
 pub record AreSound (h : History) : Type 0 where
   pub ends_later : (o : Operation) (t : ℕ) → IsOperationOf h o → o.end ≡ Some t → o.call < t
   pub of_process : (o : Operation) → IsOperationOf h o → IsOneOf h.shape.n o.process
@@ -66,7 +66,7 @@ pub record SlotsAt (h : History) (p : ℕ) (slots : List Slot) : Type 0 where
   pub opened : (k : ℕ) (y : Operation) → slice_index_or slots k Free ≡ Open y → Live h p y × (y.process - 1 ≡ k)
   pub took : (k : ℕ) (y : Operation) → slice_index_or slots k Free ≡ Taken y → Live h p y × (y.process - 1 ≡ k)
 
--- What is left may be taken from here on, and is all that still has to be.
+-- Each of these operations may be taken from this number on, and they are all that still have to be.
 pub record Fits (h : History) (p : ℕ) (slots : List Slot) (left : List Operation) : Type 0 where
   pub each : AllByRecursion
       (λ (y : Operation).
@@ -74,7 +74,7 @@ pub record Fits (h : History) (p : ℕ) (slots : List Slot) (left : List Operati
   pub has : (y : Operation) (t : ℕ) → IsOperationOf h y → y.end ≡ Some t → p ≤ t →
       (slice_index_or slots (y.process - 1) Free ≡ Taken y) ⊎ Contains left y
 
--- The slots are those of the first number: all free.
+-- The first slots are all free.
 pub first_slots : (h : History) → SlotsAt h 0 (replicate h.shape.n Free)
 first_slots h = record {
   count = length-replicate h.shape.n Free;
@@ -84,7 +84,7 @@ first_slots h = record {
 }
 
 module _ (h : History) (sound : AreSound h) where
-  -- two processes that have one place are one
+  -- Two processes with the same slot are one.
   pub same_place : (a b : Operation) → IsOperationOf h a → IsOperationOf h b → a.process - 1 ≡ b.process - 1 →
       a.process ≡ b.process
   same_place a b ha hb same =
@@ -110,7 +110,7 @@ module _ (h : History) (sound : AreSound h) where
         ];
       }
 
-  -- and it did so before a step that is not its call
+  -- An operation that goes on behind a step did so before it, unless the step is its call.
   pub was : (p q : ℕ) (x : Step) (y : Operation) → Turned h p q x → Live h q y → (x ≡ Calls y → ⊥) → Live h p y
   was p q x y t l none =
       let later : p ≤ q = t.later in
@@ -123,7 +123,7 @@ module _ (h : History) (sound : AreSound h) where
         going = λ e is. let le : q ≤ e = l.going e is in omega arith;
       }
 
-  -- An operation begins: it goes on.
+  -- An operation that begins at a step goes on behind it.
   begun : (p q : ℕ) (o : Operation) → Turned h p q (Calls o) → Live h q o
   begun p q o t =
       let b = t.begins o refl in
@@ -173,7 +173,7 @@ module _ (h : History) (sound : AreSound h) where
         ];
       }
 
-  -- An operation that ends is the one in the slot, so no other of its process goes on.
+  -- The slot of an operation that goes on holds that operation, so that no other one of its process goes on.
   pub in_slot : (p : ℕ) (slots : List Slot) (y : Operation) (s : Slot) → SlotsAt h p slots → Live h p y →
       slice_index_or slots (y.process - 1) Free ≡ s → (Open y ≡ s) ⊎ (Taken y ≡ s)
   in_slot p slots y s at l is =
@@ -199,7 +199,7 @@ module _ (h : History) (sound : AreSound h) where
             ]
       ]
 
-  -- what ended does not go on
+  -- Where an operation of the process ends, none of that process goes on behind it.
   pub gone : (p q i : ℕ) (slots : List Slot) (y : Operation) → Turned h p q (Ends i) → SlotsAt h p slots →
       Live h p y → Live h q y → y.process ≡ i → ⊥
   gone p q i slots y t at l l' same =
@@ -267,7 +267,8 @@ module _ (h : History) (sound : AreSound h) where
       record {
         count = length-set slots (o.process - 1) (Taken o) ∙ s.count;
         live = λ y ly. elim (cases_eq (y.process - 1) (o.process - 1)) [
-          | inl same ↦ (let e : o ≡ y = only_one p slots o y s l.0 ly (same_place o y l.0.operation ly.operation (sym same)) in
+          | inl same ↦ (let e : o ≡ y =
+              only_one p slots o y s l.0 ly (same_place o y l.0.operation ly.operation (sym same)) in
               inr (set_same slots (o.process - 1) (y.process - 1) (Taken o) lt same ∙ ap Taken e))
           | inr apart ↦ elim (s.live y ly) [
             | inl at ↦ inl (set_other slots (o.process - 1) (y.process - 1) (Taken o) (Open y) apart at)

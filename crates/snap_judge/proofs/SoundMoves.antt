@@ -1,4 +1,5 @@
--- What moves take, from some event on, may be taken there, is all, in order, and the object runs it.
+-- The operations that moves take from some event on may be taken there, are all, are in order in time, and are run by
+-- the object.
 use Rattle.std.proofs.Common.{ℕ, ◌-◌, ◌<◌, List, [], ◌∷◌, arith}
 use Rattle.std.proofs.Common.{slice_set}
 use Rattle.snap_runs.specs.Operation.{Operation}
@@ -10,7 +11,7 @@ use Rattle.snap_judge.proofs.ExplainedLists.{each_weaker}
 use Rattle.snap_judge.proofs.ExplainedTurns.{AreSound, Fits, Goes, SlotsAt, pass_slots, take_slots}
 use Rattle.snap_judge.proofs.ExplainedPasses.{MayBeTaken, apart_from_taken, fits_before, fits_before_take}
 
--- They fit, no two are the same, they are in order, and the object runs them.
+-- The operations fit, no two are the same, they are in order in time, and the object runs them.
 pub record Runs (h : History) (p : ℕ) (slots : List Slot) (values : List ℕ) (left : List Operation) : Type 0 where
   pub fits : Fits h p slots left
   pub pairs : Pairs Apart left

@@ -11,7 +11,7 @@ use Rattle.snap_judge.specs.History.{History}
 use Rattle.snap_judge.specs.Steps.{Calls, Ends, Explains, Free, MayPass, Move, Open, Pass, Slot, Step, Take, Taken}
 use Rattle.snap_judge.specs.Steps.{Waits, passed, taken}
 use Rattle.snap_judge.proofs.ExplainedLists.{contains_cases, contains_none, each_contained}
-use Rattle.snap_judge.proofs.ExplainedTurns.{AreSound, Goes, IsOver, SlotsAt, Stops, Turned, pass_slots, take_slots}
+use Rattle.snap_judge.proofs.ExplainedTurns.{same_place, Live, AreSound, Goes, IsOver, SlotsAt, Stops, Turned, pass_slots, take_slots}
 use Rattle.snap_judge.proofs.ExplainedPasses.{fits_after_take, fits_behind}
 use Rattle.snap_judge.proofs.SoundMoves.{Runs}
 
@@ -112,11 +112,27 @@ module _ (h : History) (sound : AreSound h) where
       (rest v (passed ss x) os (pass_slots h sound p q x ss t s)
       (record { fits = fits_behind h sound p q x ss os t s may r.fits; pairs = r.pairs; runs = r.runs }))
 
+  -- A process that calls has nothing open.
+  nothing_open : (p q : ℕ) (o : Operation) (slots : List Slot) → Turned h p q (Calls o) → SlotsAt h p slots →
+      MayPass slots (Calls o)
+  nothing_open p q o slots t s = by_slot (slice_index_or slots (o.process - 1) Free) refl
+    where
+      other : (y : Operation) → Live h p y × (y.process - 1 ≡ o.process - 1) → ⊥
+      other y l =
+          let b = t.begins o refl in
+          b.alone y l.0 (same_place h sound y o l.0.operation b.operation l.1)
+      by_slot : (s' : Slot) → slice_index_or slots (o.process - 1) Free ≡ s' →
+          slice_index_or slots (o.process - 1) Free ≡ Free
+      by_slot Free is = is
+      by_slot (Open y) is = absurd (other y (s.opened (o.process - 1) y is))
+      by_slot (Taken y) is = absurd (other y (s.took (o.process - 1) y is))
+
   pub complete_moves : (xs : List Step) (p : ℕ) → Goes h xs p → (values : List ℕ) (slots : List Slot)
       (left : List Operation) → SlotsAt h p slots → Runs h p slots values left → AreTaken xs values slots left
   complete_moves [] p g values slots left s r = take_all left p values slots g s r
   complete_moves (Calls o ∷ xs) p g values slots left s r =
-      behind p g.0 (Calls o) xs g.1 (complete_moves xs g.0 g.2) values slots left s r tt
+      behind p g.0 (Calls o) xs g.1 (complete_moves xs g.0 g.2) values slots left s r
+      (nothing_open p g.0 o slots g.1 s)
   complete_moves (Waits ∷ xs) p g values slots left s r =
       behind p g.0 Waits xs g.1 (complete_moves xs g.0 g.2) values slots left s r tt
   complete_moves (Ends i ∷ xs) p g values slots left s r =

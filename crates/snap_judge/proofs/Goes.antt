@@ -3,7 +3,7 @@ use Rattle.std.proofs.Common.{◌≡◌, ◌≢◌, ℕ, zero, suc, ◌-◌, ◌
 use Rattle.std.proofs.Common.{refl, sym, ◌∙◌, ap, subst, arith, map, drop, append_assoc}
 use Rattle.std.proofs.Math.ListN.{set}
 use Rattle.std.proofs.lemmas.Bool.{cases_eq, cases_lt}
-use Rattle.std.proofs.lemmas.List.{get_or-set_same, get_or-set_other, length-set, map-set, map-append, set_past}
+use Rattle.std.proofs.lemmas.List.{get_or-set_same, get_or-set_other, length-set, map-set, map-append, set_past, get_or_default}
 use Rattle.std.specs.Prelude.{replicate}
 use Rattle.snap_runs.specs.Operation.{Action, Sets, Sees, Operation}
 use Rattle.snap_runs.specs.Linearization.{Allows, after}
@@ -29,6 +29,11 @@ goes_on steps order order' order'' c c' c'' g h = record {
   reached = λ k r. h.reached (g.config k) (g.reached k r);
   explained = λ k e. h.explained (g.config k) (g.explained k e);
 }
+
+-- what is read at a place within a list is there at any default
+pub there : (slots : List KeptSlot) (p : ℕ) (s s' : KeptSlot) → p < length slots → s ≡ get_or slots p s → s ≡ s' →
+    get_or slots p kept_slot.Free ≡ s'
+there slots p s s' lt is same = get_or_default slots p kept_slot.Free s lt ∙ sym is ∙ same
 
 -- the slot at a place, as the definitions have it
 pub slot_at : (steps : List KeptStep) (slots : List KeptSlot) (p : ℕ) →
@@ -157,3 +162,12 @@ module _ (steps : List KeptStep) (order : List ℕ) (c c' : Config) (p j : ℕ)
         (subst (λ (T : List Slot). CanBeExplained (rest_of steps c) c.values.items T) (sym slots_now)
         (scan_earlier p o (c.values.items, sees) (rest_of steps c) c.values.items (slots_of steps c) open_now e)));
   }
+
+is_taken : KeptSlot → Type 0
+is_taken kept_slot.Free = ⊥
+is_taken (kept_slot.Open j) = ⊥
+is_taken (kept_slot.Taken j) = Unit {0}
+
+pub kept_taken_not_free : (j : ℕ) → kept_slot.Taken j ≡ kept_slot.Free → ⊥
+unfolding is_taken
+kept_taken_not_free j e = subst is_taken e tt

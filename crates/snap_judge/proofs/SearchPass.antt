@@ -14,16 +14,17 @@ use Rattle.snap_judge.proofs.SearchSlots.{at, Apart, passes_by, passed_with, sti
 abbrev pub IsClear : Step → List Slot → Type 0
 IsClear x S = (p : ℕ) (o : Operation) → at S p ≡ Open o → Apart x p
 
--- Then what can be explained can be explained with the event passed first.
-pub pass_now : (ms : List Move) (x : Step) (xs : List Step) (V : List ℕ) (S : List Slot) → IsClear x S →
-    Explains ms (x ∷ xs) V S → CanBeExplained xs V (passed S x)
-pub take_behind : (x : Step) (xs : List Step) (V : List ℕ) (S : List Slot) (o : Operation) → Apart x (o.process - 1) →
+take_behind : (x : Step) (xs : List Step) (V : List ℕ) (S : List Slot) (o : Operation) → Apart x (o.process - 1) →
     at S (o.process - 1) ≡ Open o → Allows V o.action →
     CanBeExplained xs (after V o.action) (passed (set S (o.process - 1) (Taken o)) x) →
     CanBeExplained xs V (passed S x)
 take_behind x xs V S o apart is allows e =
     (Take o ∷ e.0, (passes_by x S (o.process - 1) apart ∙ is, allows,
     subst (λ (T : List Slot). Explains e.0 xs (after V o.action) T) (passed_with x S (o.process - 1) (Taken o) apart) e.1))
+
+-- Then what can be explained can be explained with the event passed first.
+pub pass_now : (ms : List Move) (x : Step) (xs : List Step) (V : List ℕ) (S : List Slot) → IsClear x S →
+    Explains ms (x ∷ xs) V S → CanBeExplained xs V (passed S x)
 pass_now [] x xs V S clear e = absurd e
 pass_now (Pass ∷ ms) x xs V S clear e = (ms, e.1)
 pass_now (Take o ∷ ms) x xs V S clear e =

@@ -99,14 +99,23 @@ pub record ChangesSlotAlone (p : ℕ) (c c' : Config) : Type 0 where
   pub others : (q : ℕ) → (q ≡ p → ⊥) →
       slice_index_or c'.slots.items q kept_slot.Free ≡ slice_index_or c.slots.items q kept_slot.Free
 
--- A step of one of n processes.
-abbrev pub IsStepOf : ℕ → KeptStep → Type 0
-IsStepOf n (kept_step.Calls o) = IsOneOf n o.process
-IsStepOf n (kept_step.Ends i) = IsOneOf n i
-IsStepOf n kept_step.Waits = Unit {0}
+-- A step of one of n processes, with one of w words.
+abbrev pub HasWord : ℕ → KeptAction → Type 0
+HasWord w (kept_action.Sets word value) = IsOneOf w word
+HasWord w (kept_action.Sees view) = Unit {0}
 
-abbrev pub AreSteps : ℕ → List KeptStep → Type 0
-AreSteps n steps = (t : ℕ) → IsStepOf n (slice_index_or steps t kept_step.Waits)
+abbrev pub IsStepOf : (n w : ℕ) → KeptStep → Type 0
+IsStepOf n w (kept_step.Calls o) = IsOneOf n o.process × HasWord w o.action
+IsStepOf n w (kept_step.Ends i) = IsOneOf n i
+IsStepOf n w kept_step.Waits = Unit {0}
+
+abbrev pub AreSteps : (n w : ℕ) → List KeptStep → Type 0
+AreSteps n w steps = (t : ℕ) → IsStepOf n w (slice_index_or steps t kept_step.Waits)
+
+-- There are as many slots and values as before.
+pub record KeepsCounts (c c' : Config) : Type 0 where
+  pub slots : length c'.slots.items ≡ length c.slots.items
+  pub values : length c'.values.items ≡ length c.values.items
 
 -- Step t calls an operation of the process whose place this is.
 abbrev pub IsCallOf : List KeptStep → (t place : ℕ) → Type 0

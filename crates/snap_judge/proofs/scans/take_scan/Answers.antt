@@ -1,17 +1,10 @@
 -- `take_scan` of snap_judge (src/scans.rt).
 use Rattle.std.proofs.Common.{◌≡◌, ℕ, ◌<◌, length, get_or, ◌∙◌, sym, arith, refl, subst, List, ap}
-use Rattle.std.proofs.lemmas.List.{get_or_default}
 use Rattle.snap_runs.specs.Linearization.{after}
 use Rattle.snap_runs.specs.Operation.{Sees}
-use Rattle.snap_judge.specs.declared.config.Slot.{Slot as KeptSlot}
 use Rattle.snap_judge.specs.declared.config.Slot.TheVariants as kept_slot
-use Rattle.snap_judge.proofs.Goes.{scan_taken}
+use Rattle.snap_judge.proofs.Goes.{scan_taken, there}
 use Rattle.snap_judge.proofs.scans.take_scan.Goals as goal
-
--- what is read at a place within a list is there at any default
-there : (slots : List KeptSlot) (p : ℕ) (s s' : KeptSlot) → p < length slots → s ≡ get_or slots p s → s ≡ s' →
-    get_or slots p kept_slot.Free ≡ s'
-there slots p s s' lt is same = get_or_default slots p kept_slot.Free s lt ∙ sym is ∙ same
 
 pub sees-requires : goal.sees-requires
 sees-requires c =

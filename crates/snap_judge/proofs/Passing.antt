@@ -194,3 +194,14 @@ end_stuck steps c place lt next never =
     kept_taken kept_slot.Free o is e = subst is_taken (sym e) tt
     kept_taken (kept_slot.Open j) o is e = subst is_taken (sym e) tt
     kept_taken (kept_slot.Taken j) o is e = never j is
+
+-- A step that changes nothing passes.
+pub wait_passes : (steps : List KeptStep) (order : List ℕ) (c c' : Config) → c.position < length steps →
+    IsConfig steps c → get_or steps c.position kept_step.Waits ≡ kept_step.Waits → c'.position ≡ suc c.position →
+    c'.values.items ≡ c.values.items → c'.slots.items ≡ c.slots.items → GoesOn steps order c order c'
+wait_passes steps order c c' lt fits next position values slots =
+    passes steps order c c' kept_step.Waits lt next position values (ap (map (slot_of steps)) slots) (ap length slots) tt
+    (record {
+      within = subst (λ (n : ℕ). n ≤ length steps) (sym position) lt;
+      placed = λ q k e. fits.placed q k (ap (λ (l : List KeptSlot). get_or l q kept_slot.Free) (sym slots) ∙ e);
+    })

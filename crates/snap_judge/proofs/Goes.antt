@@ -3,7 +3,7 @@ use Rattle.std.proofs.Common.{◌≡◌, ◌≢◌, ℕ, zero, suc, ◌-◌, ◌
 use Rattle.std.proofs.Common.{refl, sym, ◌∙◌, ap, subst, arith, map, drop, append_assoc}
 use Rattle.std.proofs.Math.ListN.{set}
 use Rattle.std.proofs.lemmas.Bool.{cases_eq, cases_lt}
-use Rattle.std.proofs.lemmas.List.{get_or-set_same, get_or-set_other, length-set, map-set, map-append, set_past, get_or_default}
+use Rattle.std.proofs.lemmas.List.{get_or-set_same, get_or-set_other, length-set, map-set, map-append, set_past, get_or_default, get_or_past}
 use Rattle.std.specs.Prelude.{replicate}
 use Rattle.snap_runs.specs.Operation.{Action, Sets, Sees, Operation}
 use Rattle.snap_runs.specs.Linearization.{Allows, after}
@@ -148,6 +148,14 @@ module _ (steps : List KeptStep) (order : List ℕ) (c c' : Config) (p j : ℕ)
         (ap (λ (l : List KeptSlot). get_or l q kept_slot.Free) (sym slots) ∙ e));
   }
 
+  -- what can be explained with it taken can be explained from there
+  pub taken_can : CanBeExplained (rest_of steps c) (after c.values.items o.action) (set (slots_of steps c) p (Taken o)) →
+      Can steps c'
+  taken_can e =
+      subst (λ (xs : List Step). CanBeExplained xs c'.values.items (slots_of steps c')) (sym rest_now)
+      (subst (λ (W : List ℕ). CanBeExplained (rest_of steps c) W (slots_of steps c')) (sym values)
+      (subst (λ (T : List Slot). CanBeExplained (rest_of steps c) (after c.values.items o.action) T) (sym slots_now) e))
+
   -- a scan that sees what is there
   pub scan_taken : (order' : List ℕ) → order' ≡ order ++ j ∷ [] → o.action ≡ Sees c.values.items →
       GoesOn steps order c order' c'
@@ -171,3 +179,14 @@ is_taken (kept_slot.Taken j) = Unit {0}
 pub kept_taken_not_free : (j : ℕ) → kept_slot.Taken j ≡ kept_slot.Free → ⊥
 unfolding is_taken
 kept_taken_not_free j e = subst is_taken e tt
+
+kept_within_by : (slots : List KeptSlot) (p j : ℕ) → (p < length slots) ⊎ (length slots ≤ p) →
+    get_or slots p kept_slot.Free ≡ kept_slot.Open j → p < length slots
+kept_within_by slots p j (inl lt) is = lt
+kept_within_by slots p j (inr past) is =
+    absurd (kept_not_free (get_or slots p kept_slot.Free) j is (get_or_past slots p kept_slot.Free past))
+
+-- what is open is within the list
+pub kept_open_within : (slots : List KeptSlot) (p j : ℕ) → get_or slots p kept_slot.Free ≡ kept_slot.Open j →
+    p < length slots
+kept_open_within slots p j is = kept_within_by slots p j (cases_lt p (length slots)) is

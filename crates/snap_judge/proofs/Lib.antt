@@ -15,3 +15,5 @@ pub mod ExplainedHistories
 pub mod ExplainedBeginnings
 pub mod SoundMoves
 pub mod CompleteMoves
+pub mod Choosing
+pub mod TakingUpdates

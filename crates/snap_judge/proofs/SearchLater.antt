@@ -11,20 +11,13 @@ use Rattle.snap_runs.specs.Linearization.{Allows, after}
 use Rattle.snap_judge.specs.Steps.{Step, Calls, Ends, Waits, Slot, Free, Open, Taken, MayPass, passed, slot, with_slot}
 use Rattle.snap_judge.specs.Steps.{Move, Take, Pass, Explains, CanBeExplained}
 use Rattle.snap_judge.proofs.SearchSlots.{at, open_not_taken, open_within, still_open, turned}
-use Rattle.snap_judge.proofs.SearchMoves.{Wants, IsScan}
+use Rattle.snap_judge.specs.Choices.{Wants, MayWait, NotNow, Scans, Updates}
 
 -- how many operations take place before the next event
 pub leading : List Move → ℕ
 leading [] = 0
 leading (Take o ∷ ms) = suc (leading ms)
 leading (Pass ∷ ms) = 0
-
--- An update at place p, whose value no open scan wants, while no other update of its word is open.
-pub record MayWait (p : ℕ) (word value : ℕ) (V : List ℕ) (S : List Slot) : Type 0 where
-  pub is_word : IsOneOf (length V) word
-  pub alone : (q : ℕ) (o : Operation) (word' value' : ℕ) → at S q ≡ Open o → o.action ≡ Sets word' value' →
-      word' - 1 ≡ word - 1 → q ≡ p
-  pub unwanted : (q : ℕ) (s : Operation) → at S q ≡ Open s → Wants (word - 1) value s → ⊥
 
 module _ (p : ℕ) (o : Operation) (word value : ℕ) (act : o.action ≡ Sets word value) (i : ℕ) (rest : List Step)
     (apart : p ≡ i - 1 → ⊥) where
@@ -112,12 +105,6 @@ module _ (p : ℕ) (o : Operation) (word value : ℕ) (act : o.action ≡ Sets w
   later (Pass ∷ ms) V S place is h e = pass_first ms V S is h e.0 e.1 place
   later (Take o' ∷ ms) V S place is h e =
       take_first ms o' o'.action V S is h refl e.0 e.1 e.2 (λ W T is' h' e'. later ms W T place is' h' e')
-
--- What is open at place p need not take place now: it is a scan of other values, or an update that may wait.
-pub data NotNow (i : ℕ) (V : List ℕ) (S : List Slot) (p : ℕ) (o : Operation) : Type 0 where
-  Scans : (view : List ℕ) → o.action ≡ Sees view → (view ≡ V → ⊥) → NotNow i V S p o
-  Updates : (word value : ℕ) → o.action ≡ Sets word value → (p ≡ i - 1 → ⊥) → MayWait p word value V S →
-      NotNow i V S p o
 
 -- After it has taken place, nothing explains what is left.
 abbrev pub Fails : List Step → List ℕ → List Slot → ℕ → Operation → Type 0

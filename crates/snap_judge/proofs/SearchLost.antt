@@ -9,7 +9,8 @@ use Rattle.snap_runs.specs.Linearization.{Allows, after}
 use Rattle.snap_judge.specs.Steps.{Step, Calls, Ends, Waits, Slot, Free, Open, Taken, MayPass, passed, slot, with_slot}
 use Rattle.snap_judge.specs.Steps.{Move, Take, Pass, Explains, CanBeExplained}
 use Rattle.snap_judge.proofs.SearchSlots.{at, one_open, open_not_taken, Apart, IsThere, place_of, passes_by, turned}
-use Rattle.snap_judge.proofs.SearchMoves.{NoneOf, none_taken, none_passed, Wants, Writes, same_length}
+use Rattle.snap_judge.proofs.SearchMoves.{NoneOf, none_taken, none_passed, Writes, same_length}
+use Rattle.snap_judge.specs.Choices.{Wants}
 
 -- The operation that is open at place p ends among these events, before another is called there.
 abbrev pub EndsNext : ℕ → List Step → Type 0

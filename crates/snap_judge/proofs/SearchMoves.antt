@@ -8,6 +8,7 @@ use Rattle.snap_runs.specs.Operation.{Action, Sets, Sees, Operation}
 use Rattle.snap_runs.specs.Linearization.{Allows, after}
 use Rattle.snap_judge.specs.Steps.{Step, Calls, Ends, Waits, Slot, Free, Open, Taken, MayPass, passed, slot, with_slot}
 use Rattle.snap_judge.specs.Steps.{Move, Take, Pass, Explains, CanBeExplained}
+use Rattle.snap_judge.specs.Choices.{Wants}
 use Rattle.snap_judge.proofs.SearchSlots.{at, one_open, one_taken, open_not_taken, open_within, Apart, IsThere, place_of}
 use Rattle.snap_judge.proofs.SearchSlots.{passes_by, may_pass, may_pass_back, passed_with, nothing_passes, turned, still_open, opened}
 use Rattle.snap_words.specs.Shape.{IsOneOf}
@@ -15,10 +16,6 @@ use Rattle.snap_words.specs.Shape.{IsOneOf}
 -- It is a scan.
 abbrev pub IsScan : Operation → Type 0
 IsScan o = (view : List ℕ) × (o.action ≡ Sees view)
-
--- A scan that wants x in the word at place k.
-abbrev pub Wants : (k x : ℕ) → Operation → Type 0
-Wants k x o = (view : List ℕ) × (o.action ≡ Sees view) × (get_or view k 0 ≡ x)
 
 -- An update that writes x to the word at place k.
 abbrev pub Writes : (k x : ℕ) → Operation → Type 0

@@ -3,3 +3,5 @@ pub mod History
 pub mod Linearizable
 pub mod Steps
 pub mod Kept
+pub mod Choices
+pub mod Nodes

@@ -29,3 +29,12 @@ pub struct Config {
     pub values: Vec<u64>,
     pub slots: Vec<Slot>,
 }
+
+/// An open update, by its place and its step, with its word and its value.
+#[derive(Clone, Copy)]
+pub struct OpenUpdate {
+    pub place: usize,
+    pub call: usize,
+    pub word: u64,
+    pub value: u64,
+}

@@ -5,10 +5,12 @@ ghost use Rattle.snap_judge.specs.Linearizable.{LinearizableFromTheBeginning};
 ghost use Rattle.snap_judge.specs.Steps.{HistoriesAreExplained};
 
 mod advance;
+mod choices;
 mod config;
 mod history;
 mod operation;
 mod scans;
+mod taking;
 
 pub use history::History;
 pub use operation::{Action, Operation};

@@ -3,7 +3,7 @@ use Rattle.std.proofs.Common.{◌≡◌, ◌≢◌, ℕ, zero, suc, ◌-◌, ◌
 use Rattle.std.proofs.Common.{refl, sym, ◌∙◌, ap, subst, arith, map, drop, append_assoc}
 use Rattle.std.proofs.Math.ListN.{set}
 use Rattle.std.proofs.lemmas.Bool.{cases_eq, cases_lt}
-use Rattle.std.proofs.lemmas.List.{get_or-set_same, get_or-set_other, length-set, map-set, map-append, set_past, get_or_default, get_or_past}
+use Rattle.std.proofs.lemmas.List.{get_or-set_same, get_or-set_other, length-set, map-set, map-append, set_past, get_or_default, get_or_past, append-nil}
 use Rattle.std.specs.Prelude.{replicate}
 use Rattle.snap_runs.specs.Operation.{Action, Sets, Sees, Operation}
 use Rattle.snap_runs.specs.Linearization.{Allows, after}
@@ -13,14 +13,20 @@ use Rattle.snap_judge.specs.declared.config.Step.{Step as KeptStep}
 use Rattle.snap_judge.specs.declared.config.Slot.{Slot as KeptSlot}
 use Rattle.snap_judge.specs.declared.config.Slot.TheVariants as kept_slot
 use Rattle.snap_judge.specs.declared.config.Config.{Config}
-use Rattle.snap_judge.specs.Kept.{Can, GoesOn, IsConfig, IsReached, called_at, rest_of, slot_of, slots_of, steps_kept}
-use Rattle.snap_judge.specs.Kept.{ChangesSlotsAlone, ChangesSlotAlone, IsSettledAt, IsSettled}
+use Rattle.snap_judge.specs.Kept.{Can, GoesOn, Grows, IsConfig, IsReached, called_at, rest_of, slot_of, slots_of, steps_kept}
+use Rattle.snap_judge.specs.Kept.{IsSameConfig, ChangesSlotsAlone, ChangesSlotAlone, IsSettledAt, IsSettled}
 use Rattle.snap_judge.proofs.SearchSlots.{at}
 use Rattle.snap_judge.proofs.SearchMoves.{scan_earlier}
 
 -- A search that stays where it is goes on.
 pub stays : (steps : List KeptStep) (order : List ℕ) (c : Config) → GoesOn steps order c order c
-stays steps order c = record { config = λ k. k; reached = λ k r. r; explained = λ k e. e; }
+stays steps order c = record {
+  config = λ k. k; reached = λ k r. r; explained = λ k e. e; grows = ([], sym (append-nil order)); }
+
+-- Operations are added to those that were added.
+pub grown : (order order' order'' : List ℕ) → Grows order order' → Grows order' order'' → Grows order order''
+grown order order' order'' g h =
+    (g.0 ++ h.0, h.1 ∙ ap (λ (os : List ℕ). os ++ h.0) g.1 ∙ append_assoc order g.0 h.0)
 
 pub goes_on : (steps : List KeptStep) (order order' order'' : List ℕ) (c c' c'' : Config) →
     GoesOn steps order c order' c' → GoesOn steps order' c' order'' c'' → GoesOn steps order c order'' c''
@@ -28,6 +34,7 @@ goes_on steps order order' order'' c c' c'' g h = record {
   config = λ k. h.config (g.config k);
   reached = λ k r. h.reached (g.config k) (g.reached k r);
   explained = λ k e. h.explained (g.config k) (g.explained k e);
+  grows = grown order order' order'' g.grows h.grows;
 }
 
 -- what is read at a place within a list is there at any default
@@ -169,6 +176,7 @@ module _ (steps : List KeptStep) (order : List ℕ) (c c' : Config) (p j : ℕ)
         (sym (values ∙ ap (after c.values.items) sees))
         (subst (λ (T : List Slot). CanBeExplained (rest_of steps c) c.values.items T) (sym slots_now)
         (scan_earlier p o (c.values.items, sees) (rest_of steps c) c.values.items (slots_of steps c) open_now e)));
+    grows = (j ∷ [], more);
   }
 
 is_taken : KeptSlot → Type 0
@@ -190,3 +198,32 @@ kept_within_by slots p j (inr past) is =
 pub kept_open_within : (slots : List KeptSlot) (p j : ℕ) → get_or slots p kept_slot.Free ≡ kept_slot.Open j →
     p < length slots
 kept_open_within slots p j is = kept_within_by slots p j (cases_lt p (length slots)) is
+
+-- A copy is as good.
+pub same_goes : (steps : List KeptStep) (order : List ℕ) (c c' : Config) → IsSameConfig c c' → GoesOn steps order c order c'
+same_goes steps order c c' same = record {
+  config = λ k. record {
+    within = subst (λ (n : ℕ). n ≤ length steps) (sym same.position) k.within;
+    placed = λ p j e. k.placed p j (ap (λ (l : List KeptSlot). get_or l p kept_slot.Free) (sym same.slots) ∙ e);
+  };
+  reached = λ k r moves e.
+      (let go = r moves
+          (subst (λ (n : ℕ). Explains moves (drop n (steps_kept steps)) c.values.items (slots_of steps c)) same.position
+          (subst (λ (W : List ℕ). Explains moves (rest_of steps c') W (slots_of steps c)) same.values
+          (subst (λ (l : List KeptSlot). Explains moves (rest_of steps c') c'.values.items (map (slot_of steps) l))
+          same.slots e))) in
+      (go.0, subst (λ (n : ℕ). Explains go.0 (steps_kept steps) (replicate n 0) (replicate (length c'.slots.items) Free))
+      (sym (ap length same.values))
+      (subst (λ (n : ℕ). Explains go.0 (steps_kept steps) (replicate (length c.values.items) 0) (replicate n Free))
+      (sym (ap length same.slots)) go.1), go.2));
+  explained = λ k e.
+      subst (λ (n : ℕ). CanBeExplained (drop n (steps_kept steps)) c'.values.items (slots_of steps c')) (sym same.position)
+      (subst (λ (W : List ℕ). CanBeExplained (rest_of steps c) W (slots_of steps c')) (sym same.values)
+      (subst (λ (l : List KeptSlot). CanBeExplained (rest_of steps c) c.values.items (map (slot_of steps) l))
+      (sym same.slots) e));
+  grows = ([], sym (append-nil order));
+}
+
+pub same_turned : (c c' : Config) → IsSameConfig c c' → IsSameConfig c' c
+same_turned c c' same = record {
+  position = sym same.position; values = sym same.values; slots = sym same.slots; }

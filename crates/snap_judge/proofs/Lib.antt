@@ -17,3 +17,4 @@ pub mod SoundMoves
 pub mod CompleteMoves
 pub mod Choosing
 pub mod TakingUpdates
+pub mod Entering

@@ -3,7 +3,7 @@ use Rattle.std.proofs.Common.{◌≡◌, ℕ, zero, suc, ◌-◌, ◌+◌, ◌<�
 use Rattle.std.proofs.Common.{refl, sym, ◌∙◌, ap, subst, arith, map, drop, drop-cons}
 use Rattle.std.proofs.Math.ListN.{set}
 use Rattle.std.proofs.lemmas.Bool.{cases_eq, cases_lt}
-use Rattle.std.proofs.lemmas.List.{get_or-set_same, get_or-set_other, get_or_past, length-set, map-set, length-map}
+use Rattle.std.proofs.lemmas.List.{get_or-set_same, get_or-set_other, get_or_past, length-set, map-set, length-map, append-nil}
 use Rattle.std.specs.Prelude.{replicate}
 use Rattle.snap_runs.specs.Operation.{Operation, Sees}
 use Rattle.snap_judge.specs.Steps.{Step, Calls, Ends, Waits, Slot, Free, Open, Taken, MayPass, passed, slot, with_slot}
@@ -62,6 +62,7 @@ module _ (steps : List KeptStep) (order : List ℕ) (c c' : Config) (x : KeptSte
         (replicate (length c'.slots.items) Free)) (sym (ap length values))
         (subst (λ (n : ℕ). Explains go.0 (steps_kept steps) (replicate (length c.values.items) 0) (replicate n Free))
         (sym count) go.1), go.2);
+    grows = ([], sym (append-nil order));
     explained = λ k e.
         subst (λ (T : List Slot). CanBeExplained (rest_of steps c') c'.values.items T) (sym slots)
         (subst (λ (W : List ℕ). CanBeExplained (rest_of steps c') W (passed (slots_of steps c) (step_of_kept x)))

@@ -12,7 +12,7 @@ use Rattle.snap_judge.specs.declared.config.Config.{Config}
 use Rattle.snap_judge.specs.Steps.{CanBeExplained, Taken}
 use Rattle.snap_judge.specs.Kept.{Can, GoesOn, IsConfig, IsReached, called_at, rest_of, slots_of}
 use Rattle.snap_judge.specs.Choices.{CanTaking, HasTaken}
-use Rattle.snap_judge.proofs.Goes.{still_config, taken_can, took}
+use Rattle.snap_judge.proofs.Goes.{grown, still_config, taken_can, took}
 
 index_of : KeptSlot → ℕ
 index_of kept_slot.Free = 0
@@ -36,6 +36,7 @@ has_taken steps order order' c mid c' p j word value position values slots is_wo
       (taken_can steps order c mid p j position values' slots k is
       (subst (λ (m : ℕ). CanBeExplained (rest_of steps c) (after c.values.items (called_at steps m).action)
       (set (slots_of steps c) p (Taken (called_at steps m)))) (one_index (sym can.1 ∙ is)) can.2));
+  grows = grown order (order ++ j ∷ []) order' (j ∷ [], refl) goes.grows;
 }
   where
     values' : mid.values.items ≡ after c.values.items (called_at steps j).action

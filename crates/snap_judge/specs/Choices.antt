@@ -8,7 +8,7 @@ use Rattle.snap_judge.specs.declared.config.Config.{Config}
 use Rattle.snap_judge.specs.declared.config.OpenUpdate.{OpenUpdate}
 use Rattle.snap_runs.specs.Linearization.{after}
 use Rattle.snap_judge.specs.Steps.{Slot, Free, Open, Taken, CanBeExplained}
-use Rattle.snap_judge.specs.Kept.{Can, IsConfig, IsReached, called_at, rest_of, slots_of}
+use Rattle.snap_judge.specs.Kept.{Can, Grows, IsConfig, IsReached, called_at, rest_of, slots_of}
 
 -- A scan that wants x in the word at place k, counted from 0.
 abbrev pub Wants : (k x : ℕ) → Operation → Type 0
@@ -72,3 +72,4 @@ pub record HasTaken (steps : List KeptStep) (p : ℕ) (order : List ℕ) (c : Co
   pub config : IsConfig steps c → IsConfig steps c'
   pub reached : IsConfig steps c → IsReached steps order c → IsReached steps order' c'
   pub explained : IsConfig steps c → CanTaking steps c p → Can steps c'
+  pub grows : Grows order order'

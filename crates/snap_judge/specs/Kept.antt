@@ -70,12 +70,17 @@ pub record IsConfig (steps : List KeptStep) (c : Config) : Type 0 where
   pub placed : (p j : ℕ) → slice_index_or c.slots.items p kept_slot.Free ≡ kept_slot.Open j →
       ((called_at steps j).process ≡ suc p) × (j < length steps)
 
+-- Operations have been added to an order.
+abbrev pub Grows : List ℕ → List ℕ → Type 0
+Grows order order' = (more : List ℕ) × (order' ≡ order ++ more)
+
 -- A search goes on from one place to another: what could be explained still can, and it is reached.
 pub record GoesOn (steps : List KeptStep) (order : List ℕ) (c : Config) (order' : List ℕ)
     (c' : Config) : Type 0 where
   pub config : IsConfig steps c → IsConfig steps c'
   pub reached : IsConfig steps c → IsReached steps order c → IsReached steps order' c'
   pub explained : IsConfig steps c → Can steps c → Can steps c'
+  pub grows : Grows order order'
 
 -- An open scan at this place sees other values than are there.
 abbrev pub IsSettledAt : List KeptStep → Config → ℕ → Type 0
@@ -133,3 +138,9 @@ abbrev pub IsStuck : List KeptStep → Config → Type 0
 IsStuck steps c =
     (c.position < length steps)
     × MayNotPass (slots_of steps c) (step_of_kept (slice_index_or steps c.position kept_step.Waits))
+
+-- They are the same but for where they stand in memory.
+pub record IsSameConfig (c c' : Config) : Type 0 where
+  pub position : c'.position ≡ c.position
+  pub values : c'.values.items ≡ c.values.items
+  pub slots : c'.slots.items ≡ c.slots.items

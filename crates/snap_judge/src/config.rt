@@ -1,5 +1,9 @@
 //! `Config`: where a search stands in a history.
+ghost use Rattle.std.specs.Prelude.{IfOk};
+ghost use Rattle.snap_judge.specs.Kept.{IsSameConfig};
+
 use crate::operation::Operation;
+use std::alloc::AllocError;
 
 /// An event as a search sees it.
 #[derive(Drop)]
@@ -37,4 +41,44 @@ pub struct OpenUpdate {
     pub call: usize,
     pub word: u64,
     pub value: u64,
+}
+
+impl Config {
+    /// A copy.
+    pub fn copy(&self) -> Result<Config, AllocError>
+        ensures { IfOk result (λ c. IsSameConfig self.now c) }
+    {
+        Ok(Config {
+            position: self.position,
+            values: self.values.clone()?,
+            slots: self.slots.clone()?,
+        })
+    }
+}
+
+/// A configuration before the end of what the process at the place `ending` called, which has not
+/// taken place: it is reached by the first `depth` operations of an order, and each open update at
+/// a place before `next` that has to be tried has been.
+#[derive(Drop)]
+pub struct Node {
+    pub config: Config,
+    pub depth: usize,
+    pub next: usize,
+    pub ending: usize,
+}
+
+/// A configuration that a search has come to, and whether it is at the end of the history.
+#[derive(Drop)]
+pub struct Entered {
+    pub config: Config,
+    pub at_end: bool,
+}
+
+/// What a search has found: an order in which the operations take place, by the steps that call
+/// them; that nothing explains the history; or neither, within the bound.
+#[derive(Drop)]
+pub enum Found {
+    Explained(Vec<usize>),
+    Unexplained,
+    Undecided,
 }

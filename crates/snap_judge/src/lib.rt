@@ -5,6 +5,7 @@ ghost use Rattle.snap_judge.specs.Linearizable.{LinearizableFromTheBeginning};
 ghost use Rattle.snap_judge.specs.Steps.{HistoriesAreExplained};
 
 mod advance;
+mod branches;
 mod choices;
 mod config;
 mod history;

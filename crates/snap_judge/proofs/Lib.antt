@@ -18,3 +18,4 @@ pub mod CompleteMoves
 pub mod Choosing
 pub mod TakingUpdates
 pub mod Entering
+pub mod Searching

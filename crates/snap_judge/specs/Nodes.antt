@@ -1,14 +1,17 @@
 -- How far a search is: the nodes at which it has to choose, each with what it has tried there.
-use Rattle.std.specs.Prelude.{◌≡◌, ℕ, zero, suc, ◌-◌, ◌+◌, ◌<◌, ◌≤◌, ◌⊎◌, true, false, List, [], ◌∷◌, length, slice_index_or, take, replicate}
-use Rattle.std.specs.List.{All}
+use Rattle.std.specs.Prelude.{◌≡◌, ℕ, zero, suc, ◌-◌, ◌+◌, ◌<◌, ◌≤◌, ◌⊎◌, true, false, List, [], ◌∷◌, ◌++◌, length, slice_index_or, take, map, replicate}
+use Rattle.std.specs.List.{All, Contains}
 use Rattle.snap_judge.specs.declared.config.Step.{Step as KeptStep}
 use Rattle.snap_judge.specs.declared.config.Step.TheVariants as kept_step
 use Rattle.snap_judge.specs.declared.config.Slot.TheVariants as kept_slot
 use Rattle.snap_judge.specs.declared.config.Config.{Config}
 use Rattle.snap_judge.specs.declared.config.Node.{Node}
 use Rattle.snap_judge.specs.declared.config.Entered.{Entered}
-use Rattle.snap_judge.specs.Steps.{Slot, Free, CanBeExplained}
-use Rattle.snap_judge.specs.Kept.{Can, IsConfig, IsReached, IsSettled, IsStuck, steps_kept}
+use Rattle.snap_judge.specs.declared.config.Found.{Found}
+use Rattle.snap_judge.specs.declared.config.Found.TheVariants as found
+use Rattle.snap_judge.specs.declared.search.Trail.{Trail}
+use Rattle.snap_judge.specs.Steps.{Slot, Free, CanBeExplained, Explains, Move, taken}
+use Rattle.snap_judge.specs.Kept.{AreSteps, Can, IsConfig, IsReached, IsSameConfig, IsSettled, IsStuck, called_at, steps_kept}
 use Rattle.snap_judge.specs.Choices.{CanTaking, NotNowAt}
 
 -- The number of processes and of words that a search goes on with.
@@ -71,3 +74,55 @@ pub record HasTried (steps : List KeptStep) (node node' : Node) (order order' : 
   pub prefix : take node.depth order' ≡ take node.depth order
   pub deep : node.depth ≤ length order'
   pub tried : (Can steps e.config → ⊥) → IsTried steps node'
+
+-- The nodes of a search from the first on: their depths rise, and where nothing explains the rest from one of them,
+-- what is known behind those before it follows.
+pub record AreNodes (n w : ℕ) (steps : List KeptStep) (order : List ℕ) (nodes : List Node) : Type 0 where
+  pub each : All (IsNode n w steps order) nodes
+  pub rising : (s t : ℕ) (d : Node) → s ≤ t → t < length nodes →
+      (slice_index_or nodes s d).depth ≤ (slice_index_or nodes t d).depth
+  pub behind : (t : ℕ) (d : Node) → t < length nodes → (Can steps (slice_index_or nodes t d).config → ⊥) →
+      FailsBehind n w steps d nodes t
+
+-- The nodes are those of a search of these steps, and from what has failed nothing explains the rest.
+pub record IsTrail (steps : List KeptStep) (trail : Trail) : Type 0 where
+  pub are_steps : AreSteps trail.processes trail.words steps
+  pub nodes : AreNodes trail.processes trail.words steps trail.order.items trail.nodes.items
+  pub failed : All (λ (c : Config). Can steps c → ⊥) trail.failed.keys
+
+-- Nothing is left to try but what these nodes have not tried; without nodes, nothing explains the history.
+abbrev pub OnlyNodesLeft : (n w : ℕ) → List KeptStep → List Node → Type 0
+OnlyNodesLeft n w steps nodes =
+    (nodes ≡ [] → NothingExplains n w steps) × ((d : Node) → FailsBehind n w steps d nodes (length nodes))
+
+-- nothing but what the nodes of the trail have not tried
+abbrev pub NothingLeft : List KeptStep → Trail → Type 0
+NothingLeft steps trail = OnlyNodesLeft trail.processes trail.words steps trail.nodes.items
+
+-- The search has come to this by the order of the trail; where nothing explains the rest from there, nothing is left
+-- but what the nodes have not tried.
+pub record IsAt (steps : List KeptStep) (trail : Trail) (e : Entered) : Type 0 where
+  pub entered : IsEntered trail.processes trail.words steps trail.order.items e
+  pub left : (Can steps e.config → ⊥) → NothingLeft steps trail
+
+-- It was the last node of the trail, and what it has tried is known.
+pub record HasNode (steps : List KeptStep) (trail : Trail) (node : Node) : Type 0 where
+  pub nodes : AreNodes trail.processes trail.words steps trail.order.items (trail.nodes.items ++ node ∷ [])
+  pub tried : IsTried steps node
+
+-- The trail is of as many processes and words as before.
+pub record KeepsTrailCounts (trail trail' : Trail) : Type 0 where
+  pub processes : trail'.processes ≡ trail.processes
+  pub words : trail'.words ≡ trail.words
+
+-- One of these is the same as this configuration.
+abbrev pub HasSame : List Config → Config → Type 0
+HasSame configs c = (c' : Config) × Contains configs c' × IsSameConfig c' c
+
+-- What a search has found is so: the order explains the history, or nothing does.
+abbrev pub IsFound : (n w : ℕ) → List KeptStep → Found → Type 0
+IsFound n w steps (found.Explained order) =
+    (moves : List Move) × Explains moves (steps_kept steps) (replicate w 0) (replicate n Free)
+    × (taken moves ≡ map (called_at steps) order.items)
+IsFound n w steps found.Unexplained = NothingExplains n w steps
+IsFound n w steps found.Undecided = Unit {0}

@@ -46,6 +46,7 @@ pub fn try_next(
         (length node.old.config.values.items) steps.now }
     ensures same { OnOk result (node.new.config ≡ node.old.config) }
     ensures none { IfOk result (λ e. IfNone e (Can steps.now node.old.config → ⊥)) }
+    ensures kept { IfOk result (λ e. IfNone e (order.new.items ≡ order.old.items)) }
     ensures some { IfOk result (λ e. IfSome e (λ x. HasTried steps.now node.old node.new
         order.old.items order.new.items x)) }
 {

@@ -11,6 +11,7 @@ mod config;
 mod history;
 mod operation;
 mod scans;
+mod search;
 mod taking;
 
 pub use history::History;

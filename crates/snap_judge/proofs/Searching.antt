@@ -1,10 +1,10 @@
 -- What a search keeps of its nodes.
-use Rattle.std.proofs.Common.{◌≡◌, ℕ, zero, suc, ◌-◌, ◌+◌, ◌<◌, ◌≤◌, ◌⊎◌, inl, inr, List, [], ◌∷◌, ◌++◌, length, get_or}
-use Rattle.std.proofs.Common.{refl, sym, ◌∙◌, ap, subst, arith, map, take, drop, drop-cons, true, false, Bool, Option, Some, None, cond}
+use Rattle.std.proofs.Common.{◌≡◌, ℕ, zero, suc, ◌<◌, ◌≤◌, ◌⊎◌, inl, inr, List, [], ◌∷◌, ◌++◌, length, get_or}
+use Rattle.std.proofs.Common.{refl, sym, ◌∙◌, ap, subst, arith, map, take, drop, drop-cons, true, false, Bool, Option, Some, cond}
 use Rattle.std.specs.Prelude.{replicate}
 use Rattle.std.specs.List.{All, Contains, find}
 use Rattle.std.specs.HashSet.{HashSet, PutsKey}
-use Rattle.std.proofs.lemmas.Bool.{cases_eq, cases_lt}
+use Rattle.std.proofs.lemmas.Bool.{cases_lt}
 use Rattle.std.proofs.lemmas.List.{length-append, length-map, get_or_append_left, take-take, take_all, drop_all, append-nil, get_or_past}
 use Rattle.std.proofs.lemmas.List.{length-replicate, get_or-replicate}
 use Rattle.std.proofs.Math.Seq.{get_or-append_seam}
@@ -17,8 +17,8 @@ use Rattle.snap_judge.specs.declared.config.Slot.TheVariants as kept_slot
 use Rattle.snap_judge.specs.declared.config.Config.{Config}
 use Rattle.snap_judge.specs.declared.config.Node.{Node}
 use Rattle.snap_judge.specs.declared.config.Entered.{Entered}
-use Rattle.snap_judge.specs.Steps.{Step, Slot, Calls, Ends, Waits, Free, Open, CanBeExplained, Explains, Move, taken}
-use Rattle.snap_judge.specs.Kept.{Can, GoesOn, IsConfig, IsReached, IsSameConfig, IsSettled, IsStuck, KeepsCounts, MayNotPass}
+use Rattle.snap_judge.specs.Steps.{Step, Slot, Waits, Free, CanBeExplained, Explains, Move, taken}
+use Rattle.snap_judge.specs.Kept.{Can, GoesOn, IsConfig, IsReached, IsSettled, IsStuck, KeepsCounts, MayNotPass}
 use Rattle.snap_judge.specs.Kept.{AreSteps, IsStepOf, called_at, operation_of, rest_of, slot_of, slots_of, step_of_kept, steps_kept}
 use Rattle.snap_judge.specs.Nodes.{AreNodes, FailsBehind, HasCounts, HasSame, HasTried, IsEntered, IsNode, IsTried, NothingExplains, OnlyNodesLeft}
 use Rattle.snap_judge.proofs.SearchPass.{never_called}

@@ -1,16 +1,15 @@
 -- How far a search is: the nodes at which it has to choose, each with what it has tried there.
-use Rattle.std.specs.Prelude.{◌≡◌, ℕ, zero, suc, ◌-◌, ◌+◌, ◌<◌, ◌≤◌, ◌⊎◌, true, false, List, [], ◌∷◌, ◌++◌, length, slice_index_or, take, map, replicate}
+use Rattle.std.specs.Prelude.{◌≡◌, ℕ, zero, suc, ◌<◌, ◌≤◌, ◌⊎◌, true, false, List, [], ◌∷◌, ◌++◌, length, slice_index_or, take, map, replicate}
 use Rattle.std.specs.List.{All, Contains}
 use Rattle.snap_judge.specs.declared.config.Step.{Step as KeptStep}
 use Rattle.snap_judge.specs.declared.config.Step.TheVariants as kept_step
-use Rattle.snap_judge.specs.declared.config.Slot.TheVariants as kept_slot
 use Rattle.snap_judge.specs.declared.config.Config.{Config}
 use Rattle.snap_judge.specs.declared.config.Node.{Node}
 use Rattle.snap_judge.specs.declared.config.Entered.{Entered}
 use Rattle.snap_judge.specs.declared.config.Found.{Found}
 use Rattle.snap_judge.specs.declared.config.Found.TheVariants as found
 use Rattle.snap_judge.specs.declared.search.Trail.{Trail}
-use Rattle.snap_judge.specs.Steps.{Slot, Free, CanBeExplained, Explains, Move, taken}
+use Rattle.snap_judge.specs.Steps.{Free, CanBeExplained, Explains, Move, taken}
 use Rattle.snap_judge.specs.Kept.{AreSteps, Can, IsConfig, IsReached, IsSameConfig, IsSettled, IsStuck, called_at, steps_kept}
 use Rattle.snap_judge.specs.Choices.{CanTaking, NotNowAt}
 

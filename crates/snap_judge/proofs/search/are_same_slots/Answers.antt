@@ -1,5 +1,5 @@
 -- `are_same_slots` of snap_judge (src/search.rt).
-use Rattle.std.proofs.Common.{◌≡◌, arith}
+use Rattle.std.proofs.Common.{arith}
 use Rattle.std.proofs.lemmas.List.{ext_get_or}
 use Rattle.snap_judge.specs.declared.config.Slot.TheVariants as kept_slot
 use Rattle.snap_judge.proofs.search.are_same_slots.Goals as goal

@@ -1,5 +1,5 @@
 -- `descend` of snap_judge (src/search.rt).
-use Rattle.std.proofs.Common.{◌≡◌, ℕ, List, [], ◌∷◌, ◌++◌, length, subst, ap, take, ◌-◌, ◌∙◌}
+use Rattle.std.proofs.Common.{ℕ, List, length, subst, ap, take, ◌-◌, ◌∙◌}
 use Rattle.std.proofs.lemmas.List.{append-nil}
 use Rattle.snap_judge.specs.declared.config.Node.{Node}
 use Rattle.snap_judge.specs.Nodes.{AreNodes, FailsBehind}

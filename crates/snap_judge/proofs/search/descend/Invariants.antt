@@ -1,5 +1,5 @@
 -- `descend` of snap_judge (src/search.rt): what its loop keeps, and that nodes go.
-use Rattle.std.proofs.Common.{◌≡◌, length}
+use Rattle.std.proofs.Common.{length}
 use Rattle.snap_judge.specs.Nodes.{IsTrail, KeepsTrailCounts, NothingLeft}
 use Rattle.snap_judge.proofs.search.descend.Given as goal
 

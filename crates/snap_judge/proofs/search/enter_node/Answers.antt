@@ -1,9 +1,8 @@
 -- `enter_node` of snap_judge (src/search.rt).
 use Rattle.std.proofs.Common.{refl, rules, subst, sym}
 use Rattle.snap_judge.specs.declared.config.Node.{Node}
-use Rattle.snap_judge.specs.declared.config.Step.TheVariants as kept_step
-use Rattle.snap_judge.specs.Nodes.{AreNodes, OnlyNodesLeft}
-use Rattle.snap_judge.proofs.Searching.{entered_left, entered_nodes, no_end, same_fails}
+use Rattle.snap_judge.specs.Nodes.{AreNodes}
+use Rattle.snap_judge.proofs.Searching.{entered_nodes, no_end, same_fails}
 use Rattle.snap_judge.proofs.search.enter_node.Goals as goal
 
 pub returns-then-has_failed-clause-left : goal.returns-then-has_failed-clause-left

@@ -1,5 +1,5 @@
 -- `has_failed` of snap_judge (src/search.rt).
-use Rattle.std.proofs.Common.{◌≡◌, sym, ◌∙◌}
+use Rattle.std.proofs.Common.{sym}
 use Rattle.snap_judge.proofs.Searching.{found_there}
 use Rattle.snap_judge.proofs.search.has_failed.Goals as goal
 

@@ -1,5 +1,5 @@
 -- `retry` of snap_judge (src/search.rt).
-use Rattle.std.proofs.Common.{◌≡◌, ℕ, List, ◌∷◌, ◌++◌, [], length, sym, subst, ap, refl}
+use Rattle.std.proofs.Common.{ℕ, List, sym, subst}
 use Rattle.snap_judge.specs.Kept.{Can}
 use Rattle.snap_judge.specs.declared.config.Config.{Config}
 use Rattle.snap_judge.specs.Nodes.{AreNodes, OnlyNodesLeft}

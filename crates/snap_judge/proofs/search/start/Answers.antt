@@ -1,6 +1,6 @@
 -- `start` of snap_judge (src/search.rt).
-use Rattle.std.proofs.Common.{◌≡◌, ℕ, List, [], length, sym, subst, ap, refl}
-use Rattle.snap_judge.specs.Kept.{GoesOn, KeepsCounts}
+use Rattle.std.proofs.Common.{ℕ, List, [], sym, subst, refl}
+use Rattle.snap_judge.specs.Kept.{GoesOn}
 use Rattle.snap_judge.specs.declared.config.Config.{Config}
 use Rattle.snap_judge.specs.declared.config.Entered.{Entered}
 use Rattle.snap_judge.specs.Nodes.{OnlyNodesLeft}

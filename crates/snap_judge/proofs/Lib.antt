@@ -19,3 +19,5 @@ pub mod Choosing
 pub mod TakingUpdates
 pub mod Entering
 pub mod Searching
+pub mod KeptSteps
+pub mod Judging

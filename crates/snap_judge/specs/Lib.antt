@@ -5,3 +5,4 @@ pub mod Steps
 pub mod Kept
 pub mod Choices
 pub mod Nodes
+pub mod Judgement

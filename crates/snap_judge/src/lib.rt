@@ -8,13 +8,17 @@ mod advance;
 mod branches;
 mod choices;
 mod config;
+mod decisions;
 mod history;
+mod judgements;
 mod operation;
+mod prepass;
 mod scans;
 mod search;
 mod taking;
 
 pub use history::History;
+pub use judgements::{Judgement, judge};
 pub use operation::{Action, Operation};
 
 /// The moves that explain a history take a linearization of it, and each linearization is taken by

@@ -161,5 +161,5 @@ text_by : (b : Bool) (lines : List TextLine) (h : History) →
 text_by true lines h all = absurd cc
 text_by false lines h all = lines_by lines h all
 
-pub reads_histories : ReadsHistories
-reads_histories text h all = text_by (nat_lt 16777216 (length text)) (text_lines text) h all
+pub what_is_read : ReadsHistories
+what_is_read text h all = text_by (nat_lt 16777216 (length text)) (text_lines text) h all

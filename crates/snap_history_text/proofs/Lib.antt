@@ -2,3 +2,7 @@
 pub mod Noted
 pub mod Reading
 pub mod Follows
+pub mod Tokens
+pub mod FormsAgain
+pub mod Round
+mod Samples

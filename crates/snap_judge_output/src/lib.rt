@@ -1,8 +1,8 @@
 //! What is written of a judgement.
 #![tactic(auto)]
 
+mod judgement;
 mod operations;
 mod verdicts;
 
-pub use operations::push_linearizable;
-pub use verdicts::{push_not_linearizable, push_undecided};
+pub use judgement::judgement_text;

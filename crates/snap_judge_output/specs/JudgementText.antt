@@ -7,8 +7,8 @@ use Rattle.snap_semantics.specs.Report.{numbers_text}
 use Rattle.snap_semantics.specs.declared.event.Happening.TheVariants as what
 use Rattle.snap_judge.specs.History.{History}
 use Rattle.snap_judge.specs.Linearizable.{event}
-use Rattle.snap_judge.specs.declared.judgement.Judgement.{Judgement}
-use Rattle.snap_judge.specs.declared.judgement.Judgement.TheVariants as judgement
+use Rattle.snap_judge.specs.declared.judgements.Judgement.{Judgement}
+use Rattle.snap_judge.specs.declared.judgements.Judgement.TheVariants as judgement
 use Rattle.snap_judge.specs.declared.operation.Action.{Action}
 use Rattle.snap_judge.specs.declared.operation.Action.TheVariants as action
 use Rattle.snap_judge.specs.declared.operation.Operation.{Operation}

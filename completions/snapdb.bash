@@ -1,13 +1,12 @@
 # Completion of snapdb for bash: source this file, or put it into a folder of bash-completion under the name snapdb.
+# Where nothing is offered, bash offers the names of files.
 _snapdb() {
-    local word=${COMP_WORDS[COMP_CWORD]}
+    local word=${COMP_WORDS[COMP_CWORD]} before=${COMP_WORDS[COMP_CWORD - 1]}
     COMPREPLY=()
-    if [ "$COMP_CWORD" -eq 1 ]; then
-        mapfile -t COMPREPLY < <(compgen -f -W "--shipped --help" -- "$word")
-    elif [ "${COMP_WORDS[COMP_CWORD - 1]}" = --shipped ]; then
+    if [ "$before" = --shipped ]; then
         mapfile -t COMPREPLY < <(compgen -W "seq bit multi" -- "$word")
-    else
-        mapfile -t COMPREPLY < <(compgen -f -- "$word")
+    elif [ "$COMP_CWORD" -eq 1 ] && [ "${word#-}" != "$word" ]; then
+        mapfile -t COMPREPLY < <(compgen -W "--shipped --help" -- "$word")
     fi
 }
-complete -o filenames -F _snapdb snapdb
+complete -o default -o bashdefault -F _snapdb snapdb

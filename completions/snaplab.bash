@@ -1,22 +1,28 @@
 # Completion of snaplab for bash: source this file, or put it into a folder of bash-completion under the name snaplab.
+# Where nothing is offered, as behind '<', bash offers the names of files.
 _snaplab() {
-    local word=${COMP_WORDS[COMP_CWORD]}
+    local word=${COMP_WORDS[COMP_CWORD]} before=${COMP_WORDS[COMP_CWORD - 1]}
     local commands="check lint assemble list upgrade run trace debug audit certify batch survey live help"
-    COMPREPLY=()
-    if [ "$COMP_CWORD" -eq 1 ]; then
-        mapfile -t COMPREPLY < <(compgen -W "$commands -h --help -V --version" -- "$word")
-    elif [ "${COMP_WORDS[1]}" = help ]; then
-        [ "$COMP_CWORD" -ne 2 ] || mapfile -t COMPREPLY < <(compgen -W "$commands" -- "$word")
-    elif [ "${COMP_WORDS[COMP_CWORD - 1]}" = --shipped ]; then
-        mapfile -t COMPREPLY < <(compgen -W "seq bit multi" -- "$word")
-    else
-        local options="--explain -h --help"
-        case ${COMP_WORDS[1]} in
-            run | trace | debug | audit | certify | batch) options="--shipped $options" ;;
-            survey) options="--shipped --strict $options" ;;
-            live) options="--shipped --limit $options" ;;
-        esac
-        mapfile -t COMPREPLY < <(compgen -W "$options" -- "$word")
+    local offered="--explain -h --help"
+    if [ "$word" = "=" ]; then
+        word=
+    elif [ "$before" = "=" ]; then
+        before=${COMP_WORDS[COMP_CWORD - 2]}
     fi
+    case ${COMP_WORDS[1]} in
+        help) offered= ;;
+        run | trace | debug | audit | certify | batch) offered="--shipped $offered" ;;
+        survey) offered="--shipped --strict $offered" ;;
+        live) offered="--shipped --limit $offered" ;;
+    esac
+    case $COMP_CWORD,${COMP_WORDS[1]} in
+        1,*) offered="$commands --explain -h --help -V --version" ;;
+        2,help) offered=$commands ;;
+    esac
+    case $before in
+        *[\<\>]* | --limit) offered= ;;
+        --shipped) offered="seq bit multi" ;;
+    esac
+    mapfile -t COMPREPLY < <(compgen -W "$offered" -- "$word")
 }
-complete -F _snaplab snaplab
+complete -o default -o bashdefault -F _snaplab snaplab

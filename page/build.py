@@ -1,12 +1,15 @@
 #!/usr/bin/env python3
 """Makes page/snaplab.html, one file, of page/src, the documents and examples that it shows, and the module.
 
+The scripts are modules; here they become one script, and the page allows that script alone, by its hash.
+
     page/build.py --module PATH/snap_page.wasm     with this module
     page/build.py                                  with the module that is inside the page already
     page/build.py --check                          says whether the page is what would be made
 """
 import argparse
 import base64
+import hashlib
 import html
 import json
 import os
@@ -16,6 +19,7 @@ import sys
 HERE = os.path.dirname(os.path.abspath(__file__))
 TOP = os.path.dirname(HERE)
 PAGE = os.path.join(HERE, "snaplab.html")
+PLACE = re.compile(r"<!-- ([a-z.\s]+?) -->")
 MODULE = re.compile(r'<script type="text/plain" id="module">\n?([A-Za-z0-9+/=\n]*)</script>')
 
 
@@ -62,26 +66,51 @@ def parts(example, listing=None):
     text = read("examples", example, "stdin")
     if listing:
         return read("examples", listing), text
-    listing, schedule = re.split(r"(?m)^%\n", text)
-    return listing, schedule
+    return tuple(re.split(r"(?m)^%\n", text)[:2])
 
 
 def changed(change, both):
     """Listing and schedule, with each pattern replaced."""
     if isinstance(change, str):
         return parts(change)
+    listing, schedule = both
+    both = read("examples", change["listing"]) if "listing" in change else listing, schedule + change.get("add", "")
     for pattern, text in change.items():
+        if pattern in ("listing", "add"):
+            continue
         flags = re.MULTILINE | (re.DOTALL if pattern.startswith("(?s)") else 0)
         both = tuple(re.sub(pattern.removeprefix("(?s)"), text, one, flags=flags) for one in both)
     return both
 
 
+def items_of(schedule):
+    """The items of a schedule, one by one, and its shape."""
+    found = []
+    for line in schedule.split("\n"):
+        words = line.partition("#")[0].strip()
+        who, _, times = words.partition("*")
+        found += [who.strip()] * int(times) if times else [words] if words else []
+    return found
+
+
+def told_with(both, lines):
+    """A lesson's schedule with other comments, which are its captions: the items are those of the example."""
+    if not lines:
+        return both
+    listing, schedule = both
+    shape = re.search(r"(?m)^shape.*$", schedule)[0]
+    told = "\n".join([shape, *lines]) + "\n"
+    if items_of(told) != items_of(schedule):
+        sys.exit(f"these are not the items of the example: {lines}")
+    return listing, told
+
+
 def an_idea(idea, told):
-    both = parts(idea["example"], idea.get("listing"))
+    both = told_with(parts(idea["example"], idea.get("listing")), idea.get("lines"))
     other = changed(idea["change"], both)
     if other == both:
         sys.exit(f"idea {idea['section']} changes nothing")
-    return {**told, "listing": both[0], "schedule": both[1], "shows": idea["shows"],
+    return {**told, "listing": both[0], "schedule": both[1], "shows": idea["shows"], "start": idea.get("start", 0),
             "change": {"text": told["change"], "listing": other[0], "schedule": other[1], "shows": idea["changed"]}}
 
 
@@ -90,7 +119,8 @@ def an_exercise(exercise):
         listing, schedule = read("examples", exercise["file"]), exercise["schedule"]
     else:
         listing, schedule = changed(exercise.get("change", {}), parts(exercise["example"]))[0], exercise["cut"]
-    return {"title": exercise["title"], "listing": listing, "schedule": schedule, "goal": exercise["goal"]}
+    goal = {**exercise["goal"], "listing": listing}
+    return {"title": exercise["title"], "listing": listing, "schedule": schedule, "goal": goal}
 
 
 def remedies():
@@ -112,21 +142,24 @@ def choices():
     }
 
 
-def menu():
-    """The options of the menu, numbered; the first idea is chosen."""
-    lines, number = [], 0
-    for label, group in choices().items():
-        lines.append(f'<optgroup label="{label}">')
-        for k, one in enumerate(group):
-            chosen = " selected" if label == "Gallery" and k == 0 else ""
-            lines.append(f'<option value="{number}"{chosen}>{html.escape(one["title"], quote=False)}</option>')
-            number += 1
-        lines.append("</optgroup>")
-    return "\n".join(lines)
+def script(names):
+    """Modules as one script: without their imports, and without the word 'export'."""
+    text = "\n".join(source(name) for name in names.split())
+    text = re.sub(r"(?ms)^import [^;]*? from '\./[a-z]+\.js';\n", "", text)
+    return re.sub(r"(?m)^export ", "", text)
+
+
+def page_script():
+    """What the page's own script is: the one that is no data."""
+    return re.search(r"(?s)<script>(.*?)</script>", source("page.html"))[1]
 
 
 def data():
-    told = {"choices": sum(choices().values(), []), "remedies": remedies()}
+    told, groups, count = {"choices": sum(choices().values(), []), "remedies": remedies()}, [], 0
+    for name, group in choices().items():
+        groups.append([name, list(range(count, count + len(group)))])
+        count += len(group)
+    told.update(groups=groups, first=dict(groups)["Gallery"][0])
     return json.dumps(told, ensure_ascii=False, sort_keys=True, separators=(",", ":")).replace("<", "\\u003c")
 
 
@@ -138,12 +171,13 @@ def built(module):
             return "\n".join(module[k:k + 120] for k in range(0, len(module), 120))
         if names == "data":
             return data()
-        if names == "menu":
-            return menu()
+        if names == "script hash":
+            said = PLACE.sub(put, page_script())
+            return f"'sha256-{base64.b64encode(hashlib.sha256(said.encode()).digest()).decode()}'"
         if names.endswith(".txt"):
             return html.escape(source(names), quote=False)
-        return "\n".join(source(name) for name in names.split())
-    return re.sub(r"<!-- ([a-z.\s]+?) -->", put, source("page.html")) + "\n"
+        return script(names) if names.endswith(".js") else source(names)
+    return PLACE.sub(put, source("page.html")) + "\n"
 
 
 def module_inside():

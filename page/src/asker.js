@@ -1,68 +1,116 @@
-// The page's side of the worker: one question at a time, and of several of one kind the newest alone.
+// The page's side of a worker: one question at a time, and of several of one kind the newest alone. There are two: one
+// for what is shown, one aside for pictures and for what a step would do, so that a step never waits for these.
+import {MEMORY, OUTPUT, STOPPED, TRAPPED} from './text.js';
+import {$, say} from './elements.js';
 
-const SLOW = 100, DOING = {start: 'starting', audit: 'auditing', draw: 'drawing'};
-const asker = {worker: null, busy: null, waiting: new Map(), failed: '', pace: 0};
+const SLOW = 100;
+const DOING = {start: 'starting', audit: 'auditing', draw: 'drawing'};
+const workerCode = new Blob([$('worker').textContent], {type: 'text/javascript'});
+export const failure = {text: ''};
 
-function startWorker() {
-    const code = new Blob([$('worker').textContent], {type: 'text/javascript'});
-    asker.worker = new Worker(URL.createObjectURL(code));
-    asker.worker.onmessage = ({data}) => endQuestion(data);
-    asker.worker.onerror = event => endQuestion({code: TRAPPED, text: event.message});
-    send({kind: 'start', request: $('module').textContent.trim(), done: checkStart});
+export class Asker {
+    constructor(name) {
+        this.name = name;
+        /** @type {Worker | null} */
+        this.worker = null;
+        this.busy = null;
+        this.waiting = new Map();
+        this.pace = 0;
+        this.items = () => 0;
+    }
+
+    start() {
+        try {
+            this.worker = new Worker(URL.createObjectURL(workerCode));
+        } catch (error) {
+            return tellFailure(String(error));
+        }
+        this.worker.onmessage = ({data}) => this.end(data);
+        this.worker.onerror = event => this.end({code: TRAPPED, text: event.message || 'its worker does not start'});
+        const done = ({code, text}) => code === TRAPPED && tellFailure(text);
+        this.send({kind: 'start', request: $('module').textContent.trim(), done});
+    }
+
+    // Asks for a task of the worker; answers null where a newer question has taken its place.
+    ask(kind, request, key = kind) {
+        return new Promise(done => {
+            this.waiting.get(key)?.done(null);
+            this.waiting.set(key, {kind, request, done});
+            if (!this.worker && !failure.text) this.start();
+            this.next();
+        });
+    }
+
+    next() {
+        if (this.busy || failure.text || !this.waiting.size) return;
+        const key = this.waiting.has('look') ? 'look' : this.waiting.keys().next().value;
+        const question = this.waiting.get(key);
+        this.waiting.delete(key);
+        this.send(question);
+    }
+
+    send({kind, request, done}) {
+        const timer = setInterval(() => this.showProgress(), SLOW);
+        this.busy = {kind, done, begun: performance.now(), timer};
+        this.worker.postMessage({kind, request});
+    }
+
+    end(answer) {
+        const {begun, timer, done} = this.busy, total = answer.report?.total;
+        this.busy = null;
+        clearInterval(timer);
+        $('progress').hidden = true;
+        if (total > 1000) this.pace = (performance.now() - begun) / total;
+        done(answer);
+        if (answer.code === STOPPED) this.start();
+        else this.next();
+    }
+
+    // The bar has the share of the time that so many items took before; with nothing to go by it moves to and fro.
+    showProgress() {
+        const [bar, words] = $('progress').children, spent = performance.now() - this.busy.begun;
+        const expected = this.pace * this.items();
+        if (expected > spent) bar.value = spent / expected;
+        else bar.removeAttribute('value');
+        words.textContent = `${DOING[this.busy.kind] ?? 'running'}, ${(spent / 1000).toFixed(1)} s`;
+        $('progress').hidden = this.busy.kind === 'peek';
+    }
+
+    stop() {
+        if (!this.busy || this.busy.kind === 'start') return;
+        this.worker.terminate();
+        this.end({code: STOPPED, text: ''});
+    }
+
+    get idle() {
+        return Boolean(failure.text) || !this.busy && !this.waiting.size;
+    }
 }
 
-function checkStart({code, text}) {
-    if (code !== TRAPPED) return;
-    asker.failed = text;
-    say(`The module cannot run here (${text}). It needs 64-bit WebAssembly: Chromium 133, Firefox 134, or later.`);
+export const asker = new Asker('shown'), aside = new Asker('aside');
+export const stopAsking = () => [asker, aside].forEach(one => one.stop());
+
+// Without the module nothing works, and nothing looks as if it did.
+function tellFailure(text) {
+    failure.text = text || 'no reason is told';
+    $('broken-why').textContent = `(${failure.text})`;
+    $('broken').hidden = false;
+    const controls = 'header button, section button, main button, footer button, input, select, textarea';
+    for (const control of document.querySelectorAll(controls)) Object.assign(control, {disabled: true});
+    for (const part of document.querySelectorAll('main, footer, header, #hello')) Object.assign(part, {inert: true});
+    document.body.classList.add('dead');
+    say('');
 }
 
-// Asks for a task of the worker; answers null where a newer question has taken its place.
-function ask(kind, request, key = kind) {
-    return new Promise(done => {
-        asker.waiting.get(key)?.done(null);
-        asker.waiting.set(key, {kind, request, done});
-        askNext();
-    });
+// What was refused: its code, its number, and the part that it is of.
+export function readRefusal({code, text}) {
+    const page = {[MEMORY]: 'The module found no memory for this.',
+        [STOPPED]: 'Stopped: what is shown is the state before.',
+        [TRAPPED]: `The module stopped (${text.trim()}), and was started anew.`}[code];
+    if (page) return {part: 'page', text: page};
+    const [, name, , number = 0] = text.trim().split(' ');
+    const part = {L: 'listing', P: 'listing', S: 'schedule', W: 'schedule'}[name?.[0]] ?? 'page';
+    return {part, text: text.trim(), name, number: Number(number)};
 }
 
-function askNext() {
-    if (asker.busy || asker.failed || !asker.waiting.size) return;
-    const key = asker.waiting.has('look') ? 'look' : asker.waiting.keys().next().value, next = asker.waiting.get(key);
-    asker.waiting.delete(key);
-    send(next);
-}
-
-function send({kind, request, done}) {
-    asker.busy = {kind, done, begun: performance.now(), timer: setInterval(showProgress, SLOW)};
-    asker.worker.postMessage({kind, request});
-}
-
-function endQuestion(answer) {
-    const {begun, timer, done} = asker.busy, total = answer.report?.total;
-    asker.busy = null;
-    clearInterval(timer);
-    $('progress').hidden = true;
-    if (total > 1000) asker.pace = (performance.now() - begun) / total;
-    done(answer);
-    if (answer.code === STOPPED) startWorker();
-    else askNext();
-}
-
-// The bar has the share of the time that so many items took before; with nothing to go by it moves to and fro.
-function showProgress() {
-    const [bar, words] = $('progress').children, spent = performance.now() - asker.busy.begun;
-    const expected = asker.pace * (state.items?.total ?? 0);
-    if (expected > spent) bar.value = spent / expected;
-    else bar.removeAttribute('value');
-    words.textContent = `${DOING[asker.busy.kind] ?? 'running'}, ${(spent / 1000).toFixed(1)} s`;
-    $('progress').hidden = false;
-}
-
-function stopAsking() {
-    if (!asker.busy) return;
-    asker.worker.terminate();
-    endQuestion({code: STOPPED, text: ''});
-}
-
-const isSettled = () => Boolean(asker.failed) || !asker.busy && !asker.waiting.size && !state.timer;
+export const isOutput = answer => answer?.code === OUTPUT;

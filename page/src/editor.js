@@ -1,6 +1,9 @@
-// A text with a margin: lines have marks, badges and colours. A long text is shown in part, and cannot be edited there.
+// A text with a margin: lines have marks, badges and colours. A line that is too long for the pane goes on below
+// itself, and its row of the margin is as high. A long text is shown in part, and cannot be edited there.
+import {$, fill, make, within} from './elements.js';
 
-const MOST_LINES = 1500, SHOWN_LINES = 40, EDGE = 8, MOST_LETTERS = 300000, SHOWN_LETTERS = 2000;
+const MOST_LINES = 1500, EDGE = 8, ROOM = 42, MOST_LETTERS = 300000, SHOWN_LETTERS = 2000;
+export const SHOWN_LINES = 40;
 
 // Where each line of a text begins, and where one behind the last would: a long text is not cut into all its lines.
 function startsOf(text) {
@@ -9,25 +12,38 @@ function startsOf(text) {
     return starts;
 }
 
-class Editor {
+export class Editor {
     constructor(root, label, onInput) {
         this.root = root;
-        this.area = make('textarea', {ariaLabel: label, spellcheck: false, autocapitalize: 'off', wrap: 'off'});
+        this.area = make('textarea', {ariaLabel: label, spellcheck: false, autocapitalize: 'off'});
         this.gutter = make('div', {className: 'gutter', tabIndex: 0, role: 'listbox', ariaLabel: `Margin: ${label}`});
-        this.back = make('div', {ariaHidden: 'true'});
-        this.first = this.active = 0;
+        this.back = make('div', {className: 'back', ariaHidden: 'true'});
+        this.first = this.active = this.columns = 0;
+        this.seen = [-1];
+        this.part = [];
+        this.starts = [0];
+        this.text = this.letter = null;
+        this.onmark = null;
         this.area.oninput = () => onInput(this.area.value);
         root.append(this.gutter, make('div', {className: 'code'}, this.back, this.area));
         this.gutter.onclick = event => {
-            this.activate([...this.gutter.children].indexOf(event.target.closest('[role=option]')));
+            const row = event.target.closest('[role=option]');
+            if (!row) return;
+            this.activate([...this.gutter.children].indexOf(row));
             this.onmark?.(this.active + this.first);
         };
-        this.gutter.onkeydown = event => {
-            const way = {ArrowUp: -1, ArrowDown: 1}[event.key];
-            if (!way) return;
-            event.preventDefault();
-            this.activate(this.active + way);
-        };
+        this.gutter.onkeydown = event => this.pressed(event);
+        new ResizeObserver(() => this.fit()).observe(this.back);
+    }
+
+    // Keys of the margin: up and down choose a line, Enter and Space mark it.
+    pressed(event) {
+        const way = {ArrowUp: -1, ArrowDown: 1}[event.key];
+        if (!way && event.key !== 'Enter' && event.key !== ' ') return;
+        event.preventDefault();
+        event.stopPropagation();
+        if (way) this.activate(this.active + way);
+        else this.onmark?.(this.active + this.first);
     }
 
     // Shows a text, of a long one the lines around this one. They stay until this one comes near to an end of them.
@@ -41,41 +57,71 @@ class Editor {
         Object.assign(this, {text, first});
         const lines = long ? Math.min(count, SHOWN_LINES) : count, letters = long ? SHOWN_LETTERS : Infinity;
         const line = k => text.slice(starts[k], Math.min(starts[k + 1] - 1, starts[k] + letters));
-        const part = Array.from({length: lines}, (_, k) => line(first + k)), shown = part.join('\n');
+        this.part = Array.from({length: lines}, (_, k) => line(first + k));
+        const shown = this.part.join('\n');
         this.area.readOnly = long;
         if (this.area.value !== shown) this.area.value = shown;
-        const longest = Math.max(...part.map(line => line.length));
-        this.area.style = `--lines: ${part.length}; --letters: ${longest + 1}`;
-        this.setRows(part.length);
+        this.setRows(lines);
+        this.part.forEach((text, k) => {
+            const row = this.back.children[k];
+            if (row.firstChild?.data === text) return;
+            row.textContent = text;
+            this.measure(k);
+        });
     }
 
-    // The margin has as many rows as there are lines shown.
+    // The margin has as many rows as there are lines shown, and the text behind as many lines.
     setRows(count) {
-        const rows = this.gutter.children, id = () => `${this.root.id}-${rows.length}`;
-        while (rows.length > count) this.gutter.lastChild.remove();
-        while (rows.length < count) this.gutter.append(make('div', {role: 'option', id: id()}));
+        const {gutter, back} = this, id = () => `${this.root.id}-${gutter.children.length}`;
+        for (const rows of [gutter, back]) while (rows.children.length > count) rows.lastChild.remove();
+        while (gutter.children.length < count) gutter.append(make('div', {role: 'option', id: id()}));
+        while (back.children.length < count) back.append(make('div'));
+    }
+
+    // A row is as high as its line, which is measured where it may be too long for the pane.
+    measure(k) {
+        const row = this.gutter.children[k], text = this.part[k];
+        const short = text.length <= this.columns && /^[ -~]*$/.test(text);
+        const height = short ? '' : `${this.back.children[k].offsetHeight}px`;
+        if (row.style.height !== height) row.style.height = height;
+    }
+
+    fit() {
+        const letter = this.letter ??= make('span', {className: 'letter'}, 'x'.repeat(50));
+        this.back.after(letter);
+        const wide = letter.offsetWidth / 50;
+        letter.remove();
+        if (!wide) return;
+        this.columns = Math.floor((this.back.clientWidth - 13) / wide);
+        this.part.forEach((_, k) => this.measure(k));
+        this.reveal(...this.seen);
     }
 
     // What stands in the margin, for each text line its children, their key and what is read out; and coloured lines.
     mark(told, colours) {
-        const rows = [...this.gutter.children];
-        rows.forEach((row, k) => {
-            const {key, children, label, numbered} = told(k + this.first);
+        const names = new Map();
+        for (const [line, name] of colours) names.set(line, `${names.get(line) ?? ''} ${name}`);
+        [...this.gutter.children].forEach((row, k) => {
+            const {key, children, label, numbered} = told(k + this.first), name = names.get(k + this.first) ?? '';
             fill(row, key, children);
-            row.className = `${numbered ? 'numbered' : ''} ${k === this.active ? 'active' : ''}`;
+            const className = `${numbered ? 'numbered' : ''} ${k === this.active ? 'active' : ''}${name}`;
+            if (row.className !== className) row.className = className;
             if (row.ariaLabel !== label) row.ariaLabel = label;
+            if (this.back.children[k].className !== name) this.back.children[k].className = name;
         });
-        const shown = colours.map(([line, name]) => [line - this.first, name]).filter(([row]) => rows[row]);
-        fill(this.back, shown.join(), () => shown.map(([row, className]) =>
-            make('i', {className, style: `top: calc(${row} * var(--line-height))`})));
     }
 
-    // Scrolls a line into view, but not under the hands of one who types.
-    reveal(line) {
-        const row = this.gutter.children[line - this.first], {root} = this;
-        if (!row || document.activeElement === this.area || root.scrollHeight <= root.clientHeight) return;
-        const over = root.scrollTop - row.offsetTop, under = 2 * row.offsetHeight - over - root.clientHeight;
-        root.scrollTop += under > 0 ? under : over > 0 ? -over : 0;
+    // Scrolls a line into view, and if both fit another one too, but not under the hands of one who types.
+    reveal(line, other = line) {
+        this.seen = [line, other];
+        const {root} = this, rows = [line, other].map(each => this.gutter.children[each - this.first]);
+        const [row = rows[1], more = row] = rows, room = root.clientHeight;
+        if (!row || document.activeElement === this.area || root.scrollHeight <= room) return;
+        const near = Math.abs(row.offsetTop - more.offsetTop) < room - ROOM ? more : row;
+        const top = Math.min(row.offsetTop, near.offsetTop);
+        const end = Math.max(row.offsetTop + row.offsetHeight, near.offsetTop + near.offsetHeight) + ROOM / 2;
+        if (top < root.scrollTop) root.scrollTop = top;
+        else if (end > root.scrollTop + room) root.scrollTop = end - room;
     }
 
     activate(line) {
@@ -87,3 +133,6 @@ class Editor {
         this.gutter.setAttribute('aria-activedescendant', row.id);
     }
 }
+
+export const isTyping = () => ['TEXTAREA', 'INPUT'].includes(document.activeElement?.tagName);
+export const timelineFocus = () => $('timeline').focus({preventScroll: true});

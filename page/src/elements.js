@@ -1,26 +1,41 @@
 // Small helpers over the document.
+import {same} from './text.js';
 
 const LONG_TEXT = 20, MOST_MARKED = 3;     // of a long text so many words are marked each, else all of it
-const $ = id => document.getElementById(id);
-const data = JSON.parse($('data').textContent);
-const within = (number, least, most) => Math.min(Math.max(number, least), most);
-const say = text => { $('note').textContent = text; };
+const NOTE_STAYS = 12000;                   // a note goes at the next click or key, or after so many milliseconds
+
+/** @param {string} id @returns {any} */
+export const $ = id => document.getElementById(id);
+export const data = JSON.parse($('data').textContent);
+export const within = (number, least, most) => Math.min(Math.max(number, least), most);
+const note = {timer: 0};
+
+export function say(text) {
+    $('note').textContent = text;
+    clearTimeout(note.timer);
+    if (text) note.timer = setTimeout(say, NOTE_STAYS, '');
+}
 
 // An element with properties and children.
-function make(tag, properties = {}, ...children) {
+/** @param {string} tag @param {any} properties @param {...any} children @returns {any} */
+export function make(tag, properties = {}, ...children) {
     const element = Object.assign(document.createElement(tag), properties);
     element.append(...children);
     return element;
 }
 
 // A process's number in its colour; odd ones are round and even ones square.
-const badge = (who, more = '') =>
+export const badge = (who, more = '') =>
     make('span', {className: `badge ${who % 2 ? '' : 'even'} ${more}`, style: `--p: var(--p${who % 8})`}, String(who));
 
-// A printed text, old words beside new ones; all of it is marked where their count differs, and where many differ.
-// There may be no older text.
-function compared(older, newer) {
-    if (older === undefined || older === newer) return [newer];
+// A printed text, the words of one item before beside those that the item made of them; all of it is marked where
+// their count differs, and where many differ. What was another one at the position shown before, and is not of this
+// item, is underlined. There may be no older text.
+export function compared(older, newer, since = undefined, item = 0) {
+    if (older === undefined || older === newer) {
+        if (since === undefined || since === newer) return [newer];
+        return [make('span', {className: 'since', title: `was ${since} at item ${item}`}, newer)];
+    }
     const before = older.split(' '), after = newer.split(' ');
     if (before.length !== after.length) return [changed(older, newer)];
     const news = after.filter((word, k) => word !== before[k]).length;
@@ -32,9 +47,10 @@ function compared(older, newer) {
 const changed = (older, newer) =>
     make('span', {className: 'changed'}, make('s', {}, older), '\u2192', make('b', {}, newer));
 
-// Puts children into an element, where they are not there already: 'key' says what they show.
-function fill(element, key, children) {
-    if (element.shown === key) return;
-    element.shown = key;
+// Puts children into an element, where they are not there already: the key, a list, says what they show.
+const shown = new WeakMap();
+export function fill(element, key, children) {
+    if (shown.has(element) && same(shown.get(element), key)) return;
+    shown.set(element, key);
     element.replaceChildren(...children());
 }

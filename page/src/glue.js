@@ -1,11 +1,13 @@
 // Bytes into the module, bytes out of it, and nothing else. Runs in the worker.
+import {MEMORY, REFUSED, SMALL, TRAPPED} from './text.js';
 
-class Glue {
+export class Glue {
     constructor(module) {
         this.module = module;
     }
 
     start() {
+        /** @type {any} */
         this.instance = new WebAssembly.Instance(this.module, {}).exports;
         this.room = this.roomLength = 0n;
     }

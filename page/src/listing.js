@@ -1,15 +1,20 @@
 // The two texts: the listing, with each process's place in its margin, and the schedule, with the position.
+import {lineOf} from './text.js';
+import {$, badge, data, fill, make, say} from './elements.js';
+import {Editor, SHOWN_LINES} from './editor.js';
+import {change, state, toggle} from './state.js';
 
-const MOST_BADGES = 3;
-const listingEditor = new Editor($('listing'), 'Listing', listing => change({listing}));
-const scheduleEditor = new Editor($('schedule'), 'Schedule', schedule => change({schedule}));
+const MOST_BADGES = 3, MOST_COMPARED = 2000;
+export const listingEditor = new Editor($('listing'), 'Listing', listing => change({listing}, {typed: 'listing'}));
+export const scheduleEditor = new Editor($('schedule'), 'Schedule',
+    schedule => change({schedule}, {typed: 'schedule'}));
 listingEditor.onmark = toggleBreak;
 
-function showTexts() {
+export function showTexts() {
     listingEditor.show(state.listing);
     scheduleEditor.show(state.schedule, positionLine());
-    if (state.report) showMargins();
     for (const part of ['listing', 'schedule']) showRefusal(part);
+    showMargins();
 }
 
 // The text line of the last item.
@@ -20,22 +25,32 @@ function positionLine() {
 }
 
 // The process of the last item.
-const lastProcess = (report = state.report) => report.processes[state.last.split(' ')[0] - 1];
+export const lastProcess = (report = state.report) => report?.processes[Number(state.last.split(' ')[0]) - 1];
+
+// The text line that the last item executed, and that at which its process stands now.
+function linesOfLast() {
+    const {lines, before, last} = state, lineAt = at => lines.get(at)?.place ?? -1;
+    const stepped = before && !/ (called|skipped|crashed)/.test(last);
+    return [stepped ? lineAt(lastProcess(before)?.at) : -1, lineAt(lastProcess()?.at)];
+}
 
 function showMargins() {
-    const {lines, report, before, last} = state, bad = badLines(), here = positionLine();
-    const rows = new Map(lines.values().map(line => [line.place, line])), lineAt = at => lines.get(at)?.place ?? -1;
-    const places = report.processes.flatMap(({who, at, link}) => [[at, who, ''], [link, who, 'link']]);
-    const stepped = before?.at === report.at - 1 && !/ (called|skipped|crashed)/.test(last);
-    const executed = stepped ? lineAt(lastProcess(before)?.at) : -1, now = lineAt(lastProcess()?.at);
-    const red = part => bad[part].map(line => [line, 'bad']);
-    listingEditor.mark(place => listingRow(rows.get(place), places), [[executed, 'now'], ...red('listing')]);
+    const {lines, report} = state, bad = badLines(), here = positionLine(), edited = editedLines();
+    const rows = new Map([...lines.values()].map(line => [line.place, line]));
+    const stale = Boolean(state.refusal), processes = stale ? [] : report?.processes ?? [];
+    const places = processes.flatMap(({who, at, link}) => [[at, who, ''], [link, who, 'link']]);
+    const [executed, now] = linesOfLast();
+    const named = part => [...edited[part].map(line => [line, 'edited']), ...bad[part].map(line => [line, 'bad'])];
+    const ran = stale ? [] : [[executed, 'now']];
+    listingEditor.mark(place => listingRow(place, rows.get(place), places), [...ran, ...named('listing')]);
     scheduleEditor.mark(line => {
-        const text = line !== here ? '' : countOf(state);
-        return {key: text, children: () => [text], label: text && `item ${state.at} is here`};
-    }, [[here, 'now'], ...red('schedule')]);
-    scheduleEditor.reveal(here);
-    listingEditor.reveal(now < 0 ? executed : now);
+        const text = line !== here || stale ? '' : countOf(state), at = text && `item ${state.at} is here; `;
+        return {key: [text, line], children: () => text ? [text] : [make('small', {}, String(line + 1))],
+            label: `${at}line ${line + 1}: ${scheduleEditor.part[line - scheduleEditor.first]}`};
+    }, [...stale ? [] : [[here, 'now']], ...named('schedule')]);
+    scheduleEditor.reveal(bad.schedule[0] ?? here);
+    if (bad.listing.length) listingEditor.reveal(bad.listing[0]);
+    else listingEditor.reveal(executed < 0 ? now : executed, now);
 }
 
 // How many of a line's items are behind the position.
@@ -45,19 +60,50 @@ function countOf({items, at}) {
     return count > 1 ? `\u25B6${at - items.from[k]}/${count}` : '\u25B6';
 }
 
-// A numbered line, with the processes that are here, and those that return here.
-function listingRow(line, places) {
-    if (!line) return {key: '', children: () => [], label: ''};
-    const {number, text} = line, stop = state.marks.has(`line ${number}`);
-    const here = places.filter(([at]) => at === number);
+const marksAt = number => [...state.marks].filter(mark => `${mark} `.startsWith(`line ${number} `));
+
+// A line of the listing, with the processes that are here, and those that return here.
+function listingRow(place, line, places) {
+    const text = listingEditor.part[place - listingEditor.first] ?? '';
+    if (!line) return {key: [], children: () => [], label: `no numbered line: ${text || 'empty'}`};
+    const {number} = line, stops = marksAt(number), here = places.filter(([at]) => at === number);
     const who = here.map(([, process, link]) => `process ${process} ${link ? 'returns here' : 'is here'}`);
-    const more = here.length - MOST_BADGES;
+    const stop = stops.map(mark => mark.replace(`line ${number}`, 'breakpoint').replace('of', 'of process'));
+    const more = here.length - MOST_BADGES, some = stops[0]?.includes('of') ? 'stop some' : 'stop';
     return {
-        key: `${stop}${here.join(';')}`, numbered: true,
-        label: [`line ${number}: ${text}`, ...who, ...stop ? ['breakpoint'] : []].join('; '),
-        children: () => [...stop ? [make('span', {className: 'stop', title: 'breakpoint'})] : [],
+        key: [stop, here], numbered: true, label: [`line ${number}: ${line.text}`, ...who, ...stop].join('; '),
+        children: () => [...stop.length ? [make('span', {className: some, title: stop.join(', ')})] : [],
             ...here.slice(0, MOST_BADGES).map(([, ...place]) => badge(...place)), ...more > 0 ? [`+${more}`] : []],
     };
+}
+
+// The text lines that are other ones than those of the lesson, where its change is made.
+let lastDiff = null;
+function editedLines() {
+    const {idea, listing, schedule} = state, lesson = data.choices[idea];
+    if (!lesson?.change || listing !== lesson.change.listing || schedule !== lesson.change.schedule)
+        return {listing: [], schedule: []};
+    if (lastDiff?.lesson !== lesson) lastDiff = {lesson, listing: newLines(lesson.listing, listing),
+        schedule: newLines(lesson.schedule, schedule)};
+    return lastDiff;
+}
+
+// The lines of a text that are not among those of another one, in order.
+function newLines(older, newer) {
+    const [before, after] = [older, newer].map(text => text.split('\n'));
+    if (before.length * after.length > MOST_COMPARED * MOST_COMPARED) return [];
+    const rows = before.map(() => new Uint16Array(after.length + 1));
+    rows.push(new Uint16Array(after.length + 1));
+    for (let i = before.length - 1; i >= 0; i--)
+        for (let j = after.length - 1; j >= 0; j--)
+            rows[i][j] = before[i] === after[j] ? rows[i + 1][j + 1] + 1 : Math.max(rows[i + 1][j], rows[i][j + 1]);
+    const found = [];
+    for (let i = 0, j = 0; j < after.length;) {
+        if (i < before.length && before[i] === after[j]) [i, j] = [i + 1, j + 1];
+        else if (i < before.length && rows[i + 1][j] >= rows[i][j + 1]) i++;
+        else found.push(j++);
+    }
+    return found;
 }
 
 // The text lines that a refusal points at.
@@ -71,16 +117,20 @@ function badLines() {
     return found;
 }
 
-// A refusal, and what the manual says of it.
+// A refusal with the line that it names, and behind it what the manual says of refusals of this name.
 function showRefusal(part) {
     const box = $(`${part}-refusal`), refusal = state.refusal?.part === part ? state.refusal : null;
+    const [bad] = badLines()[part], all = part === 'listing' ? state.listing : state.schedule;
+    const text = all.split('\n', bad + 1)[bad], line = () => make('code', {}, text.slice(0, 200) || 'empty');
     box.hidden = !refusal;
-    fill(box, refusal?.text, () => [make('b', {}, refusal?.text ?? ''), ' ',
-        make('span', {innerHTML: data.remedies[refusal?.name] ?? ''})]);
+    fill(box, [refusal?.text, bad, text], () => [make('b', {}, refusal?.text ?? ''),
+        ...text === undefined ? [] : [` \u2013 line ${bad + 1} of this text: `, line()],
+        ...!refusal ? [] : [make('details', {}, make('summary', {}, `What ${refusal.name} is about`),
+            make('span', {innerHTML: data.remedies[refusal.name] ?? ''}))]]);
     if (state.refusal?.part === 'page') say(state.refusal.text);
 }
 
-function toggleBreak(place) {
-    const line = state.lines.values().find(one => one.place === place);
+export function toggleBreak(place) {
+    const line = [...state.lines.values()].find(one => one.place === place);
     return line ? toggle(`line ${line.number}`) : say('A breakpoint stands on a numbered line.');
 }

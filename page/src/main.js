@@ -1,25 +1,49 @@
 // Buttons and keys.
+import {$, data, say} from './elements.js';
+import {asker, aside, failure, readRefusal, stopAsking} from './asker.js';
+import {timelineFocus} from './editor.js';
+import {change, goOn, goTo, parted, press, refresh, state, toggle, undo} from './state.js';
+import {takeDraft, watchDrafts} from './drafts.js';
+import {asHash, asInput, copyFrame, copyLink, copyText, openFile, save, showPicture, takeHash} from './files.js';
+import {lastProcess, listingEditor, showTexts, toggleBreak} from './listing.js';
+import {choose, fillLessons, makeExercise, nextCaption, openLessons, showIdea, showVerdicts,
+    showWhere} from './lessons.js';
+import {showMarks, showMemory} from './memory.js';
+import {endPlay, play, present, watchPanes, watchSize} from './panes.js';
+import {cards, showProcesses} from './processes.js';
+import {showTimeline, watchTimeline, zoom} from './timeline.js';
 
+const HELLO = 'snaplab.hello';
 const BUTTONS = {
-    undo: () => undo('past', 'future'), redo: () => undo('future', 'past'), open: () => $('file').click(),
-    save: () => save(asInput(), 'snaplab-input.txt', 'the input of snaplab debug'),
-    copy: () => copyText(asInput(), 'the input of snaplab debug'), link: copyLink, picture: showPicture,
-    make: makeExercise, keys: () => $('help').showModal(), home: () => goTo(0), end: () => goTo(Infinity),
+    menu: openLessons, undo: () => undo('past', 'future'), redo: () => undo('future', 'past'),
+    open: () => $('file').click(), save: () => save(asInput(), 'snaplab-input.txt', 'the input of snaplab debug'),
+    copy: () => copyText(asInput(), 'the input of snaplab debug'), link: copyLink, frame: copyFrame,
+    picture: showPicture, make: makeExercise, keys: () => $('help').showModal(), words: () => $('glossary').showModal(),
+    trust: () => $('proved').showModal(), present, home: () => goTo(0), end: () => goTo(Infinity),
     back: () => goTo(state.at - 1), on: () => goTo(state.at + 1), run: () => refresh('run'),
     rrun: () => refresh('rrun'), closer: () => zoom(.5), wider: () => zoom(2), fit: () => zoom(0), stop: stopAsking,
-    cut: cutHere,
+    cut: cutHere, play, next: () => nextCaption(1), previous: () => nextCaption(-1), 'hello-close': closeHello,
 };
 
 // Keys of their own, beside those that page.html writes at buttons; it lists them all.
 const KEYS = {
     PageUp: () => goTo(state.at - 10), PageDown: () => goTo(state.at + 10), b: () => toggleBreak(breakLine()),
-    w: watchFocused, l: () => listingEditor.gutter.focus(), p: () => $('processes').querySelector('button').focus(),
-    m: () => $('memory').querySelector('button').focus(), t: () => $('timeline').focus(),
+    w: watchFocused, u: goToLine, e: goToEnd, l: () => listingEditor.gutter.focus(),
+    m: () => $('memory').querySelector('button').focus(),
+    p: () => $('processes').querySelector('button:not(:disabled)').focus(), t: () => $('timeline').focus(),
 };
 
 function cutHere() {
     const {items, at, schedule} = state;
-    if (items && at < items.total) change({schedule: parted(schedule, items, at)[0]});
+    if (items && at < items.total) change({schedule: parted(schedule, items, at)[0]}, {kept: true});
+}
+
+function closeHello() {
+    $('hello').hidden = true;
+    try {
+        localStorage.setItem(HELLO, 'read');
+    } catch { /* it is shown again at the next visit */ }
+    timelineFocus();
 }
 
 // The text line of the margin, or that at which the process of the last item stands.
@@ -28,36 +52,79 @@ function breakLine() {
     return state.lines.get(lastProcess()?.at)?.place;
 }
 
+function goToEnd() {
+    return lastProcess() ? goOn(lastProcess().who) : say('No process has moved yet.');
+}
+
+// The process of the last item goes to the line of the margin.
+function goToLine() {
+    const place = document.activeElement === listingEditor.gutter ? breakLine() : -1;
+    const line = [...state.lines.values()].find(one => one.place === place);
+    if (!line) return say('Choose a numbered line in the margin of the listing first: l leads there.');
+    return lastProcess() ? goOn(lastProcess().who, line.number) : say('No process has moved yet.');
+}
+
 function watchFocused() {
-    const {register} = document.activeElement.dataset;
+    const {register} = /** @type {HTMLElement} */ (document.activeElement).dataset;
     return register ? toggle(register) : say('Choose a register with the Tab key first; m leads to the memory.');
 }
 
 function pressKey(event) {
     const {key, target} = event, typing = target.matches('textarea, input, select, dialog *');
+    if (key === 'Escape' && typing && !target.closest('dialog')) return timelineFocus();
     const pressed = /^[1-9]$/.test(key) ? cards[key - 1] && (() => press(Number(key))) : KEYS[key];
     if (event.ctrlKey || event.metaKey || event.altKey || typing || !pressed) return;
     event.preventDefault();
+    if (key !== 'a') endPlay();
     pressed();
 }
 
 // What follows the state; the texts come last, since their scrolling lays out what the others have written.
-function showState() {
+export function showState() {
     const shown = [showProcesses, showMemory, showMarks, showVerdicts, showIdea, showWhere, showTimeline];
     if (state.report) shown.forEach(show => show());
+    $('undo').disabled = !state.past.length;
+    $('redo').disabled = !state.future.length;
     showTexts();
     window.snaplab.shownAt ??= performance.now();
 }
 
-const answer = (name, texts, numbers) => ask('answer', {name, texts, numbers}, Symbol(name));
-window.snaplab = {state, settled: isSettled, answer};
-for (const [id, pressed] of Object.entries(BUTTONS)) $(id).onclick = pressed;
-for (const button of document.querySelectorAll('[data-key]')) KEYS[button.dataset.key] = () => button.click();
-$('menu').onchange = () => choose(Number($('menu').value));
-$('file').onchange = () => openFile($('file').files[0]).then(() => { $('file').value = ''; });
-$('at').onchange = () => /^\d+$/.test($('at').value.trim()) ? goTo(Number($('at').value)) : say('An item is a number.');
-document.addEventListener('keydown', pressKey);
-addEventListener('hashchange', takeHash);
-watchTimeline();
-startWorker();
-takeHash().then(taken => taken || $('menu').onchange());
+const isSettled = () => Boolean(failure.text) || asker.idle && aside.idle && !state.timer;
+const answer = (name, texts, numbers) => asker.ask('answer', {name, texts, numbers}, Symbol(name));
+window.snaplab = {state, settled: isSettled, answer, asHash, asInput, change, choose, goTo, press, refresh, toggle,
+    asker, showState, readRefusal, shownAt: undefined};
+
+function start() {
+    const embedded = window !== window.top;
+    document.body.classList.toggle('embedded', embedded);
+    for (const [id, pressed] of Object.entries(BUTTONS)) $(id).onclick = pressed;
+    for (const button of document.querySelectorAll('[data-key]'))
+        KEYS[/** @type {HTMLElement} */ (button).dataset.key] = () => /** @type {HTMLElement} */ (button).click();
+    $('file').onchange = () => openFile($('file').files[0]).then(() => { $('file').value = ''; });
+    $('at').onchange = () =>
+        /^\d+$/.test($('at').value.trim()) ? goTo(Number($('at').value)) : say('An item is a number.');
+    document.addEventListener('keydown', pressKey);
+    for (const kind of ['keydown', 'pointerdown']) document.addEventListener(kind, () => say(''), true);
+    addEventListener('hashchange', takeHash);
+    fillLessons();
+    watchSize();
+    watchPanes();
+    watchTimeline();
+    asker.start();
+    return takeFirst(embedded).then(() => {
+        Object.assign(state, {past: [], future: []});
+        showState();
+        watchDrafts(embedded);
+    });
+}
+
+// At the beginning: the work of the last visit, what the address has, or the first lesson in its middle.
+async function takeFirst(embedded) {
+    const taken = !embedded && await takeDraft() || await takeHash();
+    if (!taken) await choose(data.first, {middle: true});
+}
+
+try {
+    $('hello').hidden = localStorage.getItem(HELLO) === 'read';
+} catch { /* it is shown */ }
+start();

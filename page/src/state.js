@@ -1,122 +1,247 @@
-// What the page stands on: the two texts, the position and the marks. All else is what the module printed for them.
+// What the page stands on: the two texts, the position, the marks, and the lesson with its goal; these are kept, undone
+// and linked together. All else is what the module printed for them.
+import {MOST_ITEMS, OUTPUT, STEP, ended, lineOf, readItems, readLines, readOperations, readVerdicts,
+    same} from './text.js';
+import {data, say, within} from './elements.js';
+import {asker, aside, readRefusal} from './asker.js';
+import {keepDraft} from './drafts.js';
+import {showIdea} from './lessons.js';
+import {showTexts} from './listing.js';
+import {showState} from './main.js';
 
-const BIG = 300000, MOST_UNDONE = 200, QUIET = 120, MOST_MARKS = 64;
-const state = {
-    listing: '', schedule: '', lines: new Map(), at: 0, marks: new Set(), idea: null, goal: null,
-    items: readItems(''), report: null, before: null, last: 'none', operations: readOperations(''),
-    verdicts: {numbers: readVerdicts(''), near: [], none: new Set()}, refusal: null,
-    serial: 0, timer: 0, past: [], future: [], audited: null, appended: false,
+const BIG = 300000, QUIET = 120, MOST_ITEMS_DRAWN = 50000, MOST_DRAWN = 20000, MOST_DRAWN_FAST = 2000;
+const MOST_STEPS = 5000, MOST_NAMES = 300, MOST_UNDONE = 500, MOST_UNDONE_LETTERS = 3e7, PAUSE = 1500;
+const NO_VERDICTS = {numbers: readVerdicts(''), near: [], none: new Set()};
+export const state = {
+    listing: '', schedule: '', at: 0, marks: new Set(), idea: null, goal: null,
+    lines: new Map(), items: readItems(''), report: null, before: null, since: null, last: 'none',
+    operations: readOperations(''), verdicts: NO_VERDICTS, refusal: null,
+    shapes: null, serial: 0, timer: 0, past: [], future: [], typed: null, typedAt: 0, audited: null, appended: false,
+    run: {}, shownRun: null, thread: {},
 };
+asker.items = () => state.items?.total ?? 0;
 
-// Takes on other texts, another position, or both; 'appended' where items were added at the end alone.
-function change(to, {appended = false, undone = false} = {}) {
-    const {listing, schedule, at} = state;
-    const texts = (to.listing ?? listing) !== listing || (to.schedule ?? schedule) !== schedule;
-    if (texts && !undone && schedule.length < BIG) {
-        state.past = [...state.past.slice(1 - MOST_UNDONE), {listing, schedule, at}];
-        state.future = [];
-    }
+// What is undone, kept and linked.
+export function work() {
+    const {listing, schedule, at, marks, idea, goal} = state;
+    return {listing, schedule, at, marks: [...marks], idea, goal};
+}
+
+const WHAT = ['listing', 'schedule', 'idea', 'goal'];
+const alike = (one, other) => WHAT.every(part => one[part] === other[part]) && same(one.marks, other.marks);
+
+// Takes on other texts, marks, lesson or goal, another position, or several of them. 'appended' where items were added
+// at the end alone, 'kept' where the items up to the position stay, 'typed' with the part where one types letter by
+// letter, which is undone as one step.
+/** @param {any} to @param {{appended?: boolean, kept?: boolean, undone?: boolean, typed?: string}} how */
+export function change(to, {appended = false, kept = false, undone = false, typed = ''} = {}) {
+    const older = work();
     Object.assign(state, to, {appended: state.appended && appended});
-    if (state.listing !== listing) state.lines = readLines(state.listing);
-    if (state.schedule !== schedule) state.items = state.schedule.length < BIG ? readItems(state.schedule) : null;
+    if (to.marks) state.marks = new Set(to.marks);
+    if (!undone && !alike(older, work())) remember(older, typed);
+    if (state.listing !== older.listing) state.lines = readLines(state.listing);
+    if (state.schedule !== older.schedule) state.items = state.schedule.length < BIG ? readItems(state.schedule) : null;
+    if (state.listing !== older.listing || state.schedule !== older.schedule) {
+        const shown = kept && state.shownRun === state.run && state.report?.at === older.at;
+        state.run = {};
+        if (shown) state.shownRun = state.run;
+        if (!appended) Object.assign(state, {shapes: null, verdicts: NO_VERDICTS, audited: null, thread: {}});
+    }
     if (!appended) [showTexts, showIdea].forEach(show => show());
+    keepDraft();
     return refresh();
 }
 
-function undo(from, to) {
+// Keeps what was there before a step: letters typed without a pause are one step, and old steps go where they take
+// much room.
+function remember(older, typed) {
+    const now = performance.now(), goesOn = typed && state.typed === typed && now - state.typedAt < PAUSE;
+    Object.assign(state, {typed, typedAt: now, future: []});
+    if (goesOn && state.past.length) return;
+    state.past.push(older);
+    let letters = 0, first = state.past.length;
+    while (first > 0 && state.past.length - first < MOST_UNDONE && letters < MOST_UNDONE_LETTERS) {
+        first--;
+        letters += state.past[first].listing.length + state.past[first].schedule.length;
+    }
+    state.past = state.past.slice(first);
+}
+
+export function undo(from, to) {
     if (!state[from].length) return say('There is no change left.');
-    const {listing, schedule, at} = state;
-    state[to].push({listing, schedule, at});
+    state[to].push(work());
+    state.typed = null;
     return change(state[from].pop(), {undone: true});
 }
 
-// A mark is a line, as 'line 23', or a register, as 'r 1'. That of a line is a command for each process.
-const markOf = ([verb, ...rest]) => /^(break|clear)$/.test(verb) ? `line ${Number(rest[1])}` : rest.join(' ');
-
-function markCommands() {
+// A mark is a line, as 'line 23' for every process or 'line 23 of 1', or a register, as 'r 1'.
+export function markCommands() {
     const processes = Array.from({length: within(state.items?.processes ?? 0, 0, 64)}, (_, k) => k + 1);
-    const commands = [...state.marks].flatMap(mark => mark.startsWith('line ') ?
-        processes.map(who => `break ${who} ${mark.slice(5)}`) : `watch ${mark}`);
-    return commands.slice(0, MOST_MARKS + 1);
+    return [...state.marks].flatMap(mark => {
+        const [, line, who] = /^line (\d+)(?: of (\d+))?$/.exec(mark) ?? [];
+        if (!line) return [`watch ${mark}`];
+        return (who ? [who] : processes).map(one => `break ${one} ${line}`);
+    });
 }
 
-function toggle(mark) {
-    const on = !state.marks.delete(mark);
-    if (on) state.marks.add(mark);
-    const where = mark.startsWith('line ') ? `at ${mark}, for every process` : `where ${mark} has changed`;
-    say(`A run ${on ? 'stops' : 'no longer stops'} ${where}.`);
-    return refresh();
+// The marks that commands leave; a line is marked for every process where each one of them has a breakpoint there.
+export function readMarks(commands, processes) {
+    const breaks = new Map(), watched = new Set();
+    for (const command of commands.split('\n')) {
+        const words = command.replace(/#.*/, '').trim().replace(/[ \t\r]+/g, ' ');
+        const [, verb, who, line] = /^(break|clear) (\d+) (\d+)$/.exec(words) ?? [];
+        const [, watch, register] = /^(watch|unwatch) (r \d+|v \d+|[qp] \d+ \d+)$/.exec(words) ?? [];
+        if (line && !breaks.has(Number(line))) breaks.set(Number(line), new Set());
+        if (verb === 'break') breaks.get(Number(line)).add(Number(who));
+        if (verb === 'clear') breaks.get(Number(line)).delete(Number(who));
+        if (watch === 'watch') watched.add(register);
+        if (watch === 'unwatch') watched.delete(register);
+    }
+    const lines = [...breaks].flatMap(([line, who]) => processes && who.size === processes ? [`line ${line}`] :
+        [...who].map(one => `line ${line} of ${one}`));
+    return [...lines, ...watched];
+}
+
+export function toggle(mark) {
+    const marks = new Set(state.marks), [, line, who] = /^line (\d+)(?: of (\d+))?$/.exec(mark) ?? [];
+    const some = [...marks].filter(one => one === mark || line && !who && one.startsWith(`line ${line} of `));
+    some.forEach(one => marks.delete(one));
+    if (!some.length) marks.add(mark);
+    const processes = who ? `process ${who}` : 'every process';
+    const where = line ? `at line ${line}, for ${processes}` : `where ${mark} has changed`;
+    const told = change({marks});
+    say(`A run ${some.length ? 'no longer stops' : 'stops'} ${where}.`);
+    return told;
 }
 
 // Asks for the state at the position, or for that to which a run leads.
-async function refresh(go = '') {
-    const serial = ++state.serial, {listing, schedule, at} = state;
-    const answer = await ask('look', {listing, schedule, at, go, marks: markCommands(), total: state.items?.total});
+export async function refresh(go = '') {
+    const serial = ++state.serial, {listing, schedule, at, run, report, shownRun} = state;
+    const known = !go && report && shownRun === run && report.at === at - 1 ? report : null;
+    const marks = go ? markCommands() : [], total = state.items?.total, wantsBefore = !known && at > 0;
+    const names = shownRun === run ? namesOf(report) : null;
+    const answer = await asker.ask('look', {listing, schedule, at, go, marks, total, wantsBefore, names});
     if (!answer) return;
     if (answer.items?.from && schedule === state.schedule) state.items = answer.items;
-    if (answer.code === OUTPUT) take(answer, serial === state.serial);
+    if (answer.code === OUTPUT) take(answer, serial === state.serial, run, known);
     else if (serial === state.serial) state.refusal = readRefusal(answer);
     showState();
     askAudit();
 }
 
-function take({report, last, operations, refused}, newest) {
-    const older = state.report;
-    const alike = ['registers', 'processes'].every(part => older?.[part].length === report[part].length);
-    if (!alike) state.before = null;
-    else if (older.at !== report.at || older.registers.join() !== report.registers.join()) state.before = older;
-    Object.assign(state, {report, last, refusal: null, operations: operations ?? state.operations});
-    if (newest) state.at = report.at;
-    for (const [command, refusal] of refused) {
-        state.marks.delete(markOf(command.split(' ')));
-        say(`The mark is taken away: ${refusal}`);
-    }
+// The names of what a state has, where these are not many: other states of the run have the same.
+function namesOf({registers, processes}) {
+    if (registers.length > MOST_NAMES) return null;
+    return {registers: registers.map(line => line.split(' = ')[0]), processes: processes.length};
 }
 
-// The audit is asked for, when all is quiet, where its run is another one or more scans have ended.
+// Takes what was told. What an item changed is told by the state before it, of the same run; what changed since
+// another position by the state that was shown there, if that was of this run too.
+function take({report, last, operations, refused, before}, newest, run, known) {
+    const older = state.shownRun === run ? state.report : null;
+    if (older?.at !== report.at) state.since = older && older.at !== report.at - 1 ? older : null;
+    else if (state.shownRun !== run) state.since = null;
+    Object.assign(state, {report, last, before: report.at ? known ?? before : null, refusal: null, shownRun: run,
+        operations: operations ?? state.operations});
+    if (newest) state.at = report.at;
+    for (const [command, refusal] of refused) dropMark(command, refusal);
+}
+
+function dropMark(command, refusal) {
+    const [verb, ...words] = command.split(' '), marks = state.marks;
+    if (verb === 'break') [`line ${words[1]}`, `line ${words[1]} of ${words[0]}`].forEach(mark => marks.delete(mark));
+    else marks.delete(words.join(' '));
+    say(`The mark is taken away: ${refusal}`);
+}
+
+// The audit is asked for, when all is quiet, where its run is another one or more scans have ended; and what a picture
+// would show, where that is not known of the items around the position.
 function askAudit() {
     clearTimeout(state.timer);
     state.timer = 0;
-    const {listing, schedule, operations: {answers}, audited} = state;
-    const same = audited?.listing === listing && (audited.schedule === schedule || state.appended);
-    if (state.refusal || same && audited.answers === answers) return;
+    const {listing, schedule, operations: {answers}, audited, refusal, shapes, thread} = state;
+    const texts = audited?.listing === listing && (audited.schedule === schedule || state.appended);
+    const known = texts && audited.answers === answers, few = (state.report?.total ?? 0) <= MOST_ITEMS_DRAWN;
+    const seen = !few || shapes?.schedule === schedule && isSeen(shapes);
+    if (refusal || known && seen) return;
     state.timer = setTimeout(async () => {
         state.timer = 0;
-        const answer = await ask('audit', {listing, schedule});
-        if (answer?.code !== OUTPUT) return;
-        Object.assign(state, {verdicts: answer.verdicts, audited: {listing, schedule, answers}, appended: true});
+        if (thread !== state.thread) return;
+        const [answer] = await Promise.all([known ? null : asker.ask('audit', {listing, schedule}), askShapes()]);
+        if (thread !== state.thread) return;
+        if (answer?.code === OUTPUT)
+            Object.assign(state, {verdicts: answer.verdicts, audited: {listing, schedule, answers}, appended: true});
         showState();
     }, QUIET);
 }
 
-// What was refused: its code, its number, and the part that it is of.
-function readRefusal({code, text}) {
-    const page = {[MEMORY]: 'The module found no memory for this.',
-        [STOPPED]: 'Stopped: what is shown is the state before.',
-        [TRAPPED]: `The module stopped (${text.trim()}), and was started anew.`}[code];
-    if (page) return {part: 'page', text: page};
-    const [, name, , number = 0] = text.trim().split(' ');
-    const part = {L: 'listing', P: 'listing', S: 'schedule', W: 'schedule'}[name?.[0]] ?? 'page';
-    return {part, text: text.trim(), name, number: Number(number)};
+const isSeen = ({from, to}) => from < Math.max(state.at, 1) && to >= Math.min(state.at, state.report?.total ?? 0);
+
+// What the module draws of the items around the position, all of them where these are few.
+async function askShapes() {
+    const {listing, schedule, report, at, run} = state, total = report?.total;
+    if (!total || total > MOST_ITEMS_DRAWN || state.shapes?.schedule === schedule && isSeen(state.shapes)) return;
+    const most = total > MOST_DRAWN ? MOST_DRAWN_FAST : MOST_DRAWN;
+    const from = within(at - (most >> 1), 0, Math.max(total - most, 0)), to = Math.min(from + most, total);
+    const answer = await aside.ask('draw', {listing, schedule, from: from + 1, to}, 'shapes');
+    if (answer?.code !== OUTPUT || run !== state.run) return;
+    state.shapes = {...answer.shapes, from, to, schedule};
 }
 
-function goTo(at) {
+export function goTo(at) {
     state.at = within(at, 0, state.items?.total ?? MOST_ITEMS);
+    state.typed = null;
+    keepDraft();
     return refresh();
 }
 
+// Why a process cannot take this step or call now; empty where it can. A call has words, a step has none.
+export function hindrance(who, what) {
+    const {report, at, run, shownRun} = state, process = report?.processes[who - 1]?.what ?? '';
+    if (!process || shownRun !== run || report.at !== at) return '';
+    const [, stopped] = /^(crashed|trapped)/.exec(process) ?? [];
+    if (stopped) return `Process ${who} has ${stopped}: it does nothing more.`;
+    if (what === '' && process === 'idle') return `Process ${who} is idle: call it for a scan or an update first.`;
+    if (/^(scan|update)/.test(what) && process !== 'idle') return `Process ${who} is busy: its operation ends first.`;
+    return '';
+}
+
+// The item at a place of a schedule.
+const nextIs = (items, at, who) => {
+    const k = lineOf(items, at + 1);
+    return at < items.total && items.who[k] === who && items.kind[k] === STEP;
+};
+
 // One more item at the position: at the end, or before what stands there. A step that comes next there is just made.
-function press(who, what = '') {
+export function press(who, what = '') {
     const {items, at, schedule, refusal} = state;
     if (refusal?.name) return say('Mend what is refused first.');
     if (!items) return say('One moment: the schedule is being read.');
-    const k = lineOf(items, at + 1);
-    if (!what && at < items.total && items.who[k] === who && items.kind[k] === STEP) return goTo(at + 1);
+    if (!what && nextIs(items, at, who)) return goTo(at + 1);
+    const why = hindrance(who, what);
+    if (why) return say(why);
     const text = withItem(schedule, items, at, `${who} ${what}`.trim());
-    return change({schedule: text, at: at + 1}, {appended: at >= items.total});
+    return change({schedule: text, at: at + 1}, {appended: at >= items.total, kept: true});
 }
 
-function withItem(schedule, items, at, item) {
+// As many steps of a process as lead it to the end of its operation, or to a line.
+export async function goOn(who, line = 0) {
+    const {items, at, schedule, listing, refusal, run} = state, why = hindrance(who, '');
+    if (refusal?.name || !items || schedule.length > BIG) return say('This schedule is too long for that, or refused.');
+    if (why) return say(why);
+    const most = Math.min(MOST_STEPS, MOST_ITEMS - at);
+    const before = at < items.total ? parted(schedule, items, at)[0] : schedule;
+    const longer = `${ended(before)}${who}*${most}\n`;
+    const answer = await aside.ask('reach', {listing, schedule: longer, at, most, who, line});
+    if (answer?.code !== OUTPUT || run !== state.run || at !== state.at) return null;
+    const where = line ? `to line ${line}` : 'to the end of its operation';
+    if (!answer.steps) return say(`No step of ${most} of process ${who} alone leads ${where}.`);
+    const steps = answer.steps > 1 ? `${who}*${answer.steps}` : String(who);
+    return change({schedule: withItem(schedule, items, at, steps), at: at + answer.steps},
+        {appended: at >= items.total, kept: true});
+}
+
+export function withItem(schedule, items, at, item) {
     if (at < items.total) return parted(schedule, items, at).join(`${item}\n`);
     const text = ended(schedule), cut = text.lastIndexOf('\n', text.length - 2) + 1;
     const step = /^(\d+)(?:\*(\d+))?$/.exec(text.slice(cut, -1));
@@ -124,7 +249,7 @@ function withItem(schedule, items, at, item) {
 }
 
 // A schedule, parted behind an item.
-function parted(schedule, items, at) {
+export function parted(schedule, items, at) {
     const lines = schedule.split('\n'), k = at ? lineOf(items, at) : -1, place = items.line[k] ?? items.shapeLine;
     const after = lines.splice(place + 1), end = items.from[k + 1] ?? items.total;
     if (k >= 0 && at < end) {
@@ -134,3 +259,10 @@ function parted(schedule, items, at) {
     }
     return [lines.join('\n') + '\n', after.join('\n')];
 }
+
+// A lesson is known by its title, wherever it stands in the menu.
+export const titleOf = idea => data.choices[idea]?.title ?? null;
+export const ideaOf = title => {
+    const k = data.choices.findIndex(one => one.title === title);
+    return k < 0 ? null : k;
+};

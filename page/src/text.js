@@ -1,21 +1,28 @@
 // Reads what the program prints, and finds the items of a schedule's lines. Runs in the worker and in the page.
 
 // The module's codes, and two of the page's own: after a trap, and where the user has stopped a run.
-const OUTPUT = 0, REFUSED = 1, MEMORY = 2, SMALL = 3, TRAPPED = 5, STOPPED = 6;
-const KINDS = [undefined, 'scan', 'update', 'crash'], STEP = 0, CRASH = 3, MOST_ITEMS = 1000000;
-const ITEM = /^[ \t\r]*(\d+)[ \t\r]*(?:\*[ \t\r]*(\d+)|(scan|crash|update)\b[^#]*)?[ \t\r]*(?:#.*)?$/;
-const SHAPE = /^[ \t\r]*shape[ \t\r]+(\d+)[ \t\r]+(\d+)/;
-const EMPTY = /^[ \t\r]*(?:#.*)?$/;
-const EVENT = /^event (\d+) (\d+) (scan|update|answer|done)/gm;
+export const OUTPUT = 0, REFUSED = 1, MEMORY = 2, SMALL = 3, TRAPPED = 5, STOPPED = 6;
+export const KINDS = [undefined, 'scan', 'update', 'crash'], STEP = 0, CRASH = 3, MOST_ITEMS = 1000000, MOST_TOLD = 999;
+export const ITEM = /^[ \t\r]*(\d+)[ \t\r]*(?:\*[ \t\r]*(\d+)|(scan|crash|update)\b[^#]*)?[ \t\r]*(?:#.*)?$/;
+export const SHAPE = /^[ \t\r]*shape[ \t\r]+(\d+)[ \t\r]+(\d+)/;
+export const EMPTY = /^[ \t\r]*(?:#.*)?$/;
+export const EVENT = /^event (\d+) (\d+) (scan|update|answer|done|crash)/gm;
+export const COMMENT = /#\s*(.*?)\s*$/;
+
+// Whether two keys, numbers, texts or lists of these, are alike, part by part.
+export function same(one, other) {
+    if (!Array.isArray(one) || !Array.isArray(other)) return Object.is(one, other);
+    return one.length === other.length && one.every((part, k) => same(part, other[k]));
+}
 
 // A text whose last line is ended, and the input that has these parts.
-const ended = text => text && !text.endsWith('\n') ? text + '\n' : text;
-const inputOf = (...parts) => parts.map(ended).join('%\n');
+export const ended = text => text && !text.endsWith('\n') ? text + '\n' : text;
+export const inputOf = (...parts) => parts.map(ended).join('%\n');
 
-// A schedule's lines with items: the process, kind and text line of each, and how many items stand before it. Whether
-// the text is a schedule says the module alone.
-function readItems(text) {
-    const items = {total: 0, processes: 0, shapeLine: -1, from: [], who: [], kind: [], line: []};
+// A schedule's lines with items: the process, kind and text line of each, and how many items stand before it; and what
+// comments tell of their items. Whether the text is a schedule says the module alone.
+export function readItems(text) {
+    const items = {total: 0, processes: 0, shapeLine: -1, from: [], who: [], kind: [], line: [], told: []};
     for (const [line, raw] of text.split('\n').entries()) {
         if (EMPTY.test(raw)) continue;
         if (items.shapeLine < 0) {
@@ -28,19 +35,32 @@ function readItems(text) {
         items.who.push(Number(who));
         items.kind.push(KINDS.indexOf(call));
         items.line.push(line);
+        const from = items.total, told = COMMENT.exec(raw)?.[1];
         items.total += Number(times);
+        if (told && items.told.length < MOST_TOLD) items.told.push({at: items.total, from, text: told});
     }
     return packed(items, 'from', 'who', 'kind', 'line');
 }
 
+// How many processes a schedule has: its first line that is not empty says so.
+export function processesOf(schedule) {
+    for (let from = 0; from < schedule.length;) {
+        const feed = schedule.indexOf('\n', from), end = feed < 0 ? schedule.length : feed;
+        const line = schedule.slice(from, end);
+        if (!EMPTY.test(line)) return Number(SHAPE.exec(line)?.[1] ?? 0);
+        from = end + 1;
+    }
+    return 0;
+}
+
 // Lists of numbers go fast from the worker to the page.
-function packed(found, ...lists) {
+export function packed(found, ...lists) {
     for (const list of lists) found[list] = Uint32Array.from(found[list]);
     return found;
 }
 
 // The least place below a count at which something holds; it holds at all later ones.
-function leastPlace(count, holds) {
+export function leastPlace(count, holds) {
     let low = 0, high = count;
     while (low < high) {
         const middle = (low + high) >> 1;
@@ -51,17 +71,17 @@ function leastPlace(count, holds) {
 }
 
 // The place, in the lists of a schedule, of the line that has this item.
-const lineOf = ({from}, item) => leastPlace(from.length, k => from[k] >= item) - 1;
+export const lineOf = ({from}, item) => leastPlace(from.length, k => from[k] >= item) - 1;
 
 // The last item of a process before this one; 0 where there is none.
-function itemBefore(items, who, item) {
+export function itemBefore(items, who, item) {
     let k = lineOf(items, item - 1);
     while (k >= 0 && items.who[k] !== who) k--;
     return k < 0 ? 0 : Math.min(items.from[k + 1] ?? items.total, item - 1);
 }
 
 // The replies of a session, each with its command, and the report behind them.
-function readSession(text) {
+export function readSession(text) {
     const cut = text.lastIndexOf('\nreport at ') + 1, replies = [];
     for (const line of text.slice(0, cut).split('\n')) {
         if (line.startsWith('> ')) replies.push({command: line.slice(2), lines: []});
@@ -71,7 +91,7 @@ function readSession(text) {
 }
 
 // The parts of a report, each as it is printed. Locals are kept as one text, since most of them are never shown.
-function readReport([first, values, ...lines]) {
+export function readReport([first, values, ...lines]) {
     const [, , at, , total] = first.split(' ');
     const report = {at: Number(at), total: Number(total), values: values.slice(7)};
     Object.assign(report, {registers: [], processes: [], events: []});
@@ -86,21 +106,23 @@ function readReport([first, values, ...lines]) {
 }
 
 // 'process 2 update 2 5 at 32 link 31' and its like.
-function readHead(line) {
+export function readHead(line) {
     const [, who, what, at, link] = /^process (\d+) (.*?)(?: at (\d+))?(?: link (\d+))?$/.exec(line);
     return {who: Number(who), what, at: Number(at ?? 0), link: Number(link ?? 0), locals: []};
 }
 
 // The operations that a text of events tells of, as lists: process, first item, last item or 0, and where in the text
 // the words of the call and of the answer are.
-function readOperations(text) {
+export function readOperations(text) {
     const found = {who: [], from: [], to: [], called: [], ended: [], answers: 0, text}, open = new Map();
     for (const event of text.matchAll(EVENT)) {
         const [all, item, who, what] = event, words = event.index + all.length - what.length;
-        if (what === 'answer' || what === 'done') {
+        if (what === 'answer' || what === 'done' || what === 'crash') {
+            if (!open.has(who)) continue;
             found.to[open.get(who)] = item;
             found.ended[open.get(who)] = words;
             found.answers += what === 'answer' ? 1 : 0;
+            open.delete(who);
         } else {
             open.set(who, found.who.push(who) - 1);
             found.from.push(item);
@@ -113,31 +135,57 @@ function readOperations(text) {
 }
 
 // The words at a place of the text of events: 'update 2 5', 'answer 0 5'.
-function wordsAt({text}, place) {
+export function wordsAt({text}, place) {
     const feed = text.indexOf('\n', place);
     return text.slice(place, feed < 0 ? text.length : feed);
 }
 
 // 'scan 1 call 1 answer 64 point 24 collects 2', a line a verdict: five numbers each, the point 0 where there is none.
-const readVerdicts = text => Uint32Array.from(text.match(/\d+|none/g) ?? [], word => Number(word) || 0);
+export const readVerdicts = text => Uint32Array.from(text.match(/\d+|none/g) ?? [], word => Number(word) || 0);
 
-function verdictAt(numbers, k) {
+export function verdictAt(numbers, k) {
     const [who, call, answer, point, collects] = numbers.subarray(5 * k, 5 * k + 5);
-    return {who, call, answer, point, collects, view: '', lender: 0, from: '', taken: 0};
+    return {who, call, answer, point, collects, view: ''};
 }
 
 // The place of the verdict on the scan that answered at this item; -1 where there is none. Answers are in order.
-function verdictOf(numbers, item) {
+export function verdictOf(numbers, item) {
     const place = leastPlace(numbers.length / 5, k => numbers[5 * k + 2] >= item);
     return numbers[5 * place + 2] === item ? place : -1;
 }
 
 // The numbered lines of a listing by their numbers: the place of each among the text lines, and its text.
-function readLines(listing) {
+export function readLines(listing) {
     const found = new Map();
     listing.split('\n').forEach((text, place) => {
         const line = /^[ \t\r]*(\d+)[ \t\r]*:[ \t\r]*([^#]*)/.exec(text);
         if (line) found.set(Number(line[1]), {number: Number(line[1]), place, text: line[2].trim()});
     });
+    return found;
+}
+
+// What the module's picture of some items tells of them: the title of each shape that it draws, in its words.
+const SHAPES =
+    /<(?:g|path|svg) class="(loan|trap|crash|write|read|pass|fail|values|inner|point|none)"[^>]*><title>([^<]+)/g;
+const PLACE = /^item (\d+), process (\d+)/, LENDER = /that process (\d+) ended at item (\d+)$/;
+const PERIOD = /^values ([\d ]+) from item (\d+) to item (\d+)$/, REGISTER = / r\[(\d+)\]/;
+const SPAN = /^process (\d+), items (\d+) to (\d+)/;
+
+export function readShapes(svg) {
+    const found = {loan: [], trap: [], crash: [], write: [], read: [], test: [], values: [], inner: [],
+        told: new Map()};
+    const drawn = svg.slice(svg.indexOf('</metadata>'), svg.lastIndexOf('<g class="legend"'));
+    for (const [, kind, title] of drawn.matchAll(SHAPES)) {
+        const [, item, who] = PLACE.exec(title)?.map(Number) ?? [], place = {item, who, title};
+        const [, values, from, to] = PERIOD.exec(title) ?? [], span = SPAN.exec(title)?.map(Number);
+        if (kind === 'values') found.values.push({values, from: Number(from), to: Number(to)});
+        else if (kind === 'inner') found.inner.push({who: span[1], from: span[2], to: span[3], title});
+        else if (kind === 'point' || kind === 'none') found.told.set(span[3], title);
+        else if (kind === 'pass' || kind === 'fail') found.test.push({...place, passed: kind === 'pass'});
+        else if (kind === 'loan') {
+            const [, lender, ended] = LENDER.exec(title)?.map(Number) ?? [];
+            found.loan.push({...place, lender, ended});
+        } else found[kind].push({...place, register: REGISTER.exec(title)?.[1]});
+    }
     return found;
 }

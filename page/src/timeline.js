@@ -1,29 +1,61 @@
-// The time line: a lane for each process, with its operations as bars, the verdicts of its scans, and the position.
+// The time line: the values, a lane for each process with its operations, the verdicts of its scans, what the module's
+// picture draws of its items, an axis, and the position. What comes after the position is pale, and untold.
+import {CRASH, lineOf, verdictAt, verdictOf, wordsAt} from './text.js';
+import {$, within} from './elements.js';
+import {goTo, state} from './state.js';
+import {outcome, verdictWords} from './lessons.js';
 
-const LABEL = 30, RIGHT = 8, GRAIN = 1.5, dark = matchMedia('(prefers-color-scheme: dark)');
-const DIAMOND = [[0, -7], [6, 0], [0, 7], [-6, 0]], INKS = {bad: 'on-bad', bar: 'ink'};
-const line = {from: 0, to: 1, width: Infinity, wide: 0, drawn: []};
-const pen = $('timeline').firstChild.getContext('2d');
+const LABEL = 46, RIGHT = 12, GRAIN = 1.5, VALUES = 18, AXIS = 16;
+const dark = matchMedia('(prefers-color-scheme: dark)');
+const CROSS = [[-6, -4], [-4, -6], [0, -2], [4, -6], [6, -4], [2, 0], [6, 4], [4, 6], [0, 2], [-4, 6], [-6, 4],
+    [-2, 0]];
+const DIAMOND = [[0, -7], [6, 0], [0, 7], [-6, 0]], TRAP = [[0, -8], [8, 7], [-8, 7]];
+export const line = {from: 0, to: 1, width: Infinity, wide: 0, drawn: [], high: 0, n: 0, grain: 0, past: 0};
+const pen = $('timeline').querySelector('canvas').getContext('2d');
 let colours = {};
 
-function showTimeline() {
-    const {items, report, at, operations, verdicts} = state, {wide} = line, box = $('timeline');
+export function showTimeline() {
+    const {items, report, at, operations, verdicts, shapes} = state, {wide} = line, box = $('timeline');
     const total = Math.max(items?.total ?? report.total, 1), width = Math.min(line.width, total);
     line.from = within(at < line.from || at > line.to ? at - (width >> 1) : line.from, 0, total - width);
     line.to = line.from + width;
-    const n = report.processes.length, high = n <= 3 ? 32 : n <= 5 ? 26 : n <= 8 ? 18 : 12;
-    const drawn = [line.from, line.to, wide, n, dark.matches, devicePixelRatio, operations, verdicts, items];
+    const n = report.processes.length, high = highOf(n), past = pastOf(at);
+    const drawn = [line.from, line.to, wide, n, high, dark.matches, devicePixelRatio, operations, verdicts, items,
+        shapes, past];
     if (wide && drawn.some((each, k) => each !== line.drawn[k])) {
-        Object.assign(line, {drawn, operations, verdicts, items, high, n});
+        Object.assign(line, {drawn, operations, verdicts, items, shapes, high, n, past: at});
         draw();
     }
     $('cursor').style.left = `${placeOf(at) - 1}px`;
+    Object.assign($('future').style, {left: `${placeOf(at) + 1}px`, width: `${Math.max(wide - placeOf(at) - 1, 0)}px`});
     Object.assign(box, {ariaValueMax: total, ariaValueNow: at, ariaValueText: `item ${at} of ${total}: ${outcome()}`});
 }
 
-const placeOf = item => LABEL + (item - line.from) / (line.to - line.from) * (line.wide - LABEL - RIGHT);
+// How high a lane is, and how large its letters are, beside what is usual.
+const large = () => document.body.classList.contains('present') ? 1.25 : 1;
 
+function highOf(n) {
+    if (large() > 1 && n <= 3) return 36;
+    if (n > 8) return 12;
+    if (document.body.classList.contains('small')) return n <= 3 ? 20 : 14;
+    return n <= 3 ? 30 : n <= 5 ? 24 : 16;
+}
+
+// How many operations, borrowings, traps and writes are past: more of the picture is told where another one is.
+function pastOf(at) {
+    const {operations: {to}, shapes} = state;
+    let count = 0;
+    for (const item of to) if (item && item <= at) count++;
+    for (const {item} of shapes?.loan ?? []) if (item <= at) count++;
+    for (const {item} of shapes?.trap ?? []) if (item <= at) count++;
+    for (const {item} of shapes?.write ?? []) if (item <= at) count++;
+    return count;
+}
+
+export const placeOf = item => LABEL + (item - line.from) / (line.to - line.from) * (line.wide - LABEL - RIGHT);
 const colour = name => colours[name] ??= getComputedStyle(document.body).getPropertyValue(`--${name}`).trim();
+const isHere = item => item >= line.from && item <= line.to;
+const topOf = who => VALUES + (who - 1) * line.high;
 
 function paint(name, ...box) {
     pen.fillStyle = colour(name);
@@ -33,23 +65,42 @@ function paint(name, ...box) {
 // The lanes cover the canvas, which is made anew where its size is another one, and there alone.
 function draw() {
     const {wide, high, n} = line, {canvas} = pen, pixels = length => Math.round(length * devicePixelRatio);
-    const size = [pixels(wide), pixels(n * high)];
+    const tall = VALUES + n * high + AXIS, size = [pixels(wide), pixels(tall)];
     if (canvas.width !== size[0] || canvas.height !== size[1]) [canvas.width, canvas.height] = size;
-    canvas.style.height = `${n * high}px`;
+    canvas.style.height = `${tall}px`;
     line.grain = (line.to - line.from) / wide * GRAIN;
     colours = {};
     pen.setTransform(devicePixelRatio, 0, 0, devicePixelRatio, 0, 0);
-    Object.assign(pen, {textBaseline: 'middle', font: `bold ${Math.min(high - 2, 15)}px system-ui, sans-serif`});
-    for (let who = 1; who <= n; who++) {
-        paint(who % 2 ? 'panel' : 'paper', 0, (who - 1) * high, wide, high);
-        paint(`p${who % 8}`, 0, (who - 1) * high, LABEL - 6, high - 1);
-        pen.fillStyle = colour('on-p');
-        pen.fillText(String(who), 6, (who - .5) * high);
-    }
+    Object.assign(pen, {textBaseline: 'middle', textAlign: 'left'});
+    paint('paper', 0, 0, wide, tall);
+    for (let who = 1; who <= n; who++) drawLane(who);
+    drawValues();
     drawItems();
     const next = Array(n + 1).fill(0);
     line.operations.to.forEach((_, k) => drawOperation(k, next));
-    line.verdicts.near.forEach(drawLender);
+    drawPicture();
+    drawAxis(tall);
+}
+
+function drawLane(who) {
+    const {wide, high} = line;
+    paint(who % 2 ? 'panel' : 'paper', LABEL - 4, topOf(who), wide, high);
+    paint(`p${who % 8}`, 0, topOf(who), LABEL - 8, high - 1);
+    Object.assign(pen, {fillStyle: colour('on-p'), font: `bold ${Math.min(high - 2, 15)}px system-ui, sans-serif`});
+    pen.fillText(String(who), 6, topOf(who) + high / 2);
+}
+
+// The values of the words, as far as they are drawn: one box from write to write.
+function drawValues() {
+    const {shapes, past} = line;
+    Object.assign(pen, {fillStyle: colour('dim'), font: '12px system-ui, "DejaVu Sans", sans-serif'});
+    pen.fillText('values', 2, VALUES / 2);
+    for (const {values, from, to} of shapes?.values ?? []) {
+        if (from > line.to || to < line.from || from > past) continue;
+        const left = placeOf(Math.max(from, line.from)), wide = placeOf(Math.min(to, line.to)) - left;
+        paint('values', left, 1, Math.max(wide - 1, 1), VALUES - 3);
+        if (wide > 20) write(values, 'on-p', left - 3, -line.high / 2 + VALUES / 2 + 2, wide + 2, 13);
+    }
 }
 
 // A tick for each item where there is room for it; where there is none, a stroke for each run of items.
@@ -61,48 +112,52 @@ function drawItems() {
         if (who > n || end < next[who]) continue;
         next[who] = end + grain;
         const left = placeOf(Math.max(items.from[k], from)), right = placeOf(Math.min(end, to));
-        const bottom = who * high - 5;
-        const tick = gap ? step : Math.max(right - left, GRAIN), name = crash ? 'bad' : 'dim';
+        const bottom = topOf(who + 1) - 5, tick = gap ? step : Math.max(right - left, GRAIN);
+        const name = crash ? 'bad' : 'dim';
         for (let x = left; x === left || x < right - 1; x += tick) paint(name, x + gap / 2, bottom, tick - gap, 3);
+        pen.font = 'bold 14px system-ui, sans-serif';
         if (crash) pen.fillText('\u2715', left, bottom - high / 2 + 4);
     }
 }
 
-// An operation as a bar, and a scan's point as a diamond at the lower edge. Of those that end on one pixel of a lane
-// the first alone is drawn, and each without a point.
+// An operation as a bar, in the colours of a picture, and a scan's point as a diamond at the lower edge. Of those that
+// end on one pixel of a lane the first alone is drawn, and each without a point. An answer is told where it is past.
 function drawOperation(k, next) {
-    const {high, operations, verdicts: {numbers, none}} = line;
+    const {high, operations, verdicts: {numbers, none}, past} = line;
     const who = operations.who[k], from = operations.from[k], to = operations.to[k];
     if (from > line.to || to && (to < line.from || to < next[who] && !none.has(to))) return;
     next[who] = (to || line.to) + line.grain;
-    const scans = operations.text[operations.called[k]] === 's', place = scans ? verdictOf(numbers, to) : -1;
-    const edge = none.has(to) ? 'bad' : `p${who % 8}`, inside = scans ? edge : 'bar';
+    const scans = operations.text[operations.called[k]] === 's', over = to && to <= past;
+    const place = scans && over ? verdictOf(numbers, to) : -1, bad = over && none.has(to);
     const left = placeOf(Math.max(from - 1, line.from)), right = placeOf(Math.min(to || line.to, line.to));
-    const top = (who - 1) * high + 1, wide = Math.max(right - left, GRAIN), point = numbers[5 * place + 3];
-    paint(inside, left, top, wide, high - 7);
-    Object.assign(pen, {strokeStyle: colour(edge), lineWidth: 2});
+    const top = topOf(who) + 1, wide = Math.max(right - left, GRAIN), point = numbers[5 * place + 3];
+    paint(scans ? 'scan-bar' : 'update-bar', left, top, wide, high - 7);
+    const edge = bad ? 'bad' : scans ? 'scan-edge' : 'update-edge';
+    Object.assign(pen, {strokeStyle: colour(edge), lineWidth: bad ? 3 : 1.5});
     if (wide > 3) pen.strokeRect(left + 1, top + 1, wide - 2, high - 9);
-    if (wide >= 24 && high >= 17) write(barWords(k, place), INKS[inside] ?? 'on-p', left, top, wide - 2);
-    if (point >= Math.max(line.from, 1)) shape(placeOf(point), who * high - 7, DIAMOND, 'ink');
+    if (wide >= 24 && high >= 16) write(barWords(k, place), 'on-p', left, topOf(who), wide - 2, high < 24 ? 12 : 14);
+    const low = topOf(who + 1) - 7;
+    if (point >= Math.max(line.from, 1)) shape(placeOf(point), low, DIAMOND, 'ink');
+    else if (place >= 0 && point === 0 && wide > 8) shape(right - 6, low, CROSS, 'bad');
 }
 
 // Writes into a bar, and not beyond it.
-function write(words, ink, left, top, wide) {
+function write(words, ink, left, top, wide, size) {
     pen.save();
     pen.beginPath();
-    pen.rect(left, top, wide, line.high);
+    pen.rect(left, top, wide, line.high + 4);
     pen.clip();
-    Object.assign(pen, {fillStyle: colour(ink), font: '14px system-ui, "DejaVu Sans", sans-serif'});
-    pen.fillText(words, left + 6, top + (line.high - 6) / 2);
+    Object.assign(pen, {fillStyle: colour(ink), font: `${size * large()}px system-ui, "DejaVu Sans", sans-serif`});
+    pen.fillText(words, left + 6, top + (line.high - 6) / 2 + 1);
     pen.restore();
 }
 
-// A call, and of a scan its answer and the verdict on it.
+// A call, and of a scan that is over its answer and the verdict on it.
 function barWords(k, place) {
-    const {operations, verdicts: {numbers, near}} = line, to = operations.to[k];
-    const end = to ? wordsAt(operations, operations.ended[k]) : '';
-    const answer = end.startsWith('answer') ? ` \u2192${end.slice(6)}` : '';
-    const told = near.find(verdict => verdict.answer === to) ?? (place < 0 ? null : verdictAt(numbers, place));
+    const {operations, verdicts: {numbers, near}, past} = line, to = operations.to[k];
+    const end = to && to <= past ? wordsAt(operations, operations.ended[k]) : '';
+    const answer = end.startsWith('answer') ? ` \u2192${end.slice(6)}` : end === 'crash' ? ' \u2715' : '';
+    const told = place < 0 ? null : near.find(verdict => verdict.answer === to) ?? verdictAt(numbers, place);
     return wordsAt(operations, operations.called[k]) + answer + (told ? `   ${verdictWords(told)}` : '');
 }
 
@@ -115,40 +170,74 @@ function shape(x, y, corners, fill) {
     pen.stroke();
 }
 
-// An arrow from the last operation that a lender was called for to the scan that takes its view, at the item that does.
-function drawLender({who, lender, taken}) {
-    if (!lender || lender > line.n || lender === who || taken < line.from || taken > line.to) return;
-    const {high, operations} = line, way = Math.sign(who - lender);
-    const x = placeOf(taken), y = (who - .5) * high - way * (high / 2 - 5);
-    const lent = operations.who.findLastIndex((one, k) => one === lender && operations.from[k] < taken);
-    const fromX = placeOf(within(operations.to[lent] || taken, line.from, taken)), fromY = (lender - .5) * high;
-    Object.assign(pen, {strokeStyle: colour('accent'), lineWidth: 3});
+// What the module draws: the traps, and the views that were borrowed, as far as they are past.
+function drawPicture() {
+    const {shapes, past} = line;
+    for (const {item, who} of shapes?.trap ?? [])
+        if (isHere(item) && item <= past) shape(placeOf(item), topOf(who) + line.high / 2, TRAP, 'bad');
+    for (const loan of shapes?.loan ?? [])
+        if (loan.item <= past && loan.item > line.from && loan.ended < line.to) drawLoan(loan);
+}
+
+// An arrow from the end of the scan whose view is borrowed to the item that takes it.
+function drawLoan({who, lender, item, ended}) {
+    if (lender === who || item > line.to) return;
+    const {high} = line, way = Math.sign(who - lender), x = placeOf(item);
+    const y = topOf(who) + high / 2 - way * (high / 2 - 5);
+    const fromX = placeOf(Math.max(ended, line.from)), fromY = topOf(lender) + high / 2;
+    Object.assign(pen, {strokeStyle: colour('loan'), lineWidth: 3});
     pen.beginPath();
     pen.moveTo(fromX, fromY);
     pen.lineTo(x, y - way * 4);
     pen.stroke();
-    shape(x, y, [[0, 0], [-7, -9 * way], [7, -9 * way]], 'accent');
-    shape(fromX, fromY, [[-4, -4], [4, -4], [4, 4], [-4, 4]], 'accent');
+    shape(x, y, [[0, 0], [-7, -9 * way], [7, -9 * way]], 'loan');
+    if (ended >= line.from) shape(fromX, fromY, [[-4, -4], [4, -4], [4, 4], [-4, 4]], 'loan');
+}
+
+// Numbers of items below the lanes: of so many that they do not touch.
+function drawAxis(tall) {
+    const {from, to, wide} = line, most = Math.max(wide / 70, 2), raw = (to - from) / most;
+    const scale = 10 ** Math.floor(Math.log10(Math.max(raw, 1)));
+    const step = [1, 2, 5, 10].map(each => each * scale).find(each => each >= raw) ?? scale * 10;
+    const font = '12px system-ui, "DejaVu Sans", sans-serif';
+    Object.assign(pen, {fillStyle: colour('dim'), font, textAlign: 'center'});
+    for (let item = Math.ceil(from / step) * step; item <= to; item += step) {
+        pen.fillRect(placeOf(item) - .5, tall - AXIS, 1, 4);
+        pen.fillText(String(item), within(placeOf(item), LABEL, wide - 12), tall - 6);
+    }
+    pen.textAlign = 'left';
 }
 
 // More or fewer items, around the position; all of them where the factor is 0.
-function zoom(factor) {
+export function zoom(factor) {
     const width = Math.max(Math.round((line.to - line.from) * factor), 8);
     line.width = factor && width < (state.items?.total ?? 0) ? width : Infinity;
     line.from = state.at - (width >> 1);
     showTimeline();
 }
 
-function watchTimeline() {
+// The item at a place of the screen.
+function itemAt(clientX) {
+    const share = (clientX - $('timeline').getBoundingClientRect().left - LABEL) / (line.wide - LABEL - RIGHT);
+    return line.from + Math.round(within(share, 0, 1) * (line.to - line.from));
+}
+
+// What the module's picture tells of an item, where the mouse is at it.
+function tellItem(item) {
+    const {shapes, at} = state, kinds = ['write', 'read', 'test', 'loan', 'trap', 'crash'];
+    const told = item > at ? [] : kinds.flatMap(kind => shapes?.[kind].filter(each => each.item === item) ?? []);
+    $('timeline').title = told.length ? told.map(({title}) => title).join('\n') : `item ${item}`;
+}
+
+export function watchTimeline() {
     const box = $('timeline'), again = () => {
         line.wide = box.clientWidth;
         if (state.report) showTimeline();
     };
     box.onpointerdown = box.onpointermove = ({pointerId, buttons, clientX}) => {
-        if (!buttons) return;
+        if (!buttons) return tellItem(itemAt(clientX));
         box.setPointerCapture(pointerId);
-        const share = (clientX - box.getBoundingClientRect().left - LABEL) / (line.wide - LABEL - RIGHT);
-        goTo(line.from + Math.round(within(share, 0, 1) * (line.to - line.from)));
+        goTo(itemAt(clientX));
     };
     new ResizeObserver(again).observe(box);
     dark.onchange = again;

@@ -1,7 +1,10 @@
 // The worker: asks the module, and reads its answers, so that the page is never held up.
+import {OUTPUT, TRAPPED, ended, inputOf, readHead, readItems, readOperations, readSession, readShapes, readVerdicts,
+    verdictAt, wordsAt} from './text.js';
+import {Glue} from './glue.js';
 
 const NEAR = 60;        // so many scans, the last ones, are told of in words, and as many without a point
-const BORROWED = /^(?:view [a-z]+ ?= ?view ?\( ?([a-z]+) ?\[ ?(\w+) ?\] ?\)|look [a-z]+ ?= ?(v) ?\[ ?(\w+) ?\])/;
+const MOST_MARKS = 64;  // of one session; more of them are asked for in several
 let glue = null, told = '', operations = null;     // the texts whose operations the page has been told, and these
 
 const asText = ({code, bytes}) => ({code, text: new TextDecoder().decode(bytes)});
@@ -9,71 +12,135 @@ const asText = ({code, bytes}) => ({code, text: new TextDecoder().decode(bytes)}
 // What the module says of the parts of an input.
 const askOf = (sub, ...parts) => asText(glue.answer('page_output', [sub, '', inputOf(...parts)]));
 
-// The picture of these items of a run.
-const draw = ({listing, schedule, from, to}) => asText(glue.answer('page_picture', [listing, schedule], [from, to]));
+// What the module's picture of these items tells, and where one is to be seen the picture.
+function draw({listing, schedule, from, to, seen}) {
+    const answer = asText(glue.answer('page_picture', [listing, schedule], [from, to]));
+    if (answer.code !== OUTPUT) return answer;
+    return {...answer, text: seen ? answer.text : '', shapes: readShapes(answer.text)};
+}
 
-// A position of the run, or the one to which 'run' or 'rrun' leads from there, or to which these commands lead.
+// The stop to which 'run' or 'rrun' leads with these marks: of those of several sessions the nearest.
+function findStop({listing, schedule, at, marks, go}) {
+    const groups = [marks.slice(0, MOST_MARKS)], refused = [];
+    let stop = null;
+    for (let k = MOST_MARKS; k < marks.length; k += MOST_MARKS) groups.push(marks.slice(k, k + MOST_MARKS));
+    for (const group of groups) {
+        const answer = askOf('debug', listing, schedule, [...group, `goto ${at}`, go].join('\n'));
+        if (answer.code !== OUTPUT) return answer;
+        const {replies, report} = readSession(answer.text);
+        for (const {command, lines: [first]} of replies)
+            if (first?.startsWith('refused: ')) refused.push([command, first]);
+        stop = stop === null ? report.at : Math[go === 'run' ? 'min' : 'max'](stop, report.at);
+    }
+    return {code: OUTPUT, stop, refused};
+}
+
+// The commands that show a position: its values, these registers, and so many processes.
+const showing = ({registers, processes}, at) => [`goto ${at}`, 'values', ...registers.map(name => `show ${name}`),
+    ...Array.from({length: processes}, (_, k) => `show ${k + 1}`)];
+
+// The report that their replies make.
+function shownReport(replies, {registers, processes}, at) {
+    const first = replies.findIndex(({command}) => command === 'values'), shown = replies.slice(first);
+    const last = shown.slice(registers.length + 1, registers.length + processes + 1);
+    const heads = last.map(({lines: [head, ...locals]}) =>
+        ({...readHead(head), locals: locals.map(line => line.slice(2)).join('\n')}));
+    const lines = shown.slice(1, registers.length + 1).map(reply => reply.lines[0]);
+    return {at, values: shown[0].lines[0].slice(7), registers: lines, processes: heads};
+}
+
+// A position of the run, or the one to which 'run' or 'rrun' leads from there, or to which these commands lead; and
+// where it is wanted the state one item before it, in the same session where the names of what it has are known.
 // Without the number of its items the schedule is read here.
-function look({listing, schedule, total, marks, at, go, commands}) {
+function look({listing, schedule, total, marks, at, go, commands, wantsBefore, names}) {
     const items = total === undefined ? readItems(schedule) : {total}, texts = listing + '\0' + schedule;
-    const known = commands || texts === told, end = at >= items.total && !go;
-    const asked = commands ?? [...marks, ...known || end ? [] : [`goto ${items.total}`, 'events'],
-        `goto ${Math.min(at, items.total)}`, ...go ? [go] : [], 'where'].join('\n');
+    const found = go ? findStop({listing, schedule, at, marks, go}) : {code: OUTPUT, stop: at, refused: []};
+    if (found.code !== OUTPUT) return {...found, items};
+    const known = commands !== undefined || texts === told, place = Math.min(found.stop, items.total);
+    const end = place >= items.total;
+    const both = names && (wantsBefore || go) && place > 0 && commands === undefined;
+    const asked = commands ?? [...known || end ? [] : [`goto ${items.total}`, 'events'],
+        ...both ? showing(names, place - 1) : [], `goto ${place}`, 'where'].join('\n');
     const answer = askOf('debug', listing, schedule, asked);
     if (answer.code !== OUTPUT) return {...answer, items};
     const {replies, report: {events, ...report}} = readSession(answer.text);
     const called = end ? events : replies.find(reply => reply.command === 'events')?.lines.slice(1) ?? [];
-    const text = called.join('\n'), same = known || text === operations?.text;
+    const text = called.join('\n'), alike = known || text === operations?.text;
     const last = replies.at(-1)?.lines.find(line => line.startsWith('last '))?.slice(5) ?? 'none';
-    const refused = replies.filter(reply => reply.lines[0]?.startsWith('refused: ')).map(r => [r.command, r.lines[0]]);
-    if (!same) operations = readOperations(text);
-    if (!commands) told = texts;
-    return {code: OUTPUT, report, last, refused, items, operations: same ? null : operations};
+    if (!alike) operations = readOperations(text);
+    if (commands === undefined) told = texts;
+    const before = both ? shownReport(replies, names, place - 1) :
+        (wantsBefore || go) && report.at ? reportAt(listing, schedule, report.at - 1) : null;
+    return {code: OUTPUT, report, last, before, refused: found.refused, items, operations: alike ? null : operations};
 }
 
-// The verdicts of a run. The last ones, and the first without a point, have their answer, and what lent it.
+// The report of a position; null where there is none.
+function reportAt(listing, schedule, at) {
+    const answer = askOf('debug', listing, schedule, `goto ${at}`);
+    return answer.code === OUTPUT ? readSession(answer.text).report : null;
+}
+
+// How many steps of a process lead from a position to the end of its operation, or to a line; 0 where none of so many
+// do. The schedule has these steps after the position.
+function reach({listing, schedule, at, most, who, line}) {
+    const asked = line ? `goto ${at}\nbreak ${who} ${line}\nrun\nwhere` : `goto ${at + most}\nevents`;
+    const answer = askOf('debug', listing, schedule, asked);
+    if (answer.code !== OUTPUT) return answer;
+    const {replies, report} = readSession(answer.text);
+    if (line) {
+        const there = report.at > at && report.processes[who - 1].at === line;
+        return {code: OUTPUT, steps: there ? report.at - at : 0};
+    }
+    const events = replies.find(({command}) => command === 'events').lines.slice(1).map(one => one.split(' '));
+    const end = events.find(([, item, one, what]) =>
+        Number(item) > at && Number(one) === who && /answer|done/.test(what));
+    return {code: OUTPUT, steps: end ? Number(end[1]) - at : 0};
+}
+
+// What one item more would do: the report after it, and its outcome.
+function peek({listing, schedule, at}) {
+    const answer = askOf('debug', listing, schedule, `goto ${at}\nwhere`);
+    if (answer.code !== OUTPUT) return answer;
+    const {replies, report} = readSession(answer.text);
+    return {code: OUTPUT, report, last: replies.at(-1).lines.find(line => line.startsWith('last '))?.slice(5) ?? ''};
+}
+
+// The operations of a run, which are those that the page has been told, or are asked for.
+function operationsOf(listing, schedule) {
+    if (told === listing + '\0' + schedule && operations) return operations;
+    const lines = askOf('run', listing, schedule).text.split('\n');
+    return readOperations(lines.filter(line => line.startsWith('event ')).join('\n'));
+}
+
+// The verdicts of a run. The last ones, and the first without a point, have their answer.
 function audit({listing, schedule}) {
-    const answer = askOf('audit', listing, schedule), lines = readLines(listing);
+    const answer = askOf('audit', listing, schedule);
     if (answer.code !== OUTPUT) return answer;
     const numbers = readVerdicts(answer.text), all = [...Array(numbers.length / 5).keys()];
     const none = all.filter(k => !numbers[5 * k + 3]), some = new Set([...none.slice(0, NEAR), ...all.slice(-NEAR)]);
-    const near = [...some].sort((a, b) => a - b).map(k => verdictAt(numbers, k)), {to, ended} = operations;
-    for (const verdict of near) verdict.view = wordsAt(operations, ended[to.indexOf(verdict.answer)]).slice(7);
-    if ([...lines.values()].some(line => BORROWED.test(line.text))) findLenders(listing, schedule, lines, near);
+    const near = [...some].sort((a, b) => a - b).map(k => verdictAt(numbers, k));
+    const found = operationsOf(listing, schedule);
+    for (const verdict of near) verdict.view = wordsAt(found, found.ended[found.to.indexOf(verdict.answer)]).slice(7);
     return {code: OUTPUT, verdicts: {numbers, near, none: new Set(none.map(k => numbers[5 * k + 2]))}};
 }
 
-// The line before an answer's tells where a view was taken.
-function findLenders(listing, schedule, lines, verdicts) {
-    const items = readItems(schedule);
-    for (const verdict of verdicts) verdict.taken = itemBefore(items, verdict.who, verdict.answer);
-    const asked = verdicts.map(({taken, who}) => `goto ${Math.max(taken - 1, 0)}\nshow ${who}\n`).join('');
-    const answer = askOf('debug', listing, schedule, asked);
-    if (answer.code !== OUTPUT) return;
-    const shown = readSession(answer.text).replies.filter(reply => reply.command.startsWith('show '));
-    shown.forEach((reply, k) => setLender(verdicts[k], lines, reply.lines));
-}
-
-function setLender(verdict, lines, [first, ...locals]) {
-    const found = BORROWED.exec(lines.get(readHead(first).at)?.text ?? '');
-    if (!found || verdict.taken <= verdict.call) return;
-    const index = found[2] ?? found[4], local = locals.find(line => line.startsWith(`  ${index} = `))?.split(' = ')[1];
-    verdict.lender = index === 'me' ? verdict.who : Number(local ?? index) || 0;
-    verdict.from = verdict.lender ? `${found[1] ?? found[3]}[${verdict.lender}]` : '';
-}
+// What an input of 'snaplab debug' leads to, whatever it is.
+const tryInput = ({text}) => asText(glue.answer('page_output', ['debug', '', ended(text)]));
 
 async function start(letters) {
+    if (typeof WebAssembly === 'undefined') throw new Error('it has no WebAssembly');
     const bytes = Uint8Array.from(atob(letters), letter => letter.charCodeAt(0));
     glue = new Glue(await WebAssembly.compile(bytes));
     return {code: OUTPUT};
 }
 
-const TASKS = {start, look, audit, draw, answer: ({name, texts, numbers}) => glue.answer(name, texts, numbers)};
+const TASKS = {start, look, audit, draw, peek, reach, tryInput,
+    answer: ({name, texts, numbers}) => glue.answer(name, texts, numbers)};
 
 onmessage = async ({data: {kind, request}}) => {
     try {
         postMessage(await TASKS[kind](request));
     } catch (error) {
-        postMessage({code: TRAPPED, text: String(error)});
+        postMessage({code: TRAPPED, text: String(error.message ?? error)});
     }
 };

@@ -50,7 +50,9 @@ class Page:
         self.tab.settled()
 
     def choose(self, number):
-        self.run(f"(() => {{ const m = document.getElementById('menu'); m.value = {number}; m.onchange(); m.blur(); }})()")
+        """Chooses in the list of lessons, by clicks; from there keys go to the time line."""
+        self.tab.click("#menu")
+        self.tab.click(f"#lessons-list button[value='{number}']")
         self.tab.settled()
 
     def write(self, part, text):
@@ -60,7 +62,8 @@ class Page:
         self.tab.settled()
 
     def leave(self):
-        self.run("document.activeElement.blur()")
+        """Out of a text, to the time line."""
+        self.tab.key("Escape")
 
     def at(self):
         return self.text("#where .at")
@@ -74,6 +77,11 @@ def try_gallery(page, count):
     for k, idea in enumerate(one for one in data["choices"] if "change" in one):
         page.choose(FIRST_IDEA + k)
         for which, shows in (("as it is", idea["shows"]), ("changed", idea["change"]["shows"])):
+            page.click("#end")
+            if not shows:
+                count.check(f"idea {k + 1} {which}: no scan ends", "No scan has ended" in page.text("#verdicts"), page.text("#verdicts"))
+                page.click("#change")
+                continue
             none = shows.endswith(" none")
             told = page.text("#verdicts")
             wanted = shows.removesuffix(" none").replace("answer ", "answers ")
@@ -85,7 +93,8 @@ def try_gallery(page, count):
             page.click("#change")
         count.check(f"idea {k + 1}, back", page.schedule() == idea["schedule"] and page.text("#change") == "Make the change")
     page.choose(FIRST_IDEA + 2)
-    count.check("a lender is told", "view of b[2]" in page.text("#verdicts"), page.text("#verdicts"))
+    page.click("#end")
+    count.check("a lender is told", "view of process 2" in page.text("#verdicts"), page.text("#verdicts"))
     for k, (first, words) in enumerate((("kind seq", "#"), ("kind bit", "#"), ("kind multi", "#"))):
         page.choose(k)
         listing = page.value("#listing textarea")
@@ -115,15 +124,21 @@ def try_buttons(page, count):
     count.check("redo", page.schedule().endswith("2 update 2 5\n2\n"), page.schedule())
     page.click("#home")
     page.click(".process .step")
-    count.check("a step in the middle stands there", page.schedule().startswith("shape 3 3\n1\n1 scan\n") and page.at() == "Item 1 of 6")
-    count.check("and is skipped in words", "skipped: Idle" in page.text("#where"), page.text("#where"))
+    count.check("a step of an idle process is not to be had", page.at() == "Item 0 of 5" and page.run(
+        "[...document.querySelectorAll('.process .step')].every(one => one.disabled)"), page.at())
+    page.key("1")
+    count.check("nor by its key, and it says why", "idle: call it" in page.text("#note") and page.at() == "Item 0 of 5", page.text("#note"))
+    page.click(".process .scan", 1)
+    count.check("a call in the middle stands there", page.schedule().startswith("shape 3 3\n2 scan\n1 scan\n") and page.at() == "Item 1 of 6")
     page.click("#undo")
     page.run("goTo(2)")
+    page.tab.settled()
     page.click(".process .scan", 2)
     count.check("a call parts a line", page.schedule() == "shape 3 3\n1 scan\n1\n3 scan\n1\n2 update 2 5\n2\n", page.schedule())
     page.click("#cut")
     count.check("what follows is cut", page.schedule() == "shape 3 3\n1 scan\n1\n3 scan\n", page.schedule())
     page.run("goTo(1)")
+    page.tab.settled()
     page.click(".process .step")
     count.check("a step that comes next is just made", page.at() == "Item 2 of 3" and page.schedule().count("\n") == 4)
     page.click("#processes summary")
@@ -150,6 +165,7 @@ def try_walk(page, count):
     page.tab.settled()
     changed = page.text("#memory")
     count.check("old beside new", "5\u21926" in changed and "0\u21925" in changed, changed)
+    page.click("#end")
     box = page.run("(() => { const r = document.getElementById('timeline').getBoundingClientRect(); return [r.x, r.y, r.width, r.height]; })()")
     page.tab.mouse(box[0] + box[2] / 2, box[1] + box[3] / 2)
     page.tab.settled()
@@ -159,6 +175,7 @@ def try_walk(page, count):
     page.tab.settled()
     count.check("a drag", int(page.at().split()[1]) > 50, page.at())
     count.check("the slider tells", page.run("document.getElementById('timeline').getAttribute('aria-valuenow')") == page.at().split()[1])
+    page.click("#end")
     page.click("#verdicts button")
     count.check("a verdict leads to its point", page.at() == "Item 24 of 64", page.at())
     page.run("(() => { const a = document.getElementById('at'); a.value = '38'; a.onchange(); })()")
@@ -187,7 +204,7 @@ def try_marks(page, count):
     page.leave()
     page.key("b")
     count.check("b takes it away where the process stands", page.text("#marks") == "", page.text("#marks"))
-    page.key("m", "Tab", "w")
+    page.key("m", "Tab", "Tab", "w")
     count.check("w watches the register that has the focus", "r 2" in page.text("#marks"), page.text("#marks"))
     page.leave()
     page.key("Home", "r")
@@ -217,7 +234,8 @@ def try_files(page, count, running):
     text = page.run("asInput()")
     wanted = parts(read("examples", "borrowed-view", "stdin"))
     got = parts(text)
-    count.check("the input of debug", got[:2] == wanted[:2] and got[2] == "break 1 13\nbreak 2 13\ngoto 30\n", got[2])
+    lesson = '# lesson {"idea":"3. A scan that borrows its view","goal":null}\n'
+    count.check("the input of debug", got[:2] == wanted[:2] and got[2] == lesson + "break 1 13\nbreak 2 13\ngoto 30\n", got[2])
     page.run("window.copied = ''; navigator.clipboard.writeText = async text => { window.copied = text; }")
     page.click("#copy")
     page.tab.until("window.copied !== ''")
@@ -227,7 +245,7 @@ def try_files(page, count, running):
     page.tab.until("window.copied !== ''")
     link = page.run("window.copied")
     other = Page(running.tab(address=link))
-    other.tab.until("snaplab.state.report?.at === 30")
+    other.tab.until("snaplab.state.report?.at === 30 && snaplab.settled()")
     count.check("the link has all of it", other.run("asInput()") == text and other.run("snaplab.state.idea") == FIRST_IDEA + 2, link[:60])
     other.tab.close()
     with tempfile.TemporaryDirectory() as folder:
@@ -299,8 +317,11 @@ def try_exercise(page, count, running):
     page.choose([bool(one.get("goal")) for one in data["choices"]].index(True))
     count.check("an exercise says that it is not met", "Not met yet" in page.text("#goal"), page.text("#goal"))
     page.write("schedule", "shape 2 2\n1 scan\n1*6\n2 update 2 7\n2*17\n1*50\n")
+    count.check("and not before it has run", "Not met yet, up to item 0" in page.text("#goal"), page.text("#goal"))
+    page.click("#end")
     count.check("and when it is", page.text("#goal").startswith("Met: the scan of process 1, items 1 to"), page.text("#goal"))
     page.write("schedule", "shape 2 2\n1 scan\n1*6\n")
+    page.leave()
     page.click("#make")
     count.check("the form", page.shown("#form"))
     page.run("""(() => { const e = document.querySelector('#form form').elements; e.task.value = 'Find one double collect.';
@@ -315,6 +336,7 @@ def try_exercise(page, count, running):
     other.key("End")
     for _ in range(7):
         other.click(".process .step")
+    other.tab.settled()
     other.tab.until("snaplab.settled()")
     count.check("and is met by pressing step", other.text("#goal") == "Met: the scan of process 1, items 1 to 14.", other.text("#goal"))
     other.tab.close()
@@ -335,8 +357,8 @@ def try_refusals(page, count):
             if more:
                 page.write("schedule", more[0])
             code, told = name.removesuffix(".txt").removesuffix("-kind"), page.text(f"#{part}-refusal")
-            bad = page.run(f"document.querySelectorAll('#{part} .code i.bad').length")
-            count.check(f"{name} is refused at its line", told.startswith(f"refused: {code} ") and len(told) > 40 and bad > 0, told[:90])
+            bad = page.run(f"document.querySelectorAll('#{part} .back .bad').length")
+            count.check(f"{name} is refused at its line", told.startswith(f"refused: {code} ") and len(told) > 30 and bad > 0, told[:90])
     others = {
         "L1 TooLong": ("listing", "#" * 65537), "S1 TooLong": ("schedule", "#" * 4194305), "P2 WrongParts": ("listing", "kind seq\n%\n"),
         "P1 InputTooLong": ("schedule", "#" * 16777217), "L2 BadHeader 1": ("listing", ""), "S2 BadShape": ("schedule", ""),
@@ -360,7 +382,7 @@ def try_refusals(page, count):
     open_bytes(page, (read("examples", "first-run.txt") + "%\nhello\n").encode())
     count.check("commands that are none are refused in words", "G1 BadCommand 1" in page.text("#note"), page.text("#note"))
     open_bytes(page, (read("examples", "refusals", "G6.txt")).encode())
-    count.check("a mark too many is told", "G6 TooManyMarks" in page.text("#note"), page.text("#note"))
+    count.check("65 marks are not too many", page.run("markCommands().length") > 64 and page.at().startswith("Item"), page.text("#note"))
     page.run("location.hash = '#nonsense'")
     page.run("new Promise(done => setTimeout(done, 50))")
     count.check("a link that is cut is told", "cannot be read" in page.text("#note"), page.text("#note"))
@@ -388,7 +410,7 @@ def work_long_schedules(page, check):
     check("1,000,000 items", page.at() == "Item 0 of 1000000", page.at())
     page.click("#end")
     check("their end", page.at() == "Item 1000000 of 1000000", page.at())
-    page.click(".process .step")
+    page.click(".process .scan")
     check("one more is refused in words", "S4 TooManyItems" in page.text("#schedule-refusal"), page.text("#schedule-refusal"))
     page.click("#undo")
     several = "".join(f"{k % 2 + 1} scan\n1*9\n2*9\n1 update 1 {k}\n1*6\n" for k in range(38000))
@@ -397,7 +419,7 @@ def work_long_schedules(page, check):
     page.click("#end")
     check("the text is shown in part", page.run("document.querySelectorAll('#schedule .gutter > div').length") <= 301 and
           page.shown("#window"))
-    page.click(".process .step")
+    page.click(".process .scan" if page.run("document.querySelector('.process .step').disabled") else ".process .step")
     check("a step at the end of them", page.at() == "Item 988001 of 988001", page.at())
     page.choose(FIRST_IDEA)
 
@@ -424,9 +446,13 @@ def try_sizes(page, count):
     count.check("64 processes of M", heads == 64 and page.at() == "Item 57664 of 57664", page.at())
     page.click(".process .step", 63)
     count.check("a step of the 64th", page.schedule().endswith("64*901\n"), page.schedule()[-20:])
-    page.click("#listing .gutter > div", 9)
-    page.click("#listing .gutter > div", 10)
-    count.check("65 marks are refused in words", "G6 TooManyMarks" in page.text("#note"), page.text("#note"))
+    lines = page.run("[...document.querySelectorAll('#listing .gutter > div')].flatMap((r, k) => r.classList.contains('numbered') ? [k] : [])")
+    for k in lines[3:6]:
+        page.click("#listing .gutter > div", k)
+    page.click("#home")
+    page.leave()
+    page.key("r")
+    count.check("192 breakpoints stop a run", 0 < int(page.at().split()[1]) < 57664, page.at() + page.text("#note"))
     lives_on(page, count, "64 processes")
 
 
@@ -481,7 +507,7 @@ def try_trap(page, count):
     count.check("after a trap the instance is given up, and a new one made", told[:2] == [True, 3], told)
     count.check("room that is too small is made larger once", told[2:6] == [0, 100000, 65, "65536,65536,100000,100000"], told)
     count.check("want of memory is told", told[6], told)
-    page.run("take, state.refusal = readRefusal({code: 5, text: 'RuntimeError: unreachable'}), showState()")
+    page.run("state.refusal = readRefusal({code: 5, text: 'RuntimeError: unreachable'}), showState()")
     count.check("and the page says so", "was started anew" in page.text("#note"), page.text("#note"))
     lives_on(page, count, "a trap")
 
@@ -490,48 +516,57 @@ def try_readers(page, count):
     """Names and live regions, for those who listen; keys, for those who have no mouse."""
     page.choose(FIRST_IDEA + 3)
     page.click("#change")
-    page.click("#verdicts button")
+    page.click("#end")
+    page.click("#verdicts .none")
     told = page.text("#where")
     count.check("position, outcome and verdict are told", page.run("document.getElementById('where').getAttribute('aria-live')") == "polite"
                 and "Item 52 of 62" in told and "answered 0 0" in told and "point none" in told, told)
     nodes = page.tab.ask("Accessibility.getFullAXTree")["nodes"]
     unnamed = [one["role"]["value"] for one in nodes if not one.get("ignored") and one["role"]["value"] in
-               ("button", "textbox", "combobox", "slider", "listbox", "link") and not one.get("name", {}).get("value")]
+               ("button", "textbox", "combobox", "slider", "listbox", "link", "option", "separator", "splitter") and not one.get("name", {}).get("value")]
     count.check("every control has a name", not unnamed, unnamed)
     reached = set()
+    page.run("goTo(45)")
+    page.tab.settled()
     page.leave()
-    for _ in range(90):
+    for _ in range(140):
         page.tab.key("Tab")
         reached.add(page.run("document.activeElement.id || document.activeElement.className || document.activeElement.dataset.register || "
                              "document.activeElement.parentElement?.parentElement?.id || document.activeElement.tagName"))
     wanted = {"menu", "undo", "open", "save", "copy", "link", "picture", "make", "keys", "gutter", "word", "value", "step", "scan", "update", "crash",
-              "cut", "run", "rrun", "home", "end", "at", "timeline"}
+              "cut", "run", "rrun", "home", "end", "at", "timeline", "play", "next", "previous", "words", "present", "trust", "frame",
+              "edge-left", "edge-right", "edge-middle", "edge-lesson"}
     count.check("the Tab key reaches every control", wanted <= reached, wanted - reached)
     page.leave()
     page.key("?")
     count.check("the keys are listed", page.shown("#help") and "run back" in page.text("#help"))
     page.tab.key("Escape")
     page.choose(0)
-    page.leave()
     page.key("p")
-    page.tab.key("Tab")
     page.tab.key("Enter")
     page.tab.settled()
-    page.leave()
-    page.key("1", "1", "2")
-    count.check("a schedule is written by keys alone", page.schedule() == "shape 3 3\n1 scan\n1*2\n2\n", page.schedule())
+    page.key("1", "1", "t", "1")
+    count.check("a schedule is written by keys alone", page.schedule() == "shape 3 3\n1 scan\n1*3\n", page.schedule())
     page.key("z")
     count.check("z takes back", page.schedule() == "shape 3 3\n1 scan\n1*2\n", page.schedule())
     page.key("y")
-    count.check("y brings back", page.schedule().endswith("2\n"))
+    count.check("y brings back", page.schedule().endswith("1*3\n"))
 
 
 def try_alone(page, count):
     """The page is one file, and asks for nothing."""
     text = open(browser.PAGE, encoding="utf-8").read()
+    policy = re.search(r'http-equiv="Content-Security-Policy" content="([^"]*)"', text)[1]
+    count.check("the policy allows the page's script alone, by its hash", "sha256-" in policy and "'unsafe-inline'" not in re.search(
+        r"script-src[^;]*", policy)[0] and "base-uri 'none'" in policy and "form-action 'none'" in policy, policy)
+    page.run("document.body.append(Object.assign(document.createElement('script'), {textContent: 'window.strange = 1'}))")
+    count.check("another script does not run", page.run("window.strange === undefined"))
     outside = re.findall(r"(?:src|href)=\"?(?!data:)[a-z]+:|url\(|@import|fetch\(|XMLHttpRequest|https?://", text)
     count.check("nothing is loaded from elsewhere", not outside, outside[:5])
+    page.click("#trust")
     sentences = re.split(r"(?<=\.)\s+", page.run("document.querySelector('#proved p').textContent.trim()"))
+    count.check("a button tells what is proved", page.shown("#proved"))
+    page.tab.key("Escape")
     count.check("four sentences say what is proved and what is trusted", len(sentences) == 4 and all(
         word in " ".join(sentences) for word in ("proved", "trusted", "browser", "wasm64", "linker", "lowering", "heap")), len(sentences))
 

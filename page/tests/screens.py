@@ -1,5 +1,5 @@
 #!/usr/bin/env python3
-"""Pictures of the page, to be looked at: four sizes, light and dark, in several states.
+"""Pictures of the page, to be looked at: five sizes, light and dark, in several states.
 
     page/tests/screens.py FOLDER
 """
@@ -11,6 +11,7 @@ import browser  # noqa: E402
 
 SIZES = {
     "projector": {"width": 1280, "height": 720},
+    "desk": {"width": 1440, "height": 900},
     "large": {"width": 1920, "height": 1080},
     "zoomed": {"width": 640, "height": 360, "scale": 2},      # the projector at 200 %
     "phone": {"width": 390, "height": 844, "scale": 2, "mobile": True},
@@ -30,7 +31,10 @@ MORE = {
              ".join('') + Array.from({length: 200}, (_, k) => `${k % 12 + 1}*${k % 7 + 5}\\n`).join('')})", "goTo(700)", "goTo(701)"],
     "help": [f"choose({FIRST_IDEA})", "(document.getElementById('help').showModal(), 0)"],
     "picture": [f"choose({FIRST_IDEA + 2})", "(document.getElementById('picture').click(), 0)"],
-    "proved": [f"choose({FIRST_IDEA})", "(document.getElementById('proved').open = true, 0)"],
+    "lessons": [f"choose({FIRST_IDEA})", "(document.getElementById('menu').click(), 0)"],
+    "words": [f"choose({FIRST_IDEA})", "(document.getElementById('words').click(), 0)"],
+    "proved": [f"choose({FIRST_IDEA})", "(document.getElementById('trust').click(), 0)"],
+    "present": [f"choose({FIRST_IDEA + 2})", "goTo(54)", "(document.body.classList.add('present'), 0)"],
 }
 
 
@@ -42,8 +46,10 @@ def main():
         for size, how in SIZES.items():
             for dark in (False, True):
                 tab = running.tab(dark=dark, **how)
+                tab.run("document.getElementById('hello-close').click()")
                 states = {**STATES, **MORE} if size == "projector" and not dark else STATES
                 for name, steps in states.items():
+                    tab.run("[...document.querySelectorAll('dialog[open]')].forEach(one => one.close())")
                     for step in steps:
                         tab.run(f"Promise.resolve({step}).then(() => 0)")
                         tab.settled()

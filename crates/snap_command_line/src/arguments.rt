@@ -1,11 +1,17 @@
 //! `request_of_arguments`: the subcommands and options that snaplab takes, and what they ask for.
-ghost use Rattle.std.specs.Prelude.{IfOk, IfSome};
+ghost use Rattle.std.specs.Prelude.{◌≡◌, IfOk, IfSome, codes};
+ghost use Rattle.clap.specs.Matches.{first_value, found_of};
+ghost use Rattle.clap.specs.declared.parser.matches.ArgMatches.{ArgMatches};
 ghost use Rattle.snap_tasks.specs.Request.{HasLimit, IsLimit};
+ghost use Rattle.snap_command_line.specs.Invocations.{IsAsked, IsAskedBy, IsLimitIn};
+ghost use Rattle.snap_command_line.specs.Invocations.{limit_or_usual, subject_of};
 
 use crate::command_line::Invocation;
+use crate::texts::{HELP, LIVE, OF_RUNS, OF_TEXTS, SURVEY, Told};
 use clap::builder::ValueParser;
 use clap::error::ErrorKind;
 use clap::{Arg, ArgAction, ArgMatches, Command, Error};
+use snap_options::{is_given, number_of};
 use snap_tasks::{Subject, kind_of, request_of};
 use snap_words::MAX_ITEMS;
 use std::alloc::{AllocError, Global};
@@ -19,14 +25,29 @@ const KINDS: &[&str] = &["seq", "bit", "multi"];
 /// The most that it has where no limit is given.
 const USUAL_LIMIT: u64 = 100_000;
 
+/// What is said where the name of a file stands behind a subcommand.
+const NO_FILES: &str = "\
+snaplab takes no names of files, but reads standard input: use `<`,
+       as in `snaplab check < FILE`";
+
+/// A subcommand with its help. It takes names of files, for which `NO_FILES` is said.
+fn subcommand<'a>(alloc: Global, told: Told) -> Result<Command<'a>, AllocError> {
+    let (name, about, more) = told;
+    let files = Arg::new(alloc, "FILE").num_args(0..=9).hide(true);
+    Command::new(alloc, name)
+        .about(about)
+        .after_help(more)
+        .arg(files)
+}
+
 /// A subcommand that runs a listing: one of the input, or a shipped one.
-fn running<'a>(alloc: Global, name: &'a str, about: &'a str) -> Result<Command<'a>, AllocError> {
+fn running<'a>(alloc: Global, told: Told) -> Result<Command<'a>, AllocError> {
     let shipped = Arg::new(alloc, "shipped")
         .long("shipped")
         .value_name("KIND")
         .value_parser(KINDS)
-        .help("Takes the shipped listing of this kind of registers; the input has no listing then");
-    Command::new(alloc, name).about(about).arg(shipped)
+        .help("Takes the shipped listing of this kind of registers;{n}the input has none");
+    subcommand(alloc, told)?.arg(shipped)
 }
 
 /// The subcommand that plays scripts.
@@ -37,12 +58,7 @@ fn live<'a>(alloc: Global) -> Result<Command<'a>, AllocError> {
         .value_parser(ValueParser::unsigned(1, MAX_ITEMS))
         .default_value("100000")
         .help("The most turns of a process");
-    running(
-        alloc,
-        "live",
-        "Plays scripts live, each process in a thread of its own",
-    )?
-    .arg(limit)
+    running(alloc, LIVE)?.arg(limit)
 }
 
 /// An option without a value.
@@ -58,14 +74,9 @@ fn survey<'a>(alloc: Global) -> Result<Command<'a>, AllocError> {
     let strict = flag(
         alloc,
         "strict",
-        "Ends with status 4 where a run has a scan without a point, or a trap",
+        "Ends with status 4 where a run has a scan without{n}a point, or a trap",
     );
-    running(
-        alloc,
-        "survey",
-        "Says what the run of each of many schedules came to",
-    )?
-    .arg(strict)
+    running(alloc, SURVEY)?.arg(strict)
 }
 
 /// The option that has refusals explained.
@@ -73,47 +84,16 @@ fn explain<'a>(alloc: Global) -> Arg<'a> {
     flag(
         alloc,
         "explain",
-        "Explains on standard error where and why an input is refused",
+        "Explains on standard error where and why an input{n}is refused",
     )
     .global(true)
 }
 
-/// The subcommands that read a text or an image and take no option, each with what it does.
-const OF_TEXTS: [(&str, &str); 5] = [
-    ("check", "Says whether a text is a listing"),
-    ("lint", "Says what the runs of a listing may run into"),
-    ("assemble", "Writes the image of a listing"),
-    ("list", "Writes the text of an image"),
-    ("upgrade", "Writes an image in the second version"),
-];
-
-/// The subcommands that run a listing and take no other option, each with what it does.
-const OF_RUNS: [(&str, &str); 6] = [
-    ("run", "Runs a listing under a schedule"),
-    (
-        "trace",
-        "Says what each item of a schedule did, and what it changed",
-    ),
-    (
-        "debug",
-        "Runs a listing under a schedule, by debugger commands",
-    ),
-    (
-        "audit",
-        "Says of each finished scan which state it stands for",
-    ),
-    (
-        "certify",
-        "Says where each operation took place, if each has a linearization point",
-    ),
-    ("batch", "Runs a listing under many schedules"),
-];
-
 /// A command with the subcommands that read a text or an image.
 fn with_texts<'a>(alloc: Global, command: Command<'a>) -> Result<Command<'a>, AllocError> {
     let mut command = command;
-    for (name, about) in OF_TEXTS {
-        command = command.subcommand(Command::new(alloc, name).about(about))?;
+    for told in OF_TEXTS {
+        command = command.subcommand(subcommand(alloc, told)?)?;
     }
     Ok(command)
 }
@@ -121,8 +101,8 @@ fn with_texts<'a>(alloc: Global, command: Command<'a>) -> Result<Command<'a>, Al
 /// A command with the subcommands that run a listing.
 fn with_runs<'a>(alloc: Global, command: Command<'a>) -> Result<Command<'a>, AllocError> {
     let mut command = command;
-    for (name, about) in OF_RUNS {
-        command = command.subcommand(running(alloc, name, about)?)?;
+    for told in OF_RUNS {
+        command = command.subcommand(running(alloc, told)?)?;
     }
     Ok(command)
 }
@@ -130,7 +110,7 @@ fn with_runs<'a>(alloc: Global, command: Command<'a>) -> Result<Command<'a>, All
 /// The arguments that the program takes.
 fn command<'a>(alloc: Global) -> Result<Command<'a>, AllocError> {
     let command = Command::new(alloc, "snaplab")
-        .about("Runs listings over shared registers")
+        .override_help(HELP)
         .version(VERSION)
         .subcommand_required(true)
         .arg(explain(alloc))?;
@@ -139,34 +119,45 @@ fn command<'a>(alloc: Global) -> Result<Command<'a>, AllocError> {
     command.subcommand(survey(alloc)?)?.subcommand(live(alloc)?)
 }
 
-/// The limit that a subcommand's arguments ask for, where it takes one. It takes no other than
-/// these.
-fn limit_of(arguments: &ArgMatches<'_>) -> u64
-    ensures { IsLimit result }
+/// The limit that is given, where it is one that processes may have, and else the usual one.
+fn limit_or_usual(given: Option<u64>) -> u64
+    ensures value { result ≡ limit_or_usual given }
+    ensures limit { IsLimit result }
 {
-    match arguments.get_one::<u64>("limit") {
+    match given {
         Some(limit) if 1 <= limit && limit <= MAX_ITEMS => limit,
         _ => USUAL_LIMIT,
     }
 }
 
+/// The limit that a subcommand's arguments ask for, where it takes one. It takes no other than
+/// these.
+fn limit_of(arguments: &ArgMatches<'_>) -> u64
+    ensures given { IsLimitIn (found_of arguments.now) result }
+    ensures limit { IsLimit result }
+{
+    limit_or_usual(number_of(arguments, "limit"))
+}
+
 /// The listing that a subcommand's arguments ask for.
-fn subject_of(arguments: &ArgMatches<'_>) -> Option<Subject> {
+fn subject_of(arguments: &ArgMatches<'_>) -> Option<Subject>
+    ensures { result ≡ subject_of (first_value (found_of arguments.now) (codes "shipped")) }
+{
     match arguments.get_str("shipped") {
         Some(kind) => Some(Subject::Shipped(kind_of(kind)?)),
         None => Some(Subject::FirstPart),
     }
 }
 
-/// What the arguments of a subcommand ask for.
-fn request_by(matches: &ArgMatches<'_>) -> Option<Invocation>
-    ensures { IfSome result (λ asked. HasLimit asked.request) }
+/// What the subcommand of this name asks for, by its own arguments and by all of them.
+fn asked_by(name: &str, own: &ArgMatches<'_>, all: &ArgMatches<'_>) -> Option<Invocation>
+    ensures asked { IfSome result (IsAskedBy name.now (found_of own.now) (found_of all.now)) }
+    ensures limit { IfSome result (λ asked. HasLimit asked.request) }
 {
-    let (name, arguments) = matches.subcommand()?;
-    let subject = subject_of(arguments)?;
-    let request = request_of(name, subject, limit_of(arguments))?;
-    let explains = matches.get_flag("explain");
-    let strict = arguments.get_flag("strict");
+    let subject = subject_of(own)?;
+    let request = request_of(name, subject, limit_of(own))?;
+    let explains = is_given(all, "explain");
+    let strict = is_given(own, "strict");
     Some(Invocation {
         request,
         explains,
@@ -174,12 +165,33 @@ fn request_by(matches: &ArgMatches<'_>) -> Option<Invocation>
     })
 }
 
+/// Whether the name of a file stands behind the subcommand.
+fn names_a_file(matches: &ArgMatches<'_>) -> bool {
+    match matches.subcommand() {
+        Some((_, arguments)) => arguments.contains_id("FILE"),
+        None => false,
+    }
+}
+
+/// What the arguments of a subcommand ask for.
+fn request_by(matches: &ArgMatches<'_>) -> Option<Invocation>
+    ensures asked { IfSome result (IsAsked matches.now) }
+    ensures limit { IfSome result (λ asked. HasLimit asked.request) }
+{
+    let (name, arguments) = matches.subcommand()?;
+    asked_by(name, arguments, matches)
+}
+
 /// What the arguments ask for, the program's own name first.
 pub fn request_of_arguments<'a>(alloc: Global, arguments: &'a [String]) -> Result<Invocation, Error>
-    ensures { IfOk result (λ asked. HasLimit asked.request) }
+    ensures asked { IfOk result (λ asked. (m : ArgMatches) × IsAsked m asked) }
+    ensures limit { IfOk result (λ asked. HasLimit asked.request) }
 {
     let mut command = command(alloc)?;
     let matches = command.try_get_matches_from_mut(arguments)?;
+    if names_a_file(&matches) {
+        return Err(command.error(ErrorKind::UnknownArgument, NO_FILES)?);
+    }
     match request_by(&matches) {
         Some(asked) => Ok(asked),
         None => Err(command.error(ErrorKind::MissingSubcommand, "no subcommand")?),

@@ -4,5 +4,6 @@
 
 mod arguments;
 mod command_line;
+mod texts;
 
 pub use command_line::{CommandLine, Invocation, read_arguments};

@@ -1,4 +1,7 @@
 //! `FileFault`: why a file that a command line names was not read.
+ghost use Rattle.std.specs.Prelude.{◌≡◌};
+ghost use Rattle.snap_files.specs.FileTexts.{reason};
+
 use std::io::ErrorKind;
 
 /// Why a file was not read.
@@ -12,7 +15,9 @@ pub enum FileFault {
 }
 
 /// Why a file could not be opened or read, for a person.
-pub fn reason(kind: ErrorKind) -> &'static str {
+pub fn reason(kind: ErrorKind) -> &'static str
+    ensures { result.now ≡ reason kind }
+{
     match kind {
         ErrorKind::NotFound => "no such file",
         ErrorKind::PermissionDenied => "permission denied",

@@ -1,12 +1,15 @@
 //! `read_named`: the bytes of a file that a command line names, read whole, where they are not too
 //! many.
-ghost use Rattle.std.specs.Prelude.{◌≡◌, ◌≤◌, IfOk, IfSome, MatchOption, length};
+ghost use Rattle.std.specs.Prelude.{◌≡◌, ◌≤◌, ◌<◌, IfErr, IfOk, IfSome, IsErrAnd};
+ghost use Rattle.std.specs.Prelude.{MatchOption, None, length};
+ghost use Rattle.std.specs.IoError.{error_kind};
+ghost use Rattle.snap_files.specs.FileTexts.{IsFaultOf, Reads, ReadsOpen};
 
 use crate::fault::FileFault;
 use std::alloc::Global;
 use std::fs::File;
 use std::io;
-use std::io::{ErrorKind, Read};
+use std::io::{Error, ErrorKind, Read};
 
 /// Reads all there is, where it has fewer than `most` bytes. A source may have no end, as
 /// `/dev/zero`.
@@ -15,8 +18,9 @@ pub fn read_below<R: Read + Drop>(
     reader: R,
     most: u64,
 ) -> io::Result<Option<Vec<u8>>>
-    ensures { IfOk result (λ found. IfSome (R.remaining reader) (λ input.
+    ensures whole { IfOk result (λ found. IfSome (R.remaining reader) (λ input.
         MatchOption found (most ≤ length input) (λ bytes. bytes.items ≡ input))) }
+    ensures short { IfOk result (λ found. IfSome found (λ bytes. length bytes.items < most)) }
 {
     let mut bytes = Vec::new(alloc);
     reader.take(most).read_to_end(&mut bytes)?;
@@ -27,18 +31,49 @@ pub fn read_below<R: Read + Drop>(
     }
 }
 
-/// The bytes of the file of this name, where it has fewer than `most`.
-pub fn read_named(rt: &HostRuntime, name: &str, most: u64) -> Result<Vec<u8>, FileFault> {
-    let found = match File::open(rt, name) {
-        Ok(file) => read_below(rt.alloc(), file, most),
-        Err(error) => Err(error),
-    };
-    match found {
+/// The fault of an error.
+fn fault_of(error: &Error) -> FileFault
+    ensures { IsFaultOf (error_kind error.now) result }
+{
+    match error.kind() {
+        ErrorKind::OutOfMemory => FileFault::Memory,
+        kind => FileFault::Unread(kind),
+    }
+}
+
+/// The bytes that an open file has, where they are fewer than `most`.
+#[tactic(auto, using(crate::proofs::Faults::may_fail))]
+fn read_open<R: Read + Drop>(alloc: Global, reader: R, most: u64) -> Result<Vec<u8>, FileFault>
+    ensures short { Reads most None result }
+    ensures whole { IfSome (R.remaining reader) (λ input. ReadsOpen most input result) }
+{
+    match read_below(alloc, reader, most) {
         Ok(Some(bytes)) => Ok(bytes),
         Ok(None) => Err(FileFault::TooLong),
-        Err(error) => match error.kind() {
-            ErrorKind::OutOfMemory => Err(FileFault::Memory),
-            kind => Err(FileFault::Unread(kind)),
-        },
+        Err(error) => Err(fault_of(&error)),
     }
+}
+
+/// The bytes of what was opened, where they are fewer than `most`; or why it was not opened.
+pub fn read_opened<R: Read + Drop>(
+    alloc: Global,
+    opened: io::Result<R>,
+    most: u64,
+) -> Result<Vec<u8>, FileFault>
+    ensures short { Reads most None result }
+    ensures whole { IfOk opened (λ reader. IfSome (R.remaining reader) (λ input.
+        ReadsOpen most input result)) }
+    ensures closed { IfErr opened (λ error. IsErrAnd result (IsFaultOf (error_kind error))) }
+{
+    match opened {
+        Ok(reader) => read_open(alloc, reader, most),
+        Err(error) => Err(fault_of(&error)),
+    }
+}
+
+/// The bytes of the file of this name, where it has fewer than `most`.
+pub fn read_named(rt: &HostRuntime, name: &str, most: u64) -> Result<Vec<u8>, FileFault>
+    ensures { Reads most None result }
+{
+    read_opened(rt.alloc(), File::open(rt, name), most)
 }

@@ -47,9 +47,9 @@ impl Shrinker<'_> {
     }
 }
 
-/// A schedule whose run fails too, of some of the items of this one, those of each process in their
-/// order; of fewer processes and words where that can be. Without any one of its items the run does
-/// not fail. `owns` says whether each process has a word of its own, which goes when it goes.
+/// Returns a schedule whose run fails too, of no more processes, words and items than this one.
+/// Without any one of its items the run does not fail. `owns` says whether each process has a word
+/// of its own, which goes when it goes.
 #[tactic(auto, using(crate::proofs::Cutting::onward, crate::proofs::Cutting::onward_small))]
 pub fn shrunk(
     alloc: Global,

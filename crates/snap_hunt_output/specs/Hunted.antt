@@ -1,24 +1,30 @@
--- `IsHunted`: what a hunt comes to, that no run fails, or the first that does (`IsFound`) and an input of a run that
--- fails as it does; `asked_source`, the listing that is asked for, or why it is refused.
+-- `IsHunted`: what a hunt comes to, that no run fails, or the first that does (`IsFound`), and the text of a small
+-- schedule whose run fails as it does (`IsPrinted`); `asked_source`, the listing that is asked for, or why it is
+-- refused.
 use Rattle.std.specs.Prelude.{◌≡◌, ℕ, List, Option, Some, None, option_map, Result, Ok, Err, ⊤, true, is_some, if◌then◌else◌}
 use Rattle.std.specs.List.{find, range_with_len}
 use Rattle.snap_words.specs.declared.shape.WordFault.TheVariants.{BadShape}
 use Rattle.snap_semantics.specs.Answers.{◌>>=◌, refused_as}
 use Rattle.snap_semantics.specs.Listing.{listing_of}
+use Rattle.snap_semantics.specs.Schedule.{Schedule}
 use Rattle.snap_semantics.specs.Source.{Source}
 use Rattle.snap_semantics.specs.declared.fault.Fault.{Fault}
 use Rattle.snap_semantics.specs.declared.fault.Fault.TheVariants as fault
 use Rattle.snap_semantics.specs.declared.refusal.Refusal.{Refusal}
 use Rattle.snap_semantics.specs.declared.refusal.Refusal.TheVariants as refusal
+use Rattle.snap_runs.specs.Run.{run_over}
+use Rattle.snap_chance.specs.Chance.{schedule_of}
 use Rattle.snap_chance.specs.Plan.{Plan}
 use Rattle.snap_failure.specs.Failing.{failure_of}
-use Rattle.snap_failure.specs.Kinds.{kind_of}
+use Rattle.snap_failure.specs.Kinds.{kind_of, with_only}
 use Rattle.snap_failure.specs.declared.failures.Failure.{Failure}
 use Rattle.snap_failure.specs.declared.failures.FailureKind.{FailureKind}
 use Rattle.snap_failure.specs.declared.failures.Wanted.{Wanted}
 use Rattle.snap_hunt.specs.Hunt.{fails, run_of}
+use Rattle.snap_hunt.specs.Shrinking.{IsShrunk}
 use Rattle.snap_hunt_output.specs.Asked.{fits_kind, owned}
 use Rattle.snap_hunt_output.specs.Check.{failure_in_input}
+use Rattle.snap_hunt_output.specs.Input.{input_text}
 use Rattle.snap_hunt_output.specs.declared.asked.Asked.{Asked}
 use Rattle.snap_hunt_output.specs.declared.hunted.Hunted.{Hunted}
 use Rattle.snap_hunt_output.specs.declared.hunted.Hunted.TheVariants as hunted
@@ -33,16 +39,27 @@ first_of l a = find (fails l (owned l.kind a.plan) a.wanted a.seed) (range_with_
 abbrev pub run_kind : Source → Plan → Wanted → (seed k : ℕ) → Option FailureKind
 run_kind l p w seed k = option_map (λ f. kind_of f) (failure_of w (run_of l p seed k))
 
--- This is the first run that fails, and the input, read as the debugger reads it, has a run that fails so; and what
--- fails in both is of one kind.
-pub record IsFound (l : Source) (a : Asked) (k : ℕ) (f : Failure) (input : List ℕ) : Type 0 where
-  pub first : first_of l a ≡ Some k
-  pub says : failure_in_input a.wanted input ≡ Ok (Some f)
-  pub alike : run_kind l (owned l.kind a.plan) a.wanted a.seed k ≡ Some (kind_of f)
+-- The text is that of the listing, of a note, and of a small schedule: it has no more processes, words and items than
+-- that of run k, its run fails so, of this kind, and without any one of its items the run does not fail in this way.
+-- The note has the seed, the run and what fails.
+pub record IsPrinted (l : Source) (p : Plan) (text : List ℕ) (a : Asked) (k : ℕ) (kind : FailureKind) (f : Failure)
+    (input : List ℕ) : Type 0 where
+  pub small : Schedule
+  pub shrunk : IsShrunk l (with_only kind a.wanted) (schedule_of a.seed k p) small
+  pub fails : failure_of (with_only kind a.wanted) (run_over l small) ≡ Some f
+  pub printed : input ≡ input_text text a.seed k f small
 
-abbrev pub IsHuntedOf : Source → Asked → Hunted → Type 0
-IsHuntedOf l a hunted.NoneFails = first_of l a ≡ None
-IsHuntedOf l a (hunted.Fails k f input) = IsFound l a k f input.items
+-- This is the first run that fails, and the input is the text of a small schedule whose run fails so, which is of the
+-- same kind. Read as the debugger reads it, it has a run that fails so.
+pub record IsFound (l : Source) (text : List ℕ) (a : Asked) (k : ℕ) (f : Failure) (input : List ℕ) : Type 0 where
+  pub first : first_of l a ≡ Some k
+  pub alike : run_kind l (owned l.kind a.plan) a.wanted a.seed k ≡ Some (kind_of f)
+  pub printed : IsPrinted l (owned l.kind a.plan) text a k (kind_of f) f input
+  pub says : failure_in_input a.wanted input ≡ Ok (Some f)
+
+abbrev pub IsHuntedOf : Source → List ℕ → Asked → Hunted → Type 0
+IsHuntedOf l text a hunted.NoneFails = first_of l a ≡ None
+IsHuntedOf l text a (hunted.Fails k f input) = IsFound l text a k f input.items
 
 -- the listing of a hunt; it is refused as `check` refuses it, and where the shape does not fit its kind
 abbrev pub asked_source : List ℕ → Asked → Result Source Refusal
@@ -54,7 +71,7 @@ asked_source text a = do
 pub record IsHunted (text : List ℕ) (a : Asked) (h : Hunted) : Type 0 where
   pub listing : Source
   pub is : asked_source text a ≡ Ok listing
-  pub hunted : IsHuntedOf listing a h
+  pub hunted : IsHuntedOf listing text a h
 
 -- a fault as one of a hunt
 abbrev pub hunt_fault : Fault Refusal → HuntFault

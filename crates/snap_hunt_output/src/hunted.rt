@@ -1,11 +1,12 @@
 //! `hunt_listing`: a whole hunt, which ends in `Hunted`: no run of a listing fails, or the first
 //! that does, with the input of a small run that fails too.
-ghost use Rattle.std.specs.Prelude.{◌≡◌, ◌<◌, ◌^◌, IfErr, IfOk, Ok, Some};
+ghost use Rattle.std.specs.Prelude.{◌≡◌, ◌<◌, ◌^◌, IfErr, IfOk, OnOk, Ok, Some};
 ghost use Rattle.snap_failure.specs.Kinds.{kind_of};
 ghost use Rattle.snap_hunt_output.specs.Check.{failure_in_input};
 ghost use Rattle.snap_semantics.specs.Answers.{Answers};
-ghost use Rattle.snap_hunt_output.specs.Hunted.{IsDue, IsFaultOf, IsHunted, IsHuntedOf, IsNoRefusal};
-ghost use Rattle.snap_hunt_output.specs.Hunted.{asked_source, hunt_fault, run_kind};
+ghost use Rattle.snap_hunt_output.specs.Hunted.{IsDue, IsFaultOf, IsHunted, IsHuntedOf};
+ghost use Rattle.snap_hunt_output.specs.Hunted.{IsNoRefusal, IsPrinted, asked_source, hunt_fault};
+ghost use Rattle.snap_hunt_output.specs.Hunted.{run_kind};
 ghost use Rattle.snap_hunt_output.specs.declared.hunted.HuntFault.TheVariants.{Memory};
 
 use crate::asked::{Asked, fits_kind, owned};
@@ -81,6 +82,13 @@ fn run_kind(
     }
 }
 
+/// A small run that fails, as an input, and what fails in it.
+#[derive(Drop)]
+struct Found {
+    failure: Failure,
+    input: Vec<u8>,
+}
+
 /// The input of a small run that fails so, where the run of this number does.
 fn small_input(
     alloc: Global,
@@ -90,36 +98,36 @@ fn small_input(
     asked: &Asked,
     run: u64,
     kind: FailureKind,
-) -> Result<Vec<u8>, HuntFault>
+) -> Result<Found, HuntFault>
     requires { run_kind program.now plan.now asked.now.wanted asked.now.seed run ≡ Some kind }
-    ensures { IfErr result IsNoRefusal }
+    ensures printed { IfOk result (λ found. IsPrinted program.now plan.now listing.now asked.now run
+        kind found.failure found.input.items) }
+    ensures alike { IfOk result (λ found. kind_of found.failure ≡ kind) }
+    ensures fault { IfErr result IsNoRefusal }
 {
     let schedule = schedule_of(alloc, asked.seed, run, plan)?;
     let _shape = schedule.shape();
     let alike = asked.wanted.with_only(kind);
     let small = shrunk(alloc, program, &alike, &schedule, plan.owns())?;
     match failure_over(alloc, program, &small, &alike)? {
-        Some(failure) => Ok(input_text(alloc, listing, asked.seed, run, &failure, &small)?),
-        None => Err(HuntFault::Unsaid),
+        Some(failure) if failure.is_kind(kind) => Ok(Found {
+            failure,
+            input: input_text(alloc, listing, asked.seed, run, &failure, &small)?,
+        }),
+        _ => Err(HuntFault::Unsaid),
     }
 }
 
-/// What fails in an input that is printed, which is read once more, where it is of this kind.
-fn checked(
-    alloc: Global,
-    input: &[u8],
-    wanted: &Wanted,
-    kind: FailureKind,
-) -> Result<Failure, HuntFault>
-    ensures says { IfOk result (λ f. failure_in_input wanted.now input.now ≡ Ok (Some f)) }
-    ensures alike { IfOk result (λ f. kind_of f ≡ kind) }
+/// Reads an input that is printed once more, and sees that this is what fails in its run.
+fn check(alloc: Global, input: &[u8], wanted: &Wanted, failure: &Failure) -> Result<(), HuntFault>
+    ensures says { OnOk result (failure_in_input wanted.now input.now ≡ Ok (Some failure.now)) }
     ensures fault { IfErr result IsNoRefusal }
 {
     if input.len() > MAX_INPUT {
         return Err(HuntFault::Unsaid);
     }
     match failure_in_input(alloc, input, wanted) {
-        Ok(Some(failure)) if failure.is_kind(kind) => Ok(failure),
+        Ok(Some(read)) if read == *failure => Ok(()),
         Err(Fault::Memory) => Err(HuntFault::Memory),
         _ => Err(HuntFault::Unsaid),
     }
@@ -127,7 +135,7 @@ fn checked(
 
 /// The first of the runs of a program that fails, as an input of a small run that fails too;
 /// or that none of them does.
-#[tactic(auto, using(crate::proofs::Finding::fault_by))]
+#[tactic(auto, using(crate::proofs::Finding::fault_by, crate::proofs::Finding::found_by))]
 fn hunt_program<W: Watcher>(
     rt: &(impl Threads + Sync),
     alloc: Global,
@@ -137,7 +145,7 @@ fn hunt_program<W: Watcher>(
     watcher: &mut W,
 ) -> Result<Hunted, HuntFault>
     requires { asked.now.runs < 2 ^ 63 }
-    ensures hunted { IfOk result (IsHuntedOf program.now asked.now) }
+    ensures hunted { IfOk result (IsHuntedOf program.now listing.now asked.now) }
     ensures fault { IfErr result (IsFaultOf program.now asked.now) }
 {
     let plan = owned(program.kind(), &asked.plan);
@@ -155,8 +163,9 @@ fn hunt_program<W: Watcher>(
         return Ok(Hunted::NoneFails);
     };
     let kind = run_kind(alloc, program, &plan, asked, run)?;
-    let input = small_input(alloc, listing, program, &plan, asked, run, kind)?;
-    let failure = checked(alloc, input.as_slice(), &asked.wanted, kind)?;
+    let small = small_input(alloc, listing, program, &plan, asked, run, kind)?;
+    check(alloc, small.input.as_slice(), &asked.wanted, &small.failure)?;
+    let Found { failure, input } = small;
     Ok(Hunted::Fails {
         run,
         failure,

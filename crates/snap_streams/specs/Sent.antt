@@ -1,4 +1,5 @@
--- `Sends`: what a sink has taken of a text that was written to it.
+-- `Sends`: what a sink has taken of a text that was written to it; `Says`: the same, where nobody asks whether all was
+-- taken.
 use Rattle.std.specs.Prelude.{◌≡◌, ℕ, ◌<◌, Bool, true, List, take, length, Option, Result, Ok, Err, ◌⊎◌}
 use Rattle.std.specs.Io.KnownBytes.{Appends}
 use Rattle.snap_streams.specs.declared.sending.Unsent.{Unsent}
@@ -15,3 +16,8 @@ Sends fault (Ok done) text before after failed stalled = Appends before after te
 Sends fault (Err e) text before after failed stalled =
     (count : ℕ) × (e ≡ fault count) × (count < length text) × Appends before after (take count text)
     × ((failed ≡ true) ⊎ (stalled ≡ true))
+
+-- A text was sent to a sink: it has taken all of it, or what came before it failed or took nothing.
+abbrev pub Says : List ℕ → Option (List ℕ) → Option (List ℕ) → (failed stalled : Bool) → Type 0
+Says text before after failed stalled =
+    (done : Result (Unit {0}) Unsent) × Sends unsent done text before after failed stalled

@@ -8,7 +8,7 @@ mod standard;
 
 pub use byte_sink::ByteSink;
 pub use byte_source::ByteSource;
-pub use sending::{Unsent, write_all};
+pub use sending::{Unsent, say, write_all};
 pub use standard::Std;
 
 /// The device failed.

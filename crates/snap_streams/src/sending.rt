@@ -1,6 +1,6 @@
-//! `write_all`: a text that is sent whole.
+//! `write_all`: a text that is sent whole; `say`: one that is sent as far as its sink takes it.
 ghost use Rattle.std.specs.Prelude.{◌≡◌, false, OnOk};
-ghost use Rattle.snap_streams.specs.Sent.{Sends, unsent};
+ghost use Rattle.snap_streams.specs.Sent.{Says, Sends, unsent};
 
 use crate::byte_sink::ByteSink;
 
@@ -28,4 +28,13 @@ pub fn write_all<W: ByteSink>(sink: &mut W, text: &[u8]) -> Result<(), Unsent>
         }
     }
     Ok(())
+}
+
+/// Says a text. Where the sink does not take it, nothing more is said.
+pub fn say<W: ByteSink>(text: &[u8], sink: &mut W)
+    requires { W.has_failed sink.old ≡ false }
+    ensures { Says text.now (W.taken sink.old) (W.taken sink.new) (W.has_failed sink.new)
+        (W.is_stalled sink.new) }
+{
+    let _said = write_all(sink, text);
 }

@@ -123,7 +123,7 @@ module _ (r : Run) where
       }
 
 pub strong_is_linearizable_lem : StrongIsLinearizable
-strong_is_linearizable_lem source shape strong items fits = (
+strong_is_linearizable_lem source shape most strong items short fits = (
   told (strong.0 items),
-  told_is_linearization (run_of_items source shape items) (strong.0 items) (strong.1.linearizes items fits),
+  told_is_linearization (run_of_items source shape items) (strong.0 items) (strong.1.linearizes items short fits),
 )

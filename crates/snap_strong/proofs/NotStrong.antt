@@ -35,8 +35,8 @@ u_is_not_strongly_linearizable_lem strong =
     let overtaken_fits : IsValidRun (run_of 3 (so_far ++ overtaken)) =
     fits_by_test (run_of 3 (so_far ++ overtaken)) refl (omega arith) in
     none_serves_both_lem (choose so_far) (choose (so_far ++ alone)) (choose (so_far ++ overtaken))
-    (strong.1.linearizes so_far so_far_fits)
-    (strong.1.linearizes (so_far ++ alone) alone_fits)
-    (strong.1.linearizes (so_far ++ overtaken) overtaken_fits)
-    (strong.1.stays so_far alone alone_fits)
-    (strong.1.stays so_far overtaken overtaken_fits)
+    (strong.1.linearizes so_far (omega arith) so_far_fits)
+    (strong.1.linearizes (so_far ++ alone) (omega arith) alone_fits)
+    (strong.1.linearizes (so_far ++ overtaken) (omega arith) overtaken_fits)
+    (strong.1.stays so_far alone (omega arith) alone_fits)
+    (strong.1.stays so_far overtaken (omega arith) overtaken_fits)

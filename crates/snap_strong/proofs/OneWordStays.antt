@@ -124,7 +124,7 @@ pub one_word_is_strongly_linearizable_lem : OneWordIsStronglyLinearizable
 one_word_is_strongly_linearizable_lem n = (
   λ items. taken (run_of_items one_word (shared_by n) items) (length items),
   record {
-    linearizes = λ items fits. linearizes n items fits;
-    stays = λ items more fits. stays one_word (shared_by n) items more;
+    linearizes = λ items short fits. linearizes n items fits;
+    stays = λ items more short fits. stays one_word (shared_by n) items more;
   },
 )

@@ -1,5 +1,5 @@
 -- Two futures of one run of U by three processes. No order of the operations so far goes on in both.
-use Rattle.std.specs.Prelude.{ℕ, List, ◌∷◌, [], ◌++◌, Some, replicate}
+use Rattle.std.specs.Prelude.{ℕ, List, ◌∷◌, [], ◌++◌, ◌^◌, Some, replicate}
 use Rattle.snap_semantics.specs.declared.process.Item.{Item}
 use Rattle.snap_semantics.specs.declared.process.Item.TheVariants.{Step, Call}
 use Rattle.snap_semantics.specs.declared.process.Op.TheVariants.{Scan, Update}
@@ -45,6 +45,7 @@ NoneServesBoth = (now one other : List Operation) → IsCompletedLinearization (
     IsCompletedLinearization (run_of 3 (so_far ++ alone)) one →
     IsCompletedLinearization (run_of 3 (so_far ++ overtaken)) other → BeginsWith one now → BeginsWith other now → ⊥
 
--- U is not strongly linearizable, for three processes.
+-- U is not strongly linearizable, for three processes. Its sequence numbers have 64 bits, so runs of 2^64 items and
+-- more, in which they may run out, are left aside: there is no choice even for the runs that are shorter.
 abbrev pub UIsNotStronglyLinearizable : Type 0
-UIsNotStronglyLinearizable = IsStronglyLinearizable listing_u (square 3) → ⊥
+UIsNotStronglyLinearizable = IsStronglyLinearizable listing_u (square 3) (Some (2 ^ 64)) → ⊥

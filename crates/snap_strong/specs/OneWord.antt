@@ -1,6 +1,6 @@
 -- A listing that is strongly linearizable: one word, which every process may set and see. Each operation takes place
 -- at its first step.
-use Rattle.std.specs.Prelude.{ℕ, [], ◌∷◌}
+use Rattle.std.specs.Prelude.{ℕ, [], ◌∷◌, None}
 use Rattle.snap_words.specs.Shape.{Counts}
 use Rattle.snap_words.specs.declared.kind.KindTag.TheVariants.{Multi}
 use Rattle.snap_semantics.specs.declared.instr.Expr.TheVariants.{Term}
@@ -35,6 +35,6 @@ one_word = record {
 abbrev pub shared_by : ℕ → Counts
 shared_by n = record { n = n; w = 1 }
 
--- It is strongly linearizable, for every number of processes.
+-- It is strongly linearizable, for every number of processes and in runs of any length.
 abbrev pub OneWordIsStronglyLinearizable : Type 0
-OneWordIsStronglyLinearizable = (n : ℕ) → IsStronglyLinearizable one_word (shared_by n)
+OneWordIsStronglyLinearizable = (n : ℕ) → IsStronglyLinearizable one_word (shared_by n) None

@@ -8,6 +8,7 @@ use Rattle.snap_runs.specs.Run.{Run, IsValidRun, run_of_items}
 use Rattle.snap_runs.specs.Scan.{PendingScan, Ends}
 use Rattle.snap_runs.specs.Operation.{Action, Sets, Sees, Operation, IsOperation, HasEnded}
 use Rattle.snap_runs.specs.Linearization.{RunsFrom, KeepsOrder, IsLinearization, IsLinearizable}
+use Rattle.snap_runs.specs.WriteStrong.{IsShorter}
 
 -- Process i called a scan at item c that has not ended by the end of the run. It may be given any view as its answer.
 abbrev pub IsOpenScan : Run → ℕ → ℕ → Option ℕ → Action → Type 0
@@ -43,24 +44,30 @@ without_end o = record { process = o.process; call = o.call; end = None; action 
 abbrev pub BeginsWith : List Operation → List Operation → Type 0
 BeginsWith longer shorter = (rest : List Operation) × (map without_end longer ≡ map without_end shorter ++ rest)
 
--- A choice of a linearization for each run, which is kept however the run goes on.
-pub record IsStrongChoice (source : Source) (shape : Counts) (choose : List Item → List Operation) : Type 0 where
+-- A choice of a linearization for each run that is shorter than a limit, or for each run where there is none. It is
+-- kept however the run goes on, up to the limit.
+pub record IsStrongChoice (source : Source) (shape : Counts) (most : Option ℕ) (choose : List Item → List Operation)
+    : Type 0 where
   -- what is chosen for a run is a linearization of it, in which scans may be completed
-  pub linearizes : (items : List Item) → IsValidRun (run_of_items source shape items) →
+  pub linearizes : (items : List Item) → IsShorter most items → IsValidRun (run_of_items source shape items) →
       IsCompletedLinearization (run_of_items source shape items) (choose items)
   -- what is chosen for a longer run begins with it
-  pub stays : (items more : List Item) → IsValidRun (run_of_items source shape (items ++ more)) →
+  pub stays : (items more : List Item) → IsShorter most (items ++ more) →
+      IsValidRun (run_of_items source shape (items ++ more)) →
       BeginsWith (choose (items ++ more)) (choose items)
 
 -- There is one.
-abbrev pub IsStronglyLinearizable : Source → Counts → Type 0
-IsStronglyLinearizable source shape = (choose : List Item → List Operation) × IsStrongChoice source shape choose
+abbrev pub IsStronglyLinearizable : Source → Counts → (most : Option ℕ) → Type 0
+IsStronglyLinearizable source shape most =
+    (choose : List Item → List Operation) × IsStrongChoice source shape most choose
 
 -- A linearization is one in which no scan is completed.
 abbrev pub LinearizationsAreCompleted : Type 0
 LinearizationsAreCompleted = (r : Run) (os : List Operation) → IsLinearization r os → IsCompletedLinearization r os
 
--- A strongly linearizable listing is linearizable: where scans are completed, they may be left out.
+-- A strongly linearizable listing is linearizable, in the runs below the limit: where scans are completed, they may be
+-- left out.
 abbrev pub StrongIsLinearizable : Type 0
-StrongIsLinearizable = (source : Source) (shape : Counts) → IsStronglyLinearizable source shape → (items : List Item) →
+StrongIsLinearizable = (source : Source) (shape : Counts) (most : Option ℕ) →
+    IsStronglyLinearizable source shape most → (items : List Item) → IsShorter most items →
     IsLinearizable (run_of_items source shape items)

@@ -12,7 +12,7 @@ pub fn linearizations_are_completed()
     ensures { LinearizationsAreCompleted }
 {}
 
-/// A strongly linearizable listing is linearizable.
+/// A strongly linearizable listing is linearizable, in the runs below its limit.
 pub fn strong_is_linearizable()
     ensures { StrongIsLinearizable }
 {}
@@ -28,14 +28,14 @@ pub fn none_serves_both()
     ensures { NoneServesBoth }
 {}
 
-/// U is not strongly linearizable, for three processes: no choice of linearizations is kept as runs
-/// go on.
+/// U is not strongly linearizable, for three processes: no choice of linearizations, even of those
+/// runs alone that have fewer than 2^64 items, is kept as runs go on.
 pub fn u_is_not_strongly_linearizable()
     ensures { UIsNotStronglyLinearizable }
 {}
 
 /// A listing of one word that every process sets and sees is strongly linearizable, for every
-/// number of processes.
+/// number of processes and in runs of any length.
 pub fn one_word_is_strongly_linearizable()
     ensures { OneWordIsStronglyLinearizable }
 {}

@@ -1,0 +1,2 @@
+-- The proofs of snapdraw, by their modules.
+pub mod Drawn

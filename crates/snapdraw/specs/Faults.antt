@@ -1,10 +1,5 @@
 -- `status_of`: the status that snapdraw ends with for a `DrawFault`, why nothing, or not all, was drawn.
 use Rattle.std.specs.Prelude.{ℕ}
-use Rattle.snap_semantics.specs.declared.fault.Fault.{Fault}
-use Rattle.snap_semantics.specs.declared.fault.Fault.TheVariants as found
-use Rattle.snap_semantics.specs.declared.refusal.Refusal.{Refusal}
-use Rattle.snap_picture.specs.declared.refusal.PictureRefusal.{PictureRefusal}
-use Rattle.snap_picture.specs.declared.refusal.PictureRefusal.TheVariants as refusal
 use Rattle.snap_files.specs.declared.fault.FileFault.{FileFault}
 use Rattle.snap_files.specs.declared.fault.FileFault.TheVariants as file
 use Rattle.snapdraw.specs.declared.fault.DrawFault.{DrawFault}
@@ -16,16 +11,6 @@ status_of fault.Memory = 1
 status_of (fault.Refused r) = 1
 status_of (fault.File f) = 3
 status_of fault.Write = 3
-
--- a listing that is refused
-abbrev pub of_listing : Fault Refusal → DrawFault
-of_listing found.Memory = fault.Memory
-of_listing (found.Refused r) = fault.Refused (refusal.Input r)
-
--- a picture that is refused
-abbrev pub of_picture : Fault PictureRefusal → DrawFault
-of_picture found.Memory = fault.Memory
-of_picture (found.Refused r) = fault.Refused r
 
 -- a file that was not read
 abbrev pub of_file : FileFault → DrawFault

@@ -1,2 +1,3 @@
 -- The definitions of snapdraw_command_line, by their modules.
 pub mod Files
+pub mod Drawings

@@ -1,10 +1,16 @@
 //! `Drawing`: the options and file names that snapdraw takes, and the picture that they ask for.
+ghost use Rattle.std.specs.Prelude.{◌≡◌, IfOk, IfSome, codes};
+ghost use Rattle.clap.specs.Matches.{first_value, found_of};
+ghost use Rattle.clap.specs.declared.parser.matches.ArgMatches.{ArgMatches};
+ghost use Rattle.snapdraw_command_line.specs.Drawings.{IsAskedBy, kind_given};
+
 use crate::files::{Drawn, drawn_of};
 use clap::builder::ValueParser;
 use clap::error::ErrorKind;
 use clap::{Arg, ArgAction, ArgMatches, Command, Error};
+use snap_options::{is_given, number_of};
 use snap_tasks::kind_of;
-use snap_words::MAX_ITEMS;
+use snap_words::{KindTag, MAX_ITEMS};
 use std::alloc::{AllocError, Global};
 
 /// The version of the program.
@@ -12,6 +18,14 @@ const VERSION: &str = "0.1.0";
 
 /// The kinds that `--shipped` takes.
 const KINDS: &[&str] = &["seq", "bit", "multi"];
+
+/// What stands under the options.
+const MORE: &str = "\
+Reads: the files LISTING and SCHEDULE, or SCHEDULE alone with --shipped
+
+Examples:
+  snapdraw examples/u.txt examples/prompt/borrowed/schedule.txt > run.svg
+  snapdraw --shipped seq examples/shipped-borrowed-view/stdin --reads > run.svg";
 
 /// A picture that is asked for.
 #[derive(Clone, Copy)]
@@ -37,17 +51,18 @@ fn command<'a>(alloc: Global) -> Result<Command<'a>, AllocError> {
         .long("shipped")
         .value_name("KIND")
         .value_parser(KINDS)
-        .help("Takes the shipped listing of this kind of registers; no LISTING is named then");
+        .help("Draws the shipped listing of this kind of registers;{n}no LISTING is named");
     let files = Arg::new(alloc, "FILE").required(true).num_args(1..=2).help(
         "A listing and a schedule; a schedule alone with --shipped",
     );
     let reads = Arg::new(alloc, "reads")
         .long("reads")
         .action(ArgAction::SetTrue)
-        .help("Draws a line from the last write of a word to each read of it");
+        .help("Draws a line from the last write of a word to each{n}read of it");
     Command::new(alloc, "snapdraw")
         .about("Draws the run of a listing under a schedule as SVG")
         .version(VERSION)
+        .after_help(MORE)
         .arg(files)?
         .arg(shipped)?
         .arg(item_option(alloc, "from", "The first item that is drawn"))?
@@ -55,22 +70,34 @@ fn command<'a>(alloc: Global) -> Result<Command<'a>, AllocError> {
         .arg(reads)
 }
 
+/// The kind whose shipped listing is asked for, if one is; none where there is no such kind.
+fn kind_given(matches: &ArgMatches<'_>) -> Option<Option<KindTag>>
+    ensures { result ≡ kind_given (first_value (found_of matches.now) (codes "shipped")) }
+{
+    match matches.get_str("shipped") {
+        Some(name) => Some(Some(kind_of(name)?)),
+        None => Some(None),
+    }
+}
+
 /// What matched arguments ask for.
-fn drawing_by<'a>(matches: &ArgMatches<'a>) -> Option<Drawing<'a>> {
-    let kind = match matches.get_str("shipped") {
-        Some(name) => Some(kind_of(name)?),
-        None => None,
-    };
+fn drawing_by<'a>(matches: &ArgMatches<'a>) -> Option<Drawing<'a>>
+    ensures { IfSome result (IsAskedBy (found_of matches.now)) }
+{
+    let kind = kind_given(matches)?;
+    let names = matches.get_strs("FILE")?;
     Some(Drawing {
-        drawn: drawn_of(kind, matches.get_strs("FILE")?)?,
-        from: matches.get_one::<u64>("from"),
-        to: matches.get_one::<u64>("to"),
-        reads: matches.get_flag("reads"),
+        drawn: drawn_of(kind, names)?,
+        from: number_of(matches, "from"),
+        to: number_of(matches, "to"),
+        reads: is_given(matches, "reads"),
     })
 }
 
 /// What the arguments ask for, the program's own name first.
-pub(crate) fn drawing_of<'a>(alloc: Global, arguments: &'a [String]) -> Result<Drawing<'a>, Error> {
+pub(crate) fn drawing_of<'a>(alloc: Global, arguments: &'a [String]) -> Result<Drawing<'a>, Error>
+    ensures { IfOk result (λ d. (m : ArgMatches) × IsAskedBy (found_of m) d) }
+{
     let mut command = command(alloc)?;
     let matches = command.try_get_matches_from_mut(arguments)?;
     match drawing_by(&matches) {

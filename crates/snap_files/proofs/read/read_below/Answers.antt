@@ -20,8 +20,8 @@ taken (Some xs) most limit bytes empty cap none read short =
     read ∙ ap (λ (e : List ℕ). e ++ take limit xs) none ∙ ap (λ (n : ℕ). take n xs) cap in
     is ∙ whole most xs (subst (λ (b : List ℕ). length b < most) is short)
 
-pub returns-then-len-most : goal.returns-then-len-most
-returns-then-len-most g c =
+pub returns-then-len-most-clause-whole : goal.returns-then-len-most-clause-whole
+returns-then-len-most-clause-whole g c =
     subst (λ (r : _). IfSome (g.R.Read.remaining r) (λ input. c.read_to_end.new.buf.items ≡ input)) c.take.ensures.inner
     (taken (g.R.Read.remaining c.take.result.inner) c.args.most c.take.result.limit c.read_to_end.new.buf.items
     c.new-bytes.result.items c.take.ensures.limit c.new-bytes.ensures.items c.in_ok-read_to_end.ensures.bytes

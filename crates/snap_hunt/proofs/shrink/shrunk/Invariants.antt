@@ -1,6 +1,5 @@
 -- `shrunk` of snap_hunt (src/shrink.rt): what holds at the head of each of its loops.
--- A schedule whose run fails too, of some of the items of this one, those of each process in their order; of fewer
--- processes and words where that can be.
+-- Returns a schedule whose run fails too, of no more processes, words and items than this one.
 use Rattle.std.proofs.Common.{◌+◌}
 use Rattle.snap_hunt.specs.Shrinking.{IsShrunk, drawn}
 use Rattle.snap_hunt.proofs.shrink.shrunk.Given as goal

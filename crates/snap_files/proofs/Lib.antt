@@ -1,0 +1,3 @@
+-- The proofs of snap_files, by their modules.
+pub mod Faults
+pub mod Texts

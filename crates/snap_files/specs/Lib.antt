@@ -1,0 +1,2 @@
+-- The definitions of snap_files, by their modules.
+pub mod FileTexts

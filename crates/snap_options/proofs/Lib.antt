@@ -1,0 +1,2 @@
+-- The proofs of snap_options, by their modules.
+pub mod Read

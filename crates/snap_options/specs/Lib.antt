@@ -1,0 +1,2 @@
+-- The definitions of snap_options, by their modules.
+pub mod Given

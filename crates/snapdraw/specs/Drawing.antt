@@ -1,0 +1,82 @@
+-- `IsDrawing`: the picture that snapdraw draws for the files that its command line names, or the first reason why there
+-- is none.
+use Rattle.std.specs.Prelude.{◌≡◌, ℕ, List, Option, Some, None, Result, Ok, Err, ⊤}
+use Rattle.std.specs.declared.io.ErrorKind.{ErrorKind}
+use Rattle.snap_words.specs.declared.kind.KindTag.{KindTag}
+use Rattle.snap_semantics.specs.Answers.{◌>>=◌, refused_as}
+use Rattle.snap_semantics.specs.Listing.{listing_of}
+use Rattle.snap_semantics.specs.Source.{Source}
+use Rattle.snap_semantics.specs.declared.refusal.Refusal.TheVariants.{Listing}
+use Rattle.snap_shipped.specs.Shipped.{shipped}
+use Rattle.snap_picture.specs.Picture.{picture_of}
+use Rattle.snap_picture.specs.declared.options.Options.{Options}
+use Rattle.snap_picture.specs.declared.refusal.PictureRefusal.TheVariants.{Input}
+use Rattle.snap_files.specs.FileTexts.{IsTextOf}
+use Rattle.snap_files.specs.declared.fault.FileFault.{FileFault}
+use Rattle.snapdraw_command_line.specs.Files.{Named, Files, Shipped}
+use Rattle.snapdraw_command_line.specs.declared.arguments.Drawing.{Drawing}
+use Rattle.snapdraw.specs.Faults.{of_file}
+use Rattle.snapdraw.specs.declared.fault.DrawFault.{DrawFault}
+use Rattle.snapdraw.specs.declared.fault.DrawFault.TheVariants as fault
+
+-- what a call that allocates answers: what is wanted, seen by `view`, or why there is none; a want of memory may stand
+-- in its place; no fault is one of writing
+abbrev pub Comes : {X Y : Type 0} → (X → Y) → Result X DrawFault → Result Y DrawFault → Type 0
+Comes view (Ok x) wanted = wanted ≡ Ok (view x)
+Comes view (Err fault.Memory) wanted = ⊤
+Comes view (Err (fault.Refused r)) wanted = wanted ≡ Err (fault.Refused r)
+Comes view (Err (fault.File f)) wanted = wanted ≡ Err (fault.File f)
+Comes view (Err fault.Write) wanted = ⊥
+
+-- the most bytes that a file may have, and one more
+abbrev pub too_many : ℕ
+too_many = 16777217
+
+-- the items that are asked for
+abbrev pub options_of : Drawing → Options
+options_of d = record { from = d.from; to = d.to; reads = d.reads }
+
+-- the listing that a text is
+abbrev pub listing_in : List ℕ → Result Source DrawFault
+listing_in text = refused_as (λ r. fault.Refused (Input r)) (refused_as Listing (listing_of text))
+
+-- the picture of a listing, whose text may be in it, under a schedule
+abbrev pub picture_in : Source → Option (List ℕ) → List ℕ → Options → (style legend : List ℕ) →
+    Result (List ℕ) DrawFault
+picture_in l listing schedule o style legend =
+    refused_as fault.Refused (picture_of l listing schedule o style legend)
+
+-- the picture of two texts
+abbrev pub drawn_texts : (listing schedule : List ℕ) → Options → (style legend : List ℕ) → Result (List ℕ) DrawFault
+drawn_texts listing schedule o style legend = do
+  l ← listing_in listing
+  picture_in l (Some listing) schedule o style legend
+
+-- the picture of the texts of two files, or why they were not read
+abbrev pub drawn_files : (listing schedule : Result (List ℕ) FileFault) → Options → (style legend : List ℕ) →
+    Result (List ℕ) DrawFault
+drawn_files listing schedule o style legend = do
+  l ← refused_as of_file listing
+  s ← refused_as of_file schedule
+  drawn_texts l s o style legend
+
+-- the picture of the listing that is shipped for a kind
+abbrev pub drawn_shipped : KindTag → (schedule : Result (List ℕ) FileFault) → Options → (style legend : List ℕ) →
+    Result (List ℕ) DrawFault
+drawn_shipped kind schedule o style legend = do
+  s ← refused_as of_file schedule
+  picture_in (shipped kind) None s o style legend
+
+-- a text that the file of this name has, as far as that is known, or why it is not read
+abbrev pub IsTextIn : (files : List ℕ → Option (Result (List ℕ) ErrorKind)) → (name : List ℕ) →
+    Result (List ℕ) FileFault → Type 0
+IsTextIn files name text = IsTextOf too_many (files name) text
+
+-- the picture of what these names name, or why there is none
+abbrev pub IsDrawing : (files : List ℕ → Option (Result (List ℕ) ErrorKind)) → Named → Options →
+    (style legend : List ℕ) → Result (List ℕ) DrawFault → Type 0
+IsDrawing files (Files listing schedule) o style legend picture =
+    (l s : Result (List ℕ) FileFault) × IsTextIn files listing l × IsTextIn files schedule s
+    × (picture ≡ drawn_files l s o style legend)
+IsDrawing files (Shipped kind schedule) o style legend picture =
+    (s : Result (List ℕ) FileFault) × IsTextIn files schedule s × (picture ≡ drawn_shipped kind s o style legend)

@@ -1,0 +1,26 @@
+-- `IsAskedBy`: the picture that matched arguments of snapdraw ask for, by the texts that `clap` has found for its
+-- options.
+use Rattle.std.specs.Prelude.{◌≡◌, List, ℕ, Option, Some, None, codes, option_map}
+use Rattle.clap.specs.Matches.{first_value, matched_of, one_text, raw_values}
+use Rattle.clap.specs.declared.parser.matches.Found.{Found}
+use Rattle.snap_words.specs.declared.kind.KindTag.{KindTag}
+use Rattle.snap_tasks.specs.Request.{kind_of}
+use Rattle.snap_options.specs.Given.{IsFlag, IsNumber}
+use Rattle.snapdraw_command_line.specs.Files.{drawn_of, view_drawn}
+use Rattle.snapdraw_command_line.specs.declared.arguments.Drawing.{Drawing}
+
+-- the kind of this name, where there is one; and none, where no name is given
+abbrev pub kind_given : Option (List ℕ) → Option (Option KindTag)
+kind_given None = Some None
+kind_given (Some name) = option_map (λ kind. Some kind) (kind_of name)
+
+-- What arguments ask for: the files, the kind whose shipped listing is drawn, the items, and whether reads are drawn.
+pub record IsAskedBy (found : Found) (d : Drawing) : Type 0 where
+  pub kind : Option KindTag
+  pub shipped : kind_given (first_value found (codes "shipped")) ≡ Some kind
+  pub names : List (List ℕ)
+  pub files : option_map raw_values (matched_of found (codes "FILE")) ≡ Some names
+  pub drawn : drawn_of kind names ≡ Some (view_drawn d.drawn)
+  pub from : IsNumber (one_text found (codes "from")) d.from
+  pub to : IsNumber (one_text found (codes "to")) d.to
+  pub reads : IsFlag (one_text found (codes "reads")) d.reads

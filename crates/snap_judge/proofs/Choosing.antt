@@ -84,6 +84,7 @@ update_waits steps c ending p j word value are is act apart alone unwanted j' is
     index_of kept_slot.Free = 0
     index_of (kept_slot.Open m) = m
     index_of (kept_slot.Taken m) = 0
+
     one_index : {a b : ℕ} → kept_slot.Open a ≡ kept_slot.Open b → a ≡ b
     one_index e = ap index_of e
 

@@ -121,6 +121,7 @@ module _ (h : History) (sound : AreSound h) where
       other y l =
           let b = t.begins o refl in
           b.alone y l.0 (same_place h sound y o l.0.operation b.operation l.1)
+
       by_slot : (s' : Slot) → slice_index_or slots (o.process - 1) Free ≡ s' →
           slice_index_or slots (o.process - 1) Free ≡ Free
       by_slot Free is = is

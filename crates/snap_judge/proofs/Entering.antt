@@ -34,14 +34,16 @@ use Rattle.snap_judge.proofs.Goes.{grown, same_goes}
 -- what can be explained with it taken, of a copy
 pub same_taking : (steps : List KeptStep) (c c' : Config) (p : ℕ) → IsSameConfig c c' → CanTaking steps c p →
     CanTaking steps c' p
-same_taking steps c c' p same can =
-    (can.0, ap (λ (l : List KeptSlot). get_or l p kept_slot.Free) same.slots ∙ can.1,
-    subst (λ (n : ℕ). CanBeExplained (drop n (steps_kept steps)) (after c'.values.items (called_at steps can.0).action)
-    (set (slots_of steps c') p (Taken (called_at steps can.0)))) (sym same.position)
-    (subst (λ (W : List ℕ). CanBeExplained (rest_of steps c) (after W (called_at steps can.0).action)
-    (set (slots_of steps c') p (Taken (called_at steps can.0)))) (sym same.values)
-    (subst (λ (l : List KeptSlot). CanBeExplained (rest_of steps c) (after c.values.items (called_at steps can.0).action)
-    (set (map (slot_of steps) l) p (Taken (called_at steps can.0)))) (sym same.slots) can.2)))
+same_taking steps c c' p same can = (
+  can.0,
+  ap (λ (l : List KeptSlot). get_or l p kept_slot.Free) same.slots ∙ can.1,
+  subst (λ (n : ℕ). CanBeExplained (drop n (steps_kept steps)) (after c'.values.items (called_at steps can.0).action)
+      (set (slots_of steps c') p (Taken (called_at steps can.0)))) (sym same.position)
+      (subst (λ (W : List ℕ). CanBeExplained (rest_of steps c) (after W (called_at steps can.0).action)
+      (set (slots_of steps c') p (Taken (called_at steps can.0)))) (sym same.values)
+      (subst (λ (l : List KeptSlot). CanBeExplained (rest_of steps c) (after c.values.items (called_at steps can.0).action)
+      (set (map (slot_of steps) l) p (Taken (called_at steps can.0)))) (sym same.slots) can.2)),
+)
 
 -- the beginning of an order that has been cut and has grown
 pub same_prefix : (order order' : List ℕ) (d : ℕ) → d ≤ length order → Grows (take d order) order' →
@@ -96,6 +98,7 @@ has_entered steps node p order mid order' copy taken c e is_node same took goes 
     copied =
         let goes = same_goes steps (take node.depth order) node.config copy same in
         (goes.config is_node.config, goes.reached is_node.config is_node.reached)
+
     cut : take node.depth order' ≡ take node.depth order
     cut = same_prefix order order' node.depth is_node.depth (grown (take node.depth order) mid order' took.grows goes.grows)
 
@@ -108,15 +111,18 @@ all_tried n w steps order node is_node tried can =
   where
     c : Config
     c = node.config
+
     never : (o : Operation) → at (slots_of steps c) (suc node.ending - 1) ≡ Taken o → ⊥
     never o held =
         subst (λ (x : KeptStep). MayNotPass (slots_of steps c) (step_of_kept x)) is_node.ending is_node.stuck.1 o held
+
     rest : rest_of steps c ≡ Ends (suc node.ending) ∷ drop (suc c.position) (steps_kept steps)
     rest =
         drop-cons (steps_kept steps) c.position Waits
         (subst (λ (m : ℕ). c.position < m) (sym (length-map steps step_of_kept)) is_node.stuck.0)
         ∙ ap (λ (y : Step). y ∷ drop (suc c.position) (steps_kept steps))
         (step_at steps c.position ∙ ap step_of_kept is_node.ending)
+
     each : (p : ℕ) (o : Operation) → at (slots_of steps c) p ≡ Open o → o.process - 1 ≡ p →
         Fails (Ends (suc node.ending) ∷ drop (suc c.position) (steps_kept steps)) c.values.items (slots_of steps c) p o
         ⊎ NotNow (suc node.ending) c.values.items (slots_of steps c) p o
@@ -127,11 +133,14 @@ all_tried n w steps order node is_node tried can =
             Fails (Ends (suc node.ending) ∷ drop (suc c.position) (steps_kept steps)) c.values.items (slots_of steps c) p o
             ⊎ NotNow (suc node.ending) c.values.items (slots_of steps c) p o
         by_try k (inl fails) =
-            inl (λ e. fails (k.0, k.1,
-            subst (λ (y : Operation). CanBeExplained (rest_of steps c) (after c.values.items y.action)
-            (set (slots_of steps c) p (Taken y))) (sym k.2)
-            (subst (λ (xs : List Step). CanBeExplained xs (after c.values.items o.action) (set (slots_of steps c) p (Taken o)))
-            (sym rest) e)))
+            inl (λ e. fails (
+              k.0,
+              k.1,
+              subst (λ (y : Operation). CanBeExplained (rest_of steps c) (after c.values.items y.action)
+                  (set (slots_of steps c) p (Taken y))) (sym k.2)
+                  (subst (λ (xs : List Step). CanBeExplained xs (after c.values.items o.action) (set (slots_of steps c) p (Taken o)))
+                  (sym rest) e),
+            ))
         by_try k (inr waits) = inr (subst (NotNow (suc node.ending) c.values.items (slots_of steps c) p) k.2 (waits k.0 k.1))
 
 -- each place is tried, or waits
@@ -177,8 +186,10 @@ has_tried steps node node' order order' u e is_node tried choice le waits config
   where
     prefix : take node.depth order' ≡ take node.depth order
     prefix = subst (λ (k : ℕ). take k order' ≡ take k order) depth has.prefix
+
     deep : node.depth ≤ length order'
     deep = subst (λ (k : ℕ). k ≤ length order') depth has.deep
+
     by_place : (Can steps e.config → ⊥) → (p : ℕ) → (p < node.next) ⊎ (node.next ≤ p) →
         (p ≡ u.place) ⊎ (p ≡ u.place → ⊥) → p < node'.next → IsTriedAt steps node.config node.ending p
     by_place fails p (inl lt) at_place below = tried p lt

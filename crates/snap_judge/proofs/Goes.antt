@@ -21,7 +21,11 @@ use Rattle.snap_judge.proofs.SearchMoves.{scan_earlier}
 -- A search that stays where it is goes on.
 pub stays : (steps : List KeptStep) (order : List ℕ) (c : Config) → GoesOn steps order c order c
 stays steps order c = record {
-  config = λ k. k; reached = λ k r. r; explained = λ k e. e; grows = ([], sym (append-nil order)); }
+  config = λ k. k;
+  reached = λ k r. r;
+  explained = λ k e. e;
+  grows = ([], sym (append-nil order));
+}
 
 -- Operations are added to those that were added.
 pub grown : (order order' order'' : List ℕ) → Grows order order' → Grows order' order'' → Grows order order''
@@ -122,10 +126,12 @@ module _ (steps : List KeptStep) (order : List ℕ) (c c' : Config) (p j : ℕ)
   one_more : Allows c.values.items o.action → (moves : List Move) →
       Explains moves (rest_of steps c') c'.values.items (slots_of steps c') →
       Explains (Take o ∷ moves) (rest_of steps c) c.values.items (slots_of steps c)
-  one_more allows moves e =
-      (ap (at (slots_of steps c)) place ∙ open_now, allows,
-      subst (λ (q : ℕ). Explains moves (rest_of steps c) (after c.values.items o.action) (set (slots_of steps c) q (Taken o)))
-      (sym place) (same_state moves e))
+  one_more allows moves e = (
+    ap (at (slots_of steps c)) place ∙ open_now,
+    allows,
+    subst (λ (q : ℕ). Explains moves (rest_of steps c) (after c.values.items o.action) (set (slots_of steps c) q (Taken o)))
+        (sym place) (same_state moves e),
+  )
 
   same_counts : length c'.slots.items ≡ length c.slots.items
   same_counts = ap length slots ∙ length-set c.slots.items p (kept_slot.Taken j)
@@ -139,14 +145,15 @@ module _ (steps : List KeptStep) (order : List ℕ) (c c' : Config) (p j : ℕ)
 
   pub took : Allows c.values.items o.action → IsReached steps order c → IsReached steps (order ++ j ∷ []) c'
   took allows r moves e =
-      let go = r (Take o ∷ moves) (one_more allows moves e) in
-      (go.0,
-      subst (λ (n : ℕ). Explains go.0 (steps_kept steps) (replicate n 0) (replicate (length c'.slots.items) Free))
-      (sym same_width)
-      (subst (λ (n : ℕ). Explains go.0 (steps_kept steps) (replicate (length c.values.items) 0) (replicate n Free))
-      (sym same_counts) go.1),
-      go.2 ∙ sym (ap (λ (os : List Operation). os ++ taken moves) (map-append (called_at steps) order (j ∷ []))
-      ∙ append_assoc (map (called_at steps) order) (o ∷ []) (taken moves)))
+      let go = r (Take o ∷ moves) (one_more allows moves e) in (
+        go.0,
+        subst (λ (n : ℕ). Explains go.0 (steps_kept steps) (replicate n 0) (replicate (length c'.slots.items) Free))
+            (sym same_width)
+            (subst (λ (n : ℕ). Explains go.0 (steps_kept steps) (replicate (length c.values.items) 0) (replicate n Free))
+            (sym same_counts) go.1),
+        go.2 ∙ sym (ap (λ (os : List Operation). os ++ taken moves) (map-append (called_at steps) order (j ∷ []))
+            ∙ append_assoc (map (called_at steps) order) (o ∷ []) (taken moves)),
+      )
 
   pub still_config : IsConfig steps c'
   still_config = record {
@@ -208,14 +215,17 @@ same_goes steps order c c' same = record {
   };
   reached = λ k r moves e.
       (let go = r moves
-          (subst (λ (n : ℕ). Explains moves (drop n (steps_kept steps)) c.values.items (slots_of steps c)) same.position
-          (subst (λ (W : List ℕ). Explains moves (rest_of steps c') W (slots_of steps c)) same.values
-          (subst (λ (l : List KeptSlot). Explains moves (rest_of steps c') c'.values.items (map (slot_of steps) l))
-          same.slots e))) in
-      (go.0, subst (λ (n : ℕ). Explains go.0 (steps_kept steps) (replicate n 0) (replicate (length c'.slots.items) Free))
-      (sym (ap length same.values))
-      (subst (λ (n : ℕ). Explains go.0 (steps_kept steps) (replicate (length c.values.items) 0) (replicate n Free))
-      (sym (ap length same.slots)) go.1), go.2));
+      (subst (λ (n : ℕ). Explains moves (drop n (steps_kept steps)) c.values.items (slots_of steps c)) same.position
+      (subst (λ (W : List ℕ). Explains moves (rest_of steps c') W (slots_of steps c)) same.values
+      (subst (λ (l : List KeptSlot). Explains moves (rest_of steps c') c'.values.items (map (slot_of steps) l))
+      same.slots e))) in (
+        go.0,
+        subst (λ (n : ℕ). Explains go.0 (steps_kept steps) (replicate n 0) (replicate (length c'.slots.items) Free))
+            (sym (ap length same.values))
+            (subst (λ (n : ℕ). Explains go.0 (steps_kept steps) (replicate (length c.values.items) 0) (replicate n Free))
+            (sym (ap length same.slots)) go.1),
+        go.2,
+      ));
   explained = λ k e.
       subst (λ (n : ℕ). CanBeExplained (drop n (steps_kept steps)) c'.values.items (slots_of steps c')) (sym same.position)
       (subst (λ (W : List ℕ). CanBeExplained (rest_of steps c) W (slots_of steps c')) (sym same.values)
@@ -226,4 +236,7 @@ same_goes steps order c c' same = record {
 
 pub same_turned : (c c' : Config) → IsSameConfig c c' → IsSameConfig c' c
 same_turned c c' same = record {
-  position = sym same.position; values = sym same.values; slots = sym same.slots; }
+  position = sym same.position;
+  values = sym same.values;
+  slots = sym same.slots;
+}

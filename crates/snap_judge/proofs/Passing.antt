@@ -49,19 +49,24 @@ module _ (steps : List KeptStep) (order : List ℕ) (c c' : Config) (x : KeptSte
   pass_first : (moves : List Move) → Explains moves (rest_of steps c') c'.values.items (slots_of steps c') →
       Explains (Pass ∷ moves) (rest_of steps c) c.values.items (slots_of steps c)
   pass_first moves e =
-      subst (λ (xs : List Step). Explains (Pass ∷ moves) xs c.values.items (slots_of steps c)) (sym rest)
-      (may, subst (λ (T : List Slot). Explains moves (rest_of steps c') c.values.items T) slots
-      (subst (λ (W : List ℕ). Explains moves (rest_of steps c') W (slots_of steps c')) values e))
+      subst (λ (xs : List Step). Explains (Pass ∷ moves) xs c.values.items (slots_of steps c)) (sym rest) (
+        may,
+        subst (λ (T : List Slot). Explains moves (rest_of steps c') c.values.items T) slots
+            (subst (λ (W : List ℕ). Explains moves (rest_of steps c') W (slots_of steps c')) values e),
+      )
 
   pub passes : IsConfig steps c' → GoesOn steps order c order c'
   passes fits = record {
     config = λ k. fits;
     reached = λ k r moves e.
-        let go = r (Pass ∷ moves) (pass_first moves e) in
-        (go.0, subst (λ (n : ℕ). Explains go.0 (steps_kept steps) (replicate n 0)
-        (replicate (length c'.slots.items) Free)) (sym (ap length values))
-        (subst (λ (n : ℕ). Explains go.0 (steps_kept steps) (replicate (length c.values.items) 0) (replicate n Free))
-        (sym count) go.1), go.2);
+        let go = r (Pass ∷ moves) (pass_first moves e) in (
+          go.0,
+          subst (λ (n : ℕ). Explains go.0 (steps_kept steps) (replicate n 0)
+              (replicate (length c'.slots.items) Free)) (sym (ap length values))
+              (subst (λ (n : ℕ). Explains go.0 (steps_kept steps) (replicate (length c.values.items) 0) (replicate n Free))
+              (sym count) go.1),
+          go.2,
+        );
     grows = ([], sym (append-nil order));
     explained = λ k e.
         subst (λ (T : List Slot). CanBeExplained (rest_of steps c') c'.values.items T) (sym slots)
@@ -97,9 +102,11 @@ module _ (steps : List KeptStep) (order : List ℕ) (c c' : Config) (place j : �
   pub end_passes : GoesOn steps order c order c'
   end_passes =
       passes steps order c c' (kept_step.Ends (suc place)) lt next position values ended_slots
-      (ap length slots ∙ length-set c.slots.items place kept_slot.Free)
-      (called_at steps j, ap (at (slots_of steps c)) (place_again place) ∙ slot_at steps c.slots.items place
-      ∙ ap (slot_of steps) held) ended_config
+      (ap length slots ∙ length-set c.slots.items place kept_slot.Free) (
+        called_at steps j,
+        ap (at (slots_of steps c)) (place_again place) ∙ slot_at steps c.slots.items place
+            ∙ ap (slot_of steps) held,
+      ) ended_config
 
   pub end_settled : IsSettled steps c → IsSettled steps c'
   end_settled settled p k is sees =
@@ -132,16 +139,19 @@ module _ (steps : List KeptStep) (order : List ℕ) (c c' : Config) (place : ℕ
       ((called_at steps k).process ≡ suc q) × (k < length steps)
   placed q k (inl same) e =
       let here : c.position ≡ k =
-          one_place (sym (get_or-set_same c.slots.items place (kept_slot.Open c.position) kept_slot.Free within)
-          ∙ ap (λ (r : ℕ). get_or (set c.slots.items place (kept_slot.Open c.position)) r kept_slot.Free) (sym same) ∙ e) in
-      subst (λ (m : ℕ). ((called_at steps m).process ≡ suc q) × (m < length steps)) here
-      (let at_call : (called_at steps c.position).process ≡ o.process = ap (λ (x : Operation). x.process) called in
-      at_call ∙ is_call.2 ∙ ap suc (sym same), lt)
+      one_place (sym (get_or-set_same c.slots.items place (kept_slot.Open c.position) kept_slot.Free within)
+      ∙ ap (λ (r : ℕ). get_or (set c.slots.items place (kept_slot.Open c.position)) r kept_slot.Free) (sym same) ∙ e) in
+      subst (λ (m : ℕ). ((called_at steps m).process ≡ suc q) × (m < length steps)) here (
+        let at_call : (called_at steps c.position).process ≡ o.process = ap (λ (x : Operation). x.process) called in
+            at_call ∙ is_call.2 ∙ ap suc (sym same),
+        lt,
+      )
     where
       index_of : KeptSlot → ℕ
       index_of kept_slot.Free = 0
       index_of (kept_slot.Open m) = m
       index_of (kept_slot.Taken m) = 0
+
       one_place : {a b : ℕ} → kept_slot.Open a ≡ kept_slot.Open b → a ≡ b
       one_place e = ap index_of e
   placed q k (inr differ) e =
@@ -162,17 +172,21 @@ module _ (steps : List KeptStep) (order : List ℕ) (c c' : Config) (place : ℕ
 -- A call of a process that has something open may not pass, nor the end of what has not taken place.
 pub call_stuck : (steps : List KeptStep) (c : Config) (place : ℕ) → c.position < length steps →
     IsCallOf steps c.position place → (get_or c.slots.items place kept_slot.Free ≡ kept_slot.Free → ⊥) → IsStuck steps c
-call_stuck steps c place lt is_call busy =
-    (lt, subst (λ (x : KeptStep). MayNotPass (slots_of steps c) (step_of_kept x)) (sym is_call.1)
-    (λ free. busy (kept_free (get_or c.slots.items place kept_slot.Free)
-    (sym (slot_at steps c.slots.items place) ∙ ap (at (slots_of steps c)) (sym process) ∙ free))))
+call_stuck steps c place lt is_call busy = (
+  lt,
+  subst (λ (x : KeptStep). MayNotPass (slots_of steps c) (step_of_kept x)) (sym is_call.1)
+      (λ free. busy (kept_free (get_or c.slots.items place kept_slot.Free)
+      (sym (slot_at steps c.slots.items place) ∙ ap (at (slots_of steps c)) (sym process) ∙ free))),
+)
   where
     process : (is_call.0).process - 1 ≡ place
     process = let e : (is_call.0).process ≡ suc place = is_call.2 in omega arith
+
     used : Slot → Type 0
     used Free = ⊥
     used (Open o) = Unit {0}
     used (Taken o) = Unit {0}
+
     kept_free : (s : KeptSlot) → slot_of steps s ≡ Free → s ≡ kept_slot.Free
     kept_free kept_slot.Free e = refl
     kept_free (kept_slot.Open j) e = absurd (subst used e tt)
@@ -181,15 +195,18 @@ call_stuck steps c place lt is_call busy =
 pub end_stuck : (steps : List KeptStep) (c : Config) (place : ℕ) → c.position < length steps →
     get_or steps c.position kept_step.Waits ≡ kept_step.Ends (suc place) →
     ((j : ℕ) → get_or c.slots.items place kept_slot.Free ≡ kept_slot.Taken j → ⊥) → IsStuck steps c
-end_stuck steps c place lt next never =
-    (lt, subst (λ (x : KeptStep). MayNotPass (slots_of steps c) (step_of_kept x)) (sym next)
-    (λ o held. kept_taken (get_or c.slots.items place kept_slot.Free) o refl
-    (sym (slot_at steps c.slots.items place) ∙ ap (at (slots_of steps c)) (sym (place_again place)) ∙ held)))
+end_stuck steps c place lt next never = (
+  lt,
+  subst (λ (x : KeptStep). MayNotPass (slots_of steps c) (step_of_kept x)) (sym next)
+      (λ o held. kept_taken (get_or c.slots.items place kept_slot.Free) o refl
+      (sym (slot_at steps c.slots.items place) ∙ ap (at (slots_of steps c)) (sym (place_again place)) ∙ held)),
+)
   where
     is_taken : Slot → Type 0
     is_taken Free = ⊥
     is_taken (Open o) = ⊥
     is_taken (Taken o) = Unit {0}
+
     kept_taken : (s : KeptSlot) (o : Operation) → get_or c.slots.items place kept_slot.Free ≡ s →
         slot_of steps s ≡ Taken o → ⊥
     kept_taken kept_slot.Free o is e = subst is_taken (sym e) tt

@@ -45,17 +45,22 @@ module _ (p : ℕ) (o : Operation) (word value : ℕ) (act : o.action ≡ Sets w
       MayPass (set S p (Taken o)) (Ends i) →
       Explains ms rest (set V (word - 1) value) (passed (set S p (Taken o)) (Ends i)) → o.process - 1 ≡ p → Later 0 V S
   unfolding leading
-  pass_first ms V S is h may e place =
-      (Pass ∷ Take o ∷ ms,
-      ((may.0, sym (get_or-set_other S p (i - 1) (Taken o) Free (turned apart)) ∙ may.1),
-      (ap (at (set S (i - 1) Free)) place ∙ get_or-set_other S (i - 1) p Free Free apart ∙ is,
-      subst (Allows V) (sym act) h.is_word,
-      subst (λ (W : List ℕ). Explains ms rest W (set (set S (i - 1) Free) (o.process - 1) (Taken o)))
-      (sym (ap (after V) act))
-      (subst (λ (q : ℕ). Explains ms rest (set V (word - 1) value) (set (set S (i - 1) Free) q (Taken o))) (sym place)
-      (subst (λ (T : List Slot). Explains ms rest (set V (word - 1) value) T)
-      (set_comm S p (i - 1) (Taken o) Free apart) e)))),
-      refl)
+  pass_first ms V S is h may e place = (
+    Pass ∷ Take o ∷ ms,
+    (
+      (may.0, sym (get_or-set_other S p (i - 1) (Taken o) Free (turned apart)) ∙ may.1),
+      (
+        ap (at (set S (i - 1) Free)) place ∙ get_or-set_other S (i - 1) p Free Free apart ∙ is,
+        subst (Allows V) (sym act) h.is_word,
+        subst (λ (W : List ℕ). Explains ms rest W (set (set S (i - 1) Free) (o.process - 1) (Taken o)))
+            (sym (ap (after V) act))
+            (subst (λ (q : ℕ). Explains ms rest (set V (word - 1) value) (set (set S (i - 1) Free) q (Taken o))) (sym place)
+            (subst (λ (T : List Slot). Explains ms rest (set V (word - 1) value) T)
+            (set_comm S p (i - 1) (Taken o) Free apart) e)),
+      ),
+    ),
+    refl,
+  )
 
   take_first : (ms : List Move) (o' : Operation) (a : Action) (V : List ℕ) (S : List Slot) → at S p ≡ Open o →
       MayWait p word value V S → o'.action ≡ a → at (set S p (Taken o)) (o'.process - 1) ≡ Open o' →
@@ -66,27 +71,38 @@ module _ (p : ℕ) (o : Operation) (word value : ℕ) (act : o.action ≡ Sets w
       Later (leading ms) W T) → Later (suc (leading ms)) V S
   unfolding leading
   take_first ms o' (Sees view) V S is h act' is' allows e next =
-      absurd (h.unwanted (o'.process - 1) o' (still_open S p (o'.process - 1) o o' is') (view, act',
-      ap (λ (W : List ℕ). get_or W (word - 1) 0) allows ∙ get_or-set_same V (word - 1) value 0 in_range))
+      absurd (h.unwanted (o'.process - 1) o' (still_open S p (o'.process - 1) o o' is') (
+        view,
+        act',
+        ap (λ (W : List ℕ). get_or W (word - 1) 0) allows ∙ get_or-set_same V (word - 1) value 0 in_range,
+      ))
     where
       in_range : word - 1 < length V
       in_range = let lo = h.is_word.0 in let hi = h.is_word.1 in omega arith
-  take_first ms o' (Sets word' value') V S is h act' is' allows e next =
-      (Take o' ∷ more.0,
-      (was, subst (Allows V) (sym act') (subst (λ (n : ℕ). IsOneOf n word') (length-set V (word - 1) value) allows),
-      subst (λ (W : List ℕ). Explains more.0 (Ends i ∷ rest) W (set S q (Taken o'))) (sym (ap (after V) act')) more.1),
-      ap suc more.2)
+  take_first ms o' (Sets word' value') V S is h act' is' allows e next = (
+    Take o' ∷ more.0,
+    (
+      was,
+      subst (Allows V) (sym act') (subst (λ (n : ℕ). IsOneOf n word') (length-set V (word - 1) value) allows),
+      subst (λ (W : List ℕ). Explains more.0 (Ends i ∷ rest) W (set S q (Taken o'))) (sym (ap (after V) act')) more.1,
+    ),
+    ap suc more.2,
+  )
     where
       q : ℕ
       q = o'.process - 1
+
       was : at S q ≡ Open o'
       was = still_open S p q o o' is'
+
       not_here : q ≡ p → ⊥
       not_here same =
           open_not_taken (at (set S p (Taken o)) q) o' o is'
           (ap (at (set S p (Taken o))) same ∙ get_or-set_same S p (Taken o) Free (open_within S p o is))
+
       differ : word - 1 ≡ word' - 1 → ⊥
       differ same = not_here (h.alone q o' word' value' was act' (sym same))
+
       more : Later (leading ms) (set V (word' - 1) value') (set S q (Taken o'))
       more =
           next (set V (word' - 1) value') (set S q (Taken o'))
@@ -123,7 +139,7 @@ module _ (i : ℕ) (rest : List Step) where
   fails_at n ms V S o is allows e same (inr (Scans view act other)) next = other (subst (Allows V) act allows)
   fails_at n ms V S o is allows e same (inr (Updates word value act apart waits)) next =
       let go = later (o.process - 1) o word value act i rest apart ms V S refl is waits
-          (subst (λ (a : Action). Explains ms (Ends i ∷ rest) (after V a) (set S (o.process - 1) (Taken o))) act e) in
+      (subst (λ (a : Action). Explains ms (Ends i ∷ rest) (after V a) (set S (o.process - 1) (Taken o))) act e) in
       next go.0 (go.2 ∙ same) go.1
 
   fails_by : (n : ℕ) (ms : List Move) (V : List ℕ) (S : List Slot) →

@@ -94,9 +94,12 @@ module _ (k x : ℕ) (s : Operation) (wants : Wants k x s) where
       behind : (t : ℕ) → get_or (y ∷ xs) t Waits ≡ Calls s → EndsNext (s.process - 1) (drop (suc t) (y ∷ xs)) →
           IsDue s xs (passed S y)
       behind zero e ends =
-          inl (subst (λ (z : Step). at (passed S z) (s.process - 1) ≡ Open s) (sym e)
-          (get_or-set_same S (s.process - 1) (Open s) Free lt), ends)
-      behind (suc t) e ends = inr (record { t = t; call = e; ends = ends; })
+          inl (
+            subst (λ (z : Step). at (passed S z) (s.process - 1) ≡ Open s) (sym e)
+                (get_or-set_same S (s.process - 1) (Open s) Free lt),
+            ends,
+          )
+      behind (suc t) e ends = inr (record { t = t; call = e; ends = ends })
 
   length_passed : (y : Step) (S : List Slot) → length (passed S y) ≡ length S
   length_passed (Calls o) S = length-set S (o.process - 1) (Open o)
@@ -136,7 +139,7 @@ module _ (k x : ℕ) (s : Operation) (wants : Wants k x s) where
       by_word : (k ≡ word - 1) ⊎ (k ≡ word - 1 → ⊥) → ⊥
       by_word (inl same) =
           let written : value ≡ x =
-              sym (get_or-set_same V k value 0 lt) ∙ ap (λ (q : ℕ). get_or (set V q value) k 0) same ∙ e in
+          sym (get_or-set_same V k value 0 lt) ∙ ap (λ (q : ℕ). get_or (set V q value) k 0) same ∙ e in
           never word (ap (Sets word) written) (sym same)
       by_word (inr differ) = absent (sym (get_or-set_other V (word - 1) k value 0 differ) ∙ e)
 

@@ -54,11 +54,11 @@ same_length V (Sees view) = refl
 -- it taken. `Traceless` says when it leaves no trace, and is kept.
 module _ (p : ℕ) (o : Operation) (Traceless : List Step → List ℕ → List Slot → Type 0)
     (keeps_taking : (xs : List Step) (V : List ℕ) (S : List Slot) (o' : Operation) → Traceless xs V S →
-        Traceless xs (after V o'.action) (set S (o'.process - 1) (Taken o')))
+    Traceless xs (after V o'.action) (set S (o'.process - 1) (Taken o')))
     (keeps_passing : (x : Step) (xs : List Step) (V : List ℕ) (S : List Slot) → Traceless (x ∷ xs) V S →
-        Traceless xs V (passed S x))
+    Traceless xs V (passed S x))
     (forgotten : (ms : List Move) (xs : List Step) (V : List ℕ) (S : List Slot) → Traceless xs V S →
-        Explains ms xs (after V o.action) (set S p (Taken o)) → Explains ms xs V (set S p (Taken o))) where
+    Explains ms xs (after V o.action) (set S p (Taken o)) → Explains ms xs V (set S p (Taken o))) where
   abbrev Earlier : List Step → List ℕ → List Slot → Type 0
   Earlier xs V S = CanBeExplained xs V (set S p (Taken o))
 
@@ -67,9 +67,13 @@ module _ (p : ℕ) (o : Operation) (Traceless : List Step → List ℕ → List 
       ((S' : List Slot) → at S' p ≡ Open o → Traceless xs V S' → Explains ms xs V S' → Earlier xs V S') →
       Earlier (x ∷ xs) V S
   passing ms x xs V S is no_trace (inl apart) may e next =
-      let go = next (passed S x) (passes_by x S p apart ∙ is) (keeps_passing x xs V S no_trace) e in
-      (Pass ∷ go.0, (may_pass x S p (Taken o) apart may,
-      subst (λ (T : List Slot). Explains go.0 xs V T) (sym (passed_with x S p (Taken o) apart)) go.1))
+      let go = next (passed S x) (passes_by x S p apart ∙ is) (keeps_passing x xs V S no_trace) e in (
+        Pass ∷ go.0,
+        (
+          may_pass x S p (Taken o) apart may,
+          subst (λ (T : List Slot). Explains go.0 xs V T) (sym (passed_with x S p (Taken o) apart)) go.1,
+        ),
+      )
   passing ms x xs V S is no_trace (inr there) may e next = absurd (nothing_passes x S p o there is may)
 
   taking : (ms : List Move) (o' : Operation) (xs : List Step) (V : List ℕ) (S : List Slot) → at S p ≡ Open o →
@@ -78,17 +82,24 @@ module _ (p : ℕ) (o : Operation) (Traceless : List Step → List ℕ → List 
       ((W : List ℕ) (S' : List Slot) → at S' p ≡ Open o → Traceless xs W S' → Explains ms xs W S' → Earlier xs W S') →
       Earlier xs V S
   taking ms o' xs V S is no_trace (inl here) is' allows e next =
-      let same : o' ≡ o = one_open (at S p) o' o (ap (at S) here ∙ is') is in
-      (ms, forgotten ms xs V S no_trace
-      (subst (λ (y : Operation). Explains ms xs (after V y.action) (set S p (Taken y))) same
-      (subst (λ (q : ℕ). Explains ms xs (after V o'.action) (set S q (Taken o'))) (sym here) e)))
+      let same : o' ≡ o = one_open (at S p) o' o (ap (at S) here ∙ is') is in (
+        ms,
+        forgotten ms xs V S no_trace
+            (subst (λ (y : Operation). Explains ms xs (after V y.action) (set S p (Taken y))) same
+            (subst (λ (q : ℕ). Explains ms xs (after V o'.action) (set S q (Taken o'))) (sym here) e)),
+      )
   taking ms o' xs V S is no_trace (inr apart) is' allows e next =
       let q = o'.process - 1 in
       let go = next (after V o'.action) (set S q (Taken o'))
-          (get_or-set_other S q p (Taken o') Free apart ∙ is) (keeps_taking xs V S o' no_trace) e in
-      (Take o' ∷ go.0, (get_or-set_other S p q (Taken o) Free (turned apart) ∙ is', allows,
-      subst (λ (T : List Slot). Explains go.0 xs (after V o'.action) T)
-      (set_comm S q p (Taken o') (Taken o) (turned apart)) go.1))
+      (get_or-set_other S q p (Taken o') Free apart ∙ is) (keeps_taking xs V S o' no_trace) e in (
+        Take o' ∷ go.0,
+        (
+          get_or-set_other S p q (Taken o) Free (turned apart) ∙ is',
+          allows,
+          subst (λ (T : List Slot). Explains go.0 xs (after V o'.action) T)
+              (set_comm S q p (Taken o') (Taken o) (turned apart)) go.1,
+        ),
+      )
 
   pub earlier : (ms : List Move) (xs : List Step) (V : List ℕ) (S : List Slot) → at S p ≡ Open o →
       Traceless xs V S → Explains ms xs V S → Earlier xs V S
@@ -123,7 +134,7 @@ module _ (k x : ℕ) where
 
   pub unseen_passed : (y : Step) (xs : List Step) (V : List ℕ) (S : List Slot) → Unseen (y ∷ xs) V S →
       Unseen xs V (passed S y)
-  unseen_passed y xs V S h = record { unwanted = none_passed (Wants k x) y xs S h.unwanted; is_word = h.is_word; }
+  unseen_passed y xs V S h = record { unwanted = none_passed (Wants k x) y xs S h.unwanted; is_word = h.is_word }
 
   forgets : (ms : List Move) (a : Action) (o' : Operation) (xs : List Step) (V : List ℕ) (S : List Slot) →
       Unseen xs V S → o'.action ≡ a → slot S o'.process ≡ Open o' → Allows (set V k x) a →
@@ -133,11 +144,15 @@ module _ (k x : ℕ) where
       Explains ms xs W (with_slot S o'.process (Taken o'))) →
       Allows V a × Explains ms xs (after V a) (with_slot S o'.process (Taken o'))
   forgets ms (Sees view) o' xs V S h act is allows e next =
-      absurd (h.unwanted.here (o'.process - 1) o' is (view, act,
-      ap (λ (W : List ℕ). get_or W k 0) allows ∙ get_or-set_same V k x 0 h.is_word))
-  forgets ms (Sets word value) o' xs V S h act is allows e next =
-      (subst (λ (n : ℕ). IsOneOf n word) (length-set V k x) allows,
-      forgets_by (cases_eq k (word - 1)))
+      absurd (h.unwanted.here (o'.process - 1) o' is (
+        view,
+        act,
+        ap (λ (W : List ℕ). get_or W k 0) allows ∙ get_or-set_same V k x 0 h.is_word,
+      ))
+  forgets ms (Sets word value) o' xs V S h act is allows e next = (
+    subst (λ (n : ℕ). IsOneOf n word) (length-set V k x) allows,
+    forgets_by (cases_eq k (word - 1)),
+  )
     where
       forgets_by : (k ≡ word - 1) ⊎ (k ≡ word - 1 → ⊥) →
           Explains ms xs (set V (word - 1) value) (with_slot S o'.process (Taken o'))
@@ -160,7 +175,7 @@ module _ (k x : ℕ) where
       (e.0, unseen_forgotten ms xs V (passed S y) (unseen_passed y xs V S h) e.1)
   unseen_forgotten (Take o' ∷ ms) xs V S h e =
       let more = forgets ms o'.action o' xs V S h refl e.0 e.1 e.2
-          (λ W g f. unseen_forgotten ms xs W (with_slot S o'.process (Taken o')) g f) in
+      (λ W g f. unseen_forgotten ms xs W (with_slot S o'.process (Taken o')) g f) in
       (e.0, more.0, more.1)
 
 -- An update whose value no scan wants may as well have taken place already, hidden by a later one.
@@ -170,6 +185,6 @@ pub update_earlier : (p : ℕ) (o : Operation) (word x : ℕ) → o.action ≡ S
 update_earlier p o word x act xs V S is h e =
     earlier p o (Unseen (word - 1) x) (unseen_taken (word - 1) x) (unseen_passed (word - 1) x)
     (λ ms xs V S g f. unseen_forgotten (word - 1) x ms xs V (set S p (Taken o))
-    (record { unwanted = none_taken (Wants (word - 1) x) xs S p o g.unwanted; is_word = g.is_word; })
+    (record { unwanted = none_taken (Wants (word - 1) x) xs S p o g.unwanted; is_word = g.is_word })
     (subst (λ (a : Action). Explains ms xs (after V a) (set S p (Taken o))) act f))
     e.0 xs V S is h e.1

@@ -18,9 +18,14 @@ take_behind : (x : Step) (xs : List Step) (V : List ℕ) (S : List Slot) (o : Op
     at S (o.process - 1) ≡ Open o → Allows V o.action →
     CanBeExplained xs (after V o.action) (passed (set S (o.process - 1) (Taken o)) x) →
     CanBeExplained xs V (passed S x)
-take_behind x xs V S o apart is allows e =
-    (Take o ∷ e.0, (passes_by x S (o.process - 1) apart ∙ is, allows,
-    subst (λ (T : List Slot). Explains e.0 xs (after V o.action) T) (passed_with x S (o.process - 1) (Taken o) apart) e.1))
+take_behind x xs V S o apart is allows e = (
+  Take o ∷ e.0,
+  (
+    passes_by x S (o.process - 1) apart ∙ is,
+    allows,
+    subst (λ (T : List Slot). Explains e.0 xs (after V o.action) T) (passed_with x S (o.process - 1) (Taken o) apart) e.1,
+  ),
+)
 
 -- Then what can be explained can be explained with the event passed first.
 pub pass_now : (ms : List Move) (x : Step) (xs : List Step) (V : List ℕ) (S : List Slot) → IsClear x S →
@@ -48,5 +53,6 @@ never_called (Take o' ∷ ms) o xs V S busy e =
         ∙ get_or-set_same S (o'.process - 1) (Taken o') Free (open_within S (o'.process - 1) o' e.0)) free
     still_by (inr apart) free =
         busy (sym (get_or-set_other S (o'.process - 1) (o.process - 1) (Taken o') Free apart) ∙ free)
+
     still : slot (set S (o'.process - 1) (Taken o')) o.process ≡ Free → ⊥
     still = still_by (cases_eq (o.process - 1) (o'.process - 1))

@@ -41,5 +41,6 @@ has_taken steps order order' c mid c' p j word value position values slots is_wo
   where
     values' : mid.values.items ≡ after c.values.items (called_at steps j).action
     values' = values ∙ sym (ap (after c.values.items) act)
+
     mid_config : IsConfig steps c → IsConfig steps mid
     mid_config k = still_config steps order c mid p j position values' slots k is

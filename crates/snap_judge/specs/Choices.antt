@@ -64,7 +64,7 @@ abbrev pub CanTaking : List KeptStep → Config → ℕ → Type 0
 CanTaking steps c p =
     (j : ℕ) × (slice_index_or c.slots.items p kept_slot.Free ≡ kept_slot.Open j)
     × CanBeExplained (rest_of steps c) (after c.values.items (called_at steps j).action)
-      (slice_set (slots_of steps c) p (Taken (called_at steps j)))
+    (slice_set (slots_of steps c) p (Taken (called_at steps j)))
 
 -- The search has taken what was open at this place.
 pub record HasTaken (steps : List KeptStep) (p : ℕ) (order : List ℕ) (c : Config) (order' : List ℕ) (c' : Config) :

@@ -116,12 +116,7 @@ fn open_update(steps: &[Step], config: &Config, place: usize) -> Option<OpenUpda
 
 /// Returns the update that is open at this place, where it has to be tried before the end of the
 /// process at the place `ending`.
-fn choice_at(
-    steps: &[Step],
-    config: &Config,
-    ending: usize,
-    place: usize,
-) -> Option<OpenUpdate>
+fn choice_at(steps: &[Step], config: &Config, ending: usize, place: usize) -> Option<OpenUpdate>
     requires config { IsConfig steps.now config.now }
     requires steps { AreSteps (length config.now.slots.items) (length config.now.values.items)
         steps.now }

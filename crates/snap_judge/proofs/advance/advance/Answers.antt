@@ -10,7 +10,7 @@ returns-then-not-branch-clause-goes_on c =
     goes_on c.args.steps.now _ _ _ _ _ _ c.loop.invariant.goes c.in_ok-pass_step.ensures.goes_on
 
 both_kept : (c c' c'' : Config) → KeepsCounts c c' → KeepsCounts c' c'' → KeepsCounts c c''
-both_kept c c' c'' g h = record { slots = h.slots ∙ g.slots; values = h.values ∙ g.values; }
+both_kept c c' c'' g h = record { slots = h.slots ∙ g.slots; values = h.values ∙ g.values }
 
 pub loop-preserved : goal.loop-preserved
 loop-preserved c =

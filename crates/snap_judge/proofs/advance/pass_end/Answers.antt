@@ -14,8 +14,10 @@ returns-in-Taken-clause-goes_on c =
     c.requires.place c.index.ensures c.in-Taken.is)
 
 pub returns-in-Free-clause-stuck : goal.returns-in-Free-clause-stuck
-returns-in-Free-clause-stuck c now =
-    (refl, end_stuck c.args.steps.now c.args.config.now c.args.place c.requires.next c.requires.is
-    (λ j held. kept_taken_not_free j
-    (sym held ∙ there c.args.config.now.slots.items c.args.place c.index.result.now kept_slot.Free
-    c.requires.place c.index.ensures c.in-Free.is)))
+returns-in-Free-clause-stuck c now = (
+  refl,
+  end_stuck c.args.steps.now c.args.config.now c.args.place c.requires.next c.requires.is
+      (λ j held. kept_taken_not_free j
+      (sym held ∙ there c.args.config.now.slots.items c.args.place c.index.result.now kept_slot.Free
+      c.requires.place c.index.ensures c.in-Free.is)),
+)

@@ -19,11 +19,13 @@ advance-requires-clause-config c =
 
 pub returns : goal.returns
 returns c =
-    record { entered =
-    has_entered c.args.steps.now c.args.node.now c.args.update.place c.args.order.now.items
-    c.take_update.new.order.items c.advance.new.order.items c.in_ok-config.config c.take_update.new.config
-    c.advance.new.config _ c.requires.node c.in_ok-config.ensures
-    (subst (λ (os : List ℕ). HasTaken c.args.steps.now c.args.update.place os c.in_ok-config.config
-    c.take_update.new.order.items c.take_update.new.config) c.truncate.ensures.items c.in_ok-take_update.ensures.taken)
-    c.in_ok-at_end.ensures.goes_on c.in_ok-take_update.ensures.kept c.in_ok-at_end.ensures.kept
-    c.in_ok-at_end.ensures.settled refl c.in_ok-at_end.ensures.end c.in_ok-at_end.ensures.stuck }
+    record {
+      entered =
+          has_entered c.args.steps.now c.args.node.now c.args.update.place c.args.order.now.items
+          c.take_update.new.order.items c.advance.new.order.items c.in_ok-config.config c.take_update.new.config
+          c.advance.new.config _ c.requires.node c.in_ok-config.ensures
+          (subst (λ (os : List ℕ). HasTaken c.args.steps.now c.args.update.place os c.in_ok-config.config
+          c.take_update.new.order.items c.take_update.new.config) c.truncate.ensures.items c.in_ok-take_update.ensures.taken)
+          c.in_ok-at_end.ensures.goes_on c.in_ok-take_update.ensures.kept c.in_ok-at_end.ensures.kept
+          c.in_ok-at_end.ensures.settled refl c.in_ok-at_end.ensures.end c.in_ok-at_end.ensures.stuck;
+    }

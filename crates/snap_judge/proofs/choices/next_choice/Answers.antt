@@ -40,6 +40,8 @@ returns-clause-none c =
 
 pub returns-in-Some-clause-some : goal.returns-in-Some-clause-some
 returns-in-Some-clause-some c =
-    let found = c.in-Some.ensures.some in
-    (found.0, (let le = c.loop-place.invariant.from in let same = found.1 in omega (arith, le, same)),
-    λ q le lt. c.loop-place.invariant.waiting q le (let same = found.1 in omega (arith, lt, same)))
+    let found = c.in-Some.ensures.some in (
+      found.0,
+      (let le = c.loop-place.invariant.from in let same = found.1 in omega (arith, le, same)),
+      λ q le lt. c.loop-place.invariant.waiting q le (let same = found.1 in omega (arith, lt, same)),
+    )

@@ -22,7 +22,10 @@ more steps c c' n before alone now p lt j is sees = by_place (cases_eq p n)
 
 both : (c c' c'' : Config) → ChangesSlotsAlone c c' → ChangesSlotsAlone c' c'' → ChangesSlotsAlone c c''
 both c c' c'' g h = record {
-  position = h.position ∙ g.position; values = h.values ∙ g.values; count = h.count ∙ g.count; }
+  position = h.position ∙ g.position;
+  values = h.values ∙ g.values;
+  count = h.count ∙ g.count;
+}
 
 pub loop-place-preserved : goal.loop-place-preserved
 loop-place-preserved c =

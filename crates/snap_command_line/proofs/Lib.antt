@@ -1,2 +1,2 @@
 -- The proofs of snap_command_line, by their modules.
-pub mod Asked
+pub mod OfSubcommand

@@ -1,7 +1,7 @@
 -- The faults of files.
 use Rattle.std.proofs.Common.{ℕ, List, Err, Option, Some, None, IfSome}
 use Rattle.std.specs.declared.io.ErrorKind.{ErrorKind}
-use Rattle.snap_files.specs.Reading.{IsFaultOf, ReadsOpen}
+use Rattle.snap_files.specs.FileTexts.{IsFaultOf, ReadsOpen}
 use Rattle.snap_files.specs.declared.fault.FileFault.{FileFault}
 use Rattle.snap_files.specs.declared.fault.FileFault.TheVariants.{Memory, TooLong, Unread}
 

@@ -2,7 +2,7 @@
 use Rattle.std.proofs.Common.{ℕ, List, Vec, Result, Ok, Err, Option, Some, None, refl}
 use Rattle.std.specs.Global.{Global}
 use Rattle.std.specs.declared.io.ErrorKind.{ErrorKind}
-use Rattle.snap_files.specs.Reading.{Gives, IsTextOf, Reads, short_text}
+use Rattle.snap_files.specs.FileTexts.{Gives, IsTextOf, Reads, short_text}
 use Rattle.snap_files.specs.declared.fault.FileFault.{FileFault}
 use Rattle.snap_files.specs.declared.fault.FileFault.TheVariants.{Memory, TooLong, Unread}
 

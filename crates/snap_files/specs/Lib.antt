@@ -1,2 +1,2 @@
 -- The definitions of snap_files, by their modules.
-pub mod Reading
+pub mod FileTexts

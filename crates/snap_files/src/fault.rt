@@ -1,6 +1,6 @@
 //! `FileFault`: why a file that a command line names was not read.
 ghost use Rattle.std.specs.Prelude.{◌≡◌};
-ghost use Rattle.snap_files.specs.Reading.{reason};
+ghost use Rattle.snap_files.specs.FileTexts.{reason};
 
 use std::io::ErrorKind;
 

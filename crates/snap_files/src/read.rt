@@ -3,7 +3,7 @@
 ghost use Rattle.std.specs.Prelude.{◌≡◌, ◌≤◌, ◌<◌, IfErr, IfOk, IfSome, IsErrAnd};
 ghost use Rattle.std.specs.Prelude.{MatchOption, None, length};
 ghost use Rattle.std.specs.IoError.{error_kind};
-ghost use Rattle.snap_files.specs.Reading.{IsFaultOf, Reads, ReadsOpen};
+ghost use Rattle.snap_files.specs.FileTexts.{IsFaultOf, Reads, ReadsOpen};
 
 use crate::fault::FileFault;
 use std::alloc::Global;

@@ -2,7 +2,7 @@
 //! files of the system.
 ghost use Rattle.std.specs.Prelude.{ℕ, List, Option, None, Result};
 ghost use Rattle.std.specs.declared.io.ErrorKind.{ErrorKind};
-ghost use Rattle.snap_files.specs.Reading.{Reads};
+ghost use Rattle.snap_files.specs.FileTexts.{Reads};
 
 use crate::fault::FileFault;
 use crate::read::read_named;

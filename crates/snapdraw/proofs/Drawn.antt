@@ -8,7 +8,7 @@ use Rattle.snap_semantics.specs.Answers.{◌>>=◌, refused_as}
 use Rattle.snap_semantics.specs.Source.{Source}
 use Rattle.snap_picture.specs.declared.options.Options.{Options}
 use Rattle.snap_shipped.specs.Shipped.{shipped}
-use Rattle.snap_files.specs.Reading.{Gives, IsTextOf, Reads}
+use Rattle.snap_files.specs.FileTexts.{Gives, IsTextOf, Reads}
 use Rattle.snap_files.specs.declared.fault.FileFault.{FileFault}
 use Rattle.snap_files.specs.declared.fault.FileFault.TheVariants as file
 use Rattle.snap_files.proofs.Texts.{some_text, text_read}

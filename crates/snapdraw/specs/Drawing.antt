@@ -11,7 +11,7 @@ use Rattle.snap_shipped.specs.Shipped.{shipped}
 use Rattle.snap_picture.specs.Picture.{picture_of}
 use Rattle.snap_picture.specs.declared.options.Options.{Options}
 use Rattle.snap_picture.specs.declared.refusal.PictureRefusal.TheVariants.{Input}
-use Rattle.snap_files.specs.Reading.{IsTextOf}
+use Rattle.snap_files.specs.FileTexts.{IsTextOf}
 use Rattle.snap_files.specs.declared.fault.FileFault.{FileFault}
 use Rattle.snapdraw_command_line.specs.Files.{Named, Files, Shipped}
 use Rattle.snapdraw_command_line.specs.declared.arguments.Drawing.{Drawing}

@@ -3,7 +3,7 @@ use Rattle.std.specs.Prelude.{ℕ, List, ◌++◌, codes}
 use Rattle.snap_refusals.specs.RefusalText.{numbered, refusal_text}
 use Rattle.snap_picture.specs.declared.refusal.PictureRefusal.{PictureRefusal}
 use Rattle.snap_picture.specs.declared.refusal.PictureRefusal.TheVariants as refusal
-use Rattle.snap_files.specs.Reading.{reason}
+use Rattle.snap_files.specs.FileTexts.{reason}
 use Rattle.snap_files.specs.declared.fault.FileFault.{FileFault}
 use Rattle.snap_files.specs.declared.fault.FileFault.TheVariants as file
 use Rattle.snapdraw.specs.declared.fault.DrawFault.{DrawFault}

@@ -1,7 +1,7 @@
 -- `request_by` of snap_command_line (src/arguments.rt): the proof of what its contract says.
 use Rattle.std.proofs.Common.{sym}
 use Rattle.clap.specs.Matches.{found_of}
-use Rattle.snap_command_line.proofs.Asked.{asked_by_subcommand}
+use Rattle.snap_command_line.proofs.OfSubcommand.{asked_by_subcommand}
 use Rattle.snap_command_line.proofs.arguments.request_by.Goals as goal
 
 pub returns-clause-asked : goal.returns-clause-asked

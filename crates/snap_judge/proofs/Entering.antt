@@ -1,0 +1,199 @@
+-- What a search has come to from a node.
+use Rattle.std.proofs.Common.{◌≡◌, ℕ, zero, suc, ◌-◌, ◌+◌, ◌<◌, ◌≤◌, List, [], ◌∷◌, ◌++◌, length, get_or, refl, sym, ◌∙◌, ap, subst, arith}
+use Rattle.std.proofs.Common.{map, take, drop, true, false}
+use Rattle.std.proofs.Math.ListN.{set}
+use Rattle.std.proofs.lemmas.List.{length-take-le, take-append-le}
+use Rattle.snap_runs.specs.Linearization.{after}
+use Rattle.snap_judge.specs.declared.config.Step.{Step as KeptStep}
+use Rattle.snap_judge.specs.declared.config.Slot.{Slot as KeptSlot}
+use Rattle.snap_judge.specs.declared.config.Slot.TheVariants as kept_slot
+use Rattle.snap_judge.specs.declared.config.Config.{Config}
+use Rattle.snap_judge.specs.declared.config.Node.{Node}
+use Rattle.snap_judge.specs.declared.config.Entered.{Entered}
+use Rattle.snap_judge.specs.Steps.{CanBeExplained, Taken, Slot}
+use Rattle.snap_judge.specs.Kept.{Can, GoesOn, Grows, IsConfig, IsReached, IsSameConfig, IsSettled, IsStuck, KeepsCounts}
+use Rattle.snap_judge.specs.Kept.{called_at, rest_of, slot_of, slots_of, steps_kept}
+use Rattle.snap_judge.specs.Choices.{CanTaking, HasTaken, IsChoice, NotNow, NotNowAt}
+use Rattle.snap_judge.specs.declared.config.OpenUpdate.{OpenUpdate}
+use Rattle.snap_judge.specs.declared.config.Step.TheVariants as kept_step
+use Rattle.snap_judge.specs.Steps.{Ends, Step}
+use Rattle.snap_runs.specs.Operation.{Operation}
+use Rattle.std.proofs.Common.{◌⊎◌, inl, inr}
+use Rattle.std.proofs.lemmas.Bool.{cases_eq, cases_lt}
+use Rattle.snap_judge.proofs.Choosing.{kept_at}
+use Rattle.snap_judge.proofs.SearchSlots.{at}
+use Rattle.snap_judge.proofs.SearchLater.{Fails, nothing_explains}
+use Rattle.snap_judge.proofs.Passing.{step_at}
+use Rattle.std.proofs.Common.{drop-cons}
+use Rattle.std.proofs.lemmas.List.{length-map}
+use Rattle.snap_judge.specs.Steps.{Waits, Open}
+use Rattle.snap_judge.specs.Kept.{MayNotPass, step_of_kept}
+use Rattle.snap_judge.specs.Nodes.{HasEntered, HasTried, IsEntered, IsNode, IsTried, IsTriedAt}
+use Rattle.snap_judge.proofs.Goes.{grown, same_goes}
+
+-- what can be explained with it taken, of a copy
+pub same_taking : (steps : List KeptStep) (c c' : Config) (p : ℕ) → IsSameConfig c c' → CanTaking steps c p →
+    CanTaking steps c' p
+same_taking steps c c' p same can = (
+  can.0,
+  ap (λ (l : List KeptSlot). get_or l p kept_slot.Free) same.slots ∙ can.1,
+  subst (λ (n : ℕ). CanBeExplained (drop n (steps_kept steps)) (after c'.values.items (called_at steps can.0).action)
+      (set (slots_of steps c') p (Taken (called_at steps can.0)))) (sym same.position)
+      (subst (λ (W : List ℕ). CanBeExplained (rest_of steps c) (after W (called_at steps can.0).action)
+      (set (slots_of steps c') p (Taken (called_at steps can.0)))) (sym same.values)
+      (subst (λ (l : List KeptSlot). CanBeExplained (rest_of steps c) (after c.values.items (called_at steps can.0).action)
+      (set (map (slot_of steps) l) p (Taken (called_at steps can.0)))) (sym same.slots) can.2)),
+)
+
+-- the beginning of an order that has been cut and has grown
+pub same_prefix : (order order' : List ℕ) (d : ℕ) → d ≤ length order → Grows (take d order) order' →
+    take d order' ≡ take d order
+same_prefix order order' d le g =
+    let cut : length (take d order) ≡ d = length-take-le d order le in
+    ap (take d) g.1
+    ∙ subst (λ (n : ℕ). take n (take d order ++ g.0) ≡ take d order) cut (front (take d order) g.0)
+  where
+    front : (xs ys : List ℕ) → take (length xs) (xs ++ ys) ≡ xs
+    front [] ys = refl
+    front (x ∷ xs) ys = ap (λ (l : List ℕ). x ∷ l) (front xs ys)
+
+pub deep_enough : (order order' : List ℕ) (d : ℕ) → d ≤ length order → take d order' ≡ take d order → d ≤ length order'
+deep_enough order order' d le same =
+    let cut : length (take d order) ≡ d = length-take-le d order le in
+    let cut' : length (take d order') ≡ d = ap length same ∙ cut in
+    let most : length (take d order') ≤ length order' = short d order' in
+    omega (arith, cut', most)
+  where
+    short : (n : ℕ) (xs : List ℕ) → length (take n xs) ≤ length xs
+    short zero xs = omega arith
+    short (suc n) [] = omega arith
+    short (suc n) (x ∷ xs) = let le = short n xs in omega (arith, le)
+
+-- From a copy of the node's configuration an update is taken, and then steps are passed.
+pub has_entered : (steps : List KeptStep) (node : Node) (p : ℕ) (order mid order' : List ℕ) (copy taken c : Config)
+    (at_end : Entered) →
+    IsNode (length node.config.slots.items) (length node.config.values.items) steps order node →
+    IsSameConfig node.config copy → HasTaken steps p (take node.depth order) copy mid taken →
+    GoesOn steps mid taken order' c → KeepsCounts copy taken → KeepsCounts taken c → IsSettled steps c →
+    at_end.config ≡ c → (at_end.at_end ≡ true → c.position ≡ length steps) →
+    (at_end.at_end ≡ false → IsStuck steps c) → HasEntered steps node p order order' at_end
+has_entered steps node p order mid order' copy taken c e is_node same took goes kept kept' settled is end stuck = record {
+  entered = record {
+    counts = subst (λ (x : Config). (length x.slots.items ≡ length node.config.slots.items)
+        × (length x.values.items ≡ length node.config.values.items)) (sym is)
+        (kept'.slots ∙ kept.slots ∙ ap length same.slots, kept'.values ∙ kept.values ∙ ap length same.values);
+    config = subst (IsConfig steps) (sym is) (goes.config (took.config copied.0));
+    settled = subst (IsSettled steps) (sym is) settled;
+    reached = subst (IsReached steps order') (sym is) (goes.reached (took.config copied.0) (took.reached copied.0 copied.1));
+    at_end = λ x. subst (λ (y : Config). y.position ≡ length steps) (sym is) (end x);
+    stuck = λ x. subst (IsStuck steps) (sym is) (stuck x);
+  };
+  prefix = cut;
+  deep = deep_enough order order' node.depth is_node.depth cut;
+  tried = λ can. subst (Can steps) (sym is) (goes.explained (took.config copied.0)
+      (took.explained copied.0 (same_taking steps node.config copy p same can)));
+}
+  where
+    copied : IsConfig steps copy × IsReached steps (take node.depth order) copy
+    copied =
+        let goes = same_goes steps (take node.depth order) node.config copy same in
+        (goes.config is_node.config, goes.reached is_node.config is_node.reached)
+
+    cut : take node.depth order' ≡ take node.depth order
+    cut = same_prefix order order' node.depth is_node.depth (grown (take node.depth order) mid order' took.grows goes.grows)
+
+-- Where each place of a node has been tried, nothing explains the rest.
+pub all_tried : (n w : ℕ) (steps : List KeptStep) (order : List ℕ) (node : Node) → IsNode n w steps order node →
+    ((p : ℕ) → IsTriedAt steps node.config node.ending p) → Can steps node.config → ⊥
+all_tried n w steps order node is_node tried can =
+    nothing_explains (suc node.ending) (drop (suc c.position) (steps_kept steps)) c.values.items (slots_of steps c)
+    never each (subst (λ (xs : List Step). CanBeExplained xs c.values.items (slots_of steps c)) rest can)
+  where
+    c : Config
+    c = node.config
+
+    never : (o : Operation) → at (slots_of steps c) (suc node.ending - 1) ≡ Taken o → ⊥
+    never o held =
+        subst (λ (x : KeptStep). MayNotPass (slots_of steps c) (step_of_kept x)) is_node.ending is_node.stuck.1 o held
+
+    rest : rest_of steps c ≡ Ends (suc node.ending) ∷ drop (suc c.position) (steps_kept steps)
+    rest =
+        drop-cons (steps_kept steps) c.position Waits
+        (subst (λ (m : ℕ). c.position < m) (sym (length-map steps step_of_kept)) is_node.stuck.0)
+        ∙ ap (λ (y : Step). y ∷ drop (suc c.position) (steps_kept steps))
+        (step_at steps c.position ∙ ap step_of_kept is_node.ending)
+
+    each : (p : ℕ) (o : Operation) → at (slots_of steps c) p ≡ Open o → o.process - 1 ≡ p →
+        Fails (Ends (suc node.ending) ∷ drop (suc c.position) (steps_kept steps)) c.values.items (slots_of steps c) p o
+        ⊎ NotNow (suc node.ending) c.values.items (slots_of steps c) p o
+    each p o is place = by_try (kept_at steps c.slots.items p o is) (tried p)
+      where
+        by_try : (j : ℕ) × (get_or c.slots.items p kept_slot.Free ≡ kept_slot.Open j) × (called_at steps j ≡ o) →
+            IsTriedAt steps c node.ending p →
+            Fails (Ends (suc node.ending) ∷ drop (suc c.position) (steps_kept steps)) c.values.items (slots_of steps c) p o
+            ⊎ NotNow (suc node.ending) c.values.items (slots_of steps c) p o
+        by_try k (inl fails) =
+            inl (λ e. fails (
+              k.0,
+              k.1,
+              subst (λ (y : Operation). CanBeExplained (rest_of steps c) (after c.values.items y.action)
+                  (set (slots_of steps c) p (Taken y))) (sym k.2)
+                  (subst (λ (xs : List Step). CanBeExplained xs (after c.values.items o.action) (set (slots_of steps c) p (Taken o)))
+                  (sym rest) e),
+            ))
+        by_try k (inr waits) = inr (subst (NotNow (suc node.ending) c.values.items (slots_of steps c) p) k.2 (waits k.0 k.1))
+
+-- each place is tried, or waits
+pub rest_waits : (steps : List KeptStep) (node : Node) → IsTried steps node →
+    ((p : ℕ) → node.next ≤ p → NotNowAt steps node.config node.ending p) → (p : ℕ) →
+    IsTriedAt steps node.config node.ending p
+rest_waits steps node tried waits p = by_place (cases_lt p node.next)
+  where
+    by_place : (p < node.next) ⊎ (node.next ≤ p) → IsTriedAt steps node.config node.ending p
+    by_place (inl lt) = tried p lt
+    by_place (inr le) = inr (waits p le)
+
+-- The node, its next place moved on.
+pub has_tried : (steps : List KeptStep) (node node' : Node) (order order' : List ℕ) (u : OpenUpdate) (e : Entered) →
+    IsNode (length node.config.slots.items) (length node.config.values.items) steps order node → IsTried steps node →
+    IsChoice steps node.config u → node.next ≤ u.place →
+    ((q : ℕ) → node.next ≤ q → q < u.place → NotNowAt steps node.config node.ending q) →
+    node'.config ≡ node.config → node'.depth ≡ node.depth → node'.ending ≡ node.ending → node'.next ≡ u.place + 1 →
+    HasEntered steps node' u.place order order' e → HasTried steps node node' order order' e
+has_tried steps node node' order order' u e is_node tried choice le waits config depth ending next has = record {
+  is_node = record {
+    counts = subst (λ (x : Config). (length x.slots.items ≡ length node.config.slots.items)
+        × (length x.values.items ≡ length node.config.values.items)) (sym config) (refl, refl);
+    config = subst (IsConfig steps) (sym config) is_node.config;
+    settled = subst (IsSettled steps) (sym config) is_node.settled;
+    stuck = subst (IsStuck steps) (sym config) is_node.stuck;
+    ending = ap (λ (x : Config). get_or steps x.position kept_step.Waits) config ∙ is_node.ending
+        ∙ ap (λ (k : ℕ). kept_step.Ends (suc k)) (sym ending);
+    next = (let lt = choice.within in omega (arith, lt, next));
+    depth = subst (λ (k : ℕ). k ≤ length order') (sym depth) deep;
+    reached = subst (λ (x : Config). IsReached steps (take node'.depth order') x) (sym config)
+        (subst (λ (k : ℕ). IsReached steps (take k order') node.config) (sym depth)
+        (subst (λ (os : List ℕ). IsReached steps os node.config) (sym prefix) is_node.reached));
+  };
+  config = config;
+  depth = depth;
+  entered = subst (λ (x : Config). IsEntered (length x.slots.items) (length x.values.items) steps order' e) config has.entered;
+  prefix = prefix;
+  deep = deep;
+  tried = λ fails p lt. subst (λ (x : Config). IsTriedAt steps x node'.ending p) (sym config)
+      (subst (λ (k : ℕ). IsTriedAt steps node.config k p) (sym ending) (by_place fails p (cases_lt p node.next) (cases_eq p u.place) lt));
+}
+  where
+    prefix : take node.depth order' ≡ take node.depth order
+    prefix = subst (λ (k : ℕ). take k order' ≡ take k order) depth has.prefix
+
+    deep : node.depth ≤ length order'
+    deep = subst (λ (k : ℕ). k ≤ length order') depth has.deep
+
+    by_place : (Can steps e.config → ⊥) → (p : ℕ) → (p < node.next) ⊎ (node.next ≤ p) →
+        (p ≡ u.place) ⊎ (p ≡ u.place → ⊥) → p < node'.next → IsTriedAt steps node.config node.ending p
+    by_place fails p (inl lt) at_place below = tried p lt
+    by_place fails p (inr more) (inl same) below =
+        inl (λ can. fails (has.tried (subst (λ (x : Config). CanTaking steps x u.place) (sym config)
+        (subst (CanTaking steps node.config) same can))))
+    by_place fails p (inr more) (inr differ) below = inr (waits p more (omega (arith, below, next, differ)))

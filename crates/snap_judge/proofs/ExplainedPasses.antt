@@ -1,0 +1,256 @@
+-- What is left to be taken, before and behind an event, and before and behind an operation that takes place.
+use Rattle.std.proofs.Common.{◌≡◌, ℕ, ◌-◌, ◌<◌, ◌≤◌, ◌⊎◌, List, ◌∷◌, length, refl, sym, subst, ◌∙◌, ap}
+use Rattle.std.proofs.Common.{inl, inr, arith, slice_index_or, slice_set, Some}
+use Rattle.std.specs.List.{AllByRecursion, Contains}
+use Rattle.std.proofs.lemmas.Bool.{cases_lt}
+use Rattle.snap_runs.specs.Operation.{Operation}
+use Rattle.snap_runs.proofs.Order.{Apart}
+use Rattle.snap_judge.specs.History.{History}
+use Rattle.snap_judge.specs.Linearizable.{IsOperationOf}
+use Rattle.snap_judge.specs.Steps.{Calls, Ends, Free, MayPass, Open, Slot, Step, Taken, Waits, passed}
+use Rattle.snap_judge.proofs.ExplainedLists.{contains_cases, contains_head, contains_tail, each_both, each_weaker}
+use Rattle.snap_judge.proofs.ExplainedLists.{set_cases, set_other, set_same}
+use Rattle.snap_judge.proofs.ExplainedTurns.{AreSound, Fits, Live, SlotsAt, Turned, gone, in_slot, place_within}
+use Rattle.snap_judge.proofs.ExplainedTurns.{same_place, take_slots}
+
+-- The operation may be taken from this number on: it is called there, or is open now.
+abbrev pub MayBeTaken : History → ℕ → List Slot → Operation → Type 0
+MayBeTaken h p slots y =
+    IsOperationOf h y × ((p ≤ y.call) ⊎ (slice_index_or slots (y.process - 1) Free ≡ Open y))
+
+module _ (h : History) (sound : AreSound h) where
+  -- What may be taken behind an event may be so before it.
+  may_before : (p q : ℕ) (x : Step) (slots : List Slot) → Turned h p q x → SlotsAt h p slots → MayPass slots x →
+      (y : Operation) → MayBeTaken h q (passed slots x) y → MayBeTaken h p slots y
+  may_before p q (Calls o) slots t s may y (is, inl le) = let later : p ≤ q = t.later in (is, inl (omega arith))
+  may_before p q (Calls o) slots t s may y (is, inr now) =
+      let b = t.begins o refl in
+      elim (set_cases slots (o.process - 1) (y.process - 1) (Open o) (Open y)
+      (place_within h sound o slots b.operation s.count) now) [
+        | inl here ↦ (let e : Open o ≡ Open y = here.1 in let same : o ≡ y = cc in
+            (is, inl (subst (λ (z : Operation). p ≤ z.call) same b.from)))
+        | inr other ↦ (is, inr other.1)
+      ]
+  may_before p q (Ends i) slots t s may y (is, inl le) = let later : p ≤ q = t.later in (is, inl (omega arith))
+  may_before p q (Ends i) slots t s may y (is, inr now) =
+      let x = t.stops i refl in
+      elim (set_cases slots (i - 1) (y.process - 1) Free (Open y)
+      (subst (λ j. j - 1 < length slots) x.process
+      (place_within h sound x.operation slots x.live.operation s.count)) now) [
+        | inl here ↦ absurd (let e : Free ≡ Open y = here.1 in cc)
+        | inr other ↦ (is, inr other.1)
+      ]
+  may_before p q Waits slots t s may y (is, inl le) = let later : p ≤ q = t.later in (is, inl (omega arith))
+  may_before p q Waits slots t s may y (is, inr now) = (is, inr now)
+
+  -- What has ended behind an event, and had been taken there, had been so before it.
+  taken_before : (p q : ℕ) (x : Step) (slots : List Slot) → Turned h p q x → SlotsAt h p slots →
+      (y : Operation) → slice_index_or (passed slots x) (y.process - 1) Free ≡ Taken y →
+      slice_index_or slots (y.process - 1) Free ≡ Taken y
+  taken_before p q (Calls o) slots t s y now =
+      let b = t.begins o refl in
+      elim (set_cases slots (o.process - 1) (y.process - 1) (Open o) (Taken y)
+      (place_within h sound o slots b.operation s.count) now) [
+        | inl here ↦ absurd (let e : Open o ≡ Taken y = here.1 in cc)
+        | inr other ↦ other.1
+      ]
+  taken_before p q (Ends i) slots t s y now =
+      let x = t.stops i refl in
+      elim (set_cases slots (i - 1) (y.process - 1) Free (Taken y)
+      (subst (λ j. j - 1 < length slots) x.process
+      (place_within h sound x.operation slots x.live.operation s.count)) now) [
+        | inl here ↦ absurd (let e : Free ≡ Taken y = here.1 in cc)
+        | inr other ↦ other.1
+      ]
+  taken_before p q Waits slots t s y now = now
+
+  -- What ends by an event had been taken before it.
+  taken_at_end : (p q : ℕ) (x : Step) (slots : List Slot) → Turned h p q x → SlotsAt h p slots → MayPass slots x →
+      (y : Operation) (t : ℕ) → IsOperationOf h y → y.end ≡ Some t → p ≤ t → t < q → x ≡ Ends y.process →
+      slice_index_or slots (y.process - 1) Free ≡ Taken y
+  taken_at_end p q (Calls o) slots t s may y e is end le lt it = absurd (let no : Calls o ≡ Ends y.process = it in cc)
+  taken_at_end p q Waits slots t s may y e is end le lt it = absurd (let no : Waits ≡ Ends y.process = it in cc)
+  taken_at_end p q (Ends i) slots t s may y e is end le lt it =
+      let same : i ≡ y.process = (let both : Ends i ≡ Ends y.process = it in cc) in
+      let early : y.call < e = sound.ends_later y e is end in
+      let l : Live h p y = record {
+        operation = is;
+        called = elim (cases_lt y.call p) [
+          | inl less ↦ less
+          | inr more ↦ absurd (let no : Ends i ≡ Calls y = t.calls y is more (omega arith) in cc)
+        ];
+        going = λ u ends. let one : e ≡ u = (let both : Some e ≡ Some u = sym end ∙ ends in cc) in omega arith;
+      } in
+      let held : slice_index_or slots (y.process - 1) Free ≡ Taken may.0 =
+      subst (λ j. slice_index_or slots (j - 1) Free ≡ Taken may.0) same may.1 in
+      elim (in_slot h sound p slots y (Taken may.0) s l held) [
+        | inl free ↦ absurd (let wrong : Open y ≡ Taken may.0 = free in cc)
+        | inr same ↦ held ∙ sym same
+      ]
+
+  -- What is left to be taken behind an event is left to be taken before it.
+  pub fits_before : (p q : ℕ) (x : Step) (slots : List Slot) (left : List Operation) → Turned h p q x →
+      SlotsAt h p slots → MayPass slots x → Fits h q (passed slots x) left → Fits h p slots left
+  fits_before p q x slots left t s may f = record {
+    each = each_weaker (MayBeTaken h q (passed slots x)) (MayBeTaken h p slots) left
+        (may_before p q x slots t s may) f.each;
+    has = λ y e is end le. elim (cases_lt e q) [
+      | inl lt ↦ inl (taken_at_end p q x slots t s may y e is end le lt (t.ends y e is end le lt))
+      | inr more ↦ elim (f.has y e is end more) [
+        | inl now ↦ inl (taken_before p q x slots t s y now)
+        | inr here ↦ inr here
+      ]
+    ];
+  }
+
+  -- What is left to be taken before an event is left to be taken behind it, if the event may be passed.
+  open_behind : (p q : ℕ) (x : Step) (slots : List Slot) → Turned h p q x → SlotsAt h p slots → MayPass slots x →
+      (y : Operation) → slice_index_or slots (y.process - 1) Free ≡ Open y →
+      slice_index_or (passed slots x) (y.process - 1) Free ≡ Open y
+  open_behind p q (Calls o) slots t s may y now =
+      let b = t.begins o refl in let l = s.opened (y.process - 1) y now in
+      set_other slots (o.process - 1) (y.process - 1) (Open o) (Open y)
+      (λ e. b.alone y l.0 (same_place h sound y o l.0.operation b.operation e)) now
+  open_behind p q (Ends i) slots t s may y now =
+      set_other slots (i - 1) (y.process - 1) Free (Open y)
+      (λ e. let no : Open y ≡ Taken may.0 =
+      sym now ∙ subst (λ k. slice_index_or slots k Free ≡ Taken may.0) (sym e) may.1 in cc) now
+  open_behind p q Waits slots t s may y now = now
+
+  may_behind : (p q : ℕ) (x : Step) (slots : List Slot) → Turned h p q x → SlotsAt h p slots → MayPass slots x →
+      (y : Operation) → MayBeTaken h p slots y → MayBeTaken h q (passed slots x) y
+  may_behind p q x slots t s may y (is, inr now) = (is, inr (open_behind p q x slots t s may y now))
+  may_behind p q x slots t s may y (is, inl le) =
+      elim (cases_lt y.call q) [
+        | inl lt ↦ (is, inr (called x t s (t.calls y is le lt)))
+        | inr more ↦ (is, inl more)
+      ]
+    where
+      called : (z : Step) → Turned h p q z → SlotsAt h p slots → z ≡ Calls y →
+          slice_index_or (passed slots z) (y.process - 1) Free ≡ Open y
+      called (Calls o) t s it =
+          let same : o ≡ y = (let e : Calls o ≡ Calls y = it in cc) in
+          set_same slots (o.process - 1) (y.process - 1) (Open o)
+          (place_within h sound o slots (t.begins o refl).operation s.count)
+          (ap (λ (z : Operation). z.process - 1) (sym same)) ∙ ap Open same
+      called (Ends i) t s it = absurd (let e : Ends i ≡ Calls y = it in cc)
+      called Waits t s it = absurd (let e : Waits ≡ Calls y = it in cc)
+
+  taken_behind : (p q : ℕ) (x : Step) (slots : List Slot) → Turned h p q x → SlotsAt h p slots →
+      (y : Operation) (e : ℕ) → y.end ≡ Some e → q ≤ e → slice_index_or slots (y.process - 1) Free ≡ Taken y →
+      slice_index_or (passed slots x) (y.process - 1) Free ≡ Taken y
+  taken_behind p q (Calls o) slots t s y e end more now =
+      let b = t.begins o refl in let l = s.took (y.process - 1) y now in
+      set_other slots (o.process - 1) (y.process - 1) (Open o) (Taken y)
+      (λ same. b.alone y l.0 (same_place h sound y o l.0.operation b.operation same)) now
+  taken_behind p q (Ends i) slots t s y e end more now =
+      let l = s.took (y.process - 1) y now in
+      let x = t.stops i refl in
+      let later : p ≤ q = t.later in let before : y.call < p = l.0.called in
+      let l' : Live h q y = record {
+        operation = l.0.operation;
+        called = omega arith;
+        going = λ u ends. let one : e ≡ u = (let both : Some e ≡ Some u = sym end ∙ ends in cc) in omega arith;
+      } in
+      set_other slots (i - 1) (y.process - 1) Free (Taken y)
+      (λ same. gone h sound p q i slots y t s l.0 l'
+      (same_place h sound y x.operation l.0.operation x.live.operation (same ∙ ap (λ j. j - 1) (sym x.process))
+      ∙ x.process)) now
+  taken_behind p q Waits slots t s y e end more now = now
+
+  pub fits_behind : (p q : ℕ) (x : Step) (slots : List Slot) (left : List Operation) → Turned h p q x →
+      SlotsAt h p slots → MayPass slots x → Fits h p slots left → Fits h q (passed slots x) left
+  fits_behind p q x slots left t s may f = record {
+    each = each_weaker (MayBeTaken h p slots) (MayBeTaken h q (passed slots x)) left
+        (may_behind p q x slots t s may) f.each;
+    has = λ y e is end more. let later : p ≤ q = t.later in elim (f.has y e is end (omega arith)) [
+      | inl now ↦ inl (taken_behind p q x slots t s y e end more now)
+      | inr here ↦ inr here
+    ];
+  }
+
+  -- Once an open operation has taken place, the others are left to be taken.
+  pub fits_after_take : (p : ℕ) (o : Operation) (slots : List Slot) (left : List Operation) → SlotsAt h p slots →
+      slice_index_or slots (o.process - 1) Free ≡ Open o → AllByRecursion (Apart o) left → Fits h p slots (o ∷ left) →
+      Fits h p (slice_set slots (o.process - 1) (Taken o)) left
+  fits_after_take p o slots left s is apart f =
+      let lt = place_within h sound o slots (s.opened (o.process - 1) o is).0.operation s.count in
+      record {
+        each = each_both (MayBeTaken h p slots) (Apart o)
+            (MayBeTaken h p (slice_set slots (o.process - 1) (Taken o))) left still_may f.each.1 apart;
+        has = λ y e its end le. elim (f.has y e its end le) [
+          | inl now ↦ inl (set_other slots (o.process - 1) (y.process - 1) (Taken o) (Taken y)
+              (λ same. let no : Taken y ≡ Open o =
+              sym now ∙ subst (λ k. slice_index_or slots k Free ≡ Open o) (sym same) is in cc) now)
+          | inr here ↦ elim (contains_cases o y left here) [
+            | inl same ↦ inl (set_same slots (o.process - 1) (y.process - 1) (Taken o) lt
+                (ap (λ (z : Operation). z.process - 1) (sym same)) ∙ ap Taken same)
+            | inr later ↦ inr later
+          ]
+        ];
+      }
+    where
+      still_may : (y : Operation) → MayBeTaken h p slots y → Apart o y →
+          MayBeTaken h p (slice_set slots (o.process - 1) (Taken o)) y
+      still_may y (its, inl le) a = (its, inl le)
+      still_may y (its, inr now) a = (
+        its,
+        inr (set_other slots (o.process - 1) (y.process - 1) (Taken o) (Open y)
+            (λ same. let both : Open o ≡ Open y =
+            sym (subst (λ k. slice_index_or slots k Free ≡ Open o) (sym same) is) ∙ now in
+            let one : o ≡ y = cc in a.0 (ap (λ (z : Operation). z.call) one)) now),
+      )
+
+  -- Before an open operation takes place, it and what is left then are left to be taken.
+  pub fits_before_take : (p : ℕ) (o : Operation) (slots : List Slot) (left : List Operation) → SlotsAt h p slots →
+      slice_index_or slots (o.process - 1) Free ≡ Open o →
+      Fits h p (slice_set slots (o.process - 1) (Taken o)) left → Fits h p slots (o ∷ left)
+  fits_before_take p o slots left s is f =
+      let l = s.opened (o.process - 1) o is in
+      let lt = place_within h sound o slots l.0.operation s.count in
+      record {
+        each = (
+          (l.0.operation, inr is),
+          each_weaker (MayBeTaken h p (slice_set slots (o.process - 1) (Taken o))) (MayBeTaken h p slots) left
+              (may lt) f.each,
+        );
+        has = λ y e its end le. elim (f.has y e its end le) [
+          | inl now ↦ elim (set_cases slots (o.process - 1) (y.process - 1) (Taken o) (Taken y) lt now) [
+            | inl here ↦ (let both : Taken o ≡ Taken y = here.1 in let same : o ≡ y = cc in
+                inr (subst (Contains (o ∷ left)) same (contains_head o left)))
+            | inr other ↦ inl other.1
+          ]
+          | inr later ↦ inr (contains_tail o y left later)
+        ];
+      }
+    where
+      may : o.process - 1 < length slots → (y : Operation) →
+          MayBeTaken h p (slice_set slots (o.process - 1) (Taken o)) y → MayBeTaken h p slots y
+      may lt y (its, inl le) = (its, inl le)
+      may lt y (its, inr now) =
+          elim (set_cases slots (o.process - 1) (y.process - 1) (Taken o) (Open y) lt now) [
+            | inl here ↦ absurd (let no : Taken o ≡ Open y = here.1 in cc)
+            | inr other ↦ (its, inr other.1)
+          ]
+
+  -- What may be taken once an operation has taken place is another one, and it did not end before that one was called.
+  pub apart_from_taken : (p : ℕ) (o : Operation) (slots : List Slot) → SlotsAt h p slots →
+      slice_index_or slots (o.process - 1) Free ≡ Open o →
+      (y : Operation) → MayBeTaken h p (slice_set slots (o.process - 1) (Taken o)) y → Apart o y
+  apart_from_taken p o slots s is y (its, inl le) =
+      let l = s.opened (o.process - 1) o is in let lo : o.call < p = l.0.called in (
+        λ same. omega arith,
+        λ ended. let e = ended.0 in let late : y.call < e = sound.ends_later y e its ended.1 in
+            let early : e < o.call = ended.2 in omega arith,
+      )
+  apart_from_taken p o slots s is y (its, inr now) =
+      let l = s.opened (o.process - 1) o is in let lo : o.call < p = l.0.called in
+      let lt = place_within h sound o slots l.0.operation s.count in
+      let live = (take_slots h sound p o slots s is).opened (y.process - 1) y now in (
+        λ same. let one : o ≡ y = sound.same_call o y l.0.operation its same in
+            let held = set_same slots (o.process - 1) (y.process - 1) (Taken o) lt
+            (ap (λ (z : Operation). z.process - 1) (sym one)) in
+            let no : Taken o ≡ Open y = sym held ∙ now in cc,
+        λ ended. let e = ended.0 in let le : p ≤ e = live.0.going e ended.1 in
+            let early : e < o.call = ended.2 in omega arith,
+      )

@@ -1,0 +1,242 @@
+-- How a search goes on.
+use Rattle.std.proofs.Common.{◌≡◌, ◌≢◌, ℕ, zero, suc, ◌-◌, ◌<◌, ◌≤◌, ◌⊎◌, inl, inr, List, [], ◌∷◌, ◌++◌, length, get_or}
+use Rattle.std.proofs.Common.{refl, sym, ◌∙◌, ap, subst, arith, map, drop, append_assoc}
+use Rattle.std.proofs.Math.ListN.{set}
+use Rattle.std.proofs.lemmas.Bool.{cases_eq, cases_lt}
+use Rattle.std.proofs.lemmas.List.{get_or-set_same, get_or-set_other, length-set, map-set, map-append, set_past, get_or_default, get_or_past, append-nil}
+use Rattle.std.specs.Prelude.{replicate}
+use Rattle.snap_runs.specs.Operation.{Action, Sets, Sees, Operation}
+use Rattle.snap_runs.specs.Linearization.{Allows, after}
+use Rattle.snap_judge.specs.Steps.{Step, Calls, Ends, Waits, Slot, Free, Open, Taken, MayPass, passed, slot, with_slot}
+use Rattle.snap_judge.specs.Steps.{Move, Take, Pass, Explains, CanBeExplained, taken}
+use Rattle.snap_judge.specs.declared.config.Step.{Step as KeptStep}
+use Rattle.snap_judge.specs.declared.config.Slot.{Slot as KeptSlot}
+use Rattle.snap_judge.specs.declared.config.Slot.TheVariants as kept_slot
+use Rattle.snap_judge.specs.declared.config.Config.{Config}
+use Rattle.snap_judge.specs.Kept.{Can, GoesOn, Grows, IsConfig, IsReached, called_at, rest_of, slot_of, slots_of, steps_kept}
+use Rattle.snap_judge.specs.Kept.{IsSameConfig, ChangesSlotsAlone, ChangesSlotAlone, IsSettledAt, IsSettled}
+use Rattle.snap_judge.proofs.SearchSlots.{at}
+use Rattle.snap_judge.proofs.SearchMoves.{scan_earlier}
+
+-- A search that stays where it is goes on.
+pub stays : (steps : List KeptStep) (order : List ℕ) (c : Config) → GoesOn steps order c order c
+stays steps order c = record {
+  config = λ k. k;
+  reached = λ k r. r;
+  explained = λ k e. e;
+  grows = ([], sym (append-nil order));
+}
+
+-- Operations are added to those that were added.
+pub grown : (order order' order'' : List ℕ) → Grows order order' → Grows order' order'' → Grows order order''
+grown order order' order'' g h =
+    (g.0 ++ h.0, h.1 ∙ ap (λ (os : List ℕ). os ++ h.0) g.1 ∙ append_assoc order g.0 h.0)
+
+pub goes_on : (steps : List KeptStep) (order order' order'' : List ℕ) (c c' c'' : Config) →
+    GoesOn steps order c order' c' → GoesOn steps order' c' order'' c'' → GoesOn steps order c order'' c''
+goes_on steps order order' order'' c c' c'' g h = record {
+  config = λ k. h.config (g.config k);
+  reached = λ k r. h.reached (g.config k) (g.reached k r);
+  explained = λ k e. h.explained (g.config k) (g.explained k e);
+  grows = grown order order' order'' g.grows h.grows;
+}
+
+-- what is read at a place within a list is there at any default
+pub there : (slots : List KeptSlot) (p : ℕ) (s s' : KeptSlot) → p < length slots → s ≡ get_or slots p s → s ≡ s' →
+    get_or slots p kept_slot.Free ≡ s'
+there slots p s s' lt is same = get_or_default slots p kept_slot.Free s lt ∙ sym is ∙ same
+
+-- the slot at a place, as the definitions have it
+pub slot_at : (steps : List KeptStep) (slots : List KeptSlot) (p : ℕ) →
+    at (map (slot_of steps) slots) p ≡ slot_of steps (get_or slots p kept_slot.Free)
+slot_at steps [] p = slot_none steps p
+  where
+    slot_none : (steps : List KeptStep) (p : ℕ) → at (map (slot_of steps) []) p ≡ slot_of steps (get_or [] p kept_slot.Free)
+    slot_none steps zero = refl
+    slot_none steps (suc p) = refl
+slot_at steps (s ∷ slots) zero = refl
+slot_at steps (s ∷ slots) (suc p) = slot_at steps slots p
+
+is_open : KeptSlot → Type 0
+is_open kept_slot.Free = ⊥
+is_open (kept_slot.Open j) = Unit {0}
+is_open (kept_slot.Taken j) = ⊥
+
+pub kept_not_free : (s : KeptSlot) (j : ℕ) → s ≡ kept_slot.Open j → s ≡ kept_slot.Free → ⊥
+unfolding is_open
+kept_not_free s j e e' = subst is_open (sym e ∙ e') tt
+
+pub kept_not_taken : (s : KeptSlot) (j k : ℕ) → s ≡ kept_slot.Open j → s ≡ kept_slot.Taken k → ⊥
+unfolding is_open
+kept_not_taken s j k e e' = subst is_open (sym e ∙ e') tt
+
+-- What is open where a slot has changed to one that is not open was open before.
+was_open : (slots : List KeptSlot) (p q j : ℕ) (s : KeptSlot) → (is_open s → ⊥) →
+    (q ≡ p) ⊎ (q ≡ p → ⊥) → (p < length slots) ⊎ (length slots ≤ p) →
+    get_or (set slots p s) q kept_slot.Free ≡ kept_slot.Open j → get_or slots q kept_slot.Free ≡ kept_slot.Open j
+unfolding is_open
+was_open slots p q j s shut (inr apart) in_range e = sym (get_or-set_other slots p q s kept_slot.Free apart) ∙ e
+was_open slots p q j s shut (inl here) (inl lt) e =
+    absurd (shut (subst is_open (sym e ∙ ap (λ (r : ℕ). get_or (set slots p s) r kept_slot.Free) here
+    ∙ get_or-set_same slots p s kept_slot.Free lt) tt))
+was_open slots p q j s shut (inl here) (inr past) e =
+    ap (λ (l : List KeptSlot). get_or l q kept_slot.Free) (sym (set_past slots p s past)) ∙ e
+
+pub was_open_taken : (slots : List KeptSlot) (p q j k : ℕ) →
+    get_or (set slots p (kept_slot.Taken k)) q kept_slot.Free ≡ kept_slot.Open j →
+    get_or slots q kept_slot.Free ≡ kept_slot.Open j
+unfolding is_open
+was_open_taken slots p q j k e =
+    was_open slots p q j (kept_slot.Taken k) (λ h. h) (cases_eq q p) (cases_lt p (length slots)) e
+
+pub was_open_freed : (slots : List KeptSlot) (p q j : ℕ) →
+    get_or (set slots p kept_slot.Free) q kept_slot.Free ≡ kept_slot.Open j →
+    get_or slots q kept_slot.Free ≡ kept_slot.Open j
+unfolding is_open
+was_open_freed slots p q j e =
+    was_open slots p q j kept_slot.Free (λ h. h) (cases_eq q p) (cases_lt p (length slots)) e
+
+-- An operation at place p, of process suc p, has taken place, and left these values.
+module _ (steps : List KeptStep) (order : List ℕ) (c c' : Config) (p j : ℕ)
+    (position : c'.position ≡ c.position) (values : c'.values.items ≡ after c.values.items (called_at steps j).action)
+    (slots : c'.slots.items ≡ set c.slots.items p (kept_slot.Taken j))
+    (fits : IsConfig steps c) (is : get_or c.slots.items p kept_slot.Free ≡ kept_slot.Open j) where
+  abbrev o : Operation
+  o = called_at steps j
+
+  place : o.process - 1 ≡ p
+  place = let e = (fits.placed p j is).0 in omega (arith, e)
+
+  pub slots_now : slots_of steps c' ≡ set (slots_of steps c) p (Taken o)
+  slots_now = ap (map (slot_of steps)) slots ∙ map-set (slot_of steps) c.slots.items p (kept_slot.Taken j)
+
+  pub open_now : at (slots_of steps c) p ≡ Open o
+  open_now = slot_at steps c.slots.items p ∙ ap (slot_of steps) is
+
+  pub rest_now : rest_of steps c' ≡ rest_of steps c
+  rest_now = ap (λ (n : ℕ). drop n (steps_kept steps)) position
+
+  same_state : (moves : List Move) → Explains moves (rest_of steps c') c'.values.items (slots_of steps c') →
+      Explains moves (rest_of steps c) (after c.values.items o.action) (set (slots_of steps c) p (Taken o))
+  same_state moves e =
+      subst (λ (T : List Slot). Explains moves (rest_of steps c) (after c.values.items o.action) T) slots_now
+      (subst (λ (W : List ℕ). Explains moves (rest_of steps c) W (slots_of steps c')) values
+      (subst (λ (xs : List Step). Explains moves xs c'.values.items (slots_of steps c')) rest_now e))
+
+  one_more : Allows c.values.items o.action → (moves : List Move) →
+      Explains moves (rest_of steps c') c'.values.items (slots_of steps c') →
+      Explains (Take o ∷ moves) (rest_of steps c) c.values.items (slots_of steps c)
+  one_more allows moves e = (
+    ap (at (slots_of steps c)) place ∙ open_now,
+    allows,
+    subst (λ (q : ℕ). Explains moves (rest_of steps c) (after c.values.items o.action) (set (slots_of steps c) q (Taken o)))
+        (sym place) (same_state moves e),
+  )
+
+  same_counts : length c'.slots.items ≡ length c.slots.items
+  same_counts = ap length slots ∙ length-set c.slots.items p (kept_slot.Taken j)
+
+  width_after : (W : List ℕ) (a : Action) → length (after W a) ≡ length W
+  width_after W (Sets word value) = length-set W (word - 1) value
+  width_after W (Sees view) = refl
+
+  same_width : length c'.values.items ≡ length c.values.items
+  same_width = ap length values ∙ width_after c.values.items o.action
+
+  pub took : Allows c.values.items o.action → IsReached steps order c → IsReached steps (order ++ j ∷ []) c'
+  took allows r moves e =
+      let go = r (Take o ∷ moves) (one_more allows moves e) in (
+        go.0,
+        subst (λ (n : ℕ). Explains go.0 (steps_kept steps) (replicate n 0) (replicate (length c'.slots.items) Free))
+            (sym same_width)
+            (subst (λ (n : ℕ). Explains go.0 (steps_kept steps) (replicate (length c.values.items) 0) (replicate n Free))
+            (sym same_counts) go.1),
+        go.2 ∙ sym (ap (λ (os : List Operation). os ++ taken moves) (map-append (called_at steps) order (j ∷ []))
+            ∙ append_assoc (map (called_at steps) order) (o ∷ []) (taken moves)),
+      )
+
+  pub still_config : IsConfig steps c'
+  still_config = record {
+    within = subst (λ (n : ℕ). n ≤ length steps) (sym position) fits.within;
+    placed = λ q k e. fits.placed q k (was_open_taken c.slots.items p q k j
+        (ap (λ (l : List KeptSlot). get_or l q kept_slot.Free) (sym slots) ∙ e));
+  }
+
+  -- what can be explained with it taken can be explained from there
+  pub taken_can : CanBeExplained (rest_of steps c) (after c.values.items o.action) (set (slots_of steps c) p (Taken o)) →
+      Can steps c'
+  taken_can e =
+      subst (λ (xs : List Step). CanBeExplained xs c'.values.items (slots_of steps c')) (sym rest_now)
+      (subst (λ (W : List ℕ). CanBeExplained (rest_of steps c) W (slots_of steps c')) (sym values)
+      (subst (λ (T : List Slot). CanBeExplained (rest_of steps c) (after c.values.items o.action) T) (sym slots_now) e))
+
+  -- a scan that sees what is there
+  pub scan_taken : (order' : List ℕ) → order' ≡ order ++ j ∷ [] → o.action ≡ Sees c.values.items →
+      GoesOn steps order c order' c'
+  scan_taken order' more sees = record {
+    config = λ k. still_config;
+    reached = λ k r. subst (λ (os : List ℕ). IsReached steps os c') (sym more)
+        (took (subst (Allows c.values.items) (sym sees) refl) r);
+    explained = λ k e.
+        subst (λ (xs : List Step). CanBeExplained xs c'.values.items (slots_of steps c')) (sym rest_now)
+        (subst (λ (W : List ℕ). CanBeExplained (rest_of steps c) W (slots_of steps c'))
+        (sym (values ∙ ap (after c.values.items) sees))
+        (subst (λ (T : List Slot). CanBeExplained (rest_of steps c) c.values.items T) (sym slots_now)
+        (scan_earlier p o (c.values.items, sees) (rest_of steps c) c.values.items (slots_of steps c) open_now e)));
+    grows = (j ∷ [], more);
+  }
+
+is_taken : KeptSlot → Type 0
+is_taken kept_slot.Free = ⊥
+is_taken (kept_slot.Open j) = ⊥
+is_taken (kept_slot.Taken j) = Unit {0}
+
+pub kept_taken_not_free : (j : ℕ) → kept_slot.Taken j ≡ kept_slot.Free → ⊥
+unfolding is_taken
+kept_taken_not_free j e = subst is_taken e tt
+
+kept_within_by : (slots : List KeptSlot) (p j : ℕ) → (p < length slots) ⊎ (length slots ≤ p) →
+    get_or slots p kept_slot.Free ≡ kept_slot.Open j → p < length slots
+kept_within_by slots p j (inl lt) is = lt
+kept_within_by slots p j (inr past) is =
+    absurd (kept_not_free (get_or slots p kept_slot.Free) j is (get_or_past slots p kept_slot.Free past))
+
+-- what is open is within the list
+pub kept_open_within : (slots : List KeptSlot) (p j : ℕ) → get_or slots p kept_slot.Free ≡ kept_slot.Open j →
+    p < length slots
+kept_open_within slots p j is = kept_within_by slots p j (cases_lt p (length slots)) is
+
+-- A copy is as good.
+pub same_goes : (steps : List KeptStep) (order : List ℕ) (c c' : Config) → IsSameConfig c c' → GoesOn steps order c order c'
+same_goes steps order c c' same = record {
+  config = λ k. record {
+    within = subst (λ (n : ℕ). n ≤ length steps) (sym same.position) k.within;
+    placed = λ p j e. k.placed p j (ap (λ (l : List KeptSlot). get_or l p kept_slot.Free) (sym same.slots) ∙ e);
+  };
+  reached = λ k r moves e.
+      (let go = r moves
+      (subst (λ (n : ℕ). Explains moves (drop n (steps_kept steps)) c.values.items (slots_of steps c)) same.position
+      (subst (λ (W : List ℕ). Explains moves (rest_of steps c') W (slots_of steps c)) same.values
+      (subst (λ (l : List KeptSlot). Explains moves (rest_of steps c') c'.values.items (map (slot_of steps) l))
+      same.slots e))) in (
+        go.0,
+        subst (λ (n : ℕ). Explains go.0 (steps_kept steps) (replicate n 0) (replicate (length c'.slots.items) Free))
+            (sym (ap length same.values))
+            (subst (λ (n : ℕ). Explains go.0 (steps_kept steps) (replicate (length c.values.items) 0) (replicate n Free))
+            (sym (ap length same.slots)) go.1),
+        go.2,
+      ));
+  explained = λ k e.
+      subst (λ (n : ℕ). CanBeExplained (drop n (steps_kept steps)) c'.values.items (slots_of steps c')) (sym same.position)
+      (subst (λ (W : List ℕ). CanBeExplained (rest_of steps c) W (slots_of steps c')) (sym same.values)
+      (subst (λ (l : List KeptSlot). CanBeExplained (rest_of steps c) c.values.items (map (slot_of steps) l))
+      (sym same.slots) e));
+  grows = ([], sym (append-nil order));
+}
+
+pub same_turned : (c c' : Config) → IsSameConfig c c' → IsSameConfig c' c
+same_turned c c' same = record {
+  position = sym same.position;
+  values = sym same.values;
+  slots = sym same.slots;
+}

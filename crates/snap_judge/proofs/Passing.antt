@@ -1,0 +1,225 @@
+-- A search that passes a step goes on.
+use Rattle.std.proofs.Common.{◌≡◌, ℕ, zero, suc, ◌-◌, ◌+◌, ◌<◌, ◌≤◌, ◌⊎◌, inl, inr, List, [], ◌∷◌, length, get_or}
+use Rattle.std.proofs.Common.{refl, sym, ◌∙◌, ap, subst, arith, map, drop, drop-cons}
+use Rattle.std.proofs.Math.ListN.{set}
+use Rattle.std.proofs.lemmas.Bool.{cases_eq, cases_lt}
+use Rattle.std.proofs.lemmas.List.{get_or-set_same, get_or-set_other, get_or_past, length-set, map-set, length-map, append-nil}
+use Rattle.std.specs.Prelude.{replicate}
+use Rattle.snap_runs.specs.Operation.{Operation, Sees}
+use Rattle.snap_judge.specs.Steps.{Step, Calls, Ends, Waits, Slot, Free, Open, Taken, MayPass, passed, slot, with_slot}
+use Rattle.snap_judge.specs.Steps.{Move, Take, Pass, Explains, CanBeExplained, taken}
+use Rattle.snap_judge.specs.declared.config.Step.{Step as KeptStep}
+use Rattle.snap_judge.specs.declared.config.Step.TheVariants as kept_step
+use Rattle.snap_judge.specs.declared.config.Slot.{Slot as KeptSlot}
+use Rattle.snap_judge.specs.declared.config.Slot.TheVariants as kept_slot
+use Rattle.snap_judge.specs.declared.config.Config.{Config}
+use Rattle.snap_judge.specs.Kept.{Can, GoesOn, IsConfig, IsReached, called_at, rest_of, slot_of, slots_of, steps_kept}
+use Rattle.snap_judge.specs.Kept.{step_of_kept, IsSettled, IsCallOf, IsStuck, MayNotPass, called_by, operation_of}
+use Rattle.snap_judge.specs.declared.operation.Operation.{Operation as KeptOperation}
+use Rattle.snap_judge.proofs.SearchSlots.{at, open_not_free, open_not_taken, Apart}
+use Rattle.snap_judge.proofs.SearchPass.{IsClear, pass_now}
+use Rattle.snap_judge.proofs.Goes.{slot_at, was_open_freed}
+
+-- the step at a place, as the definitions have it
+pub step_at : (steps : List KeptStep) (t : ℕ) →
+    get_or (steps_kept steps) t Waits ≡ step_of_kept (get_or steps t kept_step.Waits)
+step_at [] zero = refl
+step_at [] (suc t) = refl
+step_at (s ∷ steps) zero = refl
+step_at (s ∷ steps) (suc t) = step_at steps t
+
+-- What may pass is clear of what is open.
+pub clear_if : (x : Step) (S : List Slot) → MayPass S x → IsClear x S
+clear_if (Calls o) S may p o' is = λ here. open_not_free (at S p) o' is (ap (at S) here ∙ may)
+clear_if (Ends i) S may p o' is = λ here. open_not_taken (at S p) o' may.0 is (ap (at S) here ∙ may.1)
+clear_if Waits S may p o' is = tt
+
+module _ (steps : List KeptStep) (order : List ℕ) (c c' : Config) (x : KeptStep) (lt : c.position < length steps)
+    (next : get_or steps c.position kept_step.Waits ≡ x) (position : c'.position ≡ suc c.position)
+    (values : c'.values.items ≡ c.values.items)
+    (slots : slots_of steps c' ≡ passed (slots_of steps c) (step_of_kept x))
+    (count : length c'.slots.items ≡ length c.slots.items)
+    (may : MayPass (slots_of steps c) (step_of_kept x)) where
+  rest : rest_of steps c ≡ step_of_kept x ∷ rest_of steps c'
+  rest =
+      drop-cons (steps_kept steps) c.position Waits (subst (λ (n : ℕ). c.position < n) (sym (length-map steps step_of_kept)) lt)
+      ∙ ap (λ (y : Step). y ∷ drop (suc c.position) (steps_kept steps)) (step_at steps c.position ∙ ap step_of_kept next)
+      ∙ ap (λ (n : ℕ). step_of_kept x ∷ drop n (steps_kept steps)) (sym position)
+
+  pass_first : (moves : List Move) → Explains moves (rest_of steps c') c'.values.items (slots_of steps c') →
+      Explains (Pass ∷ moves) (rest_of steps c) c.values.items (slots_of steps c)
+  pass_first moves e =
+      subst (λ (xs : List Step). Explains (Pass ∷ moves) xs c.values.items (slots_of steps c)) (sym rest) (
+        may,
+        subst (λ (T : List Slot). Explains moves (rest_of steps c') c.values.items T) slots
+            (subst (λ (W : List ℕ). Explains moves (rest_of steps c') W (slots_of steps c')) values e),
+      )
+
+  pub passes : IsConfig steps c' → GoesOn steps order c order c'
+  passes fits = record {
+    config = λ k. fits;
+    reached = λ k r moves e.
+        let go = r (Pass ∷ moves) (pass_first moves e) in (
+          go.0,
+          subst (λ (n : ℕ). Explains go.0 (steps_kept steps) (replicate n 0)
+              (replicate (length c'.slots.items) Free)) (sym (ap length values))
+              (subst (λ (n : ℕ). Explains go.0 (steps_kept steps) (replicate (length c.values.items) 0) (replicate n Free))
+              (sym count) go.1),
+          go.2,
+        );
+    grows = ([], sym (append-nil order));
+    explained = λ k e.
+        subst (λ (T : List Slot). CanBeExplained (rest_of steps c') c'.values.items T) (sym slots)
+        (subst (λ (W : List ℕ). CanBeExplained (rest_of steps c') W (passed (slots_of steps c) (step_of_kept x)))
+        (sym values)
+        (pass_now e.0 (step_of_kept x) (rest_of steps c') c.values.items (slots_of steps c)
+        (clear_if (step_of_kept x) (slots_of steps c) may)
+        (subst (λ (xs : List Step). Explains e.0 xs c.values.items (slots_of steps c)) rest e.1)));
+  }
+
+place_again : (place : ℕ) → suc place - 1 ≡ place
+place_again place = omega arith
+
+-- The end of what a process called passes.
+module _ (steps : List KeptStep) (order : List ℕ) (c c' : Config) (place j : ℕ) (lt : c.position < length steps)
+    (fits : IsConfig steps c)
+    (next : get_or steps c.position kept_step.Waits ≡ kept_step.Ends (suc place))
+    (position : c'.position ≡ suc c.position) (values : c'.values.items ≡ c.values.items)
+    (slots : c'.slots.items ≡ set c.slots.items place kept_slot.Free)
+    (held : get_or c.slots.items place kept_slot.Free ≡ kept_slot.Taken j) where
+  ended_slots : slots_of steps c' ≡ passed (slots_of steps c) (Ends (suc place))
+  ended_slots =
+      ap (map (slot_of steps)) slots ∙ map-set (slot_of steps) c.slots.items place kept_slot.Free
+      ∙ ap (λ (p : ℕ). set (slots_of steps c) p Free) (sym (place_again place))
+
+  ended_config : IsConfig steps c'
+  ended_config = record {
+    within = subst (λ (n : ℕ). n ≤ length steps) (sym position) lt;
+    placed = λ q k e. fits.placed q k (was_open_freed c.slots.items place q k
+        (ap (λ (l : List KeptSlot). get_or l q kept_slot.Free) (sym slots) ∙ e));
+  }
+
+  pub end_passes : GoesOn steps order c order c'
+  end_passes =
+      passes steps order c c' (kept_step.Ends (suc place)) lt next position values ended_slots
+      (ap length slots ∙ length-set c.slots.items place kept_slot.Free) (
+        called_at steps j,
+        ap (at (slots_of steps c)) (place_again place) ∙ slot_at steps c.slots.items place
+            ∙ ap (slot_of steps) held,
+      ) ended_config
+
+  pub end_settled : IsSettled steps c → IsSettled steps c'
+  end_settled settled p k is sees =
+      settled p k (was_open_freed c.slots.items place p k
+      (ap (λ (l : List KeptSlot). get_or l p kept_slot.Free) (sym slots) ∙ is)) (sees ∙ ap Sees values)
+
+-- The call of an operation passes.
+module _ (steps : List KeptStep) (order : List ℕ) (c c' : Config) (place : ℕ) (lt : c.position < length steps)
+    (within : place < length c.slots.items) (fits : IsConfig steps c) (is_call : IsCallOf steps c.position place)
+    (position : c'.position ≡ suc c.position) (values : c'.values.items ≡ c.values.items)
+    (slots : c'.slots.items ≡ set c.slots.items place (kept_slot.Open c.position))
+    (free : get_or c.slots.items place kept_slot.Free ≡ kept_slot.Free) where
+  abbrev o : KeptOperation
+  o = is_call.0
+
+  process : o.process - 1 ≡ place
+  process = let e : o.process ≡ suc place = is_call.2 in omega arith
+
+  called : called_at steps c.position ≡ operation_of o
+  called = ap (λ (x : KeptStep). called_by (step_of_kept x)) is_call.1
+
+  called_slots : slots_of steps c' ≡ passed (slots_of steps c) (Calls (operation_of o))
+  called_slots =
+      ap (map (slot_of steps)) slots ∙ map-set (slot_of steps) c.slots.items place (kept_slot.Open c.position)
+      ∙ ap (λ (x : Operation). set (slots_of steps c) place (Open x)) called
+      ∙ ap (λ (p : ℕ). set (slots_of steps c) p (Open (operation_of o))) (sym process)
+
+  placed : (q k : ℕ) → (q ≡ place) ⊎ (q ≡ place → ⊥) →
+      get_or (set c.slots.items place (kept_slot.Open c.position)) q kept_slot.Free ≡ kept_slot.Open k →
+      ((called_at steps k).process ≡ suc q) × (k < length steps)
+  placed q k (inl same) e =
+      let here : c.position ≡ k =
+      one_place (sym (get_or-set_same c.slots.items place (kept_slot.Open c.position) kept_slot.Free within)
+      ∙ ap (λ (r : ℕ). get_or (set c.slots.items place (kept_slot.Open c.position)) r kept_slot.Free) (sym same) ∙ e) in
+      subst (λ (m : ℕ). ((called_at steps m).process ≡ suc q) × (m < length steps)) here (
+        let at_call : (called_at steps c.position).process ≡ o.process = ap (λ (x : Operation). x.process) called in
+            at_call ∙ is_call.2 ∙ ap suc (sym same),
+        lt,
+      )
+    where
+      index_of : KeptSlot → ℕ
+      index_of kept_slot.Free = 0
+      index_of (kept_slot.Open m) = m
+      index_of (kept_slot.Taken m) = 0
+
+      one_place : {a b : ℕ} → kept_slot.Open a ≡ kept_slot.Open b → a ≡ b
+      one_place e = ap index_of e
+  placed q k (inr differ) e =
+      fits.placed q k (sym (get_or-set_other c.slots.items place q (kept_slot.Open c.position) kept_slot.Free differ) ∙ e)
+
+  called_config : IsConfig steps c'
+  called_config = record {
+    within = subst (λ (n : ℕ). n ≤ length steps) (sym position) lt;
+    placed = λ q k e. placed q k (cases_eq q place) (ap (λ (l : List KeptSlot). get_or l q kept_slot.Free) (sym slots) ∙ e);
+  }
+
+  pub call_passes : GoesOn steps order c order c'
+  call_passes =
+      passes steps order c c' (kept_step.Calls o) lt is_call.1 position values called_slots
+      (ap length slots ∙ length-set c.slots.items place (kept_slot.Open c.position))
+      (ap (at (slots_of steps c)) process ∙ slot_at steps c.slots.items place ∙ ap (slot_of steps) free) called_config
+
+-- A call of a process that has something open may not pass, nor the end of what has not taken place.
+pub call_stuck : (steps : List KeptStep) (c : Config) (place : ℕ) → c.position < length steps →
+    IsCallOf steps c.position place → (get_or c.slots.items place kept_slot.Free ≡ kept_slot.Free → ⊥) → IsStuck steps c
+call_stuck steps c place lt is_call busy = (
+  lt,
+  subst (λ (x : KeptStep). MayNotPass (slots_of steps c) (step_of_kept x)) (sym is_call.1)
+      (λ free. busy (kept_free (get_or c.slots.items place kept_slot.Free)
+      (sym (slot_at steps c.slots.items place) ∙ ap (at (slots_of steps c)) (sym process) ∙ free))),
+)
+  where
+    process : (is_call.0).process - 1 ≡ place
+    process = let e : (is_call.0).process ≡ suc place = is_call.2 in omega arith
+
+    used : Slot → Type 0
+    used Free = ⊥
+    used (Open o) = Unit {0}
+    used (Taken o) = Unit {0}
+
+    kept_free : (s : KeptSlot) → slot_of steps s ≡ Free → s ≡ kept_slot.Free
+    kept_free kept_slot.Free e = refl
+    kept_free (kept_slot.Open j) e = absurd (subst used e tt)
+    kept_free (kept_slot.Taken j) e = absurd (subst used e tt)
+
+pub end_stuck : (steps : List KeptStep) (c : Config) (place : ℕ) → c.position < length steps →
+    get_or steps c.position kept_step.Waits ≡ kept_step.Ends (suc place) →
+    ((j : ℕ) → get_or c.slots.items place kept_slot.Free ≡ kept_slot.Taken j → ⊥) → IsStuck steps c
+end_stuck steps c place lt next never = (
+  lt,
+  subst (λ (x : KeptStep). MayNotPass (slots_of steps c) (step_of_kept x)) (sym next)
+      (λ o held. kept_taken (get_or c.slots.items place kept_slot.Free) o refl
+      (sym (slot_at steps c.slots.items place) ∙ ap (at (slots_of steps c)) (sym (place_again place)) ∙ held)),
+)
+  where
+    is_taken : Slot → Type 0
+    is_taken Free = ⊥
+    is_taken (Open o) = ⊥
+    is_taken (Taken o) = Unit {0}
+
+    kept_taken : (s : KeptSlot) (o : Operation) → get_or c.slots.items place kept_slot.Free ≡ s →
+        slot_of steps s ≡ Taken o → ⊥
+    kept_taken kept_slot.Free o is e = subst is_taken (sym e) tt
+    kept_taken (kept_slot.Open j) o is e = subst is_taken (sym e) tt
+    kept_taken (kept_slot.Taken j) o is e = never j is
+
+-- A step that changes nothing passes.
+pub wait_passes : (steps : List KeptStep) (order : List ℕ) (c c' : Config) → c.position < length steps →
+    IsConfig steps c → get_or steps c.position kept_step.Waits ≡ kept_step.Waits → c'.position ≡ suc c.position →
+    c'.values.items ≡ c.values.items → c'.slots.items ≡ c.slots.items → GoesOn steps order c order c'
+wait_passes steps order c c' lt fits next position values slots =
+    passes steps order c c' kept_step.Waits lt next position values (ap (map (slot_of steps)) slots) (ap length slots) tt
+    (record {
+      within = subst (λ (n : ℕ). n ≤ length steps) (sym position) lt;
+      placed = λ q k e. fits.placed q k (ap (λ (l : List KeptSlot). get_or l q kept_slot.Free) (sym slots) ∙ e);
+    })

@@ -1,0 +1,157 @@
+-- Slots by their places, counted from 0, and what passing an event does to them.
+use Rattle.std.proofs.Common.{◌≡◌, ◌≢◌, ℕ, ◌-◌, ◌<◌, ◌≤◌, ◌⊎◌, inl, inr, List, [], ◌∷◌, length, get_or, refl, sym, ◌∙◌, ap}
+use Rattle.std.proofs.Common.{subst, arith, Option, Some, None}
+use Rattle.std.proofs.Math.ListN.{set}
+use Rattle.std.proofs.lemmas.Bool.{cases_eq, cases_lt}
+use Rattle.std.proofs.lemmas.List.{get_or-set_same, get_or-set_other, get_or_past, set_past, set-set, set_comm}
+use Rattle.snap_runs.specs.Operation.{Operation}
+use Rattle.snap_judge.specs.Steps.{Step, Calls, Ends, Waits, Slot, Free, Open, Taken, MayPass, passed, slot, with_slot}
+
+-- the slot at a place
+abbrev pub at : List Slot → ℕ → Slot
+at slots p = get_or slots p Free
+
+-- what is open in a slot, and what has been taken there
+pub open_in : Slot → Option Operation
+open_in Free = None
+open_in (Open o) = Some o
+open_in (Taken o) = None
+
+pub taken_in : Slot → Option Operation
+taken_in Free = None
+taken_in (Open o) = None
+taken_in (Taken o) = Some o
+
+some_is : {A : Type 0} → Option A → A → A
+some_is None x = x
+some_is (Some y) x = y
+
+none_or : {A : Type 0} → Option A → Type 0
+none_or None = ⊥
+none_or (Some x) = Unit {0}
+
+-- a slot is open with one operation
+pub one_open : (s : Slot) (o o' : Operation) → s ≡ Open o → s ≡ Open o' → o ≡ o'
+unfolding open_in some_is
+one_open s o o' e e' = ap (λ (x : Slot). some_is (open_in x) o) (sym e ∙ e')
+
+pub one_taken : (s : Slot) (o o' : Operation) → s ≡ Taken o → s ≡ Taken o' → o ≡ o'
+unfolding taken_in some_is
+one_taken s o o' e e' = ap (λ (x : Slot). some_is (taken_in x) o) (sym e ∙ e')
+
+-- an open one is not taken, and not free
+pub open_not_taken : (s : Slot) (o o' : Operation) → s ≡ Open o → s ≡ Taken o' → ⊥
+unfolding open_in none_or
+open_not_taken s o o' e e' = subst (λ (x : Slot). none_or (open_in x)) (sym e ∙ e') tt
+
+pub open_not_free : (s : Slot) (o : Operation) → s ≡ Open o → s ≡ Free → ⊥
+unfolding open_in none_or
+open_not_free s o e e' = subst (λ (x : Slot). none_or (open_in x)) (sym e ∙ e') tt
+
+pub taken_not_free : (s : Slot) (o : Operation) → s ≡ Taken o → s ≡ Free → ⊥
+unfolding taken_in none_or
+taken_not_free s o e e' = subst (λ (x : Slot). none_or (taken_in x)) (sym e ∙ e') tt
+
+within_by : (S : List Slot) (p : ℕ) → (p < length S) ⊎ (length S ≤ p) → (at S p ≡ Free → ⊥) → p < length S
+within_by S p (inl lt) used = lt
+within_by S p (inr past) used = absurd (used (get_or_past S p Free past))
+
+-- what is not free is within the list
+pub open_within : (S : List Slot) (p : ℕ) (o : Operation) → at S p ≡ Open o → p < length S
+open_within S p o e = within_by S p (cases_lt p (length S)) (open_not_free (at S p) o e)
+
+pub taken_within : (S : List Slot) (p : ℕ) (o : Operation) → at S p ≡ Taken o → p < length S
+taken_within S p o e = within_by S p (cases_lt p (length S)) (taken_not_free (at S p) o e)
+
+-- An event is of another place than p, or of this one.
+abbrev pub Apart : Step → ℕ → Type 0
+Apart (Calls o) p = p ≡ o.process - 1 → ⊥
+Apart (Ends i) p = p ≡ i - 1 → ⊥
+Apart Waits p = Unit {0}
+
+abbrev pub IsThere : Step → ℕ → Type 0
+IsThere (Calls o) p = p ≡ o.process - 1
+IsThere (Ends i) p = p ≡ i - 1
+IsThere Waits p = ⊥
+
+swapped : {A B : Type 0} → A ⊎ B → B ⊎ A
+swapped (inl a) = inr a
+swapped (inr b) = inl b
+
+pub place_of : (x : Step) (p : ℕ) → Apart x p ⊎ IsThere x p
+place_of (Calls o) p = swapped (cases_eq p (o.process - 1))
+place_of (Ends i) p = swapped (cases_eq p (i - 1))
+place_of Waits p = inl tt
+
+-- An event of another place passes a slot by.
+pub passes_by : (x : Step) (S : List Slot) (p : ℕ) → Apart x p → at (passed S x) p ≡ at S p
+passes_by (Calls o) S p apart = get_or-set_other S (o.process - 1) p (Open o) Free apart
+passes_by (Ends i) S p apart = get_or-set_other S (i - 1) p Free Free apart
+passes_by Waits S p apart = refl
+
+pub turned : {p q : ℕ} → (p ≡ q → ⊥) → q ≡ p → ⊥
+turned differ e = differ (sym e)
+
+pub may_pass : (x : Step) (S : List Slot) (p : ℕ) (s : Slot) → Apart x p → MayPass S x → MayPass (set S p s) x
+may_pass (Calls o) S p s apart may = get_or-set_other S p (o.process - 1) s Free (turned apart) ∙ may
+may_pass (Ends i) S p s apart may =
+    (may.0, get_or-set_other S p (i - 1) s Free (turned apart) ∙ may.1)
+may_pass Waits S p s apart may = tt
+
+-- and back
+pub may_pass_back : (x : Step) (S : List Slot) (p : ℕ) (s : Slot) → Apart x p → MayPass (set S p s) x → MayPass S x
+may_pass_back (Calls o) S p s apart may = sym (get_or-set_other S p (o.process - 1) s Free (turned apart)) ∙ may
+may_pass_back (Ends i) S p s apart may =
+    (may.0, sym (get_or-set_other S p (i - 1) s Free (turned apart)) ∙ may.1)
+may_pass_back Waits S p s apart may = tt
+
+pub passed_with : (x : Step) (S : List Slot) (p : ℕ) (s : Slot) → Apart x p →
+    passed (set S p s) x ≡ set (passed S x) p s
+passed_with (Calls o) S p s apart = set_comm S p (o.process - 1) s (Open o) apart
+passed_with (Ends i) S p s apart = set_comm S p (i - 1) s Free apart
+passed_with Waits S p s apart = refl
+
+-- Nothing passes that is of an open slot.
+pub nothing_passes : (x : Step) (S : List Slot) (p : ℕ) (o : Operation) → IsThere x p → at S p ≡ Open o →
+    MayPass S x → ⊥
+nothing_passes (Calls o') S p o there is may = open_not_free (at S p) o is (ap (at S) there ∙ may)
+nothing_passes (Ends i) S p o there is may = open_not_taken (at S p) o may.0 is (ap (at S) there ∙ may.1)
+nothing_passes Waits S p o there is may = there
+
+-- What is open behind a taking was open before it.
+still_by : (S : List Slot) (q p : ℕ) (o' o : Operation) → (p ≡ q) ⊎ (p ≡ q → ⊥) → (q < length S) ⊎ (length S ≤ q) →
+    at (set S q (Taken o')) p ≡ Open o → at S p ≡ Open o
+still_by S q p o' o (inr apart) in_range e = sym (get_or-set_other S q p (Taken o') Free apart) ∙ e
+still_by S q p o' o (inl here) (inl lt) e =
+    absurd (open_not_taken (at (set S q (Taken o')) q) o o' (ap (at (set S q (Taken o'))) (sym here) ∙ e)
+    (get_or-set_same S q (Taken o') Free lt))
+still_by S q p o' o (inl here) (inr past) e = ap (λ (T : List Slot). at T p) (sym (set_past S q (Taken o') past)) ∙ e
+
+pub still_open : (S : List Slot) (q p : ℕ) (o' o : Operation) → at (set S q (Taken o')) p ≡ Open o → at S p ≡ Open o
+still_open S q p o' o e = still_by S q p o' o (cases_eq p q) (cases_lt q (length S)) e
+
+-- What is open behind an event was open before it, or is called by it.
+opened_call : (S : List Slot) (o' : Operation) (p : ℕ) (o : Operation) →
+    (p ≡ o'.process - 1) ⊎ (p ≡ o'.process - 1 → ⊥) → (o'.process - 1 < length S) ⊎ (length S ≤ o'.process - 1) →
+    at (set S (o'.process - 1) (Open o')) p ≡ Open o → (at S p ≡ Open o) ⊎ (Calls o' ≡ Calls o)
+opened_call S o' p o (inr apart) in_range e =
+    inl (sym (get_or-set_other S (o'.process - 1) p (Open o') Free apart) ∙ e)
+opened_call S o' p o (inl here) (inl lt) e =
+    inr (ap Calls (one_open (at (set S (o'.process - 1) (Open o')) p) o' o
+    (ap (at (set S (o'.process - 1) (Open o'))) here ∙ get_or-set_same S (o'.process - 1) (Open o') Free lt) e))
+opened_call S o' p o (inl here) (inr past) e =
+    inl (ap (λ (T : List Slot). at T p) (sym (set_past S (o'.process - 1) (Open o') past)) ∙ e)
+
+opened_end : (S : List Slot) (q p : ℕ) (o : Operation) → (p ≡ q) ⊎ (p ≡ q → ⊥) → (q < length S) ⊎ (length S ≤ q) →
+    at (set S q Free) p ≡ Open o → at S p ≡ Open o
+opened_end S q p o (inr apart) in_range e = sym (get_or-set_other S q p Free Free apart) ∙ e
+opened_end S q p o (inl here) (inl lt) e =
+    absurd (open_not_free (at (set S q Free) q) o (ap (at (set S q Free)) (sym here) ∙ e)
+    (get_or-set_same S q Free Free lt))
+opened_end S q p o (inl here) (inr past) e = ap (λ (T : List Slot). at T p) (sym (set_past S q Free past)) ∙ e
+
+pub opened : (x : Step) (S : List Slot) (p : ℕ) (o : Operation) → at (passed S x) p ≡ Open o →
+    (at S p ≡ Open o) ⊎ (x ≡ Calls o)
+opened (Calls o') S p o e = opened_call S o' p o (cases_eq p (o'.process - 1)) (cases_lt (o'.process - 1) (length S)) e
+opened (Ends i) S p o e = inl (opened_end S (i - 1) p o (cases_eq p (i - 1)) (cases_lt (i - 1) (length S)) e)
+opened Waits S p o e = inl e

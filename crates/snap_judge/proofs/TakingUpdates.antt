@@ -1,0 +1,46 @@
+-- An update that is taken, and the scans behind it.
+use Rattle.std.proofs.Common.{◌≡◌, ℕ, ◌-◌, ◌<◌, List, [], ◌∷◌, ◌++◌, length, get_or, refl, sym, ◌∙◌, ap, subst}
+use Rattle.std.proofs.Math.ListN.{set}
+use Rattle.std.proofs.lemmas.List.{length-set}
+use Rattle.snap_words.specs.Shape.{IsOneOf}
+use Rattle.snap_runs.specs.Operation.{Action, Sets, Operation}
+use Rattle.snap_runs.specs.Linearization.{Allows, after}
+use Rattle.snap_judge.specs.declared.config.Step.{Step as KeptStep}
+use Rattle.snap_judge.specs.declared.config.Slot.{Slot as KeptSlot}
+use Rattle.snap_judge.specs.declared.config.Slot.TheVariants as kept_slot
+use Rattle.snap_judge.specs.declared.config.Config.{Config}
+use Rattle.snap_judge.specs.Steps.{CanBeExplained, Taken}
+use Rattle.snap_judge.specs.Kept.{Can, GoesOn, IsConfig, IsReached, called_at, rest_of, slots_of}
+use Rattle.snap_judge.specs.Choices.{CanTaking, HasTaken}
+use Rattle.snap_judge.proofs.Goes.{grown, still_config, taken_can, took}
+
+index_of : KeptSlot → ℕ
+index_of kept_slot.Free = 0
+index_of (kept_slot.Open m) = m
+index_of (kept_slot.Taken m) = 0
+
+pub one_index : {a b : ℕ} → kept_slot.Open a ≡ kept_slot.Open b → a ≡ b
+unfolding index_of
+one_index e = ap index_of e
+
+pub has_taken : (steps : List KeptStep) (order order' : List ℕ) (c mid c' : Config) (p j word value : ℕ) →
+    mid.position ≡ c.position → mid.values.items ≡ set c.values.items (word - 1) value →
+    mid.slots.items ≡ set c.slots.items p (kept_slot.Taken j) → IsOneOf (length c.values.items) word →
+    get_or c.slots.items p kept_slot.Free ≡ kept_slot.Open j → (called_at steps j).action ≡ Sets word value →
+    IsConfig steps c → GoesOn steps (order ++ j ∷ []) mid order' c' → HasTaken steps p order c order' c'
+has_taken steps order order' c mid c' p j word value position values slots is_word is act fits goes = record {
+  config = λ k. goes.config (mid_config k);
+  reached = λ k r. goes.reached (mid_config k)
+      (took steps order c mid p j position values' slots k is (subst (Allows c.values.items) (sym act) is_word) r);
+  explained = λ k can. goes.explained (mid_config k)
+      (taken_can steps order c mid p j position values' slots k is
+      (subst (λ (m : ℕ). CanBeExplained (rest_of steps c) (after c.values.items (called_at steps m).action)
+      (set (slots_of steps c) p (Taken (called_at steps m)))) (one_index (sym can.1 ∙ is)) can.2));
+  grows = grown order (order ++ j ∷ []) order' (j ∷ [], refl) goes.grows;
+}
+  where
+    values' : mid.values.items ≡ after c.values.items (called_at steps j).action
+    values' = values ∙ sym (ap (after c.values.items) act)
+
+    mid_config : IsConfig steps c → IsConfig steps mid
+    mid_config k = still_config steps order c mid p j position values' slots k is

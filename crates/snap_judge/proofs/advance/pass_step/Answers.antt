@@ -1,0 +1,13 @@
+-- `pass_step` of snap_judge (src/advance.rt).
+use Rattle.std.proofs.Common.{◌≡◌, ℕ, suc, ◌+◌, refl, sym, ◌∙◌, arith}
+use Rattle.std.proofs.lemmas.List.{get_or_default}
+use Rattle.snap_judge.specs.declared.config.Step.TheVariants as kept_step
+use Rattle.snap_judge.proofs.Passing.{wait_passes}
+use Rattle.snap_judge.proofs.advance.pass_step.Goals as goal
+
+pub returns-in-Waits-clause-goes_on : goal.returns-in-Waits-clause-goes_on
+returns-in-Waits-clause-goes_on c =
+    wait_passes c.args.steps.now c.args.order.now.items c.args.config.now _ c.requires.next c.requires.config
+    (get_or_default c.args.steps.now c.args.config.now.position kept_step.Waits c.index-steps-config.result c.requires.next
+    ∙ sym c.index-steps-config.is ∙ c.in-Waits.is)
+    (let e : c.args.config.now.position + 1 ≡ suc c.args.config.now.position = omega arith in e) refl refl

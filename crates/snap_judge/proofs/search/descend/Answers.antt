@@ -1,0 +1,36 @@
+-- `descend` of snap_judge (src/search.rt).
+use Rattle.std.proofs.Common.{ℕ, List, length, subst, ap, take, ◌-◌, ◌∙◌}
+use Rattle.std.proofs.lemmas.List.{append-nil}
+use Rattle.snap_judge.specs.declared.config.Node.{Node}
+use Rattle.snap_judge.specs.Nodes.{AreNodes, FailsBehind}
+use Rattle.snap_judge.proofs.Searching.{are_front, tried_last, without_nodes}
+use Rattle.snap_judge.proofs.search.descend.Goals as goal
+
+pub retry-requires-clause-trail : goal.retry-requires-clause-trail
+retry-requires-clause-trail c =
+    let trail = c.loop-node.invariant.trail in
+    record {
+      are_steps = trail.are_steps;
+      nodes = are_front _ _ c.args.steps.now c.loop-node.trail.order.items c.pop.new.self.items c.in-Some.node
+          (subst (AreNodes c.loop-node.trail.processes c.loop-node.trail.words c.args.steps.now
+          c.loop-node.trail.order.items) c.in-Some.ensures.items trail.nodes);
+      failed = trail.failed;
+    }
+
+pub retry-requires-clause-node : goal.retry-requires-clause-node
+retry-requires-clause-node c = record {
+  nodes = subst (AreNodes c.loop-node.trail.processes c.loop-node.trail.words c.args.steps.now
+      c.loop-node.trail.order.items) c.in-Some.ensures.items c.loop-node.invariant.trail.nodes;
+  tried = tried_last c.loop-node.trail.processes c.loop-node.trail.words c.args.steps.now c.in-Some.node
+      c.pop.new.self.items c.in-Some.node
+      (subst (λ (l : List Node). FailsBehind c.loop-node.trail.processes c.loop-node.trail.words c.args.steps.now
+      c.in-Some.node l (length l)) c.in-Some.ensures.items (c.loop-node.invariant.left.1 c.in-Some.node));
+}
+
+pub returns-clause-none : goal.returns-clause-none
+returns-clause-none c =
+    without_nodes c.args.trail.now.processes c.args.trail.now.words c.loop-node.trail.processes
+    c.loop-node.trail.words c.args.steps.now c.loop-node.trail.nodes.items c.loop-node.invariant.kept.processes
+    c.loop-node.invariant.kept.words c.loop-node.invariant.left
+    (c.in_default.ensures.items ∙ append-nil c.pop.new.self.items ∙ c.in_default.ensures.rest
+    ∙ ap (λ (m : ℕ). take (m - 1) c.loop-node.trail.nodes.items) c.in_default.ensures.cases.0)

@@ -1,0 +1,29 @@
+-- What is said of a history: that it is linearizable, or up to which event it is not.
+use Rattle.std.specs.Prelude.{ℕ, ◌-◌, length, map}
+use Rattle.snap_words.specs.Shape.{IsOneOf}
+use Rattle.snap_judge.specs.declared.decisions.Decision.{Decision}
+use Rattle.snap_judge.specs.declared.decisions.Decision.TheVariants as decision
+use Rattle.snap_judge.specs.declared.judgements.Judgement.{Judgement}
+use Rattle.snap_judge.specs.declared.judgements.Judgement.TheVariants as judgement
+use Rattle.snap_judge.specs.History.{History}
+use Rattle.snap_judge.specs.Linearizable.{IsLinearizationOf, IsLinearizableHistory, up_to}
+use Rattle.snap_judge.specs.Kept.{operation_of}
+
+-- What is decided of a history is so.
+abbrev pub IsDecision : History → Decision → Type 0
+IsDecision h (decision.Linearizable order) = IsLinearizationOf h (map operation_of order.items)
+IsDecision h decision.NotLinearizable = IsLinearizableHistory h → ⊥
+IsDecision h decision.Undecided = Unit {0}
+
+-- Up to its event number k, counted from 1, the history is not linearizable; up to the event before it is.
+pub record FailsAt (h : History) (k : ℕ) : Type 0 where
+  pub is_event : IsOneOf (length h.events) k
+  pub before : IsLinearizableHistory (up_to (k - 1) h)
+  pub fails : IsLinearizableHistory (up_to k h) → ⊥
+
+-- What is said of a history is so: the order is a linearization of it; it fails at that event; or there is such an
+-- event, and nothing is said of the history up to it.
+abbrev pub IsJudgement : History → Judgement → Type 0
+IsJudgement h (judgement.Linearizable order) = IsLinearizationOf h (map operation_of order.items)
+IsJudgement h (judgement.NotLinearizable k) = FailsAt h k
+IsJudgement h (judgement.Undecided k) = IsOneOf (length h.events) k

@@ -1,0 +1,8 @@
+-- The definitions of snap_judge, by their modules.
+pub mod History
+pub mod Linearizable
+pub mod Steps
+pub mod Kept
+pub mod Choices
+pub mod Nodes
+pub mod Judgement

@@ -1,0 +1,122 @@
+//! Whether the first events of a history are linearizable.
+ghost use Rattle.std.specs.Prelude.{◌≡◌, ◌≤◌, [], None, IfOk, length, map};
+ghost use Rattle.snap_judge.specs.History.{IsHistory};
+ghost use Rattle.snap_judge.specs.Linearizable.{up_to};
+ghost use Rattle.snap_judge.specs.Kept.{called_at, called_by, operation_of, step_of_kept};
+ghost use Rattle.snap_judge.specs.Judgement.{IsDecision};
+ghost use Rattle.snap_judge.specs.declared.operation.Action.TheVariants as kept_action;
+
+use crate::config::{Found, Step};
+use crate::history::History;
+use crate::operation::{Action, Operation};
+use crate::prepass::steps_of;
+use crate::search::search;
+use snap_words::View;
+use std::alloc::{AllocError, Global};
+
+/// What is decided of the first events of a history.
+#[derive(Drop)]
+pub enum Decision {
+    /// They are linearizable, in this order of the operations.
+    Linearizable(Vec<Operation>),
+    NotLinearizable,
+    Undecided,
+}
+
+/// Returns a copy of the action.
+fn copy_of_action(alloc: Global, action: &Action) -> Result<Action, AllocError>
+    ensures { IfOk result (λ a. a ≡ action.now) }
+{
+    match action {
+        Action::Sets { word, value } => Ok(Action::Sets {
+            word: *word,
+            value: *value,
+        }),
+        Action::Sees(view) => Ok(Action::Sees(view.copy(alloc)?)),
+    }
+}
+
+/// Returns a copy of the operation.
+fn copy_of(alloc: Global, operation: &Operation) -> Result<Operation, AllocError>
+    ensures { IfOk result (λ o. operation_of o ≡ operation_of operation.now) }
+{
+    let action = copy_of_action(alloc, &operation.action)?;
+    Ok(Operation {
+        process: operation.process,
+        call: operation.call,
+        end: operation.end,
+        action,
+    })
+}
+
+/// Returns an operation that sees no words, which stands for what a step calls that calls none.
+fn no_operation(alloc: Global, process: u32) -> Operation
+    ensures process { result.process ≡ process }
+    ensures call { result.call ≡ 0 }
+    ensures end { result.end ≡ None }
+    ensures action { result.action ≡ kept_action.Sees [] }
+{
+    Operation {
+        process,
+        call: 0,
+        end: None,
+        action: Action::Sees(View::of(Vec::new(alloc))),
+    }
+}
+
+/// Returns the operation that this step calls; of another step, one that sees no words.
+fn called(alloc: Global, step: &Step) -> Result<Operation, AllocError>
+    ensures { IfOk result (λ o. operation_of o ≡ called_by (step_of_kept step.now)) }
+{
+    match step {
+        Step::Calls(operation) => copy_of(alloc, operation),
+        Step::Ends(process) => Ok(no_operation(alloc, *process)),
+        Step::Waits => Ok(no_operation(alloc, 0)),
+    }
+}
+
+/// Returns the operation that step `call` calls.
+fn operation_at(alloc: Global, steps: &[Step], call: usize) -> Result<Operation, AllocError>
+    ensures { IfOk result (λ o. operation_of o ≡ called_at steps.now call) }
+{
+    match steps.get(call) {
+        Some(step) => called(alloc, step),
+        None => called(alloc, &Step::Waits),
+    }
+}
+
+/// Returns the operations that these steps call, in this order.
+fn operations(alloc: Global, steps: &[Step], order: &[usize]) -> Result<Vec<Operation>, AllocError>
+    ensures { IfOk result (λ os. map operation_of os.items ≡ map (called_at steps.now) order.now) }
+{
+    let mut all = Vec::new(alloc);
+    for call in order {
+        let operation = operation_at(alloc, steps, *call)?;
+        all.push(operation)?;
+    }
+    Ok(all)
+}
+
+/// Decides whether the first `count` events of the history are linearizable.
+pub fn decide(
+    alloc: Global,
+    history: &History,
+    count: usize,
+    most: usize,
+) -> Result<Decision, AllocError>
+    requires history { IsHistory history.now }
+    requires count { count ≤ length history.now.events }
+    ensures { IfOk result (IsDecision (up_to count history.now)) }
+{
+    let steps = steps_of(alloc, &history.events[..count])?;
+    let processes = history.shape.n() as usize;
+    let words = history.shape.w() as usize;
+    match search(alloc, &steps, processes, words, most)? {
+        Found::Explained(order) => {
+            let all = operations(alloc, &steps, &order)?;
+            Ok(Decision::Linearizable(all))
+        }
+        Found::Unexplained => Ok(Decision::NotLinearizable),
+        Found::Undecided => Ok(Decision::Undecided),
+    }
+}

@@ -1,0 +1,62 @@
+//! Whether a history is linearizable, and if not, at which event it fails.
+ghost use Rattle.snap_judge.specs.History.{IsHistory};
+ghost use Rattle.snap_judge.specs.Linearizable.{IsLinearizableHistory};
+ghost use Rattle.snap_judge.specs.Judgement.{IsJudgement};
+ghost use Rattle.std.specs.Prelude.{IfOk};
+
+use crate::decisions::{Decision, decide};
+use crate::history::History;
+use crate::operation::Operation;
+use std::alloc::{AllocError, Global};
+
+/// What is said of a history.
+#[derive(Drop)]
+pub enum Judgement {
+    /// It is linearizable: its operations could have taken place one after another in this order.
+    Linearizable(Vec<Operation>),
+    /// It is not linearizable up to this event, counted from 1; up to the event before it is.
+    NotLinearizable(usize),
+    /// The search has not decided whether it is linearizable up to this event, counted from 1.
+    Undecided(usize),
+}
+
+/// Seeks the event at which a history fails that is not linearizable: each time in the middle of
+/// the events between one up to which it is linearizable and one up to which it is not.
+fn failure(alloc: Global, history: &History, most: usize) -> Result<Judgement, AllocError>
+    requires history { IsHistory history.now }
+    requires fails { IsLinearizableHistory history.now → ⊥ }
+    ensures { IfOk result (IsJudgement history.now) }
+{
+    let mut holds = 0;
+    let mut fails = history.events.len();
+    while holds + 1 < fails {
+        let middle = holds + (fails - holds) / 2;
+        match decide(alloc, history, middle, most)? {
+            Decision::Linearizable(_) => holds = middle,
+            Decision::NotLinearizable => fails = middle,
+            Decision::Undecided => return Ok(Judgement::Undecided(middle)),
+        }
+    }
+    Ok(Judgement::NotLinearizable(fails))
+}
+
+/// Judges whether a history is linearizable, and where it is not, at which event it fails. A search
+/// takes at most `most` turns for the whole history, and so for each beginning of it that is tried.
+///
+/// # Errors
+///
+/// There is no memory for it.
+pub fn judge(alloc: Global, history: &History, most: usize) -> Result<Judgement, AllocError>
+    requires { IsHistory history.now }
+    ensures { IfOk result (IsJudgement history.now) }
+{
+    let count = history.events.len();
+    if count == 0 {
+        return Ok(Judgement::Linearizable(Vec::new(alloc)));
+    }
+    match decide(alloc, history, count, most)? {
+        Decision::Linearizable(order) => Ok(Judgement::Linearizable(order)),
+        Decision::NotLinearizable => failure(alloc, history, most),
+        Decision::Undecided => Ok(Judgement::Undecided(count)),
+    }
+}

@@ -1,0 +1,100 @@
+//! The steps of a history, which a search goes through.
+ghost use Rattle.std.specs.Prelude.{◌≡◌, None, Some, IfOk, MatchOption};
+ghost use Rattle.snap_judge.specs.Steps.{next_of, scan_step, step_of, steps_of, update_end};
+ghost use Rattle.snap_judge.specs.Kept.{step_of_kept, steps_kept};
+
+use crate::config::Step;
+use crate::operation::{Action, Operation};
+use snap_semantics::{Event, Happening, Op};
+use std::alloc::{AllocError, Global};
+
+/// Returns the first of these events that is one of the process.
+fn next_event(process: u32, events: &[Event]) -> Option<&Event>
+    ensures { MatchOption result (next_of process events.now ≡ None)
+        (λ e. next_of process events.now ≡ Some e.now) }
+{
+    for event in events {
+        if event.process == process {
+            return Some(event);
+        }
+    }
+    None
+}
+
+/// Returns the number of the event at which an update of the process ends, which these events
+/// follow.
+fn end_of_update(process: u32, rest: &[Event]) -> Option<u64>
+    ensures { result ≡ update_end (next_of process rest.now) }
+{
+    let Some(event) = next_event(process, rest) else {
+        return None;
+    };
+    match &event.what {
+        Happening::Done => Some(event.item),
+        Happening::Call(_) => None,
+        Happening::Answer(_) => None,
+        Happening::Crash => None,
+    }
+}
+
+/// Returns the step that calls a scan of the process at event `call`, which these events follow.
+fn call_of_scan(alloc: Global, process: u32, call: u64, rest: &[Event]) -> Result<Step, AllocError>
+    ensures { IfOk result (λ s. step_of_kept s ≡ scan_step process call (next_of process rest.now)) }
+{
+    let Some(event) = next_event(process, rest) else {
+        return Ok(Step::Waits);
+    };
+    match &event.what {
+        Happening::Answer(view) => {
+            let action = Action::Sees(view.copy(alloc)?);
+            Ok(Step::Calls(Operation {
+                process,
+                call,
+                end: Some(event.item),
+                action,
+            }))
+        }
+        Happening::Call(_) => Ok(Step::Waits),
+        Happening::Done => Ok(Step::Waits),
+        Happening::Crash => Ok(Step::Waits),
+    }
+}
+
+/// Returns the step of an event that these events follow.
+fn step_at(alloc: Global, event: &Event, rest: &[Event]) -> Result<Step, AllocError>
+    ensures { IfOk result (λ s. step_of_kept s
+        ≡ step_of event.now.process event.now.item event.now.what rest.now) }
+{
+    match &event.what {
+        Happening::Call(Op::Scan) => call_of_scan(alloc, event.process, event.item, rest),
+        Happening::Call(Op::Update { word, value }) => Ok(Step::Calls(Operation {
+            process: event.process,
+            call: event.item,
+            end: end_of_update(event.process, rest),
+            action: Action::Sets {
+                word: *word,
+                value: *value,
+            },
+        })),
+        Happening::Answer(_) => Ok(Step::Ends(event.process)),
+        Happening::Done => Ok(Step::Ends(event.process)),
+        Happening::Crash => Ok(Step::Waits),
+    }
+}
+
+/// Returns the step of each of these events. An operation is sought from its call to the next event
+/// of its process alone, so that each event is looked at once for each process at most.
+///
+/// # Errors
+///
+/// There is no memory for them.
+pub fn steps_of(alloc: Global, events: &[Event]) -> Result<Vec<Step>, AllocError>
+    ensures { IfOk result (λ s. steps_kept s.items ≡ steps_of events.now) }
+{
+    let mut steps = Vec::new(alloc);
+    for place in 0..events.len() {
+        let step = step_at(alloc, &events[place], &events[place + 1..])?;
+        steps.push(step)?;
+    }
+    Ok(steps)
+}

@@ -1,0 +1,1 @@
+-- The lemmas of snap_judge_output, by their modules.

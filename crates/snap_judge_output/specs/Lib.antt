@@ -1,0 +1,2 @@
+-- The definitions of snap_judge_output, by their modules.
+pub mod JudgementText

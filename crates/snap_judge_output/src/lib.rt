@@ -1,0 +1,8 @@
+//! What is written of a judgement.
+#![tactic(auto)]
+
+mod judgement;
+mod operations;
+mod verdicts;
+
+pub use judgement::judgement_text;

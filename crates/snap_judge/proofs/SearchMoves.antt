@@ -1,16 +1,16 @@
 -- What a search may leave out.
-use Rattle.std.proofs.Common.{◌≡◌, ◌≢◌, ℕ, zero, suc, ◌-◌, ◌<◌, ◌≤◌, ◌⊎◌, inl, inr, List, [], ◌∷◌, length, get_or}
-use Rattle.std.proofs.Common.{refl, sym, ◌∙◌, ap, subst, arith, Option, Some, None}
+use Rattle.std.proofs.Common.{◌≡◌, ℕ, suc, ◌-◌, ◌<◌, ◌⊎◌, inl, inr, List, [], ◌∷◌, length, get_or}
+use Rattle.std.proofs.Common.{refl, sym, ◌∙◌, ap, subst}
 use Rattle.std.proofs.Math.ListN.{set}
-use Rattle.std.proofs.lemmas.Bool.{cases_eq, cases_lt}
-use Rattle.std.proofs.lemmas.List.{get_or-set_same, get_or-set_other, get_or_past, set-set, set_comm, length-set}
+use Rattle.std.proofs.lemmas.Bool.{cases_eq}
+use Rattle.std.proofs.lemmas.List.{get_or-set_same, get_or-set_other, set-set, set_comm, length-set}
 use Rattle.snap_runs.specs.Operation.{Action, Sets, Sees, Operation}
 use Rattle.snap_runs.specs.Linearization.{Allows, after}
-use Rattle.snap_judge.specs.Steps.{Step, Calls, Ends, Waits, Slot, Free, Open, Taken, MayPass, passed, slot, with_slot}
+use Rattle.snap_judge.specs.Steps.{Step, Calls, Waits, Slot, Free, Open, Taken, MayPass, passed, slot, with_slot}
 use Rattle.snap_judge.specs.Steps.{Move, Take, Pass, Explains, CanBeExplained}
 use Rattle.snap_judge.specs.Choices.{Wants}
-use Rattle.snap_judge.proofs.SearchSlots.{at, one_open, one_taken, open_not_taken, open_within, Apart, IsThere, place_of}
-use Rattle.snap_judge.proofs.SearchSlots.{passes_by, may_pass, may_pass_back, passed_with, nothing_passes, turned, still_open, opened}
+use Rattle.snap_judge.proofs.SearchSlots.{at, one_open, Apart, IsThere, place_of}
+use Rattle.snap_judge.proofs.SearchSlots.{passes_by, may_pass, passed_with, nothing_passes, turned, still_open, opened}
 use Rattle.snap_words.specs.Shape.{IsOneOf}
 
 -- It is a scan.

@@ -6,3 +6,5 @@ mod operations;
 mod verdicts;
 
 pub use judgement::judgement_text;
+pub use operations::push_operations;
+pub use verdicts::{push_not_linearizable, push_undecided};

@@ -55,7 +55,11 @@ fn push_operation(out: &mut Vec<u8>, operation: &Operation) -> Result<(), AllocE
 }
 
 /// Adds the lines of operations.
-fn push_operations(out: &mut Vec<u8>, operations: &[Operation]) -> Result<(), AllocError>
+///
+/// # Errors
+///
+/// Memory ran out.
+pub fn push_operations(out: &mut Vec<u8>, operations: &[Operation]) -> Result<(), AllocError>
     ensures { OnOk result (out.new.items ≡ out.old.items ++ operation_lines operations.now) }
 {
     for operation in operations {

@@ -1,0 +1,7 @@
+-- `circles_refute` of snap_judge_reasons (src/lib.rt): the proof of what its contract says.
+-- In a linearization each operation of a circle would stand before the next one, and so before itself.
+use Rattle.snap_judge_reasons.proofs.Refuting.{circles_refute}
+use Rattle.snap_judge_reasons.proofs.circles_refute.Goals as goal
+
+pub returns : goal.returns
+returns c = circles_refute

@@ -1,0 +1,11 @@
+-- `push_ended` of snap_judge_reasons (src/failure.rt): the proof of what its contract says, piece after piece.
+use Rattle.std.proofs.Common.{append_assoc}
+use Rattle.snap_judge_reasons.proofs.failure.push_ended.Goals as goal
+
+pub returns : goal.returns
+returns c = λ well.
+    let e4 = c.push-2.ensures well in
+    let e3 = c.push_name-2.ensures e4.0 in
+    let e2 = c.push.ensures e3.0 in
+    let e1 = c.push_name.ensures e2.0 in
+    (e1.0, rw (e4.1, e3.1, e2.1, e1.1) (simp append_assoc))

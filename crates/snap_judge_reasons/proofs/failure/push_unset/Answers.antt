@@ -1,0 +1,14 @@
+-- `push_unset` of snap_judge_reasons (src/failure.rt): the proof of what its contract says, piece after piece.
+use Rattle.std.proofs.Common.{append_assoc}
+use Rattle.snap_judge_reasons.proofs.failure.push_unset.Goals as goal
+
+pub returns : goal.returns
+returns c other = λ well.
+    let e7 = c.push-3.ensures well in
+    let e6 = c.push_setting.ensures e7.0 in
+    let e5 = c.push_number-2.ensures e6.0 in
+    let e4 = c.push-2.ensures e5.0 in
+    let e3 = c.push_number.ensures e4.0 in
+    let e2 = c.push.ensures e3.0 in
+    let e1 = c.push_name.ensures e2.0 in
+    (e1.0, rw (e7.1, e6.1, e5.1, e4.1, e3.1, e2.1, e1.1) (simp append_assoc))

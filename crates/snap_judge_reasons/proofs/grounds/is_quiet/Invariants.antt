@@ -1,0 +1,9 @@
+-- `is_quiet` of snap_judge_reasons (src/grounds.rt): what its loop keeps.
+use Rattle.std.proofs.Common.{◌≡◌, ◌<◌, take}
+use Rattle.std.specs.List.{All}
+use Rattle.snap_semantics.specs.declared.event.Event.{Event}
+use Rattle.snap_judge_reasons.proofs.grounds.is_quiet.Given as goal
+
+abbrev pub invariant-loop-event : goal.invariant-loop-event
+invariant-loop-event l =
+    All (λ (e : Event). e.process ≡ l.process → l.call < e.item → e.item < l.end → ⊥) (take l.event-index l.events)

@@ -1,0 +1,65 @@
+//! Why no order explains a history.
+ghost use Rattle.std.specs.Prelude.{IfOk, IfSome};
+ghost use Rattle.snap_judge.specs.Linearizable.{up_to};
+ghost use Rattle.snap_judge_reasons.specs.Reasons.{IsCircle};
+
+use crate::circles::is_circle;
+use crate::copies::first_events;
+use crate::graph::Graph;
+use crate::graph_search::shortest_circle;
+use crate::reason::Reason;
+use snap_judge::{History, Operation};
+use std::alloc::{AllocError, Global};
+
+/// Returns the place of the operation that ended at this event number.
+fn ended_at(operations: &[Operation], end: u64) -> Option<usize> {
+    for place in 0..operations.len() {
+        if operations[place].end == Some(end) {
+            return Some(place);
+        }
+    }
+    None
+}
+
+/// Returns a circle of reasons on which the operation lies that ends at event number `end` of the
+/// history.
+fn circle_at(alloc: Global, history: &History, end: u64) -> Result<Option<Vec<Reason>>, AllocError>
+    ensures { IfOk result (λ r. IfSome r (λ reasons. IsCircle history.now reasons.items)) }
+{
+    let graph = Graph::of(alloc, history)?;
+    let Some(start) = ended_at(&graph.operations, end) else {
+        return Ok(None);
+    };
+    let reasons = shortest_circle(alloc, &graph, start)?;
+    if is_circle(history, &graph.operations, &reasons) {
+        Ok(Some(reasons))
+    } else {
+        Ok(None)
+    }
+}
+
+/// Returns why no order explains the history up to its event number `count`, counted from 1: a
+/// shortest circle of reasons on which the operation lies that ends there. Returns `None` where
+/// there is none.
+///
+/// Where no value stands twice in a word, none is set to 0, and each word has one process that
+/// updates it, there is one at the event at which a history fails. That is not proved, nor that the
+/// circle is a shortest one; that it is one is.
+///
+/// # Errors
+///
+/// There is no memory for them.
+pub fn reasons(
+    alloc: Global,
+    history: &History,
+    count: usize,
+) -> Result<Option<Vec<Reason>>, AllocError>
+    ensures { IfOk result (λ r. IfSome r (λ reasons.
+        IsCircle (up_to count history.now) reasons.items)) }
+{
+    if count == 0 || history.events.len() < count {
+        return Ok(None);
+    }
+    let front = first_events(alloc, history, count)?;
+    circle_at(alloc, &front, history.events[count - 1].item)
+}

@@ -1,0 +1,161 @@
+//! The operations of a history, and what is asked of them where reasons are sought.
+use crate::operations::operations_of;
+use snap_judge::{Action, History, Operation};
+use std::alloc::{AllocError, Global};
+use std::collections::HashMap;
+
+/// A word and a value that an update sets it to.
+#[derive(Clone, Copy, PartialEq, Eq, Hash)]
+struct Setting {
+    word: u64,
+    value: u64,
+}
+
+/// The operations in the order of their calls; which of them alone sets a word to a value, where
+/// one alone does; the updates of each word; and for each operation the scans that saw it.
+#[derive(Drop)]
+pub struct Graph {
+    pub operations: Vec<Operation>,
+    setters: HashMap<Setting, Option<usize>>,
+    pub updates: Vec<Vec<usize>>,
+    pub seen_by: Vec<Vec<usize>>,
+}
+
+/// What a value in a word tells: that it stood there from the beginning, which operation alone sets
+/// it, that none does, or nothing, where more than one may have set it.
+#[derive(Clone, Copy)]
+pub enum Origin {
+    Beginning,
+    Update(usize),
+    Nowhere,
+    Unclear,
+}
+
+/// Returns as many empty lists.
+fn lists(alloc: Global, count: usize) -> Result<Vec<Vec<usize>>, AllocError> {
+    let mut lists = Vec::new(alloc);
+    for _ in 0..count {
+        lists.push(Vec::new(alloc))?;
+    }
+    Ok(lists)
+}
+
+/// Adds a number to the list at a place, if there is one.
+fn add(lists: &mut Vec<Vec<usize>>, place: usize, number: usize) -> Result<(), AllocError> {
+    if let Some(list) = lists.get_mut(place) {
+        list.push(number)?;
+    }
+    Ok(())
+}
+
+impl Graph {
+    /// Returns the graph of a history.
+    pub fn of(alloc: Global, history: &History) -> Result<Graph, AllocError> {
+        let operations = operations_of(alloc, history.shape.n() as usize, &history.events)?;
+        let seen_by = lists(alloc, operations.len())?;
+        let updates = lists(alloc, history.shape.w() as usize)?;
+        let mut graph = Graph {
+            operations,
+            setters: HashMap::new(alloc),
+            updates,
+            seen_by,
+        };
+        graph.enter_updates()?;
+        graph.enter_scans()?;
+        Ok(graph)
+    }
+
+    /// Returns what the operation at a place sets, if it is an update.
+    fn setting(&self, place: usize) -> Option<Setting> {
+        let Some(operation) = self.operations.get(place) else {
+            return None;
+        };
+        match &operation.action {
+            Action::Sets { word, value } => Some(Setting {
+                word: *word,
+                value: *value,
+            }),
+            Action::Sees(_) => None,
+        }
+    }
+
+    /// Notes that the operation at a place sets a word to a value.
+    fn enter_update(&mut self, place: usize, setting: Setting) -> Result<(), AllocError> {
+        let alone = match self.setters.get(&setting) {
+            Some(_) => None,
+            None => Some(place),
+        };
+        self.setters.insert(setting, alone)?;
+        add(
+            &mut self.updates,
+            setting.word.wrapping_sub(1) as usize,
+            place,
+        )
+    }
+
+    /// Notes all updates.
+    fn enter_updates(&mut self) -> Result<(), AllocError> {
+        for place in 0..self.operations.len() {
+            if let Some(setting) = self.setting(place) {
+                self.enter_update(place, setting)?;
+            }
+        }
+        Ok(())
+    }
+
+    /// Returns what a value in the word at a place tells.
+    pub fn origin(&self, word: usize, value: u64) -> Origin {
+        let setting = Setting {
+            word: (word as u64).wrapping_add(1),
+            value,
+        };
+        match self.setters.get(&setting) {
+            None => if value == 0 {
+                Origin::Beginning
+            } else {
+                Origin::Nowhere
+            },
+            Some(Some(place)) => if value == 0 {
+                Origin::Unclear
+            } else {
+                Origin::Update(*place)
+            },
+            Some(None) => Origin::Unclear,
+        }
+    }
+
+    /// Returns the operation that is seen in the word at a place of the view of the scan at `scan`.
+    fn seen(&self, scan: usize, word: usize) -> Option<usize> {
+        let Some(operation) = self.operations.get(scan) else {
+            return None;
+        };
+        let Action::Sees(view) = &operation.action else {
+            return None;
+        };
+        let Some(value) = view.as_slice().get(word) else {
+            return None;
+        };
+        match self.origin(word, *value) {
+            Origin::Update(place) => Some(place),
+            _ => None,
+        }
+    }
+
+    /// Notes which updates the scan at a place saw.
+    fn enter_scan(&mut self, scan: usize) -> Result<(), AllocError> {
+        for word in 0..self.updates.len() {
+            if let Some(place) = self.seen(scan, word) {
+                add(&mut self.seen_by, place, scan)?;
+            }
+        }
+        Ok(())
+    }
+
+    /// Notes which updates all scans saw.
+    fn enter_scans(&mut self) -> Result<(), AllocError> {
+        for scan in 0..self.operations.len() {
+            self.enter_scan(scan)?;
+        }
+        Ok(())
+    }
+}

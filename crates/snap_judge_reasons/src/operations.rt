@@ -1,0 +1,82 @@
+//! The operations that a list of events tells of.
+use snap_judge::{Action, Operation};
+use snap_semantics::{Event, Happening, Op};
+use snap_words::View;
+use std::alloc::{AllocError, Global};
+
+/// The operations in the order of their calls, and which of them each process called last.
+#[derive(Drop)]
+struct Operations {
+    all: Vec<Operation>,
+    last: Vec<usize>,
+}
+
+/// Returns what is known of an operation when it is called: of a scan, that it sees no words.
+fn called(alloc: Global, event: &Event, op: Op) -> Operation {
+    let action = match op {
+        Op::Update { word, value } => Action::Sets { word, value },
+        Op::Scan => Action::Sees(View::of(Vec::new(alloc))),
+    };
+    Operation {
+        process: event.process,
+        call: event.item,
+        end: None,
+        action,
+    }
+}
+
+/// Adds an operation that a process calls.
+fn open(
+    alloc: Global,
+    operations: &mut Operations,
+    event: &Event,
+    op: Op,
+) -> Result<(), AllocError> {
+    if let Some(last) = operations.last.get_mut(event.process as usize) {
+        *last = operations.all.len();
+    }
+    operations.all.push(called(alloc, event, op))?;
+    Ok(())
+}
+
+/// Ends what a process called last.
+fn close(operations: &mut Operations, event: &Event, seen: Option<View>) {
+    let Some(last) = operations.last.get(event.process as usize) else {
+        return;
+    };
+    if let Some(operation) = operations.all.get_mut(*last) {
+        operation.end = Some(event.item);
+        if let Some(view) = seen {
+            operation.action = Action::Sees(view);
+        }
+    }
+}
+
+/// Goes on by an event.
+fn enter(alloc: Global, operations: &mut Operations, event: &Event) -> Result<(), AllocError> {
+    match &event.what {
+        Happening::Call(op) => open(alloc, operations, event, *op)?,
+        Happening::Answer(view) => close(operations, event, Some(view.copy(alloc)?)),
+        Happening::Done => close(operations, event, None),
+        Happening::Crash => {}
+    }
+    Ok(())
+}
+
+/// Returns the operations of so many processes that these events tell of, in the order of their
+/// calls; a scan that has no answer sees no words.
+pub fn operations_of(
+    alloc: Global,
+    processes: usize,
+    events: &[Event],
+) -> Result<Vec<Operation>, AllocError> {
+    let mut operations = Operations {
+        all: Vec::new(alloc),
+        last: vec![in alloc; 0; processes.saturating_add(1)]?,
+    };
+    for event in events {
+        enter(alloc, &mut operations, event)?;
+    }
+    let Operations { all, .. } = operations;
+    Ok(all)
+}

@@ -110,11 +110,6 @@ pub fn early_sight(alloc: Global) -> Result<History, Fail>
 {
     let shape = Shape::new(3, 2)?;
     let view = answer(alloc, 2, 3, 0, 7)?;
-    let events = vec![in alloc;
-        scan(1, 3),
-        view,
-        update(3, 2, 2, 7),
-        done(4, 2),
-    ]?;
+    let events = vec![in alloc; scan(1, 3), view, update(3, 2, 2, 7), done(4, 2)]?;
     Ok(History { shape, events })
 }

@@ -1,19 +1,26 @@
 //! What is told of histories that are not linearizable, worked by hand.
+ghost use Rattle.snap_judge.specs.History.{IsHistory};
+
 use crate::histories::{early_sight, lost_update, new_then_old};
 use snap_judge::History;
 use snap_judge_reasons::{failure_text, reasons, right_answers};
 use std::alloc::{AllocError, Global};
 use std::test::Fail;
 
-/// How many turns of a search these histories are given, more than they need.
-const TURNS: usize = 100;
+/// How many configurations a search may keep, more than these histories need.
+const CONFIGURATIONS: usize = 100;
 
 /// What is written of the history at its event number `count`.
-fn told(alloc: Global, history: &History, count: usize) -> Result<Vec<u8>, AllocError> {
-    let answers = right_answers(alloc, history, count, TURNS)?;
+fn told(alloc: Global, history: &History, count: usize) -> Result<Vec<u8>, AllocError>
+    requires { IsHistory history.now }
+{
+    let answers = right_answers(alloc, history, count, CONFIGURATIONS)?;
     match reasons(alloc, history, count)? {
-        Some(reasons) => failure_text(alloc, &answers, &reasons),
-        None => failure_text(alloc, &answers, [].as_slice()),
+        Some(reasons) => failure_text(alloc, answers.as_slice(), reasons.as_slice()),
+        None => {
+            let none = Vec::new(alloc);
+            failure_text(alloc, answers.as_slice(), none.as_slice())
+        }
     }
 }
 

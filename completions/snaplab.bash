@@ -2,7 +2,7 @@
 # Where nothing is offered, as behind '<', bash offers the names of files.
 _snaplab() {
     local word=${COMP_WORDS[COMP_CWORD]} before=${COMP_WORDS[COMP_CWORD - 1]}
-    local commands="check lint assemble list upgrade run trace debug audit certify batch survey live help"
+    local commands="check lint assemble list upgrade run trace debug audit certify judge batch survey live help"
     local offered="--explain -h --help"
     if [ "$word" = "=" ]; then
         word=
@@ -12,6 +12,7 @@ _snaplab() {
     case ${COMP_WORDS[1]} in
         help) offered= ;;
         run | trace | debug | audit | certify | batch) offered="--shipped $offered" ;;
+        judge) offered="--shipped --history --most $offered" ;;
         survey) offered="--shipped --strict $offered" ;;
         live) offered="--shipped --limit $offered" ;;
     esac
@@ -20,7 +21,7 @@ _snaplab() {
         2,help) offered=$commands ;;
     esac
     case $before in
-        *[\<\>]* | --limit) offered= ;;
+        *[\<\>]* | --limit | --most) offered= ;;
         --shipped) offered="seq bit multi" ;;
     esac
     mapfile -t COMPREPLY < <(compgen -W "$offered" -- "$word")

@@ -23,7 +23,7 @@ empty [] not = refl
 empty (u ∷ us) not = absurd (not u (0, omega arith, refl))
 
 -- where a process has no seat there are no turns of it
-no_turns : (r : Run) → IsValidRun r → (p : ℕ) → (IsOneOf r.shape.n p → ⊥) → told_in r p ≡ []
+pub no_turns : (r : Run) → IsValidRun r → (p : ℕ) → (IsOneOf r.shape.n p → ⊥) → told_in r p ≡ []
 no_turns r fits p not = empty (told_in r p) (λ u has.
     let t = told_is r p u has in
     not (subst (IsOneOf r.shape.n) (sym t.mine) (item_one r fits t.place t.within)))

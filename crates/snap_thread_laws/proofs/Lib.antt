@@ -3,6 +3,8 @@ pub mod Turning
 mod Operations
 mod Linear
 mod Closing
+mod Playing
 mod Noting
 mod Shipped
 mod Samples
+mod MadeUp

@@ -3,4 +3,5 @@ pub mod Values
 pub mod Places
 pub mod Effects
 pub mod OneSort
+pub mod FirstFaults
 pub mod Traps

@@ -1,6 +1,6 @@
 -- `TrapsAreTold`: what `why` tells of a trap, the operand at which the line of a process traps, is what the table of
 -- lines has.
-use Rattle.std.specs.Prelude.{◌≡◌, ◌<◌, ℕ, suc, length, Option, Some, None, Result, Ok, Err, ⊤}
+use Rattle.std.specs.Prelude.{◌≡◌, ◌<◌, ℕ, suc, List, length, Option, Some, None, Result, Ok, Err, ⊤}
 use Rattle.snap_semantics.specs.IsListing.{AreDistinct}
 use Rattle.snap_semantics.specs.Listing.{all_names}
 use Rattle.snap_semantics.specs.Source.{instr_at}
@@ -17,6 +17,7 @@ use Rattle.snap_runs.specs.Run.{Run, item, outcome, state}
 use Rattle.snap_why.specs.Trap.{trouble_of}
 use Rattle.snap_troubles.specs.declared.trouble.Trouble.{Trouble}
 use Rattle.snap_troubles.specs.declared.trouble.Trouble.TheVariants.{NoPlace, LargeSum, NoBit, NotOwn}
+use Rattle.snap_trouble_laws.specs.Operands.{IsFirstFault, Taken, operands_at}
 
 -- the cause of a trap at such an operand
 abbrev pub trouble_cause : Trouble → Cause
@@ -60,11 +61,22 @@ abbrev pub effect_there : Run → State → (i : ℕ) → Activity → Result Ef
 effect_there r S i a =
     effect_at r.source (standing r i a (process_at S i).locals) S.memory a (instr_at r.source.lines a.line)
 
--- In each state of a run of any listing, what is told of a process that stands at a line is what a step would trap for;
--- and what is told after a step that trapped is what it trapped for.
+-- what the line of process i asks in a state, operand by operand
+abbrev pub operands_there : Run → State → (i : ℕ) → Activity → List Taken
+operands_there r S i a = operands_at (standing r i a (process_at S i).locals) (instr_at r.source.lines a.line)
+
+-- In each state of a run of any listing, what is told of a process that stands at a line is what a step would trap for,
+-- and the operand that is told is the first one that the process cannot take there; and what is told after a step that
+-- trapped is what it trapped for, the first operand that it could not take.
 pub record TrapsAreTold : Type 0 where
   pub before : (r : Run) (t i : ℕ) (a : Activity) → AreDistinct (all_names r.source) →
       IsTold (trouble_there r (state r t) i a) (effect_there r (state r t) i a)
+  pub first_before : (r : Run) (t i : ℕ) (a : Activity) → AreDistinct (all_names r.source) →
+      IsFirstFault r.source.kind (operands_there r (state r t) i a) (trouble_there r (state r t) i a)
   pub after : (r : Run) (t i : ℕ) (a : Activity) (c : Cause) → AreDistinct (all_names r.source) → t < length r.items →
       item r (suc t) ≡ Step i → (process_at (state r t) i).status ≡ Busy a → outcome r (suc t) ≡ Trapped c →
       IsCauseOf (trouble_there r (state r (suc t)) i a) c
+  pub first_after : (r : Run) (t i : ℕ) (a : Activity) (c : Cause) → AreDistinct (all_names r.source) →
+      t < length r.items →
+      item r (suc t) ≡ Step i → (process_at (state r t) i).status ≡ Busy a → outcome r (suc t) ≡ Trapped c →
+      IsFirstFault r.source.kind (operands_there r (state r t) i a) (trouble_there r (state r (suc t)) i a)

@@ -5,8 +5,9 @@
 ghost use Rattle.snap_trouble_laws.specs.Told.{TrapsAreTold};
 
 /// In each state of a run of any listing, the operand that is told of a process at a line is the one
-/// for which a step would trap, and none is told where it would not, or for where control goes. What
-/// is told after a step that trapped is what it trapped for.
+/// for which a step would trap, the first one, in written order, that cannot be taken there; and none
+/// is told where it would not trap, or for where control goes. What is told after a step that trapped
+/// is what it trapped for: the first operand that it could not take.
 pub fn traps_are_told()
     ensures { TrapsAreTold }
 {}

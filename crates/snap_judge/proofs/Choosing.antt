@@ -1,7 +1,6 @@
 -- What need not take place now, as the program sees it.
-use Rattle.std.proofs.Common.{◌≡◌, ℕ, zero, suc, ◌-◌, ◌+◌, ◌<◌, ◌≤◌, ◌⊎◌, inl, inr, List, [], ◌∷◌, length, get_or}
+use Rattle.std.proofs.Common.{◌≡◌, ℕ, suc, ◌-◌, ◌<◌, ◌≤◌, List, [], length, get_or}
 use Rattle.std.proofs.Common.{refl, sym, ◌∙◌, ap, subst, arith, map}
-use Rattle.std.proofs.lemmas.Bool.{cases_eq, cases_lt}
 use Rattle.std.proofs.lemmas.List.{get_or_past}
 use Rattle.snap_words.specs.Shape.{IsOneOf}
 use Rattle.snap_runs.specs.Operation.{Action, Sets, Sees, Operation}
@@ -12,10 +11,10 @@ use Rattle.snap_judge.specs.declared.config.Slot.TheVariants as kept_slot
 use Rattle.snap_judge.specs.declared.config.Config.{Config}
 use Rattle.snap_judge.specs.declared.operation.Action.{Action as KeptAction}
 use Rattle.snap_judge.specs.declared.operation.Action.TheVariants as kept_action
-use Rattle.snap_judge.specs.Steps.{Slot, Free, Open, Taken}
-use Rattle.snap_judge.specs.Kept.{AreSteps, IsConfig, IsSettled, called_at, slot_of, slots_of, action_of, HasWord, IsStepOf}
+use Rattle.snap_judge.specs.Steps.{Free, Open, Taken}
+use Rattle.snap_judge.specs.Kept.{AreSteps, IsSettled, called_at, slot_of, action_of, HasWord, IsStepOf}
 use Rattle.snap_judge.specs.Kept.{called_by, step_of_kept}
-use Rattle.snap_judge.specs.Choices.{IsAlone, IsUnwanted, MayWait, NotNow, NotNowAt, Scans, Updates, Wants}
+use Rattle.snap_judge.specs.Choices.{IsAlone, IsUnwanted, NotNowAt, Scans, Updates, Wants}
 use Rattle.snap_judge.proofs.SearchSlots.{at, one_open, open_not_free, open_not_taken}
 use Rattle.snap_judge.proofs.SearchLost.{sets_not_sees}
 use Rattle.snap_judge.proofs.Goes.{slot_at, kept_not_free}

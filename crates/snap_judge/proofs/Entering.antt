@@ -1,8 +1,8 @@
 -- What a search has come to from a node.
-use Rattle.std.proofs.Common.{◌≡◌, ℕ, zero, suc, ◌-◌, ◌+◌, ◌<◌, ◌≤◌, List, [], ◌∷◌, ◌++◌, length, get_or, refl, sym, ◌∙◌, ap, subst, arith}
+use Rattle.std.proofs.Common.{◌≡◌, ℕ, suc, ◌-◌, ◌+◌, ◌<◌, ◌≤◌, List, [], ◌∷◌, ◌++◌, length, get_or, refl, sym, ◌∙◌, ap, subst, arith}
 use Rattle.std.proofs.Common.{map, take, drop, true, false}
 use Rattle.std.proofs.Math.ListN.{set}
-use Rattle.std.proofs.lemmas.List.{length-take-le, take-append-le}
+use Rattle.std.proofs.lemmas.List.{length-append, length-take-le}
 use Rattle.snap_runs.specs.Linearization.{after}
 use Rattle.snap_judge.specs.declared.config.Step.{Step as KeptStep}
 use Rattle.snap_judge.specs.declared.config.Slot.{Slot as KeptSlot}
@@ -10,7 +10,7 @@ use Rattle.snap_judge.specs.declared.config.Slot.TheVariants as kept_slot
 use Rattle.snap_judge.specs.declared.config.Config.{Config}
 use Rattle.snap_judge.specs.declared.config.Node.{Node}
 use Rattle.snap_judge.specs.declared.config.Entered.{Entered}
-use Rattle.snap_judge.specs.Steps.{CanBeExplained, Taken, Slot}
+use Rattle.snap_judge.specs.Steps.{CanBeExplained, Taken}
 use Rattle.snap_judge.specs.Kept.{Can, GoesOn, Grows, IsConfig, IsReached, IsSameConfig, IsSettled, IsStuck, KeepsCounts}
 use Rattle.snap_judge.specs.Kept.{called_at, rest_of, slot_of, slots_of, steps_kept}
 use Rattle.snap_judge.specs.Choices.{CanTaking, HasTaken, IsChoice, NotNow, NotNowAt}
@@ -57,18 +57,6 @@ same_prefix order order' d le g =
     front [] ys = refl
     front (x ∷ xs) ys = ap (λ (l : List ℕ). x ∷ l) (front xs ys)
 
-pub deep_enough : (order order' : List ℕ) (d : ℕ) → d ≤ length order → take d order' ≡ take d order → d ≤ length order'
-deep_enough order order' d le same =
-    let cut : length (take d order) ≡ d = length-take-le d order le in
-    let cut' : length (take d order') ≡ d = ap length same ∙ cut in
-    let most : length (take d order') ≤ length order' = short d order' in
-    omega (arith, cut', most)
-  where
-    short : (n : ℕ) (xs : List ℕ) → length (take n xs) ≤ length xs
-    short zero xs = omega arith
-    short (suc n) [] = omega arith
-    short (suc n) (x ∷ xs) = let le = short n xs in omega (arith, le)
-
 -- From a copy of the node's configuration an update is taken, and then steps are passed.
 pub has_entered : (steps : List KeptStep) (node : Node) (p : ℕ) (order mid order' : List ℕ) (copy taken c : Config)
     (at_end : Entered) →
@@ -89,7 +77,10 @@ has_entered steps node p order mid order' copy taken c e is_node same took goes 
     stuck = λ x. subst (IsStuck steps) (sym is) (stuck x);
   };
   prefix = cut;
-  deep = deep_enough order order' node.depth is_node.depth cut;
+  deep = (let long : length order' ≡ length (mid ++ goes.grows.0) = ap length goes.grows.1 in
+      let all = length-append mid goes.grows.0 in
+      let more = took.longer in
+      let cut_off = length-take-le node.depth order is_node.depth in omega (arith, long, all, more, cut_off));
   tried = λ can. subst (Can steps) (sym is) (goes.explained (took.config copied.0)
       (took.explained copied.0 (same_taking steps node.config copy p same can)));
 }
@@ -170,13 +161,14 @@ has_tried steps node node' order order' u e is_node tried choice le waits config
     ending = ap (λ (x : Config). get_or steps x.position kept_step.Waits) config ∙ is_node.ending
         ∙ ap (λ (k : ℕ). kept_step.Ends (suc k)) (sym ending);
     next = (let lt = choice.within in omega (arith, lt, next));
-    depth = subst (λ (k : ℕ). k ≤ length order') (sym depth) deep;
+    depth = (let deep = has.deep in omega (arith, deep));
     reached = subst (λ (x : Config). IsReached steps (take node'.depth order') x) (sym config)
         (subst (λ (k : ℕ). IsReached steps (take k order') node.config) (sym depth)
         (subst (λ (os : List ℕ). IsReached steps os node.config) (sym prefix) is_node.reached));
   };
   config = config;
   depth = depth;
+  next = (omega (arith, le, next));
   entered = subst (λ (x : Config). IsEntered (length x.slots.items) (length x.values.items) steps order' e) config has.entered;
   prefix = prefix;
   deep = deep;
@@ -187,8 +179,8 @@ has_tried steps node node' order order' u e is_node tried choice le waits config
     prefix : take node.depth order' ≡ take node.depth order
     prefix = subst (λ (k : ℕ). take k order' ≡ take k order) depth has.prefix
 
-    deep : node.depth ≤ length order'
-    deep = subst (λ (k : ℕ). k ≤ length order') depth has.deep
+    deep : node.depth < length order'
+    deep = subst (λ (k : ℕ). k < length order') depth has.deep
 
     by_place : (Can steps e.config → ⊥) → (p : ℕ) → (p < node.next) ⊎ (node.next ≤ p) →
         (p ≡ u.place) ⊎ (p ≡ u.place → ⊥) → p < node'.next → IsTriedAt steps node.config node.ending p

@@ -1,22 +1,24 @@
 -- How a search goes on.
-use Rattle.std.proofs.Common.{◌≡◌, ◌≢◌, ℕ, zero, suc, ◌-◌, ◌<◌, ◌≤◌, ◌⊎◌, inl, inr, List, [], ◌∷◌, ◌++◌, length, get_or}
+use Rattle.std.proofs.Common.{◌≡◌, ℕ, zero, suc, ◌-◌, ◌<◌, ◌≤◌, ◌⊎◌, inl, inr, List, [], ◌∷◌, ◌++◌, length, get_or}
 use Rattle.std.proofs.Common.{refl, sym, ◌∙◌, ap, subst, arith, map, drop, append_assoc}
 use Rattle.std.proofs.Math.ListN.{set}
 use Rattle.std.proofs.lemmas.Bool.{cases_eq, cases_lt}
 use Rattle.std.proofs.lemmas.List.{get_or-set_same, get_or-set_other, length-set, map-set, map-append, set_past, get_or_default, get_or_past, append-nil}
-use Rattle.std.specs.Prelude.{replicate}
 use Rattle.snap_runs.specs.Operation.{Action, Sets, Sees, Operation}
 use Rattle.snap_runs.specs.Linearization.{Allows, after}
-use Rattle.snap_judge.specs.Steps.{Step, Calls, Ends, Waits, Slot, Free, Open, Taken, MayPass, passed, slot, with_slot}
-use Rattle.snap_judge.specs.Steps.{Move, Take, Pass, Explains, CanBeExplained, taken}
+use Rattle.snap_judge.specs.Steps.{Step, Slot, Open, Taken}
+use Rattle.snap_judge.specs.Steps.{Take, CanBeExplained}
 use Rattle.snap_judge.specs.declared.config.Step.{Step as KeptStep}
 use Rattle.snap_judge.specs.declared.config.Slot.{Slot as KeptSlot}
 use Rattle.snap_judge.specs.declared.config.Slot.TheVariants as kept_slot
 use Rattle.snap_judge.specs.declared.config.Config.{Config}
 use Rattle.snap_judge.specs.Kept.{Can, GoesOn, Grows, IsConfig, IsReached, called_at, rest_of, slot_of, slots_of, steps_kept}
-use Rattle.snap_judge.specs.Kept.{IsSameConfig, ChangesSlotsAlone, ChangesSlotAlone, IsSettledAt, IsSettled}
+use Rattle.snap_judge.specs.Kept.{first, IsCallOf, seen_as, TellsOf}
+use Rattle.snap_judge.specs.Configurations.{Configuration, Leads}
+use Rattle.snap_judge.specs.Kept.{IsSameConfig}
 use Rattle.snap_judge.proofs.SearchSlots.{at}
 use Rattle.snap_judge.proofs.SearchMoves.{scan_earlier}
+use Rattle.snap_judge.proofs.Leading.{leads_on, made, same_parts, taken_on}
 
 -- A search that stays where it is goes on.
 pub stays : (steps : List KeptStep) (order : List ℕ) (c : Config) → GoesOn steps order c order c
@@ -96,6 +98,25 @@ unfolding is_open
 was_open_freed slots p q j e =
     was_open slots p q j kept_slot.Free (λ h. h) (cases_eq q p) (cases_lt p (length slots)) e
 
+-- What a slot tells of where one has changed: it is that one, or tells what it told before.
+pub tells_set : (slots : List KeptSlot) (p q k : ℕ) (s : KeptSlot) →
+    TellsOf (get_or (set slots p s) q kept_slot.Free) k →
+    ((q ≡ p) × TellsOf s k) ⊎ TellsOf (get_or slots q kept_slot.Free) k
+tells_set slots p q k s h = by_place (cases_eq q p) (cases_lt p (length slots))
+  where
+    by_place : (q ≡ p) ⊎ (q ≡ p → ⊥) → (p < length slots) ⊎ (length slots ≤ p) →
+        ((q ≡ p) × TellsOf s k) ⊎ TellsOf (get_or slots q kept_slot.Free) k
+    by_place (inr apart) in_range =
+        inr (subst (λ (x : KeptSlot). TellsOf x k) (get_or-set_other slots p q s kept_slot.Free apart) h)
+    by_place (inl here) (inl lt) =
+        inl (
+          here,
+          subst (λ (x : KeptSlot). TellsOf x k) (ap (λ (r : ℕ). get_or (set slots p s) r kept_slot.Free) here
+              ∙ get_or-set_same slots p s kept_slot.Free lt) h,
+        )
+    by_place (inl here) (inr past) =
+        inr (subst (λ (l : List KeptSlot). TellsOf (get_or l q kept_slot.Free) k) (set_past slots p s past) h)
+
 -- An operation at place p, of process suc p, has taken place, and left these values.
 module _ (steps : List KeptStep) (order : List ℕ) (c c' : Config) (p j : ℕ)
     (position : c'.position ≡ c.position) (values : c'.values.items ≡ after c.values.items (called_at steps j).action)
@@ -116,22 +137,11 @@ module _ (steps : List KeptStep) (order : List ℕ) (c c' : Config) (p j : ℕ)
   pub rest_now : rest_of steps c' ≡ rest_of steps c
   rest_now = ap (λ (n : ℕ). drop n (steps_kept steps)) position
 
-  same_state : (moves : List Move) → Explains moves (rest_of steps c') c'.values.items (slots_of steps c') →
-      Explains moves (rest_of steps c) (after c.values.items o.action) (set (slots_of steps c) p (Taken o))
-  same_state moves e =
-      subst (λ (T : List Slot). Explains moves (rest_of steps c) (after c.values.items o.action) T) slots_now
-      (subst (λ (W : List ℕ). Explains moves (rest_of steps c) W (slots_of steps c')) values
-      (subst (λ (xs : List Step). Explains moves xs c'.values.items (slots_of steps c')) rest_now e))
-
-  one_more : Allows c.values.items o.action → (moves : List Move) →
-      Explains moves (rest_of steps c') c'.values.items (slots_of steps c') →
-      Explains (Take o ∷ moves) (rest_of steps c) c.values.items (slots_of steps c)
-  one_more allows moves e = (
-    ap (at (slots_of steps c)) place ∙ open_now,
-    allows,
-    subst (λ (q : ℕ). Explains moves (rest_of steps c) (after c.values.items o.action) (set (slots_of steps c) q (Taken o)))
-        (sym place) (same_state moves e),
-  )
+  seen_now : made (rest_of steps c) (after c.values.items o.action) (set (slots_of steps c) (o.process - 1) (Taken o))
+      ≡ seen_as steps c'
+  seen_now =
+      same_parts _ (seen_as steps c') (sym rest_now) (sym values)
+      (ap (λ (q : ℕ). set (slots_of steps c) q (Taken o)) place ∙ sym slots_now)
 
   same_counts : length c'.slots.items ≡ length c.slots.items
   same_counts = ap length slots ∙ length-set c.slots.items p (kept_slot.Taken j)
@@ -144,23 +154,32 @@ module _ (steps : List KeptStep) (order : List ℕ) (c c' : Config) (p j : ℕ)
   same_width = ap length values ∙ width_after c.values.items o.action
 
   pub took : Allows c.values.items o.action → IsReached steps order c → IsReached steps (order ++ j ∷ []) c'
-  took allows r moves e =
-      let go = r (Take o ∷ moves) (one_more allows moves e) in (
-        go.0,
-        subst (λ (n : ℕ). Explains go.0 (steps_kept steps) (replicate n 0) (replicate (length c'.slots.items) Free))
-            (sym same_width)
-            (subst (λ (n : ℕ). Explains go.0 (steps_kept steps) (replicate (length c.values.items) 0) (replicate n Free))
-            (sym same_counts) go.1),
-        go.2 ∙ sym (ap (λ (os : List Operation). os ++ taken moves) (map-append (called_at steps) order (j ∷ []))
-            ∙ append_assoc (map (called_at steps) order) (o ∷ []) (taken moves)),
-      )
+  took allows r = (
+    r.0 ++ Take o ∷ [],
+    subst (λ (n : ℕ). Leads (r.0 ++ Take o ∷ []) (first (length c'.slots.items) n steps) (seen_as steps c')) (sym same_width)
+        (subst (λ (n : ℕ). Leads (r.0 ++ Take o ∷ []) (first n (length c.values.items) steps) (seen_as steps c'))
+        (sym same_counts)
+        (leads_on r.0 (Take o ∷ []) (first (length c.slots.items) (length c.values.items) steps) (seen_as steps c)
+        (seen_as steps c') r.1 (ap (at (slots_of steps c)) place ∙ open_now, allows, seen_now))),
+    taken_on r.0 (Take o ∷ []) ∙ ap (λ (os : List Operation). os ++ o ∷ []) r.2
+        ∙ sym (map-append (called_at steps) order (j ∷ [])),
+  )
 
   pub still_config : IsConfig steps c'
   still_config = record {
     within = subst (λ (n : ℕ). n ≤ length steps) (sym position) fits.within;
     placed = λ q k e. fits.placed q k (was_open_taken c.slots.items p q k j
         (ap (λ (l : List KeptSlot). get_or l q kept_slot.Free) (sym slots) ∙ e));
+    tells = λ q k h. told q k (tells_set c.slots.items p q k (kept_slot.Taken j)
+        (subst (λ (l : List KeptSlot). TellsOf (get_or l q kept_slot.Free) k) slots h));
   }
+    where
+      told : (q k : ℕ) → ((q ≡ p) × (j ≡ k)) ⊎ TellsOf (get_or c.slots.items q kept_slot.Free) k → IsCallOf steps k q
+      told q k (inl here) =
+          subst (λ (m : ℕ). IsCallOf steps m q) here.1
+          (subst (λ (r : ℕ). IsCallOf steps j r) (sym here.0)
+          (fits.tells p j (subst (λ (s : KeptSlot). TellsOf s j) (sym is) refl)))
+      told q k (inr before) = fits.tells q k before
 
   -- what can be explained with it taken can be explained from there
   pub taken_can : CanBeExplained (rest_of steps c) (after c.values.items o.action) (set (slots_of steps c) p (Taken o)) →
@@ -212,20 +231,19 @@ same_goes steps order c c' same = record {
   config = λ k. record {
     within = subst (λ (n : ℕ). n ≤ length steps) (sym same.position) k.within;
     placed = λ p j e. k.placed p j (ap (λ (l : List KeptSlot). get_or l p kept_slot.Free) (sym same.slots) ∙ e);
+    tells = λ p j h. k.tells p j (subst (λ (l : List KeptSlot). TellsOf (get_or l p kept_slot.Free) j) same.slots h);
   };
-  reached = λ k r moves e.
-      (let go = r moves
-      (subst (λ (n : ℕ). Explains moves (drop n (steps_kept steps)) c.values.items (slots_of steps c)) same.position
-      (subst (λ (W : List ℕ). Explains moves (rest_of steps c') W (slots_of steps c)) same.values
-      (subst (λ (l : List KeptSlot). Explains moves (rest_of steps c') c'.values.items (map (slot_of steps) l))
-      same.slots e))) in (
-        go.0,
-        subst (λ (n : ℕ). Explains go.0 (steps_kept steps) (replicate n 0) (replicate (length c'.slots.items) Free))
-            (sym (ap length same.values))
-            (subst (λ (n : ℕ). Explains go.0 (steps_kept steps) (replicate (length c.values.items) 0) (replicate n Free))
-            (sym (ap length same.slots)) go.1),
-        go.2,
-      ));
+  reached = λ k r. (
+    r.0,
+    subst (λ (x : Configuration). Leads r.0 (first (length c'.slots.items) (length c'.values.items) steps) x)
+        (same_parts (seen_as steps c) (seen_as steps c')
+        (ap (λ (n : ℕ). drop n (steps_kept steps)) (sym same.position)) (sym same.values)
+        (ap (map (slot_of steps)) (sym same.slots)))
+        (subst (λ (n : ℕ). Leads r.0 (first (length c'.slots.items) n steps) (seen_as steps c)) (sym (ap length same.values))
+        (subst (λ (n : ℕ). Leads r.0 (first n (length c.values.items) steps) (seen_as steps c)) (sym (ap length same.slots))
+        r.1)),
+    r.2,
+  );
   explained = λ k e.
       subst (λ (n : ℕ). CanBeExplained (drop n (steps_kept steps)) c'.values.items (slots_of steps c')) (sym same.position)
       (subst (λ (W : List ℕ). CanBeExplained (rest_of steps c) W (slots_of steps c')) (sym same.values)

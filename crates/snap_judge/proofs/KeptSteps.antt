@@ -1,24 +1,27 @@
 -- The steps that the program makes of a history, and what they are where the events are a history.
-use Rattle.std.proofs.Common.{◌≡◌, ℕ, zero, suc, ◌+◌, ◌<◌, List, [], ◌∷◌, ◌++◌, length, get_or, drop, take, ap}
+use Rattle.std.proofs.Common.{◌≡◌, ℕ, zero, suc, ◌+◌, ◌<◌, ◌≤◌, ◌⊎◌, inl, inr, List, [], ◌∷◌, ◌++◌, length, get_or, drop, take, ap}
 use Rattle.std.proofs.Common.{sym, subst, arith, ◌∙◌, Option, Some, None, Bool, if◌then◌else◌, append_assoc}
 use Rattle.std.specs.List.{AllByRecursion, AllPairs}
-use Rattle.std.proofs.lemmas.Bool.{eq-eqb, ne_eqb}
+use Rattle.std.proofs.lemmas.Bool.{cases_lt, eq-eqb, ne_eqb}
 use Rattle.std.proofs.lemmas.List.{drop_more, length-take, map-append, get_or-take}
 use Rattle.snap_words.specs.Shape.{Counts, IsOneOf}
 use Rattle.snap_semantics.specs.declared.event.Event.{Event}
 use Rattle.snap_semantics.specs.declared.event.Happening.{Happening}
 use Rattle.snap_semantics.specs.declared.event.Happening.TheVariants as what
 use Rattle.snap_semantics.specs.declared.process.Op.TheVariants as op
-use Rattle.snap_runs.specs.Operation.{Action, Sees, Sets}
+use Rattle.snap_runs.specs.Operation.{Action, Operation, Sees, Sets}
+use Rattle.snap_judge.specs.declared.operation.Operation.{Operation as KeptOperation}
 use Rattle.snap_judge.specs.declared.operation.Action.{Action as KeptAction}
 use Rattle.snap_judge.specs.declared.operation.Action.TheVariants as kept_action
 use Rattle.snap_judge.specs.declared.config.Step.{Step as KeptStep}
 use Rattle.snap_judge.specs.declared.config.Step.TheVariants as kept_step
 use Rattle.snap_judge.specs.History.{Busy, Caller, Free, Gone, History, IsHistory, MayCome, MayFollow, caller_after}
 use Rattle.snap_judge.specs.History.{with_caller}
-use Rattle.snap_judge.specs.Kept.{AreSteps, HasWord, IsStepOf, action_of, step_of_kept, steps_kept}
+use Rattle.snap_judge.specs.Kept.{AreNumbered, AreSteps, HasWord, IsStepOf, action_of, operation_of, step_of_kept, steps_kept}
 use Rattle.snap_judge.specs.Linearizable.{up_to}
 use Rattle.snap_judge.specs.Steps.{Calls, Ends, Step, Waits, answered_step, next_of, scan_step, step_of, steps_of}
+use Rattle.snap_judge.proofs.Passing.{step_at}
+use Rattle.snap_judge.proofs.SearchLost.{ends_not_call, one_call, waits_not_call}
 
 -- The next event of a process, where it is the one at place k.
 pub found_here : (i k : ℕ) (es : List Event) (e : Event) → k < length es → e ≡ get_or es k e → e.process ≡ i →
@@ -121,6 +124,62 @@ steps_of_history h xs is kept =
     are_steps h.shape.n h.shape.w xs
     (subst (λ (ys : List Step). AllByRecursion (IsGood h.shape.n h.shape.w) ys) (sym kept)
     (good_steps h.shape (λ i. Free) h.events is.follow))
+
+-- A step calls an operation by the number of its event.
+number_of_answer : (i c t : ℕ) (a : Happening) (o : Operation) → answered_step i c t a ≡ Calls o → o.call ≡ c
+number_of_answer i c t (what.Call x) o e = absurd (waits_not_call o e)
+number_of_answer i c t (what.Answer view) o e = sym (ap (λ (y : Operation). y.call) (one_call _ o e))
+number_of_answer i c t what.Done o e = absurd (waits_not_call o e)
+number_of_answer i c t what.Crash o e = absurd (waits_not_call o e)
+
+number_of_scan : (i c : ℕ) (x : Option Event) (o : Operation) → scan_step i c x ≡ Calls o → o.call ≡ c
+number_of_scan i c None o e = absurd (waits_not_call o e)
+number_of_scan i c (Some x) o e = number_of_answer i c x.item x.what o e
+
+number_of_step : (i c : ℕ) (a : Happening) (es : List Event) (o : Operation) → step_of i c a es ≡ Calls o → o.call ≡ c
+number_of_step i c (what.Call op.Scan) es o e = number_of_scan i c (next_of i es) o e
+number_of_step i c (what.Call (op.Update word value)) es o e = sym (ap (λ (y : Operation). y.call) (one_call _ o e))
+number_of_step i c (what.Answer view) es o e = absurd (ends_not_call i o e)
+number_of_step i c what.Done es o e = absurd (ends_not_call i o e)
+number_of_step i c what.Crash es o e = absurd (waits_not_call o e)
+
+no_call : (t : ℕ) (o : Operation) → get_or [] t Waits ≡ Calls o → ⊥
+no_call zero o e = waits_not_call o e
+no_call (suc t) o e = waits_not_call o e
+
+numbers : (es : List Event) (t : ℕ) (o : Operation) (d : Event) → get_or (steps_of es) t Waits ≡ Calls o →
+    (t < length es) × ((get_or es t d).item ≡ o.call)
+numbers [] t o d is = absurd (no_call t o is)
+numbers (e ∷ es) zero o d is = (omega arith, sym (number_of_step e.process e.item e.what es o is))
+numbers (e ∷ es) (suc t) o d is = let rest = numbers es t o d is in (let lt = rest.0 in omega (arith, lt), rest.1)
+
+-- No two steps of a history call operations of the same number.
+pub numbered : (h : History) (xs : List KeptStep) → IsHistory h → steps_kept xs ≡ steps_of h.events → AreNumbered xs
+numbered h xs is kept j k o o' call call' same = by_order (cases_lt j k) (cases_lt k j)
+  where
+    d : Event
+    d = record { item = 0; process = 0; what = what.Crash }
+
+    at_step : (t : ℕ) (o : KeptOperation) → get_or xs t kept_step.Waits ≡ kept_step.Calls o →
+        (t < length h.events) × ((get_or h.events t d).item ≡ o.call)
+    at_step t o call =
+        numbers h.events t (operation_of o) d
+        (ap (λ (ys : List Step). get_or ys t Waits) (sym kept) ∙ step_at xs t ∙ ap step_of_kept call)
+
+    one : (j < length h.events) × ((get_or h.events j d).item ≡ o.call)
+    one = at_step j o call
+
+    other : (k < length h.events) × ((get_or h.events k d).item ≡ o'.call)
+    other = at_step k o' call'
+
+    by_order : (j < k) ⊎ (k ≤ j) → (k < j) ⊎ (j ≤ k) → j ≡ k
+    by_order (inl less) it =
+        let rises = is.rising j k d less other.0 in let first = one.1 in let second = other.1 in
+        absurd (omega (arith, rises, first, second, same))
+    by_order (inr more) (inl less) =
+        let rises = is.rising k j d less one.0 in let first = one.1 in let second = other.1 in
+        absurd (omega (arith, rises, first, second, same))
+    by_order (inr more) (inr more') = omega (arith, more, more')
 
 follow_up_to : (shape : Counts) (callers : ℕ → Caller) (k : ℕ) (es : List Event) → MayFollow shape callers es →
     MayFollow shape callers (take k es)

@@ -3,9 +3,11 @@ pub mod SearchSlots
 pub mod SearchMoves
 pub mod SearchLost
 pub mod SearchLater
+pub mod Leading
 pub mod Goes
 pub mod SearchPass
 pub mod Passing
+pub mod Counting
 pub mod ExplainedLists
 pub mod ExplainedTurns
 pub mod ExplainedPasses
@@ -18,6 +20,7 @@ pub mod CompleteMoves
 pub mod Choosing
 pub mod TakingUpdates
 pub mod Entering
+pub mod Meeting
 pub mod Searching
 pub mod KeptSteps
 pub mod Judging

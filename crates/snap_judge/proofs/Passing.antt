@@ -1,24 +1,26 @@
 -- A search that passes a step goes on.
-use Rattle.std.proofs.Common.{◌≡◌, ℕ, zero, suc, ◌-◌, ◌+◌, ◌<◌, ◌≤◌, ◌⊎◌, inl, inr, List, [], ◌∷◌, length, get_or}
+use Rattle.std.proofs.Common.{◌≡◌, ℕ, zero, suc, ◌-◌, ◌<◌, ◌≤◌, ◌⊎◌, inl, inr, List, [], ◌∷◌, ◌++◌, length, get_or}
 use Rattle.std.proofs.Common.{refl, sym, ◌∙◌, ap, subst, arith, map, drop, drop-cons}
 use Rattle.std.proofs.Math.ListN.{set}
-use Rattle.std.proofs.lemmas.Bool.{cases_eq, cases_lt}
-use Rattle.std.proofs.lemmas.List.{get_or-set_same, get_or-set_other, get_or_past, length-set, map-set, length-map, append-nil}
-use Rattle.std.specs.Prelude.{replicate}
+use Rattle.std.proofs.lemmas.Bool.{cases_eq}
+use Rattle.std.proofs.lemmas.List.{get_or-set_same, get_or-set_other, length-set, map-set, length-map, append-nil}
 use Rattle.snap_runs.specs.Operation.{Operation, Sees}
-use Rattle.snap_judge.specs.Steps.{Step, Calls, Ends, Waits, Slot, Free, Open, Taken, MayPass, passed, slot, with_slot}
-use Rattle.snap_judge.specs.Steps.{Move, Take, Pass, Explains, CanBeExplained, taken}
+use Rattle.snap_judge.specs.Steps.{Step, Calls, Ends, Waits, Slot, Free, Open, Taken, MayPass, passed}
+use Rattle.snap_judge.specs.Steps.{Pass, Explains, CanBeExplained, taken}
 use Rattle.snap_judge.specs.declared.config.Step.{Step as KeptStep}
 use Rattle.snap_judge.specs.declared.config.Step.TheVariants as kept_step
 use Rattle.snap_judge.specs.declared.config.Slot.{Slot as KeptSlot}
 use Rattle.snap_judge.specs.declared.config.Slot.TheVariants as kept_slot
 use Rattle.snap_judge.specs.declared.config.Config.{Config}
-use Rattle.snap_judge.specs.Kept.{Can, GoesOn, IsConfig, IsReached, called_at, rest_of, slot_of, slots_of, steps_kept}
+use Rattle.snap_judge.specs.Kept.{GoesOn, IsConfig, called_at, rest_of, slot_of, slots_of, steps_kept}
 use Rattle.snap_judge.specs.Kept.{step_of_kept, IsSettled, IsCallOf, IsStuck, MayNotPass, called_by, operation_of}
 use Rattle.snap_judge.specs.declared.operation.Operation.{Operation as KeptOperation}
-use Rattle.snap_judge.proofs.SearchSlots.{at, open_not_free, open_not_taken, Apart}
+use Rattle.snap_judge.proofs.SearchSlots.{at, open_not_free, open_not_taken}
 use Rattle.snap_judge.proofs.SearchPass.{IsClear, pass_now}
-use Rattle.snap_judge.proofs.Goes.{slot_at, was_open_freed}
+use Rattle.snap_judge.proofs.Goes.{slot_at, tells_set, was_open_freed}
+use Rattle.snap_judge.proofs.Leading.{leads_on, made, same_parts, taken_on}
+use Rattle.snap_judge.specs.Kept.{first, seen_as, TellsOf}
+use Rattle.snap_judge.specs.Configurations.{Leads}
 
 -- the step at a place, as the definitions have it
 pub step_at : (steps : List KeptStep) (t : ℕ) →
@@ -46,27 +48,21 @@ module _ (steps : List KeptStep) (order : List ℕ) (c c' : Config) (x : KeptSte
       ∙ ap (λ (y : Step). y ∷ drop (suc c.position) (steps_kept steps)) (step_at steps c.position ∙ ap step_of_kept next)
       ∙ ap (λ (n : ℕ). step_of_kept x ∷ drop n (steps_kept steps)) (sym position)
 
-  pass_first : (moves : List Move) → Explains moves (rest_of steps c') c'.values.items (slots_of steps c') →
-      Explains (Pass ∷ moves) (rest_of steps c) c.values.items (slots_of steps c)
-  pass_first moves e =
-      subst (λ (xs : List Step). Explains (Pass ∷ moves) xs c.values.items (slots_of steps c)) (sym rest) (
-        may,
-        subst (λ (T : List Slot). Explains moves (rest_of steps c') c.values.items T) slots
-            (subst (λ (W : List ℕ). Explains moves (rest_of steps c') W (slots_of steps c')) values e),
-      )
+  seen_now : made (rest_of steps c') c.values.items (passed (slots_of steps c) (step_of_kept x)) ≡ seen_as steps c'
+  seen_now = same_parts _ (seen_as steps c') refl (sym values) (sym slots)
 
   pub passes : IsConfig steps c' → GoesOn steps order c order c'
   passes fits = record {
     config = λ k. fits;
-    reached = λ k r moves e.
-        let go = r (Pass ∷ moves) (pass_first moves e) in (
-          go.0,
-          subst (λ (n : ℕ). Explains go.0 (steps_kept steps) (replicate n 0)
-              (replicate (length c'.slots.items) Free)) (sym (ap length values))
-              (subst (λ (n : ℕ). Explains go.0 (steps_kept steps) (replicate (length c.values.items) 0) (replicate n Free))
-              (sym count) go.1),
-          go.2,
-        );
+    reached = λ k r. (
+      r.0 ++ Pass ∷ [],
+      subst (λ (n : ℕ). Leads (r.0 ++ Pass ∷ []) (first (length c'.slots.items) n steps) (seen_as steps c'))
+          (sym (ap length values))
+          (subst (λ (n : ℕ). Leads (r.0 ++ Pass ∷ []) (first n (length c.values.items) steps) (seen_as steps c')) (sym count)
+          (leads_on r.0 (Pass ∷ []) (first (length c.slots.items) (length c.values.items) steps) (seen_as steps c)
+          (seen_as steps c') r.1 (step_of_kept x, rest_of steps c', rest, may, seen_now))),
+      taken_on r.0 (Pass ∷ []) ∙ append-nil (taken r.0) ∙ r.2,
+    );
     grows = ([], sym (append-nil order));
     explained = λ k e.
         subst (λ (T : List Slot). CanBeExplained (rest_of steps c') c'.values.items T) (sym slots)
@@ -97,7 +93,13 @@ module _ (steps : List KeptStep) (order : List ℕ) (c c' : Config) (place j : �
     within = subst (λ (n : ℕ). n ≤ length steps) (sym position) lt;
     placed = λ q k e. fits.placed q k (was_open_freed c.slots.items place q k
         (ap (λ (l : List KeptSlot). get_or l q kept_slot.Free) (sym slots) ∙ e));
+    tells = λ q k h. told q k (tells_set c.slots.items place q k kept_slot.Free
+        (subst (λ (l : List KeptSlot). TellsOf (get_or l q kept_slot.Free) k) slots h));
   }
+    where
+      told : (q k : ℕ) → ((q ≡ place) × ⊥) ⊎ TellsOf (get_or c.slots.items q kept_slot.Free) k → IsCallOf steps k q
+      told q k (inl here) = absurd here.1
+      told q k (inr before) = fits.tells q k before
 
   pub end_passes : GoesOn steps order c order c'
   end_passes =
@@ -161,7 +163,16 @@ module _ (steps : List KeptStep) (order : List ℕ) (c c' : Config) (place : ℕ
   called_config = record {
     within = subst (λ (n : ℕ). n ≤ length steps) (sym position) lt;
     placed = λ q k e. placed q k (cases_eq q place) (ap (λ (l : List KeptSlot). get_or l q kept_slot.Free) (sym slots) ∙ e);
+    tells = λ q k h. told q k (tells_set c.slots.items place q k (kept_slot.Open c.position)
+        (subst (λ (l : List KeptSlot). TellsOf (get_or l q kept_slot.Free) k) slots h));
   }
+    where
+      told : (q k : ℕ) → ((q ≡ place) × (c.position ≡ k)) ⊎ TellsOf (get_or c.slots.items q kept_slot.Free) k →
+          IsCallOf steps k q
+      told q k (inl here) =
+          subst (λ (m : ℕ). IsCallOf steps m q) here.1
+          (subst (λ (r : ℕ). IsCallOf steps c.position r) (sym here.0) is_call)
+      told q k (inr before) = fits.tells q k before
 
   pub call_passes : GoesOn steps order c order c'
   call_passes =
@@ -222,4 +233,5 @@ wait_passes steps order c c' lt fits next position values slots =
     (record {
       within = subst (λ (n : ℕ). n ≤ length steps) (sym position) lt;
       placed = λ q k e. fits.placed q k (ap (λ (l : List KeptSlot). get_or l q kept_slot.Free) (sym slots) ∙ e);
+      tells = λ q k h. fits.tells q k (subst (λ (l : List KeptSlot). TellsOf (get_or l q kept_slot.Free) k) slots h);
     })

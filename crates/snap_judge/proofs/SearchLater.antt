@@ -1,17 +1,16 @@
 -- Before an end, only those updates need to take place that end there, or that something open needs: others can take
 -- place behind it.
-use Rattle.std.proofs.Common.{◌≡◌, ◌≢◌, ℕ, zero, suc, ◌-◌, ◌<◌, ◌≤◌, ◌⊎◌, inl, inr, List, [], ◌∷◌, length, get_or}
+use Rattle.std.proofs.Common.{◌≡◌, ℕ, zero, suc, ◌-◌, ◌<◌, ◌⊎◌, inl, inr, List, [], ◌∷◌, length, get_or}
 use Rattle.std.proofs.Common.{refl, sym, ◌∙◌, ap, subst, arith}
 use Rattle.std.proofs.Math.ListN.{set}
-use Rattle.std.proofs.lemmas.Bool.{cases_eq}
 use Rattle.std.proofs.lemmas.List.{get_or-set_same, get_or-set_other, length-set, set_comm}
 use Rattle.snap_words.specs.Shape.{IsOneOf}
 use Rattle.snap_runs.specs.Operation.{Action, Sets, Sees, Operation}
 use Rattle.snap_runs.specs.Linearization.{Allows, after}
-use Rattle.snap_judge.specs.Steps.{Step, Calls, Ends, Waits, Slot, Free, Open, Taken, MayPass, passed, slot, with_slot}
+use Rattle.snap_judge.specs.Steps.{Step, Ends, Slot, Free, Open, Taken, MayPass, passed}
 use Rattle.snap_judge.specs.Steps.{Move, Take, Pass, Explains, CanBeExplained}
 use Rattle.snap_judge.proofs.SearchSlots.{at, open_not_taken, open_within, still_open, turned}
-use Rattle.snap_judge.specs.Choices.{Wants, MayWait, NotNow, Scans, Updates}
+use Rattle.snap_judge.specs.Choices.{MayWait, NotNow, Scans, Updates}
 
 -- how many operations take place before the next event
 pub leading : List Move → ℕ

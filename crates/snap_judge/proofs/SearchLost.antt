@@ -1,14 +1,14 @@
 -- A value that a scan still needs, and that no update will write again, must not be written over.
-use Rattle.std.proofs.Common.{◌≡◌, ◌≢◌, ℕ, zero, suc, ◌-◌, ◌<◌, ◌≤◌, ◌⊎◌, inl, inr, List, [], ◌∷◌, length, get_or}
-use Rattle.std.proofs.Common.{refl, sym, ◌∙◌, ap, subst, arith, drop}
+use Rattle.std.proofs.Common.{◌≡◌, ℕ, zero, suc, ◌-◌, ◌<◌, ◌⊎◌, inl, inr, List, [], ◌∷◌, length, get_or}
+use Rattle.std.proofs.Common.{refl, sym, ◌∙◌, ap, subst, drop}
 use Rattle.std.proofs.Math.ListN.{set}
 use Rattle.std.proofs.lemmas.Bool.{cases_eq}
 use Rattle.std.proofs.lemmas.List.{get_or-set_same, get_or-set_other, length-set}
 use Rattle.snap_runs.specs.Operation.{Action, Sets, Sees, Operation}
 use Rattle.snap_runs.specs.Linearization.{Allows, after}
-use Rattle.snap_judge.specs.Steps.{Step, Calls, Ends, Waits, Slot, Free, Open, Taken, MayPass, passed, slot, with_slot}
-use Rattle.snap_judge.specs.Steps.{Move, Take, Pass, Explains, CanBeExplained}
-use Rattle.snap_judge.proofs.SearchSlots.{at, one_open, open_not_taken, Apart, IsThere, place_of, passes_by, turned}
+use Rattle.snap_judge.specs.Steps.{Step, Calls, Ends, Waits, Slot, Free, Open, Taken, MayPass, passed}
+use Rattle.snap_judge.specs.Steps.{Move, Take, Pass, Explains}
+use Rattle.snap_judge.proofs.SearchSlots.{at, one_open, open_not_taken, passes_by}
 use Rattle.snap_judge.proofs.SearchMoves.{NoneOf, none_taken, none_passed, Writes, same_length}
 use Rattle.snap_judge.specs.Choices.{Wants}
 

@@ -1,14 +1,14 @@
 -- An event that may be passed is passed at once; and one that cannot be passed is never passed.
-use Rattle.std.proofs.Common.{◌≡◌, ℕ, zero, suc, ◌-◌, ◌<◌, ◌⊎◌, inl, inr, List, [], ◌∷◌, length, get_or}
-use Rattle.std.proofs.Common.{refl, sym, ◌∙◌, ap, subst}
+use Rattle.std.proofs.Common.{◌≡◌, ℕ, ◌-◌, ◌⊎◌, inl, inr, List, [], ◌∷◌}
+use Rattle.std.proofs.Common.{sym, ◌∙◌, ap, subst}
 use Rattle.std.proofs.Math.ListN.{set}
 use Rattle.std.proofs.lemmas.Bool.{cases_eq}
 use Rattle.std.proofs.lemmas.List.{get_or-set_same, get_or-set_other}
 use Rattle.snap_runs.specs.Operation.{Operation}
 use Rattle.snap_runs.specs.Linearization.{Allows, after}
-use Rattle.snap_judge.specs.Steps.{Step, Calls, Ends, Waits, Slot, Free, Open, Taken, MayPass, passed, slot, with_slot}
+use Rattle.snap_judge.specs.Steps.{Step, Calls, Slot, Free, Open, Taken, passed, slot}
 use Rattle.snap_judge.specs.Steps.{Move, Take, Pass, Explains, CanBeExplained}
-use Rattle.snap_judge.proofs.SearchSlots.{at, Apart, passes_by, passed_with, still_open, turned, open_within, taken_not_free}
+use Rattle.snap_judge.proofs.SearchSlots.{at, Apart, passes_by, passed_with, still_open, open_within, taken_not_free}
 
 -- No operation that is open is of the process of this event.
 abbrev pub IsClear : Step → List Slot → Type 0

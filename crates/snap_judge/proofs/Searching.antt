@@ -5,7 +5,7 @@ use Rattle.std.specs.Prelude.{replicate}
 use Rattle.std.specs.List.{All, Contains, find}
 use Rattle.std.specs.HashSet.{HashSet, PutsKey}
 use Rattle.std.proofs.lemmas.Bool.{cases_lt}
-use Rattle.std.proofs.lemmas.List.{length-append, length-map, get_or_append_left, take-take, take_all, drop_all, append-nil, get_or_past}
+use Rattle.std.proofs.lemmas.List.{length-append, length-map, get_or_append_left, take-take, take_all, drop_all, get_or_past}
 use Rattle.std.proofs.lemmas.List.{length-replicate, get_or-replicate}
 use Rattle.std.proofs.Math.Seq.{get_or-append_seam}
 use Rattle.std.proofs.lemmas.List.Sorted.{All-permutation}
@@ -19,9 +19,11 @@ use Rattle.snap_judge.specs.declared.config.Node.{Node}
 use Rattle.snap_judge.specs.declared.config.Entered.{Entered}
 use Rattle.snap_judge.specs.Steps.{Step, Slot, Waits, Free, CanBeExplained, Explains, Move, taken}
 use Rattle.snap_judge.specs.Kept.{Can, GoesOn, IsConfig, IsReached, IsSettled, IsStuck, KeepsCounts, MayNotPass}
+use Rattle.snap_judge.specs.Kept.{first, seen_as, TellsOf}
 use Rattle.snap_judge.specs.Kept.{AreSteps, IsStepOf, called_at, operation_of, rest_of, slot_of, slots_of, step_of_kept, steps_kept}
 use Rattle.snap_judge.specs.Nodes.{AreNodes, FailsBehind, HasCounts, HasSame, HasTried, IsEntered, IsNode, IsTried, NothingExplains, OnlyNodesLeft}
 use Rattle.snap_judge.proofs.SearchPass.{never_called}
+use Rattle.snap_judge.proofs.Leading.{explains_led, same_parts}
 use Rattle.snap_judge.proofs.Passing.{step_at}
 use Rattle.snap_judge.proofs.Goes.{kept_not_free, same_goes, same_turned}
 
@@ -91,9 +93,9 @@ module _ (n w : ℕ) (steps : List KeptStep) (order : List ℕ) (front : List No
   pub last_is : IsNode n w steps order node
   last_is = subst (IsNode n w steps order) (get_or-append_seam front node [] node) (are.each (length front) node at_end)
 
-  pub below_last : (k : ℕ) (d : Node) → k < length front → (get_or front k d).depth ≤ node.depth
+  pub below_last : (k : ℕ) (d : Node) → k < length front → (get_or front k d).depth < node.depth
   below_last k d lt =
-      let up = are.rising k (length front) d (omega (arith, lt)) at_end in
+      let up = are.rising k (length front) d lt at_end in
       let one = depth_before k d lt in
       let last : (get_or (front ++ node ∷ []) (length front) d).depth ≡ node.depth =
       ap (λ (x : Node). x.depth) (get_or-append_seam front node [] d) in
@@ -108,7 +110,7 @@ module _ (n w : ℕ) (steps : List KeptStep) (order : List ℕ) (front : List No
 -- One more node, that is at least as deep.
 pub one_more : (n w : ℕ) (steps : List KeptStep) (order : List ℕ) (front : List Node) (node : Node) →
     AreNodes n w steps order front → IsNode n w steps order node →
-    ((k : ℕ) (d : Node) → k < length front → (get_or front k d).depth ≤ node.depth) →
+    ((k : ℕ) (d : Node) → k < length front → (get_or front k d).depth < node.depth) →
     ((Can steps node.config → ⊥) → (d : Node) → FailsBehind n w steps d front (length front)) →
     AreNodes n w steps order (front ++ node ∷ [])
 one_more n w steps order front node are is deeper behind = record {
@@ -133,23 +135,20 @@ one_more n w steps order front node are is deeper behind = record {
     each_by k d lt (inl below) = subst (IsNode n w steps order) (sym (here k d below)) (are.each k d below)
     each_by k d lt (inr le) = subst (IsNode n w steps order) (sym (last k d lt le)) is
 
-    rising_by : (s t : ℕ) (d : Node) → s ≤ t → t < length (front ++ node ∷ []) →
+    rising_by : (s t : ℕ) (d : Node) → s < t → t < length (front ++ node ∷ []) →
         (s < length front) ⊎ (length front ≤ s) → (t < length front) ⊎ (length front ≤ t) →
-        (get_or (front ++ node ∷ []) s d).depth ≤ (get_or (front ++ node ∷ []) t d).depth
-    rising_by s t d le lt (inl below) (inl below') =
-        let one = ap (λ (x : Node). x.depth) (here s d below) in
-        let other = ap (λ (x : Node). x.depth) (here t d below') in
-        let up = are.rising s t d le below' in
+        (get_or (front ++ node ∷ []) s d).depth < (get_or (front ++ node ∷ []) t d).depth
+    rising_by s t d below lt (inl inside) (inl inside') =
+        let one = ap (λ (x : Node). x.depth) (here s d inside) in
+        let other = ap (λ (x : Node). x.depth) (here t d inside') in
+        let up = are.rising s t d below inside' in
         omega (arith, up, one, other)
-    rising_by s t d le lt (inl below) (inr past) =
-        let one = ap (λ (x : Node). x.depth) (here s d below) in
+    rising_by s t d below lt (inl inside) (inr past) =
+        let one = ap (λ (x : Node). x.depth) (here s d inside) in
         let other = ap (λ (x : Node). x.depth) (last t d lt past) in
-        let up = deeper s d below in
+        let up = deeper s d inside in
         omega (arith, up, one, other)
-    rising_by s t d le lt (inr past) at_t =
-        let one = ap (λ (x : Node). x.depth) (last s d (omega (arith, le, lt)) past) in
-        let other = ap (λ (x : Node). x.depth) (last t d lt (omega (arith, le, past))) in
-        omega (arith, one, other)
+    rising_by s t d below lt (inr past) at_t = absurd (omega (arith, below, lt, past, len))
 
     behind_by : (t : ℕ) (d : Node) → t < length (front ++ node ∷ []) →
         (Can steps (get_or (front ++ node ∷ []) t d).config → ⊥) → (t < length front) ⊎ (length front ≤ t) →
@@ -210,13 +209,31 @@ module _ (n w : ℕ) (steps : List KeptStep) (order order' : List ℕ) (front : 
   pub retried : AreNodes n w steps order' (front ++ node' ∷ [])
   retried =
       one_more n w steps order' front node'
-      (other_order n w steps order order' node.depth front (are_front n w steps order front node are) has.prefix has.deep
-      (below_last n w steps order front node are))
+      (other_order n w steps order order' node.depth front (are_front n w steps order front node are) has.prefix
+      (let deep = has.deep in omega (arith, deep))
+      (λ k d lt. let below = below_last n w steps order front node are k d lt in omega (arith, below)))
       is_now
       (λ k d lt. let below = below_last n w steps order front node are k d lt in
       let same = has.depth in omega (arith, below, same))
       (λ fails. (behind_last n w steps order front node are
       (λ can. fails (subst (Can steps) (sym has.config) can))).1)
+
+  -- what it has come to is deeper than each node
+  pub retried_deeper : (k : ℕ) (d : Node) → k < length (front ++ node' ∷ []) →
+      (get_or (front ++ node' ∷ []) k d).depth < length order'
+  retried_deeper k d lt = by_place (cases_lt k (length front))
+    where
+      by_place : (k < length front) ⊎ (length front ≤ k) → (get_or (front ++ node' ∷ []) k d).depth < length order'
+      by_place (inl inside) =
+          let same = ap (λ (x : Node). x.depth) (get_or_append_left front (node' ∷ []) d k inside) in
+          let below = below_last n w steps order front node are k d inside in
+          let deep = has.deep in omega (arith, same, below, deep)
+      by_place (inr past) =
+          let here : length front ≡ k = (let len = one_longer front node' in omega (arith, lt, past, len)) in
+          let same : (get_or (front ++ node' ∷ []) k d).depth ≡ node'.depth =
+          subst (λ (m : ℕ). (get_or (front ++ node' ∷ []) m d).depth ≡ node'.depth) here
+          (ap (λ (x : Node). x.depth) (get_or-append_seam front node' [] d)) in
+          let deep = has.deep in let depth = has.depth in omega (arith, same, deep, depth)
 
   pub retried_entered : IsEntered n w steps order' e
   retried_entered =
@@ -227,21 +244,21 @@ module _ (n w : ℕ) (steps : List KeptStep) (order order' : List ℕ) (front : 
   retried_left fails =
       left_of n w steps (front ++ node' ∷ []) node' (λ d. fails_last n w steps d front node' (has.tried fails))
 
+-- what holds of all nodes, of those before the last one and of that one
+pub all_front : (P : Node → Type 0) (front : List Node) (node : Node) → All P (front ++ node ∷ []) →
+    All P front × P node
+all_front P front node all = (
+  λ k d lt. subst P (get_or_append_left front (node ∷ []) d k lt)
+      (all k d (let len = one_longer front node in omega (arith, lt, len))),
+  subst P (get_or-append_seam front node [] node)
+      (all (length front) node (let len = one_longer front node in omega (arith, len))),
+)
+
 -- One more key, of which the same holds.
 pub put_key : {K S : Type 0} (P : K → Type 0) (s s' : HashSet K S) (k : K) (added : Bool) → PutsKey s s' k added →
     All P s.keys → P k → All P s'.keys
 put_key P s s' k true puts all p = All-permutation P (k ∷ s.keys) s'.keys puts (All-cons P k s.keys p all)
 put_key P s s' k false puts all p = subst (All P) (sym puts) all
-
--- what a look-up finds is there
-there_by : {K : Type 0} (x : K) (xs : List K) (r : Option K) (k : K) (b : Bool) → (r ≡ Some k → Contains xs k) →
-    cond b (Some x) r ≡ Some k → Contains (x ∷ xs) k
-there_by x xs r k true rest e = (0, omega arith, (let same : x ≡ k = cc in same))
-there_by x xs r k false rest e = let found = rest e in (suc found.0, (let lt = found.1 in omega (arith, lt)), found.2)
-
-pub found_there : {K : Type 0} (test : K → Bool) (ks : List K) (k : K) → find test ks ≡ Some k → Contains ks k
-found_there test [] k e = absurd (let no : ⊥ = cc in no)
-found_there test (x ∷ xs) k e = there_by x xs (find test xs) k (test x) (found_there test xs k) e
 
 -- Before a step that may not pass, and is no end, nothing explains the rest.
 pub no_end : (steps : List KeptStep) (c : Config) → IsStuck steps c →
@@ -271,6 +288,7 @@ ends_one n w steps t i are is = (subst (IsStepOf n w) is (are t)).0
 -- What the search has come to becomes a node that has tried nothing.
 module _ (n w : ℕ) (steps : List KeptStep) (order : List ℕ) (front : List Node) (e : Entered) (node : Node)
     (are : AreNodes n w steps order front) (entered : IsEntered n w steps order e) (shut : e.at_end ≡ false)
+    (deeper : (k : ℕ) (d : Node) → k < length front → (get_or front k d).depth < length order)
     (config : node.config ≡ e.config) (depth : node.depth ≡ length order) (next : node.next ≡ 0)
     (ending : get_or steps e.config.position kept_step.Waits ≡ kept_step.Ends (suc node.ending)) where
   is_new : IsNode n w steps order node
@@ -291,12 +309,8 @@ module _ (n w : ℕ) (steps : List KeptStep) (order : List ℕ) (front : List No
       AreNodes n w steps order (front ++ node ∷ [])
   entered_nodes left =
       one_more n w steps order front node are is_new
-      (λ k d lt. let le = (are.each k d lt).depth in omega (arith, le, depth))
+      (λ k d lt. let below = deeper k d lt in omega (arith, below, depth))
       (λ fails. (left (λ can. fails (subst (Can steps) (sym config) can))).1)
-
-  pub entered_left : OnlyNodesLeft n w steps (front ++ node ∷ [])
-  entered_left = left_of n w steps (front ++ node ∷ []) node
-      (λ d. fails_last n w steps d front node (λ p lt. absurd (omega (arith, lt, next))))
 
 -- Without nodes, nothing explains the history.
 pub without_nodes : (n w n' w' : ℕ) (steps : List KeptStep) (nodes : List Node) → n' ≡ n → w' ≡ w →
@@ -315,6 +329,16 @@ none_open n p j is = by_place (cases_lt p n)
         kept_not_free _ j is (get_or_past (replicate n kept_slot.Free) p kept_slot.Free
         (let len = length-replicate n kept_slot.Free in omega (arith, len, le)))
 
+none_told : (n p j : ℕ) → TellsOf (get_or (replicate n kept_slot.Free) p kept_slot.Free) j → ⊥
+none_told n p j h = by_place (cases_lt p n)
+  where
+    by_place : (p < n) ⊎ (n ≤ p) → ⊥
+    by_place (inl lt) =
+        subst (λ (s : KeptSlot). TellsOf s j) (get_or-replicate n p kept_slot.Free kept_slot.Free lt) h
+    by_place (inr le) =
+        subst (λ (s : KeptSlot). TellsOf s j) (get_or_past (replicate n kept_slot.Free) p kept_slot.Free
+        (let len = length-replicate n kept_slot.Free in omega (arith, len, le))) h
+
 all_free : (steps : List KeptStep) (n : ℕ) → map (slot_of steps) (replicate n kept_slot.Free) ≡ replicate n Free
 all_free steps zero = refl
 all_free steps (suc n) = ap (λ (l : List Slot). Free ∷ l) (all_free steps n)
@@ -325,6 +349,7 @@ module _ (n w : ℕ) (steps : List KeptStep) (c : Config) (position : c.position
   first_config = record {
     within = omega (arith, position);
     placed = λ p j is. absurd (none_open n p j (ap (λ (l : List KeptSlot). get_or l p kept_slot.Free) (sym slots) ∙ is));
+    tells = λ p j h. absurd (none_told n p j (subst (λ (l : List KeptSlot). TellsOf (get_or l p kept_slot.Free) j) slots h));
   }
 
   pub first_settled : IsSettled steps c
@@ -344,14 +369,11 @@ module _ (n w : ℕ) (steps : List KeptStep) (c : Config) (position : c.position
   first_count = ap length slots ∙ length-replicate n kept_slot.Free
 
   first_reached : IsReached steps [] c
-  first_reached moves e = (
-    moves,
-    subst (λ (m : ℕ). Explains moves (steps_kept steps) (replicate m 0) (replicate (length c.slots.items) Free))
-        (sym first_width)
-        (subst (λ (m : ℕ). Explains moves (steps_kept steps) (replicate w 0) (replicate m Free)) (sym first_count)
-        (subst (λ (S : List Slot). Explains moves (steps_kept steps) (replicate w 0) S) first_slots
-        (subst (λ (V : List ℕ). Explains moves (steps_kept steps) V (slots_of steps c)) values
-        (subst (λ (xs : List Step). Explains moves xs c.values.items (slots_of steps c)) first_rest e)))),
+  first_reached = (
+    [],
+    same_parts (first (length c.slots.items) (length c.values.items) steps) (seen_as steps c) (sym first_rest)
+        (ap (λ (m : ℕ). replicate m 0) first_width ∙ sym values)
+        (ap (λ (m : ℕ). replicate m Free) first_count ∙ sym first_slots),
     refl,
   )
 
@@ -384,24 +406,21 @@ pub explains_all : (n w n' w' : ℕ) (steps : List KeptStep) (order : List ℕ) 
     (moves : List Move) × Explains moves (steps_kept steps) (replicate w 0) (replicate n Free)
     × (taken moves ≡ map (called_at steps) order)
 explains_all n w n' w' steps order e count width entered end = (
-  all.0,
-  subst (λ (m : ℕ). Explains all.0 (steps_kept steps) (replicate m 0) (replicate n Free)) (entered.counts.1 ∙ width)
-      (subst (λ (m : ℕ). Explains all.0 (steps_kept steps) (replicate (length e.config.values.items) 0) (replicate m Free))
-      (entered.counts.0 ∙ count) all.1),
-  all.2 ∙ append-nil (map (called_at steps) order),
+  entered.reached.0,
+  subst (λ (m : ℕ). Explains entered.reached.0 (steps_kept steps) (replicate m 0) (replicate n Free))
+      (entered.counts.1 ∙ width)
+      (subst (λ (m : ℕ). Explains entered.reached.0 (steps_kept steps) (replicate (length e.config.values.items) 0)
+      (replicate m Free)) (entered.counts.0 ∙ count)
+      (explains_led entered.reached.0
+      (first (length e.config.slots.items) (length e.config.values.items) steps) (seen_as steps e.config)
+      entered.reached.1 nothing_left)),
+  entered.reached.2,
 )
   where
     nothing_left : rest_of steps e.config ≡ []
     nothing_left =
         drop_all e.config.position (steps_kept steps)
         (let len = length-map steps step_of_kept in let at = entered.at_end end in omega (arith, len, at))
-
-    all : (all : List Move)
-        × Explains all (steps_kept steps) (replicate (length e.config.values.items) 0)
-        (replicate (length e.config.slots.items) Free)
-        × (taken all ≡ map (called_at steps) order ++ [])
-    all = entered.reached []
-        (subst (λ (xs : List Step). Explains [] xs e.config.values.items (slots_of steps e.config)) (sym nothing_left) tt)
 
 -- from what is the same as what has failed nothing explains the rest
 pub same_fails : (steps : List KeptStep) (configs : List Config) (c : Config) →

@@ -1,17 +1,17 @@
 -- An update that is taken, and the scans behind it.
-use Rattle.std.proofs.Common.{◌≡◌, ℕ, ◌-◌, ◌<◌, List, [], ◌∷◌, ◌++◌, length, get_or, refl, sym, ◌∙◌, ap, subst}
+use Rattle.std.proofs.Common.{◌≡◌, ℕ, ◌-◌, List, [], ◌∷◌, ◌++◌, length, get_or, refl, sym, ◌∙◌, ap, subst, arith}
 use Rattle.std.proofs.Math.ListN.{set}
-use Rattle.std.proofs.lemmas.List.{length-set}
+use Rattle.std.proofs.lemmas.List.{length-append}
 use Rattle.snap_words.specs.Shape.{IsOneOf}
-use Rattle.snap_runs.specs.Operation.{Action, Sets, Operation}
+use Rattle.snap_runs.specs.Operation.{Sets}
 use Rattle.snap_runs.specs.Linearization.{Allows, after}
 use Rattle.snap_judge.specs.declared.config.Step.{Step as KeptStep}
 use Rattle.snap_judge.specs.declared.config.Slot.{Slot as KeptSlot}
 use Rattle.snap_judge.specs.declared.config.Slot.TheVariants as kept_slot
 use Rattle.snap_judge.specs.declared.config.Config.{Config}
 use Rattle.snap_judge.specs.Steps.{CanBeExplained, Taken}
-use Rattle.snap_judge.specs.Kept.{Can, GoesOn, IsConfig, IsReached, called_at, rest_of, slots_of}
-use Rattle.snap_judge.specs.Choices.{CanTaking, HasTaken}
+use Rattle.snap_judge.specs.Kept.{GoesOn, IsConfig, called_at, rest_of, slots_of}
+use Rattle.snap_judge.specs.Choices.{HasTaken}
 use Rattle.snap_judge.proofs.Goes.{grown, still_config, taken_can, took}
 
 index_of : KeptSlot → ℕ
@@ -37,6 +37,9 @@ has_taken steps order order' c mid c' p j word value position values slots is_wo
       (subst (λ (m : ℕ). CanBeExplained (rest_of steps c) (after c.values.items (called_at steps m).action)
       (set (slots_of steps c) p (Taken (called_at steps m)))) (one_index (sym can.1 ∙ is)) can.2));
   grows = grown order (order ++ j ∷ []) order' (j ∷ [], refl) goes.grows;
+  longer = (let whole : length order' ≡ length ((order ++ j ∷ []) ++ goes.grows.0) = ap length goes.grows.1 in
+      let last = length-append (order ++ j ∷ []) goes.grows.0 in
+      let first = length-append order (j ∷ []) in omega (arith, whole, last, first));
 }
   where
     values' : mid.values.items ≡ after c.values.items (called_at steps j).action

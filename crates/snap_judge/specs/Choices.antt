@@ -1,5 +1,5 @@
 -- What need not take place before an end that may not pass yet.
-use Rattle.std.specs.Prelude.{◌≡◌, ℕ, suc, ◌-◌, ◌<◌, ◌≤◌, List, length, slice_index_or, slice_set}
+use Rattle.std.specs.Prelude.{◌≡◌, ℕ, suc, ◌-◌, ◌<◌, List, length, slice_index_or, slice_set}
 use Rattle.snap_words.specs.Shape.{IsOneOf}
 use Rattle.snap_runs.specs.Operation.{Sets, Sees, Operation}
 use Rattle.snap_judge.specs.declared.config.Step.{Step as KeptStep}
@@ -73,3 +73,4 @@ pub record HasTaken (steps : List KeptStep) (p : ℕ) (order : List ℕ) (c : Co
   pub reached : IsConfig steps c → IsReached steps order c → IsReached steps order' c'
   pub explained : IsConfig steps c → CanTaking steps c p → Can steps c'
   pub grows : Grows order order'
+  pub longer : length order < length order'

@@ -7,13 +7,14 @@ use Rattle.snap_judge.specs.declared.judgements.Judgement.{Judgement}
 use Rattle.snap_judge.specs.declared.judgements.Judgement.TheVariants as judgement
 use Rattle.snap_judge.specs.History.{History}
 use Rattle.snap_judge.specs.Linearizable.{IsLinearizationOf, IsLinearizableHistory, up_to}
+use Rattle.snap_judge.specs.Configurations.{beginning, MeetsMoreThan}
 use Rattle.snap_judge.specs.Kept.{operation_of}
 
--- What is decided of a history is so.
-abbrev pub IsDecision : History → Decision → Type 0
-IsDecision h (decision.Linearizable order) = IsLinearizationOf h (map operation_of order.items)
-IsDecision h decision.NotLinearizable = IsLinearizableHistory h → ⊥
-IsDecision h decision.Undecided = Unit {0}
+-- What is decided of a history is so; it is left open only where there are more than `most` configurations to choose at.
+abbrev pub IsDecision : (most : ℕ) → History → Decision → Type 0
+IsDecision most h (decision.Linearizable order) = IsLinearizationOf h (map operation_of order.items)
+IsDecision most h decision.NotLinearizable = IsLinearizableHistory h → ⊥
+IsDecision most h decision.Undecided = MeetsMoreThan most (beginning h)
 
 -- Up to its event number k, counted from 1, the history is not linearizable; up to the event before it is.
 pub record FailsAt (h : History) (k : ℕ) : Type 0 where
@@ -21,9 +22,10 @@ pub record FailsAt (h : History) (k : ℕ) : Type 0 where
   pub before : IsLinearizableHistory (up_to (k - 1) h)
   pub fails : IsLinearizableHistory (up_to k h) → ⊥
 
--- What is said of a history is so: the order is a linearization of it; it fails at that event; or there is such an
--- event, and nothing is said of the history up to it.
-abbrev pub IsJudgement : History → Judgement → Type 0
-IsJudgement h (judgement.Linearizable order) = IsLinearizationOf h (map operation_of order.items)
-IsJudgement h (judgement.NotLinearizable k) = FailsAt h k
-IsJudgement h (judgement.Undecided k) = IsOneOf (length h.events) k
+-- What is said of a history is so: the order is a linearization of it; it fails at that event; or up to that event there
+-- are more than `most` configurations at which something has to be chosen.
+abbrev pub IsJudgement : (most : ℕ) → History → Judgement → Type 0
+IsJudgement most h (judgement.Linearizable order) = IsLinearizationOf h (map operation_of order.items)
+IsJudgement most h (judgement.NotLinearizable k) = FailsAt h k
+IsJudgement most h (judgement.Undecided k) =
+    IsOneOf (length h.events) k × MeetsMoreThan most (beginning (up_to k h))

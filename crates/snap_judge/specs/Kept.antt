@@ -1,7 +1,7 @@
 -- What a search keeps of a history and of where it stands, as the definitions have it.
-use Rattle.std.specs.Prelude.{◌≡◌, ℕ, suc, ◌-◌, ◌<◌, ◌≤◌, ◌++◌, List, [], ◌∷◌, Option, Some, None, length, map, drop}
+use Rattle.std.specs.Prelude.{◌≡◌, ℕ, suc, ◌<◌, ◌≤◌, ◌++◌, List, [], None, length, map, drop}
 use Rattle.std.specs.Prelude.{replicate, slice_index_or}
-use Rattle.snap_words.specs.Shape.{Counts, IsOneOf}
+use Rattle.snap_words.specs.Shape.{IsOneOf}
 use Rattle.snap_runs.specs.Operation.{Action, Sets, Sees, Operation}
 use Rattle.snap_judge.specs.declared.operation.Action.{Action as KeptAction}
 use Rattle.snap_judge.specs.declared.operation.Action.TheVariants as kept_action
@@ -11,7 +11,8 @@ use Rattle.snap_judge.specs.declared.config.Step.TheVariants as kept_step
 use Rattle.snap_judge.specs.declared.config.Slot.{Slot as KeptSlot}
 use Rattle.snap_judge.specs.declared.config.Slot.TheVariants as kept_slot
 use Rattle.snap_judge.specs.declared.config.Config.{Config}
-use Rattle.snap_judge.specs.Steps.{Step, Calls, Ends, Waits, Slot, Free, Open, Taken, slot, CanBeExplained, Explains, Move, taken}
+use Rattle.snap_judge.specs.Configurations.{Configuration, Leads}
+use Rattle.snap_judge.specs.Steps.{Step, Calls, Ends, Waits, Slot, Free, Open, Taken, slot, CanBeExplained, Move, taken}
 
 abbrev pub action_of : KeptAction → Action
 action_of (kept_action.Sets word value) = Sets word value
@@ -51,24 +52,41 @@ rest_of steps c = drop c.position (steps_kept steps)
 abbrev pub slots_of : List KeptStep → Config → List Slot
 slots_of steps c = map (slot_of steps) c.slots.items
 
+-- where it stands, and where one stands before the first of the steps
+abbrev pub seen_as : List KeptStep → Config → Configuration
+seen_as steps c = record { left = rest_of steps c; values = c.values.items; slots = slots_of steps c }
+
+abbrev pub first : (n w : ℕ) → List KeptStep → Configuration
+first n w steps = record { left = steps_kept steps; values = replicate w 0; slots = replicate n Free }
+
 -- From there on, the history can be explained.
 abbrev pub Can : List KeptStep → Config → Type 0
 Can steps c = CanBeExplained (rest_of steps c) c.values.items (slots_of steps c)
 
--- Where these operations have taken place in this order, the search stands there: what explains the rest of the
--- history explains with them the whole of it.
+-- Moves lead there from the first step on, and these operations take place in this order.
 abbrev pub IsReached : List KeptStep → List ℕ → Config → Type 0
 IsReached steps order c =
-    (moves : List Move) → Explains moves (rest_of steps c) c.values.items (slots_of steps c) →
-    (all : List Move)
-    × Explains all (steps_kept steps) (replicate (length c.values.items) 0) (replicate (length c.slots.items) Free)
-    × (taken all ≡ map (called_at steps) order ++ taken moves)
+    (moves : List Move)
+    × Leads moves (first (length c.slots.items) (length c.values.items) steps) (seen_as steps c)
+    × (taken moves ≡ map (called_at steps) order)
 
--- A slot that is open tells of an operation of its process.
+-- Step t calls an operation of the process whose place this is.
+abbrev pub IsCallOf : List KeptStep → (t place : ℕ) → Type 0
+IsCallOf steps t place =
+    (o : KeptOperation) × (slice_index_or steps t kept_step.Waits ≡ kept_step.Calls o) × (o.process ≡ suc place)
+
+-- The slot tells of what step j calls.
+abbrev pub TellsOf : KeptSlot → ℕ → Type 0
+TellsOf kept_slot.Free j = ⊥
+TellsOf (kept_slot.Open k) j = k ≡ j
+TellsOf (kept_slot.Taken k) j = k ≡ j
+
+-- A slot tells of an operation of its process.
 pub record IsConfig (steps : List KeptStep) (c : Config) : Type 0 where
   pub within : c.position ≤ length steps
   pub placed : (p j : ℕ) → slice_index_or c.slots.items p kept_slot.Free ≡ kept_slot.Open j →
       ((called_at steps j).process ≡ suc p) × (j < length steps)
+  pub tells : (p j : ℕ) → TellsOf (slice_index_or c.slots.items p kept_slot.Free) j → IsCallOf steps j p
 
 -- Operations have been added to an order.
 abbrev pub Grows : List ℕ → List ℕ → Type 0
@@ -122,11 +140,6 @@ pub record KeepsCounts (c c' : Config) : Type 0 where
   pub slots : length c'.slots.items ≡ length c.slots.items
   pub values : length c'.values.items ≡ length c.values.items
 
--- Step t calls an operation of the process whose place this is.
-abbrev pub IsCallOf : List KeptStep → (t place : ℕ) → Type 0
-IsCallOf steps t place =
-    (o : KeptOperation) × (slice_index_or steps t kept_step.Waits ≡ kept_step.Calls o) × (o.process ≡ suc place)
-
 -- The step may not pass: a call where something is open, or the end of what has not taken place.
 abbrev pub MayNotPass : List Slot → Step → Type 0
 MayNotPass slots (Calls o) = slot slots o.process ≡ Free → ⊥
@@ -144,3 +157,8 @@ pub record IsSameConfig (c c' : Config) : Type 0 where
   pub position : c'.position ≡ c.position
   pub values : c'.values.items ≡ c.values.items
   pub slots : c'.slots.items ≡ c.slots.items
+
+-- No two of the steps call operations of the same number.
+abbrev pub AreNumbered : List KeptStep → Type 0
+AreNumbered steps = (j k : ℕ) (o o' : KeptOperation) → slice_index_or steps j kept_step.Waits ≡ kept_step.Calls o →
+    slice_index_or steps k kept_step.Waits ≡ kept_step.Calls o' → o.call ≡ o'.call → j ≡ k

@@ -2,6 +2,7 @@
 pub mod History
 pub mod Linearizable
 pub mod Steps
+pub mod Configurations
 pub mod Kept
 pub mod Choices
 pub mod Nodes

@@ -1,6 +1,7 @@
 -- How far a search is: the nodes at which it has to choose, each with what it has tried there.
-use Rattle.std.specs.Prelude.{◌≡◌, ℕ, zero, suc, ◌<◌, ◌≤◌, ◌⊎◌, true, false, List, [], ◌∷◌, ◌++◌, length, slice_index_or, take, map, replicate}
-use Rattle.std.specs.List.{All, Contains}
+use Rattle.std.specs.Prelude.{◌≡◌, ℕ, zero, suc, ◌+◌, ◌<◌, ◌≤◌, ◌⊎◌, true, false, List, [], ◌∷◌, ◌++◌, length, slice_index_or, take, map, replicate}
+use Rattle.std.specs.List.{All, Contains, IsDistinct}
+use Rattle.snap_judge.specs.contracts.config.ConfigPartialEq.TheImpl as config_eq
 use Rattle.snap_judge.specs.declared.config.Step.{Step as KeptStep}
 use Rattle.snap_judge.specs.declared.config.Step.TheVariants as kept_step
 use Rattle.snap_judge.specs.declared.config.Config.{Config}
@@ -10,7 +11,8 @@ use Rattle.snap_judge.specs.declared.config.Found.{Found}
 use Rattle.snap_judge.specs.declared.config.Found.TheVariants as found
 use Rattle.snap_judge.specs.declared.search.Trail.{Trail}
 use Rattle.snap_judge.specs.Steps.{Free, CanBeExplained, Explains, Move, taken}
-use Rattle.snap_judge.specs.Kept.{AreSteps, Can, IsConfig, IsReached, IsSameConfig, IsSettled, IsStuck, called_at, steps_kept}
+use Rattle.snap_judge.specs.Configurations.{MeetsMoreThan}
+use Rattle.snap_judge.specs.Kept.{AreSteps, Can, first, IsConfig, IsReached, IsSameConfig, IsSettled, IsStuck, called_at, steps_kept}
 use Rattle.snap_judge.specs.Choices.{CanTaking, NotNowAt}
 
 -- The number of processes and of words that a search goes on with.
@@ -61,7 +63,7 @@ pub record HasEntered (steps : List KeptStep) (node : Node) (p : ℕ) (order ord
     Type 0 where
   pub entered : IsEntered (length node.config.slots.items) (length node.config.values.items) steps order' e
   pub prefix : take node.depth order' ≡ take node.depth order
-  pub deep : node.depth ≤ length order'
+  pub deep : node.depth < length order'
   pub tried : CanTaking steps node.config p → Can steps e.config
 
 -- A node has tried what was next: it is tried once nothing explains the rest from what it has come to.
@@ -69,25 +71,46 @@ pub record HasTried (steps : List KeptStep) (node node' : Node) (order order' : 
   pub is_node : IsNode (length node.config.slots.items) (length node.config.values.items) steps order' node'
   pub config : node'.config ≡ node.config
   pub depth : node'.depth ≡ node.depth
+  pub next : node.next < node'.next
   pub entered : IsEntered (length node.config.slots.items) (length node.config.values.items) steps order' e
   pub prefix : take node.depth order' ≡ take node.depth order
-  pub deep : node.depth ≤ length order'
+  pub deep : node.depth < length order'
   pub tried : (Can steps e.config → ⊥) → IsTried steps node'
 
 -- The nodes of a search from the first on: their depths rise, and where nothing explains the rest from one of them,
 -- what is known behind those before it follows.
 pub record AreNodes (n w : ℕ) (steps : List KeptStep) (order : List ℕ) (nodes : List Node) : Type 0 where
   pub each : All (IsNode n w steps order) nodes
-  pub rising : (s t : ℕ) (d : Node) → s ≤ t → t < length nodes →
-      (slice_index_or nodes s d).depth ≤ (slice_index_or nodes t d).depth
+  pub rising : (s t : ℕ) (d : Node) → s < t → t < length nodes →
+      (slice_index_or nodes s d).depth < (slice_index_or nodes t d).depth
   pub behind : (t : ℕ) (d : Node) → t < length nodes → (Can steps (slice_index_or nodes t d).config → ⊥) →
       FailsBehind n w steps d nodes t
 
--- The nodes are those of a search of these steps, and from what has failed nothing explains the rest.
+-- The search has been there, by some order, before a step that may not pass.
+pub record IsMet (n w : ℕ) (steps : List KeptStep) (c : Config) : Type 0 where
+  pub counts : HasCounts n w c
+  pub config : IsConfig steps c
+  pub stuck : IsStuck steps c
+  pub order : List ℕ
+  pub reached : IsReached steps order c
+
+-- One of these is the same as this configuration.
+abbrev pub HasSame : List Config → Config → Type 0
+HasSame configs c = (c' : Config) × Contains configs c' × IsSameConfig c' c
+
+-- The nodes are those of a search of these steps; from what has failed nothing explains the rest, no two of it are the
+-- same, and no node is the same as any of it.
 pub record IsTrail (steps : List KeptStep) (trail : Trail) : Type 0 where
   pub are_steps : AreSteps trail.processes trail.words steps
   pub nodes : AreNodes trail.processes trail.words steps trail.order.items trail.nodes.items
   pub failed : All (λ (c : Config). Can steps c → ⊥) trail.failed.keys
+  pub met : All (IsMet trail.processes trail.words steps) trail.failed.keys
+  pub unique : IsDistinct (config_eq.ghosts).eq trail.failed.keys
+  pub apart : All (λ (node : Node). HasSame trail.failed.keys node.config → ⊥) trail.nodes.items
+
+-- how many configurations it keeps: those of its nodes, and those that have failed
+abbrev pub kept_by : Trail → ℕ
+kept_by trail = length trail.nodes.items + length trail.failed.keys
 
 -- Nothing is left to try but what these nodes have not tried; without nodes, nothing explains the history.
 abbrev pub OnlyNodesLeft : (n w : ℕ) → List KeptStep → List Node → Type 0
@@ -98,30 +121,37 @@ OnlyNodesLeft n w steps nodes =
 abbrev pub NothingLeft : List KeptStep → Trail → Type 0
 NothingLeft steps trail = OnlyNodesLeft trail.processes trail.words steps trail.nodes.items
 
--- The search has come to this by the order of the trail; where nothing explains the rest from there, nothing is left
--- but what the nodes have not tried.
+-- It is the end of the history; or it is not the same as any of these that have failed, and an end comes next.
+abbrev pub IsAlive : List KeptStep → (failed : List Config) → Entered → Type 0
+IsAlive steps failed e = e.at_end ≡ false →
+    (HasSame failed e.config → ⊥)
+    × ((p : ℕ) × (slice_index_or steps e.config.position kept_step.Waits ≡ kept_step.Ends (suc p)))
+
+-- The search has come to this by the order of the trail, for the first time; where nothing explains the rest from
+-- there, nothing is left but what the nodes have not tried.
 pub record IsAt (steps : List KeptStep) (trail : Trail) (e : Entered) : Type 0 where
   pub entered : IsEntered trail.processes trail.words steps trail.order.items e
+  pub deeper : (t : ℕ) (d : Node) → t < length trail.nodes.items →
+      (slice_index_or trail.nodes.items t d).depth < length trail.order.items
+  pub alive : IsAlive steps trail.failed.keys e
   pub left : (Can steps e.config → ⊥) → NothingLeft steps trail
 
--- It was the last node of the trail, and what it has tried is known.
+-- It was the last node of the trail, and what it has tried is known; it is not the same as what has failed.
 pub record HasNode (steps : List KeptStep) (trail : Trail) (node : Node) : Type 0 where
   pub nodes : AreNodes trail.processes trail.words steps trail.order.items (trail.nodes.items ++ node ∷ [])
   pub tried : IsTried steps node
+  pub apart : HasSame trail.failed.keys node.config → ⊥
 
 -- The trail is of as many processes and words as before.
 pub record KeepsTrailCounts (trail trail' : Trail) : Type 0 where
   pub processes : trail'.processes ≡ trail.processes
   pub words : trail'.words ≡ trail.words
 
--- One of these is the same as this configuration.
-abbrev pub HasSame : List Config → Config → Type 0
-HasSame configs c = (c' : Config) × Contains configs c' × IsSameConfig c' c
-
--- What a search has found is so: the order explains the history, or nothing does.
-abbrev pub IsFound : (n w : ℕ) → List KeptStep → Found → Type 0
-IsFound n w steps (found.Explained order) =
+-- What a search has found is so: the order explains the history, or nothing does, or there are more than `most`
+-- configurations at which it has to choose.
+abbrev pub IsFound : (most n w : ℕ) → List KeptStep → Found → Type 0
+IsFound most n w steps (found.Explained order) =
     (moves : List Move) × Explains moves (steps_kept steps) (replicate w 0) (replicate n Free)
     × (taken moves ≡ map (called_at steps) order.items)
-IsFound n w steps found.Unexplained = NothingExplains n w steps
-IsFound n w steps found.Undecided = Unit {0}
+IsFound most n w steps found.Unexplained = NothingExplains n w steps
+IsFound most n w steps found.Undecided = MeetsMoreThan most (first n w steps)

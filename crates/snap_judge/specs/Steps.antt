@@ -6,7 +6,7 @@ use Rattle.snap_semantics.specs.declared.event.Event.{Event}
 use Rattle.snap_semantics.specs.declared.event.Happening.{Happening}
 use Rattle.snap_semantics.specs.declared.event.Happening.TheVariants as what
 use Rattle.snap_semantics.specs.declared.process.Op.TheVariants as op
-use Rattle.snap_runs.specs.Operation.{Action, Sets, Sees, Operation}
+use Rattle.snap_runs.specs.Operation.{Sets, Sees, Operation}
 use Rattle.snap_runs.specs.Linearization.{Allows, after}
 use Rattle.snap_judge.specs.History.{History, IsHistory}
 use Rattle.snap_judge.specs.Linearizable.{IsLinearizationOf}

@@ -106,7 +106,7 @@ pub fn decide(
 ) -> Result<Decision, AllocError>
     requires history { IsHistory history.now }
     requires count { count ≤ length history.now.events }
-    ensures { IfOk result (IsDecision (up_to count history.now)) }
+    ensures { IfOk result (IsDecision most (up_to count history.now)) }
 {
     let steps = steps_of(alloc, &history.events[..count])?;
     let processes = history.shape.n() as usize;

@@ -25,7 +25,7 @@ pub enum Judgement {
 fn failure(alloc: Global, history: &History, most: usize) -> Result<Judgement, AllocError>
     requires history { IsHistory history.now }
     requires fails { IsLinearizableHistory history.now → ⊥ }
-    ensures { IfOk result (IsJudgement history.now) }
+    ensures { IfOk result (IsJudgement most history.now) }
 {
     let mut holds = 0;
     let mut fails = history.events.len();
@@ -40,15 +40,18 @@ fn failure(alloc: Global, history: &History, most: usize) -> Result<Judgement, A
     Ok(Judgement::NotLinearizable(fails))
 }
 
-/// Judges whether a history is linearizable, and where it is not, at which event it fails. A search
-/// takes at most `most` turns for the whole history, and so for each beginning of it that is tried.
+/// Judges whether a history is linearizable, and where it is not, at which event it fails.
+///
+/// A search keeps a list of at most `most` configurations, no two of them the same, for the whole
+/// history, and so for each beginning of it that is tried. What more of them would decide is
+/// answered as undecided.
 ///
 /// # Errors
 ///
 /// There is no memory for it.
 pub fn judge(alloc: Global, history: &History, most: usize) -> Result<Judgement, AllocError>
     requires { IsHistory history.now }
-    ensures { IfOk result (IsJudgement history.now) }
+    ensures { IfOk result (IsJudgement most history.now) }
 {
     let count = history.events.len();
     if count == 0 {

@@ -1,8 +1,9 @@
 //! A search for an order in which all operations of a history take place.
 ghost use Rattle.std.specs.Prelude.{◌≡◌, ◌<◌, ℕ, [], length, slice_index_or, suc, true, false};
 ghost use Rattle.std.specs.Prelude.{IfNone, IfOk, IfSome, OnOk};
-ghost use Rattle.snap_judge.specs.Kept.{AreSteps, IsSameConfig};
-ghost use Rattle.snap_judge.specs.Nodes.{HasNode, HasSame, IsAt, IsFound, IsTrail};
+ghost use Rattle.std.specs.List.{All};
+ghost use Rattle.snap_judge.specs.Kept.{AreNumbered, AreSteps, Can, IsConfig, IsStuck};
+ghost use Rattle.snap_judge.specs.Nodes.{HasNode, IsAlive, IsAt, IsFound, IsTrail, kept_by};
 ghost use Rattle.snap_judge.specs.Nodes.{KeepsTrailCounts, NothingExplains, NothingLeft};
 ghost use Rattle.snap_judge.specs.declared.config.Step.TheVariants as kept_step;
 
@@ -24,64 +25,6 @@ struct Trail {
     order: Vec<usize>,
 }
 
-/// Whether two slots are the same.
-fn is_same_slot(one: Slot, other: Slot) -> bool
-    ensures { result ≡ true → other ≡ one }
-{
-    match one {
-        Slot::Free => match other {
-            Slot::Free => true,
-            _ => false,
-        },
-        Slot::Open(call) => match other {
-            Slot::Open(called) => called == call,
-            _ => false,
-        },
-        Slot::Taken(call) => match other {
-            Slot::Taken(called) => called == call,
-            _ => false,
-        },
-    }
-}
-
-/// Whether these are the same slots.
-fn are_same_slots(one: &[Slot], other: &[Slot]) -> bool
-    ensures { result ≡ true → other.now ≡ one.now }
-{
-    if one.len() != other.len() {
-        return false;
-    }
-    for place in 0..one.len() {
-        if !is_same_slot(one[place], other[place]) {
-            return false;
-        }
-    }
-    true
-}
-
-/// Whether these are the same configuration.
-fn is_same(one: &Config, other: &Config) -> bool
-    ensures { result ≡ true → IsSameConfig one.now other.now }
-{
-    if one.position != other.position {
-        return false;
-    }
-    if one.values.as_slice() != other.values.as_slice() {
-        return false;
-    }
-    are_same_slots(one.slots.as_slice(), other.slots.as_slice())
-}
-
-/// Whether the configuration is one of those from which nothing explains the rest.
-fn has_failed(failed: &HashSet<Config>, config: &Config) -> bool
-    ensures { result ≡ true → HasSame failed.now.keys config.now }
-{
-    match failed.get(config) {
-        Some(found) => is_same(found, config),
-        None => false,
-    }
-}
-
 /// Returns the place of the process whose end this step is, where it is an end.
 fn ending_at(steps: &[Step], position: usize) -> Option<usize>
     requires position { position < length steps.now }
@@ -99,15 +42,42 @@ fn ending_at(steps: &[Step], position: usize) -> Option<usize>
     }
 }
 
-/// Goes to the first configuration, and passes what can be passed.
-fn start(alloc: Global, steps: &[Step], trail: &mut Trail) -> Result<Entered, AllocError>
+/// Whether nothing explains the rest from what the search has come to, as is known already: the
+/// same configuration has failed before, or the next step is no end.
+fn is_dead(steps: &[Step], failed: &HashSet<Config>, entered: &Entered) -> bool
+    requires config { IsConfig steps.now entered.now.config }
+    requires stuck { entered.now.at_end ≡ false → IsStuck steps.now entered.now.config }
+    requires process { (i : ℕ) → slice_index_or steps.now entered.now.config.position
+        kept_step.Waits ≡ kept_step.Ends i → 0 < i }
+    requires failed { All (λ c. Can steps.now c → ⊥) failed.now.keys }
+    ensures dead { result ≡ true → Can steps.now entered.now.config → ⊥ }
+    ensures alive { result ≡ false → IsAlive steps.now failed.now.keys entered.now }
+{
+    if entered.at_end {
+        return false;
+    }
+    if failed.contains(&entered.config) {
+        return true;
+    }
+    match ending_at(steps, entered.config.position) {
+        Some(_) => false,
+        None => true,
+    }
+}
+
+/// Goes to the first configuration, and passes what can be passed. Returns what the search has come
+/// to, or that nothing explains the history.
+fn start(alloc: Global, steps: &[Step], trail: &mut Trail) -> Result<Option<Entered>, AllocError>
     requires steps { AreSteps trail.old.processes trail.old.words steps.now }
     requires nodes { trail.old.nodes.items ≡ [] }
     requires failed { trail.old.failed.keys ≡ [] }
     requires order { trail.old.order.items ≡ [] }
     ensures trail { OnOk result (IsTrail steps.now trail.new) }
-    ensures at { IfOk result (λ e. IsAt steps.now trail.new e) }
+    ensures some { IfOk result (λ r. IfSome r (λ e. IsAt steps.now trail.new e)) }
+    ensures none { IfOk result (λ r. IfNone r
+        (NothingExplains trail.old.processes trail.old.words steps.now)) }
     ensures kept { KeepsTrailCounts trail.old trail.new }
+    ensures count { OnOk result (kept_by trail.new ≡ 0) }
 {
     let mut config = Config {
         position: 0,
@@ -115,7 +85,11 @@ fn start(alloc: Global, steps: &[Step], trail: &mut Trail) -> Result<Entered, Al
         slots: vec![in alloc; Slot::Free; trail.processes]?,
     };
     let at_end = advance(steps, &mut config, &mut trail.order)?;
-    Ok(Entered { config, at_end })
+    let entered = Entered { config, at_end };
+    if is_dead(steps, &trail.failed, &entered) {
+        return Ok(None);
+    }
+    Ok(Some(entered))
 }
 
 /// Tries what is next at a node that was the last one. Returns what the search has come to, or that
@@ -128,18 +102,17 @@ fn retry(steps: &[Step], trail: &mut Trail, mut node: Node) -> Result<Option<Ent
     ensures some { IfOk result (λ r. IfSome r (λ e. IsAt steps.now trail.new e)) }
     ensures none { IfOk result (λ r. IfNone r (NothingLeft steps.now trail.new)) }
     ensures fewer { IfOk result (λ r. IfNone r (trail.new.nodes.items ≡ trail.old.nodes.items)) }
+    ensures count { OnOk result (kept_by trail.new ≡ suc (kept_by trail.old)) }
 {
-    match try_next(steps, &mut node, &mut trail.order)? {
-        Some(entered) => {
+    while let Some(entered) = try_next(steps, &mut node, &mut trail.order)? {
+        if !is_dead(steps, &trail.failed, &entered) {
             trail.nodes.push(node)?;
-            Ok(Some(entered))
-        }
-        None => {
-            let Node { config, .. } = node;
-            trail.failed.insert(config)?;
-            Ok(None)
+            return Ok(Some(entered));
         }
     }
+    let Node { config, .. } = node;
+    trail.failed.insert(config)?;
+    Ok(None)
 }
 
 /// Goes back to the last node at which something is left to try, and tries it. Returns what the
@@ -152,6 +125,7 @@ fn descend(steps: &[Step], trail: &mut Trail) -> Result<Option<Entered>, AllocEr
     ensures some { IfOk result (λ r. IfSome r (λ e. IsAt steps.now trail.new e)) }
     ensures none { IfOk result (λ r. IfNone r
         (NothingExplains trail.old.processes trail.old.words steps.now)) }
+    ensures count { IfOk result (λ r. IfSome r (λ _. kept_by trail.new ≡ kept_by trail.old)) }
 {
     while let Some(node) = trail.nodes.pop() {
         if let Some(entered) = retry(steps, trail, node)? {
@@ -161,7 +135,7 @@ fn descend(steps: &[Step], trail: &mut Trail) -> Result<Option<Entered>, AllocEr
     Ok(None)
 }
 
-/// Makes a node of what the search has come to, unless nothing explains the rest from there.
+/// Makes a node of what the search has come to.
 fn enter_node(steps: &[Step], trail: &mut Trail, entered: Entered) -> Result<(), AllocError>
     requires trail { IsTrail steps.now trail.old }
     requires at { IsAt steps.now trail.old entered }
@@ -169,11 +143,9 @@ fn enter_node(steps: &[Step], trail: &mut Trail, entered: Entered) -> Result<(),
     ensures trail { OnOk result (IsTrail steps.now trail.new) }
     ensures kept { KeepsTrailCounts trail.old trail.new }
     ensures left { OnOk result (NothingLeft steps.now trail.new) }
+    ensures count { OnOk result (kept_by trail.new ≡ suc (kept_by trail.old)) }
 {
     let Entered { config, at_end: _ } = entered;
-    if has_failed(&trail.failed, &config) {
-        return Ok(());
-    }
     let Some(ending) = ending_at(steps, config.position) else {
         return Ok(());
     };
@@ -198,14 +170,18 @@ fn go_on(steps: &[Step], trail: &mut Trail, entered: Entered) -> Result<Option<E
     ensures some { IfOk result (λ r. IfSome r (λ e. IsAt steps.now trail.new e)) }
     ensures none { IfOk result (λ r. IfNone r
         (NothingExplains trail.old.processes trail.old.words steps.now)) }
+    ensures count { IfOk result (λ r. IfSome r
+        (λ _. kept_by trail.new ≡ suc (kept_by trail.old))) }
 {
     enter_node(steps, trail, entered)?;
     descend(steps, trail)
 }
 
-/// Searches for an order in which all operations take place, in at most so many turns.
+/// Searches for an order in which all operations take place. It keeps at most so many
+/// configurations, and no two that are the same: those at which it has a choice left, and those
+/// from which nothing explains the rest.
 ///
-/// Returns that it has not decided where the turns do not suffice.
+/// Returns that it has not decided where there are more of them.
 ///
 /// # Errors
 ///
@@ -217,8 +193,9 @@ pub fn search(
     words: usize,
     most: usize,
 ) -> Result<Found, AllocError>
-    requires { AreSteps processes words steps.now }
-    ensures { IfOk result (IsFound processes words steps.now) }
+    requires steps { AreSteps processes words steps.now }
+    requires numbered { AreNumbered steps.now }
+    ensures { IfOk result (IsFound most processes words steps.now) }
 {
     let mut trail = Trail {
         processes,
@@ -227,7 +204,9 @@ pub fn search(
         failed: HashSet::new(alloc),
         order: Vec::new(alloc),
     };
-    let mut entered = start(alloc, steps, &mut trail)?;
+    let Some(mut entered) = start(alloc, steps, &mut trail)? else {
+        return Ok(Found::Unexplained);
+    };
     for _ in 0..most {
         if entered.at_end {
             let Trail { order, .. } = trail;
@@ -237,6 +216,10 @@ pub fn search(
             return Ok(Found::Unexplained);
         };
         entered = next;
+    }
+    if entered.at_end {
+        let Trail { order, .. } = trail;
+        return Ok(Found::Explained(order));
     }
     Ok(Found::Undecided)
 }

@@ -47,6 +47,37 @@ fn done(item: u64, process: u32) -> Event
     }
 }
 
+/// A process calls an update of word 2 to 8.
+fn update_of_second(item: u64, process: u32) -> Event
+    ensures { result ≡ record {
+      item = item;
+      process = process;
+      what = what.Call (op.Update 2 8);
+    } }
+{
+    Event {
+        item,
+        process,
+        what: Happening::Call(Op::Update { word: 2, value: 8 }),
+    }
+}
+
+/// The scan of a process sees 0 in word 1 and 8 in word 2.
+fn answer_of_second(alloc: Global, item: u64, process: u32) -> Result<Event, AllocError>
+    ensures { IfOk result (λ e. e ≡ record {
+      item = item;
+      process = process;
+      what = what.Answer (0 ∷ 8 ∷ 0 ∷ []);
+    }) }
+{
+    let view = View::of(vec![in alloc; 0, 8, 0]?);
+    Ok(Event {
+        item,
+        process,
+        what: Happening::Answer(view),
+    })
+}
+
 /// The scan of a process sees this value in word 1, and zeros.
 fn answer(alloc: Global, item: u64, process: u32, value: u64) -> Result<Event, AllocError>
     ensures { IfOk result (λ e. e ≡ record {
@@ -99,5 +130,43 @@ pub fn open_update(alloc: Global, first: u64, last: u64) -> Result<History, Fail
         scan(4, 2),
         last_view,
     ]?;
+    Ok(History { shape, events })
+}
+
+/// A scan that is open while word 1 is set to 7, and then word 2 to 8: it sees the second update,
+/// and not the first one, though both have ended before it does.
+pub fn second_without_first(alloc: Global) -> Result<History, Fail>
+    ensures { IfOk result IsHistory }
+{
+    let shape = Shape::new(3, 3)?;
+    let view = answer_of_second(alloc, 6, 3)?;
+    let events = vec![in alloc;
+        update(1, 1, 7),
+        scan(2, 3),
+        update_of_second(3, 2),
+        done(4, 1),
+        done(5, 2),
+        view,
+    ]?;
+    Ok(History { shape, events })
+}
+
+/// An update of word 1 to 7 that has ended, and a scan after it that sees `seen`.
+pub fn ended_update(alloc: Global, seen: u64) -> Result<History, Fail>
+    ensures { IfOk result IsHistory }
+{
+    let shape = Shape::new(3, 3)?;
+    let view = answer(alloc, 4, 3, seen)?;
+    let events = vec![in alloc; update(1, 1, 7), done(2, 1), scan(3, 3), view]?;
+    Ok(History { shape, events })
+}
+
+/// A scan of words that nobody has set.
+pub fn scan_alone(alloc: Global) -> Result<History, Fail>
+    ensures { IfOk result IsHistory }
+{
+    let shape = Shape::new(3, 3)?;
+    let view = answer(alloc, 2, 3, 0)?;
+    let events = vec![in alloc; scan(1, 3), view]?;
     Ok(History { shape, events })
 }

@@ -1,6 +1,6 @@
 -- `advance` of snap_judge (src/advance.rt).
-use Rattle.std.proofs.Common.{◌≡◌, ℕ, suc, ◌+◌, refl, sym, ◌∙◌, arith, rules, true, false}
-use Rattle.snap_judge.specs.Kept.{GoesOn, IsConfig, IsSettled, KeepsCounts}
+use Rattle.std.proofs.Common.{◌∙◌, arith, rules}
+use Rattle.snap_judge.specs.Kept.{KeepsCounts}
 use Rattle.snap_judge.specs.declared.config.Config.{Config}
 use Rattle.snap_judge.proofs.Goes.{goes_on}
 use Rattle.snap_judge.proofs.advance.advance.Goals as goal

@@ -1,5 +1,5 @@
 -- `advance` of snap_judge (src/advance.rt): what its loop keeps.
-use Rattle.std.proofs.Common.{◌≡◌, ◌<◌, ◌≤◌, ℕ, length}
+use Rattle.std.proofs.Common.{◌≡◌, length}
 use Rattle.snap_judge.specs.Kept.{GoesOn, IsConfig, IsSettled, KeepsCounts}
 use Rattle.snap_judge.proofs.advance.advance.Given as goal
 

@@ -1,5 +1,5 @@
 -- `pass_call` of snap_judge (src/advance.rt).
-use Rattle.std.proofs.Common.{◌≡◌, ℕ, suc, ◌+◌, refl, sym, ◌∙◌, arith}
+use Rattle.std.proofs.Common.{◌≡◌, suc, ◌+◌, refl, arith}
 use Rattle.snap_judge.specs.declared.config.Slot.TheVariants as kept_slot
 use Rattle.snap_judge.proofs.Goes.{goes_on, there}
 use Rattle.snap_judge.proofs.Passing.{call_passes}

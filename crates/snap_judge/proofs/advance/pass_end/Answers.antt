@@ -1,8 +1,8 @@
 -- `pass_end` of snap_judge (src/advance.rt).
-use Rattle.std.proofs.Common.{◌≡◌, ℕ, suc, ◌+◌, refl, sym, ◌∙◌, arith}
+use Rattle.std.proofs.Common.{◌≡◌, suc, ◌+◌, refl, sym, ◌∙◌, arith}
 use Rattle.snap_judge.specs.declared.config.Slot.TheVariants as kept_slot
 use Rattle.snap_judge.proofs.Goes.{there, kept_taken_not_free}
-use Rattle.snap_judge.proofs.Passing.{end_passes, end_settled, end_stuck}
+use Rattle.snap_judge.proofs.Passing.{end_passes, end_stuck}
 use Rattle.snap_judge.proofs.advance.pass_end.Goals as goal
 
 pub returns-in-Taken-clause-goes_on : goal.returns-in-Taken-clause-goes_on

@@ -1,7 +1,6 @@
 -- `enter` of snap_judge (src/branches.rt).
-use Rattle.std.proofs.Common.{◌≡◌, ℕ, List, take, refl, sym, ◌∙◌, ap, subst}
+use Rattle.std.proofs.Common.{ℕ, List, refl, subst}
 use Rattle.snap_judge.specs.Choices.{HasTaken}
-use Rattle.snap_judge.specs.declared.config.Config.{Config}
 use Rattle.snap_judge.proofs.Goes.{same_goes}
 use Rattle.snap_judge.proofs.Entering.{has_entered}
 use Rattle.snap_judge.proofs.branches.enter.Goals as goal

@@ -1,5 +1,5 @@
 -- `try_next` of snap_judge (src/branches.rt).
-use Rattle.std.proofs.Common.{◌≡◌, ◌≤◌, ℕ, refl, rules}
+use Rattle.std.proofs.Common.{refl, rules}
 use Rattle.snap_judge.proofs.Entering.{all_tried, has_tried, rest_waits}
 use Rattle.snap_judge.proofs.branches.try_next.Goals as goal
 

@@ -1,5 +1,5 @@
 -- `choice_at` of snap_judge (src/choices.rt).
-use Rattle.std.proofs.Common.{◌≡◌, ◌<◌, ℕ, length, refl, sym, ap, subst, arith, rules, get_or, ◌∙◌}
+use Rattle.std.proofs.Common.{ℕ, sym, ap, rules, get_or, ◌∙◌}
 use Rattle.snap_judge.specs.declared.config.Slot.TheVariants as kept_slot
 use Rattle.snap_judge.proofs.Choosing.{scan_waits, update_waits}
 use Rattle.snap_judge.proofs.choices.choice_at.Goals as goal

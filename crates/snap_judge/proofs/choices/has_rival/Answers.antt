@@ -1,9 +1,7 @@
 -- `has_rival` of snap_judge (src/choices.rt).
-use Rattle.std.proofs.Common.{◌≡◌, ◌<◌, ◌≤◌, ◌⊎◌, inl, inr, ℕ, length, get_or, arith, sym, ◌∙◌, rules}
-use Rattle.std.proofs.lemmas.Bool.{cases_lt}
-use Rattle.std.proofs.lemmas.List.{get_or_past}
+use Rattle.std.proofs.Common.{◌<◌, length, arith}
 use Rattle.snap_judge.specs.declared.config.Slot.TheVariants as kept_slot
-use Rattle.snap_judge.proofs.Goes.{kept_not_free, kept_open_within, there}
+use Rattle.snap_judge.proofs.Goes.{kept_open_within, there}
 use Rattle.snap_judge.proofs.choices.has_rival.Goals as goal
 
 pub sets_word-requires : goal.sets_word-requires

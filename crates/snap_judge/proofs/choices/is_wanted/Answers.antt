@@ -1,5 +1,5 @@
 -- `is_wanted` of snap_judge (src/choices.rt).
-use Rattle.std.proofs.Common.{◌≡◌, ◌<◌, ◌≤◌, ℕ, length, arith}
+use Rattle.std.proofs.Common.{◌<◌, length, arith}
 use Rattle.snap_judge.specs.declared.config.Slot.TheVariants as kept_slot
 use Rattle.snap_judge.proofs.Goes.{there}
 use Rattle.snap_judge.proofs.choices.is_wanted.Goals as goal

@@ -1,5 +1,5 @@
 -- `is_wanted` of snap_judge (src/choices.rt): what its loop keeps.
-use Rattle.std.proofs.Common.{◌≡◌, ◌<◌, ◌≤◌, ◌-◌, ℕ, length, get_or}
+use Rattle.std.proofs.Common.{◌≡◌, ◌<◌, ◌-◌, ℕ, length, get_or}
 use Rattle.snap_judge.specs.Kept.{called_at}
 use Rattle.snap_judge.specs.Choices.{Wants}
 use Rattle.snap_judge.specs.declared.config.Slot.TheVariants as kept_slot

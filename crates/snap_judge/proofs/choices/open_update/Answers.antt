@@ -1,8 +1,6 @@
 -- `open_update` of snap_judge (src/choices.rt).
-use Rattle.std.proofs.Common.{◌≡◌, ◌<◌, ℕ, length, refl, get_or}
 use Rattle.snap_judge.specs.declared.config.Slot.TheVariants as kept_slot
 use Rattle.snap_judge.proofs.Goes.{there}
-use Rattle.snap_judge.proofs.Choosing.{set_word}
 use Rattle.snap_judge.proofs.choices.open_update.Goals as goal
 
 pub called_update-requires : goal.called_update-requires

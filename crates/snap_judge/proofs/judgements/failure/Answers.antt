@@ -19,7 +19,7 @@ loop-holds-preserved c =
         within = omega (arith, high, within);
         holds = subst (λ (k : ℕ). IsLinearizableHistory (up_to k h)) (sym low) (
           map operation_of w.in-Linearizable.field-0.items,
-          subst (IsDecision (up_to middle h)) w.in-Linearizable.is c.in_ok-decide.ensures,
+          subst (IsDecision c.args.most (up_to middle h)) w.in-Linearizable.is c.in_ok-decide.ensures,
         );
         fails = subst (λ (k : ℕ). IsLinearizableHistory (up_to k h) → ⊥) (sym high) c.loop-holds.invariant.fails;
       })
@@ -28,6 +28,6 @@ loop-holds-preserved c =
         within = omega (arith, high, less, order, within);
         holds = subst (λ (k : ℕ). IsLinearizableHistory (up_to k h)) (sym low) c.loop-holds.invariant.holds;
         fails = subst (λ (k : ℕ). IsLinearizableHistory (up_to k h) → ⊥) (sym high)
-            (subst (IsDecision (up_to middle h)) w.in-NotLinearizable.is c.in_ok-decide.ensures);
+            (subst (IsDecision c.args.most (up_to middle h)) w.in-NotLinearizable.is c.in_ok-decide.ensures);
       })
     ]

@@ -1,5 +1,5 @@
 -- `take_scan` of snap_judge (src/scans.rt).
-use Rattle.std.proofs.Common.{◌≡◌, ℕ, ◌<◌, length, get_or, ◌∙◌, sym, arith, refl, subst, List, ap}
+use Rattle.std.proofs.Common.{◌∙◌, sym, refl, ap}
 use Rattle.snap_runs.specs.Linearization.{after}
 use Rattle.snap_runs.specs.Operation.{Sees}
 use Rattle.snap_judge.specs.declared.config.Slot.TheVariants as kept_slot

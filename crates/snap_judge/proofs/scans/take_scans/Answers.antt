@@ -1,10 +1,10 @@
 -- `take_scans` of snap_judge (src/scans.rt).
-use Rattle.std.proofs.Common.{◌≡◌, ℕ, ◌<◌, ◌+◌, ◌⊎◌, inl, inr, length, get_or, ◌∙◌, sym, arith, refl, subst, List, ap}
+use Rattle.std.proofs.Common.{◌≡◌, ℕ, ◌<◌, ◌+◌, ◌⊎◌, inl, inr, ◌∙◌, sym, arith, subst, List, ap}
 use Rattle.std.proofs.lemmas.Bool.{cases_eq}
 use Rattle.snap_runs.specs.Operation.{Sees}
 use Rattle.snap_judge.specs.declared.config.Config.{Config}
 use Rattle.snap_judge.specs.declared.config.Step.{Step as KeptStep}
-use Rattle.snap_judge.specs.Kept.{ChangesSlotAlone, ChangesSlotsAlone, GoesOn, IsConfig, IsSettled, IsSettledAt, called_at}
+use Rattle.snap_judge.specs.Kept.{ChangesSlotAlone, ChangesSlotsAlone, IsSettledAt}
 use Rattle.snap_judge.proofs.Goes.{goes_on}
 use Rattle.snap_judge.proofs.scans.take_scans.Goals as goal
 

@@ -1,6 +1,6 @@
 -- `take_scans` of snap_judge (src/scans.rt): what its loop keeps.
-use Rattle.std.proofs.Common.{◌≡◌, ◌<◌, ◌≤◌, ℕ, length}
-use Rattle.snap_judge.specs.Kept.{ChangesSlotsAlone, GoesOn, IsConfig, IsSettledAt}
+use Rattle.std.proofs.Common.{◌≡◌, ◌<◌, ℕ, length}
+use Rattle.snap_judge.specs.Kept.{ChangesSlotsAlone, GoesOn, IsSettledAt}
 use Rattle.snap_judge.proofs.scans.take_scans.Given as goal
 
 abbrev pub invariant-loop-place : goal.invariant-loop-place

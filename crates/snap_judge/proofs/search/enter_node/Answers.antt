@@ -1,19 +1,19 @@
 -- `enter_node` of snap_judge (src/search.rt).
 use Rattle.std.proofs.Common.{refl, rules, subst, sym}
+use Rattle.std.specs.List.{All}
+use Rattle.std.proofs.lemmas.List.Elements.{All-push}
 use Rattle.snap_judge.specs.declared.config.Node.{Node}
-use Rattle.snap_judge.specs.Nodes.{AreNodes}
-use Rattle.snap_judge.proofs.Searching.{entered_nodes, no_end, same_fails}
+use Rattle.snap_judge.specs.Nodes.{AreNodes, HasSame}
+use Rattle.snap_judge.proofs.Searching.{entered_nodes}
 use Rattle.snap_judge.proofs.search.enter_node.Goals as goal
-
-pub returns-then-has_failed-clause-left : goal.returns-then-has_failed-clause-left
-returns-then-has_failed-clause-left c =
-    c.requires.at.left (same_fails c.args.steps.now c.args.trail.now.failed.keys c.args.entered.config
-    c.requires.trail.failed (c.has_failed.ensures c.if-has_failed.true) c.requires.at.entered.config)
 
 pub returns-in_default-clause-left : goal.returns-in_default-clause-left
 returns-in_default-clause-left c =
-    c.requires.at.left (no_end c.args.steps.now c.args.entered.config (c.requires.at.entered.stuck c.requires.stuck)
-    c.in_default.ensures.none)
+    let next = (c.requires.at.alive c.requires.stuck).1 in absurd (c.in_default.ensures.none _ next.1)
+
+pub returns-in_default-clause-count : goal.returns-in_default-clause-count
+returns-in_default-clause-count c =
+    let next = (c.requires.at.alive c.requires.stuck).1 in absurd (c.in_default.ensures.none _ next.1)
 
 pub returns-clause-trail : goal.returns-clause-trail
 returns-clause-trail c =
@@ -29,6 +29,13 @@ returns-clause-trail c =
           c.args.trail.now.order.items) (sym c.in_ok-push.ensures.items)
           (entered_nodes c.args.trail.now.processes c.args.trail.now.words c.args.steps.now
           c.args.trail.now.order.items c.args.trail.now.nodes.items c.args.entered node c.requires.trail.nodes
-          c.requires.at.entered c.requires.stuck refl (search rules) refl c.in-Some.ensures.some c.requires.at.left);
+          c.requires.at.entered c.requires.stuck c.requires.at.deeper refl (search rules) refl c.in-Some.ensures.some
+          c.requires.at.left);
       failed = c.requires.trail.failed;
+      met = c.requires.trail.met;
+      unique = c.requires.trail.unique;
+      apart = subst (All (λ (x : Node). HasSame c.args.trail.now.failed.keys x.config → ⊥))
+          (sym c.in_ok-push.ensures.items)
+          (All-push (λ (x : Node). HasSame c.args.trail.now.failed.keys x.config → ⊥) c.args.trail.now.nodes.items node
+          c.requires.trail.apart (c.requires.at.alive c.requires.stuck).0);
     }

@@ -1,51 +1,129 @@
 -- `retry` of snap_judge (src/search.rt).
-use Rattle.std.proofs.Common.{ℕ, List, sym, subst}
+use Rattle.std.proofs.Common.{◌≡◌, ℕ, ◌<◌, List, ◌∷◌, length, get_or, sym, subst, ap, arith, rules}
+use Rattle.std.specs.List.{All}
+use Rattle.std.proofs.lemmas.List.Elements.{All-push}
+use Rattle.std.proofs.lemmas.List.Sorted.{length_permutation}
 use Rattle.snap_judge.specs.Kept.{Can}
 use Rattle.snap_judge.specs.declared.config.Config.{Config}
-use Rattle.snap_judge.specs.Nodes.{AreNodes, OnlyNodesLeft}
-use Rattle.snap_judge.proofs.Searching.{behind_last, put_key, retried, retried_entered, retried_left}
+use Rattle.snap_judge.specs.declared.config.Node.{Node}
+use Rattle.snap_judge.specs.Nodes.{AreNodes, HasSame, IsMet, OnlyNodesLeft}
+use Rattle.snap_judge.proofs.Meeting.{moved_key, node_met, still_apart}
+use Rattle.snap_judge.proofs.Searching.{are_front, behind_last, last_is, put_key, retried, retried_deeper, retried_entered, retried_left}
 use Rattle.snap_judge.proofs.search.retry.Goals as goal
 
-pub returns-in_ok-insert-in-None-clause-trail : goal.returns-in_ok-insert-in-None-clause-trail
-returns-in_ok-insert-in-None-clause-trail c =
-    let none = rw c.in-None.is at c.in_ok-entered.ensures.none in
-    let kept = rw c.in-None.is at c.in_ok-entered.ensures.kept in
+pub returns-clause-none : goal.returns-clause-none
+returns-clause-none c =
+    behind_last c.loop-node.trail.processes c.loop-node.trail.words c.args.steps.now c.loop-node.trail.order.items
+    c.loop-node.trail.nodes.items c.loop-node.node c.loop-node.invariant.node.nodes
+    (rw c.in_default.is at c.in_ok-entered.ensures.none)
+
+pub returns-clause-trail : goal.returns-clause-trail
+returns-clause-trail c =
+    let inv = c.loop-node.invariant in
+    let n = c.loop-node.trail.processes in
+    let w = c.loop-node.trail.words in
+    let order = c.loop-node.trail.order.items in
+    let none = rw c.in_default.is at c.in_ok-entered.ensures.none in
+    let kept = rw c.in_default.is at c.in_ok-entered.ensures.kept in
+    let same = c.in_ok-entered.ensures.same in
+    let is = last_is n w c.args.steps.now order c.loop-node.trail.nodes.items c.loop-node.node inv.node.nodes in
     record {
-      are_steps = c.requires.trail.are_steps;
-      nodes = subst (λ (os : List ℕ). AreNodes c.args.trail.now.processes c.args.trail.now.words c.args.steps.now os
-          c.args.trail.now.nodes.items) (sym kept) c.requires.trail.nodes;
-      failed = put_key (λ (x : Config). Can c.args.steps.now x → ⊥) c.args.trail.now.failed c.insert.new.self _ _
-          c.in_ok-insert-in-None.ensures.keys c.requires.trail.failed
-          (λ can. none (subst (Can c.args.steps.now) c.in_ok-entered.ensures.same can));
+      are_steps = inv.trail.are_steps;
+      nodes = subst (λ (os : List ℕ). AreNodes n w c.args.steps.now os c.loop-node.trail.nodes.items) (sym kept)
+          inv.trail.nodes;
+      failed = put_key (λ (x : Config). Can c.args.steps.now x → ⊥) c.loop-node.trail.failed c.insert.new.self _ _
+          c.in_ok-insert.ensures.keys inv.trail.failed (λ can. none (subst (Can c.args.steps.now) same can));
+      met = put_key (IsMet n w c.args.steps.now) c.loop-node.trail.failed c.insert.new.self _ _
+          c.in_ok-insert.ensures.keys inv.trail.met
+          (subst (IsMet n w c.args.steps.now) (sym same) (node_met n w c.args.steps.now order c.loop-node.node is));
+      unique = c.in_ok-insert.ensures.unique;
+      apart = still_apart n w c.args.steps.now order c.loop-node.trail.nodes.items c.loop-node.node
+          c.loop-node.trail.failed.keys c.insert.new.self.keys inv.trail.are_steps inv.node.nodes.each
+          inv.node.nodes.rising
+          (moved_key c.loop-node.trail.failed c.insert.new.self c.try_next.new.node.config c.loop-node.node.config
+          c.in_ok-insert.field-0 same c.in_ok-insert.ensures.keys c.in_ok-insert.ensures.added inv.node.apart)
+          inv.trail.apart;
     }
 
-pub returns-in_ok-insert-in-None-clause-none : goal.returns-in_ok-insert-in-None-clause-none
-returns-in_ok-insert-in-None-clause-none c =
-    behind_last c.args.trail.now.processes c.args.trail.now.words c.args.steps.now c.args.trail.now.order.items
-    c.args.trail.now.nodes.items c.args.node c.requires.node.nodes
-    (rw c.in-None.is at c.in_ok-entered.ensures.none)
+pub returns-clause-count : goal.returns-clause-count
+returns-clause-count c =
+    let inv = c.loop-node.invariant in
+    let moved = moved_key c.loop-node.trail.failed c.insert.new.self c.try_next.new.node.config
+    c.loop-node.node.config c.in_ok-insert.field-0 c.in_ok-entered.ensures.same c.in_ok-insert.ensures.keys
+    c.in_ok-insert.ensures.added inv.node.apart in
+    let more : length c.insert.new.self.keys ≡ length (c.loop-node.node.config ∷ c.loop-node.trail.failed.keys) =
+    length_permutation (c.loop-node.node.config ∷ c.loop-node.trail.failed.keys) c.insert.new.self.keys moved in
+    let nodes : length c.loop-node.trail.nodes.items ≡ length c.args.trail.now.nodes.items = ap length inv.nodes in
+    let failed : length c.loop-node.trail.failed.keys ≡ length c.args.trail.now.failed.keys = ap length inv.failed in
+    omega (arith, more, nodes, failed)
 
-pub returns-in_ok-push-in-Some-clause-trail : goal.returns-in_ok-push-in-Some-clause-trail
-returns-in_ok-push-in-Some-clause-trail c = record {
-  are_steps = c.requires.trail.are_steps;
-  nodes = subst (AreNodes c.args.trail.now.processes c.args.trail.now.words c.args.steps.now c.try_next.new.order.items)
-      (sym c.in_ok-push-in-Some.ensures.items)
-      (retried c.args.trail.now.processes c.args.trail.now.words c.args.steps.now c.args.trail.now.order.items
-      c.try_next.new.order.items c.args.trail.now.nodes.items c.args.node c.try_next.new.node c.in-Some.entered
-      c.requires.node.nodes (rw c.in-Some.is at c.in_ok-entered.ensures.some));
-  failed = c.requires.trail.failed;
-}
+pub loop-node-preserved : goal.loop-node-preserved
+loop-node-preserved c =
+    let inv = c.loop-node.invariant in
+    let has = rw c.in-Some.is at c.in_ok-entered.ensures.some in
+    let is = c.if-not-is_dead.false in
+    let nodes = retried c.loop-node.trail.processes c.loop-node.trail.words c.args.steps.now
+    c.loop-node.trail.order.items c.try_next.new.order.items c.loop-node.trail.nodes.items c.loop-node.node
+    c.try_next.new.node c.in-Some.entered inv.node.nodes has in
+    record {
+      trail = record {
+        are_steps = inv.trail.are_steps;
+        nodes = are_front c.loop-node.trail.processes c.loop-node.trail.words c.args.steps.now
+            c.try_next.new.order.items c.loop-node.trail.nodes.items c.try_next.new.node nodes;
+        failed = inv.trail.failed;
+        met = inv.trail.met;
+        unique = inv.trail.unique;
+        apart = inv.trail.apart;
+      };
+      node = record {
+        nodes = nodes;
+        tried = has.tried (c.is_dead.ensures.dead (search rules));
+        apart = subst (λ (x : Config). HasSame c.loop-node.trail.failed.keys x → ⊥) (sym has.config) inv.node.apart;
+      };
+      kept = record { processes = inv.kept.processes; words = inv.kept.words };
+      nodes = inv.nodes;
+      failed = inv.failed;
+    }
 
-pub returns-in_ok-push-in-Some-clause-some : goal.returns-in_ok-push-in-Some-clause-some
-returns-in_ok-push-in-Some-clause-some c =
+pub returns-then-not-is_dead-clause-trail : goal.returns-then-not-is_dead-clause-trail
+returns-then-not-is_dead-clause-trail c =
+    let inv = c.loop-node.invariant in
     let has = rw c.in-Some.is at c.in_ok-entered.ensures.some in
     record {
-      entered = retried_entered c.args.trail.now.processes c.args.trail.now.words c.args.steps.now
-          c.args.trail.now.order.items c.try_next.new.order.items c.args.trail.now.nodes.items c.args.node
-          c.try_next.new.node c.in-Some.entered c.requires.node.nodes has;
-      left = λ fails. subst (OnlyNodesLeft c.args.trail.now.processes c.args.trail.now.words c.args.steps.now)
-          (sym c.in_ok-push-in-Some.ensures.items)
-          (retried_left c.args.trail.now.processes c.args.trail.now.words c.args.steps.now
-          c.args.trail.now.order.items c.try_next.new.order.items c.args.trail.now.nodes.items c.args.node
-          c.try_next.new.node c.in-Some.entered c.requires.node.nodes has fails);
+      are_steps = inv.trail.are_steps;
+      nodes = subst (AreNodes c.loop-node.trail.processes c.loop-node.trail.words c.args.steps.now
+          c.try_next.new.order.items) (sym c.in_ok-push.ensures.items)
+          (retried c.loop-node.trail.processes c.loop-node.trail.words c.args.steps.now c.loop-node.trail.order.items
+          c.try_next.new.order.items c.loop-node.trail.nodes.items c.loop-node.node c.try_next.new.node
+          c.in-Some.entered inv.node.nodes has);
+      failed = inv.trail.failed;
+      met = inv.trail.met;
+      unique = inv.trail.unique;
+      apart = subst (All (λ (x : Node). HasSame c.loop-node.trail.failed.keys x.config → ⊥))
+          (sym c.in_ok-push.ensures.items)
+          (All-push (λ (x : Node). HasSame c.loop-node.trail.failed.keys x.config → ⊥) c.loop-node.trail.nodes.items
+          c.try_next.new.node inv.trail.apart
+          (subst (λ (x : Config). HasSame c.loop-node.trail.failed.keys x → ⊥) (sym has.config) inv.node.apart));
+    }
+
+pub returns-then-not-is_dead-clause-some : goal.returns-then-not-is_dead-clause-some
+returns-then-not-is_dead-clause-some c =
+    let inv = c.loop-node.invariant in
+    let has = rw c.in-Some.is at c.in_ok-entered.ensures.some in
+    let is = c.if-not-is_dead.true in
+    record {
+      entered = retried_entered c.loop-node.trail.processes c.loop-node.trail.words c.args.steps.now
+          c.loop-node.trail.order.items c.try_next.new.order.items c.loop-node.trail.nodes.items c.loop-node.node
+          c.try_next.new.node c.in-Some.entered inv.node.nodes has;
+      deeper = subst (λ (l : List Node). (t : ℕ) (d : Node) → t < length l →
+          (get_or l t d).depth < length c.try_next.new.order.items) (sym c.in_ok-push.ensures.items)
+          (retried_deeper c.loop-node.trail.processes c.loop-node.trail.words c.args.steps.now
+          c.loop-node.trail.order.items c.try_next.new.order.items c.loop-node.trail.nodes.items c.loop-node.node
+          c.try_next.new.node c.in-Some.entered inv.node.nodes has);
+      alive = c.is_dead.ensures.alive (search rules);
+      left = λ fails. subst (OnlyNodesLeft c.loop-node.trail.processes c.loop-node.trail.words c.args.steps.now)
+          (sym c.in_ok-push.ensures.items)
+          (retried_left c.loop-node.trail.processes c.loop-node.trail.words c.args.steps.now
+          c.loop-node.trail.order.items c.try_next.new.order.items c.loop-node.trail.nodes.items c.loop-node.node
+          c.try_next.new.node c.in-Some.entered inv.node.nodes has fails);
     }

@@ -1,5 +1,5 @@
 -- `take_update` of snap_judge (src/taking.rt).
-use Rattle.std.proofs.Common.{◌≡◌, ℕ, ◌-◌, List, ◌∷◌, [], ◌++◌, sym, ◌∙◌, ap, subst}
+use Rattle.std.proofs.Common.{ℕ, List, sym, ◌∙◌, ap, subst}
 use Rattle.snap_runs.specs.Linearization.{after}
 use Rattle.snap_judge.specs.Kept.{GoesOn}
 use Rattle.snap_judge.proofs.Goes.{still_config}

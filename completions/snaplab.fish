@@ -19,6 +19,6 @@ complete -c snaplab -n "not __fish_seen_subcommand_from $commands" -a live -d 'p
 complete -c snaplab -n "not __fish_seen_subcommand_from $commands" -a help -d 'print help'
 complete -c snaplab -n '__fish_seen_subcommand_from help' -a "$commands"
 complete -c snaplab -n '__fish_seen_subcommand_from run trace debug audit certify batch survey live' -l shipped -x -a 'seq bit multi' -d 'take the shipped listing of this kind'
-complete -c snaplab -n '__fish_seen_subcommand_from survey' -l strict -d 'end with status 4 where a run has a scan without a point, or a trap'
+complete -c snaplab -n '__fish_seen_subcommand_from survey' -l strict -d 'end with status 4 where a run is not linearizable, or has a trap'
 complete -c snaplab -n '__fish_seen_subcommand_from live' -l limit -x -d 'the most turns of a process'
 complete -c snaplab -n 'not __fish_seen_subcommand_from help' -l explain -d 'explain where and why an input is refused'

@@ -74,7 +74,7 @@ fn survey<'a>(alloc: Global) -> Result<Command<'a>, AllocError> {
     let strict = flag(
         alloc,
         "strict",
-        "Ends with status 4 where a run has a scan without{n}a point, or a trap",
+        "Ends with status 4 where a run is not linearizable,{n}or has a trap",
     );
     running(alloc, SURVEY)?.arg(strict)
 }

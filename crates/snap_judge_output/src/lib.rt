@@ -6,3 +6,4 @@ mod operations;
 mod verdicts;
 
 pub use judgement::judgement_text;
+pub use verdicts::{push_not_linearizable, push_undecided};

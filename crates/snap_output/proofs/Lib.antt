@@ -4,3 +4,4 @@ pub mod AtOnce
 pub mod Alike
 pub mod Ended
 pub mod ToTheEnd
+pub mod Judged

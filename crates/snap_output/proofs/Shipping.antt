@@ -123,9 +123,9 @@ reported l texts text e =
     )
 
 -- the output is that of the parts
-of_parts : (t : Task) (input text : List ℕ) → output_of t input ≡ Ok text → of_task t input ≡ Ok text
+of_parts : (t : Task) (input text : List ℕ) → output_of [] t input ≡ Ok text → of_task [] t input ≡ Ok text
 unfolding output_of
-of_parts t input text e = within (nat_lt max_input (length input)) refusal.InputTooLong (of_task t input) text e
+of_parts t input text e = within (nat_lt max_input (length input)) refusal.InputTooLong (of_task [] t input) text e
 
 -- and what is found of parts is found of the listing and the texts after it
 of_listing : (s : Subject) (count : ℕ) (parts : List (List ℕ)) (f : Source → List (List ℕ) → Result (List ℕ) Refusal)
@@ -187,7 +187,7 @@ module _ (subject : Subject) (input : List ℕ) (l : Source) (s : Schedule) (sho
   unfolding audit_listing
   audits = rw read refl
 
-  whole : (t : Task) → output_of t input ≡ of_task t input
+  whole : (t : Task) → output_of [] t input ≡ of_task [] t input
   unfolding output_of
   whole t = rw (le-ltb max_input (length input) short) refl
 

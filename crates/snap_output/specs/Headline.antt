@@ -54,12 +54,12 @@ pub record AsksFor (subject : Subject) (input : List ℕ) (l : Source) (s : Sche
 -- The program runs what an input asks for, if the input is not too long and has as many texts as the task takes.
 pub record RunsWhatIsAsked (subject : Subject) (input : List ℕ) (l : Source) (s : Schedule) : Type 0 where
   pub runs : length (texts_in subject input) ≡ 1 →
-      output_of (task.Run subject) input ≡ Ok (performance (run_over l s) (command.Run ∷ []))
+      output_of [] (task.Run subject) input ≡ Ok (performance (run_over l s) (command.Run ∷ []))
   pub debugs : (cs : List Command) → length (texts_in subject input) ≡ 2 →
       commands_of (part 1 (texts_in subject input)) ≡ Ok cs →
-      output_of (task.Debug subject) input ≡ Ok (performance (run_over l s) cs)
+      output_of [] (task.Debug subject) input ≡ Ok (performance (run_over l s) cs)
   pub audits : length (texts_in subject input) ≡ 1 →
-      output_of (task.Audit subject) input ≡ Ok (audit_text (run_over l s))
+      output_of [] (task.Audit subject) input ≡ Ok (audit_text (run_over l s))
 
 -- These texts are these schedules, one for one.
 abbrev pub AreSchedulesFor : Source → List (List ℕ) → List Schedule → Type 0
@@ -69,14 +69,14 @@ AreSchedulesFor l _ _ = ⊥
 
 -- What is written for an input is of the run of the listing over the schedule that the input names, and of no other.
 pub record WritesTheRun (subject : Subject) (input text : List ℕ) : Type 0 where
-  pub runs : output_of (task.Run subject) input ≡ Ok text →
+  pub runs : output_of [] (task.Run subject) input ≡ Ok text →
       (l : Source) × (s : Schedule) × AsksFor subject input l s × (text ≡ performance (run_over l s) (command.Run ∷ []))
-  pub debugs : output_of (task.Debug subject) input ≡ Ok text →
+  pub debugs : output_of [] (task.Debug subject) input ≡ Ok text →
       (l : Source) × (s : Schedule) × (cs : List Command) × AsksFor subject input l s
       × (commands_of (part 1 (texts_in subject input)) ≡ Ok cs) × (text ≡ performance (run_over l s) cs)
-  pub audits : output_of (task.Audit subject) input ≡ Ok text →
+  pub audits : output_of [] (task.Audit subject) input ≡ Ok text →
       (l : Source) × (s : Schedule) × AsksFor subject input l s × (text ≡ audit_text (run_over l s))
-  pub batches : output_of (task.Batch subject) input ≡ Ok text →
+  pub batches : output_of [] (task.Batch subject) input ≡ Ok text →
       (l : Source) × (ss : List Schedule) × (listing_for subject (parts_of input) ≡ Ok l)
       × AreSchedulesFor l (texts_in subject input) ss × (text ≡ reports_text 1 (map (end_report l) ss))
 

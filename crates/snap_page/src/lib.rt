@@ -1,9 +1,9 @@
 //! What a page in a browser asks of the program: a task on an input, in one thread.
 #![tactic(auto)]
 
-ghost use Rattle.std.specs.Prelude.{◌≡◌, ◌<◌, ◌⊎◌, ◌↔◌, None, Some, length, take};
+ghost use Rattle.std.specs.Prelude.{◌≡◌, ◌<◌, ◌⊎◌, ◌↔◌, ℕ, List, None, Result, Some, length, take};
 ghost use Rattle.snap_output.specs.AtOnce.{found_at_once};
-ghost use Rattle.snap_output.specs.Output.{output_of};
+ghost use Rattle.snap_output.specs.Output.{IsAnswerTo};
 ghost use Rattle.snap_page.specs.Page.{answer_code, answer_text, task_of};
 ghost use Rattle.snap_page.specs.Picture.{drawn, drawn_code, drawn_text};
 ghost use Rattle.snap_semantics.specs.declared.refusal.Refusal.{Refusal};
@@ -36,10 +36,11 @@ pub extern "C" fn page_output(
     ensures no_task { result.code ≡ 4 ↔ task_of subcommand.now shipped.now ≡ None }
     ensures small { result.code ≡ 3 ↔ length room.old < result.len }
     ensures answer { (t : Task) → task_of subcommand.now shipped.now ≡ Some t → result.code < 2 →
-        (result.code ≡ answer_code (output_of t input.now))
-        × (take result.len room.new ≡ answer_text (output_of t input.now)) }
+        (answer : Result (List ℕ) Refusal) × IsAnswerTo t input.now answer
+        × (result.code ≡ answer_code answer) × (take result.len room.new ≡ answer_text answer) }
     ensures needed { (t : Task) → task_of subcommand.now shipped.now ≡ Some t → result.code ≡ 3 →
-        result.len ≡ length (answer_text (output_of t input.now)) }
+        (answer : Result (List ℕ) Refusal) × IsAnswerTo t input.now answer
+        × (result.len ≡ length (answer_text answer)) }
     ensures at_once { (t : Task) (r : Refusal) → task_of subcommand.now shipped.now ≡ Some t →
         found_at_once t input.now ≡ Some r →
         result.code ≡ 1 ⊎ result.code ≡ 3 }

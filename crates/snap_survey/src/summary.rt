@@ -1,10 +1,13 @@
-//! `Summary`: in how many of many surveyed runs a scan was answered, a process trapped, and so on.
+//! `Summary`: in how many of many surveyed runs a scan was answered, a process trapped, and so on,
+//! and how many are linearizable.
 ghost use Rattle.std.specs.Prelude.{◌≡◌, ◌+◌, ◌<◌, ◌^◌};
 ghost use Rattle.snap_survey.specs.Summary.{AreFewer, no_runs, summary_of, with_survey};
 
-use crate::findings::Survey;
+use crate::findings::JudgedSurvey;
+use crate::words::{is_linearizable, is_not_linearizable, is_undecided};
 
-/// In how many of many runs there is what the fields of a survey count.
+/// In how many of many runs there is what the fields of a survey count, and how many of them are
+/// linearizable.
 #[derive(Clone, Copy, PartialEq, Eq)]
 pub struct Summary {
     pub schedules: u64,
@@ -21,6 +24,12 @@ pub struct Summary {
     pub trapping: u64,
     pub crashing: u64,
     pub skipping: u64,
+    /// Runs that are linearizable.
+    pub linearizable: u64,
+    /// Runs that are not linearizable.
+    pub not_linearizable: u64,
+    /// Runs of which neither was found.
+    pub undecided: u64,
 }
 
 impl Summary {
@@ -38,15 +47,19 @@ impl Summary {
             trapping: 0,
             crashing: 0,
             skipping: 0,
+            linearizable: 0,
+            not_linearizable: 0,
+            undecided: 0,
         }
     }
 
     /// Adds one run more.
-    fn add(&mut self, survey: &Survey)
+    fn add(&mut self, judged: &JudgedSurvey)
         requires few { AreFewer self.old (self.old.schedules + 1) }
         requires room { self.old.schedules + 1 < 2 ^ 64 }
-        ensures { self.new ≡ with_survey self.old survey.now }
+        ensures { self.new ≡ with_survey self.old judged.now }
     {
+        let survey = &judged.survey;
         self.schedules += 1;
         self.answering += u64::from(survey.scans_answered > 0);
         self.without_point += u64::from(survey.scans_without_point > 0);
@@ -56,11 +69,14 @@ impl Summary {
         self.trapping += u64::from(survey.traps > 0);
         self.crashing += u64::from(survey.crashes > 0);
         self.skipping += u64::from(survey.skips > 0);
+        self.linearizable += u64::from(is_linearizable(judged.linearizability));
+        self.not_linearizable += u64::from(is_not_linearizable(judged.linearizability));
+        self.undecided += u64::from(is_undecided(judged.linearizability));
     }
 }
 
 /// What the runs of these surveys came to together.
-pub fn summary_of(surveys: &[Survey]) -> Summary
+pub fn summary_of(surveys: &[JudgedSurvey]) -> Summary
     ensures { result ≡ summary_of surveys.now }
 {
     let mut summary = Summary::new();

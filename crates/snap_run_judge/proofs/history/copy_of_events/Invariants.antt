@@ -1,0 +1,8 @@
+-- `copy_of_events` of snap_run_judge (src/history.rt): what holds at the head of each of its loops.
+-- Returns a copy of the events.
+use Rattle.std.proofs.Common.{◌≡◌, ◌++◌, drop}
+use Rattle.snap_run_judge.proofs.history.copy_of_events.Given as goal
+
+-- the copies so far, and the events that are left
+abbrev pub invariant-loop-event : goal.invariant-loop-event
+invariant-loop-event l = l.copies.items ++ drop l.event-index l.events ≡ l.events

@@ -1,0 +1,31 @@
+-- What is said of a run: whether its history is linearizable.
+use Rattle.std.specs.Prelude.{ℕ}
+use Rattle.snap_runs.specs.Run.{Run}
+use Rattle.snap_judge.specs.Judgement.{IsJudgement}
+use Rattle.snap_judge.specs.Linearizable.{IsLinearizableHistory}
+use Rattle.snap_judge.specs.declared.judgements.Judgement.{Judgement}
+use Rattle.snap_judge.specs.declared.judgements.Judgement.TheVariants as judgement
+use Rattle.snap_run_judge.specs.RunHistory.{history_of}
+use Rattle.snap_run_judge.specs.declared.linearizability.Linearizability.{Linearizability}
+use Rattle.snap_run_judge.specs.declared.linearizability.Linearizability.TheVariants as word
+
+-- how many configurations a search meets at most, where nobody has asked for another bound
+abbrev pub most_configurations : ℕ
+most_configurations = 1000000
+
+-- what is said of the history of a run is so, and nothing is left undecided but where more than `most`
+-- configurations were met
+abbrev pub IsRunJudgement : (most : ℕ) → Run → Judgement → Type 0
+IsRunJudgement most r j = IsJudgement (history_of r) j
+
+-- the word for a judgement
+abbrev pub word_of : Judgement → Linearizability
+word_of (judgement.Linearizable order) = word.Linearizable
+word_of (judgement.NotLinearizable k) = word.NotLinearizable
+word_of (judgement.Undecided k) = word.Undecided
+
+-- A run is linearizable, or it is not; or there is an event up to which this is not decided.
+abbrev pub IsLinearizabilityOf : (most : ℕ) → Run → Linearizability → Type 0
+IsLinearizabilityOf most r word.Linearizable = IsLinearizableHistory (history_of r)
+IsLinearizabilityOf most r word.NotLinearizable = IsLinearizableHistory (history_of r) → ⊥
+IsLinearizabilityOf most r word.Undecided = (k : ℕ) × IsRunJudgement most r (judgement.Undecided k)

@@ -1,0 +1,18 @@
+-- The line of a verdict on a history: that it is linearizable, the event at which it is not, or the one at which the
+-- search for an order was given up.
+use Rattle.std.specs.Prelude.{ℕ, List, [], ◌∷◌, ◌++◌, codes}
+use Rattle.snap_judge.specs.History.{History}
+use Rattle.snap_judge.specs.declared.judgements.Judgement.{Judgement}
+use Rattle.snap_judge.specs.declared.judgements.Judgement.TheVariants as judgement
+use Rattle.snap_judge_output.specs.JudgementText.{last_of, not_linearizable_line, undecided_line}
+
+-- a verdict; no order is told
+abbrev pub verdict_text : History → Judgement → List ℕ
+verdict_text h (judgement.Linearizable order) = codes "linearizable\n"
+verdict_text h (judgement.NotLinearizable count) = not_linearizable_line (last_of count h)
+verdict_text h (judgement.Undecided count) = undecided_line (last_of count h)
+
+-- verdicts, a line each
+abbrev pub verdict_lines : History → List Judgement → List ℕ
+verdict_lines h [] = []
+verdict_lines h (j ∷ js) = verdict_text h j ++ verdict_lines h js

@@ -1,0 +1,88 @@
+//! Whether the run of a record is linearizable.
+ghost use Rattle.std.specs.Prelude.{◌≡◌, IfOk};
+ghost use Rattle.snap_judge.specs.History.{IsHistory};
+ghost use Rattle.snap_judge_output.specs.JudgementText.{NamesEvent};
+ghost use Rattle.snap_run_judge.specs.RunHistory.{history_of};
+ghost use Rattle.snap_run_judge.specs.RunJudgement.{IsLinearizabilityOf, IsRunJudgement, word_of};
+
+use crate::history::history_of;
+use crate::linearizability::Linearizability;
+use crate::runs_have_histories;
+use snap_judge::{Judgement, judge, linearizable_from_the_beginning};
+use snap_record::Record;
+use snap_words::Kind;
+use std::alloc::{AllocError, Global};
+
+/// How many configurations a search meets at most, where nobody has asked for another bound.
+pub const MOST_CONFIGURATIONS: usize = 1_000_000;
+
+/// The events of the run of a record are a history.
+fn has_history<K: Kind>(history: &Record<K>)
+    ensures { IsHistory (history_of history.now) }
+{
+    // Its run is a valid one, of a listing.
+    let _items = history.items();
+    let _lines = history.machine().program().listing().lines();
+    runs_have_histories();
+}
+
+/// Judges whether the run of a record is linearizable, and where it is not, at which event it fails.
+///
+/// # Errors
+///
+/// There is no memory for it.
+#[tactic(auto, using(crate::proofs::Words::event_named))]
+pub fn judge_record<K: Kind>(
+    alloc: Global,
+    history: &Record<K>,
+    most: usize,
+) -> Result<Judgement, AllocError>
+    ensures judgement { IfOk result (IsRunJudgement most history.now) }
+    ensures names { IfOk result (NamesEvent (history_of history.now)) }
+{
+    has_history(history);
+    let events = history_of(alloc, history)?;
+    judge(alloc, &events, most)
+}
+
+/// Returns the word for a judgement.
+fn word_of(judgement: &Judgement) -> Linearizability
+    ensures { result ≡ word_of judgement.now }
+{
+    match judgement {
+        Judgement::Linearizable(_) => Linearizability::Linearizable,
+        Judgement::NotLinearizable(_) => Linearizability::NotLinearizable,
+        Judgement::Undecided(_) => Linearizability::Undecided,
+    }
+}
+
+/// Returns the word for a judgement of the run of a record, which says what is so of the run.
+pub fn word_for<K: Kind>(
+    history: &Record<K>,
+    most: usize,
+    judgement: &Judgement,
+) -> Linearizability
+    requires { IsRunJudgement most history.now judgement.now }
+    ensures word { result ≡ word_of judgement.now }
+    ensures so { IsLinearizabilityOf most history.now result }
+{
+    has_history(history);
+    linearizable_from_the_beginning();
+    word_of(judgement)
+}
+
+/// Returns whether the run of a record is linearizable.
+///
+/// # Errors
+///
+/// There is no memory to find it out.
+pub fn linearizability_of<K: Kind>(
+    alloc: Global,
+    history: &Record<K>,
+    most: usize,
+) -> Result<Linearizability, AllocError>
+    ensures { IfOk result (IsLinearizabilityOf most history.now) }
+{
+    let judgement = judge_record(alloc, history, most)?;
+    Ok(word_for(history, most, &judgement))
+}

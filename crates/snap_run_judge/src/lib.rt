@@ -1,0 +1,21 @@
+//! The history of a run, and whether it is linearizable.
+#![tactic(auto)]
+
+ghost use Rattle.snap_run_judge.specs.RunHistory.{RunsHaveHistories};
+
+mod history;
+mod judging;
+mod linearizability;
+mod verdict;
+
+pub use history::history_of;
+pub use judging::{MOST_CONFIGURATIONS, judge_record, linearizability_of, word_for};
+pub use linearizability::Linearizability;
+pub use snap_judge::{History, Judgement};
+pub use verdict::push_verdict;
+
+/// The events of a run of any listing are a history.
+#[tactic(auto, using(crate::proofs::Histories::runs_have_histories))]
+pub fn runs_have_histories()
+    ensures { RunsHaveHistories }
+{}

@@ -1,7 +1,7 @@
--- `try_next` of snap_judge (src/branches.rt).
+-- `try_place` of snap_judge (src/branches.rt).
 use Rattle.std.proofs.Common.{refl, rules}
 use Rattle.snap_judge.proofs.Entering.{all_tried, has_tried, rest_waits}
-use Rattle.snap_judge.proofs.branches.try_next.Goals as goal
+use Rattle.snap_judge.proofs.branches.try_place.Goals as goal
 
 pub returns-in_default-clause-none : goal.returns-in_default-clause-none
 returns-in_default-clause-none c =
@@ -13,4 +13,4 @@ returns-clause-some c =
     let found = c.in-Some.ensures.some in
     has_tried c.args.steps.now c.args.node.now _ c.args.order.now.items c.enter.new.order.items c.in-Some.update
     c.in_ok-entered.entered c.requires.node c.requires.tried found.0 found.1 found.2 refl refl refl refl
-    c.in_ok-entered.ensures.entered
+    c.requires.begun c.in_ok-entered.ensures.entered

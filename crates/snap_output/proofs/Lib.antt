@@ -5,3 +5,4 @@ pub mod Alike
 pub mod Ended
 pub mod ToTheEnd
 pub mod Judged
+pub mod Refusing

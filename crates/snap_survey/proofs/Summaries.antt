@@ -1,6 +1,6 @@
 -- A `Summary` of many runs, counted survey by survey: with what is left to count it makes the summary of all.
 use Rattle.std.proofs.Common.{◌≡◌, ℕ, suc, ◌+◌, ◌<◌, Bool, true, false, List, [], ◌∷◌, length, max, nat_lt}
-use Rattle.std.proofs.Common.{if◌then◌else◌, refl, sym, ap, ◌∙◌, arith}
+use Rattle.std.proofs.Common.{if◌then◌else◌, drop, drop-cons, get_or, refl, sym, subst, ap, ◌∙◌, arith}
 use Rattle.snap_survey.specs.Summary.{AreFewer, how_many, most_of, no_runs, summary_of, with_survey}
 use Rattle.snap_survey.specs.declared.summary.Summary.{Summary}
 use Rattle.snap_survey.specs.Words.{is_linearizable, is_not_linearizable, is_undecided}
@@ -151,6 +151,15 @@ alone m = rw (
 
   beside_most : (x : ℕ) → max x 0 ≡ x
   beside_most x = omega arith
+
+-- with the next one counted, the others are left
+pub counts_next : (all : List JudgedSurvey) (m m' : Summary) (k : ℕ) (d : JudgedSurvey) → k < length all →
+    m' ≡ with_survey m (get_or all k d) → Counting all m k (drop k all) → Counting all m' (k + 1) (drop (k + 1) all)
+counts_next all m m' k d lt is h =
+    let next : suc k ≡ k + 1 = omega arith in
+    subst (λ (x : Summary). Counting all x (k + 1) (drop (k + 1) all)) (sym is)
+    (one_counted all m k (get_or all k d) (drop k all) (drop (k + 1) all)
+    (drop-cons all k d lt ∙ ap (λ (n : ℕ). get_or all k d ∷ drop n all) next) h)
 
 -- at the end all are counted
 pub all_counted : (all : List JudgedSurvey) (m : Summary) (k : ℕ) (left : List JudgedSurvey) → left ≡ [] →

@@ -1,7 +1,7 @@
 //! `Summary`: in how many of many surveyed runs a scan was answered, a process trapped, and so on,
 //! and how many are linearizable.
 ghost use Rattle.std.specs.Prelude.{◌≡◌, ◌+◌, ◌<◌, ◌^◌};
-ghost use Rattle.snap_survey.specs.Summary.{AreFewer, no_runs, summary_of, with_survey};
+ghost use Rattle.snap_survey.specs.Summary.{AreFewer, counted_if, no_runs, summary_of, with_survey};
 
 use crate::findings::JudgedSurvey;
 use crate::words::{is_linearizable, is_not_linearizable, is_undecided};
@@ -32,6 +32,14 @@ pub struct Summary {
     pub undecided: u64,
 }
 
+/// One more where something was found.
+fn counted_if(count: u64, found: bool) -> u64
+    requires { count + 1 < 2 ^ 64 }
+    ensures { result ≡ counted_if count found }
+{
+    count + u64::from(found)
+}
+
 impl Summary {
     /// Of no run.
     fn new() -> Summary
@@ -60,18 +68,19 @@ impl Summary {
         ensures { self.new ≡ with_survey self.old judged.now }
     {
         let survey = &judged.survey;
+        let verdict = judged.linearizability;
         self.schedules += 1;
-        self.answering += u64::from(survey.scans_answered > 0);
-        self.without_point += u64::from(survey.scans_without_point > 0);
+        self.answering = counted_if(self.answering, survey.scans_answered > 0);
+        self.without_point = counted_if(self.without_point, survey.scans_without_point > 0);
         self.most_collects = survey.most_collects.max(self.most_collects);
-        self.updating += u64::from(survey.updates_done > 0);
-        self.unfinished += u64::from(survey.open_operations > 0);
-        self.trapping += u64::from(survey.traps > 0);
-        self.crashing += u64::from(survey.crashes > 0);
-        self.skipping += u64::from(survey.skips > 0);
-        self.linearizable += u64::from(is_linearizable(judged.linearizability));
-        self.not_linearizable += u64::from(is_not_linearizable(judged.linearizability));
-        self.undecided += u64::from(is_undecided(judged.linearizability));
+        self.updating = counted_if(self.updating, survey.updates_done > 0);
+        self.unfinished = counted_if(self.unfinished, survey.open_operations > 0);
+        self.trapping = counted_if(self.trapping, survey.traps > 0);
+        self.crashing = counted_if(self.crashing, survey.crashes > 0);
+        self.skipping = counted_if(self.skipping, survey.skips > 0);
+        self.linearizable = counted_if(self.linearizable, is_linearizable(verdict));
+        self.not_linearizable = counted_if(self.not_linearizable, is_not_linearizable(verdict));
+        self.undecided = counted_if(self.undecided, is_undecided(verdict));
     }
 }
 

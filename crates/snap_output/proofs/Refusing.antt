@@ -73,17 +73,17 @@ no_commands l y z s r is none = rw (one_schedule l y s is, none) refl
 
 -- the stages of an input
 module _ (subject : Subject) (t : Task) (input : List ℕ) where
-  too_long : max_input < length input → output_of t input ≡ Err refusal.InputTooLong
+  too_long : max_input < length input → output_of [] t input ≡ Err refusal.InputTooLong
   unfolding output_of
   too_long long = rw (lt-ltb max_input (length input) long) refl
 
-  whole : length input ≤ max_input → output_of t input ≡ of_task t input
+  whole : length input ≤ max_input → output_of [] t input ≡ of_task [] t input
   unfolding output_of
   whole short = rw (le-ltb max_input (length input) short) refl
 
   module _ (count : ℕ) (f : Source → List (List ℕ) → Result (List ℕ) Refusal)
-      (is : of_task t input ≡ parted subject count (parts_of input) f) where
-    by_parts : length input ≤ max_input → output_of t input ≡ parted subject count (parts_of input) f
+      (is : of_task [] t input ≡ parted subject count (parts_of input) f) where
+    by_parts : length input ≤ max_input → output_of [] t input ≡ parted subject count (parts_of input) f
     by_parts short = whole short ∙ is
 
     uncounted : (counted : Bool) → nat_eq (length (texts_in subject input)) count ≡ counted →

@@ -74,7 +74,7 @@ pub record AsksForBatch (subject : Subject) (input : List ℕ) (l : Source) (ss 
 abbrev pub RunsBatches : Type 0
 RunsBatches = (subject : Subject) (input : List ℕ) (l : Source) (ss : List Schedule) → length input ≤ max_input →
     AsksForBatch subject input l ss →
-    output_of (task.Batch subject) input ≡ Ok (reports_text 1 (map (end_report l) ss))
+    output_of [] (task.Batch subject) input ≡ Ok (reports_text 1 (map (end_report l) ss))
 
 -- What is written for an input is of the run of the listing over the schedule that the input names, and of no other.
 pub record WritesTheRun (subject : Subject) (input text : List ℕ) : Type 0 where

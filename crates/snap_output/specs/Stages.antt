@@ -64,30 +64,30 @@ IsCounted s count input = (length input ≤ max_input) × (length (texts_in s in
 
 -- An input for such a task is refused for the first stage that it does not pass.
 pub record RefusesInputs (subject : Subject) (t : Task) (count : ℕ) (input : List ℕ) : Type 0 where
-  pub too_long : max_input < length input → output_of t input ≡ Err refusal.InputTooLong
+  pub too_long : max_input < length input → output_of [] t input ≡ Err refusal.InputTooLong
   pub parts : length input ≤ max_input → (length (texts_in subject input) ≡ count → ⊥) →
-      output_of t input ≡ Err (refusal.WrongParts (length (parts_of input)))
+      output_of [] t input ≡ Err (refusal.WrongParts (length (parts_of input)))
   pub listing : (r : Refusal) → IsCounted subject count input → listing_for subject (parts_of input) ≡ Err r →
-      output_of t input ≡ Err r
+      output_of [] t input ≡ Err r
   pub schedule : (l : Source) (r : ScheduleRefusal) → IsCounted subject count input →
       listing_for subject (parts_of input) ≡ Ok l → schedule_of (part 0 (texts_in subject input)) ≡ Err r →
-      output_of t input ≡ Err (refusal.Schedule r)
+      output_of [] t input ≡ Err (refusal.Schedule r)
   pub shape : (l : Source) (s : Schedule) → IsCounted subject count input →
       listing_for subject (parts_of input) ≡ Ok l → IsUnfitFor l (part 0 (texts_in subject input)) s →
-      output_of t input ≡ Err (refusal.Words BadShape)
+      output_of [] t input ≡ Err (refusal.Words BadShape)
   pub commands : (l : Source) (s : Schedule) (r : CommandRefusal) → t ≡ task.Debug subject →
       IsCounted subject count input → listing_for subject (parts_of input) ≡ Ok l →
       IsScheduleFor l (part 0 (texts_in subject input)) s → commands_of (part 1 (texts_in subject input)) ≡ Err r →
-      output_of t input ≡ Err (refusal.Commands r)
+      output_of [] t input ≡ Err (refusal.Commands r)
 
 -- So is a batch; of its schedules the first that is none for the listing is refused.
 pub record RefusesBatches (subject : Subject) (input : List ℕ) : Type 0 where
-  pub too_long : max_input < length input → output_of (task.Batch subject) input ≡ Err refusal.InputTooLong
+  pub too_long : max_input < length input → output_of [] (task.Batch subject) input ≡ Err refusal.InputTooLong
   pub parts : (r : Refusal) → length input ≤ max_input → checked_schedules subject (parts_of input) ≡ Err r →
-      output_of (task.Batch subject) input ≡ Err r
+      output_of [] (task.Batch subject) input ≡ Err r
   pub listing : (r : Refusal) → length input ≤ max_input → checked_schedules subject (parts_of input) ≡ Ok tt →
-      listing_for subject (parts_of input) ≡ Err r → output_of (task.Batch subject) input ≡ Err r
+      listing_for subject (parts_of input) ≡ Err r → output_of [] (task.Batch subject) input ≡ Err r
   pub schedule : (l : Source) (before behind : List (List ℕ)) (text : List ℕ) (ss : List Schedule) (r : Refusal) →
       length input ≤ max_input → checked_schedules subject (parts_of input) ≡ Ok tt →
       listing_for subject (parts_of input) ≡ Ok l → texts_in subject input ≡ before ++ text ∷ behind →
-      AreSchedulesFor l before ss → schedule_for l text ≡ Err r → output_of (task.Batch subject) input ≡ Err r
+      AreSchedulesFor l before ss → schedule_for l text ≡ Err r → output_of [] (task.Batch subject) input ≡ Err r

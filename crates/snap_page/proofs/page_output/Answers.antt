@@ -30,8 +30,8 @@ returns-clause-answer c t named little =
     let code = c.handed_answer.result.code in
     let room = take c.handed_answer.result.len c.handed_answer.new.room in
     let found =
-    told t input c.output_alone-answer.answer
-    (subst (λ (k : Task). AnswersJudged (λ out. out.items) (AreJudged k input) c.output_alone-answer.answer
+    told t input c.output_alone-answer.result
+    (subst (λ (k : Task). AnswersJudged (λ out. out.items) (AreJudged k input) c.output_alone-answer.result
     (λ judged. output_of judged k input)) same c.output_alone-answer.ensures.output)
     (λ d. (code ≡ answer_code d) × (room ≡ answer_text d))
     (λ d is. c.handed_answer.ensures.answer d is little)
@@ -47,8 +47,8 @@ returns-clause-needed c t named large =
     let asked = c.task_of.ensures in
     let same : c.in-Some.task ≡ t = cc in
     let len = c.handed_answer.result.len in
-    told t input c.output_alone-answer.answer
-    (subst (λ (k : Task). AnswersJudged (λ out. out.items) (AreJudged k input) c.output_alone-answer.answer
+    told t input c.output_alone-answer.result
+    (subst (λ (k : Task). AnswersJudged (λ out. out.items) (AreJudged k input) c.output_alone-answer.result
     (λ judged. output_of judged k input)) same c.output_alone-answer.ensures.output)
     (λ d. len ≡ length (answer_text d)) (λ d is. c.handed_answer.ensures.needed d is large)
     (λ all. let zero : len ≡ 0 = all (Ok []) in let one : len ≡ 1 = all (Ok (0 ∷ [])) in omega (arith, zero, one))

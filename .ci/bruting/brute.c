@@ -5,8 +5,10 @@
  *
  * Makes COUNT random histories of up to twelve operations, hands each to `PROGRAM judge --history`, and compares the
  * verdict and the event that it names. The order that it prints is looked at too: it has to explain the history, or what
- * was before that event. The search knows nothing of the program: an order is tried operation by operation, straight
- * from the definition (docs/DEFINITIONS.md, crates/snap_judge/specs/Linearizable.antt), for each beginning in turn.
+ * was before that event. With each answer that it calls right in place of the one that was given, an order has to explain
+ * the event; and its reasons have to hold (crates/snap_judge_reasons/specs/Reasons.antt) and to be a circle. The search
+ * knows nothing of the program: an order is tried operation by operation, straight from the definition
+ * (docs/DEFINITIONS.md, crates/snap_judge/specs/Linearizable.antt), for each beginning in turn.
  *
  * Prints what was counted, and ends with 1 where an answer is wrong, or where a verdict hardly came up.
  */
@@ -20,7 +22,7 @@
 #include <unistd.h>
 
 enum { MOST_PROCESSES = 4, MOST_WORDS = 4, MOST_OPERATIONS = 12, MOST_EVENTS = 2 * MOST_OPERATIONS + MOST_PROCESSES };
-enum { TEXT_SIZE = 8192, WRONG_ENOUGH = 5 };
+enum { TEXT_SIZE = 8192, WRONG_ENOUGH = 5, MOST_ANSWERS = 8 };
 
 enum happening { CALLS_SCAN, CALLS_UPDATE, ANSWERS, IS_DONE, CRASHES };
 
@@ -193,6 +195,52 @@ static bool is_linearization(const struct history *history, int count, const str
             values[next->word - 1] = next->value;
     }
     return are_complete(&operations, placed);
+}
+
+/* ---- reasons ---- */
+
+/* How many updates that are called in the first `count` events set the word to the value. */
+static int setters(const struct history *history, int count, int word, unsigned value)
+{
+    int found = 0;
+    for (int k = 0; k < count; k++) {
+        const struct event *event = &history->events[k];
+        found += event->what == CALLS_UPDATE && event->word == word && event->value == value;
+    }
+    return found;
+}
+
+static bool ended_before(const struct operation *first, const struct operation *second)
+{
+    return first->end != 0 && first->end < second->call;
+}
+
+static bool saw(const struct history *history, int count, const struct operation *scan, const struct operation *update)
+{
+    return scan->is_scan && !update->is_scan && update->value != 0 && scan->view[update->word - 1] == update->value &&
+           setters(history, count, update->word, update->value) == 1;
+}
+
+/* Whether the scan shows what stood in the word before the update, and not again. */
+static bool missed(const struct history *history, int count, const struct operations *all, const struct operation *scan,
+                   const struct operation *update)
+{
+    if (!scan->is_scan || update->is_scan)
+        return false;
+    unsigned seen = scan->view[update->word - 1];
+    int times = setters(history, count, update->word, seen);
+    for (int k = 0; k < all->count; k++) {
+        const struct operation *earlier = &all->all[k];
+        if (times == 1 && !earlier->is_scan && earlier->word == update->word && earlier->value == seen && ended_before(earlier, update))
+            return true;
+    }
+    return times == 0 && seen == 0;
+}
+
+static bool saw_unset(const struct history *history, int count, const struct operation *scan, int word, unsigned value)
+{
+    return scan->is_scan && word >= 1 && word <= history->words && value != 0 && scan->view[word - 1] == value &&
+           setters(history, count, word, value) == 0;
 }
 
 /* ---- histories ---- */
@@ -412,6 +460,96 @@ static const char *read_order(const char *lines, int words, struct operations *o
     return lines;
 }
 
+/* Reads what an operation is called by, as `update 2 7 (event 3)` or `scan of process 1 (event 4)`. Returns NULL where there is none such. */
+static const struct operation *read_name(const char **text, const struct operations *all)
+{
+    int number, at = 0;
+    unsigned value = 0, call;
+    bool is_scan = sscanf(*text, "scan of process %d (event %u)%n", &number, &call, &at) == 2 && at > 0;
+    if (!is_scan && (sscanf(*text, "update %d %u (event %u)%n", &number, &value, &call, &at) != 3 || at == 0))
+        return NULL;
+    *text += at;
+    for (int k = 0; k < all->count; k++) {
+        const struct operation *operation = &all->all[k];
+        if (operation->call == call && operation->is_scan == is_scan &&
+            (is_scan ? operation->process == number : operation->word == number && operation->value == value))
+            return operation;
+    }
+    return NULL;
+}
+
+/* Takes a text that stands next. */
+static bool take(const char **text, const char *wanted)
+{
+    if (strncmp(*text, wanted, strlen(wanted)) != 0)
+        return false;
+    *text += strlen(wanted);
+    return true;
+}
+
+/* Reads a reason, behind `because: `, and finds out whether it holds: that the first operation took place before the second one. */
+static bool read_reason(const char **text, const struct history *history, int count, const struct operations *all,
+                        const struct operation **first, const struct operation **second)
+{
+    int word, again, at = 0;
+    unsigned value, same;
+    const struct operation *one = *first = *second = read_name(text, all);
+    if (one == NULL)
+        return false;
+    if (take(text, " ended before "))
+        return (*second = read_name(text, all)) != NULL && take(text, " was called\n") && ended_before(one, *second);
+    if (take(text, " did not see "))
+        return (*second = read_name(text, all)) != NULL && take(text, "\n") && missed(history, count, all, one, *second);
+    if (!take(text, " saw "))
+        return false;
+    if (sscanf(*text, "%u in word %d, but no update %d %u was called before it ended%n", &value, &word, &again, &same, &at) == 4) {
+        *text += at;
+        return at > 0 && take(text, "\n") && word == again && value == same && saw_unset(history, count, one, word, value);
+    }
+    return (*first = read_name(text, all)) != NULL && take(text, "\n") && saw(history, count, one, *first);
+}
+
+/* Whether the reasons that stand next hold, and are a circle; there may be none. */
+static bool read_circle(const char **text, const struct history *history, int count)
+{
+    const struct operation *start = NULL, *reached = NULL, *first, *second;
+    struct operations all;
+
+    find_operations(history, count, &all);
+    while (take(text, "because: ")) {
+        if (!read_reason(text, history, count, &all, &first, &second) || (reached != NULL && first != reached))
+            return false;
+        if (start == NULL)
+            start = first;
+        reached = second;
+    }
+    return reached == start;
+}
+
+/* Whether each answer that stands next would have been right in place of that of the last of the first `count` events; no two are the same. */
+static bool read_answers(const char **text, const struct history *history, int count)
+{
+    unsigned views[MOST_ANSWERS][MOST_WORDS] = {{0}};
+    int told = 0, at = 0;
+
+    while (take(text, "right would have been:")) {
+        struct history other = *history;
+        if (told == MOST_ANSWERS || other.events[count - 1].what != ANSWERS)
+            return false;
+        for (int k = 0; k < history->words; k++, *text += at)
+            if (sscanf(*text, " %u%n", &views[told][k], &at) != 1)
+                return false;
+        memcpy(other.events[count - 1].view, views[told], sizeof views[told]);
+        if (!take(text, "\n") || !is_linearizable(&other, count))
+            return false;
+        for (int k = 0; k < told; k++)
+            if (memcmp(views[k], views[told], sizeof views[told]) == 0)
+                return false;
+        told++;
+    }
+    return true;
+}
+
 /* ---- the program ---- */
 
 static void run_child(const char *program, const int input[2], const int output[2])
@@ -472,13 +610,17 @@ static bool is_right(const struct history *history, const struct event *failure,
     if (failure != NULL && strncmp(lines, before, strlen(before)) == 0)
         lines += strlen(before);
     const char *end = read_order(lines, history->words, &order);
-    return is_linearization(history, explained, &order) && (failure != NULL || *end == '\0');
+    if (!is_linearization(history, explained, &order))
+        return false;
+    if (failure != NULL && (!read_answers(&end, history, explained + 1) || !read_circle(&end, history, explained + 1)))
+        return false;
+    return *end == '\0';
 }
 
 int main(int argc, char *argv[])
 {
     static char text[TEXT_SIZE], answer[TEXT_SIZE];
-    long failing = 0, wrong = 0, crashed = 0, open = 0;
+    long made = 0, failing = 0, answered = 0, reasoned = 0, wrong = 0, crashed = 0, open = 0;
 
     if (argc != 4) {
         fprintf(stderr, "usage: %s COUNT SEED PROGRAM\n", argv[0]);
@@ -486,7 +628,7 @@ int main(int argc, char *argv[])
     }
     long count = strtol(argv[1], NULL, 10);
     uint64_t seed = strtoull(argv[2], NULL, 10);
-    for (long k = 0; k < count && wrong < WRONG_ENOUGH; k++) {
+    for (long k = 0; k < count && wrong < WRONG_ENOUGH; k++, made++) {
         struct history history;
         struct operations operations;
         state = (seed << 32) + (uint64_t)k;
@@ -504,12 +646,14 @@ int main(int argc, char *argv[])
         }
         find_operations(&history, history.count, &operations);
         failing += failure != NULL;
+        answered += strstr(answer, "\nright would have been:") != NULL;
+        reasoned += strstr(answer, "\nbecause: ") != NULL;
         for (int o = 0; o < operations.count; o++)
             open += operations.all[o].end == 0;
         for (int e = 0; e < history.count; e++)
             crashed += history.events[e].what == CRASHES;
     }
-    printf("%ld histories, %ld not linearizable, %ld open updates, %ld crashes, %ld wrong\n", count, failing, open, crashed,
-           wrong);
+    printf("%ld histories, %ld not linearizable (%ld with right answers, %ld with reasons), %ld open updates, %ld crashes, %ld wrong\n",
+           made, failing, answered, reasoned, open, crashed, wrong);
     return wrong > 0 || 4 * failing < count || 4 * (count - failing) < count;
 }

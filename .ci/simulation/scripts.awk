@@ -7,7 +7,7 @@ BEGIN {
     print "shape " n " " w
     for (i = 1; i <= n; i++) {
         for (k = within(0, 3); k > 0; k--) print i " " (chance(50) ? "scan" : "update " (chance(5) ? within(0, w + 1) : kind == "multi" ? within(1, w) : i) " " value())
-        if (chance(10)) print i " crash " within(1, 30)
+        if (chance(25)) print i " crash " within(1, 30)
     }
 }
 

@@ -25,5 +25,5 @@ complete -c snaplab -n '__fish_seen_subcommand_from judge' -l history -d 'judge 
 complete -c snaplab -n '__fish_seen_subcommand_from judge' -l most -x -d 'the most configurations that a search keeps'
 complete -c snaplab -n '__fish_seen_subcommand_from survey' -l strict -d 'end with status 4 where a run is not linearizable, or has a trap'
 complete -c snaplab -n '__fish_seen_subcommand_from live' -l limit -x -d 'the most turns of a process'
-complete -c snaplab -n '__fish_seen_subcommand_from promela' -l crashes -x -d 'how many processes may crash, at any time'
+complete -c snaplab -n '__fish_seen_subcommand_from promela' -l crashes -x -d 'so many processes may crash, at any time'
 complete -c snaplab -n 'not __fish_seen_subcommand_from help' -l explain -d 'explain where and why an input is refused'

@@ -1,17 +1,38 @@
-# What a simulation of a model printed, as a report has it: registers, then processes with their locals. Numbers of a model below 0 stand
-# for the greatest of 64 bits. With what=items: its items; with what=points: whether each answered scan has a point.
+# What simulations of models printed, each in a file of its own, as snaplab has it. Numbers of a model below 0 stand for the greatest of
+# 64 bits.
+#   awk -v what=WHAT -f ended.awk FILE ..
+# what=schedules: the items of each, as a part of the input of 'snaplab batch'; with -v shape='shape N W'
+# what=reports: the registers of each, and then its processes with their locals
+# what=points: how many scans of each have answered, and how many of these have no point
 function number(text) { return text ~ /^-[0-9]+$/ ? "184467440" sprintf("%.0f", 73709551616 + text) : text }
+
+function end_file(k) {
+    if (what == "reports") for (k = 0; k <= last; k++) printf "%s", said[k]
+    if (what == "points") print "schedule " files " scans " answered + 0 " without point " missing + 0
+}
+
+FNR == 1 {
+    if (files) end_file()
+    files++
+    split("", said)
+    last = answered = missing = 0
+    if (what == "schedules") print "%\n" shape
+    if (what == "reports") print "schedule " files
+}
 
 { gsub(/\t/, " ") }
 
-what == "items" && $1 == "@" {
+what == "schedules" && $1 == "@" {
     $1 = ""
     print substr($0, 2)
 }
 
-what == "points" && $1 == "?" { print $2, $3 }
+what == "points" && $1 == "?" {
+    answered++
+    if ($3 == "none") missing++
+}
 
-what == "" && $1 == "=" {
+what == "reports" && $1 == "=" {
     process = $2
     line = ""
     for (k = 3; k <= NF; k++) line = line (k > 3 ? " " : "") number($k)
@@ -19,4 +40,4 @@ what == "" && $1 == "=" {
     if (process > last) last = process
 }
 
-END { if (what == "") for (k = 0; k <= last; k++) printf "%s", said[k] }
+END { if (files) end_file() }

@@ -1,5 +1,6 @@
--- `IsAsked`: what matched arguments of snaplab ask for, by the texts that `clap` has found for its options.
-use Rattle.std.specs.Prelude.{◌≡◌, ℕ, List, Option, Some, None, nat_le, ◌&&◌, codes, option_map, if◌then◌else◌}
+-- `IsAsked`: what matched arguments of snaplab ask for, by the texts that `clap` has found for its options;
+-- `IsMatched`: a command line asks for no more.
+use Rattle.std.specs.Prelude.{◌≡◌, ⊤, ℕ, List, Option, Some, None, nat_le, ◌&&◌, codes, option_map, if◌then◌else◌}
 use Rattle.clap.specs.Matches.{first_value, found_of, one_text, subcommand_name_of}
 use Rattle.clap.specs.Simple.{subcommand_rows}
 use Rattle.clap.specs.Walk.{rows_of}
@@ -12,6 +13,8 @@ use Rattle.snap_tasks.specs.declared.request.Options.{Options}
 use Rattle.snap_tasks.specs.declared.subject.Subject.{Subject}
 use Rattle.snap_tasks.specs.declared.subject.Subject.TheVariants.{FirstPart, Shipped}
 use Rattle.snap_options.specs.Given.{IsFlag, IsNumber}
+use Rattle.snap_command_line.specs.declared.command_line.CommandLine.{CommandLine}
+use Rattle.snap_command_line.specs.declared.command_line.CommandLine.TheVariants as line
 use Rattle.snap_command_line.specs.declared.command_line.Invocation.{Invocation}
 
 -- the limit that is given, where it is one that processes may have, and else 100,000
@@ -70,3 +73,8 @@ IsAsked m asked =
     (name : List ℕ) × (own : Found) × (subcommand_name_of m ≡ Some name)
     × (option_map (λ p. p.1) (subcommand_rows (out-ArgMatches m).subcommand) ≡ Some (rows_of own))
     × IsAskedBy name own (found_of m) asked
+
+-- What a command line asks for, where it asks for something, is what matched arguments ask for.
+abbrev pub IsMatched : CommandLine → Type 0
+IsMatched (line.Asks asked) = (m : ArgMatches) × IsAsked m asked
+IsMatched _ = ⊤

@@ -96,7 +96,7 @@ fn judge<'a>(alloc: Global) -> Result<Command<'a>, AllocError> {
         .value_name("N")
         .value_parser(ValueParser::unsigned(1, u64::MAX))
         .default_value("1000000")
-        .help("The most configurations that a search keeps");
+        .help("The most configurations that a search{n}keeps");
     running(alloc, JUDGE)?.arg(history)?.arg(most)
 }
 

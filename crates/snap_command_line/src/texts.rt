@@ -57,14 +57,14 @@ Examples:
 /// The subcommand that writes a model.
 pub const PROMELA: Told = (
     "promela",
-    "Writes a model of a listing and scripts for the model checker Spin",
+    "Writes a model for the model checker Spin",
     "\
 Reads: LISTING, %, SCRIPTS from standard input; SCRIPTS with --shipped
 
 `bin/snapspin` searches all schedules of the scripts by it.
 
 Examples:
-  snaplab promela < examples/live/stdin
+  { cat examples/u.txt; echo %; cat examples/live/stdin; } | snaplab promela
   snaplab promela --shipped seq < examples/searches/scan-and-two-updates.txt",
 );
 

@@ -5,7 +5,8 @@ ghost use Rattle.std.specs.Prelude.{◌≡◌, ◌<◌, ◌⊎◌, ◌↔◌, �
 ghost use Rattle.snap_output.specs.AtOnce.{found_at_once};
 ghost use Rattle.snap_output.specs.Output.{IsAnswerTo};
 ghost use Rattle.snap_page.specs.Page.{answer_code, answer_text, task_of};
-ghost use Rattle.snap_page.specs.Picture.{drawn, drawn_code, drawn_text};
+ghost use Rattle.snap_page.specs.Picture.{IsDrawn, drawn_code, drawn_text};
+ghost use Rattle.snap_picture.specs.declared.refusal.PictureRefusal.{PictureRefusal};
 ghost use Rattle.snap_semantics.specs.declared.refusal.Refusal.{Refusal};
 ghost use Rattle.snap_tasks.specs.declared.task.Task.{Task};
 
@@ -66,12 +67,13 @@ pub extern "C" fn page_picture(
     ensures code { result.code < 4 }
     ensures small { result.code ≡ 3 ↔ length room.old < result.len }
     ensures answer { result.code < 2 →
-        (result.code ≡ drawn_code
-        (drawn listing.now schedule.now from to STYLE.now LEGEND.now))
-        × (take result.len room.new ≡ drawn_text
-        (drawn listing.now schedule.now from to STYLE.now LEGEND.now)) }
-    ensures needed { result.code ≡ 3 → result.len ≡ length (drawn_text
-        (drawn listing.now schedule.now from to STYLE.now LEGEND.now)) }
+        (picture : Result (List ℕ) PictureRefusal)
+        × IsDrawn listing.now schedule.now from to STYLE.now LEGEND.now picture
+        × (result.code ≡ drawn_code picture) × (take result.len room.new ≡ drawn_text picture) }
+    ensures needed { result.code ≡ 3 →
+        (picture : Result (List ℕ) PictureRefusal)
+        × IsDrawn listing.now schedule.now from to STYLE.now LEGEND.now picture
+        × (result.len ≡ length (drawn_text picture)) }
 {
     let look = Look {
         style: STYLE,

@@ -119,9 +119,9 @@ function drawItems() {
     }
 }
 
-// An operation as a bar, in the colours of a picture, and a scan's point as a diamond at the lower edge. A scan without a
-// point has a broken edge, and a hollow diamond at its end. Of those that end on one pixel of a lane the first alone is
-// drawn, and each without a point. An answer is told where it is past.
+// An operation as a bar, in the colours of a picture, and a scan's point as a diamond at the lower edge. A scan without
+// a point has a broken edge, and a hollow diamond at its end. Of those that end on one pixel of a lane the first alone
+// is drawn, and each without a point. An answer is told where it is past.
 function drawOperation(k, next) {
     const {high, operations, verdicts: {numbers, none}, past} = line;
     const who = operations.who[k], from = operations.from[k], to = operations.to[k];

@@ -9,9 +9,9 @@ _snaphunt() {
     fi
     case $before,$word in
         --shipped,*) offered="seq bit multi" ;;
-        --pace,*) offered="mixed bursts interruptions rounds coins" ;;
+        --pace,*) offered="mixed bursts interruptions rounds witnesses duels coins" ;;
         --fails,*)
-            offered="point trap steps"
+            offered="linearizable point trap steps"
             front=${word%"${word##*,}"}
             ;;
         *,-*)

@@ -2,7 +2,7 @@
 # Where nothing is offered, as behind '<', bash offers the names of files.
 _snaplab() {
     local word=${COMP_WORDS[COMP_CWORD]} before=${COMP_WORDS[COMP_CWORD - 1]}
-    local commands="check lint assemble list upgrade run trace debug audit certify batch survey live help"
+    local commands="check lint assemble list upgrade run trace debug audit certify judge batch survey live promela help"
     local offered="--explain -h --help"
     if [ "$word" = "=" ]; then
         word=
@@ -12,15 +12,17 @@ _snaplab() {
     case ${COMP_WORDS[1]} in
         help) offered= ;;
         run | trace | debug | audit | certify | batch) offered="--shipped $offered" ;;
+        judge) offered="--shipped --history --most $offered" ;;
         survey) offered="--shipped --strict $offered" ;;
         live) offered="--shipped --limit $offered" ;;
+        promela) offered="--shipped --crashes $offered" ;;
     esac
     case $COMP_CWORD,${COMP_WORDS[1]} in
         1,*) offered="$commands --explain -h --help -V --version" ;;
         2,help) offered=$commands ;;
     esac
     case $before in
-        *[\<\>]* | --limit) offered= ;;
+        *[\<\>]* | --limit | --most | --crashes) offered= ;;
         --shipped) offered="seq bit multi" ;;
     esac
     mapfile -t COMPREPLY < <(compgen -W "$offered" -- "$word")

@@ -1,5 +1,5 @@
 # Completion of snaplab for fish: put this file into ~/.config/fish/completions.
-set -l commands check lint assemble list upgrade run trace debug audit certify batch survey live help
+set -l commands check lint assemble list upgrade run trace debug audit certify judge batch survey live promela help
 complete -c snaplab -f
 complete -c snaplab -s h -l help -d 'print help'
 complete -c snaplab -n "not __fish_seen_subcommand_from $commands" -s V -l version -d 'print the version'
@@ -13,12 +13,17 @@ complete -c snaplab -n "not __fish_seen_subcommand_from $commands" -a trace -d '
 complete -c snaplab -n "not __fish_seen_subcommand_from $commands" -a debug -d 'run a listing under a schedule, by debugger commands'
 complete -c snaplab -n "not __fish_seen_subcommand_from $commands" -a audit -d 'say of each finished scan which state it stands for'
 complete -c snaplab -n "not __fish_seen_subcommand_from $commands" -a certify -d 'say where each operation took place, or what is missing for that'
+complete -c snaplab -n "not __fish_seen_subcommand_from $commands" -a judge -d 'say whether a run, or a history, is linearizable'
 complete -c snaplab -n "not __fish_seen_subcommand_from $commands" -a batch -d 'run a listing under many schedules'
 complete -c snaplab -n "not __fish_seen_subcommand_from $commands" -a survey -d 'say what the run of each of many schedules came to'
 complete -c snaplab -n "not __fish_seen_subcommand_from $commands" -a live -d 'play scripts live, each process in a thread of its own'
+complete -c snaplab -n "not __fish_seen_subcommand_from $commands" -a promela -d 'write a model for the model checker Spin'
 complete -c snaplab -n "not __fish_seen_subcommand_from $commands" -a help -d 'print help'
 complete -c snaplab -n '__fish_seen_subcommand_from help' -a "$commands"
-complete -c snaplab -n '__fish_seen_subcommand_from run trace debug audit certify batch survey live' -l shipped -x -a 'seq bit multi' -d 'take the shipped listing of this kind'
-complete -c snaplab -n '__fish_seen_subcommand_from survey' -l strict -d 'end with status 4 where a run has a scan without a point, or a trap'
+complete -c snaplab -n '__fish_seen_subcommand_from run trace debug audit certify judge batch survey live promela' -l shipped -x -a 'seq bit multi' -d 'take the shipped listing of this kind'
+complete -c snaplab -n '__fish_seen_subcommand_from judge' -l history -d 'judge a history: the whole input is one'
+complete -c snaplab -n '__fish_seen_subcommand_from judge' -l most -x -d 'the most configurations that a search keeps'
+complete -c snaplab -n '__fish_seen_subcommand_from survey' -l strict -d 'end with status 4 where a run is not linearizable, or has a trap'
 complete -c snaplab -n '__fish_seen_subcommand_from live' -l limit -x -d 'the most turns of a process'
+complete -c snaplab -n '__fish_seen_subcommand_from promela' -l crashes -x -d 'so many processes may crash, at any time'
 complete -c snaplab -n 'not __fish_seen_subcommand_from help' -l explain -d 'explain where and why an input is refused'

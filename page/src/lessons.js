@@ -138,7 +138,7 @@ function loanOf({who, call, answer}) {
 // A verdict in words, with who lent its view.
 export function verdictWords(verdict) {
     const {point, collects} = verdict, loan = loanOf(verdict);
-    const where = point ? `point ${point}` : '\u2717 point none', many = collects === 1 ? '' : 's';
+    const where = point ? `point ${point}` : '\u25c7 point none', many = collects === 1 ? '' : 's';
     const lent = loan ? `, view of process ${loan.lender} (its scan that ended at item ${loan.ended})` : '';
     return `${where}, ${collects} double collect${many}${lent}`;
 }

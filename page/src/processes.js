@@ -56,7 +56,7 @@ export function showProcesses() {
 function showCard(card, {who, what, at, link}, lines, moved) {
     const trouble = /^(trapped|crashed)/.test(what);
     const told = what + (at ? ` at ${at}` : '') + (link ? `, then back to ${link}` : '');
-    fill(card.what, [told], () => [make('span', {className: trouble ? 'none' : ''}, told)]);
+    fill(card.what, [told], () => [make('span', {className: trouble ? 'gone' : ''}, told)]);
     const next = at && !trouble ? `next ${at}: ${lines.get(at)?.text ?? ''}` : trouble ? 'it does nothing more' :
         'idle: a scan or an update can be called';
     fill(card.next, [next], () => [next]);

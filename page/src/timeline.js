@@ -7,9 +7,8 @@ import {outcome, verdictWords} from './lessons.js';
 
 const LABEL = 46, RIGHT = 12, GRAIN = 1.5, VALUES = 18, AXIS = 16;
 const dark = matchMedia('(prefers-color-scheme: dark)');
-const CROSS = [[-6, -4], [-4, -6], [0, -2], [4, -6], [6, -4], [2, 0], [6, 4], [4, 6], [0, 2], [-4, 6], [-6, 4],
-    [-2, 0]];
-const DIAMOND = [[0, -7], [6, 0], [0, 7], [-6, 0]], TRAP = [[0, -8], [8, 7], [-8, 7]];
+const DIAMOND = [[0, -7], [6, 0], [0, 7], [-6, 0]], HOLE = [[0, -4], [3, 0], [0, 4], [-3, 0]];
+const TRAP = [[0, -8], [8, 7], [-8, 7]];
 export const line = {from: 0, to: 1, width: Infinity, wide: 0, drawn: [], high: 0, n: 0, grain: 0, past: 0};
 const pen = $('timeline').querySelector('canvas').getContext('2d');
 let colours = {};
@@ -120,25 +119,31 @@ function drawItems() {
     }
 }
 
-// An operation as a bar, in the colours of a picture, and a scan's point as a diamond at the lower edge. Of those that
-// end on one pixel of a lane the first alone is drawn, and each without a point. An answer is told where it is past.
+// An operation as a bar, in the colours of a picture, and a scan's point as a diamond at the lower edge. A scan without
+// a point has a broken edge, and a hollow diamond at its end. Of those that end on one pixel of a lane the first alone
+// is drawn, and each without a point. An answer is told where it is past.
 function drawOperation(k, next) {
     const {high, operations, verdicts: {numbers, none}, past} = line;
     const who = operations.who[k], from = operations.from[k], to = operations.to[k];
     if (from > line.to || to && (to < line.from || to < next[who] && !none.has(to))) return;
     next[who] = (to || line.to) + line.grain;
     const scans = operations.text[operations.called[k]] === 's', over = to && to <= past;
-    const place = scans && over ? verdictOf(numbers, to) : -1, bad = over && none.has(to);
+    const place = scans && over ? verdictOf(numbers, to) : -1, bare = over && none.has(to);
     const left = placeOf(Math.max(from - 1, line.from)), right = placeOf(Math.min(to || line.to, line.to));
     const top = topOf(who) + 1, wide = Math.max(right - left, GRAIN), point = numbers[5 * place + 3];
     paint(scans ? 'scan-bar' : 'update-bar', left, top, wide, high - 7);
-    const edge = bad ? 'bad' : scans ? 'scan-edge' : 'update-edge';
-    Object.assign(pen, {strokeStyle: colour(edge), lineWidth: bad ? 3 : 1.5});
+    const edge = bare ? 'on-p' : scans ? 'scan-edge' : 'update-edge';
+    Object.assign(pen, {strokeStyle: colour(edge), lineWidth: bare ? 2.5 : 1.5});
+    pen.setLineDash(bare ? [6, 4] : []);
     if (wide > 3) pen.strokeRect(left + 1, top + 1, wide - 2, high - 9);
+    pen.setLineDash([]);
     if (wide >= 24 && high >= 16) write(barWords(k, place), 'on-p', left, topOf(who), wide - 2, high < 24 ? 12 : 14);
     const low = topOf(who + 1) - 7;
     if (point >= Math.max(line.from, 1)) shape(placeOf(point), low, DIAMOND, 'ink');
-    else if (place >= 0 && point === 0 && wide > 8) shape(right - 6, low, CROSS, 'bad');
+    else if (place >= 0 && point === 0 && wide > 8) {
+        shape(right - 6, low, DIAMOND, 'ink');
+        shape(right - 6, low, HOLE, 'paper');
+    }
 }
 
 // Writes into a bar, and not beyond it.

@@ -115,7 +115,7 @@ def try_gallery(tab, count):
         os.chmod(shim, 0o755)
         server = serve(tab, place)
         for command, wanted in commands("GALLERY.md"):
-            if "bin/snaphunt" in command:   # a program of its own, which the module is not
+            if any(it in command for it in ("bin/snaphunt", "bin/snapspin", "bin/snaplab judge")):   # what the module is not
                 continue
             said = subprocess.run(["sh", "-c", command], cwd=folder, stdin=subprocess.DEVNULL, stdout=subprocess.PIPE,
                                   stderr=subprocess.STDOUT, check=False).stdout.decode()

@@ -88,8 +88,8 @@ def try_gallery(page, count):
             ends = f"{wanted}:" in told and ("point none" in told) == none
             count.check(f"idea {k + 1} {which}: {shows}", ends, told)
             if none:
-                red = page.run("getComputedStyle(document.querySelector('#verdicts .none')).color")
-                count.check(f"idea {k + 1} {which}: red", red == "rgb(176, 0, 32)", red)
+                ink = page.run("getComputedStyle(document.querySelector('#verdicts .none')).color")
+                count.check(f"idea {k + 1} {which}: not red", ink == "rgb(22, 24, 29)", ink)
             page.click("#change")
         count.check(f"idea {k + 1}, back", page.schedule() == idea["schedule"] and page.text("#change") == "Make the change")
     page.choose(FIRST_IDEA + 2)

@@ -1,2 +1,3 @@
 -- The proofs of snap_certify, by their modules.
 pub mod Replaying
+pub mod Judging

@@ -1,9 +1,9 @@
 //! `certify_program`: reads a schedule, runs a listing over it, and prints the run's certification.
 ghost use Rattle.std.specs.Prelude.{◌≡◌, IfOk};
 ghost use Rattle.snap_runs.specs.Run.{run_over};
-ghost use Rattle.snap_semantics.specs.Answers.{Answers};
-ghost use Rattle.snap_certify.specs.CertificationText.{certificate_text};
-ghost use Rattle.snap_certify.specs.Output.{certify_listing};
+ghost use Rattle.snap_run_judge.specs.Judged.{AnswersJudged};
+ghost use Rattle.snap_certify.specs.CertificationText.{IsCertificateText};
+ghost use Rattle.snap_certify.specs.Output.{WasJudgedOver, certify_listing};
 
 use crate::text::certification_text;
 use snap_asm_program::Program;
@@ -22,7 +22,7 @@ fn certify_run<K: Kind>(
 ) -> Result<Vec<u8>, AllocError>
     requires { program.now.kind ≡ K.TAG }
     ensures { IfOk result
-        (λ out. out.items ≡ certificate_text (run_over program.now schedule.now)) }
+        (λ out. IsCertificateText (run_over program.now schedule.now) out.items) }
 {
     let record = record_over::<K>(alloc, program, schedule)?;
     certification_text(alloc, &record)
@@ -36,7 +36,8 @@ fn certify_kind<K: Kind>(
     schedule: &[u8],
 ) -> Result<Vec<u8>, Fault<Refusal>>
     requires { program.now.kind ≡ K.TAG }
-    ensures { Answers (λ out. out.items) result (certify_listing program.now schedule.now) }
+    ensures { AnswersJudged (λ out. out.items) (WasJudgedOver program.now schedule.now) result
+        (λ judged. certify_listing judged program.now schedule.now) }
 {
     let schedule = schedule_for::<K>(alloc, program, schedule)?;
     Ok(certify_run::<K>(alloc, program, &schedule)?)
@@ -48,7 +49,8 @@ pub fn certify_program(
     program: &Program,
     schedule: &[u8],
 ) -> Result<Vec<u8>, Fault<Refusal>>
-    ensures { Answers (λ out. out.items) result (certify_listing program.now schedule.now) }
+    ensures { AnswersJudged (λ out. out.items) (WasJudgedOver program.now schedule.now) result
+        (λ judged. certify_listing judged program.now schedule.now) }
 {
     match program.kind() {
         KindTag::Seq => certify_kind::<Seq>(alloc, program, schedule),

@@ -1,11 +1,11 @@
 //! `certify_input`: what the task `certify` writes for an input.
 ghost use Rattle.std.specs.Prelude.{◌≡◌, ◌≤◌, ◌<◌, Err, length, map};
-ghost use Rattle.snap_semantics.specs.Answers.{Answers};
 ghost use Rattle.snap_semantics.specs.declared.fault.Fault.TheVariants.{Refused};
 ghost use Rattle.snap_semantics.specs.declared.refusal.Refusal.{Refusal};
 ghost use Rattle.snap_input.specs.Input.{checked_parts, parted};
-ghost use Rattle.snap_input.specs.Parts.{max_input, parts_of};
-ghost use Rattle.snap_certify.specs.Output.{certificates_text};
+ghost use Rattle.snap_input.specs.Parts.{max_input, part, parts_of};
+ghost use Rattle.snap_run_judge.specs.Judged.{AnswersJudged};
+ghost use Rattle.snap_certify.specs.Output.{WasJudgedIn, WasJudgedOver, certificates_text};
 
 use crate::program::certify_program;
 use snap_asm_program::Program;
@@ -22,8 +22,9 @@ fn certify_texts(
     texts: &[&[u8]],
 ) -> Result<Vec<u8>, Fault<Refusal>>
     requires { 0 < length texts.now }
-    ensures { Answers (λ out. out.items) result
-        (certificates_text program.now (map (λ text. text.now) texts.now)) }
+    ensures { AnswersJudged (λ out. out.items)
+        (WasJudgedOver program.now (part 0 (map (λ text. text.now) texts.now))) result
+        (λ judged. certificates_text judged program.now (map (λ text. text.now) texts.now)) }
 {
     certify_program(alloc, program, texts[0])
 }
@@ -36,8 +37,8 @@ pub fn certify_input(
     input: &[u8],
 ) -> Result<Vec<u8>, Fault<Refusal>>
     requires { length input.now ≤ max_input }
-    ensures output { Answers (λ out. out.items) result
-        (parted subject 1 (parts_of input.now) certificates_text) }
+    ensures output { AnswersJudged (λ out. out.items) (WasJudgedIn subject (parts_of input.now))
+        result (λ judged. parted subject 1 (parts_of input.now) (certificates_text judged)) }
     ensures counted { (r : Refusal) → checked_parts subject 1 (parts_of input.now) ≡ Err r →
         result ≡ Err (Refused r) }
 {

@@ -1,10 +1,10 @@
 //! `certification_text`: the printed certification of a run, a line for each operation in the order
-//! of linearization points, or the line of what is missing.
+//! of linearization points, or the line of what is missing and a verdict on the run.
 ghost use Rattle.std.specs.Prelude.{◌≡◌, ◌++◌, IfOk, OnOk, codes, drop};
 ghost use Rattle.snap_draft.specs.Drafted.{Adds};
 ghost use Rattle.snap_certification.specs.Certification.{seen_certification};
 ghost use Rattle.snap_certify.specs.CertificationText.{
-  certificate_text,
+  IsCertificateText,
   in_order,
   lack_text,
   missing_line,
@@ -17,11 +17,16 @@ ghost use Rattle.snap_certify.specs.CertificationText.{
   writes_after,
   writes_until,
 };
+ghost use Rattle.snap_judge.specs.declared.judgements.Judgement.{Judgement};
+ghost use Rattle.snap_run_judge.specs.RunHistory.{history_of};
+ghost use Rattle.snap_run_judge.specs.RunJudgement.{IsRunJudgement, most_configurations};
+ghost use Rattle.snap_run_judge.specs.VerdictText.{verdict_text};
 
 use crate::order::{in_order, point_item};
 use crate::{Certification, Lack, Missing, UpdateWrite, certify};
 use snap_draft::Draft;
 use snap_record::Record;
+use snap_run_judge::{MOST_CONFIGURATIONS, judge_record, push_verdict};
 use snap_runs::Verdict;
 use snap_text::{push_number, push_text};
 use snap_words::Kind;
@@ -113,20 +118,17 @@ fn lack_text(out: &mut Vec<u8>, lack: Lack) -> Result<(), AllocError>
     }
 }
 
-/// `: WHAT; this refutes the argument by points, not linearizability`.
+/// `: WHAT`.
 #[tactic(auto, using(snap_text::proofs::Texts::joined))]
 fn reason_text(out: &mut Vec<u8>, lack: Lack) -> Result<(), AllocError>
     ensures { OnOk result (out.new.items ≡ out.old.items ++ reason_text lack) }
 {
     push_text(out, b": ")?;
     lack_text(out, lack)?;
-    push_text(
-        out,
-        b"; this refutes the argument by points, not linearizability\n",
-    )
+    push_text(out, b"\n")
 }
 
-/// `process I call C item T: WHAT; this refutes the argument by points, not linearizability`.
+/// `process I call C item T: WHAT`.
 #[tactic(auto, using(snap_text::proofs::Texts::joined))]
 fn missing_line(out: &mut Vec<u8>, missing: &Missing) -> Result<(), AllocError>
     ensures { OnOk result (out.new.items ≡ out.old.items ++ missing_line missing.now) }
@@ -177,13 +179,35 @@ fn text_of(alloc: Global, certification: &Certification) -> Result<Vec<u8>, Allo
     }
 }
 
+/// A text, and behind it the verdict on the run of a record.
+#[tactic(auto, using(snap_text::proofs::Texts::joined))]
+fn with_verdict<K: Kind>(
+    alloc: Global,
+    history: &Record<K>,
+    text: Vec<u8>,
+) -> Result<Vec<u8>, AllocError>
+    ensures { IfOk result (λ out. (j : Judgement)
+        × IsRunJudgement most_configurations history.now j
+        × (out.items ≡ text.items ++ verdict_text (history_of history.now) j)) }
+{
+    let judgement = judge_record(alloc, history, MOST_CONFIGURATIONS)?;
+    let mut out = text;
+    push_verdict(&mut out, history, &judgement)?;
+    Ok(out)
+}
+
 /// What a record is certified by, a line for each operation in the order of places; or what is
-/// missing, in one line.
+/// missing, in one line, and then whether the run is linearizable all the same.
 pub fn certification_text<K: Kind>(
     alloc: Global,
     history: &Record<K>,
 ) -> Result<Vec<u8>, AllocError>
-    ensures { IfOk result (λ out. out.items ≡ certificate_text history.now) }
+    ensures { IfOk result (λ out. IsCertificateText history.now out.items) }
 {
-    text_of(alloc, &certify(alloc, history)?)
+    let certification = certify(alloc, history)?;
+    let text = text_of(alloc, &certification)?;
+    match certification {
+        Certification::Certified(_) => Ok(text),
+        Certification::Missing(_) => with_verdict(alloc, history, text),
+    }
 }

@@ -18,10 +18,12 @@ use Rattle.snap_chance.specs.Plan.{IsPlan, Plan}
 use Rattle.snap_chance.specs.Priorities.{asked_turn, burst_move, changes_of, lowered_at, move_at, move_items}
 use Rattle.snap_chance.specs.Priorities.{moves_from, order_of, passed, role_move, share}
 use Rattle.snap_chance.specs.Turns.{asked_items, interrupted_process, scanning_turn}
-use Rattle.snap_chance.specs.Turns.{turn_items, update_of, updating_turn}
+use Rattle.snap_chance.specs.Turns.{update_of, updating_turn}
+use Rattle.snap_chance.specs.Paces.{turn_items}
 use Rattle.snap_chance.specs.declared.draws.Draws.{Draws}
 use Rattle.snap_chance.specs.declared.plan.Pace.{Pace}
-use Rattle.snap_chance.specs.declared.plan.Pace.TheVariants.{Coins, Bursts, Interruptions, Rounds, Mixed}
+use Rattle.snap_chance.specs.declared.plan.Pace.TheVariants.{Coins, Bursts, Interruptions, Rounds}
+use Rattle.snap_chance.specs.declared.plan.Pace.TheVariants.{Witnesses, Duels, Mixed}
 use Rattle.snap_chance.specs.declared.priorities.Mover.{Mover}
 use Rattle.snap_chance.specs.declared.turns.Turn.{Turn}
 use Rattle.snap_chance.proofs.Turning.{AreTurn, are_turn, asked_are_turn, burst_short, either}
@@ -47,6 +49,8 @@ is_move Coins p k t i d some = record { same = refl; short = omega arith }
 is_move Bursts p k t i d some = burst_is_move p k t i d
 is_move Interruptions p k t i d some = role_is_move p k t i d some
 is_move Rounds p k t i d some = role_is_move p k t i d some
+is_move Witnesses p k t i d some = role_is_move p k t i d some
+is_move Duels p k t i d some = role_is_move p k t i d some
 is_move Mixed p k t i d some =
     either (IsMove i) (nat_eq (k % 2) 0) (burst_move p k t i d) (role_move p k t i d)
     (burst_is_move p k t i d) (role_is_move p k t i d some)

@@ -1,7 +1,7 @@
 -- Turns of processes that are drawn, in schedules that chance makes: each is of a process that exists, and has at
 -- most 128 steps (`IsTurn`).
 use Rattle.std.proofs.Common.{◌≡◌, ℕ, zero, suc, ◌+◌, ◌-◌, ◌/◌, ◌%◌, ◌^◌, ◌<◌, ◌≤◌, Bool, true, false, List, [], ◌∷◌}
-use Rattle.std.proofs.Common.{◌++◌, Option, Some, None, length, replicate, nat_eq, nat_lt, if◌then◌else◌, refl, sym}
+use Rattle.std.proofs.Common.{◌++◌, Option, Some, None, length, replicate, nat_eq, nat_lt, ◌||◌, if◌then◌else◌, refl, sym}
 use Rattle.std.proofs.Common.{ap, subst, ◌∙◌, append_assoc, arith}
 use Rattle.std.proofs.Math.Pow.{pow_mono}
 use Rattle.std.proofs.lemmas.List.{length-append, length-replicate}
@@ -18,11 +18,17 @@ use Rattle.snap_chance.specs.Chance.{turns_from}
 use Rattle.snap_chance.specs.Draws.{draws}
 use Rattle.snap_chance.specs.Plan.{IsPlan, Plan}
 use Rattle.snap_chance.specs.Turns.{asked_items, burst_of, burst_turn, call_items, coin_turn, interrupted_turn}
-use Rattle.snap_chance.specs.Turns.{process_of, round_scan, round_turn, round_update, scanned_turn}
-use Rattle.snap_chance.specs.Turns.{scanning_turn, turn_at, turn_items, turn_of, updating_turn, whole_update}
+use Rattle.snap_chance.specs.Turns.{process_of, round_scan, round_turn, round_update}
+use Rattle.snap_chance.specs.Turns.{scanning_turn, updating_turn, whole_update}
+use Rattle.snap_chance.specs.Stories.{duel_turn, scene_turn, extent_of, witness_turn}
+use Rattle.snap_chance.specs.Paces.{mixed_turn, turn_at, turn_items, turn_of}
+use Rattle.snap_chance.specs.declared.stories.Scene.{Scene}
+use Rattle.snap_chance.specs.declared.stories.Extent.{Extent}
+use Rattle.snap_chance.specs.declared.stories.Extent.TheVariants.{Whole, Early, Late, Part, Any}
 use Rattle.snap_chance.specs.declared.draws.Draws.{Draws}
 use Rattle.snap_chance.specs.declared.plan.Pace.{Pace}
-use Rattle.snap_chance.specs.declared.plan.Pace.TheVariants.{Coins, Bursts, Interruptions, Rounds, Mixed}
+use Rattle.snap_chance.specs.declared.plan.Pace.TheVariants.{Coins, Bursts, Interruptions, Rounds}
+use Rattle.snap_chance.specs.declared.plan.Pace.TheVariants.{Witnesses, Duels, Mixed}
 use Rattle.snap_chance.specs.declared.turns.Turn.{Turn}
 
 -- a turn of a process that is there, of few steps
@@ -50,6 +56,9 @@ whole_short p = omega arith
 
 part_short : (x m : ℕ) → 0 < m → m ≤ 128 → x % m + 1 ≤ 128
 part_short x m some few = omega arith
+
+whole_long : (p : Plan) → 0 < p.shape.n → 24 ≤ whole_update p
+whole_long p some = omega arith
 
 whole_some : (p : Plan) → 0 < p.shape.n → 0 < whole_update p
 whole_some p some = omega arith
@@ -90,19 +99,42 @@ round_is_turn p k t d some =
     either (IsTurn p.shape.n) (nat_eq (t % 3) 0) (round_scan p k d) (round_update p k t d)
     (round_scan_is_turn p k d some) (round_update_is_turn p k t d some)
 
-scanned_is_turn : (p : Plan) (k t : ℕ) (d : Draws) → 0 < p.shape.n → IsTurn p.shape.n (scanned_turn p k t d)
-scanned_is_turn p k t d some =
-    either (IsTurn p.shape.n) (nat_eq (k % 8) 7) (round_turn p k t d) (interrupted_turn p k t d)
-    (round_is_turn p k t d some) (interrupted_is_turn p k t d some)
+extent_short : (g : Extent) (whole : ℕ) (d : Draws) → 24 ≤ whole → whole ≤ 128 → extent_of g whole d ≤ 128
+extent_short Whole whole d some few = few
+extent_short Early whole d some few =
+    let rest : d.length % (whole / 2) < whole / 2 = omega arith in
+    omega arith
+extent_short Late whole d some few =
+    let rest : d.length % (whole / 2) < whole / 2 = omega arith in
+    omega arith
+extent_short Part whole d some few = part_short d.length whole (omega arith) few
+extent_short Any whole d some few =
+    either (λ x. x ≤ 128) (nat_eq (d.scale % 2) 0) (d.length % whole + 1) whole
+    (part_short d.length whole (omega arith) few) few
+
+scene_is_turn : (p : Plan) (k t : ℕ) (s : Scene) (d : Draws) → 0 < p.shape.n → IsTurn p.shape.n (scene_turn p k t s d)
+scene_is_turn p k t s d some = record {
+  there = process_there (k / 8 + s.number) p.shape.n some;
+  short = extent_short s.extent (whole_update p) d (whole_long p some) (whole_short p);
+}
+
+mixed_is_turn : (p : Plan) (k t : ℕ) (d : Draws) → 0 < p.shape.n → IsTurn p.shape.n (mixed_turn p k t d)
+mixed_is_turn p k t d some =
+    let is : Turn → Type 0 = IsTurn p.shape.n in
+    either is (nat_eq (k % 8) 7) (round_turn p k t d) _ (round_is_turn p k t d some)
+    (either is (nat_eq (k % 8) 5) (witness_turn p k t d) _ (scene_is_turn p k t _ d some)
+    (either is (nat_eq (k % 8) 4 || nat_eq (k % 8) 6) (duel_turn p k t d) _ (scene_is_turn p k t _ d some)
+    (either is (nat_eq (k % 8) 1 || nat_eq (k % 8) 3) (interrupted_turn p k t d) (burst_turn p k t d)
+    (interrupted_is_turn p k t d some) (burst_is_turn p k t d some))))
 
 is_turn_at : (g : Pace) (p : Plan) (k t : ℕ) (d : Draws) → 0 < p.shape.n → IsTurn p.shape.n (turn_at g p k t d)
 is_turn_at Coins p k t d some = coin_is_turn p k t d some
 is_turn_at Bursts p k t d some = burst_is_turn p k t d some
 is_turn_at Interruptions p k t d some = interrupted_is_turn p k t d some
 is_turn_at Rounds p k t d some = round_is_turn p k t d some
-is_turn_at Mixed p k t d some =
-    either (IsTurn p.shape.n) (nat_eq (k % 2) 0) (burst_turn p k t d) (scanned_turn p k t d)
-    (burst_is_turn p k t d some) (scanned_is_turn p k t d some)
+is_turn_at Witnesses p k t d some = scene_is_turn p k t _ d some
+is_turn_at Duels p k t d some = scene_is_turn p k t _ d some
+is_turn_at Mixed p k t d some = mixed_is_turn p k t d some
 
 pub is_turn : (p : Plan) (k t : ℕ) (d : Draws) → 0 < p.shape.n → IsTurn p.shape.n (turn_of p k t d)
 is_turn p k t d some = is_turn_at p.pace p k t d some

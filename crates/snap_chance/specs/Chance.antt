@@ -7,7 +7,7 @@ use Rattle.snap_semantics.specs.declared.process.Item.{Item}
 use Rattle.snap_semantics.specs.Schedule.{Schedule}
 use Rattle.snap_chance.specs.Plan.{Plan}
 use Rattle.snap_chance.specs.Draws.{draws}
-use Rattle.snap_chance.specs.Turns.{turn_items}
+use Rattle.snap_chance.specs.Paces.{turn_items}
 use Rattle.snap_chance.specs.Priorities.{prioritized}
 
 -- where the generator of run k starts

@@ -2,5 +2,7 @@
 pub mod Draws
 pub mod Plan
 pub mod Turns
+pub mod Stories
+pub mod Paces
 pub mod Priorities
 pub mod Chance

@@ -16,7 +16,8 @@ use Rattle.snap_chance.specs.Turns.{asked_items, burst_of, interrupted_process, 
 use Rattle.snap_chance.specs.Turns.{update_of, updating_turn}
 use Rattle.snap_chance.specs.declared.draws.Draws.{Draws}
 use Rattle.snap_chance.specs.declared.plan.Pace.{Pace}
-use Rattle.snap_chance.specs.declared.plan.Pace.TheVariants.{Coins, Bursts, Interruptions, Rounds, Mixed}
+use Rattle.snap_chance.specs.declared.plan.Pace.TheVariants.{Coins, Bursts, Interruptions, Rounds}
+use Rattle.snap_chance.specs.declared.plan.Pace.TheVariants.{Witnesses, Duels, Mixed}
 use Rattle.snap_chance.specs.declared.priorities.Mover.{Mover}
 use Rattle.snap_chance.specs.declared.turns.Turn.{Turn}
 
@@ -79,6 +80,8 @@ move_at Coins p k t i d = asked_turn i (operation_of p k t i d) 1
 move_at Bursts p k t i d = burst_move p k t i d
 move_at Interruptions p k t i d = role_move p k t i d
 move_at Rounds p k t i d = role_move p k t i d
+move_at Witnesses p k t i d = role_move p k t i d
+move_at Duels p k t i d = role_move p k t i d
 move_at Mixed p k t i d = if nat_eq (k % 2) 0 then burst_move p k t i d else role_move p k t i d
 
 -- the items of turn t of run k, which is of the first in the order

@@ -1,15 +1,13 @@
--- What one turn of a schedule made by chance is, by the numbers drawn for it: a crash; or steps of one process,
--- before which it may call an operation.
+-- What one turn of a schedule made by chance may be, by the numbers drawn for it: steps of one process, before which
+-- it may call an operation.
 use Rattle.std.specs.Prelude.{ℕ, Bool, ◌+◌, ◌*◌, ◌/◌, ◌%◌, ◌^◌, ◌&&◌, List, [], ◌∷◌, ◌++◌, Option, Some, None, min}
 use Rattle.std.specs.Prelude.{nat_eq, nat_lt, replicate, if◌then◌else◌}
 use Rattle.snap_semantics.specs.declared.process.Item.{Item}
-use Rattle.snap_semantics.specs.declared.process.Item.TheVariants.{Step, Call, Crash}
+use Rattle.snap_semantics.specs.declared.process.Item.TheVariants.{Step, Call}
 use Rattle.snap_semantics.specs.declared.process.Op.{Op}
 use Rattle.snap_semantics.specs.declared.process.Op.TheVariants.{Scan, Update}
 use Rattle.snap_chance.specs.Plan.{Plan}
 use Rattle.snap_chance.specs.declared.draws.Draws.{Draws}
-use Rattle.snap_chance.specs.declared.plan.Pace.{Pace}
-use Rattle.snap_chance.specs.declared.plan.Pace.TheVariants.{Coins, Bursts, Interruptions, Rounds, Mixed}
 use Rattle.snap_chance.specs.declared.turns.Turn.{Turn}
 
 -- the process that is drawn for a turn
@@ -106,22 +104,6 @@ round_update p k t d =
 abbrev pub round_turn : Plan → (k t : ℕ) → Draws → Turn
 round_turn p k t d = if nat_eq (t % 3) 0 then round_scan p k d else round_update p k t d
 
--- a turn of a run whose scans are interrupted, by chance or, in one run of eight, in rounds
-abbrev pub scanned_turn : Plan → (k t : ℕ) → Draws → Turn
-scanned_turn p k t d = if nat_eq (k % 8) 7 then round_turn p k t d else interrupted_turn p k t d
-
--- a turn of this pace
-abbrev pub turn_at : Pace → Plan → (k t : ℕ) → Draws → Turn
-turn_at Coins p k t d = coin_turn p k t d
-turn_at Bursts p k t d = burst_turn p k t d
-turn_at Interruptions p k t d = interrupted_turn p k t d
-turn_at Rounds p k t d = round_turn p k t d
-turn_at Mixed p k t d = if nat_eq (k % 2) 0 then burst_turn p k t d else scanned_turn p k t d
-
--- turn t of run k, where it is no crash
-abbrev pub turn_of : Plan → (k t : ℕ) → Draws → Turn
-turn_of p k t d = turn_at p.pace p k t d
-
 -- what process i is asked for
 abbrev pub call_items : ℕ → Option Op → List Item
 call_items i None = []
@@ -130,8 +112,3 @@ call_items i (Some op) = Call i op ∷ []
 -- what a process is asked for, and its steps
 abbrev pub asked_items : Turn → List Item
 asked_items a = call_items a.process a.call ++ replicate a.steps (Step a.process)
-
--- the items of turn t of run k
-abbrev pub turn_items : Plan → (k t : ℕ) → Draws → List Item
-turn_items p k t d =
-    if nat_lt (d.crash % 1000) p.crashes then Crash (process_of p d) ∷ [] else asked_items (turn_of p k t d)

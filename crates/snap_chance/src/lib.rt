@@ -7,6 +7,7 @@ mod moves;
 mod plan;
 mod priorities;
 mod schedules;
+mod stories;
 mod turns;
 
 pub use laws::priorities_are_distinct;

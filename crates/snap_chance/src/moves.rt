@@ -63,7 +63,9 @@ fn move_of(plan: &Plan, run: u64, turn: u64, process: u32, draws: &Draws) -> Tur
     match plan.pace() {
         Pace::Coins => asked_turn(process, operation_of(plan, run, turn, process, draws), 1),
         Pace::Bursts => burst_move(plan, run, turn, process, draws),
-        Pace::Interruptions | Pace::Rounds => role_move(plan, run, turn, process, draws),
+        Pace::Interruptions | Pace::Rounds | Pace::Witnesses | Pace::Duels => {
+            role_move(plan, run, turn, process, draws)
+        }
         Pace::Mixed => {
             if run % 2 == 0 {
                 burst_move(plan, run, turn, process, draws)

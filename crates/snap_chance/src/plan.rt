@@ -23,7 +23,13 @@ pub enum Pace {
     /// One process scans, one to four steps at a time. Between them two others make two updates,
     /// whole.
     Rounds,
-    /// Bursts in every second run, rounds in one of eight, and interruptions in the others.
+    /// One process updates, in parts, and another one scans, in parts. A third updates and scans
+    /// between them, most often whole, so that its scans tell what the others left.
+    Witnesses,
+    /// One process updates, now to the end and now to somewhere near it, while another one scans, a
+    /// part at a time, behind an update of its own.
+    Duels,
+    /// Of eight runs two are bursts, two interruptions, two duels, one has witnesses, and one rounds.
     Mixed,
 }
 

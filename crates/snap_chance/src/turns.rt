@@ -4,6 +4,7 @@ ghost use Rattle.std.specs.Prelude.{◌≡◌, ◌<◌, ◌≤◌, ◌+◌, ◌^
 ghost use Rattle.std.specs.List.{AllByRecursion};
 ghost use Rattle.snap_words.specs.Shape.{IsOneOf};
 ghost use Rattle.snap_semantics.specs.ScheduleText.{FitsItem};
+ghost use Rattle.snap_chance.specs.Paces.{mixed_turn, turn_items, turn_of};
 ghost use Rattle.snap_chance.specs.Turns.{
   asked_items,
   burst_of,
@@ -19,10 +20,7 @@ ghost use Rattle.snap_chance.specs.Turns.{
   round_turn,
   round_update,
   round_value,
-  scanned_turn,
   scanning_turn,
-  turn_items,
-  turn_of,
   update_of,
   updating_turn,
   value_of,
@@ -32,6 +30,7 @@ ghost use Rattle.snap_chance.specs.Turns.{
 
 use crate::draws::Draws;
 use crate::plan::{Pace, Plan};
+use crate::stories::{duel_turn, witness_turn};
 use snap_sched::Items;
 use snap_semantics::Op;
 use std::alloc::AllocError;
@@ -59,7 +58,7 @@ pub(crate) fn burst_of(draws: &Draws) -> u64
 }
 
 /// The word that an update of a process sets.
-fn word_of(plan: &Plan, process: u32, draws: &Draws) -> u64
+pub(crate) fn word_of(plan: &Plan, process: u32, draws: &Draws) -> u64
     ensures { result ≡ word_of plan.now process draws.now }
 {
     if plan.owns() {
@@ -166,9 +165,10 @@ pub(crate) fn scanning_turn(plan: &Plan, run: u64, draws: &Draws) -> Turn
 }
 
 /// How many steps make an update whole, where nothing comes between them and the processes are few.
-fn whole_update(plan: &Plan) -> u64
+pub(crate) fn whole_update(plan: &Plan) -> u64
     ensures value { result ≡ whole_update plan.now }
-    ensures some { 0 < result }
+    ensures some { 24 ≤ result }
+    ensures few { result ≤ 128 }
 {
     (24 * u64::from(plan.shape().process_count())).min(128)
 }
@@ -203,7 +203,7 @@ fn interrupted_turn(plan: &Plan, run: u64, turn: u64, draws: &Draws) -> Turn
 }
 
 /// A process of the rounds of a run: number 0 scans, 1 and 2 update.
-fn round_process(plan: &Plan, run: u64, number: u64) -> u32
+pub(crate) fn round_process(plan: &Plan, run: u64, number: u64) -> u32
     requires { number ≤ 2 }
     ensures { result ≡ round_process plan.now run number }
 {
@@ -258,14 +258,21 @@ fn round_turn(plan: &Plan, run: u64, turn: u64, draws: &Draws) -> Turn
     }
 }
 
-/// A turn of a run whose scans are interrupted, by chance or, in one run of eight, in rounds.
-fn scanned_turn(plan: &Plan, run: u64, turn: u64, draws: &Draws) -> Turn
-    ensures { result ≡ scanned_turn plan.now run turn draws.now }
+/// A turn of a run of each kind in turn, by the number of the run.
+fn mixed_turn(plan: &Plan, run: u64, turn: u64, draws: &Draws) -> Turn
+    ensures { result ≡ mixed_turn plan.now run turn draws.now }
 {
-    if run % 8 == 7 {
+    let kind = run % 8;
+    if kind == 7 {
         round_turn(plan, run, turn, draws)
-    } else {
+    } else if kind == 5 {
+        witness_turn(plan, run, turn, draws)
+    } else if kind == 4 || kind == 6 {
+        duel_turn(plan, run, turn, draws)
+    } else if kind == 1 || kind == 3 {
         interrupted_turn(plan, run, turn, draws)
+    } else {
+        burst_turn(plan, run, turn, draws)
     }
 }
 
@@ -278,13 +285,9 @@ fn turn_of(plan: &Plan, run: u64, turn: u64, draws: &Draws) -> Turn
         Pace::Bursts => burst_turn(plan, run, turn, draws),
         Pace::Interruptions => interrupted_turn(plan, run, turn, draws),
         Pace::Rounds => round_turn(plan, run, turn, draws),
-        Pace::Mixed => {
-            if run % 2 == 0 {
-                burst_turn(plan, run, turn, draws)
-            } else {
-                scanned_turn(plan, run, turn, draws)
-            }
-        }
+        Pace::Witnesses => witness_turn(plan, run, turn, draws),
+        Pace::Duels => duel_turn(plan, run, turn, draws),
+        Pace::Mixed => mixed_turn(plan, run, turn, draws),
     }
 }
 

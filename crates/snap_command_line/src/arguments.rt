@@ -1,18 +1,20 @@
 //! `request_of_arguments`: the subcommands and options that snaplab takes, and what they ask for.
-ghost use Rattle.std.specs.Prelude.{◌≡◌, IfOk, IfSome, codes};
+ghost use Rattle.std.specs.Prelude.{◌≡◌, ◌≤◌, IfOk, IfSome, codes};
 ghost use Rattle.clap.specs.Matches.{first_value, found_of};
 ghost use Rattle.clap.specs.declared.parser.matches.ArgMatches.{ArgMatches};
-ghost use Rattle.snap_tasks.specs.Request.{HasLimit, IsLimit};
-ghost use Rattle.snap_command_line.specs.Invocations.{IsAsked, IsAskedBy, IsLimitIn};
-ghost use Rattle.snap_command_line.specs.Invocations.{limit_or_usual, subject_of};
+ghost use Rattle.snap_tasks.specs.Request.{AreOptions, HasLimit, IsLimit};
+ghost use Rattle.snap_command_line.specs.Invocations.{AreCrashesIn, AreOptionsIn, IsAsked};
+ghost use Rattle.snap_command_line.specs.Invocations.{IsAskedBy, IsLimitIn, IsMostIn};
+ghost use Rattle.snap_command_line.specs.Invocations.{crashes_or_none, limit_or_usual};
+ghost use Rattle.snap_command_line.specs.Invocations.{most_or_usual, subject_of};
 
 use crate::command_line::Invocation;
-use crate::texts::{HELP, LIVE, OF_RUNS, OF_TEXTS, SURVEY, Told};
+use crate::texts::{HELP, JUDGE, LIVE, OF_RUNS, OF_TEXTS, PROMELA, SURVEY, Told};
 use clap::builder::ValueParser;
 use clap::error::ErrorKind;
 use clap::{Arg, ArgAction, ArgMatches, Command, Error};
 use snap_options::{is_given, number_of};
-use snap_tasks::{Subject, kind_of, request_of};
+use snap_tasks::{Options, Subject, kind_of, request_of};
 use snap_words::MAX_ITEMS;
 use std::alloc::{AllocError, Global};
 
@@ -24,6 +26,12 @@ const KINDS: &[&str] = &["seq", "bit", "multi"];
 
 /// The most that it has where no limit is given.
 const USUAL_LIMIT: u64 = 100_000;
+
+/// The most processes that may crash in a model: all of them.
+const MOST_CRASHES: u64 = 8;
+
+/// The most configurations that a search keeps where no number is given.
+const USUAL_MOST: u64 = 1_000_000;
 
 /// What is said where the name of a file stands behind a subcommand.
 const NO_FILES: &str = "\
@@ -74,9 +82,33 @@ fn survey<'a>(alloc: Global) -> Result<Command<'a>, AllocError> {
     let strict = flag(
         alloc,
         "strict",
-        "Ends with status 4 where a run has a scan without{n}a point, or a trap",
+        "Ends with status 4 where a run is not linearizable,{n}or has a trap",
     );
     running(alloc, SURVEY)?.arg(strict)
+}
+
+/// The subcommand that judges.
+fn judge<'a>(alloc: Global) -> Result<Command<'a>, AllocError> {
+    let history = flag(alloc, "history", "Judges a history: the whole input is one");
+    let history = history.conflicts_with("shipped")?;
+    let most = Arg::new(alloc, "most")
+        .long("most")
+        .value_name("N")
+        .value_parser(ValueParser::unsigned(1, u64::MAX))
+        .default_value("1000000")
+        .help("The most configurations that a search{n}keeps");
+    running(alloc, JUDGE)?.arg(history)?.arg(most)
+}
+
+/// The subcommand that writes a model.
+fn promela<'a>(alloc: Global) -> Result<Command<'a>, AllocError> {
+    let crashes = Arg::new(alloc, "crashes")
+        .long("crashes")
+        .value_name("N")
+        .value_parser(ValueParser::unsigned(0, MOST_CRASHES))
+        .default_value("0")
+        .help("So many processes may crash, at any time");
+    running(alloc, PROMELA)?.arg(crashes)
 }
 
 /// The option that has refusals explained.
@@ -116,7 +148,11 @@ fn command<'a>(alloc: Global) -> Result<Command<'a>, AllocError> {
         .arg(explain(alloc))?;
     let command = with_texts(alloc, command)?;
     let command = with_runs(alloc, command)?;
-    command.subcommand(survey(alloc)?)?.subcommand(live(alloc)?)
+    command
+        .subcommand(judge(alloc)?)?
+        .subcommand(survey(alloc)?)?
+        .subcommand(live(alloc)?)?
+        .subcommand(promela(alloc)?)
 }
 
 /// The limit that is given, where it is one that processes may have, and else the usual one.
@@ -139,6 +175,43 @@ fn limit_of(arguments: &ArgMatches<'_>) -> u64
     limit_or_usual(number_of(arguments, "limit"))
 }
 
+/// The most configurations that a search is to keep, where a number is given, and else the usual
+/// number.
+fn most_or_usual(given: Option<u64>) -> u64
+    ensures value { result ≡ most_or_usual given }
+    ensures some { 1 ≤ result }
+{
+    match given {
+        Some(most) if 1 <= most => most,
+        _ => USUAL_MOST,
+    }
+}
+
+/// The most configurations that a search is to keep by a subcommand's arguments.
+fn most_of(arguments: &ArgMatches<'_>) -> u64
+    ensures given { IsMostIn (found_of arguments.now) result }
+    ensures some { 1 ≤ result }
+{
+    most_or_usual(number_of(arguments, "most"))
+}
+
+/// How many processes may crash at any time, where a number is given, and else none.
+fn crashes_or_none(given: Option<u64>) -> u64
+    ensures { result ≡ crashes_or_none given }
+{
+    match given {
+        Some(crashes) => crashes,
+        None => 0,
+    }
+}
+
+/// How many processes may crash at any time by a subcommand's arguments.
+fn crashes_of(arguments: &ArgMatches<'_>) -> u64
+    ensures { AreCrashesIn (found_of arguments.now) result }
+{
+    crashes_or_none(number_of(arguments, "crashes"))
+}
+
 /// The listing that a subcommand's arguments ask for.
 fn subject_of(arguments: &ArgMatches<'_>) -> Option<Subject>
     ensures { result ≡ subject_of (first_value (found_of arguments.now) (codes "shipped")) }
@@ -149,13 +222,28 @@ fn subject_of(arguments: &ArgMatches<'_>) -> Option<Subject>
     }
 }
 
+/// What the options of a subcommand say.
+fn options_of(arguments: &ArgMatches<'_>) -> Option<Options>
+    ensures given { IfSome result (AreOptionsIn (found_of arguments.now)) }
+    ensures right { IfSome result AreOptions }
+{
+    let subject = subject_of(arguments)?;
+    Some(Options {
+        subject,
+        limit: limit_of(arguments),
+        history: is_given(arguments, "history"),
+        most: most_of(arguments),
+        crashes: crashes_of(arguments),
+    })
+}
+
 /// What the subcommand of this name asks for, by its own arguments and by all of them.
 fn asked_by(name: &str, own: &ArgMatches<'_>, all: &ArgMatches<'_>) -> Option<Invocation>
     ensures asked { IfSome result (IsAskedBy name.now (found_of own.now) (found_of all.now)) }
     ensures limit { IfSome result (λ asked. HasLimit asked.request) }
 {
-    let subject = subject_of(own)?;
-    let request = request_of(name, subject, limit_of(own))?;
+    let options = options_of(own)?;
+    let request = request_of(name, &options)?;
     let explains = is_given(all, "explain");
     let strict = is_given(own, "strict");
     Some(Invocation {

@@ -1,6 +1,7 @@
 //! `CommandLine`: what the arguments of snaplab's command line come to, an `Invocation` or a text
 //! such as the help.
 ghost use Rattle.std.specs.Prelude.{◌≡◌, IfOk};
+ghost use Rattle.snap_command_line.specs.Invocations.{IsMatched};
 ghost use Rattle.snap_command_line.specs.Limits.{HasLimits, explained_if};
 
 use crate::arguments::request_of_arguments;
@@ -50,7 +51,8 @@ impl CommandLine {
 
 /// What is said where the arguments ask for no task.
 fn explained(alloc: Global, error: &Error) -> Result<CommandLine, AllocError>
-    ensures { IfOk result HasLimits }
+    ensures matched { IfOk result IsMatched }
+    ensures limits { IfOk result HasLimits }
 {
     if error.kind() == ErrorKind::OutOfMemory {
         return Err(AllocError);
@@ -65,9 +67,15 @@ fn explained(alloc: Global, error: &Error) -> Result<CommandLine, AllocError>
     }
 }
 
-/// What arguments come to, the program's own name first.
+/// Returns what arguments come to, the program's own name first. What they ask for is what `clap`
+/// has found in them asks for; that it finds what stands there is its own promise.
+///
+/// # Errors
+///
+/// Memory ran out.
 pub fn read_arguments(alloc: Global, arguments: &[String]) -> Result<CommandLine, AllocError>
-    ensures { IfOk result HasLimits }
+    ensures matched { IfOk result IsMatched }
+    ensures limits { IfOk result HasLimits }
 {
     match request_of_arguments(alloc, arguments) {
         Ok(asked) => Ok(CommandLine::Asks(asked)),

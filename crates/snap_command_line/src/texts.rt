@@ -39,6 +39,35 @@ pub const OF_RUNS: [Told; 6] = [
     ("batch", "Runs a listing under many schedules", BATCH),
 ];
 
+/// The subcommand that judges.
+pub const JUDGE: Told = (
+    "judge",
+    "Says whether a run, or a history, is linearizable",
+    "\
+Reads: LISTING, %, SCHEDULE from standard input; SCHEDULE with --shipped;
+       HISTORY with --history
+Ends:  with status 0 where it is linearizable, 4 where it is not,
+       5 where that is undecided
+
+Examples:
+  snaplab judge < examples/no-point/stdin
+  snaplab judge --history < examples/judge/stdin",
+);
+
+/// The subcommand that writes a model.
+pub const PROMELA: Told = (
+    "promela",
+    "Writes a model for the model checker Spin",
+    "\
+Reads: LISTING, %, SCRIPTS from standard input; SCRIPTS with --shipped
+
+`bin/snapspin` searches all schedules of the scripts by it.
+
+Examples:
+  { cat examples/u.txt; echo %; cat examples/live/stdin; } | snaplab promela
+  snaplab promela --shipped seq < examples/searches/scan-and-two-updates.txt",
+);
+
 /// The subcommand that surveys runs.
 pub const SURVEY: Told = (
     "survey",
@@ -162,11 +191,15 @@ One run:
   debug     Runs a listing under a schedule, by debugger commands
   audit     Says of each finished scan which state it stands for
   certify   Says where each operation took place, or what is missing for that
+  judge     Says whether a run, or a history, is linearizable
 
 Many runs, and live ones:
   batch     Runs a listing under many schedules
   survey    Says what the run of each of many schedules came to
   live      Plays scripts live, each process in a thread of its own
+
+All schedules of a few operations:
+  promela   Writes a model for the model checker Spin
 
 More:
   help      Prints this, or the help of a command, which says what it reads

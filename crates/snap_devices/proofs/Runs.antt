@@ -12,8 +12,17 @@ use Rattle.snap_semantics.specs.declared.refusal.Refusal.{Refusal}
 use Rattle.snap_live_output.specs.declared.fault.LiveRunFault.{LiveRunFault}
 use Rattle.snap_live_output.specs.declared.fault.LiveRunFault.TheVariants as run
 use Rattle.snap_live_output.specs.LiveAnswer.{AnswersLive}
+use Rattle.snap_run_judge.specs.declared.linearizability.Linearizability.{Linearizability}
+use Rattle.snap_judge_task.specs.declared.fault.JudgeFault.{JudgeFault}
+use Rattle.snap_judge_task.specs.declared.fault.JudgeFault.TheVariants as judge
+use Rattle.snap_judge_task.specs.JudgeAnswer.{AnswersJudge, IsJudged}
+use Rattle.snap_model_output.specs.declared.fault.ModelFault.{ModelFault}
+use Rattle.snap_model_output.specs.declared.fault.ModelFault.TheVariants as model
+use Rattle.snap_model_output.specs.ModelOutput.{RefusesModel}
+use Rattle.snap_tasks.specs.declared.judge_request.JudgeRequest.{JudgeRequest}
 use Rattle.snap_tasks.specs.declared.subject.Subject.{Subject}
-use Rattle.snap_devices.specs.WholeRun.{of_fault, of_live_fault, IsWhole, RefusesLive, Takes, Reads}
+use Rattle.snap_devices.specs.WholeRun.{of_fault, of_judge_fault, of_live_fault, IsWhole, Takes, Reads}
+use Rattle.snap_devices.specs.WholeRun.{IsJudgeOf, RefusesJudge, RefusesLive, RefusesModelOf, of_model_fault}
 use Rattle.snap_devices.specs.WholeRun.{Sends, ConductsOn, ConductsKeeping, IsKept, done_of}
 use Rattle.snap_devices.specs.declared.fault.ConductFault.{ConductFault}
 use Rattle.snap_devices.specs.declared.fault.ConductFault.TheVariants as fault
@@ -31,6 +40,8 @@ abbrev pub Why : (Refuses : ConductFault → Type 0) → ConductFault → Type 0
 Why Refuses fault.Memory = ⊤
 Why Refuses (fault.Refused f) = Refuses (fault.Refused f)
 Why Refuses (fault.Live f) = Refuses (fault.Live f)
+Why Refuses (fault.History f) = Refuses (fault.History f)
+Why Refuses (fault.Model f) = Refuses (fault.Model f)
 Why Refuses fault.Read = ⊥
 Why Refuses (fault.Write count) = ⊥
 
@@ -40,6 +51,8 @@ is_kept (Ok done) input = tt
 is_kept (Err fault.Memory) input = tt
 is_kept (Err (fault.Refused f)) input = refl
 is_kept (Err (fault.Live f)) input = tt
+is_kept (Err (fault.History f)) input = refl
+is_kept (Err (fault.Model f)) input = tt
 is_kept (Err fault.Read) input = tt
 is_kept (Err (fault.Write count)) input = tt
 
@@ -68,6 +81,27 @@ pub why_live : (e : LiveRunFault) (may : ℕ → ℕ → Bool → Type 0) (subje
 why_live run.Memory may subject limit input h = tt
 why_live (run.Refused f) may subject limit input h = h
 why_live (run.Live f) may subject limit input h = h
+
+-- what is judged is refused as its output says
+pub why_judge : (e : JudgeFault) (asked : JudgeRequest) (input : List ℕ) → AnswersJudge asked input (Err e) →
+    Why (RefusesJudge asked input) (of_judge_fault e)
+why_judge judge.Memory asked input h = tt
+why_judge (judge.Refused f) asked input h = h
+why_judge (judge.History f) asked input h = h
+
+-- a model is refused as its output says
+pub why_model : (e : ModelFault) (subject : Subject) (input : List ℕ) → RefusesModel subject input e →
+    Why (RefusesModelOf subject input) (of_model_fault e)
+why_model model.Memory subject input h = tt
+why_model (model.Refused f) subject input h = h
+why_model (model.Model f) subject input h = h
+
+-- where the word is not answered, there is one
+pub some_word : (answer : Result Linearizability ConductFault) (e : ConductFault) (asked : JudgeRequest)
+    (input text : List ℕ) (word : Linearizability)
+    → IsErr answer × IsErrAnd answer (λ f. f ≡ e) → IsJudged asked input text word → IsJudgeOf answer asked input text
+some_word (Ok found) e asked input text word from h = absurd from.1
+some_word (Err f) e asked input text word from h = (word, h)
 
 -- an answer that `?` has passed on says nothing of what was found
 pub nothing_found : {A : Type 0} (P : A → Type 0) (answer : Result A ConductFault) (e : ConductFault)
@@ -98,6 +132,10 @@ module _ (IsOutput : List ℕ → List ℕ → Type 0) (Refuses : List ℕ → C
       ([], takes, whole, Appends-nil taken, (refl, subst (λ (x : List ℕ). Refuses x (fault.Refused f)) same h))
   gave_up (fault.Live f) input now before after taken r w s same takes whole h =
       ([], takes, whole, Appends-nil taken, (refl, subst (λ (x : List ℕ). Refuses x (fault.Live f)) same h))
+  gave_up (fault.History f) input now before after taken r w s same takes whole h =
+      ([], takes, whole, Appends-nil taken, (refl, subst (λ (x : List ℕ). Refuses x (fault.History f)) same h))
+  gave_up (fault.Model f) input now before after taken r w s same takes whole h =
+      ([], takes, whole, Appends-nil taken, (refl, subst (λ (x : List ℕ). Refuses x (fault.Model f)) same h))
   gave_up fault.Read input now before after taken r w s same takes whole h = absurd h
   gave_up (fault.Write count) input now before after taken r w s same takes whole h = absurd h
 
@@ -177,6 +215,8 @@ also Narrow Wide Refuses wider (Ok done) input before after taken taken_after r 
 also Narrow Wide Refuses wider (Err fault.Memory) input before after taken taken_after r w s h = h
 also Narrow Wide Refuses wider (Err (fault.Refused f)) input before after taken taken_after r w s h = h
 also Narrow Wide Refuses wider (Err (fault.Live f)) input before after taken taken_after r w s h = h
+also Narrow Wide Refuses wider (Err (fault.History f)) input before after taken taken_after r w s h = h
+also Narrow Wide Refuses wider (Err (fault.Model f)) input before after taken taken_after r w s h = h
 also Narrow Wide Refuses wider (Err fault.Read) input before after taken taken_after r w s h = h
 also Narrow Wide Refuses wider (Err (fault.Write count)) input before after taken taken_after r w s h =
     let there = h.4 in (h.0, h.1, h.2, h.3, (there.0, wider input there.0 there.1, there.2, there.3, there.4))

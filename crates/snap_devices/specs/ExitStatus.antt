@@ -9,5 +9,7 @@ abbrev pub fault_status : ConductFault → ℕ
 fault_status fault.Memory = 1
 fault_status (fault.Refused r) = 1
 fault_status (fault.Live r) = 1
+fault_status (fault.History r) = 1
+fault_status (fault.Model r) = 1
 fault_status fault.Read = 3
 fault_status (fault.Write count) = 3

@@ -10,7 +10,16 @@ use Rattle.snap_live_output.specs.declared.fault.LiveRunFault.{LiveRunFault}
 use Rattle.snap_live_output.specs.declared.fault.LiveRunFault.TheVariants as run
 use Rattle.snap_live_output.specs.LiveOutput.{MayGiveUp, MayWrite, setup_of}
 use Rattle.snap_live_output.specs.Uncalled.{uncalled_of}
+use Rattle.snap_run_judge.specs.declared.linearizability.Linearizability.{Linearizability}
+use Rattle.snap_judge_task.specs.declared.fault.JudgeFault.{JudgeFault}
+use Rattle.snap_judge_task.specs.declared.fault.JudgeFault.TheVariants as judge
+use Rattle.snap_judge_task.specs.Judged.{judged}
+use Rattle.snap_judge_task.specs.JudgeAnswer.{IsJudged}
+use Rattle.snap_model_output.specs.declared.fault.ModelFault.{ModelFault}
+use Rattle.snap_model_output.specs.declared.fault.ModelFault.TheVariants as model
+use Rattle.snap_model_output.specs.ModelOutput.{MayModel, RefusesModel}
 use Rattle.snap_streams.specs.Sent as sent
+use Rattle.snap_tasks.specs.declared.judge_request.JudgeRequest.{JudgeRequest}
 use Rattle.snap_tasks.specs.declared.subject.Subject.{Subject}
 use Rattle.snap_devices.specs.declared.fault.ConductFault.{ConductFault}
 use Rattle.snap_devices.specs.declared.fault.ConductFault.TheVariants as fault
@@ -25,6 +34,18 @@ abbrev pub of_live_fault : LiveRunFault → ConductFault
 of_live_fault run.Memory = fault.Memory
 of_live_fault (run.Refused r) = fault.Refused r
 of_live_fault (run.Live r) = fault.Live r
+
+-- why nothing was judged, as a fault of a whole run
+abbrev pub of_judge_fault : JudgeFault → ConductFault
+of_judge_fault judge.Memory = fault.Memory
+of_judge_fault (judge.Refused r) = fault.Refused r
+of_judge_fault (judge.History r) = fault.History r
+
+-- why there is no model, as a fault of a whole run
+abbrev pub of_model_fault : ModelFault → ConductFault
+of_model_fault model.Memory = fault.Memory
+of_model_fault (model.Refused r) = fault.Refused r
+of_model_fault (model.Model r) = fault.Model r
 
 -- the input is all that was there, or one byte more than is allowed
 abbrev pub IsWhole : List ℕ → Option (List ℕ) → Type 0
@@ -53,6 +74,8 @@ Writes (Ok done) IsOutput Refuses text r w s = IsOutput text
 Writes (Err fault.Memory) IsOutput Refuses text r w s = text ≡ []
 Writes (Err (fault.Refused f)) IsOutput Refuses text r w s = (text ≡ []) × Refuses (fault.Refused f)
 Writes (Err (fault.Live f)) IsOutput Refuses text r w s = (text ≡ []) × Refuses (fault.Live f)
+Writes (Err (fault.History f)) IsOutput Refuses text r w s = (text ≡ []) × Refuses (fault.History f)
+Writes (Err (fault.Model f)) IsOutput Refuses text r w s = (text ≡ []) × Refuses (fault.Model f)
 Writes (Err fault.Read) IsOutput Refuses text r w s = (text ≡ []) × (r ≡ true)
 Writes (Err (fault.Write count)) IsOutput Refuses text r w s =
     (whole : List ℕ) × IsOutput whole × (count < length whole) × (text ≡ take count whole) × ((w ≡ true) ⊎ (s ≡ true))
@@ -63,6 +86,8 @@ IsWholeFor (Ok done) input after = IsWhole input after
 IsWholeFor (Err fault.Memory) input after = ⊤
 IsWholeFor (Err (fault.Refused f)) input after = IsWhole input after
 IsWholeFor (Err (fault.Live f)) input after = IsWhole input after
+IsWholeFor (Err (fault.History f)) input after = IsWhole input after
+IsWholeFor (Err (fault.Model f)) input after = IsWhole input after
 IsWholeFor (Err fault.Read) input after = ⊤
 IsWholeFor (Err (fault.Write count)) input after = IsWhole input after
 
@@ -83,9 +108,10 @@ abbrev pub ConductsBy : (IsOutput : (input text : List ℕ) → Type 0) (Refuses
 ConductsBy IsOutput Refuses answer left left_after taken taken_after r w s =
     (input : List ℕ) × ConductsOn IsOutput Refuses input answer left left_after taken taken_after r w s
 
--- where the input is refused, it was kept
+-- where the input is refused, as no history too, it was kept
 abbrev pub IsKept : (answer : Result (Unit {0}) ConductFault) (kept input : List ℕ) → Type 0
 IsKept (Err (fault.Refused f)) kept input = kept ≡ input
+IsKept (Err (fault.History f)) kept input = kept ≡ input
 IsKept _ kept input = ⊤
 
 -- A whole run that keeps its input.
@@ -131,3 +157,34 @@ abbrev pub ConductsLive : (may : ℕ → ℕ → Bool → Type 0) (subject : Sub
 ConductsLive may subject limit answer left left_after taken taken_after r w s =
     ConductsBy (MayWrite may subject limit)
     (RefusesLive may subject limit) answer left left_after taken taken_after r w s
+
+-- why nothing is judged
+abbrev pub RefusesJudge : JudgeRequest → (input : List ℕ) → ConductFault → Type 0
+RefusesJudge asked input (fault.Refused f) = judged asked.source input ≡ Err (judge.Refused f)
+RefusesJudge asked input (fault.History f) = judged asked.source input ≡ Err (judge.History f)
+RefusesJudge asked input _ = ⊥
+
+-- what is written of what was judged, and the word for it, where that is answered
+abbrev pub IsJudgeOf : Result Linearizability ConductFault → JudgeRequest → (input text : List ℕ) → Type 0
+IsJudgeOf (Ok word) asked input text = IsJudged asked input text word
+IsJudgeOf (Err e) asked input text = (word : Linearizability) × IsJudged asked input text word
+
+-- A whole run that judges, and answers the word for what it judged; it keeps its input.
+abbrev pub ConductsJudge : (asked : JudgeRequest) (kept : List ℕ) (answer : Result Linearizability ConductFault)
+    (left left_after taken taken_after : Option (List ℕ)) (reader_failed writer_failed writer_stalled : Bool) → Type 0
+ConductsJudge asked kept answer left left_after taken taken_after r w s =
+    ConductsKeeping (IsJudgeOf answer asked) (RefusesJudge asked) kept
+    (done_of answer) left left_after taken taken_after r w s
+
+-- why no model is written
+abbrev pub RefusesModelOf : Subject → (input : List ℕ) → ConductFault → Type 0
+RefusesModelOf subject input (fault.Refused f) = RefusesModel subject input (model.Refused f)
+RefusesModelOf subject input (fault.Model f) = RefusesModel subject input (model.Model f)
+RefusesModelOf subject input _ = ⊥
+
+-- A whole run that writes a model; it keeps its input. Of the text of a model nothing is promised.
+abbrev pub ConductsModel : (subject : Subject) (kept : List ℕ) (answer : Result (Unit {0}) ConductFault)
+    (left left_after taken taken_after : Option (List ℕ)) (reader_failed writer_failed writer_stalled : Bool) → Type 0
+ConductsModel subject kept answer left left_after taken taken_after r w s =
+    ConductsKeeping (λ input text. MayModel subject input) (RefusesModelOf subject) kept
+    answer left left_after taken taken_after r w s

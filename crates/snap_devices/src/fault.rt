@@ -1,12 +1,16 @@
 //! `ConductFault`: why a whole run of the program did not write its output; `fault_status` is the
 //! status that it ends with.
 ghost use Rattle.std.specs.Prelude.{◌≡◌};
-ghost use Rattle.snap_devices.specs.WholeRun.{of_fault, of_live_fault};
+ghost use Rattle.snap_devices.specs.WholeRun.{of_fault, of_judge_fault, of_live_fault};
+ghost use Rattle.snap_devices.specs.WholeRun.{of_model_fault};
 ghost use Rattle.snap_devices.specs.ExitStatus.{fault_status};
 ghost use Rattle.snap_devices.specs.declared.fault.ConductFault.TheVariants.{Memory, Write};
 
+use snap_history_text::HistoryRefusal;
+use snap_judge_task::JudgeFault;
 use snap_live::LiveRefusal;
 use snap_live_output::LiveRunFault;
+use snap_model_output::{ModelFault, ModelRefusal};
 use snap_semantics::{Fault, Refusal};
 use snap_streams::Unsent;
 use std::alloc::{AllocError, AllocFailed};
@@ -22,6 +26,12 @@ pub enum ConductFault {
     /// A live run was given up.
     #[error("{0}")]
     Live(LiveRefusal),
+    /// The input is no history.
+    #[error("{0}")]
+    History(HistoryRefusal),
+    /// No model holds what the input asks for.
+    #[error("{0}")]
+    Model(ModelRefusal),
     #[error("the input could not be read")]
     Read,
     /// The output could not be written after so many bytes.
@@ -34,7 +44,11 @@ pub fn fault_status(fault: &ConductFault) -> u8
     ensures { result ≡ fault_status fault.now }
 {
     match fault {
-        ConductFault::Memory | ConductFault::Refused(_) | ConductFault::Live(_) => 1,
+        ConductFault::Memory
+        | ConductFault::Refused(_)
+        | ConductFault::Live(_)
+        | ConductFault::History(_)
+        | ConductFault::Model(_) => 1,
         ConductFault::Read | ConductFault::Write(_) => 3,
     }
 }
@@ -82,6 +96,30 @@ impl From<LiveRunFault> for ConductFault {
             LiveRunFault::Memory => ConductFault::Memory,
             LiveRunFault::Refused(refusal) => ConductFault::Refused(refusal),
             LiveRunFault::Live(refusal) => ConductFault::Live(refusal),
+        }
+    }
+}
+
+impl From<JudgeFault> for ConductFault {
+    ghost from_gives = { λ found fault. fault ≡ of_judge_fault found };
+
+    fn from(fault: JudgeFault) -> ConductFault {
+        match fault {
+            JudgeFault::Memory => ConductFault::Memory,
+            JudgeFault::Refused(refusal) => ConductFault::Refused(refusal),
+            JudgeFault::History(refusal) => ConductFault::History(refusal),
+        }
+    }
+}
+
+impl From<ModelFault> for ConductFault {
+    ghost from_gives = { λ found fault. fault ≡ of_model_fault found };
+
+    fn from(fault: ModelFault) -> ConductFault {
+        match fault {
+            ModelFault::Memory => ConductFault::Memory,
+            ModelFault::Refused(refusal) => ConductFault::Refused(refusal),
+            ModelFault::Model(refusal) => ConductFault::Model(refusal),
         }
     }
 }

@@ -10,4 +10,5 @@ pub mod TokenUses
 pub mod Misuse
 pub mod Inputs
 pub mod Explanation
+pub mod HistoryExplanation
 pub mod Views

@@ -13,13 +13,20 @@ use Rattle.snap_tasks.specs.declared.subject.Subject.{Subject}
 use Rattle.snap_tasks.specs.declared.subject.Subject.TheVariants as subject
 use Rattle.snap_tasks.specs.declared.task.Task.TheVariants as task
 use Rattle.snap_tasks.specs.declared.request.Request.{Request}
-use Rattle.snap_tasks.specs.declared.request.Request.TheVariants.{Do, Live}
+use Rattle.snap_tasks.specs.declared.judge_request.JudgeSource.{JudgeSource}
+use Rattle.snap_tasks.specs.declared.judge_request.JudgeSource.TheVariants as source
+use Rattle.snap_tasks.specs.declared.request.Request.TheVariants.{Do, Live, Judge, Model}
 use Rattle.snap_explanation.specs.declared.layout.Layout.{Layout}
 use Rattle.snap_explanation.specs.declared.layout.Layout.TheVariants as layout
 use Rattle.snap_explanation.specs.declared.layout.Texts.{Texts}
 use Rattle.snap_explanation.specs.declared.layout.Texts.TheVariants as texts
 use Rattle.snap_explanation.specs.declared.part.PartName.{PartName}
 use Rattle.snap_explanation.specs.declared.part.PartName.TheVariants as name
+
+-- what the input consists of where this is judged
+abbrev pub judged_layout : JudgeSource → Layout
+judged_layout (source.Run s) = layout.Parts s texts.Schedule
+judged_layout source.History = layout.History
 
 -- what the input consists of where this is asked for
 abbrev pub layout_of : Request → Layout
@@ -36,6 +43,8 @@ layout_of (Do (task.Certify s)) = layout.Parts s texts.Schedule
 layout_of (Do (task.Batch s)) = layout.Parts s texts.Schedules
 layout_of (Do (task.Survey s)) = layout.Parts s texts.Schedules
 layout_of (Live s limit) = layout.Parts s texts.Scripts
+layout_of (Judge r) = judged_layout r.source
+layout_of (Model s crashes) = layout.Parts s texts.Scripts
 
 -- a part: what it is, how many lines of the input stand before it, and its bytes
 pub record Part : Type 0 where

@@ -42,6 +42,7 @@ part_name_text name.Schedule = codes "the schedule"
 part_name_text (name.NthSchedule k) = codes "schedule " ++ decimal k
 part_name_text name.Scripts = codes "the scripts"
 part_name_text name.Commands = codes "the commands"
+part_name_text name.History = codes "the history"
 
 -- the number of a line of the input; of one that no input has, as it is
 abbrev pub line_of_input : (before line : ℕ) → ℕ

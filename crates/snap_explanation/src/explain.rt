@@ -170,7 +170,7 @@ fn push_placed_form(
 
 /// Adds what is said of a line that has not the form of its sort.
 #[tactic(auto, unfolding(crate::specs::Explanation::form_text))]
-fn push_form(
+pub(crate) fn push_form(
     alloc: Global,
     out: &mut Draft,
     part: &Part<'_>,
@@ -263,7 +263,7 @@ fn header_at(alloc: Global, line: u64, text: &[u8]) -> Result<Header, AllocError
 }
 
 /// The number of the first line with tokens; 1 where there is none.
-fn first_number(alloc: Global, text: &[u8]) -> Result<u64, AllocError>
+pub(crate) fn first_number(alloc: Global, text: &[u8]) -> Result<u64, AllocError>
     ensures { IfOk result (λ line. line ≡ first_number (text_lines text.now)) }
 {
     match TextLines::new(text).next_line(alloc)? {

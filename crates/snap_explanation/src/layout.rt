@@ -1,9 +1,9 @@
-//! `Layout`: what an input consists of, for each `Request`: a listing's text, an image, or parts
-//! between lines `%`.
+//! `Layout`: what an input consists of, for each `Request`: a listing's text, an image, a history,
+//! or parts between lines `%`.
 ghost use Rattle.std.specs.Prelude.{◌≡◌};
-ghost use Rattle.snap_explanation.specs.Part.{layout_of};
+ghost use Rattle.snap_explanation.specs.Part.{judged_layout, layout_of};
 
-use snap_tasks::{Request, Subject, Task};
+use snap_tasks::{JudgeSource, Request, Subject, Task};
 
 /// The texts behind the listing.
 #[derive(Clone, Copy, PartialEq, Eq)]
@@ -22,8 +22,20 @@ pub enum Layout {
     Listing,
     /// An image.
     Image,
+    /// A history.
+    History,
     /// Parts between lines `%`: a listing, unless it is shipped, and texts behind it.
     Parts(Subject, Texts),
+}
+
+/// What the input consists of where this is judged.
+fn judged_layout(source: JudgeSource) -> Layout
+    ensures { result ≡ judged_layout source }
+{
+    match source {
+        JudgeSource::Run(subject) => Layout::Parts(subject, Texts::Schedule),
+        JudgeSource::History => Layout::History,
+    }
 }
 
 /// What the input consists of where this is asked for.
@@ -43,6 +55,9 @@ pub fn layout_of(request: &Request) -> Layout
         Request::Do(Task::Batch(subject) | Task::Survey(subject)) => {
             Layout::Parts(subject, Texts::Schedules)
         }
-        Request::Live(subject, _) => Layout::Parts(subject, Texts::Scripts),
+        Request::Live(subject, _) | Request::Model(subject, _) => {
+            Layout::Parts(subject, Texts::Scripts)
+        }
+        Request::Judge(asked) => judged_layout(asked.source),
     }
 }

@@ -4,6 +4,7 @@
 
 mod advice;
 mod explain;
+mod history;
 mod inputs;
 mod layout;
 mod misuse;
@@ -16,4 +17,5 @@ mod texts;
 mod token_uses;
 
 pub use explain::explanation;
+pub use history::history_explanation;
 pub use layout::{Layout, Texts, layout_of};

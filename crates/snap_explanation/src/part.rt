@@ -26,6 +26,7 @@ pub enum PartName {
     NthSchedule(usize),
     Scripts,
     Commands,
+    History,
 }
 
 /// A part of an input, and how many lines of the input stand before it.

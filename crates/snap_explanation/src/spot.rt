@@ -116,6 +116,7 @@ fn push_part_name(out: &mut Draft, name: PartName)
         }
         PartName::Scripts => out.push(b"the scripts"),
         PartName::Commands => out.push(b"the commands"),
+        PartName::History => out.push(b"the history"),
     }
 }
 

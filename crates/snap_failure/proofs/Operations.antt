@@ -24,7 +24,7 @@ use Rattle.snap_runs.proofs.Calls.{item_one, one_call, status, turn, under}
 use Rattle.snap_runs.proofs.Computing.{both, lt_from, lt_true, same_from, same_number}
 use Rattle.snap_runs.proofs.Operations.{ends_answer, ends_done}
 use Rattle.snap_runs.proofs.Transitions.{Transition, skipped, calls, goes, answers, finishes, traps, crashes}
-use Rattle.snap_survey.specs.Survey.{asks_update, first_found}
+use Rattle.snap_failure.specs.Firsts.{asks_update, first_found}
 use Rattle.snap_failure.specs.declared.failures.Failure.{Failure}
 use Rattle.snap_failure.specs.declared.failures.Failure.TheVariants as failure
 use Rattle.snap_failure.specs.Failing.{many_steps, overrun, overrun_at, steps_since_call}

@@ -25,8 +25,8 @@ use Rattle.snap_runs.proofs.Computing.{same_number}
 use Rattle.snap_runs.proofs.Counting.{count_next, count_none, count_not}
 use Rattle.snap_record.specs.Record.{with_item, with_items}
 use Rattle.snap_record.proofs.Histories.{outcome_last}
-use Rattle.snap_survey.specs.Survey.{asks_update}
-use Rattle.snap_survey.proofs.Surveying.{Going, next_few, next_fits}
+use Rattle.snap_failure.specs.Firsts.{asks_update}
+use Rattle.snap_failure.proofs.Doing.{Going, next_few, next_fits}
 use Rattle.snap_failure.specs.declared.failures.Failure.{Failure}
 use Rattle.snap_failure.specs.declared.failures.OwnSteps.{OwnSteps}
 use Rattle.snap_failure.specs.Failing.{overrun, overrun_at, steps_since_call}

@@ -1,5 +1,5 @@
--- What fails in a run: a scan without a point or of too many double collects, a trap, or an operation of too many
--- steps of its own.
+-- What is seen to fail in a run: a scan without a point or of too many double collects, a trap, or an operation of too
+-- many steps of its own.
 use Rattle.std.specs.Prelude.{ℕ, zero, suc, Bool, ◌&&◌, List, [], ◌∷◌, length, Option}
 use Rattle.std.specs.Prelude.{Some, None, is_none, nat_lt, if◌then◌else◌}
 use Rattle.snap_words.specs.Shape.{Counts}
@@ -14,14 +14,13 @@ use Rattle.snap_runs.specs.Run.{Run, item, state}
 use Rattle.snap_runs.specs.Scan.{own_steps, takes_step}
 use Rattle.snap_runs.specs.declared.verdict.Verdict.{Verdict}
 use Rattle.snap_shipped.specs.Kept.{update_turns}
-use Rattle.snap_survey.specs.Survey.{asks_update, first_found}
+use Rattle.snap_failure.specs.Firsts.{asks_update, first_found}
 use Rattle.snap_failure.specs.declared.failures.Failure.{Failure}
 use Rattle.snap_failure.specs.declared.failures.Failure.TheVariants as failure
 use Rattle.snap_failure.specs.declared.failures.OwnSteps.{OwnSteps}
 use Rattle.snap_failure.specs.declared.failures.StepBound.{StepBound}
 use Rattle.snap_failure.specs.declared.failures.StepBound.TheVariants as bound
 use Rattle.snap_failure.specs.declared.failures.Wanted.{Wanted}
-use Rattle.snap_failure.specs.Kinds.{of_kind}
 
 -- the first scan that has no point
 abbrev pub no_point : List Verdict → Option Failure
@@ -90,12 +89,8 @@ many_of vs (Some most) = many_collects most vs
 abbrev pub of_collects : Wanted → List Verdict → Option Failure
 of_collects w vs = many_of vs w.collects
 
--- what fails in a run, the first that is asked for
-abbrev pub first_failure : Wanted → Run → Option Failure
-first_failure w r =
+-- what is seen in a run, the first that is asked for
+abbrev pub first_seen : Wanted → Run → Option Failure
+first_seen w r =
     or_else (of_points w (audit r))
     (or_else (of_traps w (state r (length r.items)) r.shape.n) (or_else (of_steps w r) (of_collects w (audit r))))
-
--- the same, where it is of the only kind that is wanted
-unfoldable pub failure_of : Wanted → Run → Option Failure
-failure_of w r = of_kind w.only (first_failure w r)

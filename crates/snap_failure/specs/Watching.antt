@@ -10,7 +10,7 @@ use Rattle.snap_semantics.specs.Table.{who}
 use Rattle.snap_runs.specs.Audit.{is_called}
 use Rattle.snap_runs.specs.Run.{Run, outcome}
 use Rattle.snap_runs.specs.Scan.{is_not_skipped}
-use Rattle.snap_survey.specs.Survey.{asks_update, first_found}
+use Rattle.snap_failure.specs.Firsts.{asks_update, first_found}
 use Rattle.snap_failure.specs.declared.failures.Failure.{Failure}
 use Rattle.snap_failure.specs.declared.failures.OwnSteps.{OwnSteps}
 use Rattle.snap_failure.specs.Failing.{overrun, overrun_at, steps_since_call}

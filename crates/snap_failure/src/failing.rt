@@ -1,10 +1,11 @@
-//! What fails in a record: a scan without a point, a trap, an operation of too many steps, or a
-//! scan of too many double collects, as far as it is `Wanted`.
+//! What fails in a record, as far as it is `Wanted`: that it is not linearizable, a scan without a
+//! point, a trap, an operation of too many steps, or a scan of too many double collects.
 ghost use Rattle.std.specs.Prelude.{◌≡◌, IfOk, length};
+ghost use Rattle.snap_runs.specs.Audit.{audit};
 ghost use Rattle.snap_runs.specs.Run.{state};
+ghost use Rattle.snap_failure.specs.Finding.{Finds};
 ghost use Rattle.snap_failure.specs.Failing.{
-  failure_of,
-  first_failure,
+  first_seen,
   first_trap,
   many_collects,
   no_point,
@@ -15,7 +16,8 @@ ghost use Rattle.snap_failure.specs.Failing.{
   trap_of,
 };
 
-use crate::failures::{Failure, Wanted, of_kind};
+use crate::failures::{Failure, Wanted};
+use crate::judged::of_judgement;
 use snap_audit::audit;
 use snap_machine::Machine;
 use snap_record::Record;
@@ -108,18 +110,38 @@ fn of_collects(wanted: &Wanted, verdicts: &[Verdict]) -> Option<Failure>
     }
 }
 
-/// What fails in a record, the first that is asked for: a scan without a point, a trap, the first
+/// The verdicts of a record, where the first scan without a point, or with too many double collects,
+/// is asked for.
+#[tactic(auto, using(crate::proofs::Judging::no_points_asked, crate::proofs::Judging::no_collects_asked))]
+fn verdicts_for<K: Kind>(
+    alloc: Global,
+    record: &Record<K>,
+    wanted: &Wanted,
+) -> Result<Vec<Verdict>, AllocError>
+    ensures points { IfOk result (λ vs.
+        of_points wanted.now vs.items ≡ of_points wanted.now (audit record.now)) }
+    ensures collects { IfOk result (λ vs.
+        of_collects wanted.now vs.items ≡ of_collects wanted.now (audit record.now)) }
+{
+    if wanted.point || wanted.collects.is_some() {
+        audit(alloc, record)
+    } else {
+        Ok(Vec::new(alloc))
+    }
+}
+
+/// What is seen in a record, the first that is asked for: a scan without a point, a trap, the first
 /// operation of too many steps, which is this one, a scan of too many double collects.
-fn first_failure<K: Kind>(
+fn first_seen<K: Kind>(
     alloc: Global,
     record: &Record<K>,
     overrun: Option<Failure>,
     wanted: &Wanted,
 ) -> Result<Option<Failure>, AllocError>
     requires { overrun ≡ of_steps wanted.now record.now }
-    ensures { IfOk result (λ f. f ≡ first_failure wanted.now record.now) }
+    ensures { IfOk result (λ f. f ≡ first_seen wanted.now record.now) }
 {
-    let verdicts = audit(alloc, record)?;
+    let verdicts = verdicts_for(alloc, record, wanted)?;
     if let Some(found) = of_points(wanted, verdicts.as_slice()) {
         return Ok(Some(found));
     }
@@ -132,8 +154,9 @@ fn first_failure<K: Kind>(
     Ok(of_collects(wanted, verdicts.as_slice()))
 }
 
-/// The same, where it is of the only kind that is wanted.
-#[tactic(auto, unfolding(crate::specs::Failing::failure_of))]
+/// What fails in a record, the first that is asked for: that it is not linearizable, or what is seen
+/// in it. This is the first operation of too many steps.
+#[tactic(auto, using(crate::proofs::Judging::found_judged, crate::proofs::Judging::found_seen))]
 pub(crate) fn failure<K: Kind>(
     alloc: Global,
     record: &Record<K>,
@@ -141,8 +164,11 @@ pub(crate) fn failure<K: Kind>(
     wanted: &Wanted,
 ) -> Result<Option<Failure>, AllocError>
     requires { overrun ≡ of_steps wanted.now record.now }
-    ensures { IfOk result (λ f. f ≡ failure_of wanted.now record.now) }
+    ensures { IfOk result (Finds wanted.now record.now) }
 {
-    let found = first_failure(alloc, record, overrun, wanted)?;
-    Ok(of_kind(wanted.only, found))
+    let judged = of_judgement(alloc, record, wanted)?;
+    if judged.is_some() {
+        return Ok(judged);
+    }
+    first_seen(alloc, record, overrun, wanted)
 }

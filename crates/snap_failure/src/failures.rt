@@ -1,7 +1,7 @@
 //! `Failure`, `FailureKind` and `Wanted`: what may fail in a run, and which failures are looked
 //! for.
 ghost use Rattle.std.specs.Prelude.{◌≡◌, true};
-ghost use Rattle.snap_failure.specs.Kinds.{is_kind, kind_of, of_kind, with_only};
+ghost use Rattle.snap_failure.specs.Kinds.{is_kind, kind_of, with_only};
 
 use snap_runs::Verdict;
 use snap_semantics::Cause;
@@ -19,6 +19,12 @@ pub struct OwnSteps {
 /// What fails in a run.
 #[derive(Clone, Copy, PartialEq, Eq)]
 pub enum Failure {
+    /// The run is not linearizable up to the event of this item, which is one of this process. Up
+    /// to the event before it the run is.
+    NotLinearizable {
+        process: u32,
+        item: u64,
+    },
     /// A finished scan has no point.
     NoPoint(Verdict),
     /// A process has trapped, at this line.
@@ -40,6 +46,7 @@ pub enum Failure {
 /// The kinds of failures.
 #[derive(Clone, Copy, PartialEq, Eq)]
 pub enum FailureKind {
+    Linearizable,
     Point,
     Trap,
     Steps,
@@ -58,37 +65,49 @@ pub enum StepBound {
 /// Which failures are asked for.
 #[derive(Clone, Copy, PartialEq, Eq)]
 pub struct Wanted {
+    /// That the run is not linearizable.
+    pub linearizable: bool,
     pub point: bool,
     pub trap: bool,
     /// The most steps of its own that an operation may take.
     pub steps: Option<StepBound>,
     /// The most double collects that a scan may make.
     pub collects: Option<u64>,
-    /// The kind that the first of these failures has to be of, where only one is wanted.
-    pub only: Option<FailureKind>,
 }
 
+/// No failure is asked for.
+const NOTHING: Wanted = Wanted {
+    linearizable: false,
+    point: false,
+    trap: false,
+    steps: None,
+    collects: None,
+};
+
 impl Wanted {
-    /// The same, where nothing but failures of this kind is wanted.
+    /// Returns what is asked for of this kind alone.
     pub fn with_only(&self, kind: FailureKind) -> Wanted
         ensures { result ≡ with_only kind self.now }
     {
-        Wanted {
-            point: self.point,
-            trap: self.trap,
-            steps: self.steps,
-            collects: self.collects,
-            only: Some(kind),
+        let mut wanted = NOTHING;
+        match kind {
+            FailureKind::Linearizable => wanted.linearizable = self.linearizable,
+            FailureKind::Point => wanted.point = self.point,
+            FailureKind::Trap => wanted.trap = self.trap,
+            FailureKind::Steps => wanted.steps = self.steps,
+            FailureKind::Collects => wanted.collects = self.collects,
         }
+        wanted
     }
 }
 
 impl Failure {
-    /// The kind of a failure.
+    /// Returns the kind of the failure.
     pub fn kind(&self) -> FailureKind
         ensures { result ≡ kind_of self.now }
     {
         match self {
+            Failure::NotLinearizable { .. } => FailureKind::Linearizable,
             Failure::NoPoint(_) => FailureKind::Point,
             Failure::Trapped { .. } => FailureKind::Trap,
             Failure::ManySteps { .. } => FailureKind::Steps,
@@ -96,30 +115,18 @@ impl Failure {
         }
     }
 
-    /// Whether a failure is of this kind.
+    /// Returns whether the failure is of this kind.
     pub fn is_kind(&self, kind: FailureKind) -> bool
         ensures value { result ≡ is_kind kind self.now }
         ensures kind { result ≡ true → kind_of self.now ≡ kind }
     {
         match (kind, self) {
+            (FailureKind::Linearizable, Failure::NotLinearizable { .. }) => true,
             (FailureKind::Point, Failure::NoPoint(_)) => true,
             (FailureKind::Trap, Failure::Trapped { .. }) => true,
             (FailureKind::Steps, Failure::ManySteps { .. }) => true,
             (FailureKind::Collects, Failure::ManyCollects(_)) => true,
             _ => false,
         }
-    }
-}
-
-/// What fails, where it is of the only kind that is wanted.
-pub(crate) fn of_kind(only: Option<FailureKind>, found: Option<Failure>) -> Option<Failure>
-    ensures { result ≡ of_kind only found }
-{
-    let Some(kind) = only else {
-        return found;
-    };
-    match found {
-        Some(failure) if failure.is_kind(kind) => Some(failure),
-        _ => None,
     }
 }

@@ -1,11 +1,12 @@
-//! What fails in a run: a scan without a point, a trap, an operation of too many steps of its own,
-//! a scan of too many double collects.
+//! What fails in a run: that it is not linearizable, a scan without a point, a trap, an operation of
+//! too many steps of its own, a scan of too many double collects.
 #![tactic(auto)]
 
 ghost use Rattle.snap_failure.specs.Operations.{StepsAreOfOperations};
 
 mod failing;
 mod failures;
+mod judged;
 mod over;
 mod step_bounds;
 mod steps;

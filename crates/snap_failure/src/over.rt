@@ -1,7 +1,7 @@
 //! What fails in the run of a program over a schedule.
 ghost use Rattle.std.specs.Prelude.{◌≡◌, IfOk, None, Some};
 ghost use Rattle.snap_runs.specs.Run.{run_over};
-ghost use Rattle.snap_failure.specs.Failing.{failure_of};
+ghost use Rattle.snap_failure.specs.Finding.{Finds};
 
 use crate::failing::failure;
 use crate::failures::{Failure, StepBound, Wanted};
@@ -22,7 +22,7 @@ fn failure_of_record<K: Kind>(
 ) -> Result<Option<Failure>, AllocError>
     requires kind { program.now.kind ≡ K.TAG }
     requires steps { wanted.now.steps ≡ None }
-    ensures { IfOk result (λ f. f ≡ failure_of wanted.now (run_over program.now schedule.now)) }
+    ensures { IfOk result (Finds wanted.now (run_over program.now schedule.now)) }
 {
     let record = record_over::<K>(alloc, program, schedule)?;
     failure(alloc, &record, None, wanted)
@@ -38,7 +38,7 @@ fn failure_of_watched<K: Kind>(
 ) -> Result<Option<Failure>, AllocError>
     requires kind { program.now.kind ≡ K.TAG }
     requires steps { wanted.now.steps ≡ Some bound }
-    ensures { IfOk result (λ f. f ≡ failure_of wanted.now (run_over program.now schedule.now)) }
+    ensures { IfOk result (Finds wanted.now (run_over program.now schedule.now)) }
 {
     let most = most_steps(program.kind(), schedule.shape(), bound);
     let watched = watched_over::<K>(alloc, program, schedule, most)?;
@@ -53,7 +53,7 @@ fn failure_in<K: Kind>(
     wanted: &Wanted,
 ) -> Result<Option<Failure>, AllocError>
     requires { program.now.kind ≡ K.TAG }
-    ensures { IfOk result (λ f. f ≡ failure_of wanted.now (run_over program.now schedule.now)) }
+    ensures { IfOk result (Finds wanted.now (run_over program.now schedule.now)) }
 {
     match wanted.steps {
         None => failure_of_record::<K>(alloc, program, schedule, wanted),
@@ -68,7 +68,7 @@ pub fn failure_over(
     schedule: &Schedule,
     wanted: &Wanted,
 ) -> Result<Option<Failure>, AllocError>
-    ensures { IfOk result (λ f. f ≡ failure_of wanted.now (run_over program.now schedule.now)) }
+    ensures { IfOk result (Finds wanted.now (run_over program.now schedule.now)) }
 {
     match program.kind() {
         KindTag::Seq => failure_in::<Seq>(alloc, program, schedule, wanted),

@@ -5,7 +5,7 @@ ghost use Rattle.std.specs.Prelude.{IfOk, get_or, length, replicate, slice_set};
 ghost use Rattle.snap_words.specs.Shape.{IsOneOf};
 ghost use Rattle.snap_semantics.specs.Rules.{or_else};
 ghost use Rattle.snap_semantics.specs.Table.{who};
-ghost use Rattle.snap_survey.specs.Survey.{asks_update};
+ghost use Rattle.snap_failure.specs.Firsts.{asks_update};
 ghost use Rattle.snap_failure.specs.Watching.{is_taken, none_taken, noted, overrun_by};
 ghost use Rattle.snap_failure.specs.declared.failures.OwnSteps.{OwnSteps};
 

@@ -1,7 +1,8 @@
 -- Leaving items out of a failing schedule (`without`) leaves a shorter schedule; and steps of `Shrinks` and
 -- `IsShrunk` follow one another.
-use Rattle.std.proofs.Common.{◌≡◌, ℕ, zero, suc, ◌+◌, ◌-◌, ◌<◌, ◌≤◌, List, [], ◌∷◌, ◌++◌, true, drop, get_or, length}
-use Rattle.std.proofs.Common.{take, refl, sym, ap, subst, ◌∙◌, arith}
+use Rattle.std.proofs.Common.{◌≡◌, ℕ, zero, suc, ◌+◌, ◌-◌, ◌<◌, ◌≤◌, List, [], ◌∷◌, ◌++◌, Bool, true, false, Option, Some}
+use Rattle.std.proofs.Common.{None, is_some, drop, get_or, length, take, refl, sym, ap, subst, ◌∙◌, arith}
+use Rattle.std.specs.Prelude.{IsTrue}
 use Rattle.std.proofs.lemmas.List.{length-append, length-drop}
 use Rattle.std.specs.List.{AllByRecursion}
 use Rattle.snap_words.specs.Shape.{Counts, IsOneOf}
@@ -10,8 +11,43 @@ use Rattle.snap_semantics.specs.Schedule.{Schedule}
 use Rattle.snap_semantics.specs.ScheduleText.{FitsItem, IsSchedule}
 use Rattle.snap_semantics.specs.Table.{who}
 use Rattle.snap_semantics.specs.Source.{Source}
+use Rattle.snap_runs.specs.Run.{run_over}
+use Rattle.snap_failure.specs.Finding.{Finds}
+use Rattle.snap_failure.specs.declared.failures.Failure.{Failure}
 use Rattle.snap_failure.specs.declared.failures.Wanted.{Wanted}
-use Rattle.snap_hunt.specs.Shrinking.{Fails, IsShrunk, Shrinks, fails_with, without}
+use Rattle.snap_hunt.specs.Shrinking.{Fails, FailsWith, HoldsWith, IsShrunk, Shrinks, TellsWhether, without}
+
+-- whether anything is found in the run over these items
+found_or_not : (l : Source) (w : Wanted) (shape : Counts) (xs : List Item) (s : Schedule) (found : Option Failure) →
+    s ≡ record { shape = shape; items = xs } → Finds w (run_over l s) found → TellsWhether l w shape xs (is_some found)
+unfolding FailsWith HoldsWith
+found_or_not l w shape xs s None is h = subst (λ (t : Schedule). Finds w (run_over l t) None) is h
+found_or_not l w shape xs s (Some f) is h = (f, subst (λ (t : Schedule). Finds w (run_over l t) (Some f)) is h)
+
+-- the same, where that is what a test tells
+pub told : (l : Source) (w : Wanted) (shape : Counts) (xs : List Item) (s : Schedule) (found : Option Failure) (b : Bool) →
+    s ≡ record { shape = shape; items = xs } → Finds w (run_over l s) found → b ≡ is_some found →
+    TellsWhether l w shape xs b
+told l w shape xs s found b is h same =
+    subst (λ (c : Bool). TellsWhether l w shape xs c) (sym same) (found_or_not l w shape xs s found is h)
+
+-- it is, where that is told
+pub told_so : (l : Source) (w : Wanted) (shape : Counts) (xs ys : List Item) (b : Bool) → TellsWhether l w shape xs b →
+    b ≡ true → xs ≡ ys → FailsWith l w shape ys
+told_so l w shape xs ys true h so same = subst (λ (zs : List Item). FailsWith l w shape zs) same h
+told_so l w shape xs ys false h so same = absurd cc
+
+-- and it is not, where that is told
+pub told_not : (l : Source) (w : Wanted) (shape : Counts) (xs ys : List Item) (b : Bool) → TellsWhether l w shape xs b →
+    b ≡ false → xs ≡ ys → HoldsWith l w shape ys
+told_not l w shape xs ys false h so same = subst (λ (zs : List Item). HoldsWith l w shape zs) same h
+told_not l w shape xs ys true h so same = absurd cc
+
+-- items of a schedule whose run fails
+pub fails_by : (l : Source) (w : Wanted) (shape : Counts) (xs : List Item) (b : Bool) →
+    IsSchedule (record { shape = shape; items = xs }) → TellsWhether l w shape xs b → IsTrue b → Fails l w shape xs
+fails_by l w shape xs true schedule h so = record { schedule = schedule; fails = h }
+fails_by l w shape xs false schedule h so = absurd cc
 
 all_taken : (P : Item → Type 0) (n : ℕ) (xs : List Item) → AllByRecursion P xs → AllByRecursion P (take n xs)
 all_taken P zero xs h = tt
@@ -82,13 +118,16 @@ left_schedule shape at count xs ys h le is =
 -- what is left, where it still fails
 pub left_fails : (l : Source) (w : Wanted) (s : Schedule) (shape : Counts) (at count : ℕ) (xs ys : List Item) →
     Shrinks l w s (record { shape = shape; items = xs })
-    → at ≤ length xs → ys ≡ without at count xs → fails_with l w shape ys ≡ true →
+    → at ≤ length xs → ys ≡ without at count xs → FailsWith l w shape (without at count xs) →
     Shrinks l w s (record { shape = shape; items = ys })
 left_fails l w s shape at count xs ys h le is fails =
     let within = h.within.items in
     let left : length ys ≡ at + (length xs - (at + count)) = ap length is ∙ length_without at count xs le in
     record {
-      still = record { schedule = left_schedule shape at count xs ys h.still.schedule le is; fails = fails };
+      still = record {
+        schedule = left_schedule shape at count xs ys h.still.schedule le is;
+        fails = subst (λ (zs : List Item). FailsWith l w shape zs) (sym is) fails;
+      };
       within =
           record { processes = h.within.processes; words = h.within.words; items = omega (arith, within, left, le) };
     }

@@ -2,3 +2,5 @@
 pub mod Ranges
 pub mod Numbers
 pub mod Cutting
+pub mod Sides
+pub mod Runs

@@ -1,13 +1,13 @@
 -- What it means to shrink a schedule whose run fails: `Shrinks`, to one that is no larger and whose run fails;
 -- `IsShrunk`, to one of which also no item can be left out.
-use Rattle.std.specs.Prelude.{◌≡◌, ℕ, ◌+◌, ◌<◌, ◌≤◌, Bool, true, false, List, ◌++◌, drop, length, take, is_some}
+use Rattle.std.specs.Prelude.{ℕ, ◌+◌, ◌<◌, ◌≤◌, Bool, true, false, List, ◌++◌, None, drop, length, take}
 use Rattle.snap_words.specs.Shape.{Counts}
 use Rattle.snap_semantics.specs.declared.process.Item.{Item}
 use Rattle.snap_semantics.specs.Schedule.{Schedule}
 use Rattle.snap_semantics.specs.ScheduleText.{IsSchedule}
 use Rattle.snap_semantics.specs.Source.{Source}
 use Rattle.snap_runs.specs.Run.{run_of_items}
-use Rattle.snap_failure.specs.Failing.{failure_of}
+use Rattle.snap_failure.specs.Finding.{Finds, FindsSome}
 use Rattle.snap_failure.specs.declared.failures.Wanted.{Wanted}
 use Rattle.snap_hunt.specs.declared.draft.Draft.{Draft}
 
@@ -15,14 +15,23 @@ use Rattle.snap_hunt.specs.declared.draft.Draft.{Draft}
 abbrev pub without : (at count : ℕ) → List Item → List Item
 without at count xs = take at xs ++ drop (at + count) xs
 
--- whether the run over these items fails
-unfoldable pub fails_with : Source → Wanted → Counts → List Item → Bool
-fails_with l w shape xs = is_some (failure_of w (run_of_items l shape xs))
+-- something is found in the run over these items
+unfoldable pub FailsWith : Source → Wanted → Counts → List Item → Type 0
+FailsWith l w shape xs = FindsSome w (run_of_items l shape xs)
+
+-- nothing is found in it
+unfoldable pub HoldsWith : Source → Wanted → Counts → List Item → Type 0
+HoldsWith l w shape xs = Finds w (run_of_items l shape xs) None
+
+-- whether anything is
+abbrev pub TellsWhether : Source → Wanted → Counts → List Item → Bool → Type 0
+TellsWhether l w shape xs true = FailsWith l w shape xs
+TellsWhether l w shape xs false = HoldsWith l w shape xs
 
 -- items of a schedule whose run fails
 pub record Fails (l : Source) (w : Wanted) (shape : Counts) (xs : List Item) : Type 0 where
   pub schedule : IsSchedule (record { shape = shape; items = xs })
-  pub fails : fails_with l w shape xs ≡ true
+  pub fails : FailsWith l w shape xs
 
 -- no more processes, words and items
 pub record IsWithin (s t : Schedule) : Type 0 where
@@ -37,7 +46,7 @@ pub record Shrinks (l : Source) (w : Wanted) (s t : Schedule) : Type 0 where
 
 -- no item can be left out
 abbrev pub IsSmall : Source → Wanted → Counts → List Item → Type 0
-IsSmall l w shape xs = (k : ℕ) → k < length xs → fails_with l w shape (without k 1 xs) ≡ false
+IsSmall l w shape xs = (k : ℕ) → k < length xs → HoldsWith l w shape (without k 1 xs)
 
 -- a schedule whose run fails, and a small one that is no larger
 pub record IsShrunk (l : Source) (w : Wanted) (s t : Schedule) : Type 0 where

@@ -1,32 +1,36 @@
-//! `fail_each`: which runs of a block of run numbers fail, made side by side in threads for a hunt.
-ghost use Rattle.std.specs.Prelude.{◌≡◌, ◌+◌, ◌^◌, ◌<◌, ℕ, Bool, IfOk, map};
-ghost use Rattle.std.specs.List.{find, range_with_len};
-ghost use Rattle.snap_hunt.specs.Hunt.{fails};
+//! `find_each`: what fails in each run of a block of run numbers, which are made side by side in
+//! threads for a hunt.
+ghost use Rattle.std.specs.Prelude.{◌≡◌, ◌+◌, ◌-◌, ◌^◌, ◌<◌, ◌≤◌, ℕ, IfOk};
+ghost use Rattle.std.specs.Prelude.{IfNone, IfSome, None, Some, length, slice_index_or};
+ghost use Rattle.std.specs.List.{AllZip, range_with_len};
+ghost use Rattle.snap_failure.specs.Finding.{Finds};
+ghost use Rattle.snap_hunt.specs.Hunt.{IsFirstIn, run_of};
 
+use crate::found::Found;
 use rayon::prelude::*;
 use snap_asm_program::Program;
 use snap_chance::{Plan, schedule_of};
-use snap_failure::{Wanted, failure_over};
+use snap_failure::{Failure, Wanted, failure_over};
 use std::alloc::{AllocError, Global};
 use std::thread::Threads;
 
 /// How many runs a thread makes at least, once it was started.
 const FEW: usize = 64;
 
-/// Whether the run of this number fails.
-#[tactic(auto, unfolding(crate::specs::Hunt::fails))]
-fn fails(
+/// What fails in the run of this number.
+#[tactic(auto, using(crate::proofs::Runs::found_over))]
+fn find(
     alloc: Global,
     program: &Program,
     plan: &Plan,
     wanted: &Wanted,
     seed: u64,
     run: u64,
-) -> Result<bool, AllocError>
-    ensures { IfOk result (λ b. b ≡ fails program.now plan.now wanted.now seed run) }
+) -> Result<Option<Failure>, AllocError>
+    ensures { IfOk result (Finds wanted.now (run_of program.now plan.now seed run)) }
 {
     let schedule = schedule_of(alloc, seed, run, plan)?;
-    Ok(failure_over(alloc, program, &schedule, wanted)?.is_some())
+    failure_over(alloc, program, &schedule, wanted)
 }
 
 /// So many numbers, the first of which is this one.
@@ -41,8 +45,8 @@ pub(crate) fn numbers(alloc: Global, from: u64, count: u64) -> Result<Vec<u64>, 
     Ok(numbers)
 }
 
-/// Whether the runs of these numbers fail, whichever thread made each and when.
-pub(crate) fn fail_each(
+/// What fails in the runs of these numbers, whichever thread made each and when.
+pub(crate) fn find_each(
     rt: &(impl Threads + Sync),
     alloc: Global,
     program: &Program,
@@ -50,33 +54,36 @@ pub(crate) fn fail_each(
     wanted: &Wanted,
     seed: u64,
     runs: &[u64],
-) -> Result<Vec<bool>, AllocError>
-    ensures { IfOk result (λ v. v.items
-        ≡ map (fails program.now plan.now wanted.now seed) runs.now) }
+) -> Result<Vec<Option<Failure>>, AllocError>
+    ensures { IfOk result (λ v. AllZip (λ k found.
+        Finds wanted.now (run_of program.now plan.now seed k) found) runs.now v.items) }
 {
-    let failing: Result<Vec<bool>, AllocError> = runs
+    let found: Result<Vec<Option<Failure>>, AllocError> = runs
         .par_iter()
         .with_min_len(FEW)
         .map(
-            |run: &u64| -> Result<bool, AllocError>
-                ensures { IfOk result (λ b. b ≡ fails program.entry.now plan.entry.now
-                    wanted.entry.now seed run.now) }
-            { fails(alloc, program, plan, wanted, seed, *run) },
+            |run: &u64| -> Result<Option<Failure>, AllocError>
+                ensures { IfOk result (Finds wanted.entry.now
+                    (run_of program.entry.now plan.entry.now seed run.now)) }
+            { find(alloc, program, plan, wanted, seed, *run) },
         )
         .collect(rt, alloc)?;
-    failing
+    found
 }
 
-/// The first of these numbers for which the answer is yes.
-pub(crate) fn first_of(runs: &[u64], failing: &[bool]) -> Option<u64>
-    ensures { (p : ℕ → Bool) → failing.now ≡ map p runs.now → result ≡ find p runs.now }
+/// The first of these that is a failure, with the number of its run. They are those of the runs from
+/// this one on.
+pub(crate) fn first_of(from: u64, found: &[Option<Failure>]) -> Option<Found>
+    requires { from + length found.now < 2 ^ 64 }
+    ensures { IsFirstIn from found.now result }
 {
-    let mut k = 0;
-    while k < failing.len() && k < runs.len() {
-        if failing[k] {
-            return Some(runs[k]);
+    for k in 0..found.len() {
+        if let Some(failure) = found[k] {
+            return Some(Found {
+                run: from + k as u64,
+                failure,
+            });
         }
-        k += 1;
     }
     None
 }

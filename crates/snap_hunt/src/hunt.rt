@@ -1,10 +1,10 @@
 //! `first_failing`: the first run that fails, of those that a seed gives; and `Watcher`, which is
 //! told how far the hunt has come.
 ghost use Rattle.std.specs.Prelude.{◌≡◌, ◌+◌, ◌-◌, ◌<◌, ◌≤◌, ◌^◌, IfOk};
-ghost use Rattle.std.specs.List.{find, range_with_len};
-ghost use Rattle.snap_hunt.specs.Hunt.{fails};
+ghost use Rattle.snap_hunt.specs.Hunt.{IsFirst};
 
-use crate::blocks::{fail_each, first_of, numbers};
+use crate::blocks::{find_each, first_of, numbers};
+use crate::found::Found;
 use snap_asm_program::Program;
 use snap_chance::Plan;
 use snap_failure::Wanted;
@@ -16,11 +16,15 @@ const BLOCK: u64 = 1_024;
 
 /// Who is told how far a hunt has come.
 pub trait Watcher {
-    /// So many runs were made, none of which failed.
-    fn tried(&mut self, runs: u64);
+    /// So many runs were made, of so many, none of which failed.
+    fn tried(&mut self, runs: u64, all: u64);
+
+    /// The hunt is over.
+    fn ended(&mut self);
 }
 
 /// The first of so many runs, from this one on, that fails.
+#[tactic(auto, using(crate::proofs::Sides::first_of_block, crate::proofs::Sides::as_many))]
 fn in_block(
     rt: &(impl Threads + Sync),
     alloc: Global,
@@ -30,19 +34,17 @@ fn in_block(
     seed: u64,
     from: u64,
     count: u64,
-) -> Result<Option<u64>, AllocError>
+) -> Result<Option<Found>, AllocError>
     requires { from + count < 2 ^ 64 }
-    ensures { IfOk result (λ r. r ≡ find (fails program.now plan.now wanted.now seed)
-        (range_with_len from count)) }
+    ensures { IfOk result (IsFirst program.now plan.now wanted.now seed from (from + count)) }
 {
     let runs = numbers(alloc, from, count)?;
-    let failing = fail_each(rt, alloc, program, plan, wanted, seed, runs.as_slice())?;
-    Ok(first_of(runs.as_slice(), failing.as_slice()))
+    let found = find_each(rt, alloc, program, plan, wanted, seed, runs.as_slice())?;
+    Ok(first_of(from, found.as_slice()))
 }
 
-/// The first run that fails, of so many that the seed gives; none where none of them does. It is
-/// the same whatever the threads do.
-pub fn first_failing<W: Watcher>(
+/// The first run that fails, block by block.
+fn first_in_blocks<W: Watcher>(
     rt: &(impl Threads + Sync),
     alloc: Global,
     program: &Program,
@@ -51,10 +53,9 @@ pub fn first_failing<W: Watcher>(
     seed: u64,
     runs: u64,
     watcher: &mut W,
-) -> Result<Option<u64>, AllocError>
+) -> Result<Option<Found>, AllocError>
     requires { runs < 2 ^ 63 }
-    ensures { IfOk result (λ r. r ≡ find (fails program.now plan.now wanted.now seed)
-        (range_with_len 0 runs)) }
+    ensures { IfOk result (IsFirst program.now plan.now wanted.now seed 0 runs) }
 {
     let mut from = 0;
     while from < runs {
@@ -64,7 +65,31 @@ pub fn first_failing<W: Watcher>(
             return Ok(found);
         }
         from += count;
-        watcher.tried(from);
+        watcher.tried(from, runs);
     }
     Ok(None)
+}
+
+/// Returns the first run that fails, of so many that the seed gives, and what fails in it; none where
+/// nothing is found in any of them.
+///
+/// # Errors
+///
+/// There is no memory for them.
+pub fn first_failing<W: Watcher>(
+    rt: &(impl Threads + Sync),
+    alloc: Global,
+    program: &Program,
+    plan: &Plan,
+    wanted: &Wanted,
+    seed: u64,
+    runs: u64,
+    watcher: &mut W,
+) -> Result<Option<Found>, AllocError>
+    requires { runs < 2 ^ 63 }
+    ensures { IfOk result (IsFirst program.now plan.now wanted.now seed 0 runs) }
+{
+    let found = first_in_blocks(rt, alloc, program, plan, wanted, seed, runs, watcher);
+    watcher.ended();
+    found
 }

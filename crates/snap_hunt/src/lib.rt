@@ -5,6 +5,7 @@ mod blocks;
 mod cuts;
 mod draft;
 mod follow;
+mod found;
 mod hunt;
 mod narrow;
 mod orders;
@@ -15,5 +16,6 @@ mod shrink;
 mod trials;
 mod values;
 
+pub use found::Found;
 pub use hunt::{Watcher, first_failing};
 pub use shrink::shrunk;

@@ -1,9 +1,9 @@
 //! Whether the run still fails once a failing schedule is made smaller: `still_fails` of a draft,
 //! the `better` of two, and an item that is `removable`.
 ghost use Rattle.std.specs.Prelude.{◌≡◌, ◌<◌, ℕ, length, true, false, IfOk, IsTrue, MatchOption};
-ghost use Rattle.std.specs.Prelude.{is_some};
 ghost use Rattle.snap_semantics.specs.ScheduleText.{IsSchedule};
-ghost use Rattle.snap_hunt.specs.Shrinking.{Fails, Shrinks, drawn, fails_with, without};
+ghost use Rattle.snap_hunt.specs.Shrinking.{Fails, FailsWith, IsSmall, Shrinks, TellsWhether};
+ghost use Rattle.snap_hunt.specs.Shrinking.{drawn, without};
 
 use crate::cuts::{schedule_with, without};
 use crate::draft::{Draft, is_schedule, is_within};
@@ -22,18 +22,19 @@ pub(crate) struct Shrinker<'a> {
 }
 
 impl Shrinker<'_> {
-    /// Whether the run over these items fails.
-    #[tactic(auto, unfolding(crate::specs::Shrinking::fails_with))]
+    /// Whether anything fails in the run over these items.
+    #[tactic(auto, using(crate::proofs::Cutting::told))]
     fn fails_with(&self, shape: Shape, items: &[Item]) -> Result<bool, AllocError>
         requires { IsSchedule (record { shape = shape; items = items.now }) }
-        ensures { IfOk result (λ b.
-            b ≡ fails_with self.now.program.now self.now.wanted.now shape items.now) }
+        ensures { IfOk result (TellsWhether self.now.program.now self.now.wanted.now shape
+            items.now) }
     {
         let schedule = schedule_with(self.alloc, shape, items)?;
         Ok(failure_over(self.alloc, self.program, &schedule, self.wanted)?.is_some())
     }
 
     /// Whether a draft is a schedule whose run fails.
+    #[tactic(auto, using(crate::proofs::Cutting::fails_by))]
     pub(crate) fn still_fails(&self, draft: &Draft) -> Result<bool, AllocError>
         ensures { IfOk result (λ b. IsTrue b
             → Fails self.now.program.now self.now.wanted.now draft.now.shape
@@ -60,7 +61,7 @@ impl Shrinker<'_> {
     }
 
     /// The first item without which the run still fails.
-    #[tactic(auto, using(crate::proofs::Cutting::left_schedule))]
+    #[tactic(auto, using(crate::proofs::Cutting::left_schedule, crate::proofs::Cutting::told_so, crate::proofs::Cutting::told_not))]
     pub(crate) fn removable(
         &self,
         shape: Shape,
@@ -68,12 +69,10 @@ impl Shrinker<'_> {
     ) -> Result<Option<usize>, AllocError>
         requires { IsSchedule (record { shape = shape; items = items.now }) }
         ensures { IfOk result (λ found. MatchOption found
-            ((k : ℕ) → k < length items.now
-            → fails_with self.now.program.now self.now.wanted.now shape (without k 1 items.now)
-            ≡ false)
+            (IsSmall self.now.program.now self.now.wanted.now shape items.now)
             (λ k. (k < length items.now)
-            × (fails_with self.now.program.now self.now.wanted.now shape (without k 1 items.now)
-            ≡ true))) }
+            × FailsWith self.now.program.now self.now.wanted.now shape
+            (without k 1 items.now))) }
     {
         for k in 0..items.len() {
             let shorter = without(self.alloc, items, k, 1)?;

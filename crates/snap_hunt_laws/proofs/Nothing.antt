@@ -1,8 +1,8 @@
--- Runs that keep the promises of a snapshot do not fail, so that a hunt finds none of them (`FindsNothing`).
-use Rattle.std.proofs.Common.{◌≡◌, ℕ, zero, suc, ◌+◌, ◌<◌, ◌≤◌, ◌^◌, Bool, true, false, cond, List, [], ◌∷◌, Option}
-use Rattle.std.proofs.Common.{Some, None, is_none, is_some, length, refl, sym, ap, subst, ◌∙◌, arith}
+-- Nothing is found in runs that keep the promises of a snapshot, so that a hunt comes to none of them (`FindsNothing`).
+use Rattle.std.proofs.Common.{◌≡◌, ℕ, zero, suc, ◌+◌, ◌<◌, ◌≤◌, ◌^◌, Bool, true, false, List, [], ◌∷◌, Option}
+use Rattle.std.proofs.Common.{Some, None, is_none, length, refl, ap, ◌∙◌, arith}
 use Rattle.std.specs.Prelude.{IsSome, if◌then◌else◌}
-use Rattle.std.specs.List.{AllByRecursion, find, range_with_len}
+use Rattle.std.specs.List.{AllByRecursion}
 use Rattle.rand_core.specs.Steps.{stream_of}
 use Rattle.rand_xoshiro.specs.SplitMix64.{splitmix_steps}
 use Rattle.snap_words.specs.Kind.{fits}
@@ -23,16 +23,19 @@ use Rattle.snap_shipped.specs.Kept.{KeepsPromises, NumbersSuffice, RunsKeepPromi
 use Rattle.snap_chance.specs.Chance.{items_by, schedule_of, start_of}
 use Rattle.snap_chance.specs.Plan.{IsPlan, Plan}
 use Rattle.snap_chance.proofs.Moving.{are_items}
-use Rattle.snap_failure.specs.Failing.{failure_of, first_failure, first_trap, no_point, many_of, of_collects}
-use Rattle.snap_failure.specs.Failing.{of_points, of_steps, of_traps, trap_of}
-use Rattle.snap_failure.specs.Kinds.{of_kind}
+use Rattle.snap_failure.specs.Failing.{first_seen, first_trap, no_point, many_of, of_collects}
+use Rattle.snap_failure.specs.Failing.{of_steps, of_traps, trap_of}
+use Rattle.snap_failure.specs.Finding.{Finds, IsJudgedIf}
 use Rattle.snap_failure.specs.Operations.{StepsAreOfOperations}
 use Rattle.snap_failure.specs.declared.failures.Failure.{Failure}
 use Rattle.snap_failure.specs.declared.failures.Failure.TheVariants as failure
-use Rattle.snap_failure.specs.declared.failures.FailureKind.{FailureKind}
 use Rattle.snap_failure.specs.declared.failures.Wanted.{Wanted}
-use Rattle.snap_hunt.specs.Hunt.{fails}
-use Rattle.snap_hunt_laws.specs.Shipped.{FindsNothing, StepsSuffice}
+use Rattle.snap_judge.specs.Judgement.{FailsAt}
+use Rattle.snap_judge.specs.declared.judgements.Judgement.TheVariants.{NotLinearizable}
+use Rattle.snap_run_judge.specs.RunHistory.{history_of}
+use Rattle.snap_judge_laws.specs.ShippedLaws.{ShippedRunsAreSeenLinearizable}
+use Rattle.snap_hunt.specs.Hunt.{run_of}
+use Rattle.snap_hunt_laws.specs.Shipped.{FindsNothing, HuntsFindNone, StepsSuffice}
 use Rattle.snap_hunt_laws.proofs.Steps.{no_overrun}
 
 -- each verdict has a point
@@ -65,39 +68,44 @@ where_asked : (b : Bool) (o : Option Failure) → o ≡ None → (if b then o el
 where_asked true o e = e
 where_asked false o e = refl
 
--- nothing is of no kind
-nothing_of : (k : Option FailureKind) → of_kind k None ≡ None
-nothing_of None = refl
-nothing_of (Some k) = refl
+-- where the history of a run never fails, nothing is judged to fail
+none_judged : (b : Bool) (r : Run) (judged : Option Failure) → ((k : ℕ) → FailsAt (history_of r) k → ⊥) →
+    IsJudgedIf b r judged → judged ≡ None
+none_judged false r judged never h = h
+none_judged true r None never h = refl
+none_judged true r (Some f) never h = absurd (never h.0 h.1)
 
-pub does_not_fail : (w : Wanted) (r : Run) → IsValidRun r → AllByRecursion HasFoundPoint (audit r)
+pub none_seen : (w : Wanted) (r : Run) → IsValidRun r → AllByRecursion HasFoundPoint (audit r)
     → ((i t : ℕ) → IsOneOf r.shape.n i → t ≤ length r.items → HasTrapped (process_at (state r t) i).status → ⊥)
-    → of_steps w r ≡ None → w.collects ≡ None → failure_of w r ≡ None
-unfolding failure_of
-does_not_fail w r valid points traps steps collects =
+    → of_steps w r ≡ None → w.collects ≡ None → first_seen w r ≡ None
+none_seen w r valid points traps steps collects =
     let S = state r (length r.items) in
     let none =
     none_trapped S 1 r.shape.n (λ j le lt. traps j (length r.items) (omega arith, omega arith) (omega arith)) in
-    let all : first_failure w r ≡ None =
     ap (λ (o : Option Failure).
     or_else o (or_else (of_traps w S r.shape.n) (or_else (of_steps w r) (of_collects w (audit r)))))
     (where_asked w.point (no_point (audit r)) (points_found (audit r) points))
     ∙ ap (λ (o : Option Failure). or_else o (or_else (of_steps w r) (of_collects w (audit r))))
     (where_asked w.trap (first_trap S 1 r.shape.n) none)
     ∙ ap (λ (o : Option Failure). or_else o (of_collects w (audit r))) steps
-    ∙ ap (many_of (audit r)) collects in
-    ap (of_kind w.only) all ∙ nothing_of w.only
+    ∙ ap (many_of (audit r)) collects
+
+pub does_not_fail : (w : Wanted) (r : Run) (found : Option Failure) → ((k : ℕ) → FailsAt (history_of r) k → ⊥) →
+    first_seen w r ≡ None → Finds w r found → found ≡ None
+does_not_fail w r found never none h =
+    h.is
+    ∙ ap (λ (o : Option Failure). or_else o (first_seen w r)) (none_judged w.linearizable r h.judged never h.is_judged)
+    ∙ none
 
 suffice : (g : KindTag) (items : List Item) → length items < 2 ^ 64 → NumbersSuffice g items
 suffice kind.Seq items h = h
 suffice kind.Bits items h = tt
 suffice kind.Multi items h = tt
 
-run_does_not_fail : StepsAreOfOperations → (g : KindTag) (p : Plan) (w : Wanted) (seed k : ℕ) → RunsKeepPromises g →
-    IsPlan p → fits (shipped g).kind p.shape ≡ true → w.collects ≡ None
-    → StepsSuffice g p.shape w.steps → fails (shipped g) p w seed k ≡ false
-unfolding fails schedule_of
-run_does_not_fail laws g p w seed k keeps plan fit collects suffices =
+pub finds_nothing : StepsAreOfOperations → (g : KindTag) → RunsKeepPromises g → ShippedRunsAreSeenLinearizable g →
+    FindsNothing g
+unfolding run_of schedule_of
+finds_nothing laws g keeps seen p w seed k found plan fit collects suffices h =
     let some : 0 < p.shape.n = plan.shape.0.0 in
     let s = stream_of splitmix_steps (start_of seed k) in
     let items = items_by p.depth p k s in
@@ -107,15 +115,17 @@ run_does_not_fail laws g p w seed k keeps plan fit collects suffices =
     let few = these.few in
     let short : length items < 2 ^ 64 = omega (arith, turns, few) in
     let valid : IsValidRun r = record { all = these.there } in
-    let kept = keeps p.shape items plan.shape fit (suffice g items short) in
-    ap is_some (does_not_fail w r valid (kept.snapshot.verdicts_have_points valid) (kept.snapshot.never_traps valid)
-    (no_overrun laws g w.steps r refl valid kept suffices) collects)
+    let numbers = suffice g items short in
+    let kept = keeps p.shape items plan.shape fit numbers in
+    let never : (m : ℕ) → FailsAt (history_of r) m → ⊥ = λ m fails.
+    (seen p.shape items plan.shape fit numbers valid).never_accused 1000000 (NotLinearizable m) fails m refl in
+    does_not_fail w r found never
+    (none_seen w r valid (kept.snapshot.verdicts_have_points valid) (kept.snapshot.never_traps valid)
+    (no_overrun laws g w.steps r refl valid kept suffices) collects) h
 
-finds_none : (q : ℕ → Bool) (xs : List ℕ) → ((k : ℕ) → q k ≡ false) → find q xs ≡ None
-finds_none q [] h = refl
-finds_none q (x ∷ xs) h = ap (λ (b : Bool). cond b (Some x) (find q xs)) (h x) ∙ finds_none q xs h
-
-pub finds_nothing : StepsAreOfOperations → (g : KindTag) → RunsKeepPromises g → FindsNothing g
-finds_nothing laws g keeps p w seed runs plan fit collects suffices =
-    finds_none (fails (shipped g) p w seed) (range_with_len 0 runs)
-    (λ k. run_does_not_fail laws g p w seed k keeps plan fit collects suffices)
+pub hunts_find_none : (g : KindTag) → FindsNothing g → HuntsFindNone g
+hunts_find_none g nothing p w seed runs None plan fit collects suffices h = refl
+hunts_find_none g nothing p w seed runs (Some x) plan fit collects suffices h =
+    absurd
+    (let e : Some x.failure ≡ None =
+    nothing p w seed x.run (Some x.failure) plan fit collects suffices h.3 in cc)

@@ -2,13 +2,15 @@
 #![tactic(auto)]
 
 ghost use Rattle.snap_words.specs.declared.kind.KindTag.{KindTag};
-ghost use Rattle.snap_hunt_laws.specs.Shipped.{FindsNothing};
+ghost use Rattle.snap_hunt_laws.specs.Shipped.{FindsNothing, HuntsFindNone};
 
-/// No run of U, B and M has a scan without a point, a trap, or an operation of more steps than are
-/// promised. So a hunt for these finds none.
+/// Every run of U, B and M is linearizable, each of its scans has a point, and it has no trap, and no
+/// operation of more steps than are promised. So a hunt for these finds none.
 pub fn shipped_listings_have_no_failing_run()
-    ensures { (g : KindTag) → FindsNothing g }
+    ensures nothing { (g : KindTag) → FindsNothing g }
+    ensures hunts { (g : KindTag) → HuntsFindNone g }
 {
     snap_shipped::shipped_runs_keep_promises();
     snap_failure::steps_are_of_operations();
+    snap_judge_laws::shipped_runs_are_seen_linearizable();
 }

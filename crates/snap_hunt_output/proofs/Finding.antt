@@ -1,12 +1,10 @@
--- How a hunt's output is right: a run that fails is found to fail alike when only its kind of failure is wanted, and
--- a hunt of a text is one of its listing (`IsHunted`).
-use Rattle.std.proofs.Common.{◌≡◌, ℕ, List, Bool, true, false, Option, Some, None, is_some, if◌then◌else◌, Ok}
-use Rattle.std.proofs.Common.{refl, sym, ap, subst, ◌∙◌}
-use Rattle.std.specs.Prelude.{option_map}
-use Rattle.snap_hunt_output.specs.Hunted.{IsDue, IsFaultOf, IsFound, IsHunted, IsHuntedOf, IsNoRefusal, IsPrinted}
-use Rattle.snap_hunt_output.specs.Hunted.{asked_source, first_of, run_kind}
+-- How a hunt's output is right: a schedule whose run fails is one to be made small, what is printed is the text of a
+-- small one, and a hunt of a text is one of its listing (`IsHunted`).
+use Rattle.std.proofs.Common.{◌≡◌, ℕ, List, Option, Some, None, Ok, refl, sym, ap, subst, ◌∙◌}
+use Rattle.snap_hunt_output.specs.Hunted.{IsDue, IsFaultOf, IsFirstOf, IsFound, IsHunted, IsHuntedOf, IsNoRefusal}
+use Rattle.snap_hunt_output.specs.Hunted.{IsPrinted, Says, asked_source}
 use Rattle.snap_hunt_output.specs.Asked.{owned}
-use Rattle.snap_hunt_output.specs.Check.{failure_in_input}
+use Rattle.snap_hunt_output.specs.Check.{run_in_input}
 use Rattle.snap_hunt_output.specs.Input.{input_text}
 use Rattle.snap_hunt_output.specs.declared.hunted.HuntFault.{HuntFault}
 use Rattle.snap_hunt_output.specs.declared.hunted.HuntFault.TheVariants.{Memory, Refused, Unsaid}
@@ -15,82 +13,71 @@ use Rattle.snap_hunt_output.specs.declared.hunted.Hunted.{Hunted}
 use Rattle.snap_semantics.specs.Schedule.{Schedule}
 use Rattle.snap_semantics.specs.ScheduleText.{IsSchedule}
 use Rattle.snap_semantics.specs.Source.{Source}
-use Rattle.snap_runs.specs.Run.{run_over}
+use Rattle.snap_runs.specs.Run.{Run, run_over}
 use Rattle.snap_chance.specs.Chance.{schedule_of}
 use Rattle.snap_chance.specs.Plan.{Plan}
-use Rattle.snap_failure.specs.Failing.{failure_of, first_failure}
-use Rattle.snap_failure.specs.Kinds.{is_kind, kind_of, of_kind, with_only}
+use Rattle.snap_failure.specs.Finding.{Finds}
+use Rattle.snap_failure.specs.Kinds.{kind_of, with_only}
 use Rattle.snap_failure.specs.declared.failures.Failure.{Failure}
-use Rattle.snap_failure.specs.declared.failures.Failure.TheVariants as failure
 use Rattle.snap_failure.specs.declared.failures.FailureKind.{FailureKind}
 use Rattle.snap_failure.specs.declared.failures.Wanted.{Wanted}
-use Rattle.snap_hunt.specs.Hunt.{fails, run_of}
-use Rattle.snap_hunt.specs.Shrinking.{Fails, IsShrunk, fails_with}
+use Rattle.snap_failure.proofs.Alike.{alike}
+use Rattle.snap_hunt.specs.Hunt.{IsFirst, run_of}
+use Rattle.snap_hunt.specs.Shrinking.{Fails, FailsWith, IsShrunk}
+use Rattle.snap_hunt.specs.declared.found.Found.{Found}
 
--- a failure is of its own kind
-own_kind : (f : Failure) → is_kind (kind_of f) f ≡ true
-own_kind (failure.NoPoint v) = refl
-own_kind (failure.Trapped i line cause) = refl
-own_kind (failure.ManySteps i t own) = refl
-own_kind (failure.ManyCollects v) = refl
+over : (l : Source) (p : Plan) (w : Wanted) (seed k : ℕ) (s : Schedule) (f : Failure) → s ≡ schedule_of seed k p →
+    Finds w (run_of l p seed k) (Some f) → FailsWith l w s.shape s.items
+unfolding run_of FailsWith
+over l p w seed k s f is h =
+    subst (λ (t : Schedule). FailsWith l w t.shape t.items) (sym is) (f, h)
 
-its_kind : (f : Failure) (k : FailureKind) → Some (kind_of f) ≡ Some k → is_some (of_kind (Some k) (Some f)) ≡ true
-its_kind f k e =
-    let same : kind_of f ≡ k = cc in
-    ap (λ b. is_some (if b then Some f else None)) (ap (λ j. is_kind j f) (sym same) ∙ own_kind f)
-
-wanted_kind : (b : Bool) (f : Failure) (k : FailureKind) →
-    option_map (λ g. kind_of g) (if b then Some f else None) ≡ Some k → Some (kind_of f) ≡ Some k
-wanted_kind true f k e = e
-wanted_kind false f k e = absurd cc
-
-alike_by : (only : Option FailureKind) (o : Option Failure) (k : FailureKind) →
-    option_map (λ f. kind_of f) (of_kind only o) ≡ Some k → is_some (of_kind (Some k) o) ≡ true
-alike_by None None k e = absurd cc
-alike_by None (Some f) k e = its_kind f k e
-alike_by (Some j) None k e = absurd cc
-alike_by (Some j) (Some f) k e = its_kind f k (wanted_kind (is_kind j f) f k e)
-
--- what fails in a run fails in it where nothing else of another kind is wanted
-pub fails_alike : (l : Source) (p : Plan) (w : Wanted) (seed n : ℕ) (k : FailureKind) →
-    run_kind l p w seed n ≡ Some k → fails l p (with_only k w) seed n ≡ true
-unfolding fails failure_of
-fails_alike l p w seed n k e = alike_by w.only (first_failure w (run_of l p seed n)) k e
-
--- the schedule of a run that fails
-pub fails_over : (l : Source) (p : Plan) (w : Wanted) (seed k : ℕ) (s : Schedule) → s ≡ schedule_of seed k p →
-    IsSchedule s → fails l p w seed k ≡ true
-    → Fails l w s.shape s.items
-unfolding fails fails_with
-fails_over l p w seed k s is h e = record {
+-- the schedule of a run that fails, where nothing of another kind is wanted
+pub fails_over : (l : Source) (p : Plan) (w one : Wanted) (seed k : ℕ) (s : Schedule) (f : Failure) (g : FailureKind) →
+    s ≡ schedule_of seed k p → IsSchedule s → g ≡ kind_of f → one ≡ with_only g w →
+    Finds w (run_of l p seed k) (Some f) → Fails l one s.shape s.items
+fails_over l p w one seed k s f g is h kind only found = record {
   schedule = record { shape = h.shape; processes = h.processes; few = h.few; fits = h.fits };
-  fails = subst (λ (x : Schedule). fails_with l w x.shape x.items ≡ true) (sym is) e;
+  fails =
+      subst (λ (v : Wanted). FailsWith l v s.shape s.items) (sym (only ∙ ap (λ j. with_only j w) kind))
+      (over l p (with_only (kind_of f) w) seed k s f is (alike w (run_of l p seed k) f found));
 }
 
 -- an input is the text of a small schedule whose run fails so
-pub printed_by : (l : Source) (p : Plan) (text : List ℕ) (a : Asked) (k : ℕ) (kind : FailureKind) (f : Failure)
-    (input : List ℕ) (w : Wanted) (s small : Schedule) → w ≡ with_only kind a.wanted → s ≡ schedule_of a.seed k p →
-    IsShrunk l w s small → Some f ≡ failure_of w (run_over l small) → input ≡ input_text text a.seed k f small →
+pub printed_by : (l : Source) (p : Plan) (text : List ℕ) (a : Asked) (k : ℕ) (kind g : FailureKind) (f : Failure)
+    (input : List ℕ) (w : Wanted) (s small : Schedule) → g ≡ kind → w ≡ with_only g a.wanted → s ≡ schedule_of a.seed k p
+    → IsShrunk l w s small → Finds w (run_over l small) (Some f) → input ≡ input_text text a.seed k f small →
     IsPrinted l p text a k kind f input
-printed_by l p text a k kind f input w s small alike is small_enough fails printed = record {
-  small = small;
-  shrunk = subst (λ x. IsShrunk l x (schedule_of a.seed k p) small) alike (subst (λ x. IsShrunk l w x small) is small_enough);
-  fails = subst (λ x. failure_of x (run_over l small) ≡ Some f) alike (sym fails);
-  printed = printed;
-}
+printed_by l p text a k kind g f input w s small same only is small_enough fails printed =
+    let e : w ≡ with_only kind a.wanted = only ∙ ap (λ j. with_only j a.wanted) same in
+    record {
+      small = small;
+      shrunk =
+          subst (λ x. IsShrunk l x (schedule_of a.seed k p) small) e (subst (λ x. IsShrunk l w x small) is small_enough);
+      fails = subst (λ x. Finds x (run_over l small) (Some f)) e fails;
+      printed = printed;
+    }
+
+-- an input that is read says what is found in its run
+pub said : (w : Wanted) (input : List ℕ) (l : Source) (s : Schedule) (f : Failure) →
+    run_in_input input ≡ Ok (run_over l s) → Finds w (run_over l s) (Some f) → Says w input f
+said w input l s f is h = (run_over l s, is, h)
 
 -- a run that was found, with the input of a small one
-pub found_by : (l : Source) (text : List ℕ) (a : Asked) (k : ℕ) (f : Failure) (input : List ℕ) (p : Plan)
-    (kind : FailureKind) → p ≡ owned l.kind a.plan → first_of l a ≡ Some k →
-    run_kind l p a.wanted a.seed k ≡ Some kind → kind_of f ≡ kind → IsPrinted l p text a k kind f input →
-    failure_in_input a.wanted input ≡ Ok (Some f) → IsFound l text a k f input
-found_by l text a k f input p kind plan first found alike printed says = record {
-  first = first;
-  alike = subst (λ x. run_kind l x a.wanted a.seed k ≡ Some (kind_of f)) plan (found ∙ ap Some (sym alike));
+pub found_by : (l : Source) (text : List ℕ) (a : Asked) (x : Found) (f : Failure) (input : List ℕ) (p : Plan)
+    (g : FailureKind) (w : Wanted) → p ≡ owned l.kind a.plan → IsFirst l p a.wanted a.seed 0 a.runs (Some x) →
+    kind_of f ≡ kind_of x.failure → g ≡ kind_of x.failure → w ≡ with_only g a.wanted →
+    IsPrinted l p text a x.run (kind_of x.failure) f input → Says w input f → IsFound l text a x.run f input
+found_by l text a x f input p g w plan first same kind only printed says = record {
+  found = x.failure;
+  first = subst (λ q. IsFirst l q a.wanted a.seed 0 a.runs (Some x)) plan first;
+  alike = sym same;
   printed =
-      subst (λ x. IsPrinted l x text a k (kind_of f) f input) plan
-      (subst (λ x. IsPrinted l p text a k x f input) (sym alike) printed);
-  says = says;
+      subst (λ q. IsPrinted l q text a x.run (kind_of f) f input) plan
+      (subst (λ j. IsPrinted l p text a x.run j f input) (sym same) printed);
+  says =
+      subst (λ v. Says v input f)
+      (only ∙ ap (λ j. with_only j a.wanted) (kind ∙ sym same)) says;
 }
 
 -- what a hunt of a program comes to is what one of its listing does
@@ -98,11 +85,18 @@ pub hunted_by : (text : List ℕ) (a : Asked) (l : Source) (h : Hunted) →
     asked_source text a ≡ Ok l → IsHuntedOf l text a h → IsHunted text a h
 hunted_by text a l h is hunted = record { listing = l; is = is; hunted = hunted }
 
+-- that none of the runs fails
+pub none_by : (l : Source) (a : Asked) (p : Plan) (r : Option Found) → p ≡ owned l.kind a.plan →
+    IsFirst l p a.wanted a.seed 0 a.runs r → r ≡ None → IsFirstOf l a None
+none_by l a p r plan first none =
+    subst (λ o. IsFirstOf l a o) none (subst (λ q. IsFirst l q a.wanted a.seed 0 a.runs r) plan first)
+
 -- a fault that refuses nothing, where a run fails
-pub fault_by : (l : Source) (a : Asked) (k : ℕ) (e : HuntFault) → first_of l a ≡ Some k → IsNoRefusal e → IsFaultOf l a e
-fault_by l a k Memory is h = tt
-fault_by l a k (Refused r) is h = h
-fault_by l a k Unsaid is h = ap is_some is
+pub fault_by : (l : Source) (a : Asked) (p : Plan) (x : Found) (e : HuntFault) → p ≡ owned l.kind a.plan →
+    IsFirst l p a.wanted a.seed 0 a.runs (Some x) → IsNoRefusal e → IsFaultOf l a e
+fault_by l a p x Memory plan first h = tt
+fault_by l a p x (Refused r) plan first h = h
+fault_by l a p x Unsaid plan first h = (x, subst (λ q. IsFirst l q a.wanted a.seed 0 a.runs (Some x)) plan first)
 
 -- a fault of a hunt of the listing that is asked for
 pub due_by : (text : List ℕ) (a : Asked) (l : Source) (e : HuntFault) → asked_source text a ≡ Ok l → IsFaultOf l a e →

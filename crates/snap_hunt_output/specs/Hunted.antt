@@ -1,8 +1,7 @@
 -- `IsHunted`: what a hunt comes to, that no run fails, or the first that does (`IsFound`), and the text of a small
 -- schedule whose run fails as it does (`IsPrinted`); `asked_source`, the listing that is asked for, or why it is
 -- refused.
-use Rattle.std.specs.Prelude.{◌≡◌, ℕ, List, Option, Some, None, option_map, Result, Ok, Err, ⊤, true, is_some, if◌then◌else◌}
-use Rattle.std.specs.List.{find, range_with_len}
+use Rattle.std.specs.Prelude.{◌≡◌, ℕ, List, Option, Some, None, Result, Ok, Err, ⊤, if◌then◌else◌}
 use Rattle.snap_words.specs.declared.shape.WordFault.TheVariants.{BadShape}
 use Rattle.snap_semantics.specs.Answers.{◌>>=◌, refused_as}
 use Rattle.snap_semantics.specs.Listing.{listing_of}
@@ -12,18 +11,19 @@ use Rattle.snap_semantics.specs.declared.fault.Fault.{Fault}
 use Rattle.snap_semantics.specs.declared.fault.Fault.TheVariants as fault
 use Rattle.snap_semantics.specs.declared.refusal.Refusal.{Refusal}
 use Rattle.snap_semantics.specs.declared.refusal.Refusal.TheVariants as refusal
-use Rattle.snap_runs.specs.Run.{run_over}
+use Rattle.snap_runs.specs.Run.{Run, run_over}
 use Rattle.snap_chance.specs.Chance.{schedule_of}
 use Rattle.snap_chance.specs.Plan.{Plan}
-use Rattle.snap_failure.specs.Failing.{failure_of}
+use Rattle.snap_failure.specs.Finding.{Finds}
 use Rattle.snap_failure.specs.Kinds.{kind_of, with_only}
 use Rattle.snap_failure.specs.declared.failures.Failure.{Failure}
 use Rattle.snap_failure.specs.declared.failures.FailureKind.{FailureKind}
 use Rattle.snap_failure.specs.declared.failures.Wanted.{Wanted}
-use Rattle.snap_hunt.specs.Hunt.{fails, run_of}
+use Rattle.snap_hunt.specs.Hunt.{IsFirst}
+use Rattle.snap_hunt.specs.declared.found.Found.{Found}
 use Rattle.snap_hunt.specs.Shrinking.{IsShrunk}
 use Rattle.snap_hunt_output.specs.Asked.{fits_kind, owned}
-use Rattle.snap_hunt_output.specs.Check.{failure_in_input}
+use Rattle.snap_hunt_output.specs.Check.{run_in_input}
 use Rattle.snap_hunt_output.specs.Input.{input_text}
 use Rattle.snap_hunt_output.specs.declared.asked.Asked.{Asked}
 use Rattle.snap_hunt_output.specs.declared.hunted.Hunted.{Hunted}
@@ -31,34 +31,35 @@ use Rattle.snap_hunt_output.specs.declared.hunted.Hunted.TheVariants as hunted
 use Rattle.snap_hunt_output.specs.declared.hunted.HuntFault.{HuntFault}
 use Rattle.snap_hunt_output.specs.declared.hunted.HuntFault.TheVariants.{Memory, Refused, Unsaid}
 
--- the first of the runs that fails
-abbrev pub first_of : Source → Asked → Option ℕ
-first_of l a = find (fails l (owned l.kind a.plan) a.wanted a.seed) (range_with_len 0 a.runs)
-
--- the kind of what fails in run k, where anything does
-abbrev pub run_kind : Source → Plan → Wanted → (seed k : ℕ) → Option FailureKind
-run_kind l p w seed k = option_map (λ f. kind_of f) (failure_of w (run_of l p seed k))
+-- what a hunt of a listing is to find: the first of the runs that are asked for in which something fails, or none
+abbrev pub IsFirstOf : Source → Asked → Option Found → Type 0
+IsFirstOf l a = IsFirst l (owned l.kind a.plan) a.wanted a.seed 0 a.runs
 
 -- The text is that of the listing, of a note, and of a small schedule: it has no more processes, words and items than
--- that of run k, its run fails so, of this kind, and without any one of its items the run does not fail in this way.
+-- that of run k, this fails in its run, and without any one of its items nothing of this kind is found in the run.
 -- The note has the seed, the run and what fails.
 pub record IsPrinted (l : Source) (p : Plan) (text : List ℕ) (a : Asked) (k : ℕ) (kind : FailureKind) (f : Failure)
     (input : List ℕ) : Type 0 where
   pub small : Schedule
   pub shrunk : IsShrunk l (with_only kind a.wanted) (schedule_of a.seed k p) small
-  pub fails : failure_of (with_only kind a.wanted) (run_over l small) ≡ Some f
+  pub fails : Finds (with_only kind a.wanted) (run_over l small) (Some f)
   pub printed : input ≡ input_text text a.seed k f small
 
--- This is the first run that fails, and the input is the text of a small schedule whose run fails so, which is of the
--- same kind. Read as the debugger reads it, it has a run that fails so.
+-- Read as the debugger reads it, an input has a run in which this fails.
+abbrev pub Says : Wanted → List ℕ → Failure → Type 0
+Says w input f = (r : Run) × (run_in_input input ≡ Ok r) × Finds w r (Some f)
+
+-- This is the first run that fails, and the input is the text of a small schedule in whose run a failure of the same
+-- kind is found. Read as the debugger reads it, it has a run that fails so.
 pub record IsFound (l : Source) (text : List ℕ) (a : Asked) (k : ℕ) (f : Failure) (input : List ℕ) : Type 0 where
-  pub first : first_of l a ≡ Some k
-  pub alike : run_kind l (owned l.kind a.plan) a.wanted a.seed k ≡ Some (kind_of f)
+  pub found : Failure
+  pub first : IsFirstOf l a (Some (record { run = k; failure = found }))
+  pub alike : kind_of found ≡ kind_of f
   pub printed : IsPrinted l (owned l.kind a.plan) text a k (kind_of f) f input
-  pub says : failure_in_input a.wanted input ≡ Ok (Some f)
+  pub says : Says (with_only (kind_of f) a.wanted) input f
 
 abbrev pub IsHuntedOf : Source → List ℕ → Asked → Hunted → Type 0
-IsHuntedOf l text a hunted.NoneFails = first_of l a ≡ None
+IsHuntedOf l text a hunted.NoneFails = IsFirstOf l a None
 IsHuntedOf l text a (hunted.Fails k f input) = IsFound l text a k f input.items
 
 -- the listing of a hunt; it is refused as `check` refuses it, and where the shape does not fit its kind
@@ -88,10 +89,10 @@ IsNoRefusal Unsaid = ⊤
 abbrev pub IsFaultOf : Source → Asked → HuntFault → Type 0
 IsFaultOf l a Memory = ⊤
 IsFaultOf l a (Refused r) = ⊥
-IsFaultOf l a Unsaid = is_some (first_of l a) ≡ true
+IsFaultOf l a Unsaid = (x : Found) × IsFirstOf l a (Some x)
 
 -- a fault that is due: a refusal is that of what is asked for, and where nothing is refused it is one of its listing
 abbrev pub IsDue : List ℕ → Asked → HuntFault → Type 0
 IsDue text a Memory = ⊤
 IsDue text a (Refused r) = asked_source text a ≡ Err r
-IsDue text a Unsaid = (l : Source) × (asked_source text a ≡ Ok l) × (is_some (first_of l a) ≡ true)
+IsDue text a Unsaid = (l : Source) × (asked_source text a ≡ Ok l) × ((x : Found) × IsFirstOf l a (Some x))

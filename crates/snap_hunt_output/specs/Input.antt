@@ -29,8 +29,13 @@ steps_line i t own =
     ++ codes " step " ++ decimal own.count
     ++ codes " item " ++ decimal t ++ codes "\n"
 
--- what fails, in the words of the audit, as a trap, or as a step too many
+-- the event at which a run is not linearizable any more, an item of process i, in the words of a judgement
+abbrev pub order_line : (i t : ℕ) → List ℕ
+order_line i t = codes "not linearizable: event " ++ decimal t ++ codes " process " ++ decimal i ++ codes "\n"
+
+-- what fails, in the words of a judgement, of the audit, as a trap, or as a step too many
 abbrev pub failure_line : Failure → List ℕ
+failure_line (failure.NotLinearizable i t) = order_line i t
 failure_line (failure.NoPoint v) = verdict_line v
 failure_line (failure.ManyCollects v) = verdict_line v
 failure_line (failure.ManySteps i t own) = steps_line i t own

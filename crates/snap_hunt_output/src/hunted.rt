@@ -1,21 +1,23 @@
 //! `hunt_listing`: a whole hunt, which ends in `Hunted`: no run of a listing fails, or the first
 //! that does, with the input of a small run that fails too.
-ghost use Rattle.std.specs.Prelude.{◌≡◌, ◌<◌, ◌^◌, IfErr, IfOk, OnOk, Ok, Some};
+ghost use Rattle.std.specs.Prelude.{◌≡◌, ◌<◌, ◌^◌, IfErr, IfOk, OnOk, Some};
+ghost use Rattle.snap_runs.specs.Run.{run_over};
+ghost use Rattle.snap_failure.specs.Finding.{Finds};
 ghost use Rattle.snap_failure.specs.Kinds.{kind_of};
-ghost use Rattle.snap_hunt_output.specs.Check.{failure_in_input};
 ghost use Rattle.snap_semantics.specs.Answers.{Answers};
+ghost use Rattle.snap_hunt.specs.Hunt.{run_of};
 ghost use Rattle.snap_hunt_output.specs.Hunted.{IsDue, IsFaultOf, IsHunted, IsHuntedOf};
-ghost use Rattle.snap_hunt_output.specs.Hunted.{IsNoRefusal, IsPrinted, asked_source, hunt_fault};
-ghost use Rattle.snap_hunt_output.specs.Hunted.{run_kind};
+ghost use Rattle.snap_hunt_output.specs.Hunted.{IsNoRefusal, IsPrinted, Says, asked_source};
+ghost use Rattle.snap_hunt_output.specs.Hunted.{hunt_fault};
 ghost use Rattle.snap_hunt_output.specs.declared.hunted.HuntFault.TheVariants.{Memory};
 
 use crate::asked::{Asked, fits_kind, owned};
-use crate::check::failure_in_input;
+use crate::check::{InputRun, run_in_input};
 use crate::input::input_text;
 use snap_asm_program::Program;
 use snap_chance::{Plan, schedule_of};
-use snap_failure::{Failure, FailureKind, Wanted, failure_over};
-use snap_hunt::{Watcher, first_failing, shrunk};
+use snap_failure::{Failure, Wanted, failure_over};
+use snap_hunt::{Found, Watcher, first_failing, shrunk};
 use snap_input::{MAX_INPUT, program_of};
 use snap_semantics::{Fault, Refusal};
 use snap_words::WordFault;
@@ -63,79 +65,80 @@ impl From<Fault<Refusal>> for HuntFault {
     }
 }
 
-/// The kind of what fails in the run of this number.
-fn run_kind(
-    alloc: Global,
-    program: &Program,
-    plan: &Plan,
-    asked: &Asked,
-    run: u64,
-) -> Result<FailureKind, HuntFault>
-    ensures kind { IfOk result (λ k.
-        run_kind program.now plan.now asked.now.wanted asked.now.seed run ≡ Some k) }
-    ensures fault { IfErr result IsNoRefusal }
-{
-    let schedule = schedule_of(alloc, asked.seed, run, plan)?;
-    match failure_over(alloc, program, &schedule, &asked.wanted)? {
-        Some(failure) => Ok(failure.kind()),
-        None => Err(HuntFault::Unsaid),
-    }
-}
-
 /// A small run that fails, as an input, and what fails in it.
 #[derive(Drop)]
-struct Found {
+struct SmallInput {
     failure: Failure,
     input: Vec<u8>,
 }
 
-/// The input of a small run that fails so, where the run of this number does.
+/// The input of a small run that fails in the same way as the one that was found.
+#[tactic(auto, using(crate::proofs::Finding::fails_over, crate::proofs::Finding::printed_by))]
 fn small_input(
     alloc: Global,
     listing: &[u8],
     program: &Program,
     plan: &Plan,
     asked: &Asked,
-    run: u64,
-    kind: FailureKind,
-) -> Result<Found, HuntFault>
-    requires { run_kind program.now plan.now asked.now.wanted asked.now.seed run ≡ Some kind }
-    ensures printed { IfOk result (λ found. IsPrinted program.now plan.now listing.now asked.now run
-        kind found.failure found.input.items) }
-    ensures alike { IfOk result (λ found. kind_of found.failure ≡ kind) }
+    found: &Found,
+) -> Result<SmallInput, HuntFault>
+    requires { Finds asked.now.wanted (run_of program.now plan.now asked.now.seed found.now.run)
+        (Some found.now.failure) }
+    ensures printed { IfOk result (λ small. IsPrinted program.now plan.now listing.now asked.now
+        found.now.run (kind_of found.now.failure) small.failure small.input.items) }
+    ensures alike { IfOk result (λ small. kind_of small.failure ≡ kind_of found.now.failure) }
     ensures fault { IfErr result IsNoRefusal }
 {
-    let schedule = schedule_of(alloc, asked.seed, run, plan)?;
+    let schedule = schedule_of(alloc, asked.seed, found.run, plan)?;
     let _shape = schedule.shape();
+    let kind = found.failure.kind();
     let alike = asked.wanted.with_only(kind);
     let small = shrunk(alloc, program, &alike, &schedule, plan.owns())?;
     match failure_over(alloc, program, &small, &alike)? {
-        Some(failure) if failure.is_kind(kind) => Ok(Found {
+        Some(failure) if failure.is_kind(kind) => Ok(SmallInput {
             failure,
-            input: input_text(alloc, listing, asked.seed, run, &failure, &small)?,
+            input: input_text(alloc, listing, asked.seed, found.run, &failure, &small)?,
         }),
         _ => Err(HuntFault::Unsaid),
     }
 }
 
+/// Sees that this is what fails in the run of a program over a schedule.
+fn check_run(
+    alloc: Global,
+    read: &InputRun,
+    wanted: &Wanted,
+    failure: &Failure,
+) -> Result<(), HuntFault>
+    ensures says { OnOk result (Finds wanted.now (run_over read.now.program read.now.schedule)
+        (Some failure.now)) }
+    ensures fault { IfErr result IsNoRefusal }
+{
+    match failure_over(alloc, &read.program, &read.schedule, wanted)? {
+        Some(found) if found == *failure => Ok(()),
+        _ => Err(HuntFault::Unsaid),
+    }
+}
+
 /// Reads an input that is printed once more, and sees that this is what fails in its run.
+#[tactic(auto, using(crate::proofs::Finding::said))]
 fn check(alloc: Global, input: &[u8], wanted: &Wanted, failure: &Failure) -> Result<(), HuntFault>
-    ensures says { OnOk result (failure_in_input wanted.now input.now ≡ Ok (Some failure.now)) }
+    ensures says { OnOk result (Says wanted.now input.now failure.now) }
     ensures fault { IfErr result IsNoRefusal }
 {
     if input.len() > MAX_INPUT {
         return Err(HuntFault::Unsaid);
     }
-    match failure_in_input(alloc, input, wanted) {
-        Ok(Some(read)) if read == *failure => Ok(()),
+    match run_in_input(alloc, input) {
+        Ok(read) => check_run(alloc, &read, wanted, failure),
         Err(Fault::Memory) => Err(HuntFault::Memory),
-        _ => Err(HuntFault::Unsaid),
+        Err(Fault::Refused(_)) => Err(HuntFault::Unsaid),
     }
 }
 
 /// The first of the runs of a program that fails, as an input of a small run that fails too;
 /// or that none of them does.
-#[tactic(auto, using(crate::proofs::Finding::fault_by, crate::proofs::Finding::found_by))]
+#[tactic(auto, using(crate::proofs::Finding::fault_by, crate::proofs::Finding::found_by, crate::proofs::Finding::none_by))]
 fn hunt_program<W: Watcher>(
     rt: &(impl Threads + Sync),
     alloc: Global,
@@ -159,15 +162,15 @@ fn hunt_program<W: Watcher>(
         asked.runs,
         watcher,
     )?;
-    let Some(run) = found else {
+    let Some(found) = found else {
         return Ok(Hunted::NoneFails);
     };
-    let kind = run_kind(alloc, program, &plan, asked, run)?;
-    let small = small_input(alloc, listing, program, &plan, asked, run, kind)?;
-    check(alloc, small.input.as_slice(), &asked.wanted, &small.failure)?;
-    let Found { failure, input } = small;
+    let small = small_input(alloc, listing, program, &plan, asked, &found)?;
+    let alike = asked.wanted.with_only(found.failure.kind());
+    check(alloc, small.input.as_slice(), &alike, &small.failure)?;
+    let SmallInput { failure, input } = small;
     Ok(Hunted::Fails {
-        run,
+        run: found.run,
         failure,
         input,
     })

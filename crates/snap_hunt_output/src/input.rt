@@ -2,7 +2,7 @@
 //! schedule, and a command that goes to its end.
 ghost use Rattle.std.specs.Prelude.{◌≡◌, ◌++◌, IfOk, OnOk};
 ghost use Rattle.snap_hunt_output.specs.Input.{ends_line, failure_line, input_text};
-ghost use Rattle.snap_hunt_output.specs.Input.{listing_part, run_note, steps_line};
+ghost use Rattle.snap_hunt_output.specs.Input.{listing_part, order_line, run_note, steps_line};
 
 use snap_audit::verdict_line;
 use snap_debug_commands::{Command, push_command};
@@ -48,12 +48,26 @@ fn steps_line(out: &mut Vec<u8>, process: u32, item: u64, own: &OwnSteps) -> Res
     push_text(out, b"\n")
 }
 
-/// What fails: a verdict as an audit has it, the trap of a process, or a step too many.
+/// `not linearizable: event T process I`.
+#[tactic(auto, using(snap_text::proofs::Texts::joined))]
+fn order_line(out: &mut Vec<u8>, process: u32, item: u64) -> Result<(), AllocError>
+    ensures { OnOk result (out.new.items ≡ out.old.items ++ order_line process item) }
+{
+    push_text(out, b"not linearizable: event ")?;
+    push_number(out, item)?;
+    push_text(out, b" process ")?;
+    push_number(out, u64::from(process))?;
+    push_text(out, b"\n")
+}
+
+/// What fails: the event at which a run is not linearizable any more, a verdict as an audit has it,
+/// the trap of a process, or a step too many.
 #[tactic(auto, using(snap_text::proofs::Texts::joined))]
 pub(crate) fn failure_line(out: &mut Vec<u8>, failure: &Failure) -> Result<(), AllocError>
     ensures { OnOk result (out.new.items ≡ out.old.items ++ failure_line failure.now) }
 {
     match failure {
+        Failure::NotLinearizable { process, item } => order_line(out, *process, *item),
         Failure::NoPoint(verdict) => verdict_line(out, verdict),
         Failure::ManyCollects(verdict) => verdict_line(out, verdict),
         Failure::ManySteps { process, item, own } => steps_line(out, *process, *item, own),

@@ -7,5 +7,5 @@ mod hunted;
 mod input;
 
 pub use asked::Asked;
-pub use check::failure_in_input;
+pub use check::{InputRun, run_in_input};
 pub use hunted::{HuntFault, Hunted, hunt_listing};

@@ -1,6 +1,6 @@
 -- What a search has come to from a node.
 use Rattle.std.proofs.Common.{◌≡◌, ℕ, suc, ◌-◌, ◌+◌, ◌<◌, ◌≤◌, List, [], ◌∷◌, ◌++◌, length, get_or, refl, sym, ◌∙◌, ap, subst, arith}
-use Rattle.std.proofs.Common.{map, take, drop, true, false}
+use Rattle.std.proofs.Common.{Bool, if◌then◌else◌, map, take, drop, true, false}
 use Rattle.std.proofs.Math.ListN.{set}
 use Rattle.std.proofs.lemmas.List.{length-append, length-take-le}
 use Rattle.snap_runs.specs.Linearization.{after}
@@ -28,7 +28,7 @@ use Rattle.std.proofs.Common.{drop-cons}
 use Rattle.std.proofs.lemmas.List.{length-map}
 use Rattle.snap_judge.specs.Steps.{Waits, Open}
 use Rattle.snap_judge.specs.Kept.{MayNotPass, step_of_kept}
-use Rattle.snap_judge.specs.Nodes.{HasEntered, HasTried, IsEntered, IsNode, IsTried, IsTriedAt}
+use Rattle.snap_judge.specs.Nodes.{HasEntered, HasTried, IsEntered, IsNode, IsTried, IsTriedAt, tries_left}
 use Rattle.snap_judge.proofs.Goes.{grown, same_goes}
 
 -- what can be explained with it taken, of a copy
@@ -144,15 +144,24 @@ rest_waits steps node tried waits p = by_place (cases_lt p node.next)
     by_place (inl lt) = tried p lt
     by_place (inr le) = inr (waits p le)
 
--- The node, its next place moved on.
-pub has_tried : (steps : List KeptStep) (node node' : Node) (order order' : List ℕ) (u : OpenUpdate) (e : Entered) →
-    IsNode (length node.config.slots.items) (length node.config.values.items) steps order node → IsTried steps node →
-    IsChoice steps node.config u → node.next ≤ u.place →
-    ((q : ℕ) → node.next ≤ q → q < u.place → NotNowAt steps node.config node.ending q) →
-    node'.config ≡ node.config → node'.depth ≡ node.depth → node'.ending ≡ node.ending → node'.next ≡ u.place + 1 →
-    HasEntered steps node' u.place order order' e → HasTried steps node node' order order' e
-has_tried steps node node' order order' u e is_node tried choice le waits config depth ending next has = record {
-  is_node = record {
+-- whether the place that ends is left to try, as a number
+abbrev left_at : Bool → ℕ
+left_at begun = if begun then 0 else 1
+
+-- The node is still one, however far it has tried.
+module _ (steps : List KeptStep) (node node' : Node) (order order' : List ℕ) (p : ℕ) (e : Entered)
+    (is_node : IsNode (length node.config.slots.items) (length node.config.values.items) steps order node)
+    (config : node'.config ≡ node.config) (depth : node'.depth ≡ node.depth) (ending : node'.ending ≡ node.ending)
+    (has : HasEntered steps node' p order order' e) where
+  prefix : take node.depth order' ≡ take node.depth order
+  prefix = subst (λ (k : ℕ). take k order' ≡ take k order) depth has.prefix
+
+  deep : node.depth < length order'
+  deep = subst (λ (k : ℕ). k < length order') depth has.deep
+
+  still_node : node'.next ≤ length node.config.slots.items →
+      IsNode (length node.config.slots.items) (length node.config.values.items) steps order' node'
+  still_node next = record {
     counts = subst (λ (x : Config). (length x.slots.items ≡ length node.config.slots.items)
         × (length x.values.items ≡ length node.config.values.items)) (sym config) (refl, refl);
     config = subst (IsConfig steps) (sym config) is_node.config;
@@ -160,28 +169,72 @@ has_tried steps node node' order order' u e is_node tried choice le waits config
     stuck = subst (IsStuck steps) (sym config) is_node.stuck;
     ending = ap (λ (x : Config). get_or steps x.position kept_step.Waits) config ∙ is_node.ending
         ∙ ap (λ (k : ℕ). kept_step.Ends (suc k)) (sym ending);
-    next = (let lt = choice.within in omega (arith, lt, next));
+    next = next;
     depth = (let deep = has.deep in omega (arith, deep));
     reached = subst (λ (x : Config). IsReached steps (take node'.depth order') x) (sym config)
         (subst (λ (k : ℕ). IsReached steps (take k order') node.config) (sym depth)
         (subst (λ (os : List ℕ). IsReached steps os node.config) (sym prefix) is_node.reached));
-  };
-  config = config;
-  depth = depth;
-  next = (omega (arith, le, next));
+  }
+
+  tried_more : node'.next ≤ length node.config.slots.items → tries_left node' < tries_left node →
+      ((Can steps e.config → ⊥) → (q : ℕ) → q < node'.next → IsTriedAt steps node.config node.ending q) →
+      HasTried steps node node' order order' e
+  tried_more next less tried = record {
+    is_node = still_node next;
+    config = config;
+    depth = depth;
+    less = less;
+    entered = subst (λ (x : Config). IsEntered (length x.slots.items) (length x.values.items) steps order' e) config has.entered;
+    prefix = prefix;
+    deep = deep;
+    tried = λ fails q lt. subst (λ (x : Config). IsTriedAt steps x node'.ending q) (sym config)
+        (subst (λ (k : ℕ). IsTriedAt steps node.config k q) (sym ending) (tried fails q lt));
+  }
+
+  same_slots : length node'.config.slots.items ≡ length node.config.slots.items
+  same_slots = ap (λ (x : Config). length x.slots.items) config
+
+  -- It has tried the update that ends, and no place more.
+  pub has_begun : IsTried steps node → node'.next ≡ node.next → node.begun ≡ false → node'.begun ≡ true →
+      HasTried steps node node' order order' e
+  has_begun tried next was now =
+      tried_more (let le = is_node.next in omega (arith, le, next))
+      (let same = same_slots in
+      let none : left_at node'.begun ≡ 0 = ap left_at now in
+      let one : left_at node.begun ≡ 1 = ap left_at was in
+      omega (arith, same, none, one, next))
+      (λ _ q lt. tried q (omega (arith, lt, next)))
+
+-- what is tried from a node that has begun is tried from the same one before
+pub has_tried_after : (steps : List KeptStep) (node begun node' : Node) (order order' : List ℕ) (e : Entered) →
+    begun.config ≡ node.config → begun.depth ≡ node.depth → tries_left begun ≤ tries_left node →
+    HasTried steps begun node' order order' e → HasTried steps node node' order order' e
+has_tried_after steps node begun node' order order' e config depth less has = record {
+  is_node = subst (λ (x : Config). IsNode (length x.slots.items) (length x.values.items) steps order' node') config has.is_node;
+  config = has.config ∙ config;
+  depth = has.depth ∙ depth;
+  less = (let fewer = has.less in omega (arith, less, fewer));
   entered = subst (λ (x : Config). IsEntered (length x.slots.items) (length x.values.items) steps order' e) config has.entered;
-  prefix = prefix;
-  deep = deep;
-  tried = λ fails p lt. subst (λ (x : Config). IsTriedAt steps x node'.ending p) (sym config)
-      (subst (λ (k : ℕ). IsTriedAt steps node.config k p) (sym ending) (by_place fails p (cases_lt p node.next) (cases_eq p u.place) lt));
+  prefix = subst (λ (k : ℕ). take k order' ≡ take k order) depth has.prefix;
+  deep = subst (λ (k : ℕ). k < length order') depth has.deep;
+  tried = has.tried;
 }
+
+-- The node, its next place moved on.
+pub has_tried : (steps : List KeptStep) (node node' : Node) (order order' : List ℕ) (u : OpenUpdate) (e : Entered) →
+    IsNode (length node.config.slots.items) (length node.config.values.items) steps order node → IsTried steps node →
+    IsChoice steps node.config u → node.next ≤ u.place →
+    ((q : ℕ) → node.next ≤ q → q < u.place → NotNowAt steps node.config node.ending q) →
+    node'.config ≡ node.config → node'.depth ≡ node.depth → node'.ending ≡ node.ending → node'.next ≡ u.place + 1 →
+    node'.begun ≡ true → HasEntered steps node' u.place order order' e → HasTried steps node node' order order' e
+has_tried steps node node' order order' u e is_node tried choice le waits config depth ending next begun has =
+    tried_more steps node node' order order' u.place e is_node config depth ending has
+    (let lt = choice.within in omega (arith, lt, next))
+    (let same = same_slots steps node node' order order' u.place e is_node config depth ending has in
+    let none : left_at node'.begun ≡ 0 = ap left_at begun in
+    let lt = choice.within in omega (arith, same, none, le, next, lt))
+    (λ fails p below. by_place fails p (cases_lt p node.next) (cases_eq p u.place) below)
   where
-    prefix : take node.depth order' ≡ take node.depth order
-    prefix = subst (λ (k : ℕ). take k order' ≡ take k order) depth has.prefix
-
-    deep : node.depth < length order'
-    deep = subst (λ (k : ℕ). k < length order') depth has.deep
-
     by_place : (Can steps e.config → ⊥) → (p : ℕ) → (p < node.next) ⊎ (node.next ≤ p) →
         (p ≡ u.place) ⊎ (p ≡ u.place → ⊥) → p < node'.next → IsTriedAt steps node.config node.ending p
     by_place fails p (inl lt) at_place below = tried p lt

@@ -1,5 +1,5 @@
 -- How far a search is: the nodes at which it has to choose, each with what it has tried there.
-use Rattle.std.specs.Prelude.{◌≡◌, ℕ, zero, suc, ◌+◌, ◌<◌, ◌≤◌, ◌⊎◌, true, false, List, [], ◌∷◌, ◌++◌, length, slice_index_or, take, map, replicate}
+use Rattle.std.specs.Prelude.{◌≡◌, ℕ, zero, suc, ◌+◌, ◌-◌, if◌then◌else◌, ◌<◌, ◌≤◌, ◌⊎◌, true, false, List, [], ◌∷◌, ◌++◌, length, slice_index_or, take, map, replicate}
 use Rattle.std.specs.List.{All, Contains, IsDistinct}
 use Rattle.snap_judge.specs.contracts.config.ConfigPartialEq.TheImpl as config_eq
 use Rattle.snap_judge.specs.declared.config.Step.{Step as KeptStep}
@@ -66,12 +66,16 @@ pub record HasEntered (steps : List KeptStep) (node : Node) (p : ℕ) (order ord
   pub deep : node.depth < length order'
   pub tried : CanTaking steps node.config p → Can steps e.config
 
+-- how often a node can try an update yet: once at the place that ends, and once at each place that is left
+abbrev pub tries_left : Node → ℕ
+tries_left node = length node.config.slots.items - node.next + (if node.begun then 0 else 1)
+
 -- A node has tried what was next: it is tried once nothing explains the rest from what it has come to.
 pub record HasTried (steps : List KeptStep) (node node' : Node) (order order' : List ℕ) (e : Entered) : Type 0 where
   pub is_node : IsNode (length node.config.slots.items) (length node.config.values.items) steps order' node'
   pub config : node'.config ≡ node.config
   pub depth : node'.depth ≡ node.depth
-  pub next : node.next < node'.next
+  pub less : tries_left node' < tries_left node
   pub entered : IsEntered (length node.config.slots.items) (length node.config.values.items) steps order' e
   pub prefix : take node.depth order' ≡ take node.depth order
   pub deep : node.depth < length order'

@@ -1,11 +1,11 @@
 //! A search tries what is next at a node.
-ghost use Rattle.std.specs.Prelude.{◌≡◌, ◌+◌, IfNone, IfOk, IfSome, OnOk, length};
+ghost use Rattle.std.specs.Prelude.{◌≡◌, ◌+◌, true, IfNone, IfOk, IfSome, OnOk, length};
 ghost use Rattle.snap_judge.specs.Kept.{AreSteps, Can};
 ghost use Rattle.snap_judge.specs.Choices.{IsChoice};
 ghost use Rattle.snap_judge.specs.Nodes.{HasEntered, HasTried, IsNode, IsTried};
 
 use crate::advance::advance;
-use crate::choices::next_choice;
+use crate::choices::{next_choice, open_update};
 use crate::config::{Entered, Node, OpenUpdate, Step};
 use crate::taking::take_update;
 use std::alloc::AllocError;
@@ -32,8 +32,36 @@ fn enter(
     Ok(Entered { config, at_end })
 }
 
-/// Tries the open update that is next at a node. Returns what the search has come to, or that each
-/// has been tried: then nothing explains the rest from there.
+/// Tries the open update at the next place of a node that has to be tried. Returns what the search
+/// has come to, or that each has been tried: then nothing explains the rest from there.
+fn try_place(
+    steps: &[Step],
+    node: &mut Node,
+    order: &mut Vec<usize>,
+) -> Result<Option<Entered>, AllocError>
+    requires node { IsNode (length node.old.config.slots.items)
+        (length node.old.config.values.items) steps.now order.old.items node.old }
+    requires tried { IsTried steps.now node.old }
+    requires begun { node.old.begun ≡ true }
+    requires steps { AreSteps (length node.old.config.slots.items)
+        (length node.old.config.values.items) steps.now }
+    ensures same { OnOk result (node.new.config ≡ node.old.config) }
+    ensures none { IfOk result (λ e. IfNone e (Can steps.now node.old.config → ⊥)) }
+    ensures kept { IfOk result (λ e. IfNone e (order.new.items ≡ order.old.items)) }
+    ensures some { IfOk result (λ e. IfSome e (λ x. HasTried steps.now node.old node.new
+        order.old.items order.new.items x)) }
+{
+    let Some(update) = next_choice(steps, &node.config, node.ending, node.next) else {
+        return Ok(None);
+    };
+    node.next = update.place + 1;
+    let entered = enter(steps, node, order, update)?;
+    Ok(Some(entered))
+}
+
+/// Tries the open update that is next at a node: first the one that ends, which mostly explains
+/// more than the others, and then each by its place. Returns what the search has come to, or that
+/// each has been tried: then nothing explains the rest from there.
 pub fn try_next(
     steps: &[Step],
     node: &mut Node,
@@ -50,10 +78,15 @@ pub fn try_next(
     ensures some { IfOk result (λ e. IfSome e (λ x. HasTried steps.now node.old node.new
         order.old.items order.new.items x)) }
 {
-    let Some(update) = next_choice(steps, &node.config, node.ending, node.next) else {
-        return Ok(None);
-    };
-    node.next = update.place + 1;
-    let entered = enter(steps, node, order, update)?;
-    Ok(Some(entered))
+    if node.begun {
+        return try_place(steps, node, order);
+    }
+    node.begun = true;
+    match open_update(steps, &node.config, node.ending) {
+        Some(update) => {
+            let entered = enter(steps, node, order, update)?;
+            Ok(Some(entered))
+        }
+        None => try_place(steps, node, order),
+    }
 }

@@ -91,7 +91,7 @@ fn called_update(steps: &[Step], call: usize) -> Option<(u64, u64)>
 }
 
 /// Returns the update that is open at this place, where one is.
-fn open_update(steps: &[Step], config: &Config, place: usize) -> Option<OpenUpdate>
+pub fn open_update(steps: &[Step], config: &Config, place: usize) -> Option<OpenUpdate>
     requires config { IsConfig steps.now config.now }
     requires steps { AreSteps (length config.now.slots.items) (length config.now.values.items)
         steps.now }

@@ -57,12 +57,14 @@ impl Config {
 }
 
 /// A configuration before the end of what the process at the place `ending` called, which has not
-/// taken place: it is reached by the first `depth` operations of an order, and each open update at
-/// a place before `next` that has to be tried has been.
+/// taken place: it is reached by the first `depth` operations of an order. Each open update at a
+/// place before `next` that has to be tried has been; the one that ends is tried first of all, and
+/// `begun` says that it was.
 #[derive(Drop)]
 pub struct Node {
     pub config: Config,
     pub depth: usize,
+    pub begun: bool,
     pub next: usize,
     pub ending: usize,
 }

@@ -153,6 +153,7 @@ fn enter_node(steps: &[Step], trail: &mut Trail, entered: Entered) -> Result<(),
     trail.nodes.push(Node {
         config,
         depth,
+        begun: false,
         next: 0,
         ending,
     })?;

@@ -5,4 +5,5 @@ mod Linear
 mod Once
 mod Cutting
 mod Judged
+mod Threads
 mod Shipped

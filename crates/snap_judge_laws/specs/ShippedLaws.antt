@@ -1,12 +1,18 @@
 -- The histories of the runs of U, B and M are linearizable, and nothing else is judged of them.
-use Rattle.std.specs.Prelude.{◌≡◌, ℕ, true, List}
+use Rattle.std.specs.Prelude.{◌≡◌, ℕ, ◌≤◌, Bool, true, List, length}
 use Rattle.snap_words.specs.Kind.{fits}
-use Rattle.snap_words.specs.Shape.{Counts, IsShape}
+use Rattle.snap_words.specs.Shape.{Counts, IsShape, max_items}
 use Rattle.snap_words.specs.declared.kind.KindTag.{KindTag}
 use Rattle.snap_semantics.specs.declared.process.Item.{Item}
+use Rattle.snap_sched.specs.ScriptText.{Script}
 use Rattle.snap_runs.specs.Run.{IsValidRun, Run, run_of_items}
 use Rattle.snap_shipped.specs.Kept.{NumbersSuffice}
 use Rattle.snap_shipped.specs.Shipped.{shipped}
+use Rattle.snap_live_desk.specs.Shown.{SeatView}
+use Rattle.snap_live_desk.specs.declared.seat.Turn.{Turn}
+use Rattle.snap_live.specs.LiveRun.{IsLive}
+use Rattle.snap_thread_laws.specs.DeskLaws.{IsClosed}
+use Rattle.snap_thread_laws.specs.ShippedLaws.{IsShapeFor, shipped_over}
 use Rattle.snap_judge.specs.History.{IsHistory}
 use Rattle.snap_judge.specs.Linearizable.{IsLinearizableHistory}
 use Rattle.snap_judge.specs.declared.judgements.Judgement.{Judgement}
@@ -30,3 +36,15 @@ ShippedRunsAreSeenLinearizable g =
     (s : Counts) (items : List Item) → IsShape s.n s.w → fits (shipped g).kind s ≡ true → NumbersSuffice g items →
     (let r = run_of_items (shipped g) s items in
     IsValidRun r → IsSeenLinearizable r)
+
+-- So is what is kept of the turns of threads at a desk of such a listing, once the desk is closed.
+abbrev pub ClosedDesksAreSeenLinearizable : Type 0
+ClosedDesksAreSeenLinearizable = (g : KindTag) (shape : Counts) (seats : List SeatView) (kept : Run) →
+    IsShapeFor g shape → IsClosed (shipped_over g shape) seats kept → IsSeenLinearizable kept
+
+-- So is what is kept of a live run of such a listing, where the gate of the run may answer `may`.
+abbrev pub LiveRunsAreSeenLinearizable : (may : ℕ → ℕ → Bool → Type 0) → Type 0
+LiveRunsAreSeenLinearizable may = (g : KindTag) (shape : Counts) (scripts : List Script) (limit : ℕ) (kept : Run)
+    (turns : List (List Turn)) → IsShapeFor g shape →
+    IsLive may (shipped_over g shape) scripts limit kept turns → IsValidRun kept → length kept.items ≤ max_items →
+    IsSeenLinearizable kept

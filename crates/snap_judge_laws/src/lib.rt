@@ -11,14 +11,19 @@ ghost use Rattle.snap_judge_laws.specs.JudgementLaws.{IsSoOf, JudgementsAreOfRun
 ghost use Rattle.snap_run_judge.specs.RunJudgement.{IsRunJudgement};
 ghost use Rattle.snap_judge_laws.specs.RunLaws.{RunsAreToldByTheirHistories};
 ghost use Rattle.snap_judge_laws.specs.RunLaws.{RunsTellEachOnce, TellsEachOnce};
+ghost use Rattle.snap_judge_laws.specs.ShippedLaws.{ClosedDesksAreSeenLinearizable};
+ghost use Rattle.snap_judge_laws.specs.ShippedLaws.{LiveRunsAreSeenLinearizable};
 ghost use Rattle.snap_judge_laws.specs.ShippedLaws.{ShippedRunsAreSeenLinearizable};
+ghost use Rattle.snap_judge_laws.specs.ThreadLaws.{ThreadsAreToldTheHistory};
 
 use snap_event_laws::events_tell_operations;
 use snap_judge::linearizable_from_the_beginning;
 use snap_listing_grammar::what_is_read_is_spelled;
+use snap_live::Gate;
 use snap_record::Record;
 use snap_run_judge::runs_have_histories;
 use snap_shipped::{shipped_runs_keep_promises, text_b, text_m, text_u};
+use snap_thread_laws::operations_are_told;
 use snap_words::Kind;
 
 /// The history of a run of any listing tells of its operations and of no others, and so it has the
@@ -63,6 +68,15 @@ pub fn judgements_are_of_records<K: Kind>(kept: &Record<K>)
     runs_tell_each_once();
 }
 
+/// What the threads of a run are told, each of its own process, and the history of the run tell of
+/// the same operations.
+pub fn threads_are_told_the_history()
+    ensures { ThreadsAreToldTheHistory }
+{
+    operations_are_told();
+    runs_are_told_by_their_histories();
+}
+
 /// U, B and M are listings.
 pub fn shipped_are_listings()
     ensures { (g : KindTag) → IsListing (shipped g) }
@@ -83,4 +97,18 @@ pub fn shipped_runs_are_seen_linearizable()
     linearizable_from_the_beginning();
     shipped_are_listings();
     shipped_runs_keep_promises();
+}
+
+/// So is the history of what is kept at a desk of U, B or M, whatever the threads did.
+pub fn closed_desks_are_seen_linearizable()
+    ensures { ClosedDesksAreSeenLinearizable }
+{
+    shipped_runs_are_seen_linearizable();
+}
+
+/// So is the history of a live run of U, B or M, whatever its gate answered.
+pub fn live_runs_are_seen_linearizable<G: Gate>(gate: &G)
+    ensures { LiveRunsAreSeenLinearizable (G.may_answer gate.now) }
+{
+    shipped_runs_are_seen_linearizable();
 }

@@ -1,4 +1,4 @@
--- A live run of a shipped listing writes the history of a run of that listing, which keeps its promises
+-- A live run of U, B or M writes the history of a run of that listing, which keeps its promises
 -- (`LiveRunsAreSnapshots`).
 use Rattle.std.proofs.Common.{◌≡◌, ℕ, ◌≤◌, true, List, Ok, length, nat_lt, refl, sym, ap, subst, arith}
 use Rattle.snap_words.specs.Kind.{fits}
@@ -14,9 +14,9 @@ use Rattle.snap_runs.specs.Run.{Run}
 use Rattle.snap_shipped.specs.Kept.{KeepsPromises, NumbersSuffice, RunsKeepPromises}
 use Rattle.snap_shipped.specs.Shipped.{shipped}
 use Rattle.snap_input.specs.Parts.{part, parts_of, max_input}
-use Rattle.snap_tasks.specs.declared.subject.Subject.TheVariants.{Shipped}
+use Rattle.snap_tasks.specs.declared.subject.Subject.{Subject}
+use Rattle.snap_input.specs.Input.{checked_parts, listing_for, parted, texts_for}
 use Rattle.snap_input.proofs.Answered.{both, passed, same_answer, within}
-use Rattle.snap_input.proofs.Parting.{of_texts}
 use Rattle.snap_live_desk.specs.Turns.{run_of}
 use Rattle.snap_live_output.specs.LiveOutput.{Setup, fitting, scripts_for, setting, setup_for, setup_of, setup_text}
 use Rattle.snap_live_output.specs.LiveRuns.{LiveRunsAreSnapshots}
@@ -41,13 +41,17 @@ plays_listing l texts g e =
       subst (λ (x : Setup). fits l.kind x.scripts.shape ≡ true) (sym is) (fits_listing l (part 0 texts) read.0 read.1),
     )
 
--- with a shipped listing
-plays_shipped : (k : KindTag) (input : List ℕ) (g : Setup) → setup_of (Shipped k) input ≡ Ok g →
-    (g.source ≡ shipped k) × (fits (shipped k).kind g.scripts.shape ≡ true)
-plays_shipped k input g e =
-    plays_listing (shipped k) (parts_of input) g
-    (of_texts k 1 (parts_of input) setup_text g
-    (within (nat_lt max_input (length input)) refusal.InputTooLong (setup_for (Shipped k) (parts_of input)) g e))
+-- of an input whose listing is this
+plays : (s : Subject) (l : Source) (input : List ℕ) (g : Setup) → listing_for s (parts_of input) ≡ Ok l →
+    setup_of s input ≡ Ok g → (g.source ≡ l) × (fits l.kind g.scripts.shape ≡ true)
+unfolding parted
+plays s l input g is e =
+    let short = within (nat_lt max_input (length input)) refusal.InputTooLong (setup_for s (parts_of input)) g e in
+    let counted = both (checked_parts s 1 (parts_of input)) _ g short in
+    let found = both (listing_for s (parts_of input)) _ g counted.2 in
+    let same : found.0 ≡ l = same_answer (listing_for s (parts_of input)) l found.0 is found.1 in
+    subst (λ (m : Source). (g.source ≡ m) × (fits m.kind g.scripts.shape ≡ true)) same
+    (plays_listing found.0 (texts_for s (parts_of input)) g found.2)
 
 -- a live run has fewer items than there are sequence numbers
 suffices : (k : KindTag) (items : List Item) → length items ≤ 1000000 → NumbersSuffice k items
@@ -56,8 +60,8 @@ suffices kind.Bits items short = tt
 suffices kind.Multi items short = tt
 
 pub live_runs : ((k : KindTag) → RunsKeepPromises k) → LiveRunsAreSnapshots
-live_runs kept k limit input text h =
-    let g = h.0 in let live = h.2 in let is = plays_shipped k input g h.1 in
+live_runs kept k s limit input text listing h =
+    let g = h.0 in let live = h.2 in let is = plays s (shipped k) input g listing h.1 in
     record {
       run = run_of (setting g) live.items;
       of_listing = is.0;

@@ -13,4 +13,5 @@ mod written;
 pub use fault::LiveRunFault;
 pub use laws::live_runs_are_snapshots;
 pub use output::{LiveOutput, live_output};
+pub use setup::{Setup, setup_of};
 pub use uncalled::UncalledCall;

@@ -1,8 +1,13 @@
 //! `live_output`: what a live run writes for an input, the history of the run and its report, or
 //! why it writes nothing.
-ghost use Rattle.std.specs.Prelude.{◌≡◌, ◌≤◌};
+ghost use Rattle.std.specs.Prelude.{◌≡◌, ◌<◌, ◌≤◌, Err, length};
 ghost use Rattle.snap_words.specs.Shape.{max_items};
+ghost use Rattle.snap_semantics.specs.declared.refusal.Refusal.{Refusal};
+ghost use Rattle.snap_semantics.specs.declared.refusal.Refusal.TheVariants as refusal;
+ghost use Rattle.snap_input.specs.Input.{checked_parts};
+ghost use Rattle.snap_input.specs.Parts.{max_input, parts_of};
 ghost use Rattle.snap_live_output.specs.LiveAnswer.{AnswersLive};
+ghost use Rattle.snap_live_output.specs.declared.fault.LiveRunFault.TheVariants as fault;
 
 use crate::fault::LiveRunFault;
 use crate::played_text::play;
@@ -35,7 +40,11 @@ pub fn live_output<G: Gate, R: Threads + Wait + Sync>(
     input: &[u8],
 ) -> Result<LiveOutput, LiveRunFault>
     requires { (1 ≤ limit) × (limit ≤ max_items) }
-    ensures { AnswersLive (G.may_answer gate.now) subject limit input.now result }
+    ensures answer { AnswersLive (G.may_answer gate.now) subject limit input.now result }
+    ensures too_long { max_input < length input.now →
+        result ≡ Err (fault.Refused refusal.InputTooLong) }
+    ensures counted { (r : Refusal) → length input.now ≤ max_input →
+        checked_parts subject 1 (parts_of input.now) ≡ Err r → result ≡ Err (fault.Refused r) }
 {
     let setup = setup_of(alloc, subject, input)?;
     let uncalled = uncalled_text(alloc, &setup)?;

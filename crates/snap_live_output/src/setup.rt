@@ -1,11 +1,14 @@
 //! `Setup`: what a live run plays, which is a listing and a script for each process; and how an
 //! input is read as one.
-ghost use Rattle.std.specs.Prelude.{◌≡◌, ◌<◌, ◌≤◌, length, map};
+ghost use Rattle.std.specs.Prelude.{◌≡◌, ◌<◌, ◌≤◌, Err, length, map};
 ghost use Rattle.snap_words.specs.Kind.{fits};
 ghost use Rattle.snap_semantics.specs.Answers.{Answers, refused_as};
+ghost use Rattle.snap_semantics.specs.declared.fault.Fault.TheVariants.{Refused};
+ghost use Rattle.snap_semantics.specs.declared.refusal.Refusal.{Refusal};
 ghost use Rattle.snap_semantics.specs.declared.refusal.Refusal.TheVariants as refusal;
 ghost use Rattle.snap_sched.specs.ScriptText.{AreScripts, scripts_of};
 ghost use Rattle.snap_live_output.specs.LiveOutput.{scripts_for, setup_for, setup_of, setup_text};
+ghost use Rattle.snap_input.specs.Input.{checked_parts};
 ghost use Rattle.snap_input.specs.Parts.{max_input, parts_of};
 
 use snap_asm_program::Program;
@@ -103,7 +106,9 @@ fn setup_texts(alloc: Global, program: Program, texts: &[&[u8]]) -> Result<Setup
 #[tactic(auto, unfolding(snap_input::specs::Input::parted))]
 fn setup_for(alloc: Global, subject: Subject, input: &[u8]) -> Result<Setup, Fault<Refusal>>
     requires { length input.now ≤ max_input }
-    ensures { Answers (λ s. s) result (setup_for subject (parts_of input.now)) }
+    ensures setup { Answers (λ s. s) result (setup_for subject (parts_of input.now)) }
+    ensures counted { (r : Refusal) → checked_parts subject 1 (parts_of input.now) ≡ Err r →
+        result ≡ Err (Refused r) }
 {
     let parts = parts_for(alloc, subject, 1, input)?;
     let program = program_for(alloc, subject, parts.as_slice())?;
@@ -113,7 +118,10 @@ fn setup_for(alloc: Global, subject: Subject, input: &[u8]) -> Result<Setup, Fau
 
 /// What an input says to play: a listing, or the shipped one, and scripts.
 pub fn setup_of(alloc: Global, subject: Subject, input: &[u8]) -> Result<Setup, Fault<Refusal>>
-    ensures { Answers (λ s. s) result (setup_of subject input.now) }
+    ensures setup { Answers (λ s. s) result (setup_of subject input.now) }
+    ensures too_long { max_input < length input.now → result ≡ Err (Refused refusal.InputTooLong) }
+    ensures counted { (r : Refusal) → length input.now ≤ max_input →
+        checked_parts subject 1 (parts_of input.now) ≡ Err r → result ≡ Err (Refused r) }
 {
     if input.len() > MAX_INPUT {
         return Err(Fault::Refused(Refusal::InputTooLong));

@@ -4,3 +4,5 @@ pub mod AtOnce
 pub mod Alike
 pub mod Ended
 pub mod ToTheEnd
+pub mod Judged
+pub mod Refusing

@@ -16,7 +16,7 @@ use Rattle.snap_semantics.specs.Source.{Source}
 use Rattle.snap_semantics.specs.declared.process.Item.{Item}
 use Rattle.snap_semantics.specs.declared.refusal.Refusal.{Refusal}
 use Rattle.snap_semantics.specs.declared.refusal.Refusal.TheVariants as refusal
-use Rattle.snap_asm.specs.Laws.{ListsBack}
+use Rattle.snap_asm.specs.Laws.{KeepsCanonical, ListsBack}
 use Rattle.snap_sched.specs.Laws.{ReadsOnlySpelled}
 use Rattle.snap_runs.specs.Run.{run_over}
 use Rattle.snap_shipped.specs.Kept.{NumbersSuffice, RunsKeepPromises}
@@ -29,8 +29,9 @@ use Rattle.snap_debug.specs.Session.{performance}
 use Rattle.snap_debug_commands.specs.declared.command.Command.{Command}
 use Rattle.snap_debug_commands.specs.declared.command.Command.TheVariants as command
 use Rattle.snap_input.proofs.Answered.{both, not_refused, passed, same_answer, within}
-use Rattle.snap_output.specs.Headline.{PrintsTheRun, ListsBackAsSource, AsksFor, IsScheduleFor, AreSchedulesFor}
-use Rattle.snap_output.specs.Headline.{RunsWhatIsAsked, WritesTheRun, SnapshotListingsAreSnapshots, texts_in}
+use Rattle.snap_output.specs.Headline.{AsksFor, GivesItselfBack, ListsBackAsSource, PrintsTheRun, RunsWhatIsAsked}
+use Rattle.snap_output.specs.Headline.{SnapshotListingsAreSnapshots, WritesTheRun}
+use Rattle.snap_output.specs.Stages.{AreSchedulesFor, IsScheduleFor, texts_in}
 use Rattle.snap_shipped.specs.Shipped.{shipped}
 use Rattle.snap_input.specs.Input.{checked_parts, listing_for, parted, texts_for}
 use Rattle.snap_output.specs.Output.{of_task, output_of, run_text}
@@ -53,6 +54,9 @@ pub lists_back : ListsBack → ListsBackAsSource
 unfolding assembled
 lists_back law x image e =
     let from = both (commented_of x) (λ l. Ok (image_of l)) image e in (from.0, from.1, (law x image from.0 from.1 e).0)
+
+pub gives_itself_back : KeepsCanonical → GivesItselfBack
+gives_itself_back law l is short = (let back = law l is short in (image_of l, back.0, back.1))
 
 -- the schedule that a text is, of a shape that fits
 schedule_from : (l : Source) (y : List ℕ) (s : Schedule) → schedule_for l y ≡ Ok s → IsScheduleFor l y s
@@ -123,9 +127,9 @@ reported l texts text e =
     )
 
 -- the output is that of the parts
-of_parts : (t : Task) (input text : List ℕ) → output_of t input ≡ Ok text → of_task t input ≡ Ok text
+of_parts : (t : Task) (input text : List ℕ) → output_of [] t input ≡ Ok text → of_task [] t input ≡ Ok text
 unfolding output_of
-of_parts t input text e = within (nat_lt max_input (length input)) refusal.InputTooLong (of_task t input) text e
+of_parts t input text e = within (nat_lt max_input (length input)) refusal.InputTooLong (of_task [] t input) text e
 
 -- and what is found of parts is found of the listing and the texts after it
 of_listing : (s : Subject) (count : ℕ) (parts : List (List ℕ)) (f : Source → List (List ℕ) → Result (List ℕ) Refusal)
@@ -187,7 +191,7 @@ module _ (subject : Subject) (input : List ℕ) (l : Source) (s : Schedule) (sho
   unfolding audit_listing
   audits = rw read refl
 
-  whole : (t : Task) → output_of t input ≡ of_task t input
+  whole : (t : Task) → output_of [] t input ≡ of_task [] t input
   unfolding output_of
   whole t = rw (le-ltb max_input (length input) short) refl
 

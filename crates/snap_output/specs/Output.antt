@@ -1,15 +1,16 @@
 -- `output_of`: what the program writes for an input, for each task (`run`, `debug`, `audit`, `batch`, `survey`, ..),
--- or why it refuses.
-use Rattle.std.specs.Prelude.{ℕ, Bool, nat_lt, List, length, Result, Err, codes, if◌then◌else◌}
+-- or why it refuses; and what is judged for it.
+use Rattle.std.specs.Prelude.{◌≡◌, ℕ, Bool, nat_lt, List, [], length, Result, Ok, Err, codes, if◌then◌else◌}
 use Rattle.snap_semantics.specs.declared.refusal.Refusal.{Refusal}
 use Rattle.snap_semantics.specs.declared.refusal.Refusal.TheVariants as refusal
 use Rattle.snap_semantics.specs.Answers.{refused_as}
 use Rattle.snap_image_format.specs.Assembly.{assembled, listed, upgraded}
 use Rattle.snap_semantics.specs.Source.{Source}
-use Rattle.snap_certify.specs.Output.{certificates_text}
+use Rattle.snap_judge.specs.declared.judgements.Judgement.{Judgement}
+use Rattle.snap_certify.specs.Output.{WasJudgedIn, certificates_text}
 use Rattle.snap_lint.specs.Check.{check_of}
 use Rattle.snap_lint.specs.Lint.{lint_of}
-use Rattle.snap_survey.specs.Surveys.{clean_runs, surveyed}
+use Rattle.snap_survey.specs.Surveys.{WereJudgedIn, clean_runs, surveyed}
 use Rattle.snap_run_trace.specs.Traces.{traces_text}
 use Rattle.snap_input.specs.Input.{parted}
 use Rattle.snap_input.specs.Parts.{part, parts_of, max_input}
@@ -23,24 +24,39 @@ use Rattle.snap_tasks.specs.declared.task.Task.TheVariants as task
 abbrev pub run_text : Source → List (List ℕ) → Result (List ℕ) Refusal
 run_text l texts = perform_listing l (part 0 texts) (codes "run\n")
 
-abbrev pub of_task : Task → List ℕ → Result (List ℕ) Refusal
-of_task task.Check input = check_of input
-of_task task.Lint input = lint_of input
-of_task task.Assemble input = refused_as refusal.Listing (assembled input)
-of_task task.List input = refused_as refusal.Image (listed input)
-of_task task.Upgrade input = refused_as refusal.Image (upgraded input)
-of_task (task.Run s) input = parted s 1 (parts_of input) run_text
-of_task (task.Trace s) input = parted s 1 (parts_of input) traces_text
-of_task (task.Debug s) input = parted s 2 (parts_of input) debug_text
-of_task (task.Audit s) input = parted s 1 (parts_of input) verdicts_text
-of_task (task.Certify s) input = parted s 1 (parts_of input) certificates_text
-of_task (task.Batch s) input = batched s (parts_of input)
-of_task (task.Survey s) input = surveyed s (parts_of input)
+-- what is written for an input, with what was judged for it
+abbrev pub of_task : List Judgement → Task → List ℕ → Result (List ℕ) Refusal
+of_task judged task.Check input = check_of input
+of_task judged task.Lint input = lint_of input
+of_task judged task.Assemble input = refused_as refusal.Listing (assembled input)
+of_task judged task.List input = refused_as refusal.Image (listed input)
+of_task judged task.Upgrade input = refused_as refusal.Image (upgraded input)
+of_task judged (task.Run s) input = parted s 1 (parts_of input) run_text
+of_task judged (task.Trace s) input = parted s 1 (parts_of input) traces_text
+of_task judged (task.Debug s) input = parted s 2 (parts_of input) debug_text
+of_task judged (task.Audit s) input = parted s 1 (parts_of input) verdicts_text
+of_task judged (task.Certify s) input = parted s 1 (parts_of input) (certificates_text judged)
+of_task judged (task.Batch s) input = batched s (parts_of input)
+of_task judged (task.Survey s) input = surveyed judged s (parts_of input)
 
--- what a whole run of the program writes for an input, or its refusal
-unfoldable pub output_of : Task → List ℕ → Result (List ℕ) Refusal
-output_of task input = if nat_lt max_input (length input) then Err refusal.InputTooLong else of_task task input
+-- what a whole run of the program writes for an input, with what was judged for it, or its refusal
+unfoldable pub output_of : List Judgement → Task → List ℕ → Result (List ℕ) Refusal
+output_of judged task input =
+    if nat_lt max_input (length input) then Err refusal.InputTooLong else of_task judged task input
 
 -- whether all runs that a survey of an input is of are clean, or its refusal
-unfoldable pub clean_of : Subject → List ℕ → Result Bool Refusal
-clean_of s input = if nat_lt max_input (length input) then Err refusal.InputTooLong else clean_runs s (parts_of input)
+unfoldable pub clean_of : List Judgement → Subject → List ℕ → Result Bool Refusal
+clean_of judged s input =
+    if nat_lt max_input (length input) then Err refusal.InputTooLong else clean_runs judged s (parts_of input)
+
+-- This was judged for a task on an input: of the run that is to be certified, of each run that is surveyed, and for
+-- other tasks nothing.
+abbrev pub AreJudged : Task → List ℕ → List Judgement → Type 0
+AreJudged (task.Certify s) input judged = WasJudgedIn s (parts_of input) judged
+AreJudged (task.Survey s) input judged = WereJudgedIn s (parts_of input) judged
+AreJudged _ input judged = judged ≡ []
+
+-- What is answered for a task on an input: its output, of judgements that say what is so, or its refusal.
+abbrev pub IsAnswerTo : Task → List ℕ → Result (List ℕ) Refusal → Type 0
+IsAnswerTo t input (Ok text) = (judged : List Judgement) × AreJudged t input judged × (output_of judged t input ≡ Ok text)
+IsAnswerTo t input (Err r) = output_of [] t input ≡ Err r

@@ -1,5 +1,5 @@
 -- `RefusesTracesAsRuns`: the tasks `trace` and `run` refuse the same inputs, for the same reasons.
-use Rattle.std.specs.Prelude.{◌≡◌, ◌↔◌, ℕ, List, Result, Err}
+use Rattle.std.specs.Prelude.{◌≡◌, ◌↔◌, ℕ, List, [], Result, Err}
 use Rattle.snap_semantics.specs.declared.refusal.Refusal.{Refusal}
 use Rattle.snap_tasks.specs.declared.subject.Subject.{Subject}
 use Rattle.snap_tasks.specs.declared.task.Task.TheVariants as task
@@ -12,4 +12,4 @@ AreRefusedAlike x y = (r : Refusal) → (x ≡ Err r) ↔ (y ≡ Err r)
 -- A trace is refused exactly where a run is, and for the same reason.
 abbrev pub RefusesTracesAsRuns : Type 0
 RefusesTracesAsRuns =
-    (s : Subject) (input : List ℕ) → AreRefusedAlike (output_of (task.Trace s) input) (output_of (task.Run s) input)
+    (s : Subject) (input : List ℕ) → AreRefusedAlike (output_of [] (task.Trace s) input) (output_of [] (task.Run s) input)

@@ -1,12 +1,15 @@
 //! `perform`: what is written for a listing, a schedule and debugger commands, each command with
 //! its reply.
-ghost use Rattle.std.specs.Prelude.{◌≡◌, ◌++◌, IfOk, OnOk};
+ghost use Rattle.std.specs.Prelude.{◌≡◌, ◌++◌, Err, IfOk, OnOk, Some};
 ghost use Rattle.snap_runs.specs.Run.{run_over};
 ghost use Rattle.snap_semantics.specs.Answers.{Answers, refused_as};
+ghost use Rattle.snap_semantics.specs.declared.fault.Fault.TheVariants.{Refused};
+ghost use Rattle.snap_semantics.specs.declared.refusal.Refusal.{Refusal};
 ghost use Rattle.snap_semantics.specs.declared.refusal.Refusal.TheVariants as refusal;
 ghost use Rattle.snap_debug_commands.specs.Commands.{commands_of};
 ghost use Rattle.snap_debug.specs.Session.{after_commands, answer, performance};
 ghost use Rattle.snap_debug.specs.Session.{replies_text, session_report};
+ghost use Rattle.snap_output.specs.AtOnce.{long_text};
 ghost use Rattle.snap_output.specs.Perform.{perform_listing, perform_of};
 ghost use Rattle.snap_output.specs.Replies.{command_reply};
 
@@ -14,10 +17,13 @@ use snap_asm_program::Program;
 use snap_debug::{Command, Session, push_command, push_refusal_line};
 use snap_input::{program_of, schedule_for};
 use snap_sched::Schedule;
-use snap_semantics::{Fault, Refusal};
+use snap_semantics::{Fault, ListingRefusal, Refusal};
 use snap_text::push_text;
 use snap_words::{Bits, Kind, KindTag, Multi, Seq};
 use std::alloc::{AllocError, Global};
+
+/// The most bytes of a listing's text.
+const MOST_LISTING_BYTES: usize = 65_536;
 
 /// Reads commands.
 fn read_commands(alloc: Global, text: &[u8]) -> Result<Vec<Command>, Fault<Refusal>>
@@ -137,10 +143,9 @@ pub fn perform_program(
     }
 }
 
-/// What commands are answered on a listing under a schedule, and the report of the position
-/// reached, as text.
+/// The same on a listing, as its text.
 #[tactic(auto, unfolding(crate::specs::Perform::perform_of))]
-pub fn perform(
+fn perform_texts(
     alloc: Global,
     listing: &[u8],
     schedule: &[u8],
@@ -150,4 +155,23 @@ pub fn perform(
 {
     let program = program_of(alloc, listing)?;
     perform_program(alloc, &program, schedule, commands)
+}
+
+/// What commands are answered on a listing under a schedule, and the report of the position
+/// reached, as text. Too long a listing is refused before any memory is asked for.
+#[tactic(auto, using(crate::proofs::AtOnce::of_text), unfolding(crate::specs::Perform::perform_of, snap_semantics::specs::Listing::listing_of))]
+pub fn perform(
+    alloc: Global,
+    listing: &[u8],
+    schedule: &[u8],
+    commands: &[u8],
+) -> Result<Vec<u8>, Fault<Refusal>>
+    ensures output { Answers (λ out. out.items) result
+        (perform_of listing.now schedule.now commands.now) }
+    ensures at_once { (r : Refusal) → long_text listing.now ≡ Some r → result ≡ Err (Refused r) }
+{
+    if listing.len() > MOST_LISTING_BYTES {
+        return Err(Fault::Refused(Refusal::Listing(ListingRefusal::TooLong)));
+    }
+    perform_texts(alloc, listing, schedule, commands)
 }

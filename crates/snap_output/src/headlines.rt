@@ -3,7 +3,7 @@
 ghost use Rattle.snap_output.specs.Headline.{Headline};
 ghost use Rattle.snap_output.specs.Refusals.{RefusesTracesAsRuns};
 
-use snap_asm::what_is_assembled_lists_back;
+use snap_asm::{what_is_assembled_lists_back, what_is_canonical_is_kept};
 use snap_sched::reads_only_spelled;
 use snap_shipped::shipped_runs_keep_promises;
 
@@ -15,6 +15,7 @@ pub fn headline()
     ensures { Headline }
 {
     what_is_assembled_lists_back();
+    what_is_canonical_is_kept();
     reads_only_spelled();
     shipped_runs_keep_promises();
 }

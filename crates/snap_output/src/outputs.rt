@@ -1,5 +1,5 @@
 //! `output`: what the program writes for an input, for each task, or why there is no output.
-ghost use Rattle.std.specs.Prelude.{◌≡◌, ◌≤◌, Err, Some, length};
+ghost use Rattle.std.specs.Prelude.{◌≡◌, ◌≤◌, [], Err, Some, length};
 ghost use Rattle.snap_semantics.specs.Answers.{Answers};
 ghost use Rattle.snap_semantics.specs.declared.fault.Fault.TheVariants.{Refused};
 ghost use Rattle.snap_semantics.specs.declared.refusal.Refusal.{Refusal};
@@ -7,7 +7,9 @@ ghost use Rattle.snap_input.specs.Input.{checked_parts, parted};
 ghost use Rattle.snap_input.specs.Parts.{max_input, parts_of};
 ghost use Rattle.snap_run_output.specs.RunOutput.{end_text};
 ghost use Rattle.snap_output.specs.AtOnce.{found_at_once};
-ghost use Rattle.snap_output.specs.Output.{clean_of, output_of, run_text};
+ghost use Rattle.snap_run_judge.specs.Judged.{AnswersJudged};
+ghost use Rattle.snap_survey.specs.Surveys.{AnswersSurvey};
+ghost use Rattle.snap_output.specs.Output.{AreJudged, clean_of, output_of, run_text};
 ghost use Rattle.snap_tasks.specs.declared.task.Task.TheVariants.{Run, Survey};
 
 use crate::debug_task::debug;
@@ -52,9 +54,9 @@ pub fn survey_output(
     subject: Subject,
     input: &[u8],
 ) -> Result<SurveyOutput, Fault<Refusal>>
-    ensures output { Answers (λ out. out.text.items) result
-        (output_of (Survey subject) input.now) }
-    ensures clean { Answers (λ out. out.clean) result (clean_of subject input.now) }
+    ensures output { AnswersSurvey (AreJudged (Survey subject) input.now) result
+        (λ judged. output_of judged (Survey subject) input.now)
+        (λ judged. clean_of judged subject input.now) }
     ensures at_once { (r : Refusal) → found_at_once (Survey subject) input.now ≡ Some r →
         result ≡ Err (Refused r) }
 {
@@ -74,7 +76,7 @@ pub fn planned_run(
     input: &[u8],
 ) -> Result<PlannedRun, Fault<Refusal>>
     ensures output { Answers (λ run. end_text run.program run.schedule) result
-        (output_of (Run subject) input.now) }
+        (output_of [] (Run subject) input.now) }
     ensures at_once { (r : Refusal) → found_at_once (Run subject) input.now ≡ Some r →
         result ≡ Err (Refused r) }
 {
@@ -87,7 +89,8 @@ pub fn planned_run(
 /// The whole output for an input, or why there is none, in one thread.
 #[tactic(auto, using(crate::proofs::AtOnce::of_text, crate::proofs::AtOnce::of_why), unfolding(crate::specs::Output::output_of))]
 pub fn output_alone(alloc: Global, task: &Task, input: &[u8]) -> Result<Vec<u8>, Fault<Refusal>>
-    ensures output { Answers (λ out. out.items) result (output_of task.now input.now) }
+    ensures output { AnswersJudged (λ out. out.items) (AreJudged task.now input.now) result
+        (λ judged. output_of judged task.now input.now) }
     ensures at_once { (r : Refusal) → found_at_once task.now input.now ≡ Some r →
         result ≡ Err (Refused r) }
 {
@@ -119,7 +122,8 @@ pub fn output(
     task: &Task,
     input: &[u8],
 ) -> Result<Vec<u8>, Fault<Refusal>>
-    ensures output { Answers (λ out. out.items) result (output_of task.now input.now) }
+    ensures output { AnswersJudged (λ out. out.items) (AreJudged task.now input.now) result
+        (λ judged. output_of judged task.now input.now) }
     ensures at_once { (r : Refusal) → found_at_once task.now input.now ≡ Some r →
         result ≡ Err (Refused r) }
 {

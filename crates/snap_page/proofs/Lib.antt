@@ -1,3 +1,4 @@
 -- The proofs of snap_page, by their modules.
 pub mod Names
 pub mod Short
+pub mod Answered

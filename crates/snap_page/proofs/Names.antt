@@ -4,9 +4,10 @@ use Rattle.std.specs.Prelude.{IsUtf8, bytes_eq, codes, option_map}
 use Rattle.std.proofs.lemmas.Slice.Eq.{bytes_eq-Decides}
 use Rattle.std.proofs.lemmas.Str.{IsUtf8-nil}
 use Rattle.snap_tasks.specs.Request.{kind_of, request_of}
+use Rattle.snap_tasks.specs.declared.request.Options.{Options}
 use Rattle.snap_tasks.specs.declared.subject.Subject.{Subject}
 use Rattle.snap_tasks.specs.declared.subject.Subject.TheVariants.{Shipped}
-use Rattle.snap_page.specs.Page.{subject_of, task_for, task_in}
+use Rattle.snap_page.specs.Page.{options_for, subject_of, task_for, task_in}
 
 not_true : (b : Bool) → ¬ (b ≡ true) → b ≡ false
 not_true true not_text = absurd (not_text refl)
@@ -26,9 +27,9 @@ module _ (bytes : List ℕ) (not_text : ¬ (IsUtf8 bytes)) where
     unlike bytes (codes "multi") not_text (codes "multi", (refl, refl)),
   ) refl
 
-  no_request : (s : Subject) (limit : ℕ) → request_of bytes s limit ≡ None
+  no_request : (o : Options) → request_of bytes o ≡ None
   unfolding lib.Utf8.encode
-  no_request s limit = rw (
+  no_request o = rw (
     unlike bytes (codes "check") not_text (codes "check", (refl, refl)),
     unlike bytes (codes "lint") not_text (codes "lint", (refl, refl)),
     unlike bytes (codes "assemble") not_text (codes "assemble", (refl, refl)),
@@ -42,10 +43,12 @@ module _ (bytes : List ℕ) (not_text : ¬ (IsUtf8 bytes)) where
     unlike bytes (codes "batch") not_text (codes "batch", (refl, refl)),
     unlike bytes (codes "survey") not_text (codes "survey", (refl, refl)),
     unlike bytes (codes "live") not_text (codes "live", (refl, refl)),
+    unlike bytes (codes "judge") not_text (codes "judge", (refl, refl)),
+    unlike bytes (codes "promela") not_text (codes "promela", (refl, refl)),
   ) refl
 
   pub no_task : (s : Subject) → task_for bytes s ≡ None
-  no_task s = ap task_in (no_request s 1)
+  no_task s = ap task_in (no_request (options_for s))
 
 -- no bytes are a text
 pub no_subject : (bytes : List ℕ) → ¬ (IsUtf8 bytes) → subject_of bytes ≡ None

@@ -7,8 +7,9 @@ use Rattle.snap_semantics.specs.declared.refusal.Refusal.{Refusal}
 use Rattle.snap_semantics.specs.declared.refusal.Refusal.TheVariants as refusal
 use Rattle.snap_refusals.specs.RefusalText.{refusal_line}
 use Rattle.snap_tasks.specs.Request.{kind_of, request_of}
+use Rattle.snap_tasks.specs.declared.request.Options.{Options}
 use Rattle.snap_tasks.specs.declared.request.Request.{Request}
-use Rattle.snap_tasks.specs.declared.request.Request.TheVariants.{Do, Live}
+use Rattle.snap_tasks.specs.declared.request.Request.TheVariants.{Do, Live, Judge, Model}
 use Rattle.snap_tasks.specs.declared.subject.Subject.{Subject}
 use Rattle.snap_tasks.specs.declared.subject.Subject.TheVariants.{FirstPart, Shipped}
 use Rattle.snap_tasks.specs.declared.task.Task.{Task}
@@ -18,15 +19,21 @@ abbrev pub subject_of : List ℕ → Option Subject
 subject_of [] = Some FirstPart
 subject_of (b ∷ bytes) = option_map Shipped (kind_of (b ∷ bytes))
 
--- a page has one thread, in which no scripts are played
+-- the options that say nothing but which listing a task runs
+abbrev pub options_for : Subject → Options
+options_for s = record { subject = s; limit = 1; history = false; most = 1; crashes = 0 }
+
+-- a page has one thread, in which no scripts are played; and nothing is judged there
 abbrev pub task_in : Option Request → Option Task
 task_in (Some (Do t)) = Some t
 task_in (Some (Live s limit)) = None
+task_in (Some (Judge r)) = None
+task_in (Some (Model s crashes)) = None
 task_in None = None
 
 -- the task of a subcommand
 abbrev pub task_for : (subcommand : List ℕ) → Subject → Option Task
-task_for subcommand s = task_in (request_of subcommand s 1)
+task_for subcommand s = task_in (request_of subcommand (options_for s))
 
 abbrev pub task_with : (subcommand : List ℕ) → Option Subject → Option Task
 task_with subcommand None = None

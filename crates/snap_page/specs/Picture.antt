@@ -1,11 +1,12 @@
--- `drawn`: the picture of a run that a page in a browser asks for; and the code and the text that the page is handed.
-use Rattle.std.specs.Prelude.{ℕ, false, List, ◌++◌, codes, Some, Result, Ok, Err}
+-- `IsDrawn`: the picture of a run that a page in a browser asks for; and the code and the text that the page is handed.
+use Rattle.std.specs.Prelude.{◌≡◌, ℕ, false, List, ◌++◌, codes, Option, Some, Result, Ok, Err}
 use Rattle.snap_semantics.specs.Answers.{◌>>=◌, refused_as}
 use Rattle.snap_semantics.specs.Listing.{listing_of}
 use Rattle.snap_semantics.specs.Source.{Source}
+use Rattle.snap_semantics.specs.declared.event.Event.{Event}
 use Rattle.snap_semantics.specs.declared.refusal.Refusal.TheVariants.{Listing}
 use Rattle.snap_refusals.specs.RefusalText.{numbered, refusal_text}
-use Rattle.snap_picture.specs.Picture.{picture_of}
+use Rattle.snap_picture.specs.Picture.{FailsUnder, IsPictureBy, picture_of}
 use Rattle.snap_picture.specs.declared.refusal.PictureRefusal.{PictureRefusal}
 use Rattle.snap_picture.specs.declared.refusal.PictureRefusal.TheVariants as refusal
 
@@ -13,12 +14,24 @@ use Rattle.snap_picture.specs.declared.refusal.PictureRefusal.TheVariants as ref
 abbrev pub drawn_listing : List ℕ → Result Source PictureRefusal
 drawn_listing text = refused_as refusal.Input (refused_as Listing (listing_of text))
 
--- The picture of a listing's run under a schedule, from one item to another, or the first reason why there is none.
-abbrev pub drawn : (listing schedule : List ℕ) → (from to : ℕ) → (style legend : List ℕ) →
+-- The picture of a listing's run under a schedule, from one item to another, or the first reason why there is none. The
+-- operation that ended with the event `wrong` is crossed out.
+abbrev pub drawn : (listing schedule : List ℕ) → (from to : ℕ) → (style legend : List ℕ) → (wrong : Option Event) →
     Result (List ℕ) PictureRefusal
-drawn listing schedule from to style legend = do
+drawn listing schedule from to style legend wrong = do
   l ← drawn_listing listing
-  picture_of l (Some listing) schedule (record { from = Some from; to = Some to; reads = false }) style legend
+  picture_of l (Some listing) schedule (record { from = Some from; to = Some to; reads = false }) style legend wrong
+
+-- The run of a listing's text over a schedule's fails at this event, or at none, by a judgement of it that is so.
+abbrev pub FailsOver : (listing schedule : List ℕ) → Option Event → Type 0
+FailsOver listing schedule wrong =
+    (l : Source) × (drawn_listing listing ≡ Ok l) × FailsUnder l schedule wrong
+
+-- The picture that a page asks for, of which what is judged to be wrong, and nothing else, is crossed out; or a refusal.
+abbrev pub IsDrawn : (listing schedule : List ℕ) → (from to : ℕ) → (style legend : List ℕ) →
+    Result (List ℕ) PictureRefusal → Type 0
+IsDrawn listing schedule from to style legend picture =
+    IsPictureBy (FailsOver listing schedule) (drawn listing schedule from to style legend) picture
 
 abbrev pub picture_refusal_text : PictureRefusal → List ℕ
 picture_refusal_text (refusal.Input r) = refusal_text r

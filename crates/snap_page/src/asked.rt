@@ -1,8 +1,8 @@
 //! `task_of`: the task that a page in a browser names, and the listing that it is to run.
 ghost use Rattle.std.specs.Prelude.{◌≡◌, IfSome, IsUtf8, None};
-ghost use Rattle.snap_page.specs.Page.{subject_of, task_for, task_of};
+ghost use Rattle.snap_page.specs.Page.{options_for, subject_of, task_for, task_of};
 
-use snap_tasks::{Request, Subject, Task, kind_of, request_of};
+use snap_tasks::{Options, Request, Subject, Task, kind_of, request_of};
 
 /// A text that bytes are.
 fn text_of(bytes: &[u8]) -> Option<&str>
@@ -28,15 +28,28 @@ fn subject_of(shipped: &[u8]) -> Option<Subject>
     Some(Subject::Shipped(kind_of(name)?))
 }
 
-/// The task of a subcommand. A live run is none of a page, which has one thread.
+/// The options that say nothing but which listing a task runs.
+fn options_for(subject: Subject) -> Options
+    ensures value { result ≡ options_for subject }
+{
+    Options {
+        subject,
+        limit: 1,
+        history: false,
+        most: 1,
+        crashes: 0,
+    }
+}
+
+/// The task of a subcommand. A live run is none of a page, which has one thread, nor is a judgement.
 #[tactic(auto, using(crate::proofs::Names::no_task))]
 fn task_for(subcommand: &[u8], subject: Subject) -> Option<Task>
     ensures { result ≡ task_for subcommand.now subject }
 {
     let name = text_of(subcommand)?;
-    match request_of(name, subject, 1)? {
+    match request_of(name, &options_for(subject))? {
         Request::Do(task) => Some(task),
-        Request::Live(_, _) => None,
+        Request::Live(_, _) | Request::Judge(_) | Request::Model(_, _) => None,
     }
 }
 

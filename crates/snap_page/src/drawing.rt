@@ -2,8 +2,9 @@
 //! memory, or the line that says why there is none.
 ghost use Rattle.std.specs.Prelude.{◌≡◌, ◌<◌, ◌⊎◌, ◌↔◌, ℕ, List, Result, length, take};
 ghost use Rattle.snap_semantics.specs.Answers.{Answers};
+ghost use Rattle.snap_picture.specs.Picture.{AnswersPicture};
 ghost use Rattle.snap_picture.specs.declared.refusal.PictureRefusal.{PictureRefusal};
-ghost use Rattle.snap_page.specs.Picture.{drawn, drawn_code, drawn_listing, drawn_text};
+ghost use Rattle.snap_page.specs.Picture.{FailsOver, drawn, drawn_code, drawn_listing, drawn_text};
 ghost use Rattle.snap_page.specs.Picture.{picture_refusal_line};
 
 use crate::handed::{Handed, handed_line, handed_refusal, handed_text};
@@ -34,8 +35,8 @@ pub fn drawn(
     to: u64,
     look: &Look<'_>,
 ) -> Result<Vec<u8>, Fault<PictureRefusal>>
-    ensures { Answers (λ out. out.items) result (drawn listing.now schedule.now from to
-        look.now.style.now look.now.legend.now) }
+    ensures { AnswersPicture (FailsOver listing.now schedule.now) result
+        (drawn listing.now schedule.now from to look.now.style.now look.now.legend.now) }
 {
     let program = drawn_program(alloc, listing)?;
     let options = Options {

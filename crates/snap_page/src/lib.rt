@@ -1,11 +1,12 @@
 //! What a page in a browser asks of the program: a task on an input, in one thread.
 #![tactic(auto)]
 
-ghost use Rattle.std.specs.Prelude.{◌≡◌, ◌<◌, ◌⊎◌, ◌↔◌, None, Some, length, take};
+ghost use Rattle.std.specs.Prelude.{◌≡◌, ◌<◌, ◌⊎◌, ◌↔◌, ℕ, List, None, Result, Some, length, take};
 ghost use Rattle.snap_output.specs.AtOnce.{found_at_once};
-ghost use Rattle.snap_output.specs.Output.{output_of};
+ghost use Rattle.snap_output.specs.Output.{IsAnswerTo};
 ghost use Rattle.snap_page.specs.Page.{answer_code, answer_text, task_of};
-ghost use Rattle.snap_page.specs.Picture.{drawn, drawn_code, drawn_text};
+ghost use Rattle.snap_page.specs.Picture.{IsDrawn, drawn_code, drawn_text};
+ghost use Rattle.snap_picture.specs.declared.refusal.PictureRefusal.{PictureRefusal};
 ghost use Rattle.snap_semantics.specs.declared.refusal.Refusal.{Refusal};
 ghost use Rattle.snap_tasks.specs.declared.task.Task.{Task};
 
@@ -36,10 +37,11 @@ pub extern "C" fn page_output(
     ensures no_task { result.code ≡ 4 ↔ task_of subcommand.now shipped.now ≡ None }
     ensures small { result.code ≡ 3 ↔ length room.old < result.len }
     ensures answer { (t : Task) → task_of subcommand.now shipped.now ≡ Some t → result.code < 2 →
-        (result.code ≡ answer_code (output_of t input.now))
-        × (take result.len room.new ≡ answer_text (output_of t input.now)) }
+        (answer : Result (List ℕ) Refusal) × IsAnswerTo t input.now answer
+        × (result.code ≡ answer_code answer) × (take result.len room.new ≡ answer_text answer) }
     ensures needed { (t : Task) → task_of subcommand.now shipped.now ≡ Some t → result.code ≡ 3 →
-        result.len ≡ length (answer_text (output_of t input.now)) }
+        (answer : Result (List ℕ) Refusal) × IsAnswerTo t input.now answer
+        × (result.len ≡ length (answer_text answer)) }
     ensures at_once { (t : Task) (r : Refusal) → task_of subcommand.now shipped.now ≡ Some t →
         found_at_once t input.now ≡ Some r →
         result.code ≡ 1 ⊎ result.code ≡ 3 }
@@ -65,12 +67,13 @@ pub extern "C" fn page_picture(
     ensures code { result.code < 4 }
     ensures small { result.code ≡ 3 ↔ length room.old < result.len }
     ensures answer { result.code < 2 →
-        (result.code ≡ drawn_code
-        (drawn listing.now schedule.now from to STYLE.now LEGEND.now))
-        × (take result.len room.new ≡ drawn_text
-        (drawn listing.now schedule.now from to STYLE.now LEGEND.now)) }
-    ensures needed { result.code ≡ 3 → result.len ≡ length (drawn_text
-        (drawn listing.now schedule.now from to STYLE.now LEGEND.now)) }
+        (picture : Result (List ℕ) PictureRefusal)
+        × IsDrawn listing.now schedule.now from to STYLE.now LEGEND.now picture
+        × (result.code ≡ drawn_code picture) × (take result.len room.new ≡ drawn_text picture) }
+    ensures needed { result.code ≡ 3 →
+        (picture : Result (List ℕ) PictureRefusal)
+        × IsDrawn listing.now schedule.now from to STYLE.now LEGEND.now picture
+        × (result.len ≡ length (drawn_text picture)) }
 {
     let look = Look {
         style: STYLE,

@@ -1,2 +1,3 @@
 -- The definitions of snap_picture, by their modules.
+pub mod Crossed
 pub mod Picture

@@ -1,9 +1,14 @@
 -- `picture_of`: the SVG picture of a listing's run under a schedule, or the first reason why there is none.
-use Rattle.std.specs.Prelude.{ℕ, suc, ◌-◌, Bool, true, false, ◌||◌, List, [], ◌∷◌, ◌++◌, length, Option, Some, None}
-use Rattle.std.specs.Prelude.{Result, Ok, Err, nat_eq, nat_lt, if◌then◌else◌}
+-- `AnswersPicture`: such a picture, where what is crossed out of it is judged.
+use Rattle.std.specs.Prelude.{◌≡◌, ℕ, suc, ◌-◌, Bool, true, false, ◌||◌, List, [], ◌∷◌, ◌++◌, length, Option, Some, None}
+use Rattle.std.specs.Prelude.{Result, Ok, Err, Vec, nat_eq, nat_lt, if◌then◌else◌}
+use Rattle.std.specs.Global.{Global}
 use Rattle.snap_words.specs.Shape.{Counts}
-use Rattle.snap_semantics.specs.Answers.{◌>>=◌, refused_as}
+use Rattle.snap_semantics.specs.Answers.{◌>>=◌, IsRefusal, refused_as}
+use Rattle.snap_semantics.specs.Schedule.{Schedule}
 use Rattle.snap_semantics.specs.Source.{Source}
+use Rattle.snap_semantics.specs.declared.event.Event.{Event}
+use Rattle.snap_semantics.specs.declared.fault.Fault.{Fault}
 use Rattle.snap_semantics.specs.declared.process.Op.{Op}
 use Rattle.snap_semantics.specs.declared.process.Op.TheVariants as op
 use Rattle.snap_runs.specs.Run.{Run, run_over}
@@ -15,6 +20,7 @@ use Rattle.snap_svg.specs.declared.frame.Counts as title
 use Rattle.snap_svg.specs.declared.shape.Shape.{Shape}
 use Rattle.snap_svg.specs.declared.shape.Shape.TheVariants as shape
 use Rattle.snap_shapes.specs.Shapes.{shapes}
+use Rattle.snap_picture.specs.Crossed.{FailsBy, crossed_at}
 use Rattle.snap_picture.specs.declared.options.Options.{Options}
 use Rattle.snap_picture.specs.declared.refusal.PictureRefusal.{PictureRefusal}
 use Rattle.snap_picture.specs.declared.refusal.PictureRefusal.TheVariants as refusal
@@ -65,18 +71,39 @@ counts_of r ss = record {
   updates = counted sought.Update ss;
 }
 
--- a run's picture, with the input that it is of; style and legend are given
-unfoldable pub picture_by : Run → List Shape → Part → Option (List ℕ) → List ℕ → (style legend : List ℕ) → List ℕ
-picture_by r ss p listing schedule style legend =
-    head_text p (counts_of r ss) style ++ input_text listing schedule ++ shapes_text p ss ++ foot_text p legend
+-- a run's picture, with the input that it is of; style and legend are given, and the event whose operation is crossed
+-- out above all else
+unfoldable pub picture_by : Run → List Shape → Part → Option (List ℕ) → List ℕ → (style legend : List ℕ) →
+    (wrong : Option Event) → List ℕ
+picture_by r ss p listing schedule style legend wrong =
+    head_text p (counts_of r ss) style ++ input_text listing schedule ++ shapes_text p (ss ++ crossed_at wrong ss)
+    ++ foot_text p legend
 
-abbrev pub picture_text : Run → Part → Option (List ℕ) → List ℕ → (style legend : List ℕ) → List ℕ
-picture_text r p listing schedule style legend = picture_by r (shapes r) p listing schedule style legend
+abbrev pub picture_text : Run → Part → Option (List ℕ) → List ℕ → (style legend : List ℕ) → (wrong : Option Event) →
+    List ℕ
+picture_text r p listing schedule style legend wrong = picture_by r (shapes r) p listing schedule style legend wrong
 
 -- the picture of a listing under a schedule, or the first reason why there is none
 unfoldable pub picture_of : Source → Option (List ℕ) → List ℕ → Options → (style legend : List ℕ) →
-    Result (List ℕ) PictureRefusal
-picture_of l listing schedule o style legend = do
+    (wrong : Option Event) → Result (List ℕ) PictureRefusal
+picture_of l listing schedule o style legend wrong = do
   s ← refused_as refusal.Input (schedule_for l schedule)
   p ← part_of (length s.items) s.shape o
-  Ok (picture_text (run_over l s) p listing schedule style legend)
+  Ok (picture_text (run_over l s) p listing schedule style legend wrong)
+
+-- The run of a listing over a schedule's text fails at this event, or at none, by a judgement of it that is so.
+abbrev pub FailsUnder : Source → List ℕ → Option Event → Type 0
+FailsUnder l schedule wrong = (s : Schedule) × (schedule_for l schedule ≡ Ok s) × FailsBy (run_over l s) wrong
+
+-- A picture is what the definition gives where what is judged to be wrong, and nothing else, is crossed out; a refusal
+-- comes before anything is judged.
+abbrev pub IsPictureBy : {E : Type 0} → (Option Event → Type 0) → (Option Event → Result (List ℕ) E) →
+    Result (List ℕ) E → Type 0
+IsPictureBy IsWrong picture (Ok text) = (wrong : Option Event) × IsWrong wrong × (picture wrong ≡ Ok text)
+IsPictureBy IsWrong picture (Err r) = picture None ≡ Err r
+
+-- The same of what is answered; a want of memory may stand in place of both.
+abbrev pub AnswersPicture : (Option Event → Type 0) → Result (Vec ℕ Global) (Fault PictureRefusal) →
+    (Option Event → Result (List ℕ) PictureRefusal) → Type 0
+AnswersPicture IsWrong (Ok out) picture = IsPictureBy IsWrong picture (Ok out.items)
+AnswersPicture IsWrong (Err fault) picture = IsRefusal fault (picture None)

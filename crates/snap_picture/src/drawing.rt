@@ -1,13 +1,17 @@
 //! `picture`: reads a schedule, runs a listing over it, and draws the run as SVG.
-ghost use Rattle.std.specs.Prelude.{◌≡◌, ◌≤◌, IfOk, length, option_map};
+ghost use Rattle.std.specs.Prelude.{◌≡◌, ◌≤◌, IfOk, Option, length, option_map};
 ghost use Rattle.snap_words.specs.Shape.{max_items};
 ghost use Rattle.snap_runs.specs.Run.{run_over};
 ghost use Rattle.snap_semantics.specs.Answers.{Answers, Gives, refused_as};
+ghost use Rattle.snap_semantics.specs.declared.event.Event.{Event};
 ghost use Rattle.snap_input.specs.Schedules.{schedule_for};
+ghost use Rattle.snap_picture.specs.Crossed.{FailsBy};
+ghost use Rattle.snap_picture.specs.Picture.{AnswersPicture, FailsUnder};
 ghost use Rattle.snap_picture.specs.Picture.{counts_of, given_or, part_between, part_of};
 ghost use Rattle.snap_picture.specs.Picture.{picture_by, picture_of, picture_text};
 ghost use Rattle.snap_picture.specs.declared.refusal.PictureRefusal.TheVariants as refusal;
 
+use crate::crossed::{crossed_at, wrong_at};
 use crate::options::{Look, Options};
 use crate::refusal::PictureRefusal;
 use crate::sought::{Sought, count};
@@ -15,8 +19,9 @@ use snap_acts::trace;
 use snap_asm_program::Program;
 use snap_draft::Draft;
 use snap_record::{Record, record_over};
+use snap_run_judge::{MOST_CONFIGURATIONS, judge_record};
 use snap_sched::Schedule;
-use snap_semantics::Fault;
+use snap_semantics::{Event, Fault};
 use snap_shapes::shapes;
 use snap_svg::{Counts, Shape, Window, push_foot, push_head, push_input, push_shapes};
 use snap_words::{Bits, Kind, KindTag, Multi, Seq};
@@ -96,7 +101,8 @@ fn counts_of<K: Kind>(history: &Record<K>, shapes: &[Shape]) -> Counts
     }
 }
 
-/// The picture of a run of which these shapes are drawn.
+/// The picture of a run of which these shapes are drawn, with the operation crossed out that ended
+/// with an event, where one is given.
 #[tactic(auto, unfolding(crate::specs::Picture::picture_by))]
 fn picture_by<K: Kind>(
     alloc: Global,
@@ -106,20 +112,23 @@ fn picture_by<K: Kind>(
     listing: Option<&[u8]>,
     schedule: &[u8],
     look: &Look<'_>,
+    wrong: Option<&Event>,
 ) -> Result<Vec<u8>, AllocError>
     ensures { IfOk result (λ out. out.items ≡ picture_by history.now shapes.now window.now
-        (option_map (λ t. t.now) listing.entry) schedule.now
-        look.now.style.now look.now.legend.now) }
+        (option_map (λ t. t.now) listing.entry) schedule.now look.now.style.now
+        look.now.legend.now (option_map (λ e. e.now) wrong.entry)) }
 {
+    let crossed = crossed_at(alloc, wrong, shapes)?;
     let mut out = Draft::new(alloc);
     push_head(&mut out, window, &counts_of(history, shapes), look.style);
     push_input(&mut out, listing, schedule);
     push_shapes(&mut out, window, shapes);
+    push_shapes(&mut out, window, crossed.as_slice());
     push_foot(&mut out, window, look.legend);
     out.finish()
 }
 
-/// The picture of a program's run over a schedule.
+/// The picture of a program's run over a schedule. The run is judged for it.
 fn picture_text<K: Kind>(
     alloc: Global,
     program: &Program,
@@ -130,14 +139,15 @@ fn picture_text<K: Kind>(
     look: &Look<'_>,
 ) -> Result<Vec<u8>, AllocError>
     requires { program.now.kind ≡ K.TAG }
-    ensures { IfOk result (λ out. out.items
-        ≡ picture_text (run_over program.now items.now) window.now
-        (option_map (λ t. t.now) listing.entry) schedule.now
-        look.now.style.now look.now.legend.now) }
+    ensures { let run = run_over program.now items.now in
+        IfOk result (λ out. (wrong : Option Event) × FailsBy run wrong
+        × (out.items ≡ picture_text run window.now (option_map (λ t. t.now) listing.entry)
+        schedule.now look.now.style.now look.now.legend.now wrong)) }
 {
     let history = record_over::<K>(alloc, program, items)?;
     let steps = trace::<K>(alloc, program, items)?;
     let shapes = shapes(alloc, &history, steps.as_slice())?;
+    let judgement = judge_record(alloc, &history, MOST_CONFIGURATIONS)?;
     picture_by(
         alloc,
         &history,
@@ -146,6 +156,7 @@ fn picture_text<K: Kind>(
         listing,
         schedule,
         look,
+        wrong_at(&history, &judgement),
     )
 }
 
@@ -177,9 +188,9 @@ fn picture_of_kind<K: Kind>(
     look: &Look<'_>,
 ) -> Result<Vec<u8>, Fault<PictureRefusal>>
     requires { program.now.kind ≡ K.TAG }
-    ensures { Answers (λ out. out.items) result (picture_of program.now
-        (option_map (λ t. t.now) listing.entry) schedule.now options.now look.now.style.now
-        look.now.legend.now) }
+    ensures { AnswersPicture (FailsUnder program.now schedule.now) result
+        (λ wrong. picture_of program.now (option_map (λ t. t.now) listing.entry) schedule.now
+        options.now look.now.style.now look.now.legend.now wrong) }
 {
     let items = schedule_of::<K>(alloc, program, schedule)?;
     match window_for(items.items().len(), items.shape(), options) {
@@ -191,7 +202,8 @@ fn picture_of_kind<K: Kind>(
 }
 
 /// The picture of a program under a schedule, as SVG. The text of its listing, where one is given,
-/// and that of the schedule are in it.
+/// and that of the schedule are in it. Where the run is judged not to be linearizable, the operation
+/// is crossed out whose end no order of the operations explains.
 pub fn picture(
     alloc: Global,
     program: &Program,
@@ -200,9 +212,9 @@ pub fn picture(
     options: &Options,
     look: &Look<'_>,
 ) -> Result<Vec<u8>, Fault<PictureRefusal>>
-    ensures { Answers (λ out. out.items) result (picture_of program.now
-        (option_map (λ t. t.now) listing.entry) schedule.now options.now look.now.style.now
-        look.now.legend.now) }
+    ensures { AnswersPicture (FailsUnder program.now schedule.now) result
+        (λ wrong. picture_of program.now (option_map (λ t. t.now) listing.entry) schedule.now
+        options.now look.now.style.now look.now.legend.now wrong) }
 {
     match program.kind() {
         KindTag::Seq => { picture_of_kind::<Seq>(alloc, program, listing, schedule, options, look) }

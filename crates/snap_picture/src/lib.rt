@@ -1,6 +1,7 @@
 //! Pictures of listings under schedules, as SVG.
 #![tactic(auto)]
 
+mod crossed;
 mod drawing;
 mod look;
 mod options;

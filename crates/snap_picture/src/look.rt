@@ -11,9 +11,10 @@ svg{--paper:#fff;--ink:#000;--soft:#666;--lane:#f2f2f2;\
 text{font:15px system-ui,\"DejaVu Sans\",sans-serif;fill:var(--ink)}\n\
 .title{font-size:20px;font-weight:bold}\n\
 .counts,.number{fill:var(--soft)}\n\
-.number,.seen,.no{text-anchor:middle}\n\
-.no{text-anchor:start;transform:translate(6px,0);font-weight:bold;\
-fill:var(--red);stroke:var(--paper);stroke-width:5;paint-order:stroke}\n\
+.number,.seen{text-anchor:middle}\n\
+.no,.without{text-anchor:start;transform:translate(6px,0);font-weight:bold;\
+stroke:var(--paper);stroke-width:5;paint-order:stroke}\n\
+.no{fill:var(--red)}\n\
 .seen{font-weight:bold;fill:var(--mark)}\n\
 .words,.state{fill:#000}\n\
 .paper{fill:var(--paper)}\n\
@@ -33,7 +34,8 @@ fill:var(--red);stroke:var(--paper);stroke-width:5;paint-order:stroke}\n\
 .tip{fill:#cc79a7}\n\
 .drop{stroke:var(--mark);stroke-width:4;stroke-dasharray:6 5;fill:none;marker-end:url(#foot)}\n\
 .diamond{fill:var(--mark);stroke:var(--paper);stroke-width:1.5}\n\
-.none rect{fill:url(#hatch);fill-opacity:.4;stroke:var(--red);stroke-width:4}\n\
+.none rect{fill:none;stroke:var(--ink);stroke-width:3;stroke-dasharray:9 6}\n\
+.wrong rect{fill:url(#hatch);fill-opacity:.4;stroke:var(--red);stroke-width:4}\n\
 .bar{stroke:var(--red);stroke-width:4;fill:none}\n\
 .low{stop-color:var(--pale-scan)}\n\
 .lower{stop-color:var(--pale-update)}\n\
@@ -78,10 +80,12 @@ pub const LEGEND: &[u8] = b"\
 <text x=\"440\" y=\"57\">write of a word, up to the values</text>\n\
 <path class=\"arrow\" d=\"M700 54L750 48\"/>\
 <text x=\"762\" y=\"57\">view borrowed, from its lender</text>\n\
-<g class=\"none\"><rect x=\"1010\" y=\"42\" width=\"44\" height=\"20\"/>\
-<path class=\"bar\" d=\"M1010 42L1054 62\"/><path class=\"bar\" d=\"M1010 62L1054 42\"/></g>\
+<g class=\"none\"><rect x=\"1010\" y=\"42\" width=\"44\" height=\"20\"/></g>\
 <text x=\"1064\" y=\"57\">scan with no point</text>\n\
 <path class=\"crash\" d=\"M1235 52m-8-8l16 16m0-16l-16 16\"/>\
 <text x=\"1252\" y=\"57\">crash</text>\n\
 <path class=\"trap\" d=\"M1325 41l13 20h-26z\"/><text x=\"1346\" y=\"57\">trap</text>\n\
+<g class=\"wrong\"><rect x=\"1400\" y=\"42\" width=\"44\" height=\"20\"/>\
+<path class=\"bar\" d=\"M1400 42L1444 62\"/><path class=\"bar\" d=\"M1400 62L1444 42\"/></g>\
+<text x=\"1454\" y=\"57\">not linearizable</text>\n\
 ";

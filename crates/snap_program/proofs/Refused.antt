@@ -1,11 +1,11 @@
 -- Why a task has no output, as a fault of a whole run.
 use Rattle.std.proofs.Common.{ℕ, List, Err, Vec}
 use Rattle.std.specs.Global.{Global}
-use Rattle.snap_semantics.specs.Answers.{Answers}
 use Rattle.snap_semantics.specs.declared.fault.Fault.{Fault}
 use Rattle.snap_semantics.specs.declared.fault.Fault.TheVariants as inner
 use Rattle.snap_semantics.specs.declared.refusal.Refusal.{Refusal}
-use Rattle.snap_output.specs.Output.{output_of}
+use Rattle.snap_run_judge.specs.Judged.{AnswersJudged}
+use Rattle.snap_output.specs.Output.{AreJudged, output_of}
 use Rattle.snap_tasks.specs.declared.task.Task.{Task}
 use Rattle.snap_devices.specs.WholeRun.{of_fault}
 use Rattle.snap_devices.proofs.Runs.{Why}
@@ -13,7 +13,7 @@ use Rattle.snap_program.specs.TaskRun.{RefusesTask}
 
 -- a task is refused as its output says
 pub why_task : (e : Fault Refusal) (task : Task) (input : List ℕ) →
-    Answers {X = Vec ℕ Global} (λ v. v.items) (Err e) (output_of task input) →
+    AnswersJudged {X = Vec ℕ Global} (λ v. v.items) (AreJudged task input) (Err e) (λ js. output_of js task input) →
     Why (RefusesTask task input) (of_fault e)
 why_task inner.Memory task input h = tt
 why_task (inner.Refused f) task input h = h

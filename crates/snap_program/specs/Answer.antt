@@ -11,14 +11,19 @@ use Rattle.snap_tasks.specs.declared.request.Request.TheVariants as request
 use Rattle.snap_tasks.specs.declared.task.Task.{Task}
 use Rattle.snap_tasks.specs.declared.task.Task.TheVariants as task
 use Rattle.snap_tasks.specs.declared.subject.Subject.{Subject}
-use Rattle.snap_devices.specs.WholeRun.{ConductsKeeping, ConductsLiveKeeping, Sends, done_of}
+use Rattle.snap_tasks.specs.declared.judge_request.JudgeRequest.{JudgeRequest}
+use Rattle.snap_run_judge.specs.declared.linearizability.Linearizability.{Linearizability}
+use Rattle.snap_run_judge.specs.declared.linearizability.Linearizability.TheVariants as word
+use Rattle.snap_devices.specs.WholeRun.{ConductsJudge, ConductsKeeping, ConductsLiveKeeping, ConductsModel}
+use Rattle.snap_devices.specs.WholeRun.{Sends, done_of}
 use Rattle.snap_program.specs.TaskRun.{ConductsSurvey, IsOutputOf, RefusesTask}
 use Rattle.snap_explanation.specs.Explanation.{explanation}
+use Rattle.snap_explanation.specs.HistoryExplanation.{history_explanation}
 use Rattle.snap_explanation.specs.Part.{layout_of}
 use Rattle.snap_devices.specs.FaultText.{fault_text}
 use Rattle.snap_devices.specs.ExitStatus.{fault_status}
 use Rattle.snap_devices.specs.declared.fault.ConductFault.{ConductFault}
-use Rattle.snap_devices.specs.declared.fault.ConductFault.TheVariants.{Memory, Refused, Live, Read, Write}
+use Rattle.snap_devices.specs.declared.fault.ConductFault.TheVariants.{Memory, Refused, Live, History, Model, Read, Write}
 
 -- the status of a whole run: 0 where all of its output was written, and nowhere else
 abbrev pub exit_status : Result (Unit {0}) ConductFault → ℕ
@@ -29,6 +34,17 @@ exit_status (Err fault) = fault_status fault
 abbrev pub strict_status : Result Bool ConductFault → ℕ
 strict_status (Ok clean) = if clean then 0 else 4
 strict_status (Err fault) = fault_status fault
+
+-- the status where all of a judgement was written: 0 where what was judged is linearizable, 4 where it is not, and 5
+-- where that is undecided
+abbrev pub word_status : Linearizability → ℕ
+word_status word.Linearizable = 0
+word_status word.NotLinearizable = 4
+word_status word.Undecided = 5
+
+abbrev pub judge_status : Result Linearizability ConductFault → ℕ
+judge_status (Ok found) = word_status found
+judge_status (Err fault) = fault_status fault
 
 -- the listing of a strict survey, where one is asked for
 abbrev pub strict_subject : (strict : Bool) → Request → Option Subject
@@ -60,6 +76,8 @@ abbrev pub why : Request → (input : List ℕ) → ConductFault → List ℕ
 why asked input (Refused r) = explanation (layout_of asked) input r
 why asked input Memory = []
 why asked input (Live r) = []
+why asked input (History r) = history_explanation input r
+why asked input (Model r) = []
 why asked input Read = []
 why asked input (Write count) = []
 
@@ -117,6 +135,24 @@ AnswersLively subject limit asked status left left_after taken taken_after said 
     left_after taken taken_after r w s
     × SaysUncalled asked.explains asked.request kept done said said_after failed stalled
 
+-- What it does about what is to be judged.
+abbrev pub AnswersJudge : JudgeRequest → Invocation → (status : ℕ) →
+    (left left_after taken taken_after said said_after : Option (List ℕ)) →
+    (reader_failed writer_failed writer_stalled failed stalled : Bool) → Type 0
+AnswersJudge judged asked status left left_after taken taken_after said said_after r w s failed stalled =
+    (done : Result Linearizability ConductFault) × (kept : List ℕ) × (status ≡ judge_status done)
+    × ConductsJudge judged kept done left left_after taken taken_after r w s
+    × SaysWhy asked.explains asked.request kept (done_of done) said said_after failed stalled
+
+-- What it does about a model.
+abbrev pub AnswersModelled : Subject → Invocation → (status : ℕ) →
+    (left left_after taken taken_after said said_after : Option (List ℕ)) →
+    (reader_failed writer_failed writer_stalled failed stalled : Bool) → Type 0
+AnswersModelled subject asked status left left_after taken taken_after said said_after r w s failed stalled =
+    (done : Result (Unit {0}) ConductFault) × (kept : List ℕ) × (status ≡ exit_status done)
+    × ConductsModel subject kept done left left_after taken taken_after r w s
+    × SaysWhy asked.explains asked.request kept done said said_after failed stalled
+
 -- What it does about what was asked for.
 abbrev pub AnswersRequest : Request → Invocation → (status : ℕ) →
     (left left_after taken taken_after said said_after : Option (List ℕ)) →
@@ -126,6 +162,12 @@ AnswersRequest (request.Do task) asked status left left_after taken taken_after 
 AnswersRequest (request.Live subject limit) asked status left left_after taken taken_after said said_after r w s
     failed stalled =
     AnswersLively subject limit asked status left left_after taken taken_after said said_after r w s failed stalled
+AnswersRequest (request.Judge judged) asked status left left_after taken taken_after said said_after r w s
+    failed stalled =
+    AnswersJudge judged asked status left left_after taken taken_after said said_after r w s failed stalled
+AnswersRequest (request.Model subject crashes) asked status left left_after taken taken_after said said_after r w s
+    failed stalled =
+    AnswersModelled subject asked status left left_after taken taken_after said said_after r w s failed stalled
 
 -- What it does about a strict survey.
 abbrev pub AnswersStrictly : Subject → Invocation → (status : ℕ) →

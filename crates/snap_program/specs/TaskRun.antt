@@ -3,30 +3,33 @@ use Rattle.std.specs.Prelude.{◌≡◌, ℕ, Bool, List, Option, Result, Ok, Er
 use Rattle.snap_devices.specs.WholeRun.{ConductsBy, ConductsKeeping, done_of}
 use Rattle.snap_devices.specs.declared.fault.ConductFault.{ConductFault}
 use Rattle.snap_devices.specs.declared.fault.ConductFault.TheVariants as fault
-use Rattle.snap_output.specs.Output.{clean_of, output_of}
+use Rattle.snap_judge.specs.declared.judgements.Judgement.{Judgement}
+use Rattle.snap_output.specs.Output.{AreJudged, IsAnswerTo, clean_of, output_of}
 use Rattle.snap_tasks.specs.declared.subject.Subject.{Subject}
 use Rattle.snap_tasks.specs.declared.task.Task.{Task}
 use Rattle.snap_tasks.specs.declared.task.Task.TheVariants as task
 
--- the output of a task
+-- the output of a task, of judgements that say what is so
 abbrev pub IsOutputOf : Task → (input text : List ℕ) → Type 0
-IsOutputOf task input text = output_of task input ≡ Ok text
+IsOutputOf task input text = IsAnswerTo task input (Ok text)
 
 -- why there is none
 abbrev pub RefusesTask : Task → (input : List ℕ) → ConductFault → Type 0
-RefusesTask task input (fault.Refused f) = output_of task input ≡ Err f
+RefusesTask task input (fault.Refused f) = IsAnswerTo task input (Err f)
 RefusesTask task input _ = ⊥
 
--- A whole run of a task: each input has one output, or one refusal.
+-- A whole run of a task: each input has one refusal, or one output for what was judged for it.
 abbrev pub Conducts : (answer : Result (Unit {0}) ConductFault) (task : Task)
     (left left_after taken taken_after : Option (List ℕ)) (reader_failed writer_failed writer_stalled : Bool) → Type 0
 Conducts answer task left left_after taken taken_after r w s =
     ConductsBy (IsOutputOf task) (RefusesTask task) answer left left_after taken taken_after r w s
 
--- the output of a survey, and whether all of its runs are clean, where that is answered
+-- the output of a survey, and whether all of its runs are clean, where that is answered, both by the same judgements
 abbrev pub IsSurveyOf : Result Bool ConductFault → Subject → (input text : List ℕ) → Type 0
 IsSurveyOf answer subject input text =
-    IsOutputOf (task.Survey subject) input text × IfOk answer (λ clean. clean_of subject input ≡ Ok clean)
+    (judged : List Judgement) × AreJudged (task.Survey subject) input judged
+    × (output_of judged (task.Survey subject) input ≡ Ok text)
+    × IfOk answer (λ clean. clean_of judged subject input ≡ Ok clean)
 
 -- A whole run of a survey, which keeps its input: what it writes and when it is refused are the task's.
 abbrev pub ConductsSurvey : (answer : Result Bool ConductFault) (subject : Subject) (kept : List ℕ)

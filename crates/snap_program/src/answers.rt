@@ -4,18 +4,21 @@ ghost use Rattle.std.specs.Prelude.{◌≡◌, ◌++◌, false, IfOk, OnOk, OnEr
 ghost use Rattle.snap_command_line.specs.Limits.{HasLimits};
 ghost use Rattle.snap_tasks.specs.Request.{HasLimit};
 ghost use Rattle.snap_tasks.specs.declared.request.Request.TheVariants.{Live};
-ghost use Rattle.snap_program.specs.Answer.{AnswersLine, AnswersLively, AnswersRequest, AnswersStrictly};
+ghost use Rattle.snap_program.specs.Answer.{AnswersJudge, AnswersLine, AnswersLively};
+ghost use Rattle.snap_program.specs.Answer.{AnswersModelled, AnswersRequest, AnswersStrictly};
 ghost use Rattle.snap_program.specs.Answer.{AnswersTask, Says, SaysFault, SaysTerminal, SaysWhy};
 ghost use Rattle.snap_program.specs.Answer.{Tells, exit_status, explained, strict_subject};
+ghost use Rattle.snap_program.specs.Answer.{word_status};
 
 use crate::whole_run::{conduct_keeping, conduct_survey};
 use snap_command_line::{CommandLine, Invocation};
 use snap_devices::{
-    ByteSink, ByteSource, ConductFault, conduct_live_keeping, fault_line, fault_status, write_all,
+    ByteSink, ByteSource, ConductFault, Linearizability, conduct_judge, conduct_live_keeping,
+    conduct_model, fault_line, fault_status, write_all,
 };
-use snap_explanation::{explanation, layout_of};
+use snap_explanation::{explanation, history_explanation, layout_of};
 use snap_live::NoGate;
-use snap_tasks::{Request, Subject, Task};
+use snap_tasks::{JudgeRequest, Request, Subject, Task};
 use std::alloc::{AllocError, Global};
 use std::sync::Wait;
 use std::thread::Threads;
@@ -28,6 +31,12 @@ const NO_TEXT: &[u8] = b"error: the words of the command line are no text\n";
 
 /// The status of a strict survey where a run is not clean.
 const NOT_CLEAN: u8 = 4;
+
+/// The status where what was judged is not linearizable.
+const NOT_LINEARIZABLE: u8 = 4;
+
+/// The status where that is undecided.
+const UNDECIDED: u8 = 5;
 
 /// What is said where the input is read from a terminal.
 const TERMINAL: &[u8] = b"reading from the terminal; end with Ctrl-D\n";
@@ -90,8 +99,13 @@ fn push_explained(
             let text = explanation(alloc, layout, input, refusal)?;
             line.extend_from_slice(text.as_slice())
         }
+        ConductFault::History(refusal) => {
+            let text = history_explanation(alloc, input, refusal)?;
+            line.extend_from_slice(text.as_slice())
+        }
         ConductFault::Memory
         | ConductFault::Live(_)
+        | ConductFault::Model(_)
         | ConductFault::Read
         | ConductFault::Write(_) => Ok(()),
     }
@@ -185,6 +199,75 @@ fn play_live<R: ByteSource, W: ByteSink, E: ByteSink>(
     }
 }
 
+/// The status for what was judged.
+fn word_status(word: Linearizability) -> u8
+    ensures { result ≡ word_status word }
+{
+    match word {
+        Linearizability::Linearizable => 0,
+        Linearizability::NotLinearizable => NOT_LINEARIZABLE,
+        Linearizability::Undecided => UNDECIDED,
+    }
+}
+
+/// Judges, says why where it is not done, and answers the status of it, which tells whether what
+/// was judged is linearizable.
+fn judge_asked<R: ByteSource, W: ByteSink, E: ByteSink>(
+    alloc: Global,
+    asked: &Invocation,
+    request: &JudgeRequest,
+    source: &mut R,
+    sink: &mut W,
+    errors: &mut E,
+) -> u8
+    requires source { R.has_failed source.old ≡ false }
+    requires sink { W.has_failed sink.old ≡ false }
+    requires goes_on { W.is_stalled sink.old ≡ false }
+    requires errors { E.has_failed errors.old ≡ false }
+    ensures { AnswersJudge request.now asked.now result (R.left source.old) (R.left source.new)
+        (W.taken sink.old) (W.taken sink.new)
+        (E.taken errors.old) (E.taken errors.new) (R.has_failed source.new) (W.has_failed sink.new)
+        (W.is_stalled sink.new) (E.has_failed errors.new) (E.is_stalled errors.new) }
+{
+    let mut input = Vec::new(alloc);
+    match conduct_judge(alloc, request, source, sink, &mut input) {
+        Ok(word) => word_status(word),
+        Err(fault) => {
+            explain(alloc, asked, input.as_slice(), &fault, errors);
+            fault_status(&fault)
+        }
+    }
+}
+
+/// Writes a model, says why where that is not done, and answers the status of it.
+fn write_model<R: ByteSource, W: ByteSink, E: ByteSink>(
+    alloc: Global,
+    asked: &Invocation,
+    subject: Subject,
+    crashes: u64,
+    source: &mut R,
+    sink: &mut W,
+    errors: &mut E,
+) -> u8
+    requires source { R.has_failed source.old ≡ false }
+    requires sink { W.has_failed sink.old ≡ false }
+    requires goes_on { W.is_stalled sink.old ≡ false }
+    requires errors { E.has_failed errors.old ≡ false }
+    ensures { AnswersModelled subject asked.now result (R.left source.old) (R.left source.new)
+        (W.taken sink.old) (W.taken sink.new)
+        (E.taken errors.old) (E.taken errors.new) (R.has_failed source.new) (W.has_failed sink.new)
+        (W.is_stalled sink.new) (E.has_failed errors.new) (E.is_stalled errors.new) }
+{
+    let mut input = Vec::new(alloc);
+    match conduct_model(alloc, subject, crashes, source, sink, &mut input) {
+        Ok(()) => 0,
+        Err(fault) => {
+            explain(alloc, asked, input.as_slice(), &fault, errors);
+            fault_status(&fault)
+        }
+    }
+}
+
 /// Does what is asked for, and answers the status of it.
 fn do_asked<R: ByteSource, W: ByteSink, E: ByteSink>(
     rt: &(impl Threads + Wait + Sync),
@@ -208,6 +291,10 @@ fn do_asked<R: ByteSource, W: ByteSink, E: ByteSink>(
         Request::Do(task) => do_task(rt, alloc, asked, &task, source, sink, errors),
         Request::Live(subject, limit) => {
             play_live(rt, alloc, asked, subject, limit, source, sink, errors)
+        }
+        Request::Judge(request) => judge_asked(alloc, asked, &request, source, sink, errors),
+        Request::Model(subject, crashes) => {
+            write_model(alloc, asked, subject, crashes, source, sink, errors)
         }
     }
 }

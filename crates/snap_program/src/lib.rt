@@ -7,11 +7,13 @@ mod whole_run;
 
 pub use answers::{answer, say_terminal};
 pub use snap_devices::{
-    ByteSink, ByteSource, ConductFault, Failed, Std, conduct_live, conduct_live_keeping,
-    fault_line, fault_status, write_all,
+    ByteSink, ByteSource, ConductFault, Failed, Linearizability, Std, conduct_judge, conduct_live,
+    conduct_live_keeping, conduct_model, fault_line, fault_status, write_all,
 };
 pub use snap_input::{shipped, split_parts};
 pub use snap_live::{Gate, NoGate};
 pub use snap_output::perform;
-pub use snap_tasks::{Request, Subject, Task, kind_of, request_of};
+pub use snap_tasks::{
+    JudgeRequest, JudgeSource, Options, Request, Subject, Task, kind_of, request_of,
+};
 pub use whole_run::{conduct, conduct_keeping, conduct_survey};

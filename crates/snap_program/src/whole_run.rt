@@ -1,11 +1,12 @@
 //! `conduct` and its variants: a whole run of the program, which reads an input from a byte source
 //! and writes its output, and nothing else, to a byte sink.
-ghost use Rattle.std.specs.Prelude.{◌≡◌, Err, false};
+ghost use Rattle.std.specs.Prelude.{◌≡◌, [], Err, false};
 ghost use Rattle.snap_semantics.specs.Answers.{Answers};
 ghost use Rattle.snap_semantics.specs.declared.fault.Fault.TheVariants.{Refused};
 ghost use Rattle.snap_semantics.specs.declared.refusal.Refusal.{Refusal};
 ghost use Rattle.snap_devices.specs.WholeRun.{ConductsKeeping};
-ghost use Rattle.snap_output.specs.Output.{output_of};
+ghost use Rattle.snap_run_judge.specs.Judged.{AnswersJudged};
+ghost use Rattle.snap_output.specs.Output.{AreJudged, output_of};
 ghost use Rattle.snap_program.specs.TaskRun.{Conducts, ConductsSurvey, IsOutputOf, RefusesTask};
 ghost use Rattle.snap_tasks.specs.declared.task.Task.TheVariants.{Run};
 
@@ -19,7 +20,8 @@ use std::thread::Threads;
 /// What is written for the input that is kept, if it is run. Once its program and its schedule are
 /// read, it is let go of.
 fn run_kept(alloc: Global, subject: Subject, kept: &mut Vec<u8>) -> Result<Vec<u8>, Fault<Refusal>>
-    ensures output { Answers (λ out. out.items) result (output_of (Run subject) kept.old.items) }
+    ensures output { Answers (λ out. out.items) result
+        (output_of [] (Run subject) kept.old.items) }
     ensures kept { (r : Refusal) → result ≡ Err (Refused r) → kept.new.items ≡ kept.old.items }
 {
     let run = planned_run(alloc, subject, kept.as_slice())?;
@@ -35,7 +37,8 @@ fn kept_output(
     task: &Task,
     kept: &mut Vec<u8>,
 ) -> Result<Vec<u8>, Fault<Refusal>>
-    ensures output { Answers (λ out. out.items) result (output_of task.now kept.old.items) }
+    ensures output { AnswersJudged (λ out. out.items) (AreJudged task.now kept.old.items) result
+        (λ judged. output_of judged task.now kept.old.items) }
     ensures kept { (r : Refusal) → result ≡ Err (Refused r) → kept.new.items ≡ kept.old.items }
 {
     match *task {

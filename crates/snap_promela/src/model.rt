@@ -17,16 +17,16 @@ const MOST_COUNT: u64 = 8;
 /// The most operations of a process.
 const MOST_OPERATIONS: usize = 32;
 
+/// How many processes may crash at any time.
+const CRASHES: &[u8] = b"#define CRASHES_MOST $ /* so many processes may crash at any time */\n";
+
 /// What stands before the registers: what a line and a step are, in a search and in a simulation.
-const PRELUDE: &[u8] = b"/* A model of a listing and of scripts, made by snapmodel.\n\
+const PRELUDE: &[u8] = b"/* A model of a listing and of scripts, made by snaplab.\n\
    A line of the listing is one d_step. Registers are global, all else is of its process, so that\n\
    steps which no other process sees are merged. A search asserts that nothing traps, and that each\n\
    answered scan has a point: memory had the view since the scan was called.\n\
-   -DCRASHES_MOST=N: so many processes may crash. -DWIDE: numbers have 32 bits in place of 8; those\n\
-   below 0 are the greatest of 64 bits. -DSIMULATION -DTURNS=N: steps and the end state are printed. */\n\
-#ifndef CRASHES_MOST\n\
-#define CRASHES_MOST 0\n\
-#endif\n\
+   -DWIDE: numbers have 32 bits in place of 8; those below 0 are the greatest of 64 bits.\n\
+   -DSIMULATION -DTURNS=N: steps and the end state are printed. */\n\
 #ifdef WIDE\n\
 #define Cell int\n\
 #define HELD(x) 1\n\
@@ -119,11 +119,18 @@ impl<'a> Writer<'a> {
     }
 }
 
-/// The model of a listing and scripts, or why there is none.
+/// Returns the model of a listing and scripts in which at most so many processes crash, beside
+/// those whose scripts say so.
+///
+/// # Errors
+///
+/// The scripts are not small; a number of the listing or of the scripts has no number of a model; or
+/// memory ran out.
 pub fn model_text(
     alloc: Global,
     listing: &Listing,
     scripts: &Scripts,
+    crashes: u64,
 ) -> Result<Vec<u8>, Fault<ModelRefusal>>
     ensures { AnswersModel scripts.now result }
 {
@@ -131,6 +138,7 @@ pub fn model_text(
         return Err(Fault::Refused(ModelRefusal::TooLarge));
     }
     let mut model = Writer::new(alloc, listing, scripts);
+    model.fill(CRASHES, &[crashes]);
     model.say(PRELUDE);
     model.registers();
     model.monitors();

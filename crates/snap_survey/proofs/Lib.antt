@@ -2,3 +2,4 @@
 pub mod Summaries
 pub mod Tallies
 pub mod Surveying
+pub mod Judging

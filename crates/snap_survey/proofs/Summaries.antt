@@ -1,9 +1,10 @@
 -- A `Summary` of many runs, counted survey by survey: with what is left to count it makes the summary of all.
 use Rattle.std.proofs.Common.{◌≡◌, ℕ, suc, ◌+◌, ◌<◌, Bool, true, false, List, [], ◌∷◌, length, max, nat_lt}
-use Rattle.std.proofs.Common.{if◌then◌else◌, refl, sym, ap, ◌∙◌, arith}
+use Rattle.std.proofs.Common.{if◌then◌else◌, drop, drop-cons, get_or, refl, sym, subst, ap, ◌∙◌, arith}
 use Rattle.snap_survey.specs.Summary.{AreFewer, how_many, most_of, no_runs, summary_of, with_survey}
 use Rattle.snap_survey.specs.declared.summary.Summary.{Summary}
-use Rattle.snap_survey.specs.declared.findings.Survey.{Survey}
+use Rattle.snap_survey.specs.Words.{is_linearizable, is_not_linearizable, is_undecided}
+use Rattle.snap_survey.specs.declared.findings.JudgedSurvey.{JudgedSurvey}
 
 -- two summaries side by side
 abbrev pub together : Summary → Summary → Summary
@@ -17,10 +18,13 @@ together a b = record {
   trapping = a.trapping + b.trapping;
   crashing = a.crashing + b.crashing;
   skipping = a.skipping + b.skipping;
+  linearizable = a.linearizable + b.linearizable;
+  not_linearizable = a.not_linearizable + b.not_linearizable;
+  undecided = a.undecided + b.undecided;
 }
 
 -- of these surveys some are counted, and the others are left
-pub record Counting (all : List Survey) (m : Summary) (k : ℕ) (left : List Survey) : Type 0 where
+pub record Counting (all : List JudgedSurvey) (m : Summary) (k : ℕ) (left : List JudgedSurvey) : Type 0 where
   pub total : together m (summary_of left) ≡ summary_of all
   pub number : m.schedules ≡ k
   pub fewer : AreFewer m (k + 1)
@@ -37,6 +41,9 @@ none_beside m = rw (
   beside m.trapping,
   beside m.crashing,
   beside m.skipping,
+  beside m.linearizable,
+  beside m.not_linearizable,
+  beside m.undecided,
 ) refl where
   beside : (x : ℕ) → 0 + x ≡ x
   beside x = omega arith
@@ -45,7 +52,7 @@ none_beside m = rw (
   beside_most x = omega arith
 
 -- at the start all are left
-pub all_left : (all : List Survey) → Counting all no_runs 0 all
+pub all_left : (all : List JudgedSurvey) → Counting all no_runs 0 all
 all_left all = record {
   total = none_beside (summary_of all);
   number = refl;
@@ -57,6 +64,9 @@ all_left all = record {
     trapping = omega arith;
     crashing = omega arith;
     skipping = omega arith;
+    linearizable = omega arith;
+    not_linearizable = omega arith;
+    undecided = omega arith;
   };
 }
 
@@ -74,24 +84,30 @@ most_moved : (a b c : ℕ) → max (max b a) c ≡ max a (max b c)
 most_moved a b c = omega arith
 
 -- the same sum, with one survey counted
-same_total : (m : Summary) (s : Survey) (left : List Survey) →
+same_total : (m : Summary) (s : JudgedSurvey) (left : List JudgedSurvey) →
     together (with_survey m s) (summary_of left) ≡ together m (summary_of (s ∷ left))
 same_total m s left =
     rw (
-      moved (nat_lt 0 s.scans_answered) m.answering (how_many (λ (x : Survey). nat_lt 0 x.scans_answered) left),
-      moved (nat_lt 0 s.scans_without_point) m.without_point
-          (how_many (λ (x : Survey). nat_lt 0 x.scans_without_point) left),
-      most_moved m.most_collects s.most_collects (most_of left),
-      moved (nat_lt 0 s.updates_done) m.updating (how_many (λ (x : Survey). nat_lt 0 x.updates_done) left),
-      moved (nat_lt 0 s.open_operations) m.unfinished (how_many (λ (x : Survey). nat_lt 0 x.open_operations) left),
-      moved (nat_lt 0 s.traps) m.trapping (how_many (λ (x : Survey). nat_lt 0 x.traps) left),
-      moved (nat_lt 0 s.crashes) m.crashing (how_many (λ (x : Survey). nat_lt 0 x.crashes) left),
-      moved (nat_lt 0 s.skips) m.skipping (how_many (λ (x : Survey). nat_lt 0 x.skips) left),
+      moved (nat_lt 0 s.survey.scans_answered) m.answering (how_many (λ (x : JudgedSurvey). nat_lt 0 x.survey.scans_answered) left),
+      moved (nat_lt 0 s.survey.scans_without_point) m.without_point
+          (how_many (λ (x : JudgedSurvey). nat_lt 0 x.survey.scans_without_point) left),
+      most_moved m.most_collects s.survey.most_collects (most_of left),
+      moved (nat_lt 0 s.survey.updates_done) m.updating (how_many (λ (x : JudgedSurvey). nat_lt 0 x.survey.updates_done) left),
+      moved (nat_lt 0 s.survey.open_operations) m.unfinished (how_many (λ (x : JudgedSurvey). nat_lt 0 x.survey.open_operations) left),
+      moved (nat_lt 0 s.survey.traps) m.trapping (how_many (λ (x : JudgedSurvey). nat_lt 0 x.survey.traps) left),
+      moved (nat_lt 0 s.survey.crashes) m.crashing (how_many (λ (x : JudgedSurvey). nat_lt 0 x.survey.crashes) left),
+      moved (nat_lt 0 s.survey.skips) m.skipping (how_many (λ (x : JudgedSurvey). nat_lt 0 x.survey.skips) left),
+      moved (is_linearizable s.linearizability) m.linearizable
+          (how_many (λ (x : JudgedSurvey). is_linearizable x.linearizability) left),
+      moved (is_not_linearizable s.linearizability) m.not_linearizable
+          (how_many (λ (x : JudgedSurvey). is_not_linearizable x.linearizability) left),
+      moved (is_undecided s.linearizability) m.undecided
+          (how_many (λ (x : JudgedSurvey). is_undecided x.linearizability) left),
       moved true m.schedules (length left),
     ) refl
 
 -- with one more counted, the others are left
-pub one_counted : (all : List Survey) (m : Summary) (k : ℕ) (s : Survey) (left rest : List Survey) → left ≡ s ∷ rest →
+pub one_counted : (all : List JudgedSurvey) (m : Summary) (k : ℕ) (s : JudgedSurvey) (left rest : List JudgedSurvey) → left ≡ s ∷ rest →
     Counting all m k left → Counting all (with_survey m s) (k + 1) rest
 one_counted all m k s left rest is h =
     let f = h.fewer in
@@ -100,13 +116,17 @@ one_counted all m k s left rest is h =
       total = same_total m s rest ∙ ap (λ l. together m (summary_of l)) (sym is) ∙ h.total;
       number = omega (arith, n);
       fewer = record {
-        answering = one_more (nat_lt 0 s.scans_answered) m.answering (k + 1) f.answering;
-        without_point = one_more (nat_lt 0 s.scans_without_point) m.without_point (k + 1) f.without_point;
-        updating = one_more (nat_lt 0 s.updates_done) m.updating (k + 1) f.updating;
-        unfinished = one_more (nat_lt 0 s.open_operations) m.unfinished (k + 1) f.unfinished;
-        trapping = one_more (nat_lt 0 s.traps) m.trapping (k + 1) f.trapping;
-        crashing = one_more (nat_lt 0 s.crashes) m.crashing (k + 1) f.crashing;
-        skipping = one_more (nat_lt 0 s.skips) m.skipping (k + 1) f.skipping;
+        answering = one_more (nat_lt 0 s.survey.scans_answered) m.answering (k + 1) f.answering;
+        without_point = one_more (nat_lt 0 s.survey.scans_without_point) m.without_point (k + 1) f.without_point;
+        updating = one_more (nat_lt 0 s.survey.updates_done) m.updating (k + 1) f.updating;
+        unfinished = one_more (nat_lt 0 s.survey.open_operations) m.unfinished (k + 1) f.unfinished;
+        trapping = one_more (nat_lt 0 s.survey.traps) m.trapping (k + 1) f.trapping;
+        crashing = one_more (nat_lt 0 s.survey.crashes) m.crashing (k + 1) f.crashing;
+        skipping = one_more (nat_lt 0 s.survey.skips) m.skipping (k + 1) f.skipping;
+        linearizable = one_more (is_linearizable s.linearizability) m.linearizable (k + 1) f.linearizable;
+        not_linearizable =
+            one_more (is_not_linearizable s.linearizability) m.not_linearizable (k + 1) f.not_linearizable;
+        undecided = one_more (is_undecided s.linearizability) m.undecided (k + 1) f.undecided;
       };
     }
 
@@ -122,6 +142,9 @@ alone m = rw (
   beside m.trapping,
   beside m.crashing,
   beside m.skipping,
+  beside m.linearizable,
+  beside m.not_linearizable,
+  beside m.undecided,
 ) refl where
   beside : (x : ℕ) → x + 0 ≡ x
   beside x = omega arith
@@ -129,7 +152,16 @@ alone m = rw (
   beside_most : (x : ℕ) → max x 0 ≡ x
   beside_most x = omega arith
 
+-- with the next one counted, the others are left
+pub counts_next : (all : List JudgedSurvey) (m m' : Summary) (k : ℕ) (d : JudgedSurvey) → k < length all →
+    m' ≡ with_survey m (get_or all k d) → Counting all m k (drop k all) → Counting all m' (k + 1) (drop (k + 1) all)
+counts_next all m m' k d lt is h =
+    let next : suc k ≡ k + 1 = omega arith in
+    subst (λ (x : Summary). Counting all x (k + 1) (drop (k + 1) all)) (sym is)
+    (one_counted all m k (get_or all k d) (drop k all) (drop (k + 1) all)
+    (drop-cons all k d lt ∙ ap (λ (n : ℕ). get_or all k d ∷ drop n all) next) h)
+
 -- at the end all are counted
-pub all_counted : (all : List Survey) (m : Summary) (k : ℕ) (left : List Survey) → left ≡ [] →
+pub all_counted : (all : List JudgedSurvey) (m : Summary) (k : ℕ) (left : List JudgedSurvey) → left ≡ [] →
     Counting all m k left → m ≡ summary_of all
 all_counted all m k left none h = sym (alone m) ∙ ap (λ l. together m (summary_of l)) (sym none) ∙ h.total

@@ -1,4 +1,5 @@
 -- The definitions of snap_survey, by their modules.
+pub mod Words
 pub mod Survey
 pub mod Tally
 pub mod Summary

@@ -1,5 +1,6 @@
--- What a run came to: which operations were called, which have ended, and what kept the others from it.
-use Rattle.std.specs.Prelude.{ℕ, zero, suc, Bool, true, false, ◌&&◌, List, [], ◌∷◌, length, Option, Some, None}
+-- What a run came to: which operations were called, which have ended, what kept the others from it, and whether the
+-- run is linearizable.
+use Rattle.std.specs.Prelude.{◌≡◌, ℕ, zero, suc, Bool, true, false, ◌&&◌, List, [], ◌∷◌, length, Option, Some, None}
 use Rattle.std.specs.Prelude.{is_none, is_some, max, if◌then◌else◌}
 use Rattle.snap_semantics.specs.declared.process.Item.{Item}
 use Rattle.snap_semantics.specs.declared.process.Item.TheVariants.{Call}
@@ -16,6 +17,9 @@ use Rattle.snap_runs.specs.Audit.{audit, is_called}
 use Rattle.snap_runs.specs.Run.{Run, state, item, outcome as outcome_at}
 use Rattle.snap_runs.specs.Scan.{count}
 use Rattle.snap_runs.specs.declared.verdict.Verdict.{Verdict}
+use Rattle.snap_judge.specs.declared.judgements.Judgement.{Judgement}
+use Rattle.snap_run_judge.specs.RunJudgement.{IsRunJudgement, most_configurations, word_of}
+use Rattle.snap_survey.specs.declared.findings.JudgedSurvey.{JudgedSurvey}
 use Rattle.snap_survey.specs.declared.findings.Skip.{Skip}
 use Rattle.snap_survey.specs.declared.findings.Survey.{Survey}
 use Rattle.snap_survey.specs.declared.findings.Trap.{Trap}
@@ -130,3 +134,11 @@ survey_of r = record {
   skips = count (is_skipped r) 0 (length r.items);
   first_skip = first_found (skip_at r) (length r.items);
 }
+
+-- the same, with what was judged of the run
+abbrev pub judged_survey : Run → Judgement → JudgedSurvey
+judged_survey r j = record { survey = survey_of r; linearizability = word_of j }
+
+-- A survey is that of a run, with a judgement that says what is so.
+abbrev pub IsSurveyOf : Run → JudgedSurvey → Type 0
+IsSurveyOf r s = (j : Judgement) × IsRunJudgement most_configurations r j × (s ≡ judged_survey r j)

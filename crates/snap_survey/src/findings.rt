@@ -1,5 +1,6 @@
 //! `Survey`: what a run came to: counts of operations called and ended, of scans without a point,
 //! and of traps, crashes and skips.
+use snap_run_judge::Linearizability;
 use snap_semantics::{Cause, Reason};
 
 /// An item that trapped its process. Items count from 1.
@@ -45,4 +46,11 @@ pub struct Survey {
     /// Items that were skipped.
     pub skips: u64,
     pub first_skip: Option<Skip>,
+}
+
+/// What a run came to, and whether it is linearizable.
+#[derive(Clone, Copy, PartialEq, Eq)]
+pub struct JudgedSurvey {
+    pub survey: Survey,
+    pub linearizability: Linearizability,
 }

@@ -1,10 +1,13 @@
-//! `Summary`: in how many of many surveyed runs a scan was answered, a process trapped, and so on.
+//! `Summary`: in how many of many surveyed runs a scan was answered, a process trapped, and so on,
+//! and how many are linearizable.
 ghost use Rattle.std.specs.Prelude.{◌≡◌, ◌+◌, ◌<◌, ◌^◌};
-ghost use Rattle.snap_survey.specs.Summary.{AreFewer, no_runs, summary_of, with_survey};
+ghost use Rattle.snap_survey.specs.Summary.{AreFewer, counted_if, no_runs, summary_of, with_survey};
 
-use crate::findings::Survey;
+use crate::findings::JudgedSurvey;
+use crate::words::{is_linearizable, is_not_linearizable, is_undecided};
 
-/// In how many of many runs there is what the fields of a survey count.
+/// In how many of many runs there is what the fields of a survey count, and how many of them are
+/// linearizable.
 #[derive(Clone, Copy, PartialEq, Eq)]
 pub struct Summary {
     pub schedules: u64,
@@ -21,6 +24,20 @@ pub struct Summary {
     pub trapping: u64,
     pub crashing: u64,
     pub skipping: u64,
+    /// Runs that are linearizable.
+    pub linearizable: u64,
+    /// Runs that are not linearizable.
+    pub not_linearizable: u64,
+    /// Runs of which neither was found.
+    pub undecided: u64,
+}
+
+/// One more where something was found.
+fn counted_if(count: u64, found: bool) -> u64
+    requires { count + 1 < 2 ^ 64 }
+    ensures { result ≡ counted_if count found }
+{
+    count + u64::from(found)
 }
 
 impl Summary {
@@ -38,29 +55,37 @@ impl Summary {
             trapping: 0,
             crashing: 0,
             skipping: 0,
+            linearizable: 0,
+            not_linearizable: 0,
+            undecided: 0,
         }
     }
 
     /// Adds one run more.
-    fn add(&mut self, survey: &Survey)
+    fn add(&mut self, judged: &JudgedSurvey)
         requires few { AreFewer self.old (self.old.schedules + 1) }
         requires room { self.old.schedules + 1 < 2 ^ 64 }
-        ensures { self.new ≡ with_survey self.old survey.now }
+        ensures { self.new ≡ with_survey self.old judged.now }
     {
+        let survey = &judged.survey;
+        let verdict = judged.linearizability;
         self.schedules += 1;
-        self.answering += u64::from(survey.scans_answered > 0);
-        self.without_point += u64::from(survey.scans_without_point > 0);
+        self.answering = counted_if(self.answering, survey.scans_answered > 0);
+        self.without_point = counted_if(self.without_point, survey.scans_without_point > 0);
         self.most_collects = survey.most_collects.max(self.most_collects);
-        self.updating += u64::from(survey.updates_done > 0);
-        self.unfinished += u64::from(survey.open_operations > 0);
-        self.trapping += u64::from(survey.traps > 0);
-        self.crashing += u64::from(survey.crashes > 0);
-        self.skipping += u64::from(survey.skips > 0);
+        self.updating = counted_if(self.updating, survey.updates_done > 0);
+        self.unfinished = counted_if(self.unfinished, survey.open_operations > 0);
+        self.trapping = counted_if(self.trapping, survey.traps > 0);
+        self.crashing = counted_if(self.crashing, survey.crashes > 0);
+        self.skipping = counted_if(self.skipping, survey.skips > 0);
+        self.linearizable = counted_if(self.linearizable, is_linearizable(verdict));
+        self.not_linearizable = counted_if(self.not_linearizable, is_not_linearizable(verdict));
+        self.undecided = counted_if(self.undecided, is_undecided(verdict));
     }
 }
 
 /// What the runs of these surveys came to together.
-pub fn summary_of(surveys: &[Survey]) -> Summary
+pub fn summary_of(surveys: &[JudgedSurvey]) -> Summary
     ensures { result ≡ summary_of surveys.now }
 {
     let mut summary = Summary::new();

@@ -2,11 +2,12 @@
 //! for all of them.
 ghost use Rattle.std.specs.Prelude.{◌≡◌, ◌++◌, IfOk, OnOk, map};
 ghost use Rattle.std.specs.List.{list_all};
-ghost use Rattle.snap_semantics.specs.Answers.{Answers};
 ghost use Rattle.snap_survey.specs.SurveyText.{survey_lines, surveys_text};
-ghost use Rattle.snap_survey.specs.Surveys.{are_clean, is_clean, survey_over, survey_text};
+ghost use Rattle.snap_survey.specs.Surveys.{AnswersSurvey, AreSurveysOf, WereJudgedOver};
+ghost use Rattle.snap_survey.specs.Surveys.{are_clean, is_clean, survey_text};
 
-use crate::{Survey, summary_line, summary_of, survey, survey_line};
+use crate::words::is_not_linearizable;
+use crate::{JudgedSurvey, summary_line, summary_of, survey, survey_line};
 use snap_asm_program::Program;
 use snap_input::schedules_for;
 use snap_sched::Schedule;
@@ -19,10 +20,9 @@ fn surveys<K: Kind>(
     alloc: Global,
     program: &Program,
     schedules: &[Schedule],
-) -> Result<Vec<Survey>, AllocError>
+) -> Result<Vec<JudgedSurvey>, AllocError>
     requires { program.now.kind ≡ K.TAG }
-    ensures { IfOk result (λ surveys. surveys.items
-        ≡ map (survey_over program.now) schedules.now) }
+    ensures { IfOk result (λ surveys. AreSurveysOf program.now schedules.now surveys.items) }
 {
     let mut surveys = Vec::new(alloc);
     for schedule in schedules {
@@ -32,7 +32,7 @@ fn surveys<K: Kind>(
 }
 
 /// Adds the lines of surveys, each with the number of its schedule.
-fn push_survey_lines(out: &mut Vec<u8>, surveys: &[Survey]) -> Result<(), AllocError>
+fn push_survey_lines(out: &mut Vec<u8>, surveys: &[JudgedSurvey]) -> Result<(), AllocError>
     ensures { OnOk result (out.new.items ≡ out.old.items ++ survey_lines 1 surveys.now) }
 {
     for k in 0..surveys.len() {
@@ -42,7 +42,7 @@ fn push_survey_lines(out: &mut Vec<u8>, surveys: &[Survey]) -> Result<(), AllocE
 }
 
 /// A line for each survey, and one for all of them.
-fn surveys_text(alloc: Global, surveys: &[Survey]) -> Result<Vec<u8>, AllocError>
+fn surveys_text(alloc: Global, surveys: &[JudgedSurvey]) -> Result<Vec<u8>, AllocError>
     ensures { IfOk result (λ out. out.items ≡ surveys_text surveys.now) }
 {
     let mut out = Vec::new(alloc);
@@ -51,15 +51,15 @@ fn surveys_text(alloc: Global, surveys: &[Survey]) -> Result<Vec<u8>, AllocError
     Ok(out)
 }
 
-/// Whether each finished scan of a run has a point, and no item trapped its process.
-fn is_clean(survey: &Survey) -> bool
-    ensures { result ≡ is_clean survey.now }
+/// Whether a run is not found to be not linearizable, and no item trapped its process.
+fn is_clean(judged: &JudgedSurvey) -> bool
+    ensures { result ≡ is_clean judged.now }
 {
-    survey.scans_without_point == 0 && survey.traps == 0
+    !is_not_linearizable(judged.linearizability) && judged.survey.traps == 0
 }
 
 /// Whether each run is clean.
-fn are_clean(surveys: &[Survey]) -> bool
+fn are_clean(surveys: &[JudgedSurvey]) -> bool
     ensures { result ≡ list_all is_clean surveys.now }
 {
     surveys.iter().all(|survey| is_clean(survey))
@@ -80,10 +80,10 @@ fn survey_kind<K: Kind>(
     texts: &[&[u8]],
 ) -> Result<SurveyOutput, Fault<Refusal>>
     requires { program.now.kind ≡ K.TAG }
-    ensures text { Answers (λ out. out.text.items) result
-        (survey_text program.now (map (λ text. text.now) texts.now)) }
-    ensures clean { Answers (λ out. out.clean) result
-        (are_clean program.now (map (λ text. text.now) texts.now)) }
+    ensures { let given = map (λ text. text.now) texts.now in
+        AnswersSurvey (WereJudgedOver program.now given) result
+        (λ judged. survey_text judged program.now given)
+        (λ judged. are_clean judged program.now given) }
 {
     let schedules = schedules_for::<K>(alloc, program, texts)?;
     let surveys = surveys::<K>(alloc, program, schedules.as_slice())?;
@@ -99,28 +99,14 @@ pub fn survey_runs(
     program: &Program,
     texts: &[&[u8]],
 ) -> Result<SurveyOutput, Fault<Refusal>>
-    ensures text { Answers (λ out. out.text.items) result
-        (survey_text program.now (map (λ text. text.now) texts.now)) }
-    ensures clean { Answers (λ out. out.clean) result
-        (are_clean program.now (map (λ text. text.now) texts.now)) }
+    ensures { let given = map (λ text. text.now) texts.now in
+        AnswersSurvey (WereJudgedOver program.now given) result
+        (λ judged. survey_text judged program.now given)
+        (λ judged. are_clean judged program.now given) }
 {
     match program.kind() {
         KindTag::Seq => survey_kind::<Seq>(alloc, program, texts),
         KindTag::Bits => survey_kind::<Bits>(alloc, program, texts),
         KindTag::Multi => survey_kind::<Multi>(alloc, program, texts),
     }
-}
-
-/// What the run of a program over each of many schedules came to, a line for each, and one for all
-/// of them.
-pub fn survey_program(
-    alloc: Global,
-    program: &Program,
-    texts: &[&[u8]],
-) -> Result<Vec<u8>, Fault<Refusal>>
-    ensures { Answers (λ out. out.items) result
-        (survey_text program.now (map (λ text. text.now) texts.now)) }
-{
-    let found = survey_runs(alloc, program, texts)?;
-    Ok(found.text)
 }

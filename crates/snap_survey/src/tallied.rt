@@ -6,15 +6,16 @@ ghost use Rattle.snap_semantics.specs.Table.{who};
 ghost use Rattle.snap_runs.specs.Run.{run_over};
 ghost use Rattle.snap_runs.specs.Scan.{count};
 ghost use Rattle.snap_record.specs.Record.{with_item};
-ghost use Rattle.snap_survey.specs.Survey.{is_open, survey_of};
+ghost use Rattle.snap_survey.specs.Survey.{IsSurveyOf, is_open, survey_of};
 ghost use Rattle.snap_survey.specs.Tally.{tally_of};
 
-use crate::findings::Survey;
+use crate::findings::{JudgedSurvey, Survey};
 use crate::scans::{most_collects, without_point};
 use crate::tally::Tally;
 use snap_asm_program::Program;
 use snap_audit::audit;
 use snap_record::{Record, RecordFault};
+use snap_run_judge::{MOST_CONFIGURATIONS, judge_record, word_for};
 use snap_sched::Schedule;
 use snap_semantics::{Item, who};
 use snap_words::{Kind, Shape};
@@ -105,21 +106,34 @@ impl<K: Kind> TalliedRecord<K> {
             first_skip: self.tally.first_skip,
         })
     }
+
+    /// What the record came to, and whether its run is linearizable.
+    fn judged(&self, alloc: Global) -> Result<JudgedSurvey, AllocError>
+        requires { self.now.tally ≡ tally_of self.now.record (length self.now.record.items) }
+        ensures { IfOk result (IsSurveyOf self.now.record) }
+    {
+        let survey = self.survey(alloc)?;
+        let judgement = judge_record(alloc, &self.record, MOST_CONFIGURATIONS)?;
+        Ok(JudgedSurvey {
+            survey,
+            linearizability: word_for(&self.record, MOST_CONFIGURATIONS, &judgement),
+        })
+    }
 }
 
-/// What the run of a program over a schedule came to.
+/// What the run of a program over a schedule came to, and whether it is linearizable.
 pub fn survey<K: Kind>(
     alloc: Global,
     program: &Program,
     schedule: &Schedule,
-) -> Result<Survey, AllocError>
+) -> Result<JudgedSurvey, AllocError>
     requires { program.now.kind ≡ K.TAG }
-    ensures { IfOk result (λ s. s ≡ survey_of (run_over program.now schedule.now)) }
+    ensures { IfOk result (IsSurveyOf (run_over program.now schedule.now)) }
 {
     let mut tallied = TalliedRecord::<K>::new(alloc, program, schedule.shape())?;
     let mut left = schedule.items().iter();
     while let Some(item) = left.next() {
         tallied.take(item)?;
     }
-    tallied.survey(alloc)
+    tallied.judged(alloc)
 }

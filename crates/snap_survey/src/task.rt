@@ -1,11 +1,10 @@
 //! `survey_input`: what the task `survey` writes for an input.
 ghost use Rattle.std.specs.Prelude.{◌≡◌, ◌≤◌, Err, length};
-ghost use Rattle.snap_semantics.specs.Answers.{Answers};
 ghost use Rattle.snap_semantics.specs.declared.fault.Fault.TheVariants.{Refused};
 ghost use Rattle.snap_semantics.specs.declared.refusal.Refusal.{Refusal};
 ghost use Rattle.snap_input.specs.Parts.{max_input, parts_of};
 ghost use Rattle.snap_input.specs.ManySchedules.{checked_schedules};
-ghost use Rattle.snap_survey.specs.Surveys.{clean_runs, surveyed};
+ghost use Rattle.snap_survey.specs.Surveys.{AnswersSurvey, WereJudgedIn, clean_runs, surveyed};
 
 use crate::survey_output::{SurveyOutput, survey_runs};
 use snap_input::{check_schedules, program_for, split_parts, texts_for};
@@ -21,9 +20,9 @@ pub fn survey_input(
     input: &[u8],
 ) -> Result<SurveyOutput, Fault<Refusal>>
     requires { length input.now ≤ max_input }
-    ensures output { Answers (λ out. out.text.items) result
-        (surveyed subject (parts_of input.now)) }
-    ensures clean { Answers (λ out. out.clean) result (clean_runs subject (parts_of input.now)) }
+    ensures output { let parts = parts_of input.now in
+        AnswersSurvey (WereJudgedIn subject parts) result (λ judged. surveyed judged subject parts)
+        (λ judged. clean_runs judged subject parts) }
     ensures counted { (r : Refusal) → checked_schedules subject (parts_of input.now) ≡ Err r →
         result ≡ Err (Refused r) }
 {

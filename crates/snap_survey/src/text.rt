@@ -1,6 +1,7 @@
 //! The printed texts of surveys.
 ghost use Rattle.std.specs.Prelude.{◌≡◌, ◌++◌, OnOk};
 ghost use Rattle.snap_survey.specs.SurveyText.{
+  counts_text,
   field_text,
   first_text,
   halts_text,
@@ -10,14 +11,17 @@ ghost use Rattle.snap_survey.specs.SurveyText.{
   summary_line,
   summary_scans,
   summary_updates,
+  summary_words,
   survey_line,
   trap_text,
   updates_text,
+  word_text,
 };
 
-use crate::findings::{Skip, Survey, Trap};
+use crate::findings::{JudgedSurvey, Skip, Survey, Trap};
 use crate::summary::Summary;
 use snap_report::outcome_text;
+use snap_run_judge::Linearizability;
 use snap_semantics::Outcome;
 use snap_text::{push_number, push_text};
 use std::alloc::AllocError;
@@ -100,17 +104,37 @@ fn skip_text(out: &mut Vec<u8>, skip: Option<Skip>) -> Result<(), AllocError>
     outcome_text(out, &Outcome::Skipped(skip.reason))
 }
 
-/// What the run over the schedule of this number came to, in one line.
-#[tactic(auto, using(snap_text::proofs::Texts::joined), unfolding(crate::specs::SurveyText::survey_line))]
-pub fn survey_line(out: &mut Vec<u8>, number: u64, survey: &Survey) -> Result<(), AllocError>
-    ensures { OnOk result (out.new.items ≡ out.old.items ++ survey_line number survey.now) }
+/// The word for a run, at the end of its line.
+fn word_text(out: &mut Vec<u8>, word: Linearizability) -> Result<(), AllocError>
+    ensures { OnOk result (out.new.items ≡ out.old.items ++ word_text word) }
 {
-    push_field(out, b"schedule ", number)?;
+    match word {
+        Linearizability::Linearizable => push_text(out, b" linearizable"),
+        Linearizability::NotLinearizable => push_text(out, b" not linearizable"),
+        Linearizability::Undecided => push_text(out, b" undecided"),
+    }
+}
+
+/// A survey, in numbers, and what it has of a first trap and a first skipped item.
+#[tactic(auto, using(snap_text::proofs::Texts::joined), unfolding(crate::specs::SurveyText::counts_text))]
+fn counts_text(out: &mut Vec<u8>, survey: &Survey) -> Result<(), AllocError>
+    ensures { OnOk result (out.new.items ≡ out.old.items ++ counts_text survey.now) }
+{
     scans_text(out, survey)?;
     updates_text(out, survey)?;
     halts_text(out, survey)?;
     trap_text(out, survey.first_trap)?;
-    skip_text(out, survey.first_skip)?;
+    skip_text(out, survey.first_skip)
+}
+
+/// What the run over the schedule of this number came to, in one line.
+#[tactic(auto, using(snap_text::proofs::Texts::joined), unfolding(crate::specs::SurveyText::survey_line))]
+pub fn survey_line(out: &mut Vec<u8>, number: u64, judged: &JudgedSurvey) -> Result<(), AllocError>
+    ensures { OnOk result (out.new.items ≡ out.old.items ++ survey_line number judged.now) }
+{
+    push_field(out, b"schedule ", number)?;
+    counts_text(out, &judged.survey)?;
+    word_text(out, judged.linearizability)?;
     push_text(out, b"\n")
 }
 
@@ -143,6 +167,16 @@ fn summary_halts(out: &mut Vec<u8>, summary: &Summary) -> Result<(), AllocError>
     push_field(out, b" skips ", summary.skipping)
 }
 
+/// The runs that are linearizable, that are not, and those of which neither was found.
+#[tactic(auto, using(snap_text::proofs::Texts::joined), unfolding(crate::specs::SurveyText::summary_words))]
+fn summary_words(out: &mut Vec<u8>, summary: &Summary) -> Result<(), AllocError>
+    ensures { OnOk result (out.new.items ≡ out.old.items ++ summary_words summary.now) }
+{
+    push_field(out, b" linearizable ", summary.linearizable)?;
+    push_field(out, b" not linearizable ", summary.not_linearizable)?;
+    push_field(out, b" undecided ", summary.undecided)
+}
+
 /// In how many of many runs there is what the fields of a survey count, in one line.
 #[tactic(auto, using(snap_text::proofs::Texts::joined), unfolding(crate::specs::SurveyText::summary_line))]
 pub fn summary_line(out: &mut Vec<u8>, summary: &Summary) -> Result<(), AllocError>
@@ -152,5 +186,6 @@ pub fn summary_line(out: &mut Vec<u8>, summary: &Summary) -> Result<(), AllocErr
     summary_scans(out, summary)?;
     summary_updates(out, summary)?;
     summary_halts(out, summary)?;
+    summary_words(out, summary)?;
     push_text(out, b"\n")
 }

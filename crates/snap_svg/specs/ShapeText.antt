@@ -1,6 +1,7 @@
--- The SVG of what is drawn of a run: values, operations, scans with their points, and the marks of single items.
+-- The SVG of what is drawn of a run: values, operations, scans with their points, the marks of single items, and what
+-- is crossed out.
 use Rattle.std.specs.Prelude.{ℕ, ◌+◌, Bool, true, false, not, ◌&&◌, List, [], ◌∷◌, ◌++◌, Option, Some, None, codes}
-use Rattle.std.specs.Prelude.{decimal, nat_le, if◌then◌else◌}
+use Rattle.std.specs.Prelude.{decimal, min, nat_le, if◌then◌else◌}
 use Rattle.snap_semantics.specs.Report.{numbers_text, op_text}
 use Rattle.snap_semantics.specs.declared.process.Op.{Op}
 use Rattle.snap_semantics.specs.declared.process.Op.TheVariants as op
@@ -24,6 +25,10 @@ use Rattle.snap_svg.specs.declared.shape.Written.{Written}
 -- the least width of a box that has words
 abbrev pub least_words : ℕ
 least_words = 22
+
+-- the last place at which the words of what is crossed out begin, so that the picture has room for them
+abbrev pub last_words : ℕ
+last_words = 1450
 
 -- `process I, items A to B: `
 unfoldable pub span_text : Span → List ℕ
@@ -194,17 +199,29 @@ point_path p q x y =
 unfoldable pub point_text : Part → Point → List ℕ
 point_text p q = point_path p q (x_of p q.item) (y_of q.scan.process + 6)
 
--- a scan without a point is crossed out
-unfoldable pub none_box : Span → (x right y width : ℕ) → List ℕ
-none_box s x right y width =
+-- a scan without a point has a box of its own around it
+unfoldable pub none_box : Span → (x y width : ℕ) → List ℕ
+none_box s x y width =
     group_head (codes "none") ++ span_text s ++ codes "a scan without a point</title><rect"
     ++ edges_text x y width 44 ++ codes "/>"
-    ++ line_text (codes "bar") x y right (y + 44) ++ line_text (codes "bar") x (y + 44) right y
-    ++ words_head (codes "no") x (y + 40) ++ codes "point none</text></g>\n"
+    ++ words_head (codes "without") x (y + 40) ++ codes "point none</text></g>\n"
 
 unfoldable pub none_text : Part → Span → List ℕ
 none_text p s =
-    none_box s (x_before p s.from) (x_of p s.to) (y_of s.process + 6) (width_of (x_before p s.from) (x_of p s.to))
+    none_box s (x_before p s.from) (y_of s.process + 6) (width_of (x_before p s.from) (x_of p s.to))
+
+-- an operation whose end nothing explains is crossed out; its words stand below it, where no scan has words
+unfoldable pub wrong_box : Span → (x right y width : ℕ) → List ℕ
+wrong_box s x right y width =
+    group_head (codes "wrong") ++ span_text s ++ codes "no order of the operations explains how this ended: "
+    ++ codes "the run is not linearizable</title><rect"
+    ++ edges_text x y width 44 ++ codes "/>"
+    ++ line_text (codes "bar") x y right (y + 44) ++ line_text (codes "bar") x (y + 44) right y
+    ++ words_head (codes "no") (min x last_words) (y + 58) ++ codes "not linearizable</text></g>\n"
+
+unfoldable pub wrong_text : Part → Span → List ℕ
+wrong_text p s =
+    wrong_box s (x_before p s.from) (x_of p s.to) (y_of s.process + 6) (width_of (x_before p s.from) (x_of p s.to))
 
 abbrev pub shape_text : Part → Shape → List ℕ
 shape_text p (shape.Values s) = period_text p s
@@ -218,6 +235,7 @@ shape_text p (shape.Crash m) = crash_text p m
 shape_text p (shape.Loan l) = loan_text p l
 shape_text p (shape.Point q) = point_text p q
 shape_text p (shape.NoPoint s) = none_text p s
+shape_text p (shape.Unexplained s) = wrong_text p s
 
 -- What is drawn: some of its items are, and there is room for it.
 abbrev pub is_drawn : Part → Shape → Bool
@@ -232,6 +250,7 @@ is_drawn p (shape.Crash m) = is_here p m.item
 is_drawn p (shape.Loan l) = is_near p l.ended l.taken.item
 is_drawn p (shape.Point q) = is_here p q.item
 is_drawn p (shape.NoPoint s) = is_near p s.from s.to
+is_drawn p (shape.Unexplained s) = is_near p s.from s.to
 
 -- the picture's shapes, one after another: a later one lies above
 abbrev pub shapes_text : Part → List Shape → List ℕ

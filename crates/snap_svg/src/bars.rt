@@ -1,4 +1,5 @@
-//! The SVG of what lasts longer than an item: values, operations, and scans with their points.
+//! The SVG of what lasts longer than an item: values, operations, scans with their points, and
+//! operations that are crossed out.
 ghost use Rattle.std.specs.Prelude.{◌≡◌, ◌≤◌};
 ghost use Rattle.snap_semantics.specs.Report.{op_text};
 ghost use Rattle.snap_draft.specs.Drafted.{Adds};
@@ -23,6 +24,8 @@ ghost use Rattle.snap_svg.specs.ShapeText.{
   point_title,
   point_words,
   values_words,
+  wrong_box,
+  wrong_text,
 };
 
 use crate::elements::{
@@ -36,6 +39,9 @@ use snap_semantics::Op;
 
 /// The least width of a box that has words.
 const LEAST_WORDS: u64 = 22;
+
+/// The last place at which the words of what is crossed out begin: the picture has room for them.
+const LAST_WORDS: u64 = 1450;
 
 /// What is said of values.
 #[tactic(auto, unfolding(crate::specs::ShapeText::period_title))]
@@ -262,20 +268,18 @@ pub(crate) fn point_text(out: &mut Draft, window: &Window, point: &Point)
     point_path(out, window, point, window.x_of(point.item), y);
 }
 
-/// A scan without a point, crossed out.
+/// A scan without a point, in a box of its own.
 #[tactic(auto, unfolding(crate::specs::ShapeText::none_box))]
-fn none_box(out: &mut Draft, span: Span, x: u64, right: u64, y: u64, width: u64)
+fn none_box(out: &mut Draft, span: Span, x: u64, y: u64, width: u64)
     requires { y ≤ 1000000000000 }
-    ensures { Adds out.old out.new (none_box span x right y width) }
+    ensures { Adds out.old out.new (none_box span x y width) }
 {
     group_head(out, b"none");
     span_text(out, span);
     out.push(b"a scan without a point</title><rect");
     edges_text(out, x, y, width, 44);
     out.push(b"/>");
-    line_text(out, b"bar", x, y, right, y + 44);
-    line_text(out, b"bar", x, y + 44, right, y);
-    words_head(out, b"no", x, y + 40);
+    words_head(out, b"without", x, y + 40);
     out.push(b"point none</text></g>\n");
 }
 
@@ -285,8 +289,36 @@ pub(crate) fn none_text(out: &mut Draft, window: &Window, span: Span)
     ensures { Adds out.old out.new (none_text window.now span) }
 {
     let x = window.x_before(span.from);
+    let width = width_of(x, window.x_of(span.to));
+    none_box(out, span, x, y_of(span.process) + 6, width);
+}
+
+/// An operation whose end nothing explains, crossed out.
+#[tactic(auto, unfolding(crate::specs::ShapeText::wrong_box))]
+fn wrong_box(out: &mut Draft, span: Span, x: u64, right: u64, y: u64, width: u64)
+    requires { y ≤ 1000000000000 }
+    ensures { Adds out.old out.new (wrong_box span x right y width) }
+{
+    group_head(out, b"wrong");
+    span_text(out, span);
+    out.push(b"no order of the operations explains how this ended: ");
+    out.push(b"the run is not linearizable</title><rect");
+    edges_text(out, x, y, width, 44);
+    out.push(b"/>");
+    line_text(out, b"bar", x, y, right, y + 44);
+    line_text(out, b"bar", x, y + 44, right, y);
+    words_head(out, b"no", x.min(LAST_WORDS), y + 58);
+    out.push(b"not linearizable</text></g>\n");
+}
+
+/// An operation whose end no order of the operations explains.
+#[tactic(auto, unfolding(crate::specs::ShapeText::wrong_text))]
+pub(crate) fn wrong_text(out: &mut Draft, window: &Window, span: Span)
+    ensures { Adds out.old out.new (wrong_text window.now span) }
+{
+    let x = window.x_before(span.from);
     let right = window.x_of(span.to);
-    none_box(
+    wrong_box(
         out,
         span,
         x,

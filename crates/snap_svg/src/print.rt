@@ -3,7 +3,7 @@ ghost use Rattle.std.specs.Prelude.{◌≡◌};
 ghost use Rattle.snap_draft.specs.Drafted.{Adds};
 ghost use Rattle.snap_svg.specs.ShapeText.{is_drawn, shape_text, shapes_text};
 
-use crate::bars::{bar_text, embedded_text, none_text, period_text, point_text};
+use crate::bars::{bar_text, embedded_text, none_text, period_text, point_text, wrong_text};
 use crate::shape::Shape;
 use crate::spots::{crash_text, loan_text, read_text, test_text, trap_text, write_text};
 use crate::window::Window;
@@ -25,6 +25,7 @@ fn is_drawn(window: &Window, shape: &Shape) -> bool
         Shape::Loan(loan) => window.is_near(loan.ended, loan.taken.item),
         Shape::Point(point) => window.is_here(point.item),
         Shape::NoPoint(span) => window.is_near(span.from, span.to),
+        Shape::Unexplained(span) => window.is_near(span.from, span.to),
     }
 }
 
@@ -44,6 +45,7 @@ fn shape_text(out: &mut Draft, window: &Window, shape: &Shape)
         Shape::Loan(loan) => loan_text(out, window, *loan),
         Shape::Point(point) => point_text(out, window, point),
         Shape::NoPoint(span) => none_text(out, window, *span),
+        Shape::Unexplained(span) => wrong_text(out, window, *span),
     }
 }
 

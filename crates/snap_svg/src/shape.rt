@@ -106,4 +106,6 @@ pub enum Shape {
     Point(Point),
     /// A finished scan without a point.
     NoPoint(Span),
+    /// An operation whose end no order of the operations explains.
+    Unexplained(Span),
 }

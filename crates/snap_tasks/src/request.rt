@@ -1,8 +1,9 @@
-//! `Request`: what a subcommand asks the program for, a `Task` or a live run; `request_of` finds it
-//! by the subcommand's name.
+//! `Request`: what a subcommand asks the program for, a `Task`, a live run, a judgement or a model;
+//! `request_of` finds it by the subcommand's name and its `Options`.
 ghost use Rattle.std.specs.Prelude.{◌≡◌, IfSome};
-ghost use Rattle.snap_tasks.specs.Request.{HasLimit, IsLimit, request_of, kind_of};
+ghost use Rattle.snap_tasks.specs.Request.{AreOptions, HasLimit, request_of, kind_of, source_of};
 
+use crate::judge_request::{JudgeRequest, JudgeSource};
 use crate::subject::Subject;
 use crate::task::Task;
 use snap_words::KindTag;
@@ -13,6 +14,25 @@ pub enum Request {
     Do(Task),
     /// A live run, in which each process makes at most so many turns.
     Live(Subject, u64),
+    /// Whether a run or a history is linearizable.
+    Judge(JudgeRequest),
+    /// A model of a listing and scripts, in which at most so many processes crash at any time.
+    Model(Subject, u64),
+}
+
+/// What the options of a subcommand say.
+#[derive(Clone, Copy, PartialEq, Eq)]
+pub struct Options {
+    /// The listing, where the subcommand runs one.
+    pub subject: Subject,
+    /// The most turns of a process, where it plays scripts.
+    pub limit: u64,
+    /// Whether the input is a history, where it judges.
+    pub history: bool,
+    /// The most configurations that a search keeps, where it judges.
+    pub most: u64,
+    /// How many processes may crash at any time, where it writes a model.
+    pub crashes: u64,
 }
 
 /// The kind of this name.
@@ -27,13 +47,24 @@ pub fn kind_of(name: &str) -> Option<KindTag>
     }
 }
 
-/// What the subcommand of this name asks for, of this listing where it runs one and with this limit
-/// where it plays scripts.
-pub fn request_of(name: &str, subject: Subject, limit: u64) -> Option<Request>
-    requires { IsLimit limit }
-    ensures named { result ≡ request_of name.now subject limit }
+/// What is judged.
+fn source_of(options: &Options) -> JudgeSource
+    ensures { result ≡ source_of options.now }
+{
+    if options.history {
+        JudgeSource::History
+    } else {
+        JudgeSource::Run(options.subject)
+    }
+}
+
+/// What the subcommand of this name asks for, with these options.
+pub fn request_of(name: &str, options: &Options) -> Option<Request>
+    requires { AreOptions options.now }
+    ensures named { result ≡ request_of name.now options.now }
     ensures limit { IfSome result HasLimit }
 {
+    let subject = options.subject;
     match name {
         "check" => Some(Request::Do(Task::Check)),
         "lint" => Some(Request::Do(Task::Lint)),
@@ -47,7 +78,12 @@ pub fn request_of(name: &str, subject: Subject, limit: u64) -> Option<Request>
         "certify" => Some(Request::Do(Task::Certify(subject))),
         "batch" => Some(Request::Do(Task::Batch(subject))),
         "survey" => Some(Request::Do(Task::Survey(subject))),
-        "live" => Some(Request::Live(subject, limit)),
+        "live" => Some(Request::Live(subject, options.limit)),
+        "judge" => Some(Request::Judge(JudgeRequest {
+            source: source_of(options),
+            most: options.most,
+        })),
+        "promela" => Some(Request::Model(subject, options.crashes)),
         _ => None,
     }
 }

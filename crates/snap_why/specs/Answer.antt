@@ -23,7 +23,8 @@ process_text i = codes "process " ++ decimal i
 
 -- the point that the audit finds
 abbrev pub point_line : Option ℕ → List ℕ
-point_line None = codes "point: none, memory never held this from the call to the answer\n"
+point_line None =
+    codes "point: none, memory never held this from the call to the answer\nthe run may be linearizable all the same: certify says whether it is\n"
 point_line (Some t) = goto_line (codes "point") t
 
 -- a scan of an update

@@ -70,7 +70,8 @@ fn push_point(out: &mut Vec<u8>, point: Option<u64>) -> Result<(), AllocError>
         Some(item) => push_goto_line(out, b"point", item),
         None => push_text(
             out,
-            b"point: none, memory never held this from the call to the answer\n",
+            b"point: none, memory never held this from the call to the answer\n\
+the run may be linearizable all the same: certify says whether it is\n",
         ),
     }
 }

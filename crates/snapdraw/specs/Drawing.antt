@@ -1,14 +1,16 @@
 -- `IsDrawing`: the picture that snapdraw draws for the files that its command line names, or the first reason why there
 -- is none.
-use Rattle.std.specs.Prelude.{◌≡◌, ℕ, List, Option, Some, None, Result, Ok, Err, ⊤}
+use Rattle.std.specs.Prelude.{◌≡◌, ℕ, List, Option, Some, None, Result, Ok, Err, ⊤, Vec}
+use Rattle.std.specs.Global.{Global}
 use Rattle.std.specs.declared.io.ErrorKind.{ErrorKind}
 use Rattle.snap_words.specs.declared.kind.KindTag.{KindTag}
 use Rattle.snap_semantics.specs.Answers.{◌>>=◌, refused_as}
 use Rattle.snap_semantics.specs.Listing.{listing_of}
 use Rattle.snap_semantics.specs.Source.{Source}
+use Rattle.snap_semantics.specs.declared.event.Event.{Event}
 use Rattle.snap_semantics.specs.declared.refusal.Refusal.TheVariants.{Listing}
 use Rattle.snap_shipped.specs.Shipped.{shipped}
-use Rattle.snap_picture.specs.Picture.{picture_of}
+use Rattle.snap_picture.specs.Picture.{FailsUnder, IsPictureBy, picture_of}
 use Rattle.snap_picture.specs.declared.options.Options.{Options}
 use Rattle.snap_picture.specs.declared.refusal.PictureRefusal.TheVariants.{Input}
 use Rattle.snap_files.specs.FileTexts.{IsTextOf}
@@ -40,32 +42,60 @@ options_of d = record { from = d.from; to = d.to; reads = d.reads }
 abbrev pub listing_in : List ℕ → Result Source DrawFault
 listing_in text = refused_as (λ r. fault.Refused (Input r)) (refused_as Listing (listing_of text))
 
--- the picture of a listing, whose text may be in it, under a schedule
+-- the picture of a listing, whose text may be in it, under a schedule; the operation that ended with the event `wrong`
+-- is crossed out
 abbrev pub picture_in : Source → Option (List ℕ) → List ℕ → Options → (style legend : List ℕ) →
-    Result (List ℕ) DrawFault
-picture_in l listing schedule o style legend =
-    refused_as fault.Refused (picture_of l listing schedule o style legend)
+    (wrong : Option Event) → Result (List ℕ) DrawFault
+picture_in l listing schedule o style legend wrong =
+    refused_as fault.Refused (picture_of l listing schedule o style legend wrong)
 
 -- the picture of two texts
-abbrev pub drawn_texts : (listing schedule : List ℕ) → Options → (style legend : List ℕ) → Result (List ℕ) DrawFault
-drawn_texts listing schedule o style legend = do
+abbrev pub drawn_texts : (listing schedule : List ℕ) → Options → (style legend : List ℕ) → (wrong : Option Event) →
+    Result (List ℕ) DrawFault
+drawn_texts listing schedule o style legend wrong = do
   l ← listing_in listing
-  picture_in l (Some listing) schedule o style legend
+  picture_in l (Some listing) schedule o style legend wrong
 
 -- the picture of the texts of two files, or why they were not read
 abbrev pub drawn_files : (listing schedule : Result (List ℕ) FileFault) → Options → (style legend : List ℕ) →
-    Result (List ℕ) DrawFault
-drawn_files listing schedule o style legend = do
+    (wrong : Option Event) → Result (List ℕ) DrawFault
+drawn_files listing schedule o style legend wrong = do
   l ← refused_as of_file listing
   s ← refused_as of_file schedule
-  drawn_texts l s o style legend
+  drawn_texts l s o style legend wrong
 
 -- the picture of the listing that is shipped for a kind
 abbrev pub drawn_shipped : KindTag → (schedule : Result (List ℕ) FileFault) → Options → (style legend : List ℕ) →
-    Result (List ℕ) DrawFault
-drawn_shipped kind schedule o style legend = do
+    (wrong : Option Event) → Result (List ℕ) DrawFault
+drawn_shipped kind schedule o style legend wrong = do
   s ← refused_as of_file schedule
-  picture_in (shipped kind) None s o style legend
+  picture_in (shipped kind) None s o style legend wrong
+
+-- The run of two texts fails at this event, or at none, by a judgement of it that is so.
+abbrev pub FailsInTexts : (listing schedule : List ℕ) → Option Event → Type 0
+FailsInTexts listing schedule wrong = (l : Source) × (listing_in listing ≡ Ok l) × FailsUnder l schedule wrong
+
+-- the same of the texts of two files
+abbrev pub FailsInFiles : (listing schedule : Result (List ℕ) FileFault) → Option Event → Type 0
+FailsInFiles listing schedule wrong =
+    (l s : List ℕ) × (listing ≡ Ok l) × (schedule ≡ Ok s) × FailsInTexts l s wrong
+
+-- the same of the listing that is shipped for a kind
+abbrev pub FailsInShipped : KindTag → (schedule : Result (List ℕ) FileFault) → Option Event → Type 0
+FailsInShipped kind schedule wrong = (s : List ℕ) × (schedule ≡ Ok s) × FailsUnder (shipped kind) s wrong
+
+-- What is drawn is a picture of which what is judged to be wrong, and nothing else, is crossed out. A fault comes before
+-- anything is judged, and a want of memory may stand in place of both; no fault is one of writing.
+abbrev pub IsDrawnBy : (Option Event → Type 0) → (Option Event → Result (List ℕ) DrawFault) →
+    Result (List ℕ) DrawFault → Type 0
+IsDrawnBy IsWrong picture (Err fault.Memory) = ⊤
+IsDrawnBy IsWrong picture (Err fault.Write) = ⊥
+IsDrawnBy IsWrong picture drawn = IsPictureBy IsWrong picture drawn
+
+-- the bytes of a picture that a call answers
+abbrev pub bytes_of : Result (Vec ℕ Global) DrawFault → Result (List ℕ) DrawFault
+bytes_of (Ok out) = Ok out.items
+bytes_of (Err f) = Err f
 
 -- a text that the file of this name has, as far as that is known, or why it is not read
 abbrev pub IsTextIn : (files : List ℕ → Option (Result (List ℕ) ErrorKind)) → (name : List ℕ) →
@@ -77,6 +107,7 @@ abbrev pub IsDrawing : (files : List ℕ → Option (Result (List ℕ) ErrorKind
     (style legend : List ℕ) → Result (List ℕ) DrawFault → Type 0
 IsDrawing files (Files listing schedule) o style legend picture =
     (l s : Result (List ℕ) FileFault) × IsTextIn files listing l × IsTextIn files schedule s
-    × (picture ≡ drawn_files l s o style legend)
+    × IsDrawnBy (FailsInFiles l s) (drawn_files l s o style legend) picture
 IsDrawing files (Shipped kind schedule) o style legend picture =
-    (s : Result (List ℕ) FileFault) × IsTextIn files schedule s × (picture ≡ drawn_shipped kind s o style legend)
+    (s : Result (List ℕ) FileFault) × IsTextIn files schedule s
+    × IsDrawnBy (FailsInShipped kind s) (drawn_shipped kind s o style legend) picture

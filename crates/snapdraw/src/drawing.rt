@@ -2,8 +2,9 @@
 ghost use Rattle.std.specs.Prelude.{◌≡◌, Ok, Result, List, ℕ, option_map};
 ghost use Rattle.snap_files.specs.declared.fault.FileFault.{FileFault};
 ghost use Rattle.snap_semantics.specs.Answers.{refused_as};
-ghost use Rattle.snapdraw.specs.Drawing.{Comes, IsDrawing, IsTextIn, drawn_texts, listing_in};
-ghost use Rattle.snapdraw.specs.Drawing.{options_of, picture_in};
+ghost use Rattle.snapdraw.specs.Drawing.{Comes, FailsInTexts, IsDrawing, IsDrawnBy, IsTextIn};
+ghost use Rattle.snapdraw.specs.Drawing.{bytes_of, drawn_texts, listing_in, options_of, picture_in};
+ghost use Rattle.snap_picture.specs.Picture.{FailsUnder};
 ghost use Rattle.snapdraw.specs.Faults.{of_file};
 ghost use Rattle.snapdraw.specs.declared.fault.DrawFault.{DrawFault};
 ghost use Rattle.snapdraw_command_line.specs.Files.{Files, Shipped, view_drawn};
@@ -64,9 +65,9 @@ fn picture_in(
     options: &Options,
     look: &Look<'_>,
 ) -> Result<Vec<u8>, DrawFault>
-    ensures { Comes (λ out. out.items) result (picture_in program.now
-        (option_map (λ t. t.now) listing.entry) schedule.now options.now look.now.style.now
-        look.now.legend.now) }
+    ensures { IsDrawnBy (FailsUnder program.now schedule.now)
+        (picture_in program.now (option_map (λ t. t.now) listing.entry) schedule.now options.now
+        look.now.style.now look.now.legend.now) (bytes_of result) }
 {
     match picture(alloc, program, listing, schedule, options, look) {
         Ok(text) => Ok(text),
@@ -83,8 +84,9 @@ fn draw_texts(
     options: &Options,
     look: &Look<'_>,
 ) -> Result<Vec<u8>, DrawFault>
-    ensures { Comes (λ out. out.items) result (drawn_texts listing.now schedule.now options.now
-        look.now.style.now look.now.legend.now) }
+    ensures { IsDrawnBy (FailsInTexts listing.now schedule.now)
+        (drawn_texts listing.now schedule.now options.now look.now.style.now look.now.legend.now)
+        (bytes_of result) }
 {
     let program = program_in(alloc, listing)?;
     picture_in(alloc, &program, Some(listing), schedule, options, look)
@@ -99,10 +101,8 @@ fn draw_files<F: FileSource>(
     options: &Options,
     look: &Look<'_>,
 ) -> Result<Vec<u8>, DrawFault>
-    ensures { (wanted : Result (List ℕ) DrawFault)
-        × IsDrawing (F.found files.now) (Files listing.now schedule.now) options.now
-        look.now.style.now look.now.legend.now wanted
-        × Comes (λ out. out.items) result wanted }
+    ensures { IsDrawing (F.found files.now) (Files listing.now schedule.now) options.now
+        look.now.style.now look.now.legend.now (bytes_of result) }
 {
     let text = text_in(alloc, files, listing)?;
     let items = text_in(alloc, files, schedule)?;
@@ -128,10 +128,8 @@ fn draw_shipped<F: FileSource>(
     options: &Options,
     look: &Look<'_>,
 ) -> Result<Vec<u8>, DrawFault>
-    ensures { (wanted : Result (List ℕ) DrawFault)
-        × IsDrawing (F.found files.now) (Shipped kind schedule.now) options.now
-        look.now.style.now look.now.legend.now wanted
-        × Comes (λ out. out.items) result wanted }
+    ensures { IsDrawing (F.found files.now) (Shipped kind schedule.now) options.now
+        look.now.style.now look.now.legend.now (bytes_of result) }
 {
     let items = text_in(alloc, files, schedule)?;
     let program = shipped_program(alloc, kind)?;
@@ -145,10 +143,8 @@ pub(crate) fn draw<F: FileSource>(
     drawing: &Drawing<'_>,
     look: &Look<'_>,
 ) -> Result<Vec<u8>, DrawFault>
-    ensures { (wanted : Result (List ℕ) DrawFault)
-        × IsDrawing (F.found files.now) (view_drawn drawing.now.drawn) (options_of drawing.now)
-        look.now.style.now look.now.legend.now wanted
-        × Comes (λ out. out.items) result wanted }
+    ensures { IsDrawing (F.found files.now) (view_drawn drawing.now.drawn) (options_of drawing.now)
+        look.now.style.now look.now.legend.now (bytes_of result) }
 {
     let options = options_of(drawing);
     match drawing.drawn {

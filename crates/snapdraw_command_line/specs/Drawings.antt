@@ -1,13 +1,16 @@
 -- `IsAskedBy`: the picture that matched arguments of snapdraw ask for, by the texts that `clap` has found for its
 -- options.
-use Rattle.std.specs.Prelude.{◌≡◌, List, ℕ, Option, Some, None, codes, option_map}
-use Rattle.clap.specs.Matches.{first_value, matched_of, one_text, raw_values}
+use Rattle.std.specs.Prelude.{◌≡◌, ⊤, List, ℕ, Option, Some, None, codes, option_map}
+use Rattle.clap.specs.Matches.{first_value, found_of, matched_of, one_text, raw_values}
+use Rattle.clap.specs.declared.parser.matches.ArgMatches.{ArgMatches}
 use Rattle.clap.specs.declared.parser.matches.Found.{Found}
 use Rattle.snap_words.specs.declared.kind.KindTag.{KindTag}
 use Rattle.snap_tasks.specs.Request.{kind_of}
 use Rattle.snap_options.specs.Given.{IsFlag, IsNumber}
 use Rattle.snapdraw_command_line.specs.Files.{drawn_of, view_drawn}
 use Rattle.snapdraw_command_line.specs.declared.arguments.Drawing.{Drawing}
+use Rattle.snapdraw_command_line.specs.declared.command_line.CommandLine.{CommandLine}
+use Rattle.snapdraw_command_line.specs.declared.command_line.CommandLine.TheVariants as line
 
 -- the kind of this name, where there is one; and none, where no name is given
 abbrev pub kind_given : Option (List ℕ) → Option (Option KindTag)
@@ -24,3 +27,8 @@ pub record IsAskedBy (found : Found) (d : Drawing) : Type 0 where
   pub from : IsNumber (one_text found (codes "from")) d.from
   pub to : IsNumber (one_text found (codes "to")) d.to
   pub reads : IsFlag (one_text found (codes "reads")) d.reads
+
+-- What a command line asks for, where it asks for a picture, is what matched arguments ask for.
+abbrev pub IsMatched : CommandLine → Type 0
+IsMatched (line.Asks drawing) = (m : ArgMatches) × IsAskedBy (found_of m) drawing
+IsMatched _ = ⊤

@@ -1,5 +1,8 @@
 //! `CommandLine`: what the arguments of snapdraw come to, a picture that is asked for or a text
 //! such as the help.
+ghost use Rattle.std.specs.Prelude.{IfOk};
+ghost use Rattle.snapdraw_command_line.specs.Drawings.{IsMatched};
+
 use crate::arguments::{Drawing, drawing_of};
 use clap::Error;
 use clap::error::ErrorKind;
@@ -19,7 +22,9 @@ pub enum CommandLine<'a> {
 }
 
 /// What is said where the arguments ask for no picture.
-fn explained<'a>(alloc: Global, error: &Error) -> Result<CommandLine<'a>, AllocError> {
+fn explained<'a>(alloc: Global, error: &Error) -> Result<CommandLine<'a>, AllocError>
+    ensures { IfOk result IsMatched }
+{
     if error.kind() == ErrorKind::OutOfMemory {
         return Err(AllocError);
     }
@@ -33,11 +38,18 @@ fn explained<'a>(alloc: Global, error: &Error) -> Result<CommandLine<'a>, AllocE
     }
 }
 
-/// What arguments come to, the program's own name first.
+/// Returns what arguments come to, the program's own name first. The picture that they ask for is
+/// the one that `clap` has found in them; that it finds what stands there is its own promise.
+///
+/// # Errors
+///
+/// Memory ran out.
 pub fn read_arguments<'a>(
     alloc: Global,
     arguments: &'a [String],
-) -> Result<CommandLine<'a>, AllocError> {
+) -> Result<CommandLine<'a>, AllocError>
+    ensures { IfOk result IsMatched }
+{
     match drawing_of(alloc, arguments) {
         Ok(drawing) => Ok(CommandLine::Asks(drawing)),
         Err(error) => explained(alloc, &error),

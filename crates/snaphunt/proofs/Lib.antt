@@ -1,0 +1,2 @@
+-- The proofs of snaphunt, by their modules.
+pub mod Searches

@@ -9,40 +9,25 @@ use std::time::Instant;
 #[derive(Drop)]
 pub(crate) struct Progress<'r> {
     rt: &'r HostRuntime,
-    /// How many runs are asked for.
-    all: u64,
-    /// When the hunt began, where somebody is told.
+    /// When the program began, where somebody is told.
     begun: Option<Instant>,
     /// How many seconds had passed when it was told last.
     told: u64,
 }
 
 impl<'r> Progress<'r> {
-    /// Before the first of so many runs.
-    pub(crate) fn before(rt: &'r HostRuntime, all: u64) -> Progress<'r> {
+    /// Before the first run.
+    pub(crate) fn new(rt: &'r HostRuntime) -> Progress<'r> {
         let begun = if rt.stderr().is_terminal() {
             Instant::now(rt).ok()
         } else {
             None
         };
-        Progress {
-            rt,
-            all,
-            begun,
-            told: 0,
-        }
-    }
-
-    /// Ends the line on which it was told.
-    pub(crate) fn end(&self) {
-        if self.told > 0 {
-            let _said = eprintln!(self.rt; "");
-        }
+        Progress { rt, begun, told: 0 }
     }
 
     /// Tells it after so many seconds.
-    fn tell(&self, runs: u64, seconds: u64) {
-        let all = self.all;
+    fn tell(&self, runs: u64, all: u64, seconds: u64) {
         let pace = (runs / seconds.max(1)).max(1);
         let left = all.saturating_sub(runs) / pace;
         let _said = eprint!(self.rt;
@@ -52,7 +37,7 @@ impl<'r> Progress<'r> {
 }
 
 impl Watcher for Progress<'_> {
-    fn tried(&mut self, runs: u64) {
+    fn tried(&mut self, runs: u64, all: u64) {
         let Some(begun) = self.begun else {
             return;
         };
@@ -61,7 +46,14 @@ impl Watcher for Progress<'_> {
         };
         if passed.as_secs() > self.told {
             self.told = passed.as_secs();
-            self.tell(runs, self.told);
+            self.tell(runs, all, self.told);
+        }
+    }
+
+    /// Ends the line on which it was told.
+    fn ended(&mut self) {
+        if self.told > 0 {
+            let _said = eprintln!(self.rt; "");
         }
     }
 }

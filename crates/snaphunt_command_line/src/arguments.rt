@@ -20,10 +20,21 @@ const VERSION: &str = "0.1.0";
 const KINDS: &[&str] = &["seq", "bit", "multi"];
 
 /// The paces that `--pace` takes.
-const PACES: &[&str] = &["mixed", "bursts", "interruptions", "rounds", "coins"];
+const PACES: &[&str] = &[
+    "mixed",
+    "bursts",
+    "interruptions",
+    "rounds",
+    "witnesses",
+    "duels",
+    "coins",
+];
 
 /// The failures that `--fails` takes.
-const FAILURES: &[&str] = &["point", "trap", "steps"];
+const FAILURES: &[&str] = &["linearizable", "point", "trap", "steps"];
+
+/// The failures that are hunted where nothing is said.
+const USUAL: &[&str] = &["linearizable", "trap", "steps"];
 
 /// The most runs of a hunt.
 const MAX_RUNS: u64 = 1_000_000_000_000;
@@ -31,13 +42,19 @@ const MAX_RUNS: u64 = 1_000_000_000_000;
 /// The greatest depth.
 const MAX_DEPTH: u64 = 100;
 
-/// What a command line asks for: where the listing is, and what is hunted in its runs.
+/// The listing in whose runs is hunted.
+#[derive(Clone, Copy)]
+pub enum Listed<'a> {
+    /// The one in the file of this name.
+    File(&'a str),
+    /// The one that is shipped for this kind.
+    Shipped(KindTag),
+}
+
+/// What a command line asks for: the listing, and what is hunted in its runs.
 #[derive(Clone, Copy)]
 pub struct Search<'a> {
-    /// The file of the listing.
-    pub file: Option<&'a str>,
-    /// The kind whose shipped listing it is.
-    pub shipped: Option<KindTag>,
+    pub listed: Listed<'a>,
     pub asked: Asked,
 }
 
@@ -132,7 +149,7 @@ fn with_failures<'a>(alloc: Global, command: Command<'a>) -> Result<Command<'a>,
         .value_name("WHAT")
         .value_parser(FAILURES)
         .value_delimiter(',')
-        .help("What is hunted; all three, where nothing is said");
+        .help("What is hunted; linearizable,trap,steps where nothing is said");
     command
         .arg(fails)?
         .arg(number(
@@ -202,11 +219,12 @@ fn step_bound(most: u64, asked: bool) -> Option<StepBound> {
     }
 }
 
-/// Whether a failure is among the words behind `--fails`, or there are none.
+/// Whether a failure is among the words behind `--fails`, or among the usual ones where there are
+/// none.
 fn is_asked(words: Option<&[&str]>, failure: &str) -> bool {
     match words {
         Some(words) => words.contains(&failure),
-        None => true,
+        None => USUAL.contains(&failure),
     }
 }
 
@@ -216,11 +234,11 @@ fn wanted_of(arguments: &ArgMatches<'_>) -> Option<Wanted> {
     let steps = number_of(arguments, "steps")?;
     let words = arguments.get_raw("fails");
     Some(Wanted {
+        linearizable: is_asked(words, "linearizable"),
         point: is_asked(words, "point"),
         trap: is_asked(words, "trap"),
         steps: step_bound(steps, is_asked(words, "steps")),
         collects: if collects == 0 { None } else { Some(collects) },
-        only: None,
     })
 }
 
@@ -236,6 +254,8 @@ fn plan_of(arguments: &ArgMatches<'_>) -> Option<Plan> {
         "bursts" => Pace::Bursts,
         "interruptions" => Pace::Interruptions,
         "rounds" => Pace::Rounds,
+        "witnesses" => Pace::Witnesses,
+        "duels" => Pace::Duels,
         "coins" => Pace::Coins,
         _ => Pace::Mixed,
     };
@@ -251,6 +271,15 @@ fn plan_of(arguments: &ArgMatches<'_>) -> Option<Plan> {
     Some(plan.with_depth(number_of(arguments, "depth")))
 }
 
+/// The listing that is asked for: a file, or a shipped one, and not both.
+fn listed_of<'a>(file: Option<&'a str>, shipped: Option<KindTag>) -> Option<Listed<'a>> {
+    match (file, shipped) {
+        (Some(name), None) => Some(Listed::File(name)),
+        (None, Some(kind)) => Some(Listed::Shipped(kind)),
+        _ => None,
+    }
+}
+
 /// What arguments ask for.
 fn search_of<'a>(arguments: &ArgMatches<'a>) -> Option<Search<'a>>
     ensures { IfSome result IsSearch }
@@ -264,8 +293,7 @@ fn search_of<'a>(arguments: &ArgMatches<'a>) -> Option<Search<'a>>
         return None;
     }
     Some(Search {
-        file: arguments.get_str("LISTING"),
-        shipped,
+        listed: listed_of(arguments.get_str("LISTING"), shipped)?,
         asked: Asked {
             plan: plan_of(arguments)?,
             wanted: wanted_of(arguments)?,
@@ -283,8 +311,8 @@ pub fn search_of_arguments<'a>(alloc: Global, arguments: &'a [String]) -> Result
     let mut command = command(alloc)?;
     let matches = command.try_get_matches_from_mut(arguments)?;
     match search_of(&matches) {
-        Some(search) if search.file.is_some() != search.shipped.is_some() => Ok(search),
-        _ => Err(command.error(
+        Some(search) => Ok(search),
+        None => Err(command.error(
             ErrorKind::MissingRequiredArgument,
             "a listing is wanted: a file, or a kind behind --shipped",
         )?),

@@ -17,6 +17,8 @@ pub enum CommandLine<'a> {
     Help(String),
     /// They ask for nothing that the program does: why, as text.
     Wrong(String),
+    /// They are no text.
+    NoText,
 }
 
 /// What is said where the arguments ask for no hunt.

@@ -4,5 +4,5 @@
 mod arguments;
 mod command_line;
 
-pub use arguments::Search;
+pub use arguments::{Listed, Search};
 pub use command_line::{CommandLine, read_arguments};

@@ -2,3 +2,4 @@
 pub mod RunSamples
 pub mod KindSamples
 pub mod OutputSamples
+pub mod SessionSamples

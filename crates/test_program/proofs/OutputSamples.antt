@@ -1,7 +1,7 @@
 -- Sample outputs of the program for the text of a small listing and its image: checked, assembled, listed back and
 -- upgraded.
 use Rattle.std.specs.Fmt.{digits}
-use Rattle.std.specs.Prelude.{◌≡◌, ℕ, List, take, Ok, Err, codes, refl}
+use Rattle.std.specs.Prelude.{◌≡◌, [], ℕ, List, take, Ok, Err, codes, refl}
 use Rattle.snap_image_format.specs.Assembly.{assembled, listed, upgraded}
 use Rattle.snap_semantics.specs.Comments.{commented_of}
 use Rattle.snap_semantics.specs.HeaderForms as headers
@@ -23,12 +23,12 @@ small_text = codes "kind seq\nscalar\nrow\nwords\nview s\nscan 1\nupdate 2\n1: r
 
 -- checked, assembled, listed back, and upgraded; an image that is cut, and a text that is empty
 outputs :
-    (output_of task.Check small_text ≡ Ok (codes "ok: seq, 2 lines\n"))
-    × (output_of task.Assemble small_text ≡ Ok small_image)
-    × (output_of task.List small_image ≡ Ok small_text)
-    × (output_of task.Upgrade first_image ≡ Ok small_image)
-    × (output_of task.List (take 4 small_image) ≡ Err (refusal.Image Truncated))
-    × (output_of task.Check (codes "") ≡ Err (refusal.Listing (BadHeader 1)))
+    (output_of [] task.Check small_text ≡ Ok (codes "ok: seq, 2 lines\n"))
+    × (output_of [] task.Assemble small_text ≡ Ok small_image)
+    × (output_of [] task.List small_image ≡ Ok small_text)
+    × (output_of [] task.Upgrade first_image ≡ Ok small_image)
+    × (output_of [] task.List (take 4 small_image) ≡ Err (refusal.Image Truncated))
+    × (output_of [] task.Check (codes "") ≡ Err (refusal.Listing (BadHeader 1)))
 unfolding digits output_of check_of assembled listed upgraded commented_of listing_of listing_of_lines header_of
     forms.name_at forms.number_index forms.place_index forms.identifier_index forms.index_at forms.place_at
     forms.named_place_at forms.arg_term forms.row_term forms.field_term forms.handshake_term forms.index_term

@@ -1,7 +1,16 @@
 -- `shipped_listings_have_no_failing_run` of snap_hunt_laws (src/lib.rt): the proof of what its contract says.
--- No run of U, B and M has a scan without a point, a trap, or an operation of more steps than are promised.
-use Rattle.snap_hunt_laws.proofs.Nothing.{finds_nothing}
+-- Every run of U, B and M is linearizable, each of its scans has a point, and it has no trap, and no operation of more
+-- steps than are promised.
+use Rattle.snap_hunt_laws.proofs.Nothing.{finds_nothing, hunts_find_none}
 use Rattle.snap_hunt_laws.proofs.shipped_listings_have_no_failing_run.Goals as goal
 
-pub returns : goal.returns
-returns c = λ g. finds_nothing c.steps_are_of_operations.ensures g (c.shipped_runs_keep_promises.ensures g)
+pub returns-clause-nothing : goal.returns-clause-nothing
+returns-clause-nothing c = λ g.
+    finds_nothing c.steps_are_of_operations.ensures g (c.shipped_runs_keep_promises.ensures g)
+    (c.shipped_runs_are_seen_linearizable.ensures g)
+
+pub returns-clause-hunts : goal.returns-clause-hunts
+returns-clause-hunts c = λ g.
+    hunts_find_none g
+    (finds_nothing c.steps_are_of_operations.ensures g (c.shipped_runs_keep_promises.ensures g)
+    (c.shipped_runs_are_seen_linearizable.ensures g))

@@ -2,7 +2,7 @@
 -- The turns of a plan, one after another.
 use Rattle.std.proofs.Common.{◌+◌, ◌*◌, ◌<◌, ◌≤◌, length, arith}
 use Rattle.snap_chance.proofs.Turning.{are_turn, longer, still_there, one_more}
-use Rattle.snap_chance.specs.Turns.{turn_items}
+use Rattle.snap_chance.specs.Paces.{turn_items}
 use Rattle.snap_chance.proofs.schedules.turns_of.Goals as goal
 
 pub loop-turn-preserved : goal.loop-turn-preserved

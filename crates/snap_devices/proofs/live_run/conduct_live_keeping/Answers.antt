@@ -28,14 +28,14 @@ returns-in_err-found g c =
           (g.W.ByteSink.taken c.args.sink.now) _ _ _
           (passed_on answer (of_live_fault why) c.from_residual-in_err-found.ensures)
           c.as_slice.ensures.value read.0 read.1
-          (why_live why may c.args.subject c.args.limit c.as_slice.result.now c.in_err-found.ensures),
+          (why_live why may c.args.subject c.args.limit c.as_slice.result.now c.in_err-found.ensures.answer),
     )
 
 pub returns-in_err-write_all : goal.returns-in_err-write_all
 returns-in_err-write_all g c =
     let read = c.in_ok-input.ensures in
     let may = g.G.Gate.may_answer c.args.gate.now in
-    let found = c.in_ok-found.ensures in
+    let found = c.in_ok-found.ensures.answer in
     let answer = c.from_residual-in_err-write_all.result in let fault = c.in_err-write_all.field-0.0 in (
       c.in_ok-input.input.items,
       is_kept (done_of answer) c.in_ok-input.input.items,
@@ -58,7 +58,7 @@ pub returns : goal.returns
 returns g c =
     let read = c.in_ok-input.ensures in
     let may = g.G.Gate.may_answer c.args.gate.now in
-    let found = c.in_ok-found.ensures in
+    let found = c.in_ok-found.ensures.answer in
     let uncalled = c.in_ok-found.found.uncalled in (
       c.in_ok-input.input.items,
       is_kept (Ok tt) c.in_ok-input.input.items,

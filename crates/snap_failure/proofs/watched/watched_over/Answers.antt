@@ -1,6 +1,6 @@
 -- `watched_over` of snap_failure (src/watched.rt): the proof of what its contract says.
 -- The record of a program over a whole schedule, and the first operation that takes more than so many steps.
-use Rattle.snap_survey.proofs.Surveying.{next_fits, one_more}
+use Rattle.snap_failure.proofs.Doing.{next_fits, one_more}
 use Rattle.snap_failure.proofs.Watching.{has_room, one_watched}
 use Rattle.snap_failure.proofs.watched.watched_over.Goals as goal
 

@@ -2,7 +2,7 @@
 -- The record of a program over a whole schedule, and the first operation that takes more than so many steps.
 use Rattle.std.proofs.Common.{length}
 use Rattle.snap_runs.specs.Run.{run_over}
-use Rattle.snap_survey.proofs.Surveying.{Going}
+use Rattle.snap_failure.proofs.Doing.{Going}
 use Rattle.snap_failure.specs.Watching.{Watches}
 use Rattle.snap_failure.proofs.watched.watched_over.Given as goal
 

@@ -1,5 +1,5 @@
 -- `enter_node` of snap_judge (src/search.rt).
-use Rattle.std.proofs.Common.{refl, rules, subst, sym}
+use Rattle.std.proofs.Common.{false, refl, rules, subst, sym}
 use Rattle.std.specs.List.{All}
 use Rattle.std.proofs.lemmas.List.Elements.{All-push}
 use Rattle.snap_judge.specs.declared.config.Node.{Node}
@@ -20,6 +20,7 @@ returns-clause-trail c =
     let node : Node = record {
       config = c.args.entered.config;
       depth = c.len-depth.result;
+      begun = false;
       next = 0;
       ending = c.in-Some.ending;
     } in

@@ -1,6 +1,6 @@
--- `retry` of snap_judge (src/search.rt): what its loop keeps, and that places go.
-use Rattle.std.proofs.Common.{◌≡◌, ◌-◌, length}
-use Rattle.snap_judge.specs.Nodes.{HasNode, IsTrail, KeepsTrailCounts}
+-- `retry` of snap_judge (src/search.rt): what its loop keeps, and that tries go.
+use Rattle.std.proofs.Common.{◌≡◌}
+use Rattle.snap_judge.specs.Nodes.{HasNode, IsTrail, KeepsTrailCounts, tries_left}
 use Rattle.snap_judge.proofs.search.retry.Given as goal
 
 abbrev pub invariant-loop-node : goal.invariant-loop-node
@@ -13,4 +13,4 @@ invariant-loop-node l = record {
 }
 
 abbrev pub decreases-loop-node : goal.decreases-loop-node
-decreases-loop-node l = length l.node.config.slots.items - l.node.next
+decreases-loop-node l = tries_left l.node

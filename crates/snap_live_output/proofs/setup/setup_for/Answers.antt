@@ -6,8 +6,8 @@ use Rattle.snap_input.proofs.Parting.{of_parts}
 use Rattle.snap_live_output.specs.LiveOutput.{setup_text}
 use Rattle.snap_live_output.proofs.setup.setup_for.Goals as goal
 
-pub returns : goal.returns
-returns c =
+pub returns-clause-setup : goal.returns-clause-setup
+returns-clause-setup c =
     of_parts (λ s. s) c.setup_texts.result setup_text c.args.subject 1 (parts_of c.args.input.now)
     (map (λ part. part.now) c.in_ok-parts.parts.items)
     (map (λ text. text.now) c.texts_for-texts.result.now) c.in_ok-program.program

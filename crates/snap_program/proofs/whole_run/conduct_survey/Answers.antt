@@ -45,9 +45,11 @@ returns-in_err-write_all g c =
           (g.R.ByteSource.left c.args.source.now) (g.R.ByteSource.left c.read_all.new.source)
           (g.W.ByteSink.taken c.args.sink.now) (g.W.ByteSink.taken c.write_all.new.sink) _ _ _
           c.as_slice.ensures.value c.as_slice-2.ensures.value read.0 read.1 (
-            c.in_ok-found.ensures.output,
-            nothing_found (λ clean. clean_of c.args.subject c.as_slice.result.now ≡ Ok clean) answer fault
-                c.from_residual-in_err-write_all.ensures,
+            c.in_ok-found.ensures.output.0,
+            c.in_ok-found.ensures.output.1,
+            c.in_ok-found.ensures.output.2,
+            nothing_found (λ clean. clean_of c.in_ok-found.ensures.output.0 c.args.subject c.as_slice.result.now ≡ Ok clean)
+                answer fault c.from_residual-in_err-write_all.ensures,
           )
           (stops answer fault c.as_slice-2.result.now (g.W.ByteSink.taken c.args.sink.now)
           (g.W.ByteSink.taken c.write_all.new.sink) _ _
@@ -66,5 +68,5 @@ returns g c =
           (g.R.ByteSource.has_failed c.read_all.new.source) (g.W.ByteSink.has_failed c.write_all.new.sink)
           (g.W.ByteSink.is_stalled c.write_all.new.sink)
           c.as_slice.ensures.value c.as_slice-2.ensures.value read.0 read.1
-          (c.in_ok-found.ensures.output, c.in_ok-found.ensures.clean) c.in_ok-write_all.ensures,
+          c.in_ok-found.ensures.output c.in_ok-write_all.ensures,
     )

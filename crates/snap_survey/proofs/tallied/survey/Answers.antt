@@ -1,8 +1,7 @@
 -- `survey` of snap_survey (src/tallied.rt): the proof of what its contract says.
-use Rattle.std.proofs.Common.{◌≡◌, IfOk, subst}
+use Rattle.std.proofs.Common.{IfOk, subst}
 use Rattle.snap_runs.specs.Run.{Run}
-use Rattle.snap_survey.specs.declared.findings.Survey.{Survey}
-use Rattle.snap_survey.specs.Survey.{survey_of}
+use Rattle.snap_survey.specs.Survey.{IsSurveyOf}
 use Rattle.snap_survey.proofs.Surveying.{at_end}
 use Rattle.snap_survey.proofs.tallied.survey.Goals as goal
 
@@ -12,4 +11,4 @@ returns g c =
     let whole =
     at_end c.args.program.now p.shape p.items c.loop-item.left c.loop-item.tallied.record c.loop-item.invariant.0
     c.in_default.ensures.steps.0 in
-    subst (λ (r : Run). IfOk c.survey.result (λ (s : Survey). s ≡ survey_of r)) whole c.survey.ensures
+    subst (λ (r : Run). IfOk c.judged.result (IsSurveyOf r)) whole c.judged.ensures

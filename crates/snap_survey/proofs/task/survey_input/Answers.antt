@@ -2,26 +2,13 @@
 -- What the runs of a listing under many schedules came to, and whether each of them is clean.
 use Rattle.std.proofs.Common.{map, sym}
 use Rattle.snap_input.specs.Parts.{parts_of}
-use Rattle.snap_survey.specs.Surveys.{are_clean, clean_runs, survey_text, surveyed}
-use Rattle.snap_input.proofs.ManySchedules.{of_schedules}
+use Rattle.snap_survey.proofs.Judging.{of_input}
 use Rattle.snap_survey.proofs.task.survey_input.Goals as goal
 
 pub returns-clause-output : goal.returns-clause-output
-unfolding surveyed
 returns-clause-output c =
-    of_schedules (λ out. out.text.items) c.survey_runs.result survey_text c.args.subject (parts_of c.args.input.now)
-    (map (λ part. part.now) c.in_ok-parts.parts.items)
+    of_input c.args.subject (parts_of c.args.input.now) (map (λ part. part.now) c.in_ok-parts.parts.items)
     (map (λ text. text.now) c.texts_for-texts.result.now) c.in_ok-program.program
     (sym c.in_ok-check_schedules.ensures) c.in_ok-parts.ensures
     (rw (sym c.as_slice.ensures.value) c.in_ok-program.ensures)
-    (rw (sym c.as_slice-2.ensures.value) c.texts_for-texts.ensures) c.survey_runs.ensures.text
-
-pub returns-clause-clean : goal.returns-clause-clean
-unfolding clean_runs
-returns-clause-clean c =
-    of_schedules (λ out. out.clean) c.survey_runs.result are_clean c.args.subject (parts_of c.args.input.now)
-    (map (λ part. part.now) c.in_ok-parts.parts.items)
-    (map (λ text. text.now) c.texts_for-texts.result.now) c.in_ok-program.program
-    (sym c.in_ok-check_schedules.ensures) c.in_ok-parts.ensures
-    (rw (sym c.as_slice.ensures.value) c.in_ok-program.ensures)
-    (rw (sym c.as_slice-2.ensures.value) c.texts_for-texts.ensures) c.survey_runs.ensures.clean
+    (rw (sym c.as_slice-2.ensures.value) c.texts_for-texts.ensures) c.survey_runs.result c.survey_runs.ensures

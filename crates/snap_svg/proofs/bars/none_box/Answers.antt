@@ -6,13 +6,11 @@ use Rattle.snap_svg.proofs.bars.none_box.Goals as goal
 pub returns : goal.returns
 unfolding none_box
 returns c = λ well.
-    let e9 = c.push-3.ensures well in
-    let e8 = c.words_head.ensures e9.0 in
-    let e7 = c.line_text-2.ensures e8.0 in
-    let e6 = c.line_text.ensures e7.0 in
+    let e7 = c.push-3.ensures well in
+    let e6 = c.words_head.ensures e7.0 in
     let e5 = c.push-2.ensures e6.0 in
     let e4 = c.edges_text.ensures e5.0 in
     let e3 = c.push.ensures e4.0 in
     let e2 = c.span_text.ensures e3.0 in
     let e1 = c.group_head.ensures e2.0 in
-    (e1.0, rw (e9.1, e8.1, e7.1, e6.1, e5.1, e4.1, e3.1, e2.1, e1.1) (simp append_assoc))
+    (e1.0, rw (e7.1, e6.1, e5.1, e4.1, e3.1, e2.1, e1.1) (simp append_assoc))

@@ -1,0 +1,14 @@
+-- `certify_input` of snap_certify (src/task.rt): the proof of what its contract says.
+-- The certification of a listing under a schedule.
+use Rattle.std.proofs.Common.{map, sym}
+use Rattle.snap_input.specs.Parts.{parts_of}
+use Rattle.snap_certify.proofs.Judging.{of_input}
+use Rattle.snap_certify.proofs.task.certify_input.Goals as goal
+
+pub returns-clause-output : goal.returns-clause-output
+returns-clause-output c =
+    of_input (λ out. out.items) c.args.subject (parts_of c.args.input.now)
+    (map (λ part. part.now) c.in_ok-parts.parts.items)
+    (map (λ text. text.now) c.texts_for-texts.result.now) c.in_ok-program.program
+    c.in_ok-parts.ensures.parts (rw (sym c.as_slice.ensures.value) c.in_ok-program.ensures)
+    (rw (sym c.as_slice-2.ensures.value) c.texts_for-texts.ensures) c.certify_texts.result c.certify_texts.ensures

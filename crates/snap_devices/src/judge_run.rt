@@ -1,0 +1,34 @@
+//! `conduct_judge`: a whole run that judges: it reads an input from a byte source and writes what is
+//! said of it, and nothing else, to a byte sink.
+ghost use Rattle.std.specs.Prelude.{◌≡◌, false};
+ghost use Rattle.snap_devices.specs.WholeRun.{ConductsJudge};
+
+use crate::fault::ConductFault;
+use crate::whole_texts::{read_all, write_all};
+use snap_judge_task::{Linearizability, judge_input};
+use snap_streams::{ByteSink, ByteSource};
+use snap_tasks::JudgeRequest;
+use std::alloc::Global;
+
+/// Reads the input, judges what it gives, writes what is said of it and nothing else, and answers
+/// the word for it. The input is kept: where it is refused, it was kept.
+pub fn conduct_judge<R: ByteSource, W: ByteSink>(
+    alloc: Global,
+    request: &JudgeRequest,
+    source: &mut R,
+    sink: &mut W,
+    kept: &mut Vec<u8>,
+) -> Result<Linearizability, ConductFault>
+    requires source { R.has_failed source.old ≡ false }
+    requires sink { W.has_failed sink.old ≡ false }
+    requires goes_on { W.is_stalled sink.old ≡ false }
+    ensures { ConductsJudge request.now kept.new.items result (R.left source.old)
+        (R.left source.new) (W.taken sink.old) (W.taken sink.new)
+        (R.has_failed source.new) (W.has_failed sink.new) (W.is_stalled sink.new) }
+{
+    let input = read_all(alloc, source)?;
+    *kept = input;
+    let found = judge_input(alloc, request, kept.as_slice())?;
+    write_all(sink, found.text.as_slice())?;
+    Ok(found.word)
+}

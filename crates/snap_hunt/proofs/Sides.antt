@@ -1,0 +1,147 @@
+-- What is found in the runs of a block stands at their places, whichever thread found it and when; and the first of them
+-- in which something is found.
+use Rattle.std.proofs.Common.{◌≡◌, ◌⊎◌, inl, inr, ℕ, zero, suc, ◌+◌, ◌-◌, ◌<◌, ◌≤◌, Bool, true, false, List, [], ◌∷◌}
+use Rattle.std.proofs.Common.{Option, Some, None, is_some, length, map, nat_lt, Vec, Result, Ok, Err, Bor, refl, sym, ap, subst, arith}
+use Rattle.std.specs.Prelude.{IfOk, MatchResult, slice_index_or}
+use Rattle.std.specs.List.{AllZip, Contains, range_with_len}
+use Rattle.std.specs.Global.{Global}
+use Rattle.rayon.proofs.ToStd.{slice-AllZip}
+use Rattle.snap_runs.proofs.Computing.{lt_from, not_lt}
+use Rattle.snap_semantics.specs.Source.{Source}
+use Rattle.snap_chance.specs.Plan.{Plan}
+use Rattle.snap_failure.specs.Finding.{Finds}
+use Rattle.snap_failure.specs.declared.failures.Failure.{Failure}
+use Rattle.snap_failure.specs.declared.failures.Wanted.{Wanted}
+use Rattle.snap_hunt.specs.Hunt.{IsFirst, IsFirstIn, NothingBefore, run_of}
+use Rattle.snap_hunt.specs.declared.found.Found.{Found}
+
+below_or_not : (j from : ℕ) → (j < from) ⊎ (from ≤ j)
+below_or_not j from = if_so (nat_lt j from) refl where
+  if_so : (b : Bool) → nat_lt j from ≡ b → (j < from) ⊎ (from ≤ j)
+  if_so true e = inl (lt_from j from e)
+  if_so false e = inr (not_lt j from e)
+
+-- where each answer is a value that is right for what stands at its place, so is each of the values
+in_order : {S R : Type 0} (E : Type 0) (Q : S → R → Type 0) (xs : List S) (ys : List R) →
+    AllZip {A = S} {B = Result R E} (λ x r. IfOk r (Q x)) xs (map (λ v. Ok v) ys) → AllZip Q xs ys
+in_order E Q [] [] h = tt
+in_order E Q [] (y ∷ ys) h = absurd h
+in_order E Q (x ∷ xs) [] h = absurd h
+in_order E Q (x ∷ xs) (y ∷ ys) h = (h.0, in_order E Q xs ys h.1)
+
+-- what is collected from answers that are each as it should be
+gathered : {S R E : Type 0} (Q : S → R → Type 0) (xs : List S) (answers : List (Result R E))
+    (result : Result (Vec R Global) E)
+    → AllZip (λ x r. IfOk r (Q x)) xs answers
+    → MatchResult result (λ v. (ys : List R) × (answers ≡ map (λ v. Ok v) ys) × (v.items ≡ ys))
+    (λ e. Contains answers (Err e))
+    → IfOk result (λ v. AllZip Q xs v.items)
+gathered {S = S} {R = R} {E = E} Q xs answers (Ok v) each all =
+    let P : List (Result R E) → Type 0 = λ l. AllZip (λ x r. IfOk r (Q x)) xs l in
+    subst (λ (ys : List R). AllZip Q xs ys) (sym all.2) (in_order E Q xs all.0 (subst P all.1 each))
+gathered Q xs answers (Err e) each all = tt
+
+-- the same of a chain over references that show the items, whose closure has what it reads by another way
+pub side_by_side : {P S R E : Type 0} (Q : P → S → R → Type 0) (held read : P) → held ≡ read
+    → (seen : List (Bor S)) (xs : List S) → map (λ (z : Bor S). z.now) seen ≡ xs
+    → (answers : List (Result R E)) (result : Result (Vec R Global) E)
+    → AllZip {A = Bor S} {B = Result R E} (λ z r. IfOk r (Q held z.now)) seen answers
+    → MatchResult result (λ v. (ys : List R) × (answers ≡ map (λ v. Ok v) ys) × (v.items ≡ ys))
+    (λ e. Contains answers (Err e))
+    → IfOk result (λ v. AllZip (Q read) xs v.items)
+side_by_side {S = S} {R = R} Q held read same seen xs shown answers result each all =
+    let zipped = slice-AllZip seen xs shown (λ x r. IfOk r (Q held x)) answers each in
+    subst (λ p. IfOk result (λ v. AllZip (Q p) xs v.items)) same (gathered (Q held) xs answers result zipped all)
+
+-- as many as there are numbers
+pub as_many : (Q : ℕ → Option Failure → Type 0) (from count : ℕ) (found : List (Option Failure)) →
+    AllZip Q (range_with_len from count) found → length found ≡ count
+as_many Q from zero [] h = refl
+as_many Q from zero (o ∷ found) h = absurd h
+as_many Q from (suc count) [] h = absurd h
+as_many Q from (suc count) (o ∷ found) h = ap suc (as_many Q (from + 1) count found h.1)
+
+at_place : (Q : ℕ → Option Failure → Type 0) (from count : ℕ) (found : List (Option Failure)) (j : ℕ) →
+    AllZip Q (range_with_len from count) found → j < length found → Q (from + j) (slice_index_or found j None)
+at_place Q from zero [] j h lt = absurd (omega arith)
+at_place Q from zero (o ∷ found) j h lt = absurd h
+at_place Q from (suc count) [] j h lt = absurd h
+at_place Q from (suc count) (o ∷ found) zero h lt =
+    let e : from ≡ from + zero = omega arith in
+    subst (λ k. Q k o) e h.0
+at_place Q from (suc count) (o ∷ found) (suc j) h lt =
+    let e : from + 1 + j ≡ from + suc j = omega arith in
+    let below : j < length found = omega arith in
+    subst (λ k. Q k (slice_index_or found j None)) e (at_place Q (from + 1) count found j h.1 below)
+
+-- nothing is found in a run at whose place nothing stands
+nothing_at : (l : Source) (p : Plan) (w : Wanted) (seed from count : ℕ) (found : List (Option Failure)) (j : ℕ) →
+    AllZip (λ k o. Finds w (run_of l p seed k) o) (range_with_len from count) found → from ≤ j → j - from < length found
+    → slice_index_or found (j - from) None ≡ None → Finds w (run_of l p seed j) None
+nothing_at l p w seed from count found j h le lt none =
+    let e : from + (j - from) ≡ j = omega arith in
+    subst (λ (k : ℕ). Finds w (run_of l p seed k) None) e
+    (subst (λ (o : Option Failure). Finds w (run_of l p seed (from + (j - from))) o) none
+    (at_place (λ k o. Finds w (run_of l p seed k) o) from count found (j - from) h lt))
+
+-- the first of them that is a failure is the first run of the block that fails
+pub first_of_block : (l : Source) (p : Plan) (w : Wanted) (seed from count : ℕ) (runs : List ℕ)
+    (found : List (Option Failure)) (first : Option Found) → runs ≡ range_with_len from count →
+    AllZip (λ k o. Finds w (run_of l p seed k) o) runs found → IsFirstIn from found first →
+    IsFirst l p w seed from (from + count) first
+first_of_block l p w seed from count runs found None is all none = λ j le lt.
+    let h = subst (λ (ks : List ℕ). AllZip (λ k o. Finds w (run_of l p seed k) o) ks found) is all in
+    let many = as_many (λ k o. Finds w (run_of l p seed k) o) from count found h in
+    let below : j - from < length found = omega (arith, many, le, lt) in
+    nothing_at l p w seed from count found j h le below (none (j - from) below)
+first_of_block l p w seed from count runs found (Some x) is all first =
+    let h = subst (λ (ks : List ℕ). AllZip (λ k o. Finds w (run_of l p seed k) o) ks found) is all in
+    let many = as_many (λ k o. Finds w (run_of l p seed k) o) from count found h in
+    let k = first.0 in
+    let at : x.run ≡ from + k = first.1 in
+    let there : k < length found = first.2 in (
+      omega (arith, at),
+      omega (arith, at, there, many),
+      λ j le lt.
+          let sooner : j - from < k = omega (arith, at, le, lt) in
+          let below : j - from < length found = omega (arith, sooner, there) in
+          nothing_at l p w seed from count found j h le below (first.4 (j - from) sooner),
+      subst (λ (m : ℕ). Finds w (run_of l p seed m) (Some x.failure)) (sym at)
+          (subst (λ (o : Option Failure). Finds w (run_of l p seed (from + k)) o) first.3
+          (at_place (λ m o. Finds w (run_of l p seed m) o) from count found k h there)),
+    )
+
+-- nothing before a block and nothing in it is nothing before its end
+pub none_more : (l : Source) (p : Plan) (w : Wanted) (seed from to : ℕ) (r : Option Found) →
+    NothingBefore l p w seed 0 from → IsFirst l p w seed from to r → is_some r ≡ false → NothingBefore l p w seed 0 to
+none_more l p w seed from to (Some x) none first is = absurd cc
+none_more l p w seed from to None none first is = λ j le lt. decide j lt (below_or_not j from) where
+  decide : (j : ℕ) → j < to → (j < from) ⊎ (from ≤ j) → Finds w (run_of l p seed j) None
+  decide j lt (inl below) = none j (omega arith) below
+  decide j lt (inr after) = first j after lt
+
+-- and the first of a block, with nothing before it, is the first of all
+pub found_first : (l : Source) (p : Plan) (w : Wanted) (seed from to end : ℕ) (r : Option Found) → to ≤ end →
+    NothingBefore l p w seed 0 from → IsFirst l p w seed from to r → is_some r ≡ true → IsFirst l p w seed 0 end r
+found_first l p w seed from to end None inside none first some = absurd cc
+found_first l p w seed from to end (Some x) inside none first some =
+    let le : from ≤ x.run = first.0 in
+    let lt : x.run < to = first.1 in (
+      omega arith,
+      omega (arith, lt, inside),
+      λ j zero_le below. decide j below (below_or_not j from),
+      first.3,
+    ) where
+      decide : (j : ℕ) → j < x.run → (j < from) ⊎ (from ≤ j) → Finds w (run_of l p seed j) None
+      decide j below (inl before) = none j (omega arith) before
+      decide j below (inr after) = first.2 j after below
+
+-- none so far, and none at the next place
+pub none_further : (found : List (Option Failure)) (k : ℕ) → ((j : ℕ) → j < k → slice_index_or found j None ≡ None)
+    → slice_index_or found k None ≡ None → (j : ℕ) → j < suc k → slice_index_or found j None ≡ None
+none_further found k before here j lt = decide (below_or_not j k) where
+  decide : (j < k) ⊎ (k ≤ j) → slice_index_or found j None ≡ None
+  decide (inl below) = before j below
+  decide (inr after) =
+      let same : k ≡ j = omega (arith, lt, after) in
+      subst (λ (i : ℕ). slice_index_or found i None ≡ None) same here

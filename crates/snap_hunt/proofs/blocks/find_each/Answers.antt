@@ -1,0 +1,21 @@
+-- `find_each` of snap_hunt (src/blocks.rt): the proof of what its contract says.
+-- What fails in the runs of these numbers, whichever thread made each and when.
+use Rattle.std.proofs.Common.{◌∙◌, ap, ℕ}
+use Rattle.rayon.specs.Lists.{min_len_base}
+use Rattle.snap_runs.specs.Run.{Run}
+use Rattle.snap_failure.specs.Finding.{Finds}
+use Rattle.snap_failure.specs.declared.failures.Wanted.{Wanted}
+use Rattle.snap_hunt.specs.Hunt.{run_of}
+use Rattle.snap_hunt.proofs.Sides.{side_by_side}
+use Rattle.snap_hunt.proofs.blocks.find_each.Goals as goal
+
+pub returns : goal.returns
+returns g c =
+    let h = c.in_ok-found.ensures in
+    let base = ap min_len_base c.map.ensures.base ∙ c.with_min_len.ensures.base in
+    let held = c.map.result.f in
+    side_by_side (λ (x : Wanted × (ℕ → Run)) k o. Finds x.0 (x.1 k) o)
+    (held.3.now, run_of held.1.now held.2.now held.4.now)
+    (c.args.wanted.now, run_of c.args.program.now c.args.plan.now c.args.seed)
+    (ap (λ f. (f.3.now, run_of f.1.now f.2.now f.4.now)) c.map.ensures.f) h.1.0 c.args.runs.now
+    (h.1.1 ∙ (ap (λ it. it.slice.now) base ∙ c.par_iter.ensures)) h.0 c.in_ok-found.found h.1.2 h.2

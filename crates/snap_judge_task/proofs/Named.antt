@@ -1,0 +1,39 @@
+-- A judgement of a history names an event of it; and what stands behind a text is an order of what was before.
+use Rattle.std.proofs.Common.{◌≡◌, ℕ, ◌-◌, List, [], ◌∷◌, ◌++◌, Result, Ok, Err}
+use Rattle.std.specs.Prelude.{OnOk}
+use Rattle.snap_judge.specs.History.{History}
+use Rattle.snap_judge.specs.Judgement.{IsJudgement}
+use Rattle.snap_judge.specs.Linearizable.{up_to}
+use Rattle.snap_judge.specs.declared.judgements.Judgement.{Judgement}
+use Rattle.snap_judge.specs.declared.judgements.Judgement.TheVariants as judgement
+use Rattle.snap_judge_output.specs.JudgementText.{NamesEvent}
+use Rattle.snap_judge_reasons.specs.FailureText.{failure_text}
+use Rattle.snap_judge_reasons.specs.Reasons.{IsCircle}
+use Rattle.snap_judge_reasons.specs.RightAnswers.{AreRightAnswers}
+use Rattle.snap_judge_reasons.specs.declared.reason.Reason.{Reason}
+use Rattle.snap_judge_task.specs.Failing.{IsCircleOrNone, TellsWhy, WasBefore, before_text}
+
+pub names_event : (most : ℕ) (h : History) (j : Judgement) → IsJudgement most h j → NamesEvent h j
+names_event most h (judgement.Linearizable order) is = tt
+names_event most h (judgement.NotLinearizable k) is = is.is_event
+names_event most h (judgement.Undecided k) is = is.0
+
+pub was_before : {E : Type 0} (result : Result (Unit {0}) E) (most : ℕ) (h : History) (k : ℕ) (j : Judgement)
+    (text longer : List ℕ) → IsJudgement most (up_to (k - 1) h) j → OnOk result (longer ≡ text ++ before_text j) →
+    OnOk result (WasBefore most h k text longer)
+was_before (Ok done) most h k j text longer is there = (j, is, there)
+was_before (Err e) most h k j text longer is there = tt
+
+circle : (h : History) (rs : List Reason) → IsCircle h rs → IsCircleOrNone h rs
+circle h [] is = tt
+circle h (r ∷ rs) is = is
+
+-- what is told of right answers and of a circle
+pub told_why : (h : History) (k : ℕ) (views : List (List ℕ)) (rs : List Reason) (text : List ℕ) →
+    AreRightAnswers h k views → IsCircle (up_to k h) rs → text ≡ failure_text views rs → TellsWhy h k text
+told_why h k views rs text right is there = (views, rs, right, circle (up_to k h) rs is, there)
+
+-- and of right answers alone
+pub told_answers : (h : History) (k : ℕ) (views : List (List ℕ)) (text : List ℕ) →
+    AreRightAnswers h k views → text ≡ failure_text views [] → TellsWhy h k text
+told_answers h k views text right there = (views, [], right, tt, there)

@@ -1,0 +1,68 @@
+//! `judge_input`: what is written for an input that is to be judged, and whether what it gives is
+//! linearizable.
+ghost use Rattle.std.specs.Prelude.{◌≡◌, Err, IfOk, Some};
+ghost use Rattle.snap_judge.specs.History.{IsHistory};
+ghost use Rattle.snap_judge_task.specs.Judged.{found_at_once};
+ghost use Rattle.snap_judge_task.specs.JudgeAnswer.{AnswersHistory, AnswersJudge, TellsOf};
+ghost use Rattle.snap_judge_task.specs.declared.fault.JudgeFault.{JudgeFault};
+
+use crate::failing::push_more;
+use crate::fault::JudgeFault;
+use crate::run_history::history_in;
+use snap_judge::{History, judge};
+use snap_judge_output::judgement_text;
+use snap_run_judge::{Linearizability, word_of};
+use snap_tasks::{JudgeRequest, JudgeSource};
+use std::alloc::{AllocError, Global};
+
+/// What is written of what was judged, and the word for it.
+#[derive(Drop)]
+pub struct JudgeOutput {
+    pub text: Vec<u8>,
+    pub word: Linearizability,
+}
+
+/// What is written of a history, by a search that keeps at most so many configurations.
+#[tactic(auto, using(crate::proofs::Named::names_event))]
+fn told(alloc: Global, history: History, most: u64) -> Result<JudgeOutput, AllocError>
+    requires { IsHistory history }
+    ensures { IfOk result (λ out. TellsOf most history out.text.items out.word) }
+{
+    let judgement = judge(alloc, &history, most as usize)?;
+    let mut text = judgement_text(alloc, &history, &judgement)?;
+    push_more(alloc, &mut text, history, &judgement, most)?;
+    let word = word_of(&judgement);
+    Ok(JudgeOutput { text, word })
+}
+
+/// The history that is judged.
+#[tactic(auto, using(crate::proofs::AtOnce::of_run, crate::proofs::AtOnce::of_history))]
+fn judged(alloc: Global, source: JudgeSource, input: &[u8]) -> Result<History, JudgeFault>
+    ensures value { AnswersHistory source input.now result }
+    ensures history { IfOk result (λ h. IsHistory h) }
+    ensures at_once { (e : JudgeFault) → found_at_once source input.now ≡ Some e → result ≡ Err e }
+{
+    match source {
+        JudgeSource::Run(subject) => Ok(history_in(alloc, subject, input)?),
+        JudgeSource::History => Ok(snap_history_text::read(alloc, input)?),
+    }
+}
+
+/// What is written for an input that is to be judged, and the word for it; or why it gives nothing
+/// to be judged.
+///
+/// # Errors
+///
+/// The first reason for which the input is refused, or that memory ran out.
+pub fn judge_input(
+    alloc: Global,
+    request: &JudgeRequest,
+    input: &[u8],
+) -> Result<JudgeOutput, JudgeFault>
+    ensures answers { AnswersJudge request.now input.now result }
+    ensures at_once { (e : JudgeFault) → found_at_once request.now.source input.now ≡ Some e →
+        result ≡ Err e }
+{
+    let history = judged(alloc, request.source, input)?;
+    Ok(told(alloc, history, request.most)?)
+}

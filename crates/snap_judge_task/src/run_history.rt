@@ -1,0 +1,112 @@
+//! `history_in`: the history of the run that an input asks for, of a listing under a schedule.
+ghost use Rattle.std.specs.Prelude.{◌≡◌, ◌≤◌, ◌<◌, Err, IfOk, length, map};
+ghost use Rattle.snap_semantics.specs.Answers.{Answers};
+ghost use Rattle.snap_semantics.specs.declared.fault.Fault.TheVariants.{Refused};
+ghost use Rattle.snap_semantics.specs.declared.refusal.Refusal.{Refusal};
+ghost use Rattle.snap_semantics.specs.declared.refusal.Refusal.TheVariants.{InputTooLong};
+ghost use Rattle.snap_runs.specs.Run.{run_over};
+ghost use Rattle.snap_input.specs.Input.{checked_parts, parted};
+ghost use Rattle.snap_input.specs.Parts.{max_input, parts_of};
+ghost use Rattle.snap_judge.specs.History.{IsHistory};
+ghost use Rattle.snap_run_judge.specs.RunHistory.{history_of};
+ghost use Rattle.snap_judge_task.specs.Judged.{history_in, history_of_texts, run_history};
+
+use snap_asm_program::Program;
+use snap_input::{MAX_INPUT, parts_for, program_for, schedule_for, texts_for};
+use snap_judge::History;
+use snap_record::record_over;
+use snap_run_judge::{has_history, history_of};
+use snap_sched::Schedule;
+use snap_semantics::{Fault, Refusal};
+use snap_tasks::Subject;
+use snap_words::{Bits, Kind, KindTag, Multi, Seq};
+use std::alloc::{AllocError, Global};
+
+/// The history of the run of a program under a schedule.
+fn history_over<K: Kind>(
+    alloc: Global,
+    program: &Program,
+    schedule: &Schedule,
+) -> Result<History, AllocError>
+    requires { program.now.kind ≡ K.TAG }
+    ensures value { IfOk result (λ h. h ≡ history_of (run_over program.now schedule.now)) }
+    ensures history { IfOk result (λ h. IsHistory h) }
+{
+    let record = record_over::<K>(alloc, program, schedule)?;
+    has_history(&record);
+    history_of(alloc, &record)
+}
+
+/// The history of the run of a program of a kind under the schedule that a text is.
+#[tactic(auto, unfolding(crate::specs::Judged::run_history))]
+fn history_of_kind<K: Kind>(
+    alloc: Global,
+    program: &Program,
+    schedule: &[u8],
+) -> Result<History, Fault<Refusal>>
+    requires { program.now.kind ≡ K.TAG }
+    ensures value { Answers (λ h. h) result (run_history program.now schedule.now) }
+    ensures history { IfOk result (λ h. IsHistory h) }
+{
+    let schedule = schedule_for::<K>(alloc, program, schedule)?;
+    Ok(history_over::<K>(alloc, program, &schedule)?)
+}
+
+/// The history of the run of a program under the schedule that a text is.
+fn run_history(alloc: Global, program: &Program, schedule: &[u8]) -> Result<History, Fault<Refusal>>
+    ensures value { Answers (λ h. h) result (run_history program.now schedule.now) }
+    ensures history { IfOk result (λ h. IsHistory h) }
+{
+    match program.kind() {
+        KindTag::Seq => history_of_kind::<Seq>(alloc, program, schedule),
+        KindTag::Bits => history_of_kind::<Bits>(alloc, program, schedule),
+        KindTag::Multi => history_of_kind::<Multi>(alloc, program, schedule),
+    }
+}
+
+/// The same, of the first of these texts.
+fn history_of_texts(
+    alloc: Global,
+    program: &Program,
+    texts: &[&[u8]],
+) -> Result<History, Fault<Refusal>>
+    requires { 0 < length texts.now }
+    ensures value { Answers (λ h. h) result
+        (history_of_texts program.now (map (λ text. text.now) texts.now)) }
+    ensures history { IfOk result (λ h. IsHistory h) }
+{
+    run_history(alloc, program, texts[0])
+}
+
+/// The history of the run that the parts of an input ask for.
+#[tactic(auto, unfolding(snap_input::specs::Input::parted))]
+fn history_for(alloc: Global, subject: Subject, input: &[u8]) -> Result<History, Fault<Refusal>>
+    requires { length input.now ≤ max_input }
+    ensures value { Answers (λ h. h) result
+        (parted subject 1 (parts_of input.now) history_of_texts) }
+    ensures history { IfOk result (λ h. IsHistory h) }
+    ensures counted { (r : Refusal) → checked_parts subject 1 (parts_of input.now) ≡ Err r →
+        result ≡ Err (Refused r) }
+{
+    let parts = parts_for(alloc, subject, 1, input)?;
+    let program = program_for(alloc, subject, parts.as_slice())?;
+    let texts = texts_for(subject, parts.as_slice());
+    history_of_texts(alloc, &program, texts)
+}
+
+/// The history of the run that an input asks for: of its listing, or the shipped one, under the
+/// schedule behind it.
+#[tactic(auto, unfolding(crate::specs::Judged::history_in))]
+pub fn history_in(alloc: Global, subject: Subject, input: &[u8]) -> Result<History, Fault<Refusal>>
+    ensures value { Answers (λ h. h) result (history_in subject input.now) }
+    ensures history { IfOk result (λ h. IsHistory h) }
+    ensures too_long { max_input < length input.now → result ≡ Err (Refused InputTooLong) }
+    ensures counted { length input.now ≤ max_input → (r : Refusal) →
+        checked_parts subject 1 (parts_of input.now) ≡ Err r →
+        result ≡ Err (Refused r) }
+{
+    if input.len() > MAX_INPUT {
+        return Err(Fault::Refused(Refusal::InputTooLong));
+    }
+    history_for(alloc, subject, input)
+}

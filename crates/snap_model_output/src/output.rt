@@ -1,0 +1,29 @@
+//! `model_output`: the model of what an input asks to play, or why there is none.
+ghost use Rattle.std.specs.Prelude.{◌≡◌};
+ghost use Rattle.snap_model_output.specs.ModelOutput.{AnswersInput};
+
+use crate::fault::ModelFault;
+use snap_live_output::setup_of;
+use snap_promela::model_text;
+use snap_tasks::Subject;
+use std::alloc::Global;
+
+/// Returns the model, in the language of Spin, of the listing and the scripts that an input has, in
+/// which at most so many processes crash.
+///
+/// # Errors
+///
+/// The input is refused as that of a live run is; no model holds its scripts or one of its numbers;
+/// or memory ran out.
+pub fn model_output(
+    alloc: Global,
+    subject: Subject,
+    crashes: u64,
+    input: &[u8],
+) -> Result<Vec<u8>, ModelFault>
+    ensures { AnswersInput subject input.now result }
+{
+    let setup = setup_of(alloc, subject, input)?;
+    let text = model_text(alloc, setup.program().listing(), setup.scripts(), crashes)?;
+    Ok(text)
+}

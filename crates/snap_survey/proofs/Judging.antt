@@ -1,0 +1,112 @@
+-- What is written of surveys, with what was judged for them.
+use Rattle.std.proofs.Common.{◌≡◌, ℕ, ◌+◌, ◌<◌, Bool, List, [], ◌∷◌, ◌++◌, Result, Ok, Err, refl, sym, ap, subst, ◌∙◌}
+use Rattle.std.proofs.Common.{get_or, length, take}
+use Rattle.std.proofs.lemmas.List.{take_more}
+use Rattle.std.specs.List.{list_all}
+use Rattle.snap_semantics.specs.Answers.{◌>>=◌, IsRefusal}
+use Rattle.snap_semantics.specs.Schedule.{Schedule}
+use Rattle.snap_semantics.specs.Source.{Source}
+use Rattle.snap_semantics.specs.declared.fault.Fault.{Fault}
+use Rattle.snap_semantics.specs.declared.refusal.Refusal.{Refusal}
+use Rattle.snap_runs.specs.Run.{run_over}
+use Rattle.snap_judge.specs.declared.judgements.Judgement.{Judgement}
+use Rattle.snap_input.proofs.Answered.{same_answer}
+use Rattle.snap_input.specs.Input.{listing_for, texts_for}
+use Rattle.snap_input.specs.ManySchedules.{checked_schedules, over_schedules, schedules_for}
+use Rattle.snap_survey.specs.Survey.{IsSurveyOf, judged_survey}
+use Rattle.snap_survey.specs.SurveyText.{surveys_text}
+use Rattle.snap_survey.specs.Surveys.{AnswersSurvey, AreSurveysOf, WereJudged, WereJudgedIn, WereJudgedOver, are_clean}
+use Rattle.snap_survey.specs.Surveys.{clean_runs, is_clean, survey_text, surveyed, surveys_over}
+use Rattle.snap_survey.specs.declared.findings.JudgedSurvey.{JudgedSurvey}
+use Rattle.snap_survey.specs.declared.survey_output.SurveyOutput.{SurveyOutput}
+use Rattle.snap_tasks.specs.declared.subject.Subject.{Subject}
+
+-- one survey more
+pub one_surveyed : (l : Source) (ss : List Schedule) (vs : List JudgedSurvey) (s : Schedule) (v : JudgedSurvey) →
+    AreSurveysOf l ss vs → IsSurveyOf (run_over l s) v → AreSurveysOf l (ss ++ s ∷ []) (vs ++ v ∷ [])
+one_surveyed l [] [] s v are is = (is, tt)
+one_surveyed l [] (u ∷ vs) s v are is = absurd are
+one_surveyed l (r ∷ ss) [] s v are is = absurd are
+one_surveyed l (r ∷ ss) (u ∷ vs) s v are is = (are.0, one_surveyed l ss vs s v are.1 is)
+
+-- the surveys of the first schedules, and the one of the next
+pub next_surveyed : (l : Source) (ss : List Schedule) (k : ℕ) (vs : List JudgedSurvey) (s : Schedule)
+    (v : JudgedSurvey) → k < length ss → s ≡ get_or ss k s → AreSurveysOf l (take k ss) vs →
+    IsSurveyOf (run_over l s) v → AreSurveysOf l (take (k + 1) ss) (vs ++ v ∷ [])
+next_surveyed l ss k vs s v below here are is =
+    subst (λ (xs : List Schedule). AreSurveysOf l xs (vs ++ v ∷ []))
+    (ap (λ (x : Schedule). take k ss ++ x ∷ []) here ∙ sym (take_more ss k s below))
+    (one_surveyed l (take k ss) vs s v are is)
+
+-- the judgements that surveys rest on
+were_judged : (l : Source) (ss : List Schedule) (vs : List JudgedSurvey) → AreSurveysOf l ss vs →
+    (judged : List Judgement) × WereJudged l ss judged × (vs ≡ surveys_over l ss judged)
+were_judged l [] [] are = ([], tt, refl)
+were_judged l [] (v ∷ vs) are = absurd are
+were_judged l (s ∷ ss) [] are = absurd are
+were_judged l (s ∷ ss) (v ∷ vs) are =
+    let first = are.0 in
+    let rest = were_judged l ss vs are.1 in (
+      first.0 ∷ rest.0,
+      (first.1, rest.1),
+      ap (λ (u : JudgedSurvey). u ∷ vs) first.2
+          ∙ ap (λ (us : List JudgedSurvey). judged_survey (run_over l s) first.0 ∷ us) rest.2,
+    )
+
+-- what is written for the schedules that texts are
+pub over_texts : (l : Source) (texts : List (List ℕ)) (ss : List Schedule) (vs : List JudgedSurvey)
+    (text : List ℕ) (clean : Bool) → schedules_for l texts ≡ Ok ss → AreSurveysOf l ss vs →
+    text ≡ surveys_text vs → clean ≡ list_all is_clean vs →
+    (judged : List Judgement) × WereJudgedOver l texts judged × (survey_text judged l texts ≡ Ok text)
+    × (are_clean judged l texts ≡ Ok clean)
+unfolding survey_text are_clean
+over_texts l texts ss vs text clean read are written told =
+    let found = were_judged l ss vs are in (
+      found.0,
+      λ others is. (let same : others ≡ ss = same_answer (schedules_for l texts) ss others read is in
+          subst (λ (xs : List Schedule). WereJudged l xs found.0) (sym same) found.1),
+      ap (λ (r : Result (List Schedule) Refusal). r >>= λ xs. Ok (surveys_text (surveys_over l xs found.0))) read
+          ∙ ap Ok (sym (written ∙ ap surveys_text found.2)),
+      ap (λ (r : Result (List Schedule) Refusal). r >>= λ xs. Ok (list_all is_clean (surveys_over l xs found.0))) read
+          ∙ ap Ok (sym (told ∙ ap (list_all is_clean) found.2)),
+    )
+
+-- and for an input
+module _ (s : Subject) (parts found texts : List (List ℕ)) (l : Source)
+    (are_counted : checked_schedules s parts ≡ Ok tt) (are_found : found ≡ parts)
+    (is_listing : listing_for s found ≡ Ok l) (are_texts : texts ≡ texts_for s found) where
+  there : listing_for s parts ≡ Ok l
+  there = subst (λ (ps : List (List ℕ)). listing_for s ps ≡ Ok l) are_found is_listing
+
+  texts_there : texts ≡ texts_for s parts
+  texts_there = are_texts ∙ ap (texts_for s) are_found
+
+  behind : {A : Type 0} (f : Source → List (List ℕ) → Result A Refusal) → over_schedules s parts f ≡ f l texts
+  behind f =
+      ap (λ (c : Result (Unit {0}) Refusal). c >>= λ counted. listing_for s parts >>= λ m. f m (texts_for s parts))
+      are_counted
+      ∙ ap (λ (r : Result Source Refusal). r >>= λ m. f m (texts_for s parts)) there
+      ∙ ap (f l) (sym texts_there)
+
+  written_of : (judged : List Judgement) → surveyed judged s parts ≡ survey_text judged l texts
+  unfolding surveyed
+  written_of judged = behind (survey_text judged)
+
+  clean_of : (judged : List Judgement) → clean_runs judged s parts ≡ are_clean judged l texts
+  unfolding clean_runs
+  clean_of judged = behind (are_clean judged)
+
+  pub of_input : (result : Result SurveyOutput (Fault Refusal)) →
+      AnswersSurvey (WereJudgedOver l texts) result (λ judged. survey_text judged l texts)
+      (λ judged. are_clean judged l texts) →
+      AnswersSurvey (WereJudgedIn s parts) result (λ judged. surveyed judged s parts)
+      (λ judged. clean_runs judged s parts)
+  of_input (Ok out) h = (
+    h.0,
+    λ m is. (let same : m ≡ l = same_answer (listing_for s parts) l m there is in
+        subst (λ (q : Source). WereJudgedOver q (texts_for s parts) h.0) (sym same)
+        (subst (λ (ts : List (List ℕ)). WereJudgedOver l ts h.0) texts_there h.1)),
+    written_of h.0 ∙ h.2,
+    clean_of h.0 ∙ h.3,
+  )
+  of_input (Err fault) h = subst (IsRefusal fault) (sym (written_of [])) h

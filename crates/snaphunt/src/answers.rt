@@ -1,0 +1,167 @@
+//! `answer`: what snaphunt does about its command line, over any files, sink and device for
+//! messages, and the status of it.
+ghost use Rattle.std.specs.Prelude.{◌≡◌, Ok, IfOk, false};
+ghost use Rattle.snaphunt.specs.Answer.{
+  AnswersLine,
+  Helps,
+  Hunts,
+  Prints,
+  SaysFault,
+  Tells,
+  exit_status,
+  hunted_status,
+};
+ghost use Rattle.snaphunt_command_line.specs.Search.{IsLine, IsSearch, view_listed};
+
+use crate::fault::{RunFault, status_of};
+use crate::fault_line::fault_line;
+use crate::searching::{hunted_text, search};
+use snap_files::FileSource;
+use snap_hunt::Watcher;
+use snap_hunt_output::{Asked, Hunted};
+use snap_streams::{ByteSink, say, write_all};
+use snaphunt_command_line::{CommandLine, Listed, Search};
+use std::alloc::{AllocError, Global};
+use std::thread::Threads;
+
+/// What is said where there is no memory.
+const NO_MEMORY: &[u8] = b"refused: Memory\n";
+
+/// What is said of arguments that are no text.
+const NO_TEXT: &[u8] = b"error: the words of the command line are no text\n";
+
+/// The status of a run that could not write.
+const UNWRITTEN: u8 = 3;
+
+/// The status of what a hunt came to: 0 where no run fails, and 4 where one does.
+fn hunted_status(hunted: &Hunted) -> u8
+    ensures { result ≡ hunted_status hunted.now }
+{
+    match hunted {
+        Hunted::NoneFails => 0,
+        Hunted::Fails { .. } => 4,
+    }
+}
+
+/// Prints what a hunt came to.
+fn print<W: ByteSink>(
+    alloc: Global,
+    asked: &Asked,
+    hunted: Hunted,
+    sink: &mut W,
+) -> Result<Hunted, RunFault>
+    requires { W.has_failed sink.old ≡ false }
+    ensures { Prints asked.now (Ok hunted) result (W.taken sink.old) (W.taken sink.new)
+        (W.has_failed sink.new) (W.is_stalled sink.new) }
+{
+    let Ok(text) = hunted_text(alloc, asked, &hunted) else {
+        return Err(RunFault::Memory);
+    };
+    match write_all(sink, text.as_slice()) {
+        Ok(()) => Ok(hunted),
+        Err(_) => Err(RunFault::Write),
+    }
+}
+
+/// Hunts as is asked for, and prints what that came to and nothing else.
+fn hunt<F: FileSource, W: Watcher, S: ByteSink>(
+    threads: &(impl Threads + Sync),
+    alloc: Global,
+    files: &F,
+    asked: &Search<'_>,
+    watcher: &mut W,
+    sink: &mut S,
+) -> Result<Hunted, RunFault>
+    requires search { IsSearch asked.now }
+    requires sink { S.has_failed sink.old ≡ false }
+    ensures { Hunts (F.found files.now) (view_listed asked.now.listed) asked.now.asked result
+        (S.taken sink.old) (S.taken sink.new) (S.has_failed sink.new) (S.is_stalled sink.new) }
+{
+    match search(threads, alloc, files, asked, watcher) {
+        Ok(hunted) => print(alloc, &asked.asked, hunted, sink),
+        Err(fault) => Err(fault),
+    }
+}
+
+/// Says why nothing, or not all, was printed, or that there is no memory for that line.
+fn complain<E: ByteSink>(alloc: Global, listed: &Listed<'_>, fault: &RunFault, errors: &mut E)
+    requires { E.has_failed errors.old ≡ false }
+    ensures { Tells (view_listed listed.now) fault.now (E.taken errors.old) (E.taken errors.new)
+        (E.has_failed errors.new) (E.is_stalled errors.new) }
+{
+    match fault_line(alloc, listed, fault) {
+        Ok(line) => say(line.as_slice(), errors),
+        Err(_) => say(NO_MEMORY, errors),
+    }
+}
+
+/// The status of a whole hunt, whose fault it tells.
+fn finish<E: ByteSink>(
+    alloc: Global,
+    listed: &Listed<'_>,
+    done: &Result<Hunted, RunFault>,
+    errors: &mut E,
+) -> u8
+    requires { E.has_failed errors.old ≡ false }
+    ensures status { result ≡ exit_status done.now }
+    ensures says { SaysFault (view_listed listed.now) done.now (E.taken errors.old)
+        (E.taken errors.new) (E.has_failed errors.new) (E.is_stalled errors.new) }
+{
+    match done {
+        Ok(hunted) => hunted_status(hunted),
+        Err(fault) => {
+            complain(alloc, listed, fault, errors);
+            status_of(fault)
+        }
+    }
+}
+
+/// Prints help, or the version.
+fn help<S: ByteSink>(text: &[u8], sink: &mut S) -> u8
+    requires { S.has_failed sink.old ≡ false }
+    ensures { Helps text.now result (S.taken sink.old) (S.taken sink.new) (S.has_failed sink.new)
+        (S.is_stalled sink.new) }
+{
+    match write_all(sink, text) {
+        Ok(()) => 0,
+        Err(_) => UNWRITTEN,
+    }
+}
+
+/// Does what a command line asks for, and answers the status of it.
+pub(crate) fn answer<F: FileSource, W: Watcher, S: ByteSink, E: ByteSink>(
+    threads: &(impl Threads + Sync),
+    alloc: Global,
+    line: &Result<CommandLine<'_>, AllocError>,
+    files: &F,
+    watcher: &mut W,
+    sink: &mut S,
+    errors: &mut E,
+) -> u8
+    requires line { IfOk line.now IsLine }
+    requires sink { S.has_failed sink.old ≡ false }
+    requires errors { E.has_failed errors.old ≡ false }
+    ensures { AnswersLine (F.found files.now) line.now result (S.taken sink.old)
+        (S.taken sink.new) (E.taken errors.old) (E.taken errors.new) (S.has_failed sink.new)
+        (S.is_stalled sink.new) (E.has_failed errors.new) (E.is_stalled errors.new) }
+{
+    match line {
+        Ok(CommandLine::Asks(asked)) => {
+            let done = hunt(threads, alloc, files, asked, watcher, sink);
+            finish(alloc, &asked.listed, &done, errors)
+        }
+        Ok(CommandLine::Help(text)) => help(text.as_bytes(), sink),
+        Ok(CommandLine::Wrong(text)) => {
+            say(text.as_bytes(), errors);
+            2
+        }
+        Ok(CommandLine::NoText) => {
+            say(NO_TEXT, errors);
+            2
+        }
+        Err(_) => {
+            say(NO_MEMORY, errors);
+            1
+        }
+    }
+}

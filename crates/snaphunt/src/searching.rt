@@ -1,0 +1,117 @@
+//! `search`: what the hunt that a command line asks for comes to, or why it comes to nothing.
+ghost use Rattle.std.specs.Prelude.{◌≡◌, ◌<◌, ◌^◌, ◌++◌, IfOk, Ok, OnOk};
+ghost use Rattle.snap_semantics.specs.Listing.{listing_of};
+ghost use Rattle.snap_shipped.specs.Shipped.{shipped};
+ghost use Rattle.snaphunt.specs.Searching.{ComesTo, GivesText, IsSearched, hunted_text, none_text};
+ghost use Rattle.snaphunt_command_line.specs.Search.{IsSearch, view_listed};
+
+use crate::fault::{RunFault, of_file, of_hunt};
+use snap_files::FileSource;
+use snap_hunt::Watcher;
+use snap_hunt_output::{Asked, Hunted, hunt_listing};
+use snap_shipped::{text_b, text_m, text_u};
+use snap_text::{push_number, push_text};
+use snap_words::KindTag;
+use snaphunt_command_line::{Listed, Search};
+use std::alloc::{AllocError, Global};
+use std::thread::Threads;
+
+/// The bytes that are too many for a listing.
+const TOO_MANY: u64 = 16_777_217;
+
+/// The text of the listing that is shipped for a kind.
+fn shipped_text(kind: KindTag) -> &'static [u8]
+    ensures { listing_of result.now ≡ Ok (shipped kind) }
+{
+    match kind {
+        KindTag::Seq => text_u(),
+        KindTag::Bits => text_b(),
+        KindTag::Multi => text_m(),
+    }
+}
+
+/// The text of the listing that is named.
+#[tactic(auto, using(crate::proofs::Searches::file_read, crate::proofs::Searches::file_unread))]
+fn text_of<F: FileSource>(
+    alloc: Global,
+    files: &F,
+    listed: &Listed<'_>,
+) -> Result<Vec<u8>, RunFault>
+    ensures { GivesText (F.found files.now) (view_listed listed.now) result }
+{
+    match listed {
+        Listed::File(name) => match files.read(alloc, name, TOO_MANY) {
+            Ok(text) => Ok(text),
+            Err(fault) => Err(of_file(fault)),
+        },
+        Listed::Shipped(kind) => match Vec::from_slice(alloc, shipped_text(*kind)) {
+            Ok(text) => Ok(text),
+            Err(_) => Err(RunFault::Memory),
+        },
+    }
+}
+
+/// What a hunt in the runs of the listing that a text is comes to.
+#[tactic(auto, using(crate::proofs::Searches::hunt_ends))]
+fn search_text<W: Watcher>(
+    threads: &(impl Threads + Sync),
+    alloc: Global,
+    listing: &[u8],
+    asked: &Asked,
+    watcher: &mut W,
+) -> Result<Hunted, RunFault>
+    requires { asked.now.runs < 2 ^ 63 }
+    ensures { ComesTo listing.now asked.now result }
+{
+    match hunt_listing(threads, alloc, listing, asked, watcher) {
+        Ok(hunted) => Ok(hunted),
+        Err(fault) => Err(of_hunt(fault)),
+    }
+}
+
+/// What the hunt that is asked for comes to.
+#[tactic(auto, using(crate::proofs::Searches::no_text, crate::proofs::Searches::with_text))]
+pub(crate) fn search<F: FileSource, W: Watcher>(
+    threads: &(impl Threads + Sync),
+    alloc: Global,
+    files: &F,
+    search: &Search<'_>,
+    watcher: &mut W,
+) -> Result<Hunted, RunFault>
+    requires { IsSearch search.now }
+    ensures { IsSearched (F.found files.now) (view_listed search.now.listed) search.now.asked
+        result }
+{
+    match text_of(alloc, files, &search.listed) {
+        Ok(text) => search_text(threads, alloc, text.as_slice(), &search.asked, watcher),
+        Err(fault) => Err(fault),
+    }
+}
+
+/// What is printed where none of the runs fails.
+#[tactic(auto, using(snap_text::proofs::Texts::joined))]
+fn none_text(alloc: Global, asked: &Asked) -> Result<Vec<u8>, AllocError>
+    ensures { IfOk result (λ text. text.items ≡ none_text asked.now) }
+{
+    let mut text = Vec::new(alloc);
+    push_text(&mut text, b"none of ")?;
+    push_number(&mut text, asked.runs)?;
+    push_text(&mut text, b" runs of seed ")?;
+    push_number(&mut text, asked.seed)?;
+    push_text(&mut text, b" fails\n")?;
+    Ok(text)
+}
+
+/// What is printed of what a hunt came to.
+pub(crate) fn hunted_text(
+    alloc: Global,
+    asked: &Asked,
+    hunted: &Hunted,
+) -> Result<Vec<u8>, AllocError>
+    ensures { IfOk result (λ text. text.items ≡ hunted_text asked.now hunted.now) }
+{
+    match hunted {
+        Hunted::NoneFails => none_text(alloc, asked),
+        Hunted::Fails { input, .. } => Vec::from_slice(alloc, input.as_slice()),
+    }
+}

@@ -19,6 +19,7 @@ import sys
 HERE = os.path.dirname(os.path.abspath(__file__))
 TOP = os.path.dirname(HERE)
 PAGE = os.path.join(HERE, "snaplab.html")
+GALLERY = ("gallery.md", "gallery-2.md")
 PLACE = re.compile(r"<!-- ([a-z.\s]+?) -->")
 MODULE = re.compile(r'<script type="text/plain" id="module">\n?([A-Za-z0-9+/=\n]*)</script>')
 
@@ -49,7 +50,7 @@ def paragraphs(text):
 def sections():
     """The gallery's sections: their titles, what they say, and what they change."""
     found = {}
-    for piece in re.split(r"(?m)^## ", read("docs", "GALLERY.md"))[1:]:
+    for piece in [piece for name in GALLERY for piece in re.split(r"(?m)^## ", read("docs", "tutorial", name))[1:]]:
         title, _, text = piece.partition("\n")
         number, _, name = title.partition(". ")
         told = paragraphs(text)
@@ -62,11 +63,13 @@ def sections():
 
 
 def parts(example, listing=None):
-    """The listing and the schedule of an example."""
+    """The listing and the schedule of an example, without the sentence above U, B or M, or above a schedule alone."""
     text = read("examples", example, "stdin")
     if listing:
-        return read("examples", listing), text
-    return tuple(re.split(r"(?m)^%\n", text)[:2])
+        return read("examples", listing), text[text.index("shape"):]
+    own, schedule = re.split(r"(?m)^%\n", text)[:2]
+    below = own.partition("\n")[2]
+    return below if below in [read("examples", name) for name in ("u.txt", "b.txt", "m.txt")] else own, schedule
 
 
 def changed(change, both):
@@ -124,11 +127,9 @@ def an_exercise(exercise):
 
 
 def remedies():
-    """What the manual says of each refusal that the page can be told, up to its first command."""
-    found = {}
-    for name, text in re.findall(r"(?ms)^### `([LPSGW][0-9]+) \w+`\n(.*?)(?=^##|\Z)", read("docs", "MANUAL.md")):
-        found[name] = inline(paragraphs(text.partition("```")[0])[0])
-    return found
+    """What the manual says of each refusal that the page can be told."""
+    rows = re.findall(r"(?m)^\| `([LPSGW][0-9]+) \w+` \| (.*) \|$", read("docs", "manual", "refusals.md"))
+    return {name: inline(text) for name, text in rows}
 
 
 def choices():

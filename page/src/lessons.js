@@ -1,4 +1,5 @@
 // Listings, the gallery's ideas and exercises, with their captions; verdicts, and whether a goal is met.
+import {verdictAt, verdictOf, viewAt, wordsAt} from './text.js';
 import {$, badge, data, fill, make, say} from './elements.js';
 import {timelineFocus} from './editor.js';
 import {change, goTo, state, titleOf} from './state.js';
@@ -143,21 +144,66 @@ export function verdictWords(verdict) {
     return `${where}, ${collects} double collect${many}${lent}`;
 }
 
-// The verdicts on scans that are over as a list: each leads to its point, or to the answer where there is none.
+// The judgement of the run, where it gives away no answer that is yet to come: one that names an event from that on,
+// and else at the end of the run.
+function toldJudgement() {
+    const {judged, operations, at, report} = state;
+    return judged?.events === operations.text && at >= (judged.item || report.total) ? judged : null;
+}
+
+// The item of the answer that no order of the operations explains, where that is told; 0 where there is none.
+export function unexplained() {
+    const told = toldJudgement();
+    return told?.verdict === 'not linearizable' ? told.item : 0;
+}
+
+// One line for the run, and behind it why no order explains an answer.
+function showJudgement() {
+    const {operations, report: {total}} = state, box = $('run-verdict');
+    const {verdict = '', item = 0, who = 0, reasons = [], failed = ''} = toldJudgement() ?? {};
+    const end = item ? wordsAt(operations, operations.ended[operations.to.indexOf(item)]) : '';
+    const words = {
+        'linearizable': `The whole run, ${total} items, is linearizable.`,
+        'not linearizable':
+            `Not linearizable: no order of the operations explains item ${item}, process ${who}: ${end}.`,
+        'undecided': `Undecided: the search for an order was given up at item ${item}, process ${who}: ${end}.`,
+    }[verdict] ?? (failed ? `The run was not judged: ${failed}` : '');
+    box.hidden = !words;
+    box.classList.toggle('wrong', verdict === 'not linearizable');
+    const why = () => make('details', {ariaLabel: 'Why no order explains it'}, make('summary', {}, 'Why'),
+        ...reasons.map(line => make('p', {}, line)));
+    fill(box, [words, reasons], () => [words, ...reasons.length ? [why()] : []]);
+}
+
+// The verdicts that are listed: the last ones, the first without a point, and that on the answer that no order
+// explains.
+function listedVerdicts() {
+    const {verdicts: {near, numbers}, operations} = state, item = unexplained(), place = verdictOf(numbers, item);
+    if (!item || place < 0 || near.some(({answer}) => answer === item)) return near;
+    const verdict = {...verdictAt(numbers, place), view: viewAt(operations, item)};
+    return [...near, verdict].sort((one, other) => one.answer - other.answer);
+}
+
+// The verdicts on scans that are over as a list: each leads to its point, or to the answer where there is none. The
+// answer that no order explains is crossed out.
 export function showVerdicts() {
-    const {verdicts: {near, numbers}, at, shapes, audited} = state, over = near.filter(({answer}) => answer <= at);
+    const {verdicts: {numbers}, at, shapes, audited} = state, near = listedVerdicts(), wrong = unexplained();
+    const over = near.filter(({answer}) => answer <= at);
     const left = numbers.length / 5 - near.length, later = near.length - over.length;
+    showJudgement();
     const told = [...left ? [`${left} other ones are not listed.`] : [],
         ...over.length ? [] : [near.length || audited ? 'No scan has ended here yet.' : '']];
     const row = verdict => {
         const {who, call, answer, point, view} = verdict, why = loanOf(verdict)?.title ?? '';
-        const words = ` scan, items ${call} to ${answer}, answers ${view}: ${verdictWords(verdict)}`;
+        const told = `answers ${view}`, crossed = answer === wrong, more = crossed ? '; no order explains it' : '';
+        const words = [` scan, items ${call} to ${answer}, `, crossed ? make('s', {className: 'wrong'}, told) : told,
+            `: ${verdictWords(verdict)}${more}`];
         const title = point ? `To its point: the first state since its call that has these values. ${why}` : why;
         const button = {className: point ? '' : 'none', title, onclick: () => goTo(point || answer)};
-        return [make('button', button, badge(who), words)];
+        return [make('button', button, badge(who), ...words)];
     };
     const more = later ? [[`${later} more end${later === 1 ? 's' : ''} later.`]] : [];
-    fill($('verdicts'), [near, over.length, shapes?.loan, audited, left], () =>
+    fill($('verdicts'), [near, over.length, shapes?.loan, audited, left, wrong], () =>
         [...told.map(each => [each]), ...over.map(row), ...more].map(each => make('li', {}, ...each)));
 }
 
@@ -171,7 +217,8 @@ export function outcome() {
 export function showWhere() {
     const {report: {at, total, values}, verdicts: {near}, timer} = state;
     const verdict = timer ? null : near.find(each => each.answer === at);
-    const told = `: ${outcome()}; values ${values}`, words = verdict ? `; ${verdictWords(verdict)}` : '';
+    const wrong = at === unexplained() ? '; no order explains this answer' : '';
+    const told = `: ${outcome()}; values ${values}`, words = verdict ? `${wrong}; ${verdictWords(verdict)}` : '';
     fill($('where'), [at, total, told, words], () => [make('span', {className: 'at'}, `Item ${at} of ${total}`), told,
         make('span', {className: verdict?.point === 0 ? 'none' : ''}, words)]);
     if (document.activeElement !== $('at')) $('at').value = at;

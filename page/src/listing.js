@@ -125,7 +125,7 @@ function showRefusal(part) {
     box.hidden = !refusal;
     fill(box, [refusal?.text, bad, text], () => [make('b', {}, refusal?.text ?? ''),
         ...text === undefined ? [] : [` \u2013 line ${bad + 1} of this text: `, line()],
-        ...!refusal ? [] : [make('details', {}, make('summary', {}, `What ${refusal.name} is about`),
+        ...!refusal ? [] : [make('details', {ariaLabel: 'Remedy'}, make('summary', {}, `What ${refusal.name} is about`),
             make('span', {innerHTML: data.remedies[refusal.name] ?? ''}))]]);
     if (state.refusal?.part === 'page') say(state.refusal.text);
 }

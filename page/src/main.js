@@ -22,7 +22,7 @@ const BUTTONS = {
     trust: () => $('proved').showModal(), present, home: () => goTo(0), end: () => goTo(Infinity),
     back: () => goTo(state.at - 1), on: () => goTo(state.at + 1), run: () => refresh('run'),
     rrun: () => refresh('rrun'), closer: () => zoom(.5), wider: () => zoom(2), fit: () => zoom(0), stop: stopAsking,
-    cut: cutHere, play, next: () => nextCaption(1), previous: () => nextCaption(-1), 'hello-close': closeHello,
+    cut: cutHere, play, next: () => nextCaption(1), previous: () => nextCaption(-1), 'hello-close': closeHello, more,
 };
 
 // Keys of their own, beside those that page.html writes at buttons; it lists them all.
@@ -36,6 +36,11 @@ const KEYS = {
 function cutHere() {
     const {items, at, schedule} = state;
     if (items && at < items.total) change({schedule: parted(schedule, items, at)[0]}, {kept: true});
+}
+
+// In a small window the buttons that are used less unfold.
+function more() {
+    $('more').ariaExpanded = String(document.body.classList.toggle('more'));
 }
 
 function closeHello() {

@@ -36,11 +36,12 @@ function columns(text, bank) {
     return Array.from(words.matchAll(/([a-z]+) ([^a-z]*[^a-z ])/g), ([, name, numbers]) => [name, numbers]);
 }
 
-function table(corner, head, rows) {
+function table(bank, corner, head, rows) {
     const cells = [corner, ...head].map(name => make('th', {scope: 'col'}, name));
     const body = rows.map(([name, cells, className = '']) =>
         make('tr', {className}, make('th', {scope: 'row'}, name), ...cells.map(cell => make('td', {}, ...cell))));
-    const all = make('table', {}, make('thead', {}, make('tr', {}, ...cells)), make('tbody', {}, ...body));
+    const top = make('thead', {}, make('tr', {}, ...cells));
+    const all = make('table', {ariaLabel: `Registers ${bank}`}, top, make('tbody', {}, ...body));
     return make('div', {className: 'bank'}, all);
 }
 
@@ -52,7 +53,7 @@ function fields(bank, all, touched) {
         if (bank === 'r') cells[0] = [writerButton(name, cells[0])];
         return [watchButton(name), cells, bank === 'r' && name === `r ${touched}` ? 'touched' : ''];
     });
-    return table('', columns(all[0].text, bank).map(([name]) => name), rows);
+    return table(bank, '', columns(all[0].text, bank).map(([name]) => name), rows);
 }
 
 // The write of a register that its value comes from, as far as the module has drawn it.
@@ -82,7 +83,7 @@ function bits(bank, all) {
             return [name, [compared(joined(cells, 'was'), joined(cells, 'text'), joined(cells, 'once'), since)]];
         return [name, cells.map(cell => [watchButton(cell.name, compared(cell.was, cell.text, cell.once, since))])];
     });
-    return table(bank, count > MATRIX ? [`1 to ${count}`] : places.map(j => String(j + 1)), rows);
+    return table(bank, bank, count > MATRIX ? [`1 to ${count}`] : places.map(j => String(j + 1)), rows);
 }
 
 function watchButton(name, content = null) {

@@ -18,7 +18,8 @@ function makeCard(who) {
         pressed.onpointerleave = pressed.onblur = endPeek;
         return pressed;
     };
-    const details = make('details', {ontoggle: () => showLocals(cards[who - 1], who)},
+    const told = {ontoggle: () => showLocals(cards[who - 1], who), ariaLabel: `Locals of process ${who}`};
+    const details = make('details', told,
         make('summary', {}, 'locals\u2003', changes), locals);
     const buttons = [button('step', `takes a step (${who})`, () => ''),
         button('scan', 'is called for a scan', () => 'scan'),

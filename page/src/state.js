@@ -1,6 +1,6 @@
 // What the page stands on: the two texts, the position, the marks, and the lesson with its goal; these are kept, undone
 // and linked together. All else is what the module printed for them.
-import {MOST_ITEMS, OUTPUT, STEP, ended, lineOf, readItems, readLines, readOperations, readVerdicts,
+import {MOST_ITEMS, OUTPUT, STEP, STOPPED, ended, lineOf, readItems, readLines, readOperations, readVerdicts,
     same} from './text.js';
 import {data, say, within} from './elements.js';
 import {asker, aside, readRefusal} from './asker.js';
@@ -17,7 +17,7 @@ export const state = {
     lines: new Map(), items: readItems(''), report: null, before: null, since: null, last: 'none',
     operations: readOperations(''), verdicts: NO_VERDICTS, refusal: null,
     shapes: null, serial: 0, timer: 0, past: [], future: [], typed: null, typedAt: 0, audited: null, appended: false,
-    run: {}, shownRun: null, thread: {},
+    judged: null, run: {}, shownRun: null, thread: {},
 };
 asker.items = () => state.items?.total ?? 0;
 
@@ -45,7 +45,8 @@ export function change(to, {appended = false, kept = false, undone = false, type
         const shown = kept && state.shownRun === state.run && state.report?.at === older.at;
         state.run = {};
         if (shown) state.shownRun = state.run;
-        if (!appended) Object.assign(state, {shapes: null, verdicts: NO_VERDICTS, audited: null, thread: {}});
+        if (!appended)
+            Object.assign(state, {shapes: null, verdicts: NO_VERDICTS, audited: null, judged: null, thread: {}});
     }
     if (!appended) [showTexts, showIdea].forEach(show => show());
     keepDraft();
@@ -154,8 +155,8 @@ function dropMark(command, refusal) {
     say(`The mark is taken away: ${refusal}`);
 }
 
-// The audit is asked for, when all is quiet, where its run is another one or more scans have ended; and what a picture
-// would show, where that is not known of the items around the position.
+// The audit is asked for, when all is quiet, where its run is another one or more scans have ended; what a picture
+// would show, where that is not known of the items around the position; and whether the run is linearizable.
 function askAudit() {
     clearTimeout(state.timer);
     state.timer = 0;
@@ -163,16 +164,33 @@ function askAudit() {
     const texts = audited?.listing === listing && (audited.schedule === schedule || state.appended);
     const known = texts && audited.answers === answers, few = (state.report?.total ?? 0) <= MOST_ITEMS_DRAWN;
     const seen = !few || shapes?.schedule === schedule && isSeen(shapes);
-    if (refusal || known && seen) return;
+    if (refusal || known && seen && !isToBeJudged()) return;
     state.timer = setTimeout(async () => {
         state.timer = 0;
         if (thread !== state.thread) return;
+        askJudgement();
         const [answer] = await Promise.all([known ? null : asker.ask('audit', {listing, schedule}), askShapes()]);
         if (thread !== state.thread) return;
         if (answer?.code === OUTPUT)
             Object.assign(state, {verdicts: answer.verdicts, audited: {listing, schedule, answers}, appended: true});
         showState();
     }, QUIET);
+}
+
+// A judgement is of the events that callers saw; with no answer among them there is nothing to judge.
+const isToBeJudged = () => state.operations.answers > 0 && state.judged?.events !== state.operations.text;
+
+// Whether the run is linearizable, asked for once: the verdict is empty until it is told, and where none was found it
+// is told why.
+async function askJudgement() {
+    if (!isToBeJudged()) return;
+    const {listing, schedule, operations} = state;
+    const asked = state.judged = {events: operations.text, verdict: '', item: 0, who: 0, reasons: [], failed: ''};
+    const answer = await aside.ask('judge', {listing, schedule});
+    if (!answer || state.judged !== asked) return;
+    const why = () => answer.code === STOPPED ? 'stopped.' : readRefusal(answer).text;
+    state.judged = {...asked, ...answer.code === OUTPUT ? answer.judgement : {failed: why()}};
+    showState();
 }
 
 const isSeen = ({from, to}) => from < Math.max(state.at, 1) && to >= Math.min(state.at, state.report?.total ?? 0);

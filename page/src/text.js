@@ -140,6 +140,9 @@ export function wordsAt({text}, place) {
     return text.slice(place, feed < 0 ? text.length : feed);
 }
 
+// The view that a scan answered at this item.
+export const viewAt = (found, item) => wordsAt(found, found.ended[found.to.indexOf(item)]).slice(7);
+
 // 'scan 1 call 1 answer 64 point 24 collects 2', a line a verdict: five numbers each, the point 0 where there is none.
 export const readVerdicts = text => Uint32Array.from(text.match(/\d+|none/g) ?? [], word => Number(word) || 0);
 
@@ -152,6 +155,17 @@ export function verdictAt(numbers, k) {
 export function verdictOf(numbers, item) {
     const place = leastPlace(numbers.length / 5, k => numbers[5 * k + 2] >= item);
     return numbers[5 * place + 2] === item ? place : -1;
+}
+
+// What the program prints of a judgement: its verdict; where it names an event, the item and the process of that; and
+// behind a run that is not linearizable what would have been right, and why.
+const VERDICT = /^(linearizable|not linearizable|undecided)(?:: event (\d+) process (\d+))?$/;
+const REASON = /^(?:right would have been|because): .*$/gm;
+
+export function readJudgement(text) {
+    const [, verdict, item, who] = VERDICT.exec(text.slice(0, text.indexOf('\n')));
+    const reasons = verdict === 'not linearizable' ? text.match(REASON) ?? [] : [];
+    return {verdict, item: Number(item ?? 0), who: Number(who ?? 0), reasons};
 }
 
 // The numbered lines of a listing by their numbers: the place of each among the text lines, and its text.

@@ -3,13 +3,13 @@
 import {CRASH, lineOf, verdictAt, verdictOf, wordsAt} from './text.js';
 import {$, within} from './elements.js';
 import {goTo, state} from './state.js';
-import {outcome, verdictWords} from './lessons.js';
+import {outcome, unexplained, verdictWords} from './lessons.js';
 
 const LABEL = 46, RIGHT = 12, GRAIN = 1.5, VALUES = 18, AXIS = 16;
 const dark = matchMedia('(prefers-color-scheme: dark)');
 const DIAMOND = [[0, -7], [6, 0], [0, 7], [-6, 0]], HOLE = [[0, -4], [3, 0], [0, 4], [-3, 0]];
 const TRAP = [[0, -8], [8, 7], [-8, 7]];
-export const line = {from: 0, to: 1, width: Infinity, wide: 0, drawn: [], high: 0, n: 0, grain: 0, past: 0};
+export const line = {from: 0, to: 1, width: Infinity, wide: 0, drawn: [], high: 0, n: 0, grain: 0, past: 0, wrong: 0};
 const pen = $('timeline').querySelector('canvas').getContext('2d');
 let colours = {};
 
@@ -18,16 +18,24 @@ export function showTimeline() {
     const total = Math.max(items?.total ?? report.total, 1), width = Math.min(line.width, total);
     line.from = within(at < line.from || at > line.to ? at - (width >> 1) : line.from, 0, total - width);
     line.to = line.from + width;
-    const n = report.processes.length, high = highOf(n), past = pastOf(at);
+    const n = report.processes.length, high = highOf(n), past = pastOf(at), wrong = unexplained();
     const drawn = [line.from, line.to, wide, n, high, dark.matches, devicePixelRatio, operations, verdicts, items,
-        shapes, past];
+        shapes, past, wrong];
     if (wide && drawn.some((each, k) => each !== line.drawn[k])) {
-        Object.assign(line, {drawn, operations, verdicts, items, shapes, high, n, past: at});
+        Object.assign(line, {drawn, operations, verdicts, items, shapes, high, n, past: at, wrong});
         draw();
     }
+    showLane(box, Number(state.last.split(' ')[0]));
     $('cursor').style.left = `${placeOf(at) - 1}px`;
     Object.assign($('future').style, {left: `${placeOf(at) + 1}px`, width: `${Math.max(wide - placeOf(at) - 1, 0)}px`});
     Object.assign(box, {ariaValueMax: total, ariaValueNow: at, ariaValueText: `item ${at} of ${total}: ${outcome()}`});
+}
+
+// Where there are more lanes than room, that of the process of the last item is in sight.
+function showLane(box, who) {
+    const top = who ? topOf(who) : 0, bottom = top + line.high, room = box.clientHeight;
+    if (top < box.scrollTop) box.scrollTop = who > 1 ? top : 0;
+    else if (bottom > box.scrollTop + room) box.scrollTop = bottom - room;
 }
 
 // How high a lane is, and how large its letters are, beside what is usual.
@@ -98,7 +106,7 @@ function drawValues() {
         if (from > line.to || to < line.from || from > past) continue;
         const left = placeOf(Math.max(from, line.from)), wide = placeOf(Math.min(to, line.to)) - left;
         paint('values', left, 1, Math.max(wide - 1, 1), VALUES - 3);
-        if (wide > 20) write(values, 'on-p', left - 3, -line.high / 2 + VALUES / 2 + 2, wide + 2, 13);
+        if (wide > 20) write(values, 'on-p', left - 3, 1, wide + 2, VALUES - 3, 13);
     }
 }
 
@@ -120,12 +128,13 @@ function drawItems() {
 }
 
 // An operation as a bar, in the colours of a picture, and a scan's point as a diamond at the lower edge. A scan without
-// a point has a broken edge, and a hollow diamond at its end. Of those that end on one pixel of a lane the first alone
-// is drawn, and each without a point. An answer is told where it is past.
+// a point has a broken edge, and a hollow diamond at its end; the one that no order explains is crossed out. Of those
+// that end on one pixel of a lane the first alone is drawn, and each that is so marked. An answer is told where it is
+// past.
 function drawOperation(k, next) {
-    const {high, operations, verdicts: {numbers, none}, past} = line;
+    const {high, operations, verdicts: {numbers, none}, past, wrong} = line;
     const who = operations.who[k], from = operations.from[k], to = operations.to[k];
-    if (from > line.to || to && (to < line.from || to < next[who] && !none.has(to))) return;
+    if (from > line.to || to && (to < line.from || to < next[who] && !none.has(to) && to !== wrong)) return;
     next[who] = (to || line.to) + line.grain;
     const scans = operations.text[operations.called[k]] === 's', over = to && to <= past;
     const place = scans && over ? verdictOf(numbers, to) : -1, bare = over && none.has(to);
@@ -137,7 +146,9 @@ function drawOperation(k, next) {
     pen.setLineDash(bare ? [6, 4] : []);
     if (wide > 3) pen.strokeRect(left + 1, top + 1, wide - 2, high - 9);
     pen.setLineDash([]);
-    if (wide >= 24 && high >= 16) write(barWords(k, place), 'on-p', left, topOf(who), wide - 2, high < 24 ? 12 : 14);
+    if (over && to === wrong) crossOut(left, right, top, high - 7);
+    const size = high < 24 ? 12 : 14;
+    if (wide >= 24 && high >= 16) write(barWords(k, place), 'on-p', left, top, wide - 2, high - 7, size);
     const low = topOf(who + 1) - 7;
     if (point >= Math.max(line.from, 1)) shape(placeOf(point), low, DIAMOND, 'ink');
     else if (place >= 0 && point === 0 && wide > 8) {
@@ -146,14 +157,27 @@ function drawOperation(k, next) {
     }
 }
 
+// Crosses a bar out, where it is narrow at its end.
+function crossOut(left, right, top, tall) {
+    const from = Math.min(left, right - 2 * tall);
+    Object.assign(pen, {strokeStyle: colour('cross'), lineWidth: 3});
+    pen.strokeRect(from + 1, top + 1, right - from - 2, tall - 2);
+    pen.beginPath();
+    for (const [above, below] of [[from, right], [right, from]]) {
+        pen.moveTo(above, top);
+        pen.lineTo(below, top + tall);
+    }
+    pen.stroke();
+}
+
 // Writes into a bar, and not beyond it.
-function write(words, ink, left, top, wide, size) {
+function write(words, ink, left, top, wide, tall, size) {
     pen.save();
     pen.beginPath();
-    pen.rect(left, top, wide, line.high + 4);
+    pen.rect(left, top - 2, wide, tall + 4);
     pen.clip();
     Object.assign(pen, {fillStyle: colour(ink), font: `${size * large()}px system-ui, "DejaVu Sans", sans-serif`});
-    pen.fillText(words, left + 6, top + (line.high - 6) / 2 + 1);
+    pen.fillText(words, left + 6, top + tall / 2 + 1);
     pen.restore();
 }
 

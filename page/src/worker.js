@@ -1,6 +1,6 @@
 // The worker: asks the module, and reads its answers, so that the page is never held up.
-import {OUTPUT, TRAPPED, ended, inputOf, readHead, readItems, readOperations, readSession, readShapes, readVerdicts,
-    verdictAt, wordsAt} from './text.js';
+import {OUTPUT, TRAPPED, ended, inputOf, readHead, readItems, readJudgement, readOperations, readSession, readShapes,
+    readVerdicts, verdictAt, viewAt} from './text.js';
 import {Glue} from './glue.js';
 
 const NEAR = 60;        // so many scans, the last ones, are told of in words, and as many without a point
@@ -120,8 +120,14 @@ function audit({listing, schedule}) {
     const none = all.filter(k => !numbers[5 * k + 3]), some = new Set([...none.slice(0, NEAR), ...all.slice(-NEAR)]);
     const near = [...some].sort((a, b) => a - b).map(k => verdictAt(numbers, k));
     const found = operationsOf(listing, schedule);
-    for (const verdict of near) verdict.view = wordsAt(found, found.ended[found.to.indexOf(verdict.answer)]).slice(7);
+    for (const verdict of near) verdict.view = viewAt(found, verdict.answer);
     return {code: OUTPUT, verdicts: {numbers, near, none: new Set(none.map(k => numbers[5 * k + 2]))}};
+}
+
+// Whether a run is linearizable.
+function judge({listing, schedule}) {
+    const answer = askOf('judge', listing, schedule);
+    return answer.code === OUTPUT ? {code: OUTPUT, judgement: readJudgement(answer.text)} : answer;
 }
 
 // What an input of 'snaplab debug' leads to, whatever it is.
@@ -134,7 +140,7 @@ async function start(letters) {
     return {code: OUTPUT};
 }
 
-const TASKS = {start, look, audit, draw, peek, reach, tryInput,
+const TASKS = {start, look, audit, judge, draw, peek, reach, tryInput,
     answer: ({name, texts, numbers}) => glue.answer(name, texts, numbers)};
 
 onmessage = async ({data: {kind, request}}) => {

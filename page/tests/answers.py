@@ -20,7 +20,8 @@ sys.dont_write_bytecode = True
 import browser  # noqa: E402
 from browser import TOP
 
-ASKED = ("check", "assemble", "list", "upgrade", "run", "debug", "audit", "batch")
+ASKED = ("check", "assemble", "list", "upgrade", "run", "debug", "audit", "batch", "judge")
+JUDGED = {b"linearizable": 0, b"not linearizable": 4, b"undecided": 5}     # statuses of judge
 SHIM = """#!%s
 import base64, json, socket, sys
 asked = {"args": sys.argv[1:], "stdin": base64.b64encode(sys.stdin.buffer.read()).decode()}
@@ -44,6 +45,8 @@ def ask(tab, args, given):
     if not args or args[0] not in ASKED or args[1:] and (len(args) != 3 or args[1] != "--shipped"):
         return None
     code, said = tab.answer(args[0], args[2] if args[1:] else "", given)
+    if args[0] == "judge" and code == 0:
+        return JUDGED[re.split(rb"[:\n]", said)[0]], said, b""
     return {0: (0, said, b""), 1: (1, b"", said)}.get(code, (code, b"", b"code %d" % code))
 
 
@@ -75,9 +78,9 @@ def try_examples(tab, count):
 
 
 def commands(document):
-    """The commands of a document, and what it says that they print."""
+    """The commands of a document of the tutorial, and what it says that they print."""
     found, shown = [], False
-    for line in read(os.path.join(TOP, "docs", document), "r").splitlines(True):
+    for line in read(os.path.join(TOP, "docs", "tutorial", document), "r").splitlines(True):
         if line.startswith("```"):
             shown = line == "```console\n"
         elif shown and line.startswith("$ "):
@@ -114,8 +117,8 @@ def try_gallery(tab, count):
             file.write(SHIM % (sys.executable, place))
         os.chmod(shim, 0o755)
         server = serve(tab, place)
-        for command, wanted in commands("GALLERY.md"):
-            if any(it in command for it in ("bin/snaphunt", "bin/snapspin", "bin/snaplab judge")):   # what the module is not
+        for command, wanted in commands("gallery.md") + commands("gallery-2.md"):
+            if any(it in command for it in ("bin/snaphunt", "bin/snapspin")):   # what the module is not
                 continue
             said = subprocess.run(["sh", "-c", command], cwd=folder, stdin=subprocess.DEVNULL, stdout=subprocess.PIPE,
                                   stderr=subprocess.STDOUT, check=False).stdout.decode()

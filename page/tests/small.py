@@ -1,0 +1,127 @@
+#!/usr/bin/env python3
+"""The page on a phone and at 200 %: nothing is cut, all that is pressed or read has a name, and keys lead to all of it."""
+import sys
+
+sys.dont_write_bytecode = True
+import browser  # noqa: E402
+from controls import FIRST_IDEA, Page, attempt  # noqa: E402
+
+SIZES = {"a phone": {"width": 390, "height": 844, "scale": 2, "mobile": True}, "1280 x 720 at 200 %": {"width": 640, "height": 360, "scale": 2},
+         "1440 x 900 at 200 %": {"width": 720, "height": 450, "scale": 2}}
+HEADER = ["menu", "more", "open", "save", "copy", "link", "frame", "picture", "make", "present", "words", "trust", "keys"]
+CONTROLS = ["home", "rrun", "back", "on", "run", "end", "play", "speed", "at", "closer", "wider", "fit", "timeline"]
+# What is beyond an edge of the window, or scrolls sideways; a picture alone may be wider.
+BEYOND = """[...document.querySelectorAll('body *')].filter(e => e.checkVisibility() && !e.closest('canvas, figure, .back, #cursor, #future'))
+    .filter(e => { const r = e.getBoundingClientRect(), s = getComputedStyle(e); return r.width > 1 && (r.right > innerWidth + 1 || r.left < -1 ||
+    s.overflowX !== 'visible' && e.scrollWidth > e.clientWidth + 1 && e.clientWidth > 1); }).map(e => e.id || e.className || e.tagName)"""
+NAMED = ("button", "textbox", "combobox", "listbox", "slider", "list", "table", "group", "dialog", "region", "separator", "progressbar")
+
+
+def shown_in(page, how):
+    page.tab.look(**how)
+    page.run("document.body.classList.contains('more') && document.getElementById('more').click()")
+    page.run("scrollTo(0, 0)")
+
+
+def try_edges(page, count):
+    page.choose(FIRST_IDEA + 8)
+    page.key("End")
+    for name, how in SIZES.items():
+        shown_in(page, how)
+        count.check(f"{name}: nothing is cut at an edge", not page.run(BEYOND), page.run(BEYOND)[:6])
+        page.click("#more")
+        seen = page.run(f"{HEADER + CONTROLS}.filter(id => {{ const e = document.getElementById(id), r = e.getBoundingClientRect();"
+                        " return !e.checkVisibility() || r.left < 0 || r.right > innerWidth; })")
+        count.check(f"{name}: More shows all buttons, each whole", not seen and not page.run(BEYOND), [seen, page.run(BEYOND)[:6]])
+        told = page.run("document.getElementById('more').getAttribute('aria-expanded')")
+        page.click("#more")
+        count.check(f"{name}: and puts them away", told == "true" and not page.shown("#keys"), told)
+
+
+def try_words(page, count):
+    """The position in words is there whole where a scan has ended."""
+    page.choose(FIRST_IDEA + 2)
+    page.key("End")
+    for name, how in SIZES.items():
+        shown_in(page, how)
+        box = page.run("(() => { const e = document.getElementById('where'), r = e.getBoundingClientRect(), b = document.getElementById('controls')"
+                       ".getBoundingClientRect(); return [r.right <= innerWidth, e.scrollWidth <= e.clientWidth, r.bottom <= b.bottom + 1]; })()")
+        count.check(f"{name}: the position in words is whole", box == [True] * 3 and "view of process 2" in page.text("#where"), [box, page.text(
+            "#where")])
+
+
+def try_keys(page, count):
+    """The Tab key leads to each button."""
+    page.choose(FIRST_IDEA + 2)
+    for name, how in SIZES.items():
+        shown_in(page, how)
+        page.run("document.activeElement.blur()")
+        page.run("document.getElementById('menu').focus()")
+        page.tab.key("Tab")
+        first = page.run("document.activeElement.id")
+        page.tab.key("Enter")
+        found = {"menu", first}
+        for _ in range(150):
+            page.tab.key("Tab")
+            found.add(page.run("document.activeElement.id"))
+        missing = [one for one in HEADER + CONTROLS if one not in found]
+        count.check(f"{name}: the Tab key leads to all buttons", first == "more" and not missing, [first, missing])
+
+
+def try_names(page, count):
+    page.choose(FIRST_IDEA + 5)
+    page.key("End")
+    page.tab.ask("Accessibility.enable")
+    for name, how in SIZES.items():
+        shown_in(page, how)
+        nodes = page.tab.ask("Accessibility.getFullAXTree")["nodes"]
+        roles = [(one["role"]["value"], one.get("name", {}).get("value", "")) for one in nodes if not one.get("ignored")]
+        nameless = [role for role, said in roles if role in NAMED and not said]
+        count.check(f"{name}: each part has a name", len(roles) > 100 and not nameless, nameless[:5])
+    page.tab.ask("Accessibility.disable")
+
+
+def try_lanes(page, count):
+    """Of twelve processes that of the last item has its lane in sight."""
+    page.choose(0)
+    page.write("schedule", "shape 12 12\n" + "".join(f"{k} scan\n" for k in range(1, 13)))
+    page.leave()
+    for name, how in SIZES.items():
+        shown_in(page, how)
+        seen = []
+        for item in (12, 1, 7):
+            page.run(f"goTo({item})")
+            page.tab.settled()
+            seen.append(page.run(f"(() => {{ const b = document.getElementById('timeline'), top = 18 + ({item} - 1) * line.high; return"
+                                 " b.scrollTop <= top && top + line.high <= b.scrollTop + b.clientHeight; })()"))
+        count.check(f"{name}: the lane of the process that moved is in sight", seen == [True] * 3, seen)
+
+
+def try_values(page, count):
+    """The values are written whole, however many lanes there are."""
+    page.tab.look(1280, 720)
+    page.choose(2)
+    ink = []
+    for n in (2, 12):
+        page.write("schedule", f"shape {n} 2\n1 scan\n1\n")
+        page.leave()
+        page.key("End")
+        ink.append(page.run("[...document.querySelector('#timeline canvas').getContext('2d').getImageData(47, 0, 60, 17).data].join()"))
+    count.check("the values are not cut with twelve lanes", ink[0] == ink[1] and len(set(ink[0].split(","))) > 4)
+
+
+def main():
+    browser.need()
+    count = browser.Count()
+    with browser.Browser() as running:
+        page = Page(running.tab())
+        page.run("document.getElementById('hello-close').click()")
+        for trial in (try_edges, try_words, try_keys, try_names, try_lanes, try_values):
+            attempt(trial, count, page)
+        wrong = [str(one["params"])[:300] for one in list(running.events.queue) if one["method"] == "Runtime.exceptionThrown"]
+        count.check("no script failed", not wrong, wrong[:3])
+    count.finish()
+
+
+if __name__ == "__main__":
+    main()

@@ -1,3 +1,4 @@
 -- The proofs of snap_acts, by their modules.
+pub mod Firsts
 pub mod Scalars
 pub mod Traces

@@ -1,9 +1,11 @@
--- Which view a step takes, and whose scan saw it. Places in the trace of a run count from 0.
-use Rattle.std.specs.Prelude.{ℕ, List, Option, Some, None, get_or, nat_le, if◌then◌else◌}
+-- Where the view in a local came from: which view a scan took, where it was written, and whose scan saw it. Places in
+-- the trace of a run count from 0.
+use Rattle.std.specs.Prelude.{ℕ, ◌-◌, List, Option, Some, None, get_or, nat_le, nat_lt, ◌&&◌, if◌then◌else◌}
+use Rattle.snap_semantics.specs.Source.{Name}
 use Rattle.snap_acts.specs.declared.act.Act.{Act}
 use Rattle.snap_acts.specs.declared.act.Act.TheVariants as act
 use Rattle.snap_acts.specs.declared.act.Step.{Step}
-use Rattle.snap_acts.specs.Searches.{last_before, no_step}
+use Rattle.snap_acts.specs.Searches.{first_within, last_before, no_step, takes_view}
 use Rattle.snap_acts.specs.declared.loans.Borrowed.{Borrowed}
 use Rattle.snap_acts.specs.declared.loans.ScanPlaces.{ScanPlaces}
 use Rattle.snap_acts.specs.declared.wanted.Wanted.TheVariants as wanted
@@ -12,59 +14,97 @@ use Rattle.snap_acts.specs.declared.wanted.Wanted.TheVariants as wanted
 abbrev pub step_at : List Step → ℕ → Step
 step_at ss k = get_or ss k no_step
 
--- the last place before one at which word j was written
+-- the view local whose view an item answers, returns or writes
+abbrev pub handed_on : Act → Option Name
+handed_on (act.Answer view x) = x
+handed_on (act.Leave x) = Some x
+handed_on (act.Write word values x) = x
+handed_on (act.Publish k x) = Some x
+handed_on _ = None
+
+-- the last place before place k at which process i set view local x
+abbrev pub set_before : List Step → ℕ → Name → ℕ → Option ℕ
+set_before ss i x k = last_before (wanted.Sets i x) ss k
+
+-- the same, where there is a local
+abbrev pub set_if_named : List Step → ℕ → Option Name → ℕ → Option ℕ
+set_if_named ss i None k = None
+set_if_named ss i (Some x) k = set_before ss i x k
+
+-- the place at which the view was set that the item at place k hands on
+abbrev pub set_for : List Step → ℕ → Option ℕ
+set_for ss k = set_if_named ss (step_at ss k).process (handed_on (step_at ss k).act) k
+
+-- the word that an item reads
+abbrev pub word_read : Act → Option ℕ
+word_read (act.Read word spot) = Some word
+word_read _ = None
+
+-- the last place before place k at which a word was written
 abbrev pub write_before : List Step → ℕ → Option ℕ → Option ℕ
-write_before ss j None = None
-write_before ss j (Some k) = last_before (wanted.WriteOf j) ss k
+write_before ss k None = None
+write_before ss k (Some word) = last_before (wanted.WriteOf word) ss k
 
--- The place at which a view was written that step k takes: beside the word that its process had read last from
--- register j, or into register v[j].
-abbrev pub source_by : List Step → ℕ → Step → Act → Option ℕ
-source_by ss k s (act.Borrow j) = write_before ss j (last_before (wanted.ReadOf s.process j) ss k)
-source_by ss k s (act.Look j) = last_before (wanted.Published j) ss k
-source_by ss k s _ = None
+-- the place at which the word was written that the item at a place reads
+abbrev pub write_read : List Step → Option ℕ → Option ℕ
+write_read ss None = None
+write_read ss (Some k) = write_before ss k (word_read (step_at ss k).act)
 
-abbrev pub source_of : List Step → ℕ → Step → Option ℕ
-source_of ss k s = source_by ss k s s.act
+-- The place at which the view was written that an item of process i at place k sets: in register v[j], or beside the
+-- word that the process had read last into the place from which it takes the view. A view that is made of words was
+-- written nowhere.
+abbrev pub source_by : List Step → ℕ → ℕ → Act → Option ℕ
+source_by ss k i (act.Look j x) = last_before (wanted.Published j) ss k
+source_by ss k i (act.Borrow spot x) = write_read ss (last_before (wanted.ReadInto i spot) ss k)
+source_by ss k i _ = None
 
--- the place at which the scan ended whose view was written there
-abbrev pub scan_before : List Step → Option ℕ → Option ℕ
-scan_before ss None = None
-scan_before ss (Some k) = last_before (wanted.Leave (step_at ss k).process) ss k
+-- the same of the item at a place
+abbrev pub source_at : List Step → Option ℕ → Option ℕ
+source_at ss None = None
+source_at ss (Some k) = source_by ss k (step_at ss k).process (step_at ss k).act
 
--- the scan of an update that ended at place e, where it began at a place
-abbrev pub scan_from : List Step → ℕ → Option ℕ → Option ScanPlaces
-scan_from ss e None = None
-scan_from ss e (Some b) = Some (record { process = (step_at ss e).process; from = b; to = e })
+-- the place at which the view was written that view local x of process i has before place k
+abbrev pub source_of : List Step → ℕ → Name → ℕ → Option ℕ
+source_of ss i x k = source_at ss (set_before ss i x k)
 
--- the scan of an update that ended at a place
-abbrev pub scan_ended : List Step → Option ℕ → Option ScanPlaces
-scan_ended ss None = None
-scan_ended ss (Some e) = scan_from ss e (last_before (wanted.Enter (step_at ss e).process) ss e)
+-- the scan of process i from place a to a place, where place d is before that
+abbrev pub scan_to : ℕ → ℕ → ℕ → Option ℕ → Option ScanPlaces
+scan_to i a d None = None
+scan_to i a d (Some e) = if nat_lt d e then Some (record { process = i; from = a; to = e }) else None
 
--- the scan whose view was written at a place
-abbrev pub scan_written : List Step → Option ℕ → Option ScanPlaces
-scan_written ss place = scan_ended ss (scan_before ss place)
+-- the scan of an update of process i that began at a place, within which place d lies, and which ended before place k
+abbrev pub scan_from : List Step → ℕ → ℕ → ℕ → Option ℕ → Option ScanPlaces
+scan_from ss i d k None = None
+scan_from ss i d k (Some a) = scan_to i a d (first_within (wanted.Leave i) ss a (k - a))
 
--- a place that is not before place a
-abbrev pub not_before : ℕ → Option ℕ → Option ℕ
-not_before a None = None
-not_before a (Some k) = if nat_le a k then Some k else None
+-- the scan of an update of process i within which a place lies, and which ended before place k
+abbrev pub scan_around : List Step → ℕ → ℕ → Option ℕ → Option ScanPlaces
+scan_around ss i k None = None
+scan_around ss i k (Some d) = scan_from ss i d k (last_before (wanted.Enter i) ss d)
 
--- the last place at which a scan took a view
+-- the scan that saw the view that was written at a place: the one in which its writer set the local that it wrote
+abbrev pub lender_at : List Step → Option ℕ → Option ScanPlaces
+lender_at ss None = None
+lender_at ss (Some k) = scan_around ss (step_at ss k).process k (set_for ss k)
+
+-- a place at which a view was taken, not before place a
+abbrev pub taken_from : List Step → ℕ → Option ℕ → Option ℕ
+taken_from ss a None = None
+taken_from ss a (Some k) = if nat_le a k && takes_view (step_at ss k).act then Some k else None
+
+-- the place at which a scan took the view that it ends with
 abbrev pub taken_in : List Step → ScanPlaces → Option ℕ
-taken_in ss s = not_before s.from (last_before (wanted.Taking s.process) ss s.to)
+taken_in ss s = taken_from ss s.from (set_for ss s.to)
 
 -- the view that was taken at a place: where it was written, and which scan saw it
 abbrev pub view_taken_at : List Step → Option ℕ → Option Borrowed
 view_taken_at ss None = None
-view_taken_at ss (Some k) =
-    Some (record {
-      taken = k;
-      written = source_of ss k (step_at ss k);
-      lender = scan_written ss (source_of ss k (step_at ss k));
-    })
+view_taken_at ss (Some k) = Some (record {
+  taken = k;
+  written = source_at ss (Some k);
+  lender = lender_at ss (source_at ss (Some k));
+})
 
--- the view that a scan took last
+-- the view that a scan took and ends with
 unfoldable pub view_taken : List Step → ScanPlaces → Option Borrowed
 view_taken ss s = view_taken_at ss (taken_in ss s)

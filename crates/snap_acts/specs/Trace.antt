@@ -2,12 +2,15 @@
 use Rattle.std.specs.Prelude.{ℕ, ◌+◌, Bool, false, List, [], ◌∷◌, Option, Some, None, nat_eq}
 use Rattle.snap_words.specs.Shape.{Counts}
 use Rattle.snap_semantics.specs.Readers.{line_of}
-use Rattle.snap_semantics.specs.Source.{Source, instr_at}
+use Rattle.snap_semantics.specs.Source.{Name, Source, instr_at}
 use Rattle.snap_semantics.specs.State.{Process, State, initial, process_at, values}
 use Rattle.snap_semantics.specs.Table.{done, who}
 use Rattle.snap_semantics.specs.Value.{Context, index_value}
+use Rattle.snap_semantics.specs.declared.instr.Index.{Index}
 use Rattle.snap_semantics.specs.declared.instr.Instr.{Instr}
 use Rattle.snap_semantics.specs.declared.instr.Instr.TheVariants as instr
+use Rattle.snap_semantics.specs.declared.instr.Tuple.{Tuple}
+use Rattle.snap_semantics.specs.declared.instr.Tuple.TheVariants as tuple
 use Rattle.snap_semantics.specs.declared.process.Item.{Item}
 use Rattle.snap_semantics.specs.declared.process.Item.TheVariants as item
 use Rattle.snap_semantics.specs.declared.process.Op.{Op}
@@ -18,6 +21,7 @@ use Rattle.snap_semantics.specs.declared.process.Status.TheVariants.{Busy}
 use Rattle.snap_runs.specs.Run.{Run}
 use Rattle.snap_acts.specs.declared.act.Act.{Act}
 use Rattle.snap_acts.specs.declared.act.Act.TheVariants as act
+use Rattle.snap_acts.specs.declared.act.Spot.{Spot}
 use Rattle.snap_acts.specs.declared.act.Step.{Step}
 use Rattle.snap_acts.specs.declared.plan.Plan.{Plan}
 use Rattle.snap_acts.specs.declared.plan.Plan.TheVariants as plan
@@ -26,16 +30,27 @@ use Rattle.snap_acts.specs.declared.plan.Plan.TheVariants as plan
 abbrev pub context_of : Counts → ℕ → Process → Op → Context
 context_of shape i p op = record { shape = shape; me = i; op = op; locals = p.locals; place = 0 }
 
+-- place I of a `words` local
+abbrev pub spot_of : Context → Name → Index → Spot
+spot_of c x i = record { words = x; place = index_value c i }
+
+-- the local with the view that a tuple writes beside its value
+abbrev pub view_beside : Tuple → Option Name
+view_beside (tuple.Seq d q x) = Some x
+view_beside (tuple.Bits d h t x) = Some x
+view_beside (tuple.Multi d i t) = None
+
 -- what a line is about to do
 abbrev pub plan_of_line : Context → Instr → Plan
-plan_of_line c (instr.Put i t) = plan.Write (index_value c i)
-plan_of_line c (instr.PutView i x) = plan.Publish (index_value c i)
-plan_of_line c (instr.Get x i j) = plan.Read (index_value c j)
-plan_of_line c (instr.Look x i) = plan.Look (index_value c i)
-plan_of_line c (instr.ViewOf x y i) = plan.Borrow (index_value c i)
+plan_of_line c (instr.Put i t) = plan.Write (index_value c i) (view_beside t)
+plan_of_line c (instr.PutView i x) = plan.Publish (index_value c i) x
+plan_of_line c (instr.Get x i j) = plan.Read (index_value c j) (spot_of c x i)
+plan_of_line c (instr.Look x i) = plan.Look (index_value c i) x
+plan_of_line c (instr.ViewOf x y i) = plan.Borrow (spot_of c y i) x
+plan_of_line c (instr.ViewData x y) = plan.Collect x
 plan_of_line c (instr.IfAll g k target) = plan.Test target
 plan_of_line c (instr.Call target) = plan.Enter
-plan_of_line c (instr.Return x) = plan.Leave
+plan_of_line c (instr.Return x) = plan.Leave x
 plan_of_line c _ = plan.Other
 
 abbrev pub plan_of_instr : Context → Option Instr → Plan
@@ -60,25 +75,31 @@ stands_at (Some line) target = nat_eq line target
 
 -- what a step did that was about to do this, where process i goes on in this state
 abbrev pub stepped : Plan → State → ℕ → Act
-stepped (plan.Write word) S i = act.Write word (values S)
-stepped (plan.Publish k) S i = act.Publish k
-stepped (plan.Read word) S i = act.Read word
-stepped (plan.Look k) S i = act.Look k
-stepped (plan.Borrow k) S i = act.Borrow k
+stepped (plan.Write word x) S i = act.Write word (values S) x
+stepped (plan.Publish k x) S i = act.Publish k x
+stepped (plan.Read word spot) S i = act.Read word spot
+stepped (plan.Look k x) S i = act.Look k x
+stepped (plan.Borrow spot x) S i = act.Borrow spot x
+stepped (plan.Collect x) S i = act.Collect x
 stepped (plan.Test target) S i = act.Test (stands_at (line_of (process_at S i).status) target)
 stepped plan.Enter S i = act.Enter
-stepped plan.Leave S i = act.Leave
+stepped (plan.Leave x) S i = act.Leave x
 stepped plan.Other S i = act.Other
 
 abbrev pub call_act : Item → Act
 call_act (item.Call i op) = act.Call op
 call_act _ = act.Other
 
+-- the view local that a line was about to return
+abbrev pub returned : Plan → Option Name
+returned (plan.Leave x) = Some x
+returned _ = None
+
 -- what an item of process i did that was about to do this and came to that
 abbrev pub act_of : Plan → State → ℕ → Item → Outcome → Act
 act_of p S i x outcome.Called = call_act x
 act_of p S i x outcome.Stepped = stepped p S i
-act_of p S i x (outcome.Answered view) = act.Answer view
+act_of p S i x (outcome.Answered view) = act.Answer view (returned p)
 act_of p S i x outcome.Finished = act.Done
 act_of p S i x (outcome.Trapped cause) = act.Trap
 act_of p S i x outcome.Crashed = act.Crash

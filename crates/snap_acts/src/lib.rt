@@ -9,8 +9,8 @@ mod plan;
 mod tracer;
 mod wanted;
 
-pub use act::{Act, Step};
-pub use loans::{Borrowed, ScanPlaces, scan_before, source_of, view_taken};
+pub use act::{Act, Spot, Step};
+pub use loans::{Borrowed, ScanPlaces, lender_at, source_at, view_taken};
 pub use plan::index_value;
 pub use tracer::trace;
-pub use wanted::{Wanted, first_from, last_before};
+pub use wanted::{Wanted, first_from, first_within, last_before};

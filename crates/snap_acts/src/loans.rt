@@ -1,10 +1,13 @@
 //! `Borrowed`: which view a scan took, where in the trace it was written, and whose scan saw it.
 ghost use Rattle.std.specs.Prelude.{◌≡◌, ◌≤◌, ◌<◌, IfSome, length};
-ghost use Rattle.snap_acts.specs.Loans.{view_taken, scan_before, scan_ended};
-ghost use Rattle.snap_acts.specs.Loans.{source_of, taken_in, write_before};
+ghost use Rattle.snap_acts.specs.Loans.{handed_on, lender_at, scan_around, set_before};
+ghost use Rattle.snap_acts.specs.Loans.{set_for, source_at, source_by};
+ghost use Rattle.snap_acts.specs.Loans.{taken_in, view_taken, word_read, write_read};
+ghost use Rattle.snap_acts.specs.Searches.{takes_view};
 
-use crate::wanted::{Wanted, last_before};
+use crate::wanted::{Wanted, first_within, last_before};
 use crate::{Act, Step};
+use snap_semantics::Name;
 
 /// A scan: its process, and the places of the trace at which it began and ended, counted from 0.
 #[derive(Clone, Copy)]
@@ -23,68 +26,143 @@ pub struct Borrowed {
     pub lender: Option<ScanPlaces>,
 }
 
-/// The last place before one at which a word was written.
-fn write_before(steps: &[Step], word: u64, place: Option<usize>) -> Option<usize>
-    requires { IfSome place (λ k. k < length steps.now) }
-    ensures place { result ≡ write_before steps.now word place }
-    ensures within { IfSome result (λ k. k < length steps.now) }
+/// The view local whose view an item answers, returns or writes.
+fn handed_on(act: &Act) -> Option<Name>
+    ensures { result ≡ handed_on act.now }
 {
-    last_before(steps, place?, Wanted::WriteOf(word))
-}
-
-/// The place at which a view was written that a step takes.
-pub fn source_of(steps: &[Step], k: usize, step: &Step) -> Option<usize>
-    requires { k ≤ length steps.now }
-    ensures place { result ≡ source_of steps.now k step.now }
-    ensures within { IfSome result (λ k. k < length steps.now) }
-{
-    match &step.act {
-        Act::Borrow(j) => {
-            let read = last_before(steps, k, Wanted::ReadOf(step.process, *j));
-            write_before(steps, *j, read)
-        }
-        Act::Look(j) => last_before(steps, k, Wanted::Published(*j)),
+    match act {
+        Act::Answer(_, view) => *view,
+        Act::Leave(view) => Some(*view),
+        Act::Write(_, _, view) => *view,
+        Act::Publish(_, view) => Some(*view),
         _ => None,
     }
 }
 
-/// The place at which the scan ended whose view was written there.
-pub fn scan_before(steps: &[Step], place: Option<usize>) -> Option<usize>
+/// Whether a view is taken that had been written.
+fn takes_view(act: &Act) -> bool
+    ensures { result ≡ takes_view act.now }
+{
+    match act {
+        Act::Borrow(_, _) => true,
+        Act::Look(_, _) => true,
+        _ => false,
+    }
+}
+
+/// The last place before one at which a process set a view local.
+fn set_before(steps: &[Step], process: u32, view: Name, k: usize) -> Option<usize>
+    requires { k ≤ length steps.now }
+    ensures place { result ≡ set_before steps.now process view k }
+    ensures within { IfSome result (λ d. d < k) }
+{
+    last_before(steps, k, Wanted::Sets(process, view))
+}
+
+/// The place at which the view was set that the item at a place hands on.
+fn set_for(steps: &[Step], k: usize) -> Option<usize>
+    requires { k ≤ length steps.now }
+    ensures place { result ≡ set_for steps.now k }
+    ensures within { IfSome result (λ d. d < k) }
+{
+    let step = steps.get(k)?;
+    set_before(steps, step.process, handed_on(&step.act)?, k)
+}
+
+/// The word that an item reads.
+fn word_read(act: &Act) -> Option<u64>
+    ensures { result ≡ word_read act.now }
+{
+    match act {
+        Act::Read(word, _) => Some(*word),
+        _ => None,
+    }
+}
+
+/// The place at which the word was written that the item at a place reads.
+fn write_read(steps: &[Step], place: Option<usize>) -> Option<usize>
     requires { IfSome place (λ k. k < length steps.now) }
-    ensures place { result ≡ scan_before steps.now place }
+    ensures place { result ≡ write_read steps.now place }
     ensures within { IfSome result (λ k. k < length steps.now) }
 {
     let k = place?;
-    last_before(steps, k, Wanted::Leave(steps[k].process))
+    last_before(steps, k, Wanted::WriteOf(word_read(&steps[k].act)?))
 }
 
-/// The scan of an update that ended at a place.
-fn scan_ended(steps: &[Step], place: Option<usize>) -> Option<ScanPlaces>
-    requires { IfSome place (λ k. k < length steps.now) }
-    ensures scan { result ≡ scan_ended steps.now place }
-    ensures within { IfSome result (λ s. s.to ≤ length steps.now) }
+/// The place at which the view was written that the item at a place sets.
+fn source_by(steps: &[Step], k: usize, process: u32, act: &Act) -> Option<usize>
+    requires { k < length steps.now }
+    ensures place { result ≡ source_by steps.now k process act.now }
+    ensures within { IfSome result (λ w. w < length steps.now) }
 {
-    let to = place?;
-    let process = steps[to].process;
-    let from = last_before(steps, to, Wanted::Enter(process))?;
-    Some(ScanPlaces { process, from, to })
+    match act {
+        Act::Look(j, _) => last_before(steps, k, Wanted::Published(*j)),
+        Act::Borrow(spot, _) => {
+            let read = last_before(steps, k, Wanted::ReadInto(process, *spot));
+            write_read(steps, read)
+        }
+        _ => None,
+    }
 }
 
-/// The last place at which a scan took a view.
+/// The place at which the view was written that the item at a place sets.
+pub fn source_at(steps: &[Step], place: Option<usize>) -> Option<usize>
+    requires { IfSome place (λ k. k < length steps.now) }
+    ensures place { result ≡ source_at steps.now place }
+    ensures within { IfSome result (λ w. w < length steps.now) }
+{
+    let k = place?;
+    source_by(steps, k, steps[k].process, &steps[k].act)
+}
+
+/// The scan of an update of a process within which a place lies, and which ended before another
+/// place.
+fn scan_around(
+    steps: &[Step],
+    process: u32,
+    before: usize,
+    place: Option<usize>,
+) -> Option<ScanPlaces>
+    requires few { before ≤ length steps.now }
+    requires within { IfSome place (λ d. d < before) }
+    ensures scan { result ≡ scan_around steps.now process before place }
+    ensures within { IfSome result (λ s. s.to < length steps.now) }
+{
+    let place = place?;
+    let from = last_before(steps, place, Wanted::Enter(process))?;
+    let to = first_within(steps, from, before - from, Wanted::Leave(process))?;
+    if place < to {
+        Some(ScanPlaces { process, from, to })
+    } else {
+        None
+    }
+}
+
+/// The scan that saw the view that was written at a place.
+pub fn lender_at(steps: &[Step], place: Option<usize>) -> Option<ScanPlaces>
+    requires { IfSome place (λ k. k < length steps.now) }
+    ensures scan { result ≡ lender_at steps.now place }
+    ensures within { IfSome result (λ s. s.to < length steps.now) }
+{
+    let k = place?;
+    scan_around(steps, steps[k].process, k, set_for(steps, k))
+}
+
+/// The place at which a scan took the view that it ends with.
 fn taken_in(steps: &[Step], scan: ScanPlaces) -> Option<usize>
     requires { scan.to ≤ length steps.now }
     ensures place { result ≡ taken_in steps.now scan }
     ensures within { IfSome result (λ k. k < length steps.now) }
 {
-    let place = last_before(steps, scan.to, Wanted::Taking(scan.process))?;
-    if scan.from <= place {
+    let place = set_for(steps, scan.to)?;
+    if scan.from <= place && takes_view(&steps[place].act) {
         Some(place)
     } else {
         None
     }
 }
 
-/// The view that a scan took last.
+/// The view that a scan took and ends with.
 #[tactic(auto, unfolding(crate::specs::Loans::view_taken))]
 pub fn view_taken(steps: &[Step], scan: ScanPlaces) -> Option<Borrowed>
     requires { scan.to ≤ length steps.now }
@@ -92,8 +170,8 @@ pub fn view_taken(steps: &[Step], scan: ScanPlaces) -> Option<Borrowed>
     ensures within { IfSome result (λ b. IfSome b.lender (λ s. s.to ≤ length steps.now)) }
 {
     let taken = taken_in(steps, scan)?;
-    let written = source_of(steps, taken, &steps[taken]);
-    let lender = scan_ended(steps, scan_before(steps, written));
+    let written = source_at(steps, Some(taken));
+    let lender = lender_at(steps, written);
     Some(Borrowed {
         taken,
         written,

@@ -7,23 +7,26 @@ ghost use Rattle.snap_semantics.specs.State.{process_at, value_at};
 ghost use Rattle.snap_semantics.specs.Table.{who};
 ghost use Rattle.snap_semantics.specs.Value.{index_value, word_of};
 ghost use Rattle.snap_acts.specs.Trace.{context_of, plan_of, plan_of_instr, plan_of_line};
+ghost use Rattle.snap_acts.specs.Trace.{spot_of, view_beside};
 
+use crate::act::Spot;
 use snap_machine::{Local, Machine};
-use snap_semantics::{Activity, Index, Instr, Item, Name, Op, Status};
+use snap_semantics::{Activity, Index, Instr, Item, Name, Op, Status, Tuple};
 use snap_words::Kind;
 
 /// What a line is about to do, with its indices taken.
 #[derive(Clone, Copy)]
 pub(crate) enum Plan {
-    Write(u64),
-    Publish(u64),
-    Read(u64),
-    Look(u64),
-    Borrow(u64),
+    Write(u64, Option<Name>),
+    Publish(u64, Name),
+    Read(u64, Spot),
+    Look(u64, Name),
+    Borrow(Spot, Name),
+    Collect(Name),
     /// A test that leads to this line if it passes.
     Test(u64),
     Enter,
-    Leave,
+    Leave(Name),
     Other,
 }
 
@@ -69,6 +72,29 @@ pub fn index_value<K: Kind>(machine: &Machine<K>, i: u32, op: Op, index: Index) 
     }
 }
 
+/// The place of a `words` local that an index stands for.
+fn spot_of<K: Kind>(machine: &Machine<K>, i: u32, op: Op, words: Name, index: Index) -> Spot
+    requires { IsOneOf machine.now.shape.n i }
+    ensures { result ≡ spot_of
+        (context_of machine.now.shape i (process_at machine.now.state i) op) words index }
+{
+    Spot {
+        words,
+        place: index_value(machine, i, op, index),
+    }
+}
+
+/// The local with the view that a tuple writes beside its value.
+fn view_beside(tuple: &Tuple) -> Option<Name>
+    ensures { result ≡ view_beside tuple.now }
+{
+    match tuple {
+        Tuple::Seq(_, _, view) => Some(*view),
+        Tuple::Bits(_, _, _, view) => Some(*view),
+        Tuple::Multi(_, _, _) => None,
+    }
+}
+
 /// What a line is about to do.
 fn plan_of_line<K: Kind>(machine: &Machine<K>, i: u32, op: Op, instr: &Instr) -> Plan
     requires { IsOneOf machine.now.shape.n i }
@@ -76,14 +102,20 @@ fn plan_of_line<K: Kind>(machine: &Machine<K>, i: u32, op: Op, instr: &Instr) ->
         (context_of machine.now.shape i (process_at machine.now.state i) op) instr.now }
 {
     match instr {
-        Instr::Put(k, _) => Plan::Write(index_value(machine, i, op, *k)),
-        Instr::PutView(k, _) => Plan::Publish(index_value(machine, i, op, *k)),
-        Instr::Get(_, _, k) => Plan::Read(index_value(machine, i, op, *k)),
-        Instr::Look(_, k) => Plan::Look(index_value(machine, i, op, *k)),
-        Instr::ViewOf(_, _, k) => Plan::Borrow(index_value(machine, i, op, *k)),
+        Instr::Put(k, tuple) => { Plan::Write(index_value(machine, i, op, *k), view_beside(tuple)) }
+        Instr::PutView(k, view) => Plan::Publish(index_value(machine, i, op, *k), *view),
+        Instr::Get(words, k, word) => Plan::Read(
+            index_value(machine, i, op, *word),
+            spot_of(machine, i, op, *words, *k),
+        ),
+        Instr::Look(view, k) => Plan::Look(index_value(machine, i, op, *k), *view),
+        Instr::ViewOf(view, words, k) => {
+            Plan::Borrow(spot_of(machine, i, op, *words, *k), *view)
+        }
+        Instr::ViewData(view, _) => Plan::Collect(*view),
         Instr::IfAll(_, _, target) => Plan::Test(*target),
         Instr::Call(_) => Plan::Enter,
-        Instr::Return(_) => Plan::Leave,
+        Instr::Return(view) => Plan::Leave(*view),
         _ => Plan::Other,
     }
 }

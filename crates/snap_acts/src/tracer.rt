@@ -5,7 +5,7 @@ ghost use Rattle.snap_semantics.specs.Readers.{line_of};
 ghost use Rattle.snap_semantics.specs.State.{process_at};
 ghost use Rattle.snap_semantics.specs.Table.{done, who};
 ghost use Rattle.snap_runs.specs.Run.{run_over};
-ghost use Rattle.snap_acts.specs.Trace.{act_of, call_act, line_number};
+ghost use Rattle.snap_acts.specs.Trace.{act_of, call_act, line_number, returned};
 ghost use Rattle.snap_acts.specs.Trace.{stands_at, step_of, stepped, trace_of};
 
 use crate::act::{Act, Step};
@@ -13,7 +13,7 @@ use crate::plan::{Plan, plan_of};
 use snap_asm_program::Program;
 use snap_machine::Machine;
 use snap_sched::Schedule;
-use snap_semantics::{Item, Outcome, who};
+use snap_semantics::{Item, Name, Outcome, who};
 use snap_words::Kind;
 use std::alloc::{AllocError, Global};
 
@@ -41,14 +41,15 @@ fn stepped<K: Kind>(machine: &Machine<K>, i: u32, plan: Plan) -> Result<Act, All
     ensures { IfOk result (λ a. a ≡ stepped plan machine.now.state i) }
 {
     match plan {
-        Plan::Write(word) => Ok(Act::Write(word, machine.values()?)),
-        Plan::Publish(k) => Ok(Act::Publish(k)),
-        Plan::Read(word) => Ok(Act::Read(word)),
-        Plan::Look(k) => Ok(Act::Look(k)),
-        Plan::Borrow(k) => Ok(Act::Borrow(k)),
+        Plan::Write(word, view) => Ok(Act::Write(word, machine.values()?, view)),
+        Plan::Publish(k, view) => Ok(Act::Publish(k, view)),
+        Plan::Read(word, spot) => Ok(Act::Read(word, spot)),
+        Plan::Look(k, view) => Ok(Act::Look(k, view)),
+        Plan::Borrow(spot, view) => Ok(Act::Borrow(spot, view)),
+        Plan::Collect(view) => Ok(Act::Collect(view)),
         Plan::Test(target) => Ok(Act::Test(stands_at(machine.line(i), target))),
         Plan::Enter => Ok(Act::Enter),
-        Plan::Leave => Ok(Act::Leave),
+        Plan::Leave(view) => Ok(Act::Leave(view)),
         Plan::Other => Ok(Act::Other),
     }
 }
@@ -61,6 +62,16 @@ fn call_act(item: Item) -> Act
         Item::Call(_, op) => Act::Call(op),
         Item::Step(_) => Act::Other,
         Item::Crash(_) => Act::Other,
+    }
+}
+
+/// The view local that a line was about to return.
+fn returned(plan: Plan) -> Option<Name>
+    ensures { result ≡ returned plan }
+{
+    match plan {
+        Plan::Leave(view) => Some(view),
+        _ => None,
     }
 }
 
@@ -77,7 +88,7 @@ fn act_of<K: Kind>(
     match outcome {
         Outcome::Called => Ok(call_act(item)),
         Outcome::Stepped => stepped(machine, who(item), plan),
-        Outcome::Answered(view) => Ok(Act::Answer(view)),
+        Outcome::Answered(view) => Ok(Act::Answer(view, returned(plan))),
         Outcome::Finished => Ok(Act::Done),
         Outcome::Trapped(_) => Ok(Act::Trap),
         Outcome::Crashed => Ok(Act::Crash),

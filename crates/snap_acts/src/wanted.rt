@@ -1,6 +1,6 @@
-//! `Wanted`, `first_from` and `last_before`: searches in the trace of a run for a step, such as the
+//! `Wanted`, `first_from`, `first_within` and `last_before`: searches in the trace of a run for a step, such as the
 //! end of an operation or a write.
-ghost use Rattle.std.specs.Prelude.{◌≡◌, ◌≤◌, ◌<◌, IfSome, drop, length, option_map};
+ghost use Rattle.std.specs.Prelude.{◌≡◌, ◌+◌, ◌≤◌, ◌<◌, IfSome, drop, length, option_map};
 ghost use Rattle.snap_acts.specs.Searches.{
   first_meeting,
   is_answer_or_trap,
@@ -8,15 +8,17 @@ ghost use Rattle.snap_acts.specs.Searches.{
   is_enter,
   is_leave,
   is_write,
+  first_within,
   last_before,
   meets,
   publishes,
-  reads_word,
-  takes_view,
+  reads_into,
+  sets_view,
   writes_word,
 };
 
-use crate::{Act, Step};
+use crate::{Act, Spot, Step};
+use snap_semantics::Name;
 
 /// A step that is searched for.
 #[derive(Clone, Copy)]
@@ -29,14 +31,14 @@ pub enum Wanted {
     Closing(u32),
     Write,
     WriteOf(u64),
-    /// A process reads a word.
-    ReadOf(u32, u64),
+    /// A process reads a word into this place.
+    ReadInto(u32, Spot),
     /// The view of a process is written.
     Published(u64),
     /// The scan of an update of a process begins.
     Enter(u32),
-    /// A process takes a view.
-    Taking(u32),
+    /// A process sets this view local.
+    Sets(u32, Name),
     /// A scan is answered, or a process traps.
     AnswerOrTrap,
 }
@@ -46,7 +48,7 @@ fn is_end(act: &Act) -> bool
     ensures { result ≡ is_end act.now }
 {
     match act {
-        Act::Answer(_) => true,
+        Act::Answer(_, _) => true,
         Act::Done => true,
         Act::Crash => true,
         Act::Trap => true,
@@ -59,7 +61,7 @@ fn is_leave(act: &Act) -> bool
     ensures { result ≡ is_leave act.now }
 {
     match act {
-        Act::Leave => true,
+        Act::Leave(_) => true,
         _ => false,
     }
 }
@@ -68,7 +70,7 @@ fn is_write(act: &Act) -> bool
     ensures { result ≡ is_write act.now }
 {
     match act {
-        Act::Write(_, _) => true,
+        Act::Write(_, _, _) => true,
         _ => false,
     }
 }
@@ -77,16 +79,17 @@ fn writes_word(k: u64, act: &Act) -> bool
     ensures { result ≡ writes_word k act.now }
 {
     match act {
-        Act::Write(word, _) => *word == k,
+        Act::Write(word, _, _) => *word == k,
         _ => false,
     }
 }
 
-fn reads_word(k: u64, act: &Act) -> bool
-    ensures { result ≡ reads_word k act.now }
+/// Whether a word is read into this place.
+fn reads_into(spot: &Spot, act: &Act) -> bool
+    ensures { result ≡ reads_into spot.now act.now }
 {
     match act {
-        Act::Read(word) => *word == k,
+        Act::Read(_, into) => into.words.is(&spot.words) && into.place == spot.place,
         _ => false,
     }
 }
@@ -95,7 +98,7 @@ fn publishes(k: u64, act: &Act) -> bool
     ensures { result ≡ publishes k act.now }
 {
     match act {
-        Act::Publish(j) => *j == k,
+        Act::Publish(j, _) => *j == k,
         _ => false,
     }
 }
@@ -110,13 +113,14 @@ fn is_enter(act: &Act) -> bool
     }
 }
 
-/// Whether a view is taken.
-fn takes_view(act: &Act) -> bool
-    ensures { result ≡ takes_view act.now }
+/// Whether this view local is set.
+fn sets_view(view: &Name, act: &Act) -> bool
+    ensures { result ≡ sets_view view.now act.now }
 {
     match act {
-        Act::Borrow(_) => true,
-        Act::Look(_) => true,
+        Act::Look(_, set) => set.is(view),
+        Act::Borrow(_, set) => set.is(view),
+        Act::Collect(set) => set.is(view),
         _ => false,
     }
 }
@@ -126,26 +130,26 @@ fn is_answer_or_trap(act: &Act) -> bool
     ensures { result ≡ is_answer_or_trap act.now }
 {
     match act {
-        Act::Answer(_) => true,
+        Act::Answer(_, _) => true,
         Act::Trap => true,
         _ => false,
     }
 }
 
 /// Whether a step is what is wanted.
-fn meets(wanted: Wanted, step: &Step) -> bool
-    ensures { result ≡ meets wanted step.now }
+fn meets(wanted: &Wanted, step: &Step) -> bool
+    ensures { result ≡ meets wanted.now step.now }
 {
     match wanted {
-        Wanted::End(i) => step.process == i && is_end(&step.act),
-        Wanted::Leave(i) => step.process == i && is_leave(&step.act),
-        Wanted::Closing(i) => step.process == i && (is_leave(&step.act) || is_end(&step.act)),
+        Wanted::End(i) => step.process == *i && is_end(&step.act),
+        Wanted::Leave(i) => step.process == *i && is_leave(&step.act),
+        Wanted::Closing(i) => step.process == *i && (is_leave(&step.act) || is_end(&step.act)),
         Wanted::Write => is_write(&step.act),
-        Wanted::WriteOf(k) => writes_word(k, &step.act),
-        Wanted::ReadOf(i, k) => step.process == i && reads_word(k, &step.act),
-        Wanted::Published(k) => publishes(k, &step.act),
-        Wanted::Enter(i) => step.process == i && is_enter(&step.act),
-        Wanted::Taking(i) => step.process == i && takes_view(&step.act),
+        Wanted::WriteOf(k) => writes_word(*k, &step.act),
+        Wanted::ReadInto(i, spot) => step.process == *i && reads_into(spot, &step.act),
+        Wanted::Published(k) => publishes(*k, &step.act),
+        Wanted::Enter(i) => step.process == *i && is_enter(&step.act),
+        Wanted::Sets(i, view) => step.process == *i && sets_view(view, &step.act),
         Wanted::AnswerOrTrap => is_answer_or_trap(&step.act),
     }
 }
@@ -156,7 +160,7 @@ pub fn first_from(steps: &[Step], from: usize, wanted: Wanted) -> Option<&Step>
 {
     let mut k = from;
     while k < steps.len() {
-        if meets(wanted, &steps[k]) {
+        if meets(&wanted, &steps[k]) {
             return Some(&steps[k]);
         }
         k += 1;
@@ -172,10 +176,28 @@ pub fn last_before(steps: &[Step], count: usize, wanted: Wanted) -> Option<usize
 {
     let mut k = count;
     while k > 0 {
-        if meets(wanted, &steps[k - 1]) {
+        if meets(&wanted, &steps[k - 1]) {
             return Some(k - 1);
         }
         k -= 1;
+    }
+    None
+}
+
+/// The first of so many places from one on at which there is what is wanted.
+pub fn first_within(steps: &[Step], from: usize, count: usize, wanted: Wanted) -> Option<usize>
+    requires { from + count ≤ length steps.now }
+    ensures place { result ≡ first_within wanted steps.now from count }
+    ensures within { IfSome result (λ k. k < from + count) }
+{
+    let mut k = from;
+    let mut left = count;
+    while left > 0 {
+        if meets(&wanted, &steps[k]) {
+            return Some(k);
+        }
+        k += 1;
+        left -= 1;
     }
     None
 }

@@ -18,8 +18,9 @@ ghost use Rattle.snap_asm.specs.Listed.{HasListing, HaveOneListing};
 
 use snap_asm_program::Program;
 use snap_image::{ImageFault, decode, encode};
-use snap_listing::{ListingFault, print, read_commented};
-use std::alloc::Global;
+use snap_listing::{ListingFault, print, read};
+use snap_listing_core::CommentedListing;
+use std::alloc::{AllocError, Global};
 
 /// The image of the listing that a text is, with its comments, or the first reason why it is none.
 #[tactic(auto, unfolding(snap_image_format::specs::Assembly::assembled))]
@@ -27,7 +28,7 @@ pub fn assemble(alloc: Global, text: &[u8]) -> Result<Vec<u8>, ListingFault>
     ensures image { Answers (λ image. image.items) result (assembled text.now) }
     ensures too_long { 65536 < length text.now → result ≡ Err (Refused TooLong) }
 {
-    let listing = read_commented(alloc, text)?;
+    let listing = read(alloc, text)?;
     let image = encode(alloc, &listing)?;
     Ok(image)
 }
@@ -80,4 +81,15 @@ pub fn load(alloc: Global, image: &[u8]) -> Result<Program, ImageFault>
     let listing = decode(alloc, image)?;
     let program = snap_loader::load(alloc, listing.into_listing())?;
     Ok(program)
+}
+
+/// Returns the program of a listing, whose comments are left out: no line does anything by them.
+///
+/// # Errors
+///
+/// Memory ran out.
+pub fn program(alloc: Global, listing: &CommentedListing) -> Result<Program, AllocError>
+    ensures { IfOk result (λ p. p ≡ listing.now.source) }
+{
+    snap_loader::load(alloc, listing.listing().copy(alloc)?)
 }

@@ -22,9 +22,9 @@ fn point_text(out: &mut Vec<u8>, point: Option<u64>) -> Result<(), AllocError>
     }
 }
 
-/// `scan I call C answer E point P collects N`.
+/// Adds the line `scan I call C answer E point P collects N`.
 #[tactic(auto, using(snap_text::proofs::Texts::joined))]
-pub fn verdict_line(out: &mut Vec<u8>, verdict: &Verdict) -> Result<(), AllocError>
+pub fn push_verdict_line(out: &mut Vec<u8>, verdict: &Verdict) -> Result<(), AllocError>
     ensures { OnOk result (out.new.items ≡ out.old.items ++ verdict_line verdict.now) }
 {
     push_text(out, b"scan ")?;
@@ -40,12 +40,25 @@ pub fn verdict_line(out: &mut Vec<u8>, verdict: &Verdict) -> Result<(), AllocErr
     push_text(out, b"\n")
 }
 
+/// Returns the line of a verdict, `scan I call C answer E point P collects N`.
+///
+/// # Errors
+///
+/// Memory ran out.
+pub fn verdict_line(alloc: Global, verdict: &Verdict) -> Result<Vec<u8>, AllocError>
+    ensures { IfOk result (λ line. line.items ≡ verdict_line verdict.now) }
+{
+    let mut line = Vec::new(alloc);
+    push_verdict_line(&mut line, verdict)?;
+    Ok(line)
+}
+
 /// The lines of verdicts.
 fn verdict_lines(out: &mut Vec<u8>, verdicts: &[Verdict]) -> Result<(), AllocError>
     ensures { OnOk result (out.new.items ≡ out.old.items ++ verdict_lines verdicts.now) }
 {
     for verdict in verdicts {
-        verdict_line(out, verdict)?;
+        push_verdict_line(out, verdict)?;
     }
     Ok(())
 }

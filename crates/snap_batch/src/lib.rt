@@ -13,7 +13,7 @@ pub use course::{Course, run_to_end};
 pub use own_code::OwnCode;
 use rayon::prelude::*;
 use snap_asm_program::Program;
-use snap_report::Report;
+pub use snap_report::Report;
 use snap_sched::Schedule;
 use snap_words::{Bits, Kind, KindTag, Multi, Seq};
 use std::alloc::{AllocError, Global};

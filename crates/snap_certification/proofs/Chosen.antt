@@ -10,7 +10,7 @@ use Rattle.snap_semantics.specs.declared.process.Activity.{Activity}
 use Rattle.snap_runs.specs.LinearizationPoints.{HasLinearizationPoints}
 use Rattle.snap_runs.specs.Promises.{ChangesOnlyAt}
 use Rattle.snap_runs.specs.Run.{Run, IsValidRun, state, item}
-use Rattle.snap_certification.specs.Certification.{PointsCertify, at_line, changes, changing_line, line_or}
+use Rattle.snap_certification.specs.Certification.{PointsCertify, at_line, changes, changing_line, executed, line_or}
 use Rattle.snap_certification.specs.Certification.{putting_line, seen_item, write_line}
 use Rattle.snap_certification.proofs.Complete.{is_certified}
 use Rattle.snap_certification.proofs.Findings.{equal_from}
@@ -19,13 +19,13 @@ use Rattle.snap_certification.proofs.Progressing.{executes_seen}
 module _ (r : Run) (line : ℕ) (fits : IsValidRun r) (only : ChangesOnlyAt line r) where
   -- the line of an item that changes the values
   line_there : (t : ℕ) → t < length r.items → changes (seen_item r (suc t)) ≡ true →
-      option_map (λ (a : Activity). a.line) (seen_item r (suc t)).activity ≡ Some line
+      option_map (λ (a : Activity). a.line) (executed (seen_item r (suc t))) ≡ Some line
   line_there t lt changed = elim (only fits t lt) [
     | inl kept ↦
         let same : changes (seen_item r (suc t)) ≡ false =
         ap not (equal_from (values (state r t)) (values (state r (suc t))) (sym kept)) in
         absurd (let e : true ≡ false = sym changed ∙ same in cc)
-    | inr ex ↦ of_activity (seen_item r (suc t)).activity (sym (executes_seen r line (suc t)) ∙ ex)
+    | inr ex ↦ of_activity (executed (seen_item r (suc t))) (sym (executes_seen r line (suc t)) ∙ ex)
   ]
     where
       of_activity : (o : Option Activity) → at_line line o ≡ true → option_map (λ (a : Activity). a.line) o ≡ Some line
@@ -43,12 +43,12 @@ module _ (r : Run) (line : ℕ) (fits : IsValidRun r) (only : ChangesOnlyAt line
           (changing_line r (suc t) more ≡ None) ⊎ (changing_line r (suc t) more ≡ Some line) →
           (changing_line r t (suc more) ≡ None) ⊎ (changing_line r t (suc more) ≡ Some line)
       by true is rest = inr (
-          ap (λ b. if b then option_map (λ (a : Activity). a.line) (seen_item r (suc t)).activity
+          ap (λ b. if b then option_map (λ (a : Activity). a.line) (executed (seen_item r (suc t)))
           else changing_line r (suc t) more) is
           ∙ line_there t (omega (arith, le)) is)
       by false is rest =
           let here : changing_line r t (suc more) ≡ changing_line r (suc t) more =
-          ap (λ b. if b then option_map (λ (a : Activity). a.line) (seen_item r (suc t)).activity
+          ap (λ b. if b then option_map (λ (a : Activity). a.line) (executed (seen_item r (suc t)))
           else changing_line r (suc t) more) is in
           elim rest [
             | inl none ↦ inl (here ∙ none)

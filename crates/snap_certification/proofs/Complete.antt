@@ -21,7 +21,7 @@ use Rattle.snap_runs.specs.declared.verdict.Verdict.{Verdict}
 use Rattle.snap_runs.proofs.Audits.{of_scans}
 use Rattle.snap_runs.proofs.Calls.{finish_ends, item_one, one_call}
 use Rattle.snap_runs.proofs.Operations.{count_two, counted_item, ends_done}
-use Rattle.snap_certification.specs.Certification.{Evidence, at_line, certification_of, changes, ended, finding_or}
+use Rattle.snap_certification.specs.Certification.{Evidence, at_line, certification_of, changes, ended, executed, finding_or}
 use Rattle.snap_certification.specs.Certification.{found_at, lacks, point_of, points, progress, seen_item, stepped}
 use Rattle.snap_certification.specs.Certification.{unwritten, with_finding, write_line, writes, written}
 use Rattle.snap_certification.specs.declared.found.Finding.{Finding}
@@ -37,7 +37,7 @@ use Rattle.snap_certification.proofs.Sound.{any_end, found_next, last_under, ste
 
 -- what is found of an item that writes, and of one that does not
 module _ (line t : ℕ) (x : SeenItem) (p : Progress) where
-  writes_here : (a : Activity) (word value : ℕ) → x.activity ≡ Some a →
+  writes_here : (a : Activity) (word value : ℕ) → executed x ≡ Some a →
       nat_eq a.line line ≡ true → a.op ≡ Update word value → p.wrote ≡ false →
       bytes_eq x.values_after (slice_set x.values_before (word - 1) value) ≡ true → found_at line t x p
       ≡ finding.Write (record { process = x.process; word = word; value = value; call = p.call; item = t })
@@ -70,10 +70,10 @@ module _ (line t : ℕ) (x : SeenItem) (p : Progress) where
   ended_nothing outcome.Crashed wrote = refl
   ended_nothing (outcome.Skipped why) wrote = refl
 
-  nothing_here : at_line line x.activity ≡ false → changes x ≡ false →
+  nothing_here : at_line line (executed x) ≡ false → changes x ≡ false →
       (x.outcome ≡ outcome.Finished → p.wrote ≡ true) → found_at line t x p ≡ finding.Nothing
   nothing_here not_there same wrote =
-      ap (λ f. finding_or f (ended t x p x.outcome)) (stepped_nothing x.activity not_there same)
+      ap (λ f. finding_or f (ended t x p x.outcome)) (stepped_nothing (executed x) not_there same)
       ∙ ended_nothing x.outcome wrote
 
 module _ (r : Run) (line : ℕ) (fits : IsValidRun r) (has : HasLinearizationPoints line r) where
@@ -81,7 +81,7 @@ module _ (r : Run) (line : ℕ) (fits : IsValidRun r) (has : HasLinearizationPoi
   NothingLacks t =
       (found_next r line fits t ≡ finding.Nothing) ⊎ ((w : UpdateWrite) × (found_next r line fits t ≡ finding.Write w))
 
-  executing : (t : ℕ) (a : Activity) → t < length r.items → (seen_item r (suc t)).activity ≡ Some a →
+  executing : (t : ℕ) (a : Activity) → t < length r.items → executed (seen_item r (suc t)) ≡ Some a →
       nat_eq a.line line ≡ true → executes r (who (item r (suc t))) line (suc t) ≡ true → NothingLacks t
   executing t a lt there at ex =
       let i = who (item r (suc t)) in
@@ -160,14 +160,14 @@ module _ (r : Run) (line : ℕ) (fits : IsValidRun r) (has : HasLinearizationPoi
           ]
 
   nothing_lacks : (t : ℕ) → t < length r.items → NothingLacks t
-  nothing_lacks t lt = by (seen_item r (suc t)).activity refl
+  nothing_lacks t lt = by (executed (seen_item r (suc t))) refl
     where
-      by_line : (a : Activity) → (seen_item r (suc t)).activity ≡ Some a → (b : Bool) →
+      by_line : (a : Activity) → executed (seen_item r (suc t)) ≡ Some a → (b : Bool) →
           nat_eq a.line line ≡ b → NothingLacks t
       by_line a there true at = executing t a lt there at (executes_seen r line (suc t) ∙ ap (at_line line) there ∙ at)
       by_line a there false at = passing t lt (executes_seen r line (suc t) ∙ ap (at_line line) there ∙ at)
 
-      by : (o : Option Activity) → (seen_item r (suc t)).activity ≡ o → NothingLacks t
+      by : (o : Option Activity) → executed (seen_item r (suc t)) ≡ o → NothingLacks t
       by None there = passing t lt (executes_seen r line (suc t) ∙ ap (at_line line) there)
       by (Some a) there = by_line a there (nat_eq a.line line) refl
 

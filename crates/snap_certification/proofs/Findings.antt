@@ -19,8 +19,9 @@ use Rattle.snap_semantics.specs.declared.process.Reason.{Reason}
 use Rattle.snap_semantics.specs.declared.process.Reason.TheVariants.{NoSuchWord}
 use Rattle.snap_semantics.specs.declared.process.Status.{Status}
 use Rattle.snap_semantics.specs.declared.process.Status.TheVariants.{Idle, Busy, Trapped, Crashed}
+use Rattle.snap_runs.specs.Update.{goes_on}
 use Rattle.snap_runs.proofs.Computing.{both, le_from, lt_from, none_then, same_number}
-use Rattle.snap_certification.specs.Certification.{at_line, changes, ended, finding_or, found_at, lacks, stepped}
+use Rattle.snap_certification.specs.Certification.{at_line, changes, ended, executed, finding_or, found_at, lacks, stepped}
 use Rattle.snap_certification.specs.Certification.{stepping, unwritten, written}
 use Rattle.snap_certification.specs.declared.found.Finding.{Finding}
 use Rattle.snap_certification.specs.declared.found.Finding.TheVariants as finding
@@ -53,6 +54,14 @@ stepping_is (Step i) (Trapped c b) a h = absurd cc
 stepping_is (Step i) (Crashed was) a h = absurd cc
 stepping_is (Call i o) s a h = absurd cc
 stepping_is (Crash i) s a h = absurd cc
+
+-- what an item executes is what its step finds its process at
+pub found_at_step : (x : SeenItem) (a : Activity) → executed x ≡ Some a → x.activity ≡ Some a
+found_at_step x a h = by (goes_on x.outcome) h
+  where
+    by : (on : Bool) → (let o : Option Activity = if on then x.activity else None in o) ≡ Some a → x.activity ≡ Some a
+    by true is = is
+    by false is = absurd cc
 
 -- an update that is called is one of a word
 why_none : (s : Source) (S : State) (i : ℕ) (p : Process) (o : Op) (why : Option Reason) →
@@ -118,11 +127,11 @@ module _ (line t : ℕ) (x : SeenItem) (p : Progress) where
   -- where a write was found as a step
   pub record IsWriting (w : UpdateWrite) : Type 0 where
     pub activity : Activity
-    pub there : x.activity ≡ Some activity
+    pub there : executed x ≡ Some activity
     pub line_is : nat_eq activity.line line ≡ true
     pub own : IsOwnWrite activity w
 
-  stepped_write : (o : Option Activity) (w : UpdateWrite) → x.activity ≡ o →
+  stepped_write : (o : Option Activity) (w : UpdateWrite) → executed x ≡ o →
       stepped line t x p o ≡ finding.Write w → IsWriting w
   stepped_write None w is h = absurd (unwritten_not w h)
   stepped_write (Some a) w is h = by (nat_eq a.line line) refl h
@@ -155,8 +164,8 @@ module _ (line t : ℕ) (x : SeenItem) (p : Progress) where
   -- a write that is found
   pub writing : (w : UpdateWrite) → found_at line t x p ≡ finding.Write w → IsWriting w
   writing w h =
-      stepped_write x.activity w refl
-      (first_write (stepped line t x p x.activity) (ended t x p x.outcome) w (ended_not x.outcome w) h)
+      stepped_write (executed x) w refl
+      (first_write (stepped line t x p (executed x)) (ended t x p x.outcome) w (ended_not x.outcome w) h)
 
   both_nothing : (f g : Finding) → finding_or f g ≡ finding.Nothing → (f ≡ finding.Nothing) × (g ≡ finding.Nothing)
   both_nothing finding.Nothing g h = (refl, h)
@@ -165,7 +174,7 @@ module _ (line t : ℕ) (x : SeenItem) (p : Progress) where
 
   -- Where nothing is found, the line is not executed, the values stay, and no update ends that has not written.
   pub record IsQuiet : Type 0 where
-    pub not_there : at_line line x.activity ≡ false
+    pub not_there : at_line line (executed x) ≡ false
     pub same : changes x ≡ false
     pub wrote : x.outcome ≡ outcome.Finished → p.wrote ≡ true
 
@@ -218,6 +227,6 @@ module _ (line t : ℕ) (x : SeenItem) (p : Progress) where
 
   pub quiet : found_at line t x p ≡ finding.Nothing → IsQuiet
   quiet h =
-      let parts = both_nothing (stepped line t x p x.activity) (ended t x p x.outcome) h in
-      let step = stepped_quiet x.activity parts.0 in
+      let parts = both_nothing (stepped line t x p (executed x)) (ended t x p x.outcome) h in
+      let step = stepped_quiet (executed x) parts.0 in
       record { not_there = step.0; same = step.1; wrote = ended_quiet x.outcome parts.1 }

@@ -1,7 +1,7 @@
 -- `Progress` of a process, as a certification keeps it: which call was its last one, and whether it has executed the
 -- line of writes since.
 use Rattle.std.specs.Prelude.{◌≡◌, ℕ, zero, suc, ◌<◌, ◌≤◌, ◌⊎◌, Bool, true, false, ◌&&◌}
-use Rattle.std.specs.Prelude.{◌||◌, length, nat_eq, if◌then◌else◌, refl}
+use Rattle.std.specs.Prelude.{◌||◌, length, None, nat_eq, if◌then◌else◌, refl}
 use Rattle.std.proofs.Common.{sym, ◌∙◌, ap, subst, arith, inl, inr}
 use Rattle.std.proofs.lemmas.Bool.{cases_eq}
 use Rattle.std.proofs.Math.Nat.{eq-or-lt_of_le}
@@ -18,12 +18,12 @@ use Rattle.snap_semantics.specs.declared.process.Status.TheVariants.{Idle, Busy,
 use Rattle.snap_runs.specs.Audit.{is_called}
 use Rattle.snap_runs.specs.Run.{Run, IsValidRun, before, item, outcome as outcome_at}
 use Rattle.snap_runs.specs.Scan.{steps}
-use Rattle.snap_runs.specs.Update.{is_at, executes}
+use Rattle.snap_runs.specs.Update.{is_at, goes_on, executes}
 use Rattle.snap_runs.proofs.Calls.{Calls, EndsAt, Occupied, occupied, turn}
-use Rattle.snap_runs.proofs.Computing.{other_number, same_number}
+use Rattle.snap_runs.proofs.Computing.{and_true, other_number, same_number}
 use Rattle.snap_runs.proofs.Operations.{executes_who}
 use Rattle.snap_runs.proofs.Transitions.{Transition, skipped, calls, goes, answers, finishes, traps, crashes}
-use Rattle.snap_certification.specs.Certification.{at_line, progress, progress_after, seen_item, stepping}
+use Rattle.snap_certification.specs.Certification.{at_line, executed, progress, progress_after, seen_item, stepping}
 use Rattle.snap_certification.specs.declared.found.Progress.{Progress}
 
 and_false : (b : Bool) → (b && false) ≡ false
@@ -34,14 +34,19 @@ pub or_true : (b : Bool) → (b || true) ≡ true
 or_true true = refl
 or_true false = refl
 
--- a step that executes a line
-seen_executes : (line : ℕ) (x : Item) (s : Status) → (steps (who x) x && is_at line s) ≡ at_line line (stepping x s)
-seen_executes line (Step i) Idle = and_false (nat_eq i i)
-seen_executes line (Step i) (Busy a) = ap (λ b. b && nat_eq a.line line) (same_number i)
-seen_executes line (Step i) (Trapped c a) = and_false (nat_eq i i)
-seen_executes line (Step i) (Crashed was) = and_false (nat_eq i i)
-seen_executes line (Call i o) s = refl
-seen_executes line (Crash i) s = refl
+-- a step that executes a line, where it goes on or traps
+seen_executes : (line : ℕ) (x : Item) (s : Status) (on : Bool) →
+    (steps (who x) x && (is_at line s && on)) ≡ at_line line (if on then stepping x s else None)
+seen_executes line (Step i) s false = ap (λ b. nat_eq i i && b) (and_false (is_at line s)) ∙ and_false (nat_eq i i)
+seen_executes line (Step i) Idle true = and_false (nat_eq i i)
+seen_executes line (Step i) (Busy a) true =
+    ap (λ b. b && (nat_eq a.line line && true)) (same_number i) ∙ and_true (nat_eq a.line line)
+seen_executes line (Step i) (Trapped c a) true = and_false (nat_eq i i)
+seen_executes line (Step i) (Crashed was) true = and_false (nat_eq i i)
+seen_executes line (Call i o) s true = refl
+seen_executes line (Call i o) s false = refl
+seen_executes line (Crash i) s true = refl
+seen_executes line (Crash i) s false = refl
 
 -- what is a call
 called_or_not : (o : Outcome) →
@@ -66,8 +71,9 @@ call_finds (crashes k s was) out = absurd cc
 
 module _ (r : Run) (line : ℕ) where
   -- an item executes the line where it is seen to
-  pub executes_seen : (t : ℕ) → executes r (who (item r t)) line t ≡ at_line line (seen_item r t).activity
-  executes_seen t = seen_executes line (item r t) (process_at (before r t) (who (item r t))).status
+  pub executes_seen : (t : ℕ) → executes r (who (item r t)) line t ≡ at_line line (executed (seen_item r t))
+  executes_seen t =
+      seen_executes line (item r t) (process_at (before r t) (who (item r t))).status (goes_on (outcome_at r t))
 
   -- what an item leaves of a process's progress: where it is a call of that process, another item of it, or none
   next_progress : (P : Progress → Type 0) (i t : ℕ) →
@@ -75,7 +81,7 @@ module _ (r : Run) (line : ℕ) where
       (who (item r (suc t)) ≡ i → (outcome_at r (suc t) ≡ outcome.Called → ⊥) →
       P (record {
         call = (progress r line i t).call;
-        wrote = (progress r line i t).wrote || at_line line (seen_item r (suc t)).activity;
+        wrote = (progress r line i t).wrote || at_line line (executed (seen_item r (suc t)));
       })) →
       ((who (item r (suc t)) ≡ i → ⊥) → P (progress r line i t)) → P (progress r line i (suc t))
   next_progress P i t call own other =
@@ -90,13 +96,13 @@ module _ (r : Run) (line : ℕ) where
                   subst P (sym (here ∙ ap (λ b. let q : Progress = if b then record {
                     call = suc t;
                     wrote = false;
-                  } else record { call = p.call; wrote = p.wrote || at_line line x.activity } in q) is.1))
+                  } else record { call = p.call; wrote = p.wrote || at_line line (executed x) } in q) is.1))
                   (call his is.0)
               | inr not ↦
                   subst P (sym (here ∙ ap (λ b. let q : Progress = if b then record {
                     call = suc t;
                     wrote = false;
-                  } else record { call = p.call; wrote = p.wrote || at_line line x.activity } in q) not.1))
+                  } else record { call = p.call; wrote = p.wrote || at_line line (executed x) } in q) not.1))
                   (own his not.0)
             ]
         | inr beside ↦
@@ -122,7 +128,7 @@ module _ (r : Run) (line : ℕ) where
 
   either_wrote : (i t : ℕ) → who (item r (suc t)) ≡ i → (b : Bool) →
       (progress r line i t).call ≤ t → (b ≡ true → Wrote i (progress r line i t).call t) →
-      (b || at_line line (seen_item r (suc t)).activity) ≡ true → Wrote i (progress r line i t).call (suc t)
+      (b || at_line line (executed (seen_item r (suc t)))) ≡ true → Wrote i (progress r line i t).call (suc t)
   either_wrote i t his true le past h = wrote_longer i (progress r line i t).call t (past refl)
   either_wrote i t his false le past h = (
     suc t,
@@ -152,12 +158,12 @@ module _ (r : Run) (line : ℕ) where
       (λ his is lt le ex. absurd (omega (arith, lt, le)))
       (λ his not lt le ex. elim (eq-or-lt_of_le le) [
         | inl same ↦
-            let now : at_line line (seen_item r (suc t)).activity ≡ true =
+            let now : at_line line (executed (seen_item r (suc t))) ≡ true =
             sym (executes_seen (suc t)) ∙ ap (λ k. executes r k line (suc t)) his
             ∙ subst (λ v. executes r i line v ≡ true) same ex in
             ap (λ b. (progress r line i t).wrote || b) now ∙ or_true (progress r line i t).wrote
         | inr less ↦
-            kept_wrote (progress r line i t).wrote (at_line line (seen_item r (suc t)).activity)
+            kept_wrote (progress r line i t).wrote (at_line line (executed (seen_item r (suc t))))
             (has_written i t u lt (omega (arith, less)) ex)
       ])
       (λ other lt le ex. elim (eq-or-lt_of_le le) [

@@ -28,7 +28,7 @@ use Rattle.snap_runs.proofs.Calls.{Calls, EndsWith, IsEnd, UnderAt, UnderCall, i
 use Rattle.snap_runs.proofs.Operations.{ends_done, executes_who, same_update, shorter}
 use Rattle.snap_runs.proofs.Complete.{scans_have_verdicts}
 use Rattle.snap_certification.specs.Certificate.{HasWrite, IsCertificate, IsPointOf, IsWriteOf, WritesAtItem}
-use Rattle.snap_certification.specs.Certification.{Evidence, at_line, certificate_of, certificate_point}
+use Rattle.snap_certification.specs.Certification.{Evidence, at_line, certificate_of, certificate_point, executed}
 use Rattle.snap_certification.specs.Certification.{certificate_write, certification_of, found_at, point_item}
 use Rattle.snap_certification.specs.Certification.{point_of, points, progress, seen_item}
 use Rattle.snap_certification.specs.Certification.{with_finding, write_line, writes}
@@ -36,7 +36,7 @@ use Rattle.snap_certification.specs.declared.found.Finding.{Finding}
 use Rattle.snap_certification.specs.declared.found.Finding.TheVariants as finding
 use Rattle.snap_certification.specs.declared.found.Missing.{Missing}
 use Rattle.snap_certification.specs.declared.found.UpdateWrite.{UpdateWrite}
-use Rattle.snap_certification.proofs.Findings.{equal_numbers, quiet, stepping_is, word_called, writing}
+use Rattle.snap_certification.proofs.Findings.{equal_numbers, found_at_step, quiet, stepping_is, word_called, writing}
 use Rattle.snap_certification.proofs.Progressing.{call_is, executes_seen, has_written, wrote_at}
 
 -- an operation that ends in its own way ends
@@ -93,11 +93,11 @@ module _ (r : Run) (line : ℕ) (fits : IsValidRun r) where
   found_next t = found_at line (suc t) (seen_item r (suc t)) (progress r line (who (item r (suc t))) t)
 
   -- a step of a busy process is under a call, the last one of its process
-  pub step_under : (t : ℕ) (a : Activity) → t < length r.items → (seen_item r (suc t)).activity ≡ Some a →
+  pub step_under : (t : ℕ) (a : Activity) → t < length r.items → executed (seen_item r (suc t)) ≡ Some a →
       UnderCall r fits (who (item r (suc t))) a.op t
   step_under t a lt is =
       let i = who (item r (suc t)) in
-      subst (UnderAt r fits i t) (stepping_is (item r (suc t)) (process_at (state r t) i).status a is)
+      subst (UnderAt r fits i t) (stepping_is (item r (suc t)) (process_at (state r t) i).status a (found_at_step (seen_item r (suc t)) a is))
       (under r fits t i (omega (arith, lt)) (item_one r fits t lt))
 
   pub last_under : (i t : ℕ) (o : Op) → t ≤ length r.items → IsOneOf r.shape.n i → (u : UnderCall r fits i o t) →

@@ -22,6 +22,7 @@ use Rattle.snap_runs.specs.Audit.{audit, is_called}
 use Rattle.snap_runs.specs.Linearization.{IsLinearizable}
 use Rattle.snap_runs.specs.LinearizationPoints.{HasLinearizationPoints}
 use Rattle.snap_runs.specs.Run.{Run, IsValidRun, state, before, item, outcome as outcome_at}
+use Rattle.snap_runs.specs.Update.{goes_on}
 use Rattle.snap_runs.specs.declared.verdict.Verdict.{Verdict}
 use Rattle.snap_certification.specs.Certificate as certificate
 use Rattle.snap_certification.specs.Certificate.{Certificate, IsCertificate, ScanPoint}
@@ -55,6 +56,10 @@ seen_item r t = record {
 abbrev pub changes : SeenItem → Bool
 changes x = not (bytes_eq x.values_before x.values_after)
 
+-- what it executes: what a step finds its process at, where that goes on
+abbrev pub executed : SeenItem → Option Activity
+executed x = if goes_on x.outcome then x.activity else None
+
 -- it executes this line
 abbrev pub at_line : ℕ → Option Activity → Bool
 at_line line None = false
@@ -67,7 +72,7 @@ at_line line (Some a) = nat_eq a.line line
 abbrev pub changing_line : Run → ℕ → ℕ → Option ℕ
 changing_line r t zero = None
 changing_line r t (suc more) =
-    if changes (seen_item r (suc t)) then option_map (λ (a : Activity). a.line) (seen_item r (suc t)).activity
+    if changes (seen_item r (suc t)) then option_map (λ (a : Activity). a.line) (executed (seen_item r (suc t)))
     else changing_line r (suc t) more
 
 -- a line that writes a word
@@ -92,7 +97,7 @@ write_line r = line_or (changing_line r 0 (length r.items)) (putting_line r.sour
 abbrev pub progress_after : ℕ → ℕ → SeenItem → Progress → Progress
 progress_after line t x p =
     if is_called x.outcome then record { call = t; wrote = false }
-    else record { call = p.call; wrote = p.wrote || at_line line x.activity }
+    else record { call = p.call; wrote = p.wrote || at_line line (executed x) }
 
 -- after the first t items
 abbrev pub progress : Run → ℕ → ℕ → ℕ → Progress
@@ -118,7 +123,7 @@ written t x p (op.Update word value) =
 abbrev pub unwritten : ℕ → SeenItem → Progress → Finding
 unwritten t x p = if changes x then lacks lack.Line t x p else finding.Nothing
 
--- what is found of item t as a step
+-- what is found of item t by what it executes
 abbrev pub stepped : ℕ → ℕ → SeenItem → Progress → Option Activity → Finding
 stepped line t x p None = unwritten t x p
 stepped line t x p (Some a) = if nat_eq a.line line then written t x p a.op else unwritten t x p
@@ -135,7 +140,7 @@ finding_or found other = found
 
 -- what is found at item t
 abbrev pub found_at : ℕ → ℕ → SeenItem → Progress → Finding
-found_at line t x p = finding_or (stepped line t x p x.activity) (ended t x p x.outcome)
+found_at line t x p = finding_or (stepped line t x p (executed x)) (ended t x p x.outcome)
 
 -- with what is found at one item more
 abbrev pub with_finding : List UpdateWrite → Finding → Result (List UpdateWrite) Missing

@@ -24,8 +24,8 @@ use Rattle.snap_runs.proofs.Computing.{lt_true, other_number, same_number}
 use Rattle.snap_runs.proofs.Embedding.{next_state}
 use Rattle.snap_machine.specs.Configuration.{Configuration}
 use Rattle.snap_certification.specs.Certification.{CertifiedHasCertificate, Evidence, certificate_of}
-use Rattle.snap_certification.specs.Certification.{certification_of, changes, changing_line, found_at, progress}
-use Rattle.snap_certification.specs.Certification.{progress_after, seen_item, stepping}
+use Rattle.snap_certification.specs.Certification.{certification_of, changes, changing_line, executed, found_at}
+use Rattle.snap_certification.specs.Certification.{progress, progress_after, seen_item, stepping}
 use Rattle.snap_certification.specs.Certification.{with_finding, write_line, writes}
 use Rattle.snap_certification.specs.declared.found.Finding.{Finding}
 use Rattle.snap_certification.specs.declared.found.Missing.{Missing}
@@ -192,11 +192,11 @@ module _ (r : Run) (t n : ℕ) (below : t < n) (x : SeenItem) (is : x ≡ seen_i
   at_next : x ≡ seen_item r (suc t)
   at_next = is ∙ ap (seen_item r) (plus_one t)
 
-  pub changing_here : changes x ≡ true → option_map (λ (a : Activity). a.line) x.activity ≡ changing_line r t (n - t)
+  pub changing_here : changes x ≡ true → option_map (λ (a : Activity). a.line) (executed x) ≡ changing_line r t (n - t)
   changing_here changed =
-      ap (λ (y : SeenItem). option_map (λ (a : Activity). a.line) y.activity) at_next
+      ap (λ (y : SeenItem). option_map (λ (a : Activity). a.line) (executed y)) at_next
       ∙ sym (ap (λ k. changing_line r t k) (one_less n t below)
-      ∙ ap (λ b. if b then option_map (λ (a : Activity). a.line) (seen_item r (suc t)).activity
+      ∙ ap (λ b. if b then option_map (λ (a : Activity). a.line) (executed (seen_item r (suc t)))
       else changing_line r (suc t) (n - (t + 1)))
       (ap changes (sym at_next) ∙ changed))
 
@@ -204,7 +204,7 @@ module _ (r : Run) (t n : ℕ) (below : t < n) (x : SeenItem) (is : x ≡ seen_i
   changing_later still =
       ap (λ k. changing_line r k (n - (t + 1))) (plus_one t)
       ∙ sym (ap (λ k. changing_line r t k) (one_less n t below)
-      ∙ ap (λ b. if b then option_map (λ (a : Activity). a.line) (seen_item r (suc t)).activity
+      ∙ ap (λ b. if b then option_map (λ (a : Activity). a.line) (executed (seen_item r (suc t)))
       else changing_line r (suc t) (n - (t + 1)))
       (ap changes (sym at_next) ∙ still))
 

@@ -4,6 +4,7 @@ ghost use Rattle.std.specs.Prelude.{◌≡◌, IfOk, length, option_map};
 ghost use Rattle.snap_certification.specs.Certification.{
   changes,
   changing_line,
+  executed,
   is_put,
   putting_line,
   write_line,
@@ -14,7 +15,7 @@ use crate::replay::{first_machine, see_next};
 use snap_certification::SeenItem;
 use snap_machine::Machine;
 use snap_record::Record;
-use snap_semantics::{Instr, Line};
+use snap_semantics::{Activity, Instr, Line, Outcome};
 use snap_words::Kind;
 use std::alloc::{AllocError, Global};
 
@@ -25,11 +26,21 @@ pub(crate) fn changes(item: &SeenItem) -> bool
     item.values_before.as_slice() != item.values_after.as_slice()
 }
 
+/// What an item executes: what its step finds the process at, where that goes on.
+pub(crate) fn executed(item: &SeenItem) -> Option<Activity>
+    ensures { result ≡ executed item.now }
+{
+    match item.outcome {
+        Outcome::Trapped(_) => None,
+        _ => item.activity,
+    }
+}
+
 /// The line that an item executes.
 fn executed_line(item: &SeenItem) -> Option<u64>
-    ensures { result ≡ option_map (λ a. a.line) item.now.activity }
+    ensures { result ≡ option_map (λ a. a.line) (executed item.now) }
 {
-    Some(item.activity?.line)
+    Some(executed(item)?.line)
 }
 
 /// The line of the first item that changes the values, which a machine finds that does the items.
@@ -40,7 +51,7 @@ fn found_line<K: Kind>(
     requires { machine.old ≡ machine_at history.now 0 }
     ensures { IfOk result (λ l. l ≡ changing_line history.now 0 (length history.now.items)) }
 {
-    let count = history.items().len() as u64;
+    let count = history.items().len();
     for t in 0..count {
         let item = see_next(machine, history, t)?;
         if changes(&item) {

@@ -7,6 +7,7 @@ ghost use Rattle.snap_words.specs.Shape.{IsOneOf};
 ghost use Rattle.snap_certification.specs.Certification.{
   at_line,
   ended,
+  executed,
   found_at,
   lacks,
   progress_after,
@@ -19,7 +20,7 @@ ghost use Rattle.snap_certification.specs.Certification.{
 ghost use Rattle.snap_certification.specs.declared.found.Progress.{Progress};
 ghost use Rattle.snap_certify.specs.Replay.{AreProgress, fresh, machine_at};
 
-use crate::line::changes;
+use crate::line::{changes, executed};
 use crate::replay::{first_machine, see_next};
 use snap_certification::{Finding, Lack, Missing, Progress, SeenItem, UpdateWrite};
 use snap_machine::Machine;
@@ -104,7 +105,7 @@ fn unwritten(t: u64, item: &SeenItem, progress: Progress) -> Finding
     }
 }
 
-/// What is found of item `t` as a step.
+/// What is found of item `t` by what it executes.
 fn stepped(
     alloc: Global,
     line: u64,
@@ -112,9 +113,9 @@ fn stepped(
     item: &SeenItem,
     progress: Progress,
 ) -> Result<Finding, AllocError>
-    ensures { IfOk result (λ f. f ≡ stepped line t item.now progress item.now.activity) }
+    ensures { IfOk result (λ f. f ≡ stepped line t item.now progress (executed item.now)) }
 {
-    match item.activity {
+    match executed(item) {
         Some(activity) if activity.line == line => {
             written(alloc, t, item, progress, activity.op)
         }
@@ -148,7 +149,7 @@ fn found_at(
     }
 }
 
-/// Whether a process is at a line.
+/// Whether a line is executed.
 fn at_line(line: u64, activity: Option<Activity>) -> bool
     ensures { result ≡ at_line line activity }
 {
@@ -169,7 +170,7 @@ fn progress_after(line: u64, t: u64, item: &SeenItem, progress: Progress) -> Pro
         },
         _ => Progress {
             call: progress.call,
-            wrote: progress.wrote || at_line(line, item.activity),
+            wrote: progress.wrote || at_line(line, executed(item)),
         },
     }
 }
@@ -270,7 +271,7 @@ fn find_writes<K: Kind>(
     ensures lacks { IfOk result (λ missing.
         IfSome missing (λ m. writes history.now line (length history.now.items) ≡ Err m)) }
 {
-    let count = history.items().len() as u64;
+    let count = history.items().len();
     for t in 0..count {
         let missing = note_next(alloc, machine, history, line, t, progress, all)?;
         if let Some(missing) = missing {

@@ -10,6 +10,7 @@ pub use marks::{MAX_MARKS, Marks};
 pub use reply::Reply;
 pub use session::Session;
 pub use snap_debug_commands::{
-    Breakpoint, Command, commands_are_spelled, fault_line, push_command, push_refusal,
-    push_refusal_line, read_commands, written_commands_are_read,
+    Breakpoint, Command, CommandRefusal, DebugFault, commands_are_spelled, fault_line,
+    push_command, push_refusal, push_refusal_line, read_commands, written_commands_are_read,
 };
+pub use snap_report::Report;

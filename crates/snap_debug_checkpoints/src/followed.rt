@@ -92,7 +92,7 @@ impl<K: Kind> Followed<K> {
         self.events.reserve(1)?;
         let outcome = self.machine.apply(item)?;
         self.items.push_reserved(item);
-        note_event(&mut self.events, self.items.len() as u64, item, outcome);
+        note_event(&mut self.events, self.items.len(), item, outcome);
         Ok(())
     }
 

@@ -97,7 +97,7 @@ fn keep_checkpoint<K: Kind>(
         AllByRecursion (IsCheckpoint r) later.old.items →
         AllByRecursion (IsCheckpoint r) later.new.items }
 {
-    let position = history.items().len() as u64;
+    let position = history.items().len();
     // No division: this is asked at each item.
     let due = (later.len() as u64 + 1).wrapping_mul(spacing);
     if position == due {
@@ -210,7 +210,7 @@ impl<K: Kind> Recording<K> {
         ensures reached { result ≡ self.now.reached }
         ensures within { result ≤ length self.now.run.items }
     {
-        self.history.items().len() as u64
+        self.history.items().len()
     }
 
     /// How many processes there are.

@@ -1,12 +1,15 @@
--- Turns, one after the other, are a dialog, and what is shown in them is its transcript.
+-- Turns, one after the other, are a dialog, and what is shown in them is a transcript of it.
 use Rattle.std.proofs.Common.{◌≡◌, ℕ, List, [], ◌∷◌, ◌++◌, Option, Some, None, Bool, true, false, if◌then◌else◌, ◌==◌}
-use Rattle.std.proofs.Common.{refl, sym, ap, ◌∙◌, subst, append_assoc, append-nil, IfSome}
+use Rattle.std.proofs.Common.{refl, sym, ap, ◌∙◌, subst, append_assoc, append-nil, IfSome, inl, inr}
 use Rattle.std.specs.Prelude.{map}
 use Rattle.std.specs.Io.KnownBytes.{Appends}
 use Rattle.std.specs.Io.BufRead.{take_through, drop_through, DropsThrough}
-use Rattle.snap_dialog.specs.Dialog.{Answer, IsAnswered, IsDialog, answer_or_end, dialog, transcript, turn, turn_text}
+use Rattle.std.proofs.lemmas.Bool.{true≢false}
+use Rattle.snap_dialog.specs.Dialog.{AreTurns, EndsAtLast, GoesOn, IsAnswered, IsBehind, IsDialog, IsTranscript}
+use Rattle.snap_dialog.specs.Dialog.{IsTranscriptPart, IsTurn, IsTurnText, IsTurnTextPart, Next, SaysOrEnds}
+use Rattle.snap_dialog.specs.Dialog.{ShowsTranscript, next_or_end}
 use Rattle.snap_dialog.specs.Event.{Event, said, typed, Passes, PassesAll}
-use Rattle.snap_dialog.specs.Talks.{GoesOn, HasPassed, HasShown}
+use Rattle.snap_dialog.specs.Talks.{HasPassed, HasShown, TurnPassed, TurnShown}
 use Rattle.snap_dialog.specs.TypedLines.{kept, onto_first, typed_lines, whole_lines}
 
 -- texts shown one after the other
@@ -38,9 +41,9 @@ nothing_passes None = tt
 nothing_passes (Some xs) = sym (append-nil xs)
 
 -- three events
-pub turn_passes : (u v w x : Option (List Event)) (p l r : List ℕ) → Passes u v (said p) → Passes v w (typed l) →
+three_pass : (u v w x : Option (List Event)) (p l r : List ℕ) → Passes u v (said p) → Passes v w (typed l) →
     Passes w x (said r) → PassesAll u x (said p ∷ typed l ∷ said r ∷ [])
-turn_passes u v w x p l r a b c =
+three_pass u v w x p l r a b c =
     all_pass u v x (said p ∷ []) (typed l ∷ said r ∷ []) (one_passes u v (said p) a)
     (all_pass v w x (typed l ∷ []) (said r ∷ []) (one_passes v w (typed l) b) (one_passes w x (said r) c))
 
@@ -58,160 +61,210 @@ first_of_lines b (c ∷ cs) = elim (b == 10)
       | false ↦ ap (onto_first b) (first_of_lines c cs)
     ]
 
--- the transcript, from the first line on
-pub transcript_of : {S : Type 0} (prompt : S → List ℕ) (answer : S → List ℕ → Answer S) (s : S) (xs : List ℕ) →
-    transcript prompt answer s (typed_lines xs) ≡ prompt s ++ ((answer_or_end answer s (kept (take_through 10 xs))).text
-    ++ (if (answer_or_end answer s (kept (take_through 10 xs))).goes_on
-    then transcript prompt answer (answer_or_end answer s (kept (take_through 10 xs))).state
-    (typed_lines (drop_through 10 xs)) else []))
-transcript_of prompt answer s [] = sym (append-nil (prompt s))
-transcript_of prompt answer s (b ∷ bs) = ap (λ lines. transcript prompt answer s (map kept lines)) (first_of_lines b bs)
+-- what was said of a text, said of a copy of it
+pub of_copy : {S : Type 0} (says : S → List ℕ → List ℕ → Type 0) (now : S) (line told written blank : List ℕ) →
+    told ≡ written → (text : List ℕ) × SaysOrEnds says now line text × (written ≡ blank ++ text) →
+    (text : List ℕ) × SaysOrEnds says now line text × (told ≡ blank ++ text)
+of_copy says now line told written blank is h = (h.0, h.1, is ∙ h.2)
 
--- before the first turn
-pub shown_first : {S : Type 0} (prompt : S → List ℕ) (answer : S → List ℕ → Answer S) (s : S)
-    (first before : Option (List ℕ)) → HasShown prompt answer s s first first before before
-shown_first prompt answer s None before = tt
-shown_first prompt answer s (Some all) before = (all, refl, [], appends_nothing before, refl)
+-- what holds of a first line and the lines of the rest holds of the typed lines
+by_first_line : (P : List (List ℕ) → Type 0) (b : ℕ) (bs : List ℕ) →
+    P (kept (take_through 10 (b ∷ bs)) ∷ typed_lines (drop_through 10 (b ∷ bs))) → P (typed_lines (b ∷ bs))
+by_first_line P b bs h = subst (λ lines. P (map kept lines)) (sym (first_of_lines b bs)) h
 
--- a turn that goes on, and one that does not
-abbrev pub TurnShown : {S : Type 0} → (S → List ℕ) → (S → List ℕ → Answer S) → S → S → Option (List ℕ) →
-    Option (List ℕ) → Option (List ℕ) → Bool → Type 0
-TurnShown prompt answer now later left v w more =
-    IfSome left (λ xs. IsAnswered answer now (kept (take_through 10 xs)) later more
-    × Appends v w (turn_text prompt answer now (kept (take_through 10 xs))))
+module _ {S : Type 0} (prompt : S → List ℕ) (says : S → List ℕ → List ℕ → Type 0) (next : S → List ℕ → Next S) where
+  -- a turn that goes on, before a transcript of the rest
+  turn_then : (now later : S) (xs turn more : List ℕ) → IsAnswered next now (kept (take_through 10 xs)) later true →
+      IsTurnText prompt says now (kept (take_through 10 xs)) turn →
+      IsTranscript prompt says next later (typed_lines (drop_through 10 xs)) more →
+      IsTranscript prompt says next now (typed_lines xs) (turn ++ more)
+  turn_then now later [] turn more a is_turn rest = absurd (true≢false a.1)
+  turn_then now later (b ∷ bs) turn more a is_turn rest =
+      let after = next_or_end next now (kept (take_through 10 (b ∷ bs))) in
+      let lines = typed_lines (drop_through 10 (b ∷ bs)) in
+      let behind : IsTranscript prompt says next after.state lines more =
+      subst (λ x. IsTranscript prompt says next x lines more) a.0 rest in
+      by_first_line (λ all. IsTranscript prompt says next now all (turn ++ more)) b bs (
+        turn,
+        more,
+        is_turn,
+        subst (λ (g : Bool). IsBehind g (IsTranscript prompt says next after.state lines) more) a.1 behind,
+        refl,
+      )
 
--- what a turn shows, before what the rest asks for
-turn_then : {S : Type 0} (prompt : S → List ℕ) (answer : S → List ℕ → Answer S) (now later : S) (rest : List ℕ)
-    (text : List ℕ) → IsAnswered answer now (kept (take_through 10 rest)) later true →
-    (text ++ turn_text prompt answer now (kept (take_through 10 rest)))
-    ++ transcript prompt answer later (typed_lines (drop_through 10 rest))
-    ≡ text ++ transcript prompt answer now (typed_lines rest)
-turn_then prompt answer now later rest text a =
-    let line = kept (take_through 10 rest) in
-    let said = (answer_or_end answer now line).text in
-    let behind = transcript prompt answer later (typed_lines (drop_through 10 rest)) in
-    append_assoc text (prompt now ++ said) behind ∙ ap (λ t. text ++ t) (append_assoc (prompt now) said behind
-    ∙ ap (λ x. prompt now ++ (said ++ transcript prompt answer x (typed_lines (drop_through 10 rest)))) a.0
-    ∙ ap (λ (b : Bool). prompt now ++ (said ++ (if b
-    then transcript prompt answer (answer_or_end answer now line).state (typed_lines (drop_through 10 rest)) else [])))
-    a.1
-    ∙ sym (transcript_of prompt answer now rest))
+  -- before a beginning of one
+  turn_then_part : (now later : S) (xs turn more : List ℕ) →
+      IsAnswered next now (kept (take_through 10 xs)) later true →
+      IsTurnText prompt says now (kept (take_through 10 xs)) turn →
+      IsTranscriptPart prompt says next later (typed_lines (drop_through 10 xs)) more →
+      IsTranscriptPart prompt says next now (typed_lines xs) (turn ++ more)
+  turn_then_part now later [] turn more a is_turn rest = absurd (true≢false a.1)
+  turn_then_part now later (b ∷ bs) turn more a is_turn rest =
+      let lines = typed_lines (drop_through 10 (b ∷ bs)) in
+      by_first_line (λ all. IsTranscriptPart prompt says next now all (turn ++ more)) b bs (inr (
+        turn,
+        more,
+        is_turn,
+        sym a.1,
+        subst (λ x. IsTranscriptPart prompt says next x lines more) a.0 rest,
+        refl,
+      ))
 
-turn_last : {S : Type 0} (prompt : S → List ℕ) (answer : S → List ℕ → Answer S) (now later : S) (rest : List ℕ) →
-    IsAnswered answer now (kept (take_through 10 rest)) later false →
-    turn_text prompt answer now (kept (take_through 10 rest)) ≡ transcript prompt answer now (typed_lines rest)
-turn_last prompt answer now later rest a =
-    let line = kept (take_through 10 rest) in
-    let said = (answer_or_end answer now line).text in
-    ap (λ t. prompt now ++ t) (sym (append-nil said))
-    ∙ ap (λ (b : Bool). prompt now ++ (said ++ (if b
-    then transcript prompt answer (answer_or_end answer now line).state (typed_lines (drop_through 10 rest)) else [])))
-    a.1
-    ∙ sym (transcript_of prompt answer now rest)
+  -- a turn that does not go on
+  turn_last : (now later : S) (xs turn : List ℕ) → IsAnswered next now (kept (take_through 10 xs)) later false →
+      IsTurnText prompt says now (kept (take_through 10 xs)) turn →
+      IsTranscript prompt says next now (typed_lines xs) turn
+  turn_last now later [] turn a is_turn =
+      is_turn.2 ∙ ap (λ t. prompt now ++ t) is_turn.1 ∙ append-nil (prompt now)
+  turn_last now later (b ∷ bs) turn a is_turn =
+      let after = next_or_end next now (kept (take_through 10 (b ∷ bs))) in
+      let lines = typed_lines (drop_through 10 (b ∷ bs)) in
+      by_first_line (λ all. IsTranscript prompt says next now all turn) b bs (
+        turn,
+        [],
+        is_turn,
+        subst (λ (g : Bool). IsBehind g (IsTranscript prompt says next after.state lines) []) a.1 refl,
+        sym (append-nil turn),
+      )
 
-pub shown_more : {S : Type 0} (prompt : S → List ℕ) (answer : S → List ℕ → Answer S) (s now later : S)
-    (first left next u v w : Option (List ℕ)) (more : Bool) → HasShown prompt answer s now first left u v →
-    DropsThrough left next 10 → TurnShown prompt answer now later left v w more → more ≡ true →
-    HasShown prompt answer s later first next u w
-shown_more prompt answer s now later None left next u v w more h drops shows on = tt
-shown_more prompt answer s now later (Some all) left next u v w more h drops shows on =
-    let t : TurnShown prompt answer now later (Some h.0) v w true =
-    subst (λ b. TurnShown prompt answer now later (Some h.0) v w b) on
-    (subst (λ o. TurnShown prompt answer now later o v w more) h.1 shows) in (
-      drop_through 10 h.0,
-      subst (λ o. DropsThrough o next 10) h.1 drops,
-      h.2 ++ turn_text prompt answer now (kept (take_through 10 h.0)),
-      appends_then u v w h.2 (turn_text prompt answer now (kept (take_through 10 h.0))) h.3 t.1,
-      turn_then prompt answer now later h.0 h.2 t.0 ∙ h.4,
-    )
+  -- a part of a turn
+  pub part_of_first : (now : S) (xs text : List ℕ) →
+      IsTurnTextPart prompt says now (kept (take_through 10 xs)) text →
+      IsTranscriptPart prompt says next now (typed_lines xs) text
+  part_of_first now [] text h = h
+  part_of_first now (b ∷ bs) text h =
+      by_first_line (λ all. IsTranscriptPart prompt says next now all text) b bs (inl h)
 
-pub shown_all : {S : Type 0} (prompt : S → List ℕ) (answer : S → List ℕ → Answer S)
-    (s now later : S) (first left u v w : Option (List ℕ)) (more : Bool) →
-    HasShown prompt answer s now first left u v → TurnShown prompt answer now later left v w more → more ≡ false →
-    IfSome first (λ input. Appends u w (transcript prompt answer s (typed_lines input)))
-shown_all prompt answer s now later None left u v w more h shows off = tt
-shown_all prompt answer s now later (Some all) left u v w more h shows off =
-    let t : TurnShown prompt answer now later (Some h.0) v w false =
-    subst (λ b. TurnShown prompt answer now later (Some h.0) v w b) off
-    (subst (λ o. TurnShown prompt answer now later o v w more) h.1 shows) in
-    subst (λ text. Appends u w text) (ap (λ x. h.2 ++ x) (turn_last prompt answer now later h.0 t.0) ∙ h.4)
-    (appends_then u v w h.2 (turn_text prompt answer now (kept (take_through 10 h.0))) h.3 t.1)
+  -- before the first turn
+  pub shown_first : (s : S) (first before : Option (List ℕ)) →
+      HasShown prompt says next s s first first before before
+  shown_first s None before = tt
+  shown_first s (Some all) before = (all, refl, [], appends_nothing before, λ more h. h, λ more h. h)
 
--- a dialog and one turn more
-pub dialog_more : {S : Type 0} (prompt : S → List ℕ) (answer : S → List ℕ → Answer S) (s now : S)
-    (lines : List (List ℕ)) (line : List ℕ) → GoesOn answer s lines now →
-    dialog prompt answer s (lines ++ line ∷ []) ≡ dialog prompt answer s lines ++ turn prompt answer now line
-dialog_more prompt answer s now [] line h = ap (λ x. turn prompt answer x line) (sym h)
-dialog_more prompt answer s now (first ∷ lines) line h =
-    ap (λ es. turn prompt answer s first ++ es)
-    (dialog_more prompt answer (answer_or_end answer s first).state now lines line h.1)
+  -- a turn that goes on, and one that does not
+  pub shown_more : (s now later : S) (first left rest u v w : Option (List ℕ)) (more : Bool) →
+      HasShown prompt says next s now first left u v → DropsThrough left rest 10 →
+      TurnShown prompt says next now later more left v w → more ≡ true →
+      HasShown prompt says next s later first rest u w
+  shown_more s now later None left rest u v w more h drops shows on = tt
+  shown_more s now later (Some all) left rest u v w more h drops shows on =
+      let t : TurnShown prompt says next now later true (Some h.0) v w =
+      subst (λ b. TurnShown prompt says next now later b (Some h.0) v w) on
+      (subst (λ o. TurnShown prompt says next now later more o v w) h.1 shows) in (
+        drop_through 10 h.0,
+        subst (λ o. DropsThrough o rest 10) h.1 drops,
+        h.2 ++ t.1,
+        appends_then u v w h.2 t.1 h.3 t.3,
+        λ x is. subst (λ y. IsTranscript prompt says next s (typed_lines all) y) (sym (append_assoc h.2 t.1 x))
+            (h.4 (t.1 ++ x) (turn_then now later h.0 t.1 x t.0 t.2 is)),
+        λ x is. subst (λ y. IsTranscriptPart prompt says next s (typed_lines all) y) (sym (append_assoc h.2 t.1 x))
+            (h.5 (t.1 ++ x) (turn_then_part now later h.0 t.1 x t.0 t.2 is)),
+      )
 
-goes_on_more : {S : Type 0} (answer : S → List ℕ → Answer S) (s now later : S)
-    (lines : List (List ℕ)) (line : List ℕ) → GoesOn answer s lines now →
-    IsAnswered answer now line later true → GoesOn answer s (lines ++ line ∷ []) later
-goes_on_more answer s now later [] line h a =
-    subst (λ x. GoesOn answer x (line ∷ []) later) h (sym a.1, a.0)
-goes_on_more answer s now later (first ∷ lines) line h a =
-    (h.0, goes_on_more answer (answer_or_end answer s first).state now later lines line h.1 a)
+  pub shown_all : (s now later : S) (first left u v w : Option (List ℕ)) (more : Bool) →
+      HasShown prompt says next s now first left u v → TurnShown prompt says next now later more left v w →
+      more ≡ false → IfSome first (λ input. ShowsTranscript prompt says next s (typed_lines input) u w)
+  shown_all s now later None left u v w more h shows off = tt
+  shown_all s now later (Some all) left u v w more h shows off =
+      let t : TurnShown prompt says next now later false (Some h.0) v w =
+      subst (λ b. TurnShown prompt says next now later b (Some h.0) v w) off
+      (subst (λ o. TurnShown prompt says next now later more o v w) h.1 shows) in
+      (h.2 ++ t.1, h.4 t.1 (turn_last now later h.0 t.1 t.0 t.2), appends_then u v w h.2 t.1 h.3 t.3)
 
-dialog_whole : {S : Type 0} (answer : S → List ℕ → Answer S) (s now later : S)
-    (lines : List (List ℕ)) (line : List ℕ) → GoesOn answer s lines now →
-    IsAnswered answer now line later false → IsDialog answer s (lines ++ line ∷ [])
-dialog_whole answer s now later [] line h a = subst (λ x. IsDialog answer x (line ∷ [])) h (sym a.1)
-dialog_whole answer s now later (first ∷ []) line h a =
-    (h.0, dialog_whole answer (answer_or_end answer s first).state now later [] line h.1 a)
-dialog_whole answer s now later (first ∷ next ∷ lines) line h a =
-    (h.0, dialog_whole answer (answer_or_end answer s first).state now later (next ∷ lines) line h.1 a)
+  -- some turns and one more
+  turns_more : (s now : S) (lines : List (List ℕ)) (line : List ℕ) (events turn : List Event) →
+      GoesOn next s lines now → AreTurns prompt says next s lines events → IsTurn prompt says now line turn →
+      AreTurns prompt says next s (lines ++ line ∷ []) (events ++ turn)
+  turns_more s now [] line events turn h are is = (
+    turn,
+    [],
+    subst (λ x. IsTurn prompt says x line turn) h is,
+    refl,
+    ap (λ es. es ++ turn) are ∙ sym (append-nil turn),
+  )
+  turns_more s now (first ∷ lines) line events turn h are is = (
+    are.0,
+    are.1 ++ turn,
+    are.2,
+    turns_more (next_or_end next s first).state now lines line are.1 turn h.1 are.3 is,
+    ap (λ es. es ++ turn) are.4 ∙ append_assoc are.0 are.1 turn,
+  )
 
-pub passed_first : {S : Type 0} (prompt : S → List ℕ) (answer : S → List ℕ → Answer S) (s : S)
-    (u : Option (List Event)) → HasPassed prompt answer s s u u
-passed_first prompt answer s u = ([], refl, nothing_passes u)
+  goes_on_more : (s now later : S) (lines : List (List ℕ)) (line : List ℕ) → GoesOn next s lines now →
+      IsAnswered next now line later true → GoesOn next s (lines ++ line ∷ []) later
+  goes_on_more s now later [] line h a = subst (λ x. GoesOn next x (line ∷ []) later) h (sym a.1, a.0)
+  goes_on_more s now later (first ∷ lines) line h a =
+      (h.0, goes_on_more (next_or_end next s first).state now later lines line h.1 a)
 
--- what passes in a turn
-abbrev pub TurnPassed : {S : Type 0} → (S → List ℕ) → (S → List ℕ → Answer S) → S → S → Option (List Event) →
-    Option (List Event) → Bool → Type 0
-TurnPassed prompt answer now later v w more =
-    (line : List ℕ) × IsAnswered answer now line later more × PassesAll v w (turn prompt answer now line)
+  ends_at_last : (s now later : S) (lines : List (List ℕ)) (line : List ℕ) → GoesOn next s lines now →
+      IsAnswered next now line later false → EndsAtLast next s (lines ++ line ∷ [])
+  ends_at_last s now later [] line h a = subst (λ x. EndsAtLast next x (line ∷ [])) h (sym a.1)
+  ends_at_last s now later (first ∷ []) line h a =
+      (h.0, ends_at_last (next_or_end next s first).state now later [] line h.1 a)
+  ends_at_last s now later (first ∷ follow ∷ lines) line h a =
+      (h.0, ends_at_last (next_or_end next s first).state now later (follow ∷ lines) line h.1 a)
 
-pub passed_more : {S : Type 0} (prompt : S → List ℕ) (answer : S → List ℕ → Answer S) (s now later : S)
-    (u v w : Option (List Event)) (more : Bool) → HasPassed prompt answer s now u v →
-    TurnPassed prompt answer now later v w more → more ≡ true → HasPassed prompt answer s later u w
-passed_more prompt answer s now later u v w more h t on =
-    let a : IsAnswered answer now t.0 later true = subst (λ b. IsAnswered answer now t.0 later b) on t.1 in (
-      h.0 ++ t.0 ∷ [],
-      goes_on_more answer s now later h.0 t.0 h.1 a,
-      subst (λ es. PassesAll u w es) (sym (dialog_more prompt answer s now h.0 t.0 h.1)) (all_pass u v w _ _ h.2 t.2),
-    )
+  pub passed_first : (s : S) (u : Option (List Event)) → HasPassed prompt says next s s u u
+  passed_first s u = ([], refl, [], refl, nothing_passes u)
 
-pub passed_all : {S : Type 0} (prompt : S → List ℕ) (answer : S → List ℕ → Answer S)
-    (s now later : S) (u v w : Option (List Event)) (more : Bool) →
-    HasPassed prompt answer s now u v → TurnPassed prompt answer now later v w more → more ≡ false →
-    (lines : List (List ℕ)) × IsDialog answer s lines × PassesAll u w (dialog prompt answer s lines)
-passed_all prompt answer s now later u v w more h t off =
-    let a : IsAnswered answer now t.0 later false = subst (λ b. IsAnswered answer now t.0 later b) off t.1 in (
-      h.0 ++ t.0 ∷ [],
-      dialog_whole answer s now later h.0 t.0 h.1 a,
-      subst (λ es. PassesAll u w es) (sym (dialog_more prompt answer s now h.0 t.0 h.1)) (all_pass u v w _ _ h.2 t.2),
-    )
+  pub passed_more : (s now later : S) (u v w : Option (List Event)) (more : Bool) →
+      HasPassed prompt says next s now u v → TurnPassed prompt says next now later more v w → more ≡ true →
+      HasPassed prompt says next s later u w
+  passed_more s now later u v w more h t on = (
+    h.0 ++ t.0 ∷ [],
+    goes_on_more s now later h.0 t.0 h.1 (subst (λ b. IsAnswered next now t.0 later b) on t.1),
+    h.2 ++ t.2,
+    turns_more s now h.0 t.0 h.2 t.2 h.1 h.3 t.3,
+    all_pass u v w h.2 t.2 h.4 t.4,
+  )
 
--- one turn: the prompt, and the answer to the line that was read, each put into an empty text
-pub turn_shown : {S : Type 0} (prompt : S → List ℕ) (answer : S → List ℕ → Answer S) (now later : S)
-    (more : Bool) (left after u v still w : Option (List ℕ)) (line same asked told empty blank : List ℕ) →
-    empty ≡ [] → blank ≡ [] → Appends u v asked → asked ≡ empty ++ prompt now → after ≡ left →
-    IfSome after (λ xs. line ≡ kept (take_through 10 xs)) → still ≡ v → Appends still w told →
-    same ≡ line → told ≡ blank ++ (answer_or_end answer now same).text → IsAnswered answer now same later more →
-    TurnShown prompt answer now later left u w more
-turn_shown prompt answer now later more None after u v still w line same asked told empty blank none nothing a
-    is_prompt at read is_still b is_line is_text is_answer = tt
-turn_shown prompt answer now later more (Some xs) after u v still w line same asked told empty blank none nothing a
-    is_prompt at read is_still b is_line is_text is_answer =
-    let e : same ≡ kept (take_through 10 xs) =
-    is_line ∙ subst (λ o. IfSome o (λ ys. line ≡ kept (take_through 10 ys))) at read in
-    let answers : IsAnswered answer now (kept (take_through 10 xs)) later more =
-    subst (λ l. IsAnswered answer now l later more) e is_answer in
-    let first : Appends u v (prompt now) = subst (λ t. Appends u v t) (is_prompt ∙ ap (λ t. t ++ prompt now) none) a in
-    let second : Appends v w (answer_or_end answer now (kept (take_through 10 xs))).text =
-    subst (λ o. Appends o w (answer_or_end answer now (kept (take_through 10 xs))).text) is_still
-    (subst (λ t. Appends still w t) (is_text ∙ ap (λ t. t ++ (answer_or_end answer now same).text) nothing
-    ∙ ap (λ l. (answer_or_end answer now l).text) e) b) in
-    (answers, appends_then u v w (prompt now) (answer_or_end answer now (kept (take_through 10 xs))).text first second)
+  pub passed_all : (s now later : S) (u v w : Option (List Event)) (more : Bool) →
+      HasPassed prompt says next s now u v → TurnPassed prompt says next now later more v w → more ≡ false →
+      IsDialog prompt says next s u w
+  passed_all s now later u v w more h t off = (
+    h.0 ++ t.0 ∷ [],
+    ends_at_last s now later h.0 t.0 h.1 (subst (λ b. IsAnswered next now t.0 later b) off t.1),
+    h.2 ++ t.2,
+    turns_more s now h.0 t.0 h.2 t.2 h.1 h.3 t.3,
+    all_pass u v w h.2 t.2 h.4 t.4,
+  )
+
+  -- one turn: the prompt, and an answer to the line that was read, each put into an empty text
+  pub turn_passed : (now later : S) (more : Bool) (u v w x : Option (List Event))
+      (asked line same told empty blank : List ℕ) → empty ≡ [] → blank ≡ [] → asked ≡ empty ++ prompt now →
+      same ≡ line → Passes u v (said asked) → Passes v w (typed line) → Passes w x (said told) →
+      (text : List ℕ) × SaysOrEnds says now same text × (told ≡ blank ++ text) → IsAnswered next now same later more →
+      TurnPassed prompt says next now later more u x
+  turn_passed now later more u v w x asked line same told empty blank none nothing is_prompt is_line first second third
+      answers is_answer =
+      let p : asked ≡ prompt now = is_prompt ∙ ap (λ t. t ++ prompt now) none in
+      let a : told ≡ answers.0 = answers.2 ∙ ap (λ t. t ++ answers.0) nothing in (
+        line,
+        subst (λ l. IsAnswered next now l later more) is_line is_answer,
+        said (prompt now) ∷ typed line ∷ said answers.0 ∷ [],
+        (answers.0, subst (λ l. SaysOrEnds says now l answers.0) is_line answers.1, refl),
+        three_pass u v w x (prompt now) line answers.0 (subst (λ t. Passes u v (said t)) p first) second
+            (subst (λ t. Passes w x (said t)) a third),
+      )
+
+  pub turn_shown : (now later : S) (more : Bool) (left after u v still w : Option (List ℕ))
+      (asked line same told empty blank : List ℕ) → empty ≡ [] → blank ≡ [] → asked ≡ empty ++ prompt now →
+      same ≡ line → Appends u v asked → after ≡ left → IfSome after (λ xs. line ≡ kept (take_through 10 xs)) →
+      still ≡ v → Appends still w told →
+      (text : List ℕ) × SaysOrEnds says now same text × (told ≡ blank ++ text) → IsAnswered next now same later more →
+      TurnShown prompt says next now later more left u w
+  turn_shown now later more None after u v still w asked line same told empty blank none nothing is_prompt is_line
+      first at read is_still second answers is_answer = tt
+  turn_shown now later more (Some xs) after u v still w asked line same told empty blank none nothing is_prompt is_line
+      first at read is_still second answers is_answer =
+      let e : same ≡ kept (take_through 10 xs) =
+      is_line ∙ subst (λ o. IfSome o (λ ys. line ≡ kept (take_through 10 ys))) at read in
+      let p : asked ≡ prompt now = is_prompt ∙ ap (λ t. t ++ prompt now) none in
+      let a : told ≡ answers.0 = answers.2 ∙ ap (λ t. t ++ answers.0) nothing in
+      let shown : Appends v w answers.0 =
+      subst (λ o. Appends o w answers.0) is_still (subst (λ t. Appends still w t) a second) in (
+        subst (λ l. IsAnswered next now l later more) e is_answer,
+        prompt now ++ answers.0,
+        (answers.0, subst (λ l. SaysOrEnds says now l answers.0) e answers.1, refl),
+        appends_then u v w (prompt now) answers.0 (subst (λ t. Appends u v t) p first) shown,
+      )

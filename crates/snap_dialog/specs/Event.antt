@@ -21,10 +21,6 @@ PassesAll None new events = ⊤
 PassesAll (Some old) None events = ⊥
 PassesAll (Some old) (Some new) events = new ≡ old ++ events
 
--- a beginning of these has passed
-abbrev pub PassesPart : Option (List Event) → Option (List Event) → List Event → Type 0
-PassesPart old new events = (part rest : List Event) × (part ++ rest ≡ events) × PassesAll old new part
-
 -- a beginning of this text was shown
 abbrev pub ShowsPart : Option (List ℕ) → Option (List ℕ) → List ℕ → Type 0
 ShowsPart old new text = (part rest : List ℕ) × (part ++ rest ≡ text) × Appends old new part

@@ -43,7 +43,7 @@ first_trap S i zero = None
 first_trap S i (suc more) = or_else (trap_of i (process_at S i).status) (first_trap S (suc i) more)
 
 -- the operation that process i called last by item t, and how many steps of its own the process has taken in it: the
--- step items of the process after the call and up to item t that executed a line
+-- step items of the process after the call and up to item t that are not skipped
 abbrev pub steps_since_call : Run → (i t : ℕ) → OwnSteps
 steps_since_call r i t = record {
   update = asks_update (item r (last_call r i t));

@@ -54,7 +54,7 @@ fn take<K: Kind>(
     ensures overrun { IfOk result (TakesOver record.new most item owns.old.items) }
 {
     let outcome = apply(record, item)?;
-    let number = record.items().len() as u64;
+    let number = record.items().len();
     Ok(note(owns, most, number, item, &outcome))
 }
 

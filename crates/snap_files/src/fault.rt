@@ -3,14 +3,18 @@ ghost use Rattle.std.specs.Prelude.{◌≡◌};
 ghost use Rattle.snap_files.specs.FileTexts.{reason};
 
 use std::io::ErrorKind;
+use thiserror::Error;
 
 /// Why a file was not read.
-#[derive(Clone, Copy)]
+#[derive(Clone, Copy, Debug, Error)]
 pub enum FileFault {
+    #[error("out of memory")]
     Memory,
     /// It has as many bytes as are too many, or more.
+    #[error("the file is too long")]
     TooLong,
     /// It could not be opened, or not be read to its end.
+    #[error("the file cannot be read")]
     Unread(ErrorKind),
 }
 

@@ -1,9 +1,10 @@
 //! `History`: the items that a run has done, stored compactly: operations are stored for calls
 //! alone.
-ghost use Rattle.std.specs.Prelude.{◌≡◌, ◌<◌, ◌++◌, ◌∷◌, ◌^◌, [], true, length, OnOk};
+ghost use Rattle.std.specs.Prelude.{◌≡◌, ◌<◌, ◌++◌, ◌∷◌, ◌^◌, ◌↔◌, [], true, length, IsTrue, OnOk};
 ghost use Rattle.snap_semantics.specs.Readers.{nth};
 ghost use Rattle.snap_history.specs.Items.{IsThere, kept_item};
 
+use crate::history_iter::HistoryIter;
 use snap_semantics::{Item, Op};
 use std::alloc::{AllocError, Global};
 use std::marker::Model;
@@ -53,7 +54,7 @@ impl Model for History {
 }
 
 /// The item that is kept so.
-fn kept_item(calls: &[Called], kept: StoredItem) -> Item
+pub(crate) fn kept_item(calls: &[Called], kept: StoredItem) -> Item
     requires { IsThere (length calls.now) kept }
     ensures { result ≡ kept_item calls.now kept }
 {
@@ -78,11 +79,25 @@ impl History {
         }
     }
 
-    /// How many items there are.
-    pub fn len(&self) -> usize
+    /// Returns how many items there are.
+    pub fn len(&self) -> u64
         ensures { result ≡ length self.now.items }
     {
-        self.items.len()
+        self.items.len() as u64
+    }
+
+    /// Returns whether there are none.
+    pub fn is_empty(&self) -> bool
+        ensures { IsTrue result ↔ self.now.items ≡ [] }
+    {
+        self.items.is_empty()
+    }
+
+    /// Goes through the items in order.
+    pub fn iter(&self) -> HistoryIter<'_>
+        ensures { result ≡ self.now.items }
+    {
+        HistoryIter::new(self.calls.as_slice(), self.items.as_slice())
     }
 
     /// Item `t`, counted from 1, where there are so many.

@@ -2,7 +2,9 @@
 #![tactic(auto)]
 
 mod event;
+mod history_iter;
 mod items;
 
 pub use event::event_of;
+pub use history_iter::HistoryIter;
 pub use items::History;

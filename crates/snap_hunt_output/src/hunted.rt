@@ -23,6 +23,7 @@ use snap_semantics::{Fault, Refusal};
 use snap_words::WordFault;
 use std::alloc::{AllocError, Global};
 use std::thread::Threads;
+use thiserror::Error;
 
 /// What a hunt comes to.
 #[derive(Drop)]
@@ -38,11 +39,14 @@ pub enum Hunted {
 }
 
 /// Why a hunt comes to nothing.
-#[derive(Clone, Copy, PartialEq, Eq)]
+#[derive(Clone, Copy, Debug, PartialEq, Eq, Error)]
 pub enum HuntFault {
+    #[error("out of memory")]
     Memory,
+    #[error("{0}")]
     Refused(Refusal),
     /// What was to be printed does not fail as it says.
+    #[error("the run that was found does not fail")]
     Unsaid,
 }
 

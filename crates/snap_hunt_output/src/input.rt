@@ -4,7 +4,7 @@ ghost use Rattle.std.specs.Prelude.{◌≡◌, ◌++◌, IfOk, OnOk};
 ghost use Rattle.snap_hunt_output.specs.Input.{ends_line, failure_line, input_text};
 ghost use Rattle.snap_hunt_output.specs.Input.{listing_part, order_line, run_note, steps_line};
 
-use snap_audit::verdict_line;
+use snap_audit::push_verdict_line;
 use snap_debug_commands::{Command, push_command};
 use snap_failure::{Failure, OwnSteps};
 use snap_report::outcome_text;
@@ -68,8 +68,8 @@ pub(crate) fn failure_line(out: &mut Vec<u8>, failure: &Failure) -> Result<(), A
 {
     match failure {
         Failure::NotLinearizable { process, item } => order_line(out, *process, *item),
-        Failure::NoPoint(verdict) => verdict_line(out, verdict),
-        Failure::ManyCollects(verdict) => verdict_line(out, verdict),
+        Failure::NoPoint(verdict) => push_verdict_line(out, verdict),
+        Failure::ManyCollects(verdict) => push_verdict_line(out, verdict),
         Failure::ManySteps { process, item, own } => steps_line(out, *process, *item, own),
         Failure::Trapped {
             process,

@@ -14,3 +14,5 @@ pub use snap_image_format::{
     images_are_bytes, more_than_an_image_is_refused, what_is_decoded_is_an_image,
     what_is_encoded_is_decoded,
 };
+pub use snap_listing_core::CommentedListing as Listing;
+pub use snap_semantics::{Fault, ImageRefusal};

@@ -8,7 +8,8 @@ ghost use Rattle.snap_semantics.specs.declared.refusal.ListingRefusal.TheVariant
 ghost use Rattle.snap_semantics.specs.declared.refusal.Refusal.TheVariants as refusal;
 
 use crate::listing::read_listing;
-use snap_listing::{Listing, kind_keyword};
+use snap_listing::kind_keyword;
+use snap_listing_core::Listing;
 use snap_semantics::{Fault, Refusal};
 use snap_text::{push_number, push_text};
 use std::alloc::{AllocError, Global};

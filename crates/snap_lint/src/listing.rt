@@ -6,7 +6,7 @@ ghost use Rattle.snap_semantics.specs.declared.refusal.Refusal.TheVariants as re
 ghost use Rattle.snap_semantics.specs.Answers.{Answers, refused_as};
 ghost use Rattle.snap_semantics.specs.Listing.{listing_of};
 
-use snap_listing::Listing;
+use snap_listing_core::Listing;
 use snap_semantics::{Fault, Refusal};
 use std::alloc::Global;
 
@@ -15,5 +15,5 @@ pub fn read_listing(alloc: Global, text: &[u8]) -> Result<Listing, Fault<Refusal
     ensures listing { Answers (λ l. l) result (refused_as refusal.Listing (listing_of text.now)) }
     ensures too_long { 65536 < length text.now → result ≡ Err (Refused (refusal.Listing TooLong)) }
 {
-    Ok(snap_listing::read(alloc, text)?)
+    Ok(snap_listing::read_source(alloc, text)?)
 }

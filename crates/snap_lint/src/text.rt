@@ -10,7 +10,7 @@ ghost use Rattle.snap_lint.specs.Lint.{concern_text, lint_of, warning_line, warn
 
 use crate::listing::read_listing;
 use crate::{Concern, Warning, warnings};
-use snap_listing::Listing;
+use snap_listing_core::Listing;
 use snap_semantics::{Fault, Refusal};
 use snap_text::{push_number, push_text};
 use std::alloc::{AllocError, Global};

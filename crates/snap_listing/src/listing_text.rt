@@ -4,7 +4,7 @@ ghost use Rattle.snap_semantics.specs.Listing.{listing_of};
 ghost use Rattle.snap_listing.specs.ListingTexts.{IsListingText};
 
 use crate::fault::ListingFault;
-use crate::reader::read;
+use crate::reader::read_source;
 use snap_listing_core::Listing;
 use std::alloc::{AllocError, Global};
 
@@ -13,7 +13,7 @@ pub fn read_known(alloc: Global, text: &[u8]) -> Result<Listing, AllocError>
     requires { IsListingText text.now }
     ensures { IfOk result (λ l. listing_of text.now ≡ Ok l) }
 {
-    match read(alloc, text) {
+    match read_source(alloc, text) {
         Ok(listing) => Ok(listing),
         Err(ListingFault::Memory) => Err(AllocError),
         Err(ListingFault::Refused(_)) => unreachable!(),

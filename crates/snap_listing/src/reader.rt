@@ -1,5 +1,5 @@
-//! `read` and `read_commented`: the listing that a text spells, without
-//! or with its comments, or the first reason why the text is refused.
+//! `read` and `read_source`: the listing that a text spells, with or
+//! without its comments, or the first reason why the text is refused.
 ghost use Rattle.std.specs.Prelude.{◌≡◌, ◌<◌, Err, IfOk, drop, length};
 ghost use Rattle.snap_semantics.specs.Answers.{Answers};
 ghost use Rattle.snap_semantics.specs.Comments.{header_lines, commented_of};
@@ -109,9 +109,13 @@ fn header_and_lines(
     Ok((header, lines))
 }
 
-/// The listing that a text is, or the first reason why it is none.
+/// Returns the listing that a text is, without its comments.
+///
+/// # Errors
+///
+/// `Refused` has the first reason why the text is no listing; `Memory`: memory ran out.
 #[tactic(auto, using(crate::proofs::TextLength::few_lines), unfolding(snap_semantics::specs::Listing::listing_of))]
-pub fn read(alloc: Global, text: &[u8]) -> Result<Listing, ListingFault>
+pub fn read_source(alloc: Global, text: &[u8]) -> Result<Listing, ListingFault>
     ensures listing { Answers (λ l. l) result (listing_of text.now) }
     ensures too_long { 65536 < length text.now → result ≡ Err (Refused TooLong) }
 {
@@ -137,14 +141,17 @@ fn behind_header(
     comments.split_off(HEADER_LINES)
 }
 
-/// The listing that a text is, with the comments of its numbered lines, or the first reason why it
-/// is none.
+/// Returns the listing that a text is, with the comments of its numbered lines.
+///
+/// # Errors
+///
+/// `Refused` has the first reason why the text is no listing; `Memory`: memory ran out.
 #[tactic(auto, using(crate::proofs::ReadComments::with_comments), unfolding(snap_semantics::specs::Comments::commented_of))]
-pub fn read_commented(alloc: Global, text: &[u8]) -> Result<CommentedListing, ListingFault>
+pub fn read(alloc: Global, text: &[u8]) -> Result<CommentedListing, ListingFault>
     ensures listing { Answers (λ l. l) result (commented_of text.now) }
     ensures too_long { 65536 < length text.now → result ≡ Err (Refused TooLong) }
 {
-    let listing = read(alloc, text)?;
+    let listing = read_source(alloc, text)?;
     let found = line_comments(alloc, text)?;
     let comments = behind_header(alloc, found)?;
     Ok(CommentedListing::of(listing, comments))

@@ -1,2 +1,3 @@
 -- The proofs of snap_listing_core, by their modules.
 pub mod RightLines
+pub mod Uncommented

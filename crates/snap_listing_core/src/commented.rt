@@ -1,9 +1,11 @@
 //! `CommentedListing`: a listing, and for each of its lines its comment, if it has one.
-ghost use Rattle.std.specs.Prelude.{◌≡◌, map};
-ghost use Rattle.snap_semantics.specs.Comments.{IsCommented};
+ghost use Rattle.std.specs.Prelude.{◌≡◌, IfOk, map};
+ghost use Rattle.snap_semantics.specs.Comments.{IsCommented, no_comment, uncommented};
 ghost use Rattle.snap_listing_core.specs.Fields.{commented, seen_comment};
 
 use crate::listing::Listing;
+use snap_semantics::Line;
+use std::alloc::{AllocError, Global};
 use std::marker::Model;
 
 /// A listing, and for each of its lines its comment, if it has one: the bytes behind its `#`.
@@ -42,6 +44,31 @@ impl CommentedListing {
         CommentedListing { listing, comments }
     }
 
+    /// Returns the listing with no comment on any of its lines.
+    ///
+    /// # Errors
+    ///
+    /// Memory ran out.
+    #[tactic(auto, using(crate::proofs::Uncommented::commented_is))]
+    pub fn uncommented(alloc: Global, listing: Listing) -> Result<CommentedListing, AllocError>
+        ensures { IfOk result (λ l. l ≡ uncommented listing) }
+    {
+        let comments = no_comments(alloc, listing.lines())?;
+        Ok(CommentedListing::of(listing, comments))
+    }
+
+    /// Returns an equal listing, with equal comments.
+    ///
+    /// # Errors
+    ///
+    /// Memory ran out.
+    pub fn copy(&self, alloc: Global) -> Result<CommentedListing, AllocError>
+        ensures { IfOk result (λ l. l ≡ self.now) }
+    {
+        let comments = copy_comments(alloc, self.comments())?;
+        Ok(CommentedListing::of(self.listing.copy(alloc)?, comments))
+    }
+
     /// The listing alone.
     pub fn listing(&self) -> &Listing
         ensures { result.now ≡ self.now.source }
@@ -66,5 +93,41 @@ impl CommentedListing {
         ensures rules { IsCommented self.now }
     {
         self.comments.as_slice()
+    }
+}
+
+/// Returns no comment for each of these lines.
+fn no_comments(alloc: Global, lines: &[Line]) -> Result<Vec<Option<Vec<u8>>>, AllocError>
+    ensures { IfOk result (λ comments. map seen_comment comments.items ≡ map no_comment lines.now) }
+{
+    let mut comments = Vec::new(alloc);
+    for _line in lines {
+        comments.push(None)?;
+    }
+    Ok(comments)
+}
+
+/// Returns equal comments.
+fn copy_comments(
+    alloc: Global,
+    comments: &[Option<Vec<u8>>],
+) -> Result<Vec<Option<Vec<u8>>>, AllocError>
+    ensures { IfOk result (λ copies. map seen_comment copies.items
+        ≡ map seen_comment comments.now) }
+{
+    let mut copies = Vec::new(alloc);
+    for comment in comments {
+        copies.push(copy_comment(alloc, comment)?)?;
+    }
+    Ok(copies)
+}
+
+/// Returns an equal comment, where there is one.
+fn copy_comment(alloc: Global, comment: &Option<Vec<u8>>) -> Result<Option<Vec<u8>>, AllocError>
+    ensures { IfOk result (λ copy. seen_comment copy ≡ seen_comment comment.now) }
+{
+    match comment {
+        None => Ok(None),
+        Some(bytes) => Ok(Some(Vec::from_slice(alloc, bytes.as_slice())?)),
     }
 }

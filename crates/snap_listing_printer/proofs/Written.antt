@@ -1,33 +1,18 @@
 -- The lines after the header of a listing's canonical text are those of `LineTexts`: numbers and instructions,
 -- without comments.
-use Rattle.std.proofs.Common.{◌≡◌, ℕ, zero, suc, List, [], ◌∷◌, map, drop, Some, refl, sym, ap, ◌∙◌, subst}
-use Rattle.std.specs.List.{AllByRecursion}
-use Rattle.std.proofs.lemmas.List.{length-map}
+use Rattle.std.proofs.Common.{◌≡◌, ℕ, zero, suc, List, [], ◌∷◌, map, drop, Some, refl, ap, ◌∙◌}
 use Rattle.snap_semantics.specs.declared.instr.Line.{Line}
 use Rattle.snap_semantics.specs.CanonicalText.{canonical_text}
-use Rattle.snap_semantics.specs.Comments.{Comment, IsComment, IsCommented, no_comment, uncommented}
+use Rattle.snap_semantics.specs.Comments.{uncommented}
 use Rattle.snap_semantics.specs.IsListing.{IsListing}
 use Rattle.snap_semantics.specs.Layout.{line_to}
 use Rattle.snap_semantics.specs.Source.{Source}
 use Rattle.snap_semantics.specs.Spelling.{spelled_line}
 use Rattle.snap_semantics.specs.Token.{TextLine, text_lines}
 use Rattle.snap_text.specs.Lines.{found_lines, line_tokens}
+use Rattle.snap_listing_core.proofs.Uncommented.{uncommented_is}
 use Rattle.snap_listing_grammar.proofs.Printed.{printed_spells}
 use Rattle.snap_listing_printer.specs.LineTexts.{NumberedText, behind, texts_from, tokens_in, written}
-
-no_comments_good : (lines : List Line) → AllByRecursion IsComment (map no_comment lines)
-no_comments_good [] = tt
-no_comments_good (line ∷ lines) = (tt, no_comments_good lines)
-
-pub uncommented_is : (s : Source) → IsListing s → IsCommented (uncommented s)
-uncommented_is s h =
-    record { listing = h; each_line = length-map s.lines no_comment; comments = no_comments_good s.lines }
-
--- with comments of which there are none
-pub commented_is : (s : Source) (comments : List Comment) → IsListing s → comments ≡ map no_comment s.lines →
-    IsCommented (record { source = s; comments = comments })
-commented_is s comments h e =
-    subst (λ cs. IsCommented (record { source = s; comments = cs })) (sym e) (uncommented_is s h)
 
 dropped : (k : ℕ) (ls : List TextLine) → line_tokens (drop k ls) ≡ drop k (line_tokens ls)
 dropped zero ls = refl

@@ -1,10 +1,9 @@
 //! The lines of a listing as text, by their numbers.
 ghost use Rattle.std.specs.Prelude.{◌≡◌, [], IfOk, OnOk, drop, map, option_map};
 ghost use Rattle.snap_semantics.specs.CanonicalText.{canonical_text};
-ghost use Rattle.snap_semantics.specs.Comments.{no_comment, uncommented};
+ghost use Rattle.snap_semantics.specs.Comments.{uncommented};
 ghost use Rattle.snap_semantics.specs.Layout.{line_to};
 ghost use Rattle.snap_semantics.specs.Token.{text_lines};
-ghost use Rattle.snap_listing_core.specs.Fields.{seen_comment};
 ghost use Rattle.snap_listing_printer.specs.LineTexts.{behind, first_tokens, seen_line};
 ghost use Rattle.snap_listing_printer.specs.LineTexts.{text_with, texts_from, written};
 
@@ -40,24 +39,11 @@ impl Model for LineTexts {
     ghost view = { λ t. map seen_line t.lines.items };
 }
 
-/// No comment for each of these lines.
-fn no_comments(alloc: Global, lines: &[Line]) -> Result<Vec<Option<Vec<u8>>>, AllocError>
-    ensures { IfOk result (λ comments. map seen_comment comments.items ≡ map no_comment lines.now) }
-{
-    let mut comments = Vec::new(alloc);
-    for _line in lines {
-        comments.push(None)?;
-    }
-    Ok(comments)
-}
-
 /// The canonical text of a listing without comments.
-#[tactic(auto, using(crate::proofs::Written::commented_is))]
 fn canonical_text(alloc: Global, listing: &Listing) -> Result<Vec<u8>, AllocError>
     ensures { IfOk result (λ text. text.items ≡ canonical_text (uncommented listing.now)) }
 {
-    let comments = no_comments(alloc, listing.lines())?;
-    let listing = CommentedListing::of(listing.copy(alloc)?, comments);
+    let listing = CommentedListing::uncommented(alloc, listing.copy(alloc)?)?;
     print(alloc, &listing)
 }
 

@@ -8,6 +8,6 @@ mod start_gate;
 mod worker;
 
 pub use gate::{Gate, NoGate};
-pub use live_run::{LiveRun, Turns, run_live};
+pub use live_run::{LiveRun, LiveRun as Live, Turns, run_live};
 pub use snap_live_desk::{Desk, LiveFault, LiveRefusal, Note, Seat, Turn, close, open};
 pub use snap_sched::{Script, Scripts};

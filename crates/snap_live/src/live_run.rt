@@ -333,7 +333,7 @@ fn fault_of(process: u32, stop: Stop) -> LiveFault
 {
     match stop {
         Stop::Memory => Fault::Memory,
-        Stop::Full => Fault::Refused(LiveRefusal::Full(MAX_ITEMS as u64)),
+        Stop::Full => Fault::Refused(LiveRefusal::Full(MAX_ITEMS)),
         Stop::TurnLimit => Fault::Refused(LiveRefusal::TurnLimit(process)),
     }
 }

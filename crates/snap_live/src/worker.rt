@@ -2,14 +2,15 @@
 ghost use Rattle.std.specs.Prelude.{◌≡◌, ◌+◌, ◌^◌, ◌<◌, ◌≤◌, [], true, length, drop, IfOk, IfErr};
 ghost use Rattle.snap_words.specs.Shape.{max_items};
 ghost use Rattle.snap_semantics.specs.Table.{who};
-ghost use Rattle.snap_live_desk.specs.Shown.{seat_of};
+ghost use Rattle.snap_live_desk.specs.Shown.{IsTurn, StaysWith, seat_of};
+ghost use Rattle.snap_live_desk.specs.Untaken.{NoTurn};
 ghost use Rattle.snap_live.specs.Script.{crashes_behind};
 ghost use Rattle.snap_live.specs.Play.{Leaves, rest, busy, over, IsPlay, IsBegun};
 ghost use Rattle.snap_live.specs.Sequels.{sequel_of};
 ghost use Rattle.snap_live.specs.Worker.{Kept, Made, NoFurther, Stopped, after_operation, IsWorked};
 
 use crate::gate::Gate;
-use snap_live_desk::{Desk, Seat, Turn};
+use snap_live_desk::{Desk, LiveFault, Seat, Turn};
 use snap_record::MAX_ITEMS;
 use snap_sched::Script;
 use snap_semantics::{Fault, Item, Outcome};
@@ -77,6 +78,27 @@ fn crashes_now<K: Kind>(script: &Script, seat: &Seat<K>) -> bool
     }
 }
 
+/// The turn of a seat with an item of its process.
+fn take_turn<K: Kind, R: Wait>(
+    rt: &R,
+    desk: &Desk<K>,
+    seat: &mut Seat<K>,
+    item: Item,
+) -> Result<Turn, LiveFault>
+    requires mine { who item ≡ seat.old.process }
+    requires desk { seat.old.desk ≡ desk.now }
+    requires asked { seat.old.asked < 2 ^ 32 }
+    ensures seat { StaysWith seat.old seat.new (seat.old.asked + 1) }
+    ensures turn { IfOk result (λ t. IsTurn seat.old seat.new item t.number t.outcome) }
+    ensures refused { IfErr result (λ e. NoTurn e seat.old seat.new) }
+{
+    match item {
+        Item::Call(_, op) => seat.call(rt, desk, op),
+        Item::Step(_) => seat.step(rt, desk),
+        Item::Crash(_) => seat.crash(rt, desk),
+    }
+}
+
 /// A turn, if the gate lets the process on.
 fn play_turn<K: Kind, G: Gate, R: Wait>(
     rt: &R,
@@ -105,12 +127,12 @@ fn play_turn<K: Kind, G: Gate, R: Wait>(
     }
     if turns.reserve(1).is_err() {
         // A full history comes before a lack of memory.
-        if seat.seen_len() == MAX_ITEMS as u64 {
+        if seat.seen_len() == MAX_ITEMS {
             return Err(Stop::Full);
         }
         return Err(Stop::Memory);
     }
-    match seat.turn(rt, desk, item) {
+    match take_turn(rt, desk, seat, item) {
         Ok(turn) => {
             let sequel = sequel_of(&turn.outcome);
             turns.push_reserved(turn);

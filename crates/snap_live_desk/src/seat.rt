@@ -106,14 +106,14 @@ fn one_turn<K: Kind, R: Wait>(
     let mut history = take(shared, table_seat);
     match history.apply(item) {
         Ok(outcome) => {
-            let number = history.record().items().len() as u64;
+            let number = history.record().items().len();
             publish(shared, table_seat, ticket, item, &outcome, number);
             give(shared, table_seat, history);
             serve(shared, table_seat, ticket);
             Ok(Turn { number, outcome })
         }
         Err(RecordFault::Full) => {
-            let number = history.record().items().len() as u64;
+            let number = history.record().items().len();
             catch_up(shared, table_seat, ticket, number);
             give(shared, table_seat, history);
             serve(shared, table_seat, ticket);
@@ -169,7 +169,7 @@ impl<K: Kind> Seat<K> {
     }
 
     /// A turn with an item of this seat's process.
-    pub fn turn<R: Wait>(&mut self, rt: &R, desk: &Desk<K>, item: Item) -> Result<Turn, LiveFault>
+    fn turn<R: Wait>(&mut self, rt: &R, desk: &Desk<K>, item: Item) -> Result<Turn, LiveFault>
         requires mine { who item ≡ self.old.process }
         requires desk { self.old.desk ≡ desk.now }
         requires asked { self.old.asked < 2 ^ 32 }
@@ -184,8 +184,8 @@ impl<K: Kind> Seat<K> {
                 Ok(turn)
             }
             Err(RecordFault::Full) => {
-                self.seen = MAX_ITEMS as u64;
-                Err(Fault::Refused(LiveRefusal::Full(MAX_ITEMS as u64)))
+                self.seen = MAX_ITEMS;
+                Err(Fault::Refused(LiveRefusal::Full(MAX_ITEMS)))
             }
             Err(RecordFault::Memory) => Err(Fault::Memory),
         }

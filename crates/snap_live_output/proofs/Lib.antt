@@ -1,4 +1,3 @@
 -- The proofs of snap_live_output, by their modules.
 pub mod Shipped
-pub mod Histories
 pub mod Lives

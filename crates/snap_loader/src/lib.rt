@@ -5,5 +5,6 @@ mod code;
 mod decode;
 mod listing_program;
 mod name_sorts;
+mod slots;
 
 pub use listing_program::load;

@@ -2,16 +2,29 @@
 ghost use Rattle.std.specs.Prelude.{◌≡◌, IfOk, true};
 ghost use Rattle.snap_words.specs.Kind.{fits};
 ghost use Rattle.snap_words.specs.declared.kind.KindTag.TheVariants as kind;
+ghost use Rattle.snap_semantics.specs.Comments.{uncommented};
 ghost use Rattle.snap_runs.specs.Run.{IsValidRun, run_over};
 ghost use Rattle.snap_runs_of_m.specs.ListingM.{listing_m};
 ghost use Rattle.snap_shipped.specs.Kept.{KeepsPromises};
 
+use snap_listing_core::CommentedListing;
 use snap_loader::load;
 use snap_record::{Record, record_over};
 use snap_sched::Schedule;
 use snap_shipped::{listing_m, shipped_runs_keep_promises};
 use snap_words::Multi;
 use std::alloc::{AllocError, Global};
+
+/// Returns listing M, whose lines have no comments.
+///
+/// # Errors
+///
+/// Memory ran out.
+pub fn listing(alloc: Global) -> Result<CommentedListing, AllocError>
+    ensures { IfOk result (λ l. l ≡ uncommented listing_m) }
+{
+    CommentedListing::uncommented(alloc, listing_m(alloc)?)
+}
 
 /// What is promised of the run over a schedule.
 fn keeps_promises(schedule: &Schedule)

@@ -1,4 +1,4 @@
--- What is handed to a page is of what the program answers for the task and the input, and of a picture that is so.
+-- What is handed to a page is of what is answered for what it asks and the input, and of a picture that is so.
 use Rattle.std.proofs.Common.{◌≡◌, ℕ, List, Option, Result, Ok, Err, Vec, refl}
 use Rattle.std.specs.Global.{Global}
 use Rattle.snap_semantics.specs.Answers.{Answers}
@@ -6,24 +6,22 @@ use Rattle.snap_semantics.specs.declared.fault.Fault.{Fault}
 use Rattle.snap_semantics.specs.declared.fault.Fault.TheVariants as fault
 use Rattle.snap_semantics.specs.declared.refusal.Refusal.{Refusal}
 use Rattle.snap_semantics.specs.declared.event.Event.{Event}
-use Rattle.snap_run_judge.specs.Judged.{AnswersJudged}
-use Rattle.snap_output.specs.Output.{AreJudged, IsAnswerTo, output_of}
+use Rattle.snap_page.specs.Answer.{AnswersAsked, IsAnswerFor}
+use Rattle.snap_page.specs.declared.asked.Asked.{Asked}
 use Rattle.snap_picture.specs.Picture.{AnswersPicture, IsPictureBy}
 use Rattle.snap_picture.specs.declared.refusal.PictureRefusal.{PictureRefusal}
-use Rattle.snap_tasks.specs.declared.task.Task.{Task}
 
-module _ (t : Task) (input : List ℕ) (result : Result (Vec ℕ Global) (Fault Refusal))
-    (given : AnswersJudged (λ out. out.items) (AreJudged t input) result (λ judged. output_of judged t input)) where
+module _ (a : Asked) (input : List ℕ) (result : Result (Vec ℕ Global) (Fault Refusal))
+    (given : AnswersAsked a input result) where
   -- what is said of whatever was answered; it is said of everything only where there was no memory
   pub told : (Tells : Result (List ℕ) Refusal → Type 0) →
       ((d : Result (List ℕ) Refusal) → Answers {X = Vec ℕ Global} (λ out. out.items) result d → Tells d) →
       (((d : Result (List ℕ) Refusal) → Tells d) → ⊥) →
-      (d : Result (List ℕ) Refusal) × IsAnswerTo t input d × Tells d
+      (d : Result (List ℕ) Refusal) × IsAnswerFor a input d × Tells d
   told Tells tells apart = of result given tells where
-    of : (answer : Result (Vec ℕ Global) (Fault Refusal)) →
-        AnswersJudged (λ out. out.items) (AreJudged t input) answer (λ judged. output_of judged t input) →
+    of : (answer : Result (Vec ℕ Global) (Fault Refusal)) → AnswersAsked a input answer →
         ((d : Result (List ℕ) Refusal) → Answers {X = Vec ℕ Global} (λ out. out.items) answer d → Tells d) →
-        (d : Result (List ℕ) Refusal) × IsAnswerTo t input d × Tells d
+        (d : Result (List ℕ) Refusal) × IsAnswerFor a input d × Tells d
     of (Ok out) h says = (Ok out.items, h, says (Ok out.items) refl)
     of (Err (fault.Refused r)) h says = (Err r, h, says (Err r) refl)
     of (Err fault.Memory) h says = absurd (apart (λ d. says d tt))

@@ -2,3 +2,4 @@
 pub mod Names
 pub mod Short
 pub mod Answered
+pub mod Judging

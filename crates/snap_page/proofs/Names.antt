@@ -1,4 +1,4 @@
--- Bytes from a page that are not UTF-8 name no task and no shipped listing.
+-- Bytes from a page that are not UTF-8 ask for nothing and name no shipped listing.
 use Rattle.std.proofs.Common.{◌≡◌, ℕ, Bool, true, false, List, [], ◌∷◌, None, refl, ap, subst, sym}
 use Rattle.std.specs.Prelude.{IsUtf8, bytes_eq, codes, option_map}
 use Rattle.std.proofs.lemmas.Slice.Eq.{bytes_eq-Decides}
@@ -7,7 +7,7 @@ use Rattle.snap_tasks.specs.Request.{kind_of, request_of}
 use Rattle.snap_tasks.specs.declared.request.Options.{Options}
 use Rattle.snap_tasks.specs.declared.subject.Subject.{Subject}
 use Rattle.snap_tasks.specs.declared.subject.Subject.TheVariants.{Shipped}
-use Rattle.snap_page.specs.Page.{options_for, subject_of, task_for, task_in}
+use Rattle.snap_page.specs.Page.{asked_for, asked_in, options_for, subject_of}
 
 not_true : (b : Bool) → ¬ (b ≡ true) → b ≡ false
 not_true true not_text = absurd (not_text refl)
@@ -47,8 +47,8 @@ module _ (bytes : List ℕ) (not_text : ¬ (IsUtf8 bytes)) where
     unlike bytes (codes "promela") not_text (codes "promela", (refl, refl)),
   ) refl
 
-  pub no_task : (s : Subject) → task_for bytes s ≡ None
-  no_task s = ap task_in (no_request (options_for s))
+  pub no_task : (s : Subject) → asked_for bytes s ≡ None
+  no_task s = ap (asked_in s) (no_request (options_for s))
 
 -- no bytes are a text
 pub no_subject : (bytes : List ℕ) → ¬ (IsUtf8 bytes) → subject_of bytes ≡ None

@@ -1,4 +1,4 @@
--- What a page in a browser asks the program for (`task_of`), and the code and the text that it is handed for it.
+-- What a page in a browser asks the program for (`asked_of`), and the code and the text that it is handed for it.
 use Rattle.std.specs.Prelude.{ℕ, Bool, true, false, List, [], ◌∷◌, ◌++◌, codes}
 use Rattle.std.specs.Prelude.{Option, Some, None, option_map, Result, Ok, Err}
 use Rattle.snap_semantics.specs.declared.refusal.ImageRefusal.TheVariants as image
@@ -12,7 +12,8 @@ use Rattle.snap_tasks.specs.declared.request.Request.{Request}
 use Rattle.snap_tasks.specs.declared.request.Request.TheVariants.{Do, Live, Judge, Model}
 use Rattle.snap_tasks.specs.declared.subject.Subject.{Subject}
 use Rattle.snap_tasks.specs.declared.subject.Subject.TheVariants.{FirstPart, Shipped}
-use Rattle.snap_tasks.specs.declared.task.Task.{Task}
+use Rattle.snap_page.specs.declared.asked.Asked.{Asked}
+use Rattle.snap_page.specs.declared.asked.Asked.TheVariants as asked
 
 -- the listing of this name: that which is shipped for a kind, or where there is no name the first part of the input
 abbrev pub subject_of : List ℕ → Option Subject
@@ -23,25 +24,25 @@ subject_of (b ∷ bytes) = option_map Shipped (kind_of (b ∷ bytes))
 abbrev pub options_for : Subject → Options
 options_for s = record { subject = s; limit = 1; history = false; most = 1; crashes = 0 }
 
--- a page has one thread, in which no scripts are played; and nothing is judged there
-abbrev pub task_in : Option Request → Option Task
-task_in (Some (Do t)) = Some t
-task_in (Some (Live s limit)) = None
-task_in (Some (Judge r)) = None
-task_in (Some (Model s crashes)) = None
-task_in None = None
+-- a page has one thread, in which no scripts are played, and writes no models
+abbrev pub asked_in : Subject → Option Request → Option Asked
+asked_in s (Some (Do t)) = Some (asked.Do t)
+asked_in s (Some (Judge r)) = Some (asked.Judge s)
+asked_in s (Some (Live _ limit)) = None
+asked_in s (Some (Model _ crashes)) = None
+asked_in s None = None
 
--- the task of a subcommand
-abbrev pub task_for : (subcommand : List ℕ) → Subject → Option Task
-task_for subcommand s = task_in (request_of subcommand (options_for s))
+-- what a subcommand asks for
+abbrev pub asked_for : (subcommand : List ℕ) → Subject → Option Asked
+asked_for subcommand s = asked_in s (request_of subcommand (options_for s))
 
-abbrev pub task_with : (subcommand : List ℕ) → Option Subject → Option Task
-task_with subcommand None = None
-task_with subcommand (Some s) = task_for subcommand s
+abbrev pub asked_with : (subcommand : List ℕ) → Option Subject → Option Asked
+asked_with subcommand None = None
+asked_with subcommand (Some s) = asked_for subcommand s
 
--- the task that a page names
-abbrev pub task_of : (subcommand shipped : List ℕ) → Option Task
-task_of subcommand shipped = task_with subcommand (subject_of shipped)
+-- what a page asks for by its names
+abbrev pub asked_of : (subcommand shipped : List ℕ) → Option Asked
+asked_of subcommand shipped = asked_with subcommand (subject_of shipped)
 
 -- 0 with an output, 1 with a refusal
 abbrev pub answer_code : Result (List ℕ) Refusal → ℕ

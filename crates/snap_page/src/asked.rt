@@ -1,8 +1,18 @@
-//! `task_of`: the task that a page in a browser names, and the listing that it is to run.
+//! `asked_of`: what a page in a browser asks for by its names, a task or whether a run is
+//! linearizable, and the listing that is to be run.
 ghost use Rattle.std.specs.Prelude.{◌≡◌, IfSome, IsUtf8, None};
-ghost use Rattle.snap_page.specs.Page.{options_for, subject_of, task_for, task_of};
+ghost use Rattle.snap_page.specs.Page.{asked_for, asked_of, options_for, subject_of};
 
 use snap_tasks::{Options, Request, Subject, Task, kind_of, request_of};
+
+/// What a page asks for.
+#[derive(Clone, Copy)]
+pub enum Asked {
+    /// A task of the program.
+    Do(Task),
+    /// Whether the run of a listing under a schedule is linearizable.
+    Judge(Subject),
+}
 
 /// A text that bytes are.
 fn text_of(bytes: &[u8]) -> Option<&str>
@@ -41,22 +51,23 @@ fn options_for(subject: Subject) -> Options
     }
 }
 
-/// The task of a subcommand. A live run is none of a page, which has one thread, nor is a judgement.
+/// What a subcommand asks for. A live run is none of a page, which has one thread, nor is a model.
 #[tactic(auto, using(crate::proofs::Names::no_task))]
-fn task_for(subcommand: &[u8], subject: Subject) -> Option<Task>
-    ensures { result ≡ task_for subcommand.now subject }
+fn asked_for(subcommand: &[u8], subject: Subject) -> Option<Asked>
+    ensures { result ≡ asked_for subcommand.now subject }
 {
     let name = text_of(subcommand)?;
     match request_of(name, &options_for(subject))? {
-        Request::Do(task) => Some(task),
-        Request::Live(_, _) | Request::Judge(_) | Request::Model(_, _) => None,
+        Request::Do(task) => Some(Asked::Do(task)),
+        Request::Judge(_) => Some(Asked::Judge(subject)),
+        Request::Live(_, _) | Request::Model(_, _) => None,
     }
 }
 
-/// The task that a page names.
-pub fn task_of(subcommand: &[u8], shipped: &[u8]) -> Option<Task>
-    ensures { result ≡ task_of subcommand.now shipped.now }
+/// What a page asks for.
+pub fn asked_of(subcommand: &[u8], shipped: &[u8]) -> Option<Asked>
+    ensures { result ≡ asked_of subcommand.now shipped.now }
 {
     let subject = subject_of(shipped)?;
-    task_for(subcommand, subject)
+    asked_for(subcommand, subject)
 }

@@ -1,29 +1,30 @@
-//! What a page in a browser asks of the program: a task on an input, in one thread.
+//! What a page in a browser asks of the program, in one thread: a task on an input, whether a run is
+//! linearizable, and the picture of a run.
 #![tactic(auto)]
 
 ghost use Rattle.std.specs.Prelude.{◌≡◌, ◌<◌, ◌⊎◌, ◌↔◌, ℕ, List, None, Result, Some, length, take};
-ghost use Rattle.snap_output.specs.AtOnce.{found_at_once};
-ghost use Rattle.snap_output.specs.Output.{IsAnswerTo};
-ghost use Rattle.snap_page.specs.Page.{answer_code, answer_text, task_of};
+ghost use Rattle.snap_page.specs.Answer.{IsAnswerFor, found_at_once};
+ghost use Rattle.snap_page.specs.Page.{answer_code, answer_text, asked_of};
 ghost use Rattle.snap_page.specs.Picture.{IsDrawn, drawn_code, drawn_text};
 ghost use Rattle.snap_picture.specs.declared.refusal.PictureRefusal.{PictureRefusal};
 ghost use Rattle.snap_semantics.specs.declared.refusal.Refusal.{Refusal};
-ghost use Rattle.snap_tasks.specs.declared.task.Task.{Task};
+ghost use Rattle.snap_page.specs.declared.asked.Asked.{Asked};
 
+mod answering;
 mod asked;
 mod drawing;
 mod handed;
 
-use asked::task_of;
+use answering::answer_to;
+use asked::asked_of;
 use drawing::{drawn, handed_picture};
 use handed::{Handed, handed_answer};
-use snap_output::output_alone;
 use snap_picture::{LEGEND, Look, STYLE};
 use std::alloc::Global;
 
 /// Hands a page what is written for an input, or the line that says why nothing is. The task is
-/// that of a subcommand; it runs the listing that is shipped for the kind of a name, or where the
-/// name is empty the one in the input.
+/// that of a subcommand, or `judge`; it runs the listing that is shipped for the kind of a name, or
+/// where the name is empty the one in the input.
 #[unsafe(no_mangle)]
 #[tactic(auto, using(crate::proofs::Short::needs_none))]
 pub extern "C" fn page_output(
@@ -34,22 +35,22 @@ pub extern "C" fn page_output(
     room: &mut [u8],
 ) -> Handed
     ensures code { result.code < 5 }
-    ensures no_task { result.code ≡ 4 ↔ task_of subcommand.now shipped.now ≡ None }
+    ensures no_task { result.code ≡ 4 ↔ asked_of subcommand.now shipped.now ≡ None }
     ensures small { result.code ≡ 3 ↔ length room.old < result.len }
-    ensures answer { (t : Task) → task_of subcommand.now shipped.now ≡ Some t → result.code < 2 →
-        (answer : Result (List ℕ) Refusal) × IsAnswerTo t input.now answer
+    ensures answer { (a : Asked) → asked_of subcommand.now shipped.now ≡ Some a → result.code < 2 →
+        (answer : Result (List ℕ) Refusal) × IsAnswerFor a input.now answer
         × (result.code ≡ answer_code answer) × (take result.len room.new ≡ answer_text answer) }
-    ensures needed { (t : Task) → task_of subcommand.now shipped.now ≡ Some t → result.code ≡ 3 →
-        (answer : Result (List ℕ) Refusal) × IsAnswerTo t input.now answer
+    ensures needed { (a : Asked) → asked_of subcommand.now shipped.now ≡ Some a → result.code ≡ 3 →
+        (answer : Result (List ℕ) Refusal) × IsAnswerFor a input.now answer
         × (result.len ≡ length (answer_text answer)) }
-    ensures at_once { (t : Task) (r : Refusal) → task_of subcommand.now shipped.now ≡ Some t →
-        found_at_once t input.now ≡ Some r →
+    ensures at_once { (a : Asked) (r : Refusal) → asked_of subcommand.now shipped.now ≡ Some a →
+        found_at_once a input.now ≡ Some r →
         result.code ≡ 1 ⊎ result.code ≡ 3 }
 {
-    let Some(task) = task_of(subcommand, shipped) else {
+    let Some(asked) = asked_of(subcommand, shipped) else {
         return Handed { code: 4, len: 0 };
     };
-    let answer = output_alone(alloc, &task, input);
+    let answer = answer_to(alloc, &asked, input);
     handed_answer(alloc, answer, room)
 }
 

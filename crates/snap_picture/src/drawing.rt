@@ -94,7 +94,7 @@ fn counts_of<K: Kind>(history: &Record<K>, shapes: &[Shape]) -> Counts
     Counts {
         kind: machine.program().kind(),
         words: machine.shape().w(),
-        items: history.items().len() as u64,
+        items: history.items().len(),
         scans: count(Sought::Scan, shapes),
         without_point: count(Sought::NoPoint, shapes),
         updates: count(Sought::Update, shapes),

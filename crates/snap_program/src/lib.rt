@@ -7,12 +7,14 @@ mod whole_run;
 
 pub use answers::{answer, say_terminal};
 pub use snap_devices::{
-    ByteSink, ByteSource, ConductFault, Failed, Linearizability, Std, conduct_judge, conduct_live,
+    ByteSink, ByteSink as Sink, ByteSource, ByteSource as Source, ConductFault,
+    ConductFault as Fault, Failed, Linearizability, Std, conduct_judge, conduct_live,
     conduct_live_keeping, conduct_model, fault_line, fault_status, write_all,
 };
 pub use snap_input::{shipped, split_parts};
 pub use snap_live::{Gate, NoGate};
 pub use snap_output::perform;
+pub use snap_semantics::Refusal;
 pub use snap_tasks::{
     JudgeRequest, JudgeSource, Options, Request, Subject, Task, kind_of, request_of,
 };

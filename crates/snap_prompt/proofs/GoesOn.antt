@@ -1,7 +1,6 @@
 -- The dialog at the debugger's prompt goes on after each line that adds items to the schedule, or asks to.
 use Rattle.std.proofs.Common.{◌≡◌, ℕ, Bool, true, false, if◌then◌else◌, List, Some, None, Result, Ok, Err, refl}
 use Rattle.std.specs.Prelude.{nat_eq}
-use Rattle.snap_dialog.specs.Dialog.{Answer}
 use Rattle.snap_semantics.specs.Schedule.{Schedule}
 use Rattle.snap_semantics.specs.declared.refusal.ScheduleRefusal.{ScheduleRefusal}
 use Rattle.snap_debug.specs.Session.{total}
@@ -15,7 +14,7 @@ use Rattle.snap_reach.specs.declared.goal.NoSteps.{NoSteps}
 use Rattle.snap_prompt_lines.specs.Ask.{is_yes}
 use Rattle.snap_prompt_lines.specs.declared.ask.Ask.{Ask}
 use Rattle.snap_prompt_lines.specs.declared.ask.Ask.TheVariants as ask
-use Rattle.snap_prompt.specs.Prompt.{Prompt, added, added_to, answer_line, counted, decided, done, led, led_by}
+use Rattle.snap_prompt.specs.Prompt.{Answer, Prompt, added, added_to, answer_line, counted, decided, done, led, led_by}
 use Rattle.snap_prompt.specs.Prompt.{schedule_of_run, wanted, with_question}
 
 -- whether they fit or are refused
@@ -28,8 +27,8 @@ unfolding added
 added_goes_on p a = added_to_goes_on p (edited p.lines p.session.position (form_of a) (schedule_of_run p.session.run))
 
 -- one of two answers with which it goes on
-either : (b : Bool) (x y : Answer Prompt) → true ≡ x.goes_on → true ≡ y.goes_on →
-    true ≡ (let a : Answer Prompt = if b then x else y in a).goes_on
+either : (b : Bool) (x y : Answer (List ℕ)) → true ≡ x.goes_on → true ≡ y.goes_on →
+    true ≡ (let a : Answer (List ℕ) = if b then x else y in a).goes_on
 either true x y e f = e
 either false x y e f = f
 

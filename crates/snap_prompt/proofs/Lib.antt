@@ -1,4 +1,5 @@
 -- The proofs of snap_prompt, by their modules.
+pub mod Added
 pub mod GoesOn
 pub mod KeepsRun
 pub mod LastItems

@@ -4,3 +4,4 @@ pub mod Explained
 pub mod Hints
 pub mod Listed
 pub mod Prompt
+pub mod Said

@@ -1,7 +1,7 @@
 -- A prompt over a debugger's session: what is shown before a line, and what is answered to it.
 use Rattle.std.specs.Prelude.{ℕ, ◌+◌, ◌-◌, ◌^◌, List, [], ◌++◌, length, min, Bool, true, false, Option, Some, None}
 use Rattle.std.specs.Prelude.{Result, Ok, Err, codes, decimal, nat_eq, if◌then◌else◌}
-use Rattle.snap_dialog.specs.Dialog.{Answer}
+use Rattle.snap_dialog.specs.Dialog.{Next}
 use Rattle.snap_semantics.specs.Report.{position_line}
 use Rattle.snap_semantics.specs.Schedule.{Schedule}
 use Rattle.snap_semantics.specs.ScheduleText.{schedule_text}
@@ -25,9 +25,10 @@ use Rattle.snap_prompt_lines.specs.Ask.{ask_of, is_yes}
 use Rattle.snap_prompt_lines.specs.declared.ask.Ask.{Ask}
 use Rattle.snap_prompt_lines.specs.declared.ask.Ask.TheVariants as ask
 use Rattle.snap_prompt.specs.Changed.{moved_text}
-use Rattle.snap_prompt.specs.Explained.{explained_text, item_or_position}
+use Rattle.snap_prompt.specs.Explained.{explained, item_or_position}
 use Rattle.snap_prompt.specs.Hints.{refused_addition, refused_line, refused_steps}
 use Rattle.snap_prompt.specs.Listed.{list_text, process_of}
+use Rattle.snap_prompt.specs.Said.{IsSaid, Said, text}
 
 -- A session, what was asked for last, what is to be added where the next line says yes, how many lines were read, and
 -- whether the position stands before each line.
@@ -66,9 +67,19 @@ with_question q p = record { session = p.session; last = p.last; question = q; l
 abbrev pub with_last : Ask → Prompt → Prompt
 with_last a p = record { session = p.session; last = Some a; question = p.question; lines = p.lines; shows = p.shows }
 
+-- what the prompt is after a line, what is answered, and whether the dialog goes on
+pub record Answer (T : Type 0) : Type 0 where
+  pub state : Prompt
+  pub said : T
+  pub goes_on : Bool
+
 -- nothing changes, and this is said
-abbrev pub says : Prompt → List ℕ → Answer Prompt
-says p text = record { state = p; text = text; goes_on = true }
+abbrev pub says : {T : Type 0} → Prompt → T → Answer T
+says p it = record { state = p; said = it; goes_on = true }
+
+-- a text is said
+abbrev pub in_words : Answer (List ℕ) → Answer Said
+in_words a = record { state = a.state; said = text a.said; goes_on = a.goes_on }
 
 -- whether a command moves
 abbrev pub moves : Command → Bool
@@ -100,8 +111,8 @@ move_or_refusal s c (Ok s') = reply_text s' c ++ moved_text s s'
 unfoldable pub did_text : Session → Command → List ℕ
 did_text s c = if moves c then move_or_refusal s c (commanded s c) else reply_or_refusal s c (commanded s c)
 
-abbrev pub did : Prompt → Command → Answer Prompt
-did p c = record { state = with_session (answer p.session c).0 p; text = did_text p.session c; goes_on = true }
+abbrev pub did : Prompt → Command → Answer (List ℕ)
+did p c = record { state = with_session (answer p.session c).0 p; said = did_text p.session c; goes_on = true }
 
 -- the schedule that a run goes over
 abbrev pub schedule_of_run : Run → Schedule
@@ -112,16 +123,16 @@ abbrev pub at_end_of : Schedule → Session → Session
 at_end_of d s = at_position (length d.items) (reopened (run_over s.run.source d) s)
 
 -- what comes of an addition
-abbrev pub added_to : Prompt → Result Schedule ScheduleRefusal → Answer Prompt
+abbrev pub added_to : Prompt → Result Schedule ScheduleRefusal → Answer (List ℕ)
 added_to p (Err r) = says p (refused_addition p.session r)
 added_to p (Ok d) = record {
   state = with_session (at_end_of d p.session) p;
-  text = position_line (length d.items) (length d.items) ++ moved_text p.session (at_end_of d p.session);
+  said = position_line (length d.items) (length d.items) ++ moved_text p.session (at_end_of d p.session);
   goes_on = true;
 }
 
 -- Items are added behind the position, where the schedule is cut.
-unfoldable pub added : Prompt → Addition → Answer Prompt
+unfoldable pub added : Prompt → Addition → Answer (List ℕ)
 added p a = added_to p (edited p.lines p.session.position (form_of a) (schedule_of_run p.session.run))
 
 -- what is asked before items go
@@ -129,19 +140,19 @@ abbrev pub question_text : Session → List ℕ
 question_text s = codes "cut here? " ++ decimal (total s - s.position) ++ codes " items go (y)\n"
 
 -- at the end of the schedule items are added at once, and before it the next line has to say yes
-unfoldable pub wanted : Prompt → Addition → Answer Prompt
+unfoldable pub wanted : Prompt → Addition → Answer (List ℕ)
 wanted p a =
     if nat_eq p.session.position (total p.session) then added p a
-    else record { state = with_question (Some a) p; text = question_text p.session; goes_on = true }
+    else record { state = with_question (Some a) p; said = question_text p.session; goes_on = true }
 
 -- what comes of the steps that lead a process to a goal, or why there are none
-abbrev pub led_by : Prompt → ℕ → Result ℕ NoSteps → Answer Prompt
+abbrev pub led_by : Prompt → ℕ → Result ℕ NoSteps → Answer (List ℕ)
 led_by p i (Err why) = says p (refused_steps p.session p.lines i why)
 led_by p i (Ok count) = wanted p (addition.Steps i count)
 
 -- As many steps of process i are added as lead it from the position to a goal. That they don't is said at once, and
 -- nothing is asked.
-unfoldable pub led : Prompt → ℕ → Goal → Answer Prompt
+unfoldable pub led : Prompt → ℕ → Goal → Answer (List ℕ)
 led p i g = led_by p i (steps_to p.session i g)
 
 -- what lines can ask for
@@ -149,21 +160,21 @@ unfoldable pub help_text : List ℕ
 help_text = codes "step K, back K, goto T, run, rrun\nbreak I N, clear I N, watch A, unwatch A\nshow I, show A, values, events, where\nall, list, list I, why, why T, report, save, help, quit\nto add items: step I K, until I N, end I, call I scan, call I update K X, crash I\nA is a register: r K, q I J, p I J or v I\ns, b: step 1, back 1; s, b, r, g, p before numbers: step, back, run, goto, show; b I N: break I N\nan empty line: the last line again\n"
 
 -- what is done, where that is no last thing again
-unfoldable pub done : Prompt → Ask → Answer Prompt
-done p ask.Nothing = says p []
-done p ask.Again = says p []
-done p ask.Quit = record { state = p; text = []; goes_on = false }
-done p ask.Help = says p help_text
-done p ask.All = says p (head_lines 1 (state_of p.session).processes)
-done p ask.Report = says p (session_report p.session)
-done p ask.Save = says p (schedule_text (schedule_of_run p.session.run))
-done p ask.ListLast = says p (list_text p.session (process_of (last_of p.session.run p.session.position)))
-done p (ask.List i) = says p (list_text p.session i)
-done p (ask.Why item) = says p (explained_text p.session (item_or_position p.session item))
-done p (ask.Add a) = wanted p a
-done p (ask.Until i line) = led p i (goal.Line line)
-done p (ask.End i) = led p i goal.End
-done p (ask.Do c) = did p c
+unfoldable pub done : Prompt → Ask → Answer Said
+done p ask.Nothing = says p (text [])
+done p ask.Again = says p (text [])
+done p ask.Quit = record { state = p; said = text []; goes_on = false }
+done p ask.Help = says p (text help_text)
+done p ask.All = says p (text (head_lines 1 (state_of p.session).processes))
+done p ask.Report = says p (text (session_report p.session))
+done p ask.Save = says p (text (schedule_text (schedule_of_run p.session.run)))
+done p ask.ListLast = says p (text (list_text p.session (process_of (last_of p.session.run p.session.position))))
+done p (ask.List i) = says p (text (list_text p.session i))
+done p (ask.Why item) = says p (explained p.session (item_or_position p.session item))
+done p (ask.Add a) = in_words (wanted p a)
+done p (ask.Until i line) = in_words (led p i (goal.Line line))
+done p (ask.End i) = in_words (led p i goal.End)
+done p (ask.Do c) = in_words (did p c)
 
 -- what is meant by what a line asks for: the last thing again, or the thing itself
 abbrev pub meant : Option Ask → Ask → Option Ask
@@ -183,24 +194,32 @@ meant last (ask.End i) = Some (ask.End i)
 meant last (ask.Do c) = Some (ask.Do c)
 
 -- what is meant is the last thing from there on
-abbrev pub done_meant : Prompt → Option Ask → Answer Prompt
-done_meant p None = says p []
+abbrev pub done_meant : Prompt → Option Ask → Answer Said
+done_meant p None = says p (text [])
 done_meant p (Some a) = done (with_last a p) a
 
 -- what comes of what a line asks for, or why it is refused
-unfoldable pub asked : Prompt → Result Ask CommandRefusal → Answer Prompt
-asked p (Err r) = says p (refused_line p.session r)
+unfoldable pub asked : Prompt → Result Ask CommandRefusal → Answer Said
+asked p (Err r) = says p (text (refused_line p.session r))
 asked p (Ok a) = done_meant p (meant p.last a)
 
 -- the answer to a question
-abbrev pub decided : Prompt → Addition → Bool → Answer Prompt
+abbrev pub decided : Prompt → Addition → Bool → Answer (List ℕ)
 decided p a agreed =
     if agreed then added (with_question None p) a else says (with_question None p) (codes "nothing is cut\n")
 
-abbrev pub answered_to : Prompt → Option Addition → List ℕ → Answer Prompt
+abbrev pub answered_to : Prompt → Option Addition → List ℕ → Answer Said
 answered_to p None line = asked p (ask_of p.lines line)
-answered_to p (Some a) line = decided p a (is_yes line)
+answered_to p (Some a) line = in_words (decided p a (is_yes line))
 
 -- what is answered to a line
-unfoldable pub answer_line : Prompt → List ℕ → Answer Prompt
+unfoldable pub answer_line : Prompt → List ℕ → Answer Said
 answer_line p line = answered_to (counted p) p.question line
+
+-- this may be answered to a line
+abbrev pub Says : Prompt → List ℕ → List ℕ → Type 0
+Says p line it = IsSaid (answer_line p line).said it
+
+-- and what comes of a line
+abbrev pub next_line : Prompt → List ℕ → Next Prompt
+next_line p line = record { state = (answer_line p line).state; goes_on = (answer_line p line).goes_on }

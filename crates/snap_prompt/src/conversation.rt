@@ -1,13 +1,12 @@
 //! `converse`: a whole dialog at the debugger's prompt about a program under a schedule, for each
 //! kind of registers.
-ghost use Rattle.std.specs.Prelude.{◌≡◌, ℕ, List, None, IfErr, IfSome, OnErr, OnOk};
-ghost use Rattle.std.specs.Io.KnownBytes.{Appends};
-ghost use Rattle.snap_dialog.specs.Dialog.{IsBrokenOff, IsDialog, dialog, transcript};
-ghost use Rattle.snap_dialog.specs.Event.{PassesAll, ShowsPart};
+ghost use Rattle.std.specs.Prelude.{◌≡◌, None, IfErr, IfSome, OnErr, OnOk};
+ghost use Rattle.snap_dialog.specs.Dialog.{IsBrokenOff, IsDialog, ShowsTranscript};
+ghost use Rattle.snap_dialog.specs.Dialog.{ShowsTranscriptPart};
 ghost use Rattle.snap_dialog.specs.Failures.{MayEndDialog, failure_of};
 ghost use Rattle.snap_dialog.specs.TypedLines.{typed_lines};
 ghost use Rattle.snap_runs.specs.Run.{run_over};
-ghost use Rattle.snap_prompt.specs.Prompt.{answer_line, opened_prompt, prompt_text};
+ghost use Rattle.snap_prompt.specs.Prompt.{Says, next_line, opened_prompt, prompt_text};
 
 use crate::prompt::Prompt;
 use snap_asm_program::Program;
@@ -18,7 +17,7 @@ use std::alloc::Global;
 
 /// Talks at a console about a program under a schedule, from the position before its first item, to
 /// `quit` or the end of the input: each line is answered before the next prompt, and what is shown
-/// is the transcript of the lines. It is broken off as `talk` is, after a beginning of that.
+/// is a transcript of the lines. It is broken off as `talk` is, after a beginning of that.
 pub fn converse<C: Console>(
     alloc: Global,
     program: &Program,
@@ -27,24 +26,22 @@ pub fn converse<C: Console>(
     console: &mut C,
 ) -> Result<(), DialogFault>
     requires { C.failure console.old ≡ None }
-    ensures passes { OnOk result ((lines : List (List ℕ))
-        × IsDialog answer_line (opened_prompt (run_over program.now schedule) shows) lines
-        × PassesAll (C.passed console.old) (C.passed console.new)
-        (dialog prompt_text answer_line
-        (opened_prompt (run_over program.now schedule) shows) lines)) }
+    ensures passes { OnOk result (IsDialog prompt_text Says next_line
+        (opened_prompt (run_over program.now schedule) shows)
+        (C.passed console.old) (C.passed console.new)) }
     ensures shown { OnOk result (IfSome (C.left console.old) (λ input.
-        Appends (C.shown console.old) (C.shown console.new)
-        (transcript prompt_text answer_line
-        (opened_prompt (run_over program.now schedule) shows) (typed_lines input)))) }
+        ShowsTranscript prompt_text Says next_line
+        (opened_prompt (run_over program.now schedule) shows) (typed_lines input)
+        (C.shown console.old) (C.shown console.new))) }
     ensures failure { C.failure console.new ≡ failure_of result }
     ensures fails { IfErr result (λ fault. MayEndDialog fault (C.left console.old)) }
-    ensures passes_part { OnErr result (IsBrokenOff prompt_text answer_line
+    ensures passes_part { OnErr result (IsBrokenOff prompt_text Says next_line
         (opened_prompt (run_over program.now schedule) shows)
         (C.passed console.old) (C.passed console.new)) }
     ensures shows_part { OnErr result (IfSome (C.left console.old) (λ input.
-        ShowsPart (C.shown console.old) (C.shown console.new)
-        (transcript prompt_text answer_line
-        (opened_prompt (run_over program.now schedule) shows) (typed_lines input)))) }
+        ShowsTranscriptPart prompt_text Says next_line
+        (opened_prompt (run_over program.now schedule) shows) (typed_lines input)
+        (C.shown console.old) (C.shown console.new))) }
 {
     match program.kind() {
         KindTag::Seq => {

@@ -1,9 +1,10 @@
 //! What the prompt answers to `why` of an item: why it came out as it did, or that there is no such
 //! item.
-ghost use Rattle.std.specs.Prelude.{◌≡◌, ◌++◌, OnOk, map};
+ghost use Rattle.std.specs.Prelude.{◌≡◌, OnOk, map};
 ghost use Rattle.snap_listing_printer.specs.LineTexts.{written};
-ghost use Rattle.snap_prompt.specs.Explained.{explained_text};
+ghost use Rattle.snap_prompt.specs.Explained.{explained};
 ghost use Rattle.snap_prompt.specs.Prompt.{schedule_of_run};
+ghost use Rattle.snap_prompt.specs.Said.{IsAdded};
 
 use crate::hints::push_refused_line;
 use snap_debug::Session;
@@ -15,7 +16,7 @@ use snap_words::Kind;
 use std::alloc::{AllocError, Global};
 
 /// Adds why an item of a session's run came out as it did; or that there are not so many items.
-#[tactic(auto, unfolding(crate::specs::Explained::explained_text))]
+#[tactic(auto, unfolding(crate::specs::Explained::explained))]
 pub(crate) fn push_explained<K: Kind>(
     alloc: Global,
     out: &mut Vec<u8>,
@@ -26,7 +27,8 @@ pub(crate) fn push_explained<K: Kind>(
 ) -> Result<(), AllocError>
     requires schedule { schedule.now ≡ schedule_of_run session.now.run }
     requires texts { texts.now ≡ map written session.now.run.source.lines }
-    ensures { OnOk result (out.new.items ≡ out.old.items ++ explained_text session.now item) }
+    ensures { OnOk result
+        (IsAdded (explained session.now item) out.old.items out.new.items) }
 {
     if session.total() < item {
         return push_refused_line(out, session, &CommandRefusal::NoSuchPosition);

@@ -1,5 +1,5 @@
 //! `Prompt`: a debugger session that is talked to line by line, with the answer to each line.
-ghost use Rattle.std.specs.Prelude.{◌≡◌, ◌++◌, IfOk, OnOk, Ok};
+ghost use Rattle.std.specs.Prelude.{◌≡◌, ◌++◌, ℕ, List, IfOk, OnOk, Ok};
 ghost use Rattle.snap_runs.specs.Run.{run_over};
 ghost use Rattle.snap_debug.specs.Replies.{last_of};
 ghost use Rattle.snap_debug.specs.Session.{answer, commanded, session_report, state_of, total};
@@ -7,12 +7,14 @@ ghost use Rattle.snap_text.specs.Changes.{text_between};
 ghost use Rattle.snap_semantics.specs.Report.{position_line};
 ghost use Rattle.snap_semantics.specs.ScheduleText.{schedule_text};
 ghost use Rattle.snap_semantics.specs.Token.{lines_of};
-ghost use Rattle.snap_prompt.specs.Explained.{explained_text, item_or_position};
+ghost use Rattle.snap_prompt.specs.Explained.{explained, item_or_position};
 ghost use Rattle.snap_prompt.specs.Listed.{list_text, process_of};
-ghost use Rattle.snap_prompt.specs.Prompt.{added, answer_line, asked, at_end_of, decided};
-ghost use Rattle.snap_prompt.specs.Prompt.{did_text, done, led, move_or_refusal, opened_prompt};
-ghost use Rattle.snap_prompt.specs.Prompt.{prompt_text, question_text, reply_or_refusal};
-ghost use Rattle.snap_prompt.specs.Prompt.{schedule_of_run, wanted, with_session};
+ghost use Rattle.snap_prompt.specs.Prompt.{Says, added, answer_line, asked, at_end_of, decided};
+ghost use Rattle.snap_prompt.specs.Prompt.{did_text, done, led, move_or_refusal, next_line};
+ghost use Rattle.snap_prompt.specs.Prompt.{opened_prompt, prompt_text, question_text};
+ghost use Rattle.snap_prompt.specs.Prompt.{reply_or_refusal, schedule_of_run, wanted};
+ghost use Rattle.snap_prompt.specs.Prompt.{with_session};
+ghost use Rattle.snap_prompt.specs.Said.{IsAdded};
 ghost use Rattle.snap_prompt.specs.Changed.{item_text, state_text};
 
 use crate::changed::state_text;
@@ -210,7 +212,7 @@ impl<K: Kind> Prompt<K> {
     #[tactic(auto, unfolding(crate::specs::Prompt::added, crate::specs::Changed::moved_text, crate::specs::Changed::changed))]
     fn push_added(&mut self, out: &mut Vec<u8>, addition: Addition) -> Result<(), AllocError>
         ensures text { OnOk result (out.new.items ≡ out.old.items
-            ++ (added self.old addition).text) }
+            ++ (added self.old addition).said) }
         ensures state { OnOk result (self.new ≡ (added self.old addition).state) }
     {
         let position = self.session.position();
@@ -239,7 +241,7 @@ impl<K: Kind> Prompt<K> {
     #[tactic(auto, unfolding(crate::specs::Prompt::wanted))]
     fn push_wanted(&mut self, out: &mut Vec<u8>, addition: Addition) -> Result<(), AllocError>
         ensures text { OnOk result (out.new.items ≡ out.old.items
-            ++ (wanted self.old addition).text) }
+            ++ (wanted self.old addition).said) }
         ensures state { OnOk result (self.new ≡ (wanted self.old addition).state) }
     {
         if self.session.position() == self.session.total() {
@@ -254,7 +256,7 @@ impl<K: Kind> Prompt<K> {
     #[tactic(auto, unfolding(crate::specs::Prompt::led))]
     fn push_led(&mut self, out: &mut Vec<u8>, process: u64, goal: Goal) -> Result<(), AllocError>
         ensures text { OnOk result (out.new.items ≡ out.old.items
-            ++ (led self.old process goal).text) }
+            ++ (led self.old process goal).said) }
         ensures state { OnOk result (self.new ≡ (led self.old process goal).state) }
     {
         match steps_to(&self.session, process, goal)? {
@@ -301,8 +303,8 @@ impl<K: Kind> Prompt<K> {
 
     /// Adds why an item came out as it did, that of the position where none is named.
     fn push_why_of(&self, out: &mut Vec<u8>, item: Option<u64>) -> Result<(), AllocError>
-        ensures { let s = self.now.session in OnOk result (out.new.items ≡ out.old.items
-            ++ explained_text s (item_or_position s item)) }
+        ensures { let s = self.now.session in OnOk result (IsAdded
+            (explained s (item_or_position s item)) out.old.items out.new.items) }
     {
         let item = match item {
             Some(item) => item,
@@ -321,7 +323,7 @@ impl<K: Kind> Prompt<K> {
     /// Does what is meant by a line, and adds what is answered.
     #[tactic(auto, unfolding(crate::specs::Prompt::done))]
     fn push_meant(&mut self, out: &mut Vec<u8>, ask: Ask) -> Result<bool, AllocError>
-        ensures text { OnOk result (out.new.items ≡ out.old.items ++ (done self.old ask).text) }
+        ensures text { OnOk result (IsAdded (done self.old ask).said out.old.items out.new.items) }
         ensures state { OnOk result (self.new ≡ (done self.old ask).state) }
         ensures goes_on { IfOk result (λ more. more ≡ (done self.old ask).goes_on) }
     {
@@ -353,7 +355,8 @@ impl<K: Kind> Prompt<K> {
         out: &mut Vec<u8>,
         ask: Result<Ask, CommandRefusal>,
     ) -> Result<bool, AllocError>
-        ensures text { OnOk result (out.new.items ≡ out.old.items ++ (asked self.old ask).text) }
+        ensures text { OnOk result
+            (IsAdded (asked self.old ask).said out.old.items out.new.items) }
         ensures state { OnOk result (self.new ≡ (asked self.old ask).state) }
         ensures goes_on { IfOk result (λ more. more ≡ (asked self.old ask).goes_on) }
     {
@@ -380,7 +383,7 @@ impl<K: Kind> Prompt<K> {
         agreed: bool,
     ) -> Result<(), AllocError>
         ensures text { OnOk result (out.new.items ≡ out.old.items
-            ++ (decided self.old addition agreed).text) }
+            ++ (decided self.old addition agreed).said) }
         ensures state { OnOk result (self.new ≡ (decided self.old addition agreed).state) }
     {
         self.question = None;
@@ -405,11 +408,11 @@ impl<K: Kind> Prompt<K> {
         push_text(out, b"> ")
     }
 
-    /// Adds what is answered to a line, and tells whether the dialog goes on.
+    /// Adds an answer to a line, and tells whether the dialog goes on.
     #[tactic(auto, unfolding(crate::specs::Prompt::answer_line))]
     fn push_answered(&mut self, out: &mut Vec<u8>, line: &[u8]) -> Result<bool, AllocError>
-        ensures text { OnOk result (out.new.items ≡ out.old.items
-            ++ (answer_line self.old line.now).text) }
+        ensures text { OnOk result ((text : List ℕ) × Says self.old line.now text
+            × (out.new.items ≡ out.old.items ++ text)) }
         ensures state { OnOk result (self.new ≡ (answer_line self.old line.now).state) }
         ensures goes_on { IfOk result (λ more. more ≡ (answer_line self.old line.now).goes_on) }
     {
@@ -430,7 +433,9 @@ impl<K: Kind> Prompt<K> {
 impl Respondent for Prompt<Seq> {
     ghost prompt_of = { prompt_text };
 
-    ghost answer_of = { answer_line };
+    ghost says = { Says };
+
+    ghost next_of = { next_line };
 
     fn push_prompt(&self, out: &mut Vec<u8>) -> Result<(), AllocError> {
         self.push_position(out)
@@ -444,7 +449,9 @@ impl Respondent for Prompt<Seq> {
 impl Respondent for Prompt<Bits> {
     ghost prompt_of = { prompt_text };
 
-    ghost answer_of = { answer_line };
+    ghost says = { Says };
+
+    ghost next_of = { next_line };
 
     fn push_prompt(&self, out: &mut Vec<u8>) -> Result<(), AllocError> {
         self.push_position(out)
@@ -458,7 +465,9 @@ impl Respondent for Prompt<Bits> {
 impl Respondent for Prompt<Multi> {
     ghost prompt_of = { prompt_text };
 
-    ghost answer_of = { answer_line };
+    ghost says = { Says };
+
+    ghost next_of = { next_line };
 
     fn push_prompt(&self, out: &mut Vec<u8>) -> Result<(), AllocError> {
         self.push_position(out)

@@ -1,6 +1,8 @@
 //! `Goal`: to where a process is to step, a line or the end of its operation; `NoSteps`: why no
 //! steps lead it there.
 
+use thiserror::Error;
+
 /// To where a process steps. It stops earlier where it is no longer busy.
 #[derive(Clone, Copy, PartialEq, Eq)]
 pub enum Goal {
@@ -11,13 +13,19 @@ pub enum Goal {
 }
 
 /// Why a process takes no steps to a goal.
-#[derive(Clone, Copy, PartialEq, Eq)]
+#[derive(Clone, Copy, Debug, PartialEq, Eq, Error)]
 pub enum NoSteps {
+    #[error("there is no such process")]
     NoSuchProcess,
+    #[error("there is no such line")]
     NoSuchLine,
+    #[error("the process is idle")]
     Idle,
+    #[error("the process is trapped")]
     Trapped,
+    #[error("the process has crashed")]
     Crashed,
     /// The schedule is full before the process is there.
+    #[error("the schedule is full")]
     Full,
 }

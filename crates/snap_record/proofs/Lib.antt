@@ -14,3 +14,4 @@ pub mod Within
 pub mod LastLine
 pub mod LineRoles
 pub mod PlainSteps
+pub mod FirstItems

@@ -5,9 +5,11 @@
 mod fault;
 mod history;
 mod over;
+mod printed;
 mod record;
 mod roles;
 mod row;
+mod scheduled;
 mod search;
 mod step_role;
 mod walk;
@@ -15,8 +17,14 @@ mod walk;
 pub use fault::RecordFault;
 pub use history::{Change, note_values};
 pub use over::record_over;
-pub use record::{MAX_ITEMS, Record};
+pub use printed::{
+    event_line, head_line, outcome_text, process_lines, register_line, report_at, values_line,
+};
+pub use record::Record;
 pub use roles::{LineRole, new_roles, role_in};
 pub use row::Row;
-pub use snap_history::History;
+pub use snap_history::{History, HistoryIter};
+pub use snap_report::Report;
+pub use snap_semantics::{Event, Happening, Item, Op, Outcome};
+pub use snap_words::MAX_ITEMS;
 pub use walk::advance;

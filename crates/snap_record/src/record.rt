@@ -26,12 +26,9 @@ use snap_history::History;
 use snap_machine::Machine;
 use snap_sched::Items;
 use snap_semantics::{Event, Item, Outcome, who};
-use snap_words::{Kind, Shape, View};
+use snap_words::{Kind, MAX_ITEMS, Shape, View};
 use std::alloc::{AllocError, Global};
 use std::marker::Model;
-
-/// The most items that a record keeps.
-pub const MAX_ITEMS: usize = snap_words::MAX_ITEMS as usize;
 
 /// A machine with the items that it has done, seen as their run.
 pub struct Record<K: Kind> {
@@ -131,7 +128,7 @@ impl<K: Kind> Record<K> {
         self.at_events.reserve(1)?;
         let outcome = self.machine.apply(item)?;
         self.items.push_reserved(item);
-        let number = self.items.len() as u64;
+        let number = self.items.len();
         note_item(
             &mut self.values,
             &mut self.changes,
@@ -187,6 +184,11 @@ impl<K: Kind> Record<K> {
         Ok(())
     }
 
+    /// Returns the allocator that `new` took.
+    pub(crate) fn allocator(&self) -> Global {
+        self.alloc
+    }
+
     /// The items, in order.
     pub fn items(&self) -> &History
         ensures items { result.now.items ≡ self.now.items }
@@ -234,7 +236,7 @@ impl<K: Kind> Record<K> {
     pub fn values_after(&self, t: u64) -> Result<Option<View>, AllocError>
         ensures { IfOk result (λ v. v ≡ values_after self.now t) }
     {
-        if t > self.items.len() as u64 {
+        if t > self.items.len() {
             return Ok(None);
         }
         let mut values = Row::zeros(self.alloc, self.machine.shape().w())?;

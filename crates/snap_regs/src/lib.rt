@@ -9,3 +9,5 @@ mod rows;
 pub use fault::RegisterFault;
 pub use laws::what_is_put_is_there;
 pub use registers::{Registers, check_owner};
+pub use snap_semantics::BitBank;
+pub use snap_words::{Address, Bank};

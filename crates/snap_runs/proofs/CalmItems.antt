@@ -19,7 +19,7 @@ use Rattle.snap_runs.specs.Run.{Run, IsValidRun, state, before, item, outcome}
 use Rattle.snap_runs.specs.Scan.{line_in, link_in, IsCallLine, ReturnsView, Starts, Ends, PendingScan, FinishedScan}
 use Rattle.snap_runs.specs.Scan.{count, steps, is_if_all, is_stepped, is_not_skipped, ends_double_collect, takes_step}
 use Rattle.snap_runs.specs.Scan.{double_collects, own_steps}
-use Rattle.snap_runs.specs.Update.{is_at, executes, IsDone, PendingUpdate}
+use Rattle.snap_runs.specs.Update.{is_at, goes_on, executes, IsDone, PendingUpdate}
 use Rattle.snap_runs.proofs.Calm.{IsDead, calm, same_length, state_is, process_is, Kept, Paused, kept_or_paused}
 use Rattle.snap_runs.proofs.Computing.{same_number, same_from}
 use Rattle.snap_runs.proofs.Executing.{step_of}
@@ -99,15 +99,18 @@ module _ (r : Run) where
     pub executes_same : (i line t : ℕ) → t < length r.items →
         executes (calm r) i line (suc t) ≡ executes r i line (suc t)
     executes_same i line t h =
+        let there = (process_at (state (calm r) t) i).status in
         elim (kept_or_paused r fits t h) [
-          | inl k ↦ ap (λ y. steps i y && is_at line (process_at (state (calm r) t) i).status) k.item_is
-              ∙ same_test (steps i (item r (suc t)))
-              (is_at line (process_at (state (calm r) t) i).status) (is_at line (status t i))
+          | inl k ↦ ap (λ y. steps i y && (is_at line there && goes_on (outcome (calm r) (suc t)))) k.item_is
+              ∙ same_test (steps i (item r (suc t))) (is_at line there && goes_on (outcome (calm r) (suc t)))
+              (is_at line (status t i) && goes_on (outcome r (suc t)))
               (λ his.
-              ap (λ (p : Process). is_at line p.status) (stands_before t i k (ap who (step_of i (item r (suc t)) his))))
-          | inr k ↦ ap (λ y. steps i y && is_at line (process_at (state (calm r) t) i).status) k.item_is
-              ∙ sym (never (steps i (item r (suc t))) (is_at line (status t i))
-              (λ his. ap (is_at line) (dead_at t i k his).1.1))
+              ap (λ (p : Process). is_at line p.status && goes_on (outcome (calm r) (suc t)))
+              (stands_before t i k (ap who (step_of i (item r (suc t)) his)))
+              ∙ ap (λ o. is_at line (status t i) && goes_on o) k.outcome_is)
+          | inr k ↦ ap (λ y. steps i y && (is_at line there && goes_on (outcome (calm r) (suc t)))) k.item_is
+              ∙ sym (never (steps i (item r (suc t))) (is_at line (status t i) && goes_on (outcome r (suc t)))
+              (λ his. ap (λ s. is_at line s && goes_on (outcome r (suc t))) (dead_at t i k his).1.1))
         ]
 
     collect_same : (i t : ℕ) → t < length r.items →

@@ -1,6 +1,6 @@
 -- A process of an `Algorithm` that executes a line stands at the
 -- program counter of that line; and what its step there leaves.
-use Rattle.std.specs.Prelude.{◌≡◌, ℕ, suc, ◌<◌, true, ◌&&◌, List, length, Option, Some, nat_eq}
+use Rattle.std.specs.Prelude.{◌≡◌, ℕ, suc, ◌<◌, Bool, true, false, ◌&&◌, List, length, Option, Some, nat_eq, refl}
 use Rattle.std.proofs.Common.{sym, ◌∙◌, ap, subst, arith}
 use Rattle.snap_words.specs.Shape.{IsOneOf}
 use Rattle.snap_semantics.specs.State.{Process, process_at}
@@ -8,9 +8,9 @@ use Rattle.snap_semantics.specs.Table.{who}
 use Rattle.snap_semantics.specs.declared.process.Item.{Item}
 use Rattle.snap_semantics.specs.declared.process.Item.TheVariants.{Step, Call, Crash}
 use Rattle.snap_semantics.specs.declared.process.Outcome.TheVariants.{Stepped}
-use Rattle.snap_runs.specs.Run.{Run, state, item}
+use Rattle.snap_runs.specs.Run.{Run, state, before, item, outcome}
 use Rattle.snap_runs.specs.Scan.{steps}
-use Rattle.snap_runs.specs.Update.{is_at, executes}
+use Rattle.snap_runs.specs.Update.{is_at, goes_on, executes, TrapsExecuteNothing}
 use Rattle.snap_runs.proofs.Algorithm.{Mode, Control, Idle, At, Move, To, TypedProcess, TypedState, Algorithm}
 use Rattle.snap_runs.proofs.Algorithm.{by_move, by_step, typed_at, changed, happens, item_at, typed_state, status_of}
 use Rattle.snap_runs.proofs.Algorithm.{stepped_auxiliary, memory_after}
@@ -22,6 +22,17 @@ pub step_of : (i : ℕ) (y : Item) → steps i y ≡ true → y ≡ Step i
 step_of i (Step k) h = ap (λ u. Step u) (same_from k i h)
 step_of i (Call k op) h = absurd (cc)
 step_of i (Crash k) h = absurd (cc)
+
+not_on : (b c : Bool) → (b && (c && false)) ≡ false
+not_on true true = refl
+not_on true false = refl
+not_on false c = refl
+
+-- a line that traps is not executed
+pub traps_execute_nothing : TrapsExecuteNothing
+traps_execute_nothing r i line t cause trapped =
+    ap (λ o. steps i (item r t) && (is_at line (process_at (before r t) i).status && goes_on o)) trapped
+    ∙ not_on (steps i (item r t)) (is_at line (process_at (before r t) i).status)
 
 module _ {V P M : Type 0} (a : Algorithm V P M) where
   -- each line by its number
@@ -54,7 +65,7 @@ module _ {V P M : Type 0} (a : Algorithm V P M) where
     pub one_of : (t i : ℕ) → t < length items → item_at items t ≡ Step i → IsOneOf a.shape.n i
     one_of t i h is = subst (λ y. IsOneOf a.shape.n (who y)) is (embed.one_at a items fits t h)
 
-    -- a step at a line executes it
+    -- a step at a line executes it, since none traps
     pub line_executes : (t i line : ℕ) (d : Mode) (k : P) → t < length items → item_at items t ≡ Step i →
         (at t i).control ≡ At d k → nat_eq (a.number k) line ≡ true → executes r i line (suc t) ≡ true
     line_executes t i line d k h is there same =
@@ -62,8 +73,10 @@ module _ {V P M : Type 0} (a : Algorithm V P M) where
         ap (λ (p : Process). is_at line p.status)
         (embed.process_at_is a items fits does t i (omega arith) (one_of t i h is))
         ∙ ap (λ (p : Control P). is_at line (status_of a p)) there ∙ same in
-        ap (λ (y : Item). steps i y && is_at line (process_at (state r t) i).status) is
-        ∙ ap (λ b. b && is_at line (process_at (state r t) i).status) (same_number i) ∙ stands
+        let goes = goes_on (outcome r (suc t)) in
+        ap (λ (y : Item). steps i y && (is_at line (process_at (state r t) i).status && goes)) is
+        ∙ ap (λ b. b && (is_at line (process_at (state r t) i).status && goes)) (same_number i)
+        ∙ ap (λ b. b && goes) stands ∙ embed.goes a items fits does t h
 
     -- and where a process executes a line, it stands there
     pub stands_at : (numbered : Numbered) (t i line : ℕ) (there : P) → t < length items → IsOneOf a.shape.n i →
@@ -71,10 +84,11 @@ module _ {V P M : Type 0} (a : Algorithm V P M) where
         executes r i line (suc t) ≡ true →
         (item_at items t ≡ Step i) × ((d : Mode) × ((at t i).control ≡ At d there))
     stands_at numbered t i line there h one is ex =
-        let parts = both (steps i (item r (suc t))) (is_at line (process_at (state r t) i).status) ex in
+        let there_on = is_at line (process_at (state r t) i).status && goes_on (outcome r (suc t)) in
+        let parts = both (steps i (item r (suc t))) there_on ex in
         let stands : is_at line (status_of a (at t i).control) ≡ true =
         sym (ap (λ (p : Process). is_at line p.status) (embed.process_at_is a items fits does t i (omega arith) one))
-        ∙ parts.1 in
+        ∙ (both (is_at line (process_at (state r t) i).status) (goes_on (outcome r (suc t))) parts.1).0 in
         (step_of i (item_at items t) parts.0, busy_at numbered line there (at t i).control is stands)
 
     -- the state after a step at a line, and its memory

@@ -14,7 +14,7 @@ use Rattle.snap_semantics.specs.State.{process_at, values}
 use Rattle.snap_semantics.specs.Table.{who}
 use Rattle.snap_runs.specs.Run.{Run, IsValidRun, state, before, item, outcome as outcome_at}
 use Rattle.snap_runs.specs.Scan.{FinishedScan, steps, count}
-use Rattle.snap_runs.specs.Update.{is_at, executes, IsDone, PendingUpdate}
+use Rattle.snap_runs.specs.Update.{is_at, goes_on, executes, IsDone, PendingUpdate}
 use Rattle.snap_runs.specs.LinearizationPoints.{HasLinearizationPoints}
 use Rattle.snap_runs.specs.Operation.{Sets, TookPlace}
 use Rattle.snap_runs.proofs.Computing.{lt_from, both, same_from}
@@ -121,7 +121,8 @@ ends_answer (outcome.Skipped why) h = absurd h
 module _ (r : Run) where
   pub executes_who : (i line t : ℕ) → executes r i line t ≡ true → i ≡ who (item r t)
   executes_who i line t ex =
-      step_of i (item r t) (both (steps i (item r t)) (is_at line (process_at (before r t) i).status) ex).0
+      step_of i (item r t)
+      (both (steps i (item r t)) (is_at line (process_at (before r t) i).status && goes_on (outcome_at r t)) ex).0
 
   -- an operation ends once
   pub same_done : (i word value word' value' c e e' : ℕ) → PendingUpdate r i word value c e →

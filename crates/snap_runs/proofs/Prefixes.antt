@@ -15,7 +15,7 @@ use Rattle.snap_semantics.specs.declared.process.Item.{Item}
 use Rattle.snap_semantics.specs.declared.process.Item.TheVariants.{Step}
 use Rattle.snap_runs.specs.Run.{Run, IsValidRun, state, before, item, outcome, run_of_items}
 use Rattle.snap_runs.specs.Scan.{steps}
-use Rattle.snap_runs.specs.Update.{is_at, executes, IsDone, PendingUpdate}
+use Rattle.snap_runs.specs.Update.{is_at, goes_on, executes, IsDone, PendingUpdate}
 use Rattle.snap_runs.specs.Operation.{Operation}
 use Rattle.snap_runs.specs.Linearization.{IsLinearization}
 use Rattle.snap_runs.specs.LinearizationPoints.{HasLinearizationPoints}
@@ -98,8 +98,12 @@ module _ (source : Source) (shape : Counts) where
 
     same_executes : (i line t : ℕ) → t ≤ length items → executes long i line t ≡ executes short i line t
     same_executes i line t le =
-        ap (λ (x : Item). steps i x && is_at line (process_at (before long t) i).status) (same_item t le)
-        ∙ ap (λ (S : State). steps i (item short t) && is_at line (process_at S i).status) (same_before t le)
+        ap (λ (x : Item). steps i x && (is_at line (process_at (before long t) i).status && goes_on (outcome long t)))
+        (same_item t le)
+        ∙ ap (λ (S : State). steps i (item short t) && (is_at line (process_at S i).status && goes_on (outcome long t)))
+        (same_before t le)
+        ∙ ap (λ o. steps i (item short t) && (is_at line (process_at (before short t) i).status && goes_on o))
+        (same_outcome t le)
 
     same_done : (i t : ℕ) → t ≤ length items → IsDone long i t → IsDone short i t
     same_done i t le h = (sym (ap who (same_item t le)) ∙ h.0, sym (same_outcome t le) ∙ h.1)

@@ -17,13 +17,13 @@ use Rattle.snap_semantics.specs.Table.{call_skip, who}
 use Rattle.snap_words.specs.Shape.{IsOneOf}
 use Rattle.snap_runs.specs.Run.{Run, before, item, outcome}
 use Rattle.snap_runs.specs.Scan.{count, steps}
-use Rattle.snap_runs.specs.Update.{is_at, executes, IsDone, PendingUpdate}
+use Rattle.snap_runs.specs.Update.{is_at, goes_on, executes, IsDone, PendingUpdate}
 use Rattle.snap_runs.proofs.Algorithm.{Mode, op_of, mode_of, op_is, Control, Idle, At, Move, To, Begin, Answer}
 use Rattle.snap_runs.proofs.Algorithm.{Finish, Auxiliary, TypedProcess, TypedState, Algorithm, by_move, by_step}
 use Rattle.snap_runs.proofs.Algorithm.{by_admission, by_call, typed_at, by_item, changed, outcome_of, happens}
 use Rattle.snap_runs.proofs.Algorithm.{item_at, typed_state, status_of, stepped_auxiliary, begun_auxiliary}
 use Rattle.snap_runs.proofs.Algorithm.{called_auxiliary, SameOp}
-use Rattle.snap_runs.proofs.Computing.{same_number}
+use Rattle.snap_runs.proofs.Computing.{same_number, and_true}
 use Rattle.snap_runs.proofs.Embedding as embed
 use Rattle.snap_runs.proofs.Counting.{count_none, count_next, count_not}
 use Rattle.snap_runs.proofs.ScanSpan.{not_his}
@@ -235,20 +235,23 @@ module _ {V P M : Type 0} (a : Algorithm V P M) where
       op = g.op;
       wrote = ap (λ (q : TypedProcess V P M). q.auxiliary.wrote) same ∙ g.wrote
           ∙ sym (count_not (executes r i line) c t le
-          (ap (λ b. b && is_at line (process_at (before r (suc t)) i).status) none));
+          (ap (λ b. b && (is_at line (process_at (before r (suc t)) i).status && goes_on (outcome r (suc t)))) none));
     }
 
     -- one more item of the process at a line
-    pub line_counts : (t c : ℕ) (d : Mode) (k : P) → c ≤ t → t ≤ length items → item_at items t ≡ Step i →
+    pub line_counts : (t c : ℕ) (d : Mode) (k : P) → c ≤ t → t < length items → item_at items t ≡ Step i →
         (his t).control ≡ At d k → count (executes r i line) c (suc t) ≡ count (executes r i line) c t + a.writes k
     line_counts t c d k le short is at =
-        let stands : is_at line (process_at (before r (suc t)) i).status ≡ nat_eq (a.number k) line =
-        ap (λ (p : Process). is_at line p.status) (embed.process_at_is a items fits does t i short one)
+        let there = is_at line (process_at (before r (suc t)) i).status in
+        let stands : there ≡ nat_eq (a.number k) line =
+        ap (λ (p : Process). is_at line p.status) (embed.process_at_is a items fits does t i (omega arith) one)
         ∙ ap (λ (p : Control P). is_at line (status_of a p)) at in
+        let on : (there && goes_on (outcome r (suc t))) ≡ nat_eq (a.number k) line =
+        ap (λ b. there && b) (embed.goes a items fits does t short) ∙ and_true there ∙ stands in
         count_next (executes r i line) c t le
-        ∙ ap (λ b. if b && is_at line (process_at (before r (suc t)) i).status then suc (count (executes r i line) c t)
+        ∙ ap (λ b. if b && (there && goes_on (outcome r (suc t))) then suc (count (executes r i line) c t)
         else count (executes r i line) c t) (ap (steps i) is ∙ same_number i)
-        ∙ ap (λ b. if b then suc (count (executes r i line) c t) else count (executes r i line) c t) stands
+        ∙ ap (λ b. if b then suc (count (executes r i line) c t) else count (executes r i line) c t) on
         ∙ add_one (nat_eq (a.number k) line) (count (executes r i line) c t)
         ∙ ap (λ y. count (executes r i line) c t + y) (writes_is k)
 
@@ -268,7 +271,7 @@ module _ {V P M : Type 0} (a : Algorithm V P M) where
           control = ap (λ (q : TypedProcess V P M). q.control) new;
           op = same ∙ op;
           wrote = ap (λ (q : TypedProcess V P M). q.auxiliary.wrote) new ∙ ap (λ y. y + a.writes k) g.wrote
-              ∙ sym (line_counts t c d k le (omega arith) is at);
+              ∙ sym (line_counts t c d k le short is at);
         }
     stepped_going word value c e t d k (Begin d' p' k') up le lt short is same silence at op state_becomes out_is g =
         let q' : TypedProcess V P M =
@@ -280,7 +283,7 @@ module _ {V P M : Type 0} (a : Algorithm V P M) where
           control = ap (λ (q : TypedProcess V P M). q.control) new;
           op = same ∙ op;
           wrote = ap (λ (q : TypedProcess V P M). q.auxiliary.wrote) new ∙ ap (λ y. y + a.writes k) g.wrote
-              ∙ sym (line_counts t c d k le (omega arith) is at);
+              ∙ sym (line_counts t c d k le short is at);
         }
     stepped_going word value c e t d k (Answer v) up le lt short is same silence at op state_becomes out_is g =
         absurd silence
@@ -373,25 +376,27 @@ module _ {V P M : Type 0} (a : Algorithm V P M) where
           ]
         ]
 
-    inner_more : (s b : Bool) (x : ℕ) → (if s && b then suc x else x) ≤ x + (if b then 1 else 0)
-    inner_more true true x = omega arith
-    inner_more true false x = omega arith
-    inner_more false true x = omega arith
-    inner_more false false x = omega arith
+    inner_more : (s b o : Bool) (x : ℕ) → (if s && (b && o) then suc x else x) ≤ x + (if b then 1 else 0)
+    inner_more true true true x = omega arith
+    inner_more true true false x = omega arith
+    inner_more true false o x = omega arith
+    inner_more false b o x = omega arith
 
     pub line_at_most : (t c : ℕ) (d : Mode) (k : P) → c ≤ t → t ≤ length items → (his t).control ≡ At d k →
         count (executes r i line) c (suc t) ≤ count (executes r i line) c t + a.writes k
     line_at_most t c d k le short at =
         let b = is_at line (process_at (before r (suc t)) i).status in
+        let on = goes_on (outcome r (suc t)) in
         let stands : b ≡ nat_eq (a.number k) line =
         ap (λ (p : Process). is_at line p.status) (embed.process_at_is a items fits does t i short one)
         ∙ ap (λ (p : Control P). is_at line (status_of a p)) at in
         let one_if : (if b then 1 else 0) ≡ a.writes k = ap (λ y. if y then 1 else 0) stands ∙ writes_is k in
         subst (λ y. y ≤ count (executes r i line) c t + a.writes k) (sym (count_next (executes r i line) c t le))
         (subst (λ y.
-        (if steps i (item r (suc t)) && b then suc (count (executes r i line) c t) else count (executes r i line) c t)
+        (if steps i (item r (suc t)) && (b && on) then suc (count (executes r i line) c t)
+        else count (executes r i line) c t)
         ≤ count (executes r i line) c t + y) one_if
-        (inner_more (steps i (item r (suc t))) b (count (executes r i line) c t)))
+        (inner_more (steps i (item r (suc t))) b on (count (executes r i line) c t)))
 
     pub none_yet : (c e : ℕ) → e ≤ c → count (executes r i line) c e ≡ 0
     none_yet c e h = count_none (executes r i line) c e h

@@ -109,7 +109,7 @@ module _ {V P M : Type 0} (a : Algorithm V P M) (lines : Lines V P M) (line : �
         let next : count (executes (embed.run_of a items) i line) c (suc t)
         ≡ count (executes (embed.run_of a items) i line) c t + a.writes g.counter =
         called.line_counts a line once.writes_is items run.fits run.does i one silent t c g.mode g.counter le
-        (omega arith) is2 g.control in
+        short is2 g.control in
         omega arith
 
     pub writes_once : (word value c e : ℕ) → PendingUpdate (embed.run_of a items) i word value c e →

@@ -1,5 +1,6 @@
 //! `ItemIter`: goes through the items of a schedule, one by one.
 ghost use Rattle.std.specs.Prelude.{◌≡◌};
+ghost use Rattle.snap_semantics.specs.Readers.{nth};
 
 use crate::items::Items;
 use crate::segments::{Segment, Segments};
@@ -66,5 +67,19 @@ impl Items {
             steps: 0,
             rest: self.segments(),
         }
+    }
+
+    /// Returns item `t`, counted from 1, where there are so many.
+    pub fn item(&self, t: u64) -> Option<Item>
+        ensures { result ≡ nth t self.now }
+    {
+        if t == 0 {
+            return None;
+        }
+        let mut items = self.iter();
+        for _passed in 1..t {
+            items.next()?;
+        }
+        items.next()
     }
 }

@@ -16,7 +16,7 @@ mod scripts;
 mod segments;
 
 pub use canonical_text::print;
-pub use fault::ScheduleFault;
+pub use fault::{ScheduleFault, ScheduleFault as SchedFault};
 pub use item_iter::ItemIter;
 pub use items::Items;
 pub use laws::{prints_again, reads_all_spelled, reads_only_spelled};
@@ -25,4 +25,5 @@ pub use schedule::{MAX_BYTES, Schedule};
 pub use script_reader::read_scripts;
 pub use scripts::{Script, Scripts};
 pub use segments::{Segment, Segments};
-pub use snap_words::MAX_ITEMS;
+pub use snap_semantics::{Fault, Item, Op, ScheduleRefusal};
+pub use snap_words::{MAX_ITEMS, Shape};

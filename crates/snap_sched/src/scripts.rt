@@ -59,8 +59,8 @@ impl Model for Scripts {
 }
 
 impl Script {
-    /// The script of these operations and this crash.
-    pub(crate) fn new(operations: Vec<Op>, crash: Option<u64>) -> Script
+    /// Returns the script of these operations, with a crash at this turn where there is one.
+    pub fn new(operations: Vec<Op>, crash: Option<u64>) -> Script
         ensures { result ≡ record { operations = operations.items; crash = crash } }
     {
         Script { operations, crash }
@@ -82,8 +82,8 @@ impl Script {
 }
 
 impl Scripts {
-    /// The scripts of the processes of a shape.
-    pub(crate) fn new(shape: Shape, scripts: Vec<Script>) -> Scripts
+    /// Returns the scripts of the processes of a shape, that of process 1 first.
+    pub fn new(shape: Shape, scripts: Vec<Script>) -> Scripts
         requires { AreScripts (record { shape = shape; scripts = scripts.items }) }
         ensures { result ≡ record { shape = shape; scripts = scripts.items } }
     {

@@ -9,6 +9,7 @@ use Rattle.snap_acts.specs.Trace.{trace_of}
 use Rattle.snap_acts.specs.declared.act.Act.{Act}
 use Rattle.snap_acts.specs.declared.act.Act.TheVariants as act
 use Rattle.snap_acts.specs.declared.act.Step.{Step}
+use Rattle.snap_acts.specs.declared.loans.ScanPlaces.{ScanPlaces}
 use Rattle.snap_svg.specs.declared.shape.Bar.{Bar}
 use Rattle.snap_svg.specs.declared.shape.End.{End}
 use Rattle.snap_svg.specs.declared.shape.End.TheVariants as ended
@@ -17,7 +18,7 @@ use Rattle.snap_svg.specs.declared.shape.Shape.{Shape}
 use Rattle.snap_svg.specs.declared.shape.Shape.TheVariants as shape
 use Rattle.snap_svg.specs.declared.shape.Span.{Span}
 use Rattle.snap_svg.specs.declared.shape.Written.{Written}
-use Rattle.snap_acts.specs.Loans.{scan_before, source_of, step_at}
+use Rattle.snap_acts.specs.Loans.{lender_at, source_at, step_at}
 use Rattle.snap_acts.specs.Searches.{first_meeting, last_before}
 use Rattle.snap_acts.specs.declared.wanted.Wanted.TheVariants as wanted
 
@@ -31,7 +32,7 @@ item_or last (Some s) = s.item
 
 -- how an operation ended
 abbrev pub end_by : Act → End
-end_by (act.Answer view) = ended.Answer view
+end_by (act.Answer view x) = ended.Answer view
 end_by act.Done = ended.Done
 end_by act.Crash = ended.Crash
 end_by act.Trap = ended.Trap
@@ -69,29 +70,29 @@ written_at ss None = None
 written_at ss (Some k) = Some (written_by (step_at ss k))
 
 -- an arrow from the lender's scan to the step that takes its view
-abbrev pub loan_from : List Step → Step → Option ℕ → List Shape
+abbrev pub loan_from : List Step → Step → Option ScanPlaces → List Shape
 loan_from ss s None = []
-loan_from ss s (Some k) =
-    shape.Loan (record { lender = (step_at ss k).process; ended = (step_at ss k).item; taken = spot_of s }) ∷ []
+loan_from ss s (Some lender) =
+    shape.Loan (record { lender = lender.process; ended = (step_at ss lender.to).item; taken = spot_of s }) ∷ []
 
 abbrev pub loan_of : List Step → ℕ → Step → List Shape
-loan_of ss k s = loan_from ss s (scan_before ss (source_of ss k s))
+loan_of ss k s = loan_from ss s (lender_at ss (source_at ss (Some k)))
 
 -- what is drawn of the step at a place
 abbrev pub shapes_of : List Step → ℕ → Step → Act → List Shape
 shapes_of ss k s (act.Call op) = shape.Operation (bar_of (length ss) s op (drop (k + 1) ss)) ∷ []
 shapes_of ss k s act.Enter = shape.Embedded (embedded_of (length ss) s (drop (k + 1) ss)) ∷ []
-shapes_of ss k s (act.Write word values) =
+shapes_of ss k s (act.Write word values x) =
     period_of (length ss) s.item values (drop (k + 1) ss)
     ∷ shape.Write (record { spot = spot_of s; word = word; values = values }) ∷ []
-shapes_of ss k s (act.Read word) =
+shapes_of ss k s (act.Read word into) =
     shape.Read
     (record { spot = spot_of s; word = word; written = written_at ss (last_before (wanted.WriteOf word) ss k) }) ∷ []
 shapes_of ss k s (act.Test passed) = shape.Test (spot_of s) passed ∷ []
 shapes_of ss k s act.Trap = shape.Trap (spot_of s) ∷ []
 shapes_of ss k s act.Crash = shape.Crash (spot_of s) ∷ []
-shapes_of ss k s (act.Borrow j) = loan_of ss k s
-shapes_of ss k s (act.Look j) = loan_of ss k s
+shapes_of ss k s (act.Borrow from x) = loan_of ss k s
+shapes_of ss k s (act.Look j x) = loan_of ss k s
 shapes_of ss k s _ = []
 
 unfoldable pub shapes_at : List Step → ℕ → List Shape

@@ -21,7 +21,7 @@ ghost use Rattle.snap_shapes.specs.Shapes.{
   written_at,
 };
 
-use snap_acts::{Act, Step, Wanted, first_from, last_before, scan_before, source_of};
+use snap_acts::{Act, ScanPlaces, Step, Wanted, first_from, last_before, lender_at, source_at};
 use snap_semantics::Op;
 use snap_svg::{Bar, End, Loan, Period, Read, Shape, Span, Spot, Write, Written};
 use snap_words::View;
@@ -52,7 +52,7 @@ fn end_by(alloc: Global, act: &Act) -> Result<End, AllocError>
     ensures { IfOk result (λ e. e ≡ end_by act.now) }
 {
     match act {
-        Act::Answer(view) => Ok(End::Answer(view.copy(alloc)?)),
+        Act::Answer(view, _) => Ok(End::Answer(view.copy(alloc)?)),
         Act::Done => Ok(End::Done),
         Act::Crash => Ok(End::Crash),
         Act::Trap => Ok(End::Trap),
@@ -131,18 +131,18 @@ fn push_loan(
     shapes: &mut Vec<Shape>,
     steps: &[Step],
     step: &Step,
-    place: Option<usize>,
+    lender: Option<ScanPlaces>,
 ) -> Result<(), AllocError>
-    requires { IfSome place (λ k. k < length steps.now) }
+    requires { IfSome lender (λ s. s.to < length steps.now) }
     ensures { OnOk result (shapes.new.items ≡ shapes.old.items
-        ++ loan_from steps.now step.now place) }
+        ++ loan_from steps.now step.now lender) }
 {
-    let Some(k) = place else {
+    let Some(scan) = lender else {
         return Ok(());
     };
     shapes.push(Shape::Loan(Loan {
-        lender: steps[k].process,
-        ended: steps[k].item,
+        lender: scan.process,
+        ended: steps[scan.to].item,
         taken: spot_of(step),
     }))?;
     Ok(())
@@ -155,11 +155,11 @@ fn push_loan_of(
     k: usize,
     step: &Step,
 ) -> Result<(), AllocError>
-    requires { k ≤ length steps.now }
+    requires { k < length steps.now }
     ensures { OnOk result (shapes.new.items ≡ shapes.old.items ++ loan_of steps.now k step.now) }
 {
-    let place = scan_before(steps, source_of(steps, k, step));
-    push_loan(shapes, steps, step, place)
+    let lender = lender_at(steps, source_at(steps, Some(k)));
+    push_loan(shapes, steps, step, lender)
 }
 
 /// Adds the write of a word, behind the values that it leaves.
@@ -241,13 +241,15 @@ fn push_shapes_of(
     match &step.act {
         Act::Call(op) => push_bar(alloc, shapes, steps, k + 1, step, *op),
         Act::Enter => push(shapes, Shape::Embedded(embedded_of(steps, k + 1, step))),
-        Act::Write(word, values) => push_write(alloc, shapes, steps, k + 1, step, *word, values),
-        Act::Read(word) => push(shapes, read_of(steps, k, step, *word)),
+        Act::Write(word, values, _) => {
+            push_write(alloc, shapes, steps, k + 1, step, *word, values)
+        }
+        Act::Read(word, _) => push(shapes, read_of(steps, k, step, *word)),
         Act::Test(passed) => push(shapes, Shape::Test(spot_of(step), *passed)),
         Act::Trap => push(shapes, Shape::Trap(spot_of(step))),
         Act::Crash => push(shapes, Shape::Crash(spot_of(step))),
-        Act::Borrow(_) => push_loan_of(shapes, steps, k, step),
-        Act::Look(_) => push_loan_of(shapes, steps, k, step),
+        Act::Borrow(_, _) => push_loan_of(shapes, steps, k, step),
+        Act::Look(_, _) => push_loan_of(shapes, steps, k, step),
         _ => Ok(()),
     }
 }

@@ -4,7 +4,8 @@ ghost use Rattle.std.specs.Prelude.{◌≡◌, IfOk, Ok};
 ghost use Rattle.snap_semantics.specs.Listing.{listing_of};
 ghost use Rattle.snap_runs_of_u.specs.ListingU.{listing_u};
 
-use snap_listing::{Listing, read_known};
+use snap_listing::read_known;
+use snap_listing_core::Listing;
 use std::alloc::{AllocError, Global};
 
 /// The text of listing U.

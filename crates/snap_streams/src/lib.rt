@@ -10,7 +10,9 @@ pub use byte_sink::ByteSink;
 pub use byte_source::ByteSource;
 pub use sending::{Unsent, say, write_all};
 pub use standard::Std;
+use thiserror::Error;
 
 /// The device failed.
-#[derive(Clone, Copy)]
+#[derive(Clone, Copy, Debug, PartialEq, Eq, Error)]
+#[error("the device failed")]
 pub struct Failed;

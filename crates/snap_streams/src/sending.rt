@@ -3,9 +3,11 @@ ghost use Rattle.std.specs.Prelude.{◌≡◌, false, OnOk};
 ghost use Rattle.snap_streams.specs.Sent.{Says, Sends, unsent};
 
 use crate::byte_sink::ByteSink;
+use thiserror::Error;
 
 /// A text was not sent whole: its sink failed, or took nothing.
-#[derive(Clone, Copy)]
+#[derive(Clone, Copy, Debug, PartialEq, Eq, Error)]
+#[error("the sink took the first {count} bytes, and no more")]
 pub struct Unsent {
     /// How many bytes of it the sink has taken.
     pub count: u64,

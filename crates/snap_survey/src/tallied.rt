@@ -65,7 +65,7 @@ impl<K: Kind> TalliedRecord<K> {
             Err(RecordFault::Memory) => return Err(AllocError),
             Err(RecordFault::Full) => unreachable!(),
         };
-        let number = self.record.items().len() as u64;
+        let number = self.record.items().len();
         let status = self.record.machine().status(who(item));
         self.tally.note(number, item, &outcome, status);
         Ok(())

@@ -42,18 +42,19 @@ each s n S t (x ∷ xs) (suc k) all less =
 by_act : (i j : ℕ) (a : Act) → trapped_by i a ≡ Some j → i ≡ j
 by_act i j act.Trap e = cc
 by_act i j (act.Call op) e = absurd cc
-by_act i j (act.Answer view) e = absurd cc
+by_act i j (act.Answer view x) e = absurd cc
 by_act i j act.Done e = absurd cc
 by_act i j act.Crash e = absurd cc
 by_act i j act.Skip e = absurd cc
-by_act i j (act.Write word values) e = absurd cc
-by_act i j (act.Publish k) e = absurd cc
-by_act i j (act.Read word) e = absurd cc
-by_act i j (act.Look k) e = absurd cc
-by_act i j (act.Borrow k) e = absurd cc
+by_act i j (act.Write word values x) e = absurd cc
+by_act i j (act.Publish k x) e = absurd cc
+by_act i j (act.Read word spot) e = absurd cc
+by_act i j (act.Look k x) e = absurd cc
+by_act i j (act.Borrow spot x) e = absurd cc
+by_act i j (act.Collect x) e = absurd cc
 by_act i j (act.Test passed) e = absurd cc
 by_act i j act.Enter e = absurd cc
-by_act i j act.Leave e = absurd cc
+by_act i j (act.Leave x) e = absurd cc
 by_act i j act.Other e = absurd cc
 
 -- a process that traps at an item is one

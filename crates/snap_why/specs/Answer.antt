@@ -1,9 +1,14 @@
 -- Why a scan answered what it answered: its point, how many double collects it took, and, where it took the view of
 -- another process, who wrote that view, and which scan saw it. Each is followed by the command that goes there.
-use Rattle.std.specs.Prelude.{ℕ, zero, suc, ◌-◌, List, [], ◌∷◌, ◌++◌, Option, Some, None}
+use Rattle.std.specs.Prelude.{◌≡◌, ℕ, zero, suc, ◌-◌, List, [], ◌∷◌, ◌++◌, take, Option, Some, None}
 use Rattle.std.specs.Prelude.{codes, decimal, nat_eq, if◌then◌else◌}
+use Rattle.snap_runs.specs.Run.{Run, run_of_items}
 use Rattle.snap_runs.specs.declared.verdict.Verdict.{Verdict}
 use Rattle.snap_audit.specs.VerdictText.{verdict_line}
+use Rattle.snap_judge.specs.declared.judgements.Judgement.{Judgement}
+use Rattle.snap_run_judge.specs.RunHistory.{history_of}
+use Rattle.snap_run_judge.specs.RunJudgement.{IsRunJudgement, most_configurations}
+use Rattle.snap_run_judge.specs.VerdictText.{verdict_text}
 use Rattle.snap_acts.specs.declared.act.Step.{Step}
 use Rattle.snap_acts.specs.Loans.{view_taken, step_at}
 use Rattle.snap_acts.specs.declared.loans.Borrowed.{Borrowed}
@@ -21,11 +26,22 @@ goto_line what t = what ++ goto_text t
 unfoldable pub process_text : ℕ → List ℕ
 process_text i = codes "process " ++ decimal i
 
--- the point that the audit finds
-abbrev pub point_line : Option ℕ → List ℕ
-point_line None =
-    codes "point: none, memory never held this from the call to the answer\nthe run may be linearizable all the same: certify says whether it is\n"
-point_line (Some t) = goto_line (codes "point") t
+-- the run up to an item
+abbrev pub run_until : Run → ℕ → Run
+run_until r t = run_of_items r.source r.shape (take t r.items)
+
+-- that a scan has no point, and the verdict on a run that ends with its answer
+abbrev pub no_point_lines : Run → Judgement → List ℕ
+no_point_lines r j =
+    codes "point: none, memory never held this from the call to the answer\n"
+    ++ codes "up to this answer: " ++ verdict_text (history_of r) j
+
+-- What is said of the point that the audit finds of a scan, which item t answers. Where it finds none, the run up to
+-- the answer is judged; where a search was given up, another one may come to a verdict.
+abbrev pub IsPointText : Run → ℕ → Option ℕ → List ℕ → Type 0
+IsPointText r t (Some point) text = text ≡ goto_line (codes "point") point
+IsPointText r t None text = (j : Judgement) × IsRunJudgement most_configurations (run_until r t) j
+    × (text ≡ no_point_lines (run_until r t) j)
 
 -- a scan of an update
 abbrev pub scan_lines : List Step → ScanPlaces → List ℕ
@@ -80,10 +96,9 @@ scan_places v t = record { process = v.process; from = v.call - 1; to = t - 1 }
 unfoldable pub call_lines : Verdict → List ℕ
 call_lines v = verdict_line v ++ codes "call" ++ goto_text v.call
 
--- why the scan of a verdict answered so, where these are the steps of its run, so many
-unfoldable pub answer_lines : List Step → ℕ → Verdict → ℕ → List ℕ
-answer_lines ss count v t =
-    call_lines v ++ point_line v.point ++ chain_lines ss (Some (scan_places v t)) count
+-- why the scan of a verdict answered so, where these are the steps of its run, so many, and this is said of its point
+unfoldable pub answer_lines : List Step → ℕ → Verdict → ℕ → (point : List ℕ) → List ℕ
+answer_lines ss count v t point = call_lines v ++ point ++ chain_lines ss (Some (scan_places v t)) count
 
 -- the first of these verdicts of a scan that item t answers
 abbrev pub verdict_with : List Verdict → ℕ → Option Verdict

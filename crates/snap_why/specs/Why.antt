@@ -1,6 +1,6 @@
 -- What the debugger's `why` prints of an item: why a scan answered what it answered, or why a process trapped; where
 -- there is neither, which answer or trap is next.
-use Rattle.std.specs.Prelude.{ℕ, zero, suc, List, length, drop, Option, Some, None, codes}
+use Rattle.std.specs.Prelude.{◌≡◌, ℕ, zero, suc, List, length, drop, Option, Some, None, codes}
 use Rattle.snap_semantics.specs.State.{process_at}
 use Rattle.snap_runs.specs.Audit.{audit}
 use Rattle.snap_runs.specs.Run.{Run, state}
@@ -12,7 +12,7 @@ use Rattle.snap_acts.specs.declared.act.Step.{Step}
 use Rattle.snap_acts.specs.Loans.{step_at}
 use Rattle.snap_acts.specs.Searches.{first_meeting, last_before}
 use Rattle.snap_acts.specs.declared.wanted.Wanted.TheVariants as wanted
-use Rattle.snap_why.specs.Answer.{answer_lines, goto_line, verdict_with}
+use Rattle.snap_why.specs.Answer.{IsPointText, answer_lines, goto_line, verdict_with}
 use Rattle.snap_why.specs.Trap.{trap_lines}
 
 -- the process that a step leaves trapped
@@ -52,10 +52,12 @@ abbrev pub trap_or_nothing : Run → List Step → ℕ → Option ℕ → List �
 trap_or_nothing r ss t (Some i) = trap_lines r.source r.shape (state r t) i (process_at (state r t) i).status
 trap_or_nothing r ss t None = nothing_lines ss t
 
-abbrev pub told_of : Run → List Step → ℕ → Option Verdict → List ℕ
-told_of r ss t (Some v) = answer_lines ss (length ss) v t
-told_of r ss t None = trap_or_nothing r ss t (trapped_at ss t)
+-- this is said of item t, which answers the scan of a verdict, where there is one
+abbrev pub IsToldOf : Run → List Step → ℕ → Option Verdict → List ℕ → Type 0
+IsToldOf r ss t (Some v) text =
+    (point : List ℕ) × IsPointText r t v.point point × (text ≡ answer_lines ss (length ss) v t point)
+IsToldOf r ss t None text = text ≡ trap_or_nothing r ss t (trapped_at ss t)
 
--- what is said of item t
-unfoldable pub why_text : Run → ℕ → List ℕ
-why_text r t = told_of r (trace_of r) t (verdict_with (audit r) t)
+-- This is what is said of item t: one text, but for the verdict at an answer without a point.
+unfoldable pub IsWhy : Run → ℕ → List ℕ → Type 0
+IsWhy r t text = IsToldOf r (trace_of r) t (verdict_with (audit r) t) text

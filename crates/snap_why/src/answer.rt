@@ -3,12 +3,12 @@
 ghost use Rattle.std.specs.Prelude.{◌≡◌, ◌≤◌, ◌<◌, ◌++◌, ◌-◌, IfSome, OnOk, Some, get_or, length};
 ghost use Rattle.snap_acts.specs.Loans.{step_at};
 ghost use Rattle.snap_why.specs.Answer.{answer_lines, call_lines, chain_lines, goto_line};
-ghost use Rattle.snap_why.specs.Answer.{goto_text, lender_lines, lender_of, point_line};
+ghost use Rattle.snap_why.specs.Answer.{goto_text, lender_lines, lender_of};
 ghost use Rattle.snap_why.specs.Answer.{process_text, scan_lines, taken_lines, taken_or_own};
 ghost use Rattle.snap_why.specs.Answer.{verdict_with, view_lines, writer_lines, written_lines};
 
 use snap_acts::{Borrowed, ScanPlaces, Step, view_taken};
-use snap_audit::{Verdict, verdict_line};
+use snap_audit::{Verdict, push_verdict_line};
 use snap_text::{push_number, push_text};
 use std::alloc::AllocError;
 
@@ -60,20 +60,6 @@ pub(crate) fn push_goto_line(out: &mut Vec<u8>, what: &[u8], item: u64) -> Resul
 {
     push_text(out, what)?;
     push_goto(out, item)
-}
-
-/// Adds the point that the audit finds.
-fn push_point(out: &mut Vec<u8>, point: Option<u64>) -> Result<(), AllocError>
-    ensures { OnOk result (out.new.items ≡ out.old.items ++ point_line point) }
-{
-    match point {
-        Some(item) => push_goto_line(out, b"point", item),
-        None => push_text(
-            out,
-            b"point: none, memory never held this from the call to the answer\n\
-the run may be linearizable all the same: certify says whether it is\n",
-        ),
-    }
 }
 
 /// Adds a scan of an update.
@@ -200,25 +186,26 @@ fn push_chain(out: &mut Vec<u8>, steps: &[Step], first: ScanPlaces) -> Result<()
 fn push_call(out: &mut Vec<u8>, verdict: &Verdict) -> Result<(), AllocError>
     ensures { OnOk result (out.new.items ≡ out.old.items ++ call_lines verdict.now) }
 {
-    verdict_line(out, verdict)?;
+    push_verdict_line(out, verdict)?;
     push_text(out, b"call")?;
     push_goto(out, verdict.call)
 }
 
-/// Adds why the scan of a verdict answered so, which an item answers.
+/// Adds why the scan of a verdict answered so, which an item answers, with what is said of its point.
 #[tactic(auto, using(snap_text::proofs::Texts::joined), unfolding(crate::specs::Answer::answer_lines))]
 pub(crate) fn push_answer(
     out: &mut Vec<u8>,
     steps: &[Step],
     verdict: &Verdict,
     item: u64,
+    point: &[u8],
 ) -> Result<(), AllocError>
     requires { item ≤ length steps.now }
     ensures { OnOk result (out.new.items ≡ out.old.items
-        ++ answer_lines steps.now (length steps.now) verdict.now item) }
+        ++ answer_lines steps.now (length steps.now) verdict.now item point.now) }
 {
     push_call(out, verdict)?;
-    push_point(out, verdict.point)?;
+    push_text(out, point)?;
     let scan = ScanPlaces {
         process: verdict.process,
         from: verdict.call.saturating_sub(1) as usize,

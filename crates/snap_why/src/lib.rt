@@ -3,6 +3,7 @@
 #![tactic(auto)]
 
 mod answer;
+mod point;
 mod trap;
 mod why;
 

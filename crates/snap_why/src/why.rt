@@ -1,6 +1,6 @@
 //! `push_why`: what `why` prints of an item of a run, be it the answer of a scan, a trap, or
 //! neither.
-ghost use Rattle.std.specs.Prelude.{◌≡◌, ◌≤◌, ◌<◌, ◌++◌};
+ghost use Rattle.std.specs.Prelude.{◌≡◌, ◌≤◌, ◌<◌, ◌++◌, ℕ, List};
 ghost use Rattle.std.specs.Prelude.{IfOk, IfSome, OnOk, None, length, map, option_map};
 ghost use Rattle.snap_words.specs.Shape.{IsOneOf};
 ghost use Rattle.snap_semantics.specs.State.{process_at};
@@ -8,11 +8,13 @@ ghost use Rattle.snap_runs.specs.Audit.{audit};
 ghost use Rattle.snap_runs.specs.Run.{run_over, state};
 ghost use Rattle.snap_listing_printer.specs.LineTexts.{written};
 ghost use Rattle.snap_acts.specs.Trace.{trace_of};
+ghost use Rattle.snap_why.specs.Answer.{run_until};
 ghost use Rattle.snap_why.specs.Trap.{trap_lines};
-ghost use Rattle.snap_why.specs.Why.{item_of, item_there, nothing_line};
-ghost use Rattle.snap_why.specs.Why.{nothing_lines, trapped_at, trapped_by, why_text};
+ghost use Rattle.snap_why.specs.Why.{IsWhy, item_of, item_there, nothing_line};
+ghost use Rattle.snap_why.specs.Why.{nothing_lines, trapped_at, trapped_by};
 
 use crate::answer::{item_at, push_answer, push_goto_line, verdict_with};
+use crate::point::point_text;
 use crate::trap::push_trap;
 use snap_acts::{Act, Step, Wanted, first_from, last_before, trace};
 use snap_asm_program::Program;
@@ -136,7 +138,7 @@ fn push_nothing_at(out: &mut Vec<u8>, steps: &[Step], item: u64) -> Result<(), A
 
 /// The record of the first items of a schedule.
 #[tactic(auto, using(crate::proofs::Traces::first_items))]
-fn record_of_first<K: Kind>(
+pub(crate) fn record_of_first<K: Kind>(
     alloc: Global,
     program: &Program,
     schedule: &Schedule,
@@ -144,6 +146,7 @@ fn record_of_first<K: Kind>(
 ) -> Result<Record<K>, AllocError>
     requires kind { program.now.kind ≡ K.TAG }
     requires few { count ≤ length schedule.now.items }
+    ensures run { IfOk result (λ r. r ≡ run_until (run_over program.now schedule.now) count) }
     ensures source { IfOk result (λ r. r.source ≡ program.now) }
     ensures shape { IfOk result (λ r. r.shape ≡ schedule.now.shape) }
     ensures state { IfOk result (λ r. state r (length r.items)
@@ -177,8 +180,13 @@ fn push_trap_at<K: Kind>(
 }
 
 /// Adds why the scan that an item answered had this answer, or why the process of the item trapped;
-/// or that it did neither, and which item does.
-#[tactic(auto, using(crate::proofs::Traces::as_many), unfolding(crate::specs::Why::why_text))]
+/// or that it did neither, and which item does. The run is judged only up to an answer that has no
+/// point.
+///
+/// # Errors
+///
+/// There is no memory for it.
+#[tactic(auto, using(crate::proofs::Traces::as_many))]
 pub fn push_why<K: Kind>(
     alloc: Global,
     out: &mut Vec<u8>,
@@ -190,13 +198,14 @@ pub fn push_why<K: Kind>(
     requires kind { program.now.kind ≡ K.TAG }
     requires within { item ≤ length schedule.now.items }
     requires texts { texts.now ≡ map written program.now.lines }
-    ensures { OnOk result (out.new.items ≡ out.old.items
-        ++ why_text (run_over program.now schedule.now) item) }
+    ensures { OnOk result ((text : List ℕ) × IsWhy (run_over program.now schedule.now) item text
+        × (out.new.items ≡ out.old.items ++ text)) }
 {
     let verdicts = verdicts_over::<K>(alloc, program, schedule)?;
     let steps = trace::<K>(alloc, program, schedule)?;
     if let Some(verdict) = verdict_with(verdicts.as_slice(), item) {
-        return push_answer(out, steps.as_slice(), &verdict, item);
+        let point = point_text::<K>(alloc, program, schedule, verdict.point, item)?;
+        return push_answer(out, steps.as_slice(), &verdict, item, point.as_slice());
     }
     match trapped_in(program, schedule, steps.as_slice(), item) {
         Some(process) => { push_trap_at::<K>(alloc, out, program, schedule, texts, item, process) }

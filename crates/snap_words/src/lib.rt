@@ -13,7 +13,7 @@ mod shape;
 mod view;
 
 pub use address::{Address, Bank};
-pub use any_word::AnyWord;
+pub use any_word::{AnyWord, AnyWord as Parts};
 pub use contents::{field_of, handshake_of, same_handshakes, view_of};
 pub use copies::{copy_views, copy_words};
 pub use kind::{Field, KindTag};

@@ -1,9 +1,11 @@
 -- `status_of`: the status that snapdb, the debugger with a prompt, ends with: 1 where something is refused, 3 where a
--- device failed; and `EndsFor`, why it ends so.
+-- file was not read or a device failed; and `EndsFor`, why it ends so.
 use Rattle.std.specs.Prelude.{◌≡◌, ◌⊎◌, ℕ, List, Option, Some, ⊤}
 use Rattle.snap_dialog.specs.Failures.{AreCountless}
 use Rattle.snap_dialog.specs.declared.fault.DialogFault.{DialogFault}
 use Rattle.snap_dialog.specs.declared.fault.DialogFault.TheVariants as dialog
+use Rattle.snap_named_files.specs.declared.texts.TextFault.{TextFault}
+use Rattle.snap_named_files.specs.declared.texts.TextFault.TheVariants as text
 use Rattle.snap_semantics.specs.declared.fault.Fault as given
 use Rattle.snap_semantics.specs.declared.fault.Fault.TheVariants as fault
 use Rattle.snap_semantics.specs.declared.refusal.Refusal.{Refusal}
@@ -20,11 +22,17 @@ of_dialog_fault dialog.Read = start.Read
 of_dialog_fault dialog.Write = start.Write
 of_dialog_fault dialog.Endless = start.Read
 
--- 1 where something is refused, 3 where a device failed
+abbrev pub of_text : TextFault → StartFault
+of_text text.Memory = start.Memory
+of_text (text.TooLong which) = start.TooLong which
+of_text (text.Unread which kind) = start.Unread which kind
+
+-- 1 where something is refused, 3 where a file was not read or a device failed
 abbrev pub status_of : StartFault → ℕ
 status_of start.Memory = 1
 status_of (start.Refused r) = 1
-status_of (start.File reason) = 1
+status_of (start.TooLong which) = 1
+status_of (start.Unread which kind) = 3
 status_of start.Read = 3
 status_of start.Write = 3
 
@@ -32,6 +40,7 @@ status_of start.Write = 3
 abbrev pub EndsFor : StartFault → (failed : Option DialogFault) → (left : Option (List ℕ)) → Type 0
 EndsFor start.Memory failed left = ⊤
 EndsFor (start.Refused r) failed left = ⊤
-EndsFor (start.File reason) failed left = ⊥
+EndsFor (start.TooLong which) failed left = ⊥
+EndsFor (start.Unread which kind) failed left = ⊥
 EndsFor start.Read failed left = (failed ≡ Some dialog.Read) ⊎ AreCountless left
 EndsFor start.Write failed left = failed ≡ Some dialog.Write

@@ -1,11 +1,9 @@
 //! `talk_about`: the dialog of snapdb at a console about a program under the schedule of a file.
 ghost use Rattle.std.specs.Prelude.{◌≡◌, Err, IfErr, IfSome, None, OnErr, OnOk, Ok};
-ghost use Rattle.std.specs.Io.KnownBytes.{Appends};
-ghost use Rattle.snap_dialog.specs.Dialog.{transcript};
-ghost use Rattle.snap_dialog.specs.Event.{ShowsPart};
+ghost use Rattle.snap_dialog.specs.Dialog.{ShowsTranscript, ShowsTranscriptPart};
 ghost use Rattle.snap_dialog.specs.TypedLines.{typed_lines};
 ghost use Rattle.snap_input.specs.Schedules.{schedule_for};
-ghost use Rattle.snap_prompt.specs.Prompt.{answer_line, opened_prompt, prompt_text};
+ghost use Rattle.snap_prompt.specs.Prompt.{Says, next_line, opened_prompt, prompt_text};
 ghost use Rattle.snap_runs.specs.Run.{run_over};
 ghost use Rattle.snap_semantics.specs.Answers.{Answers};
 ghost use Rattle.snap_semantics.specs.Schedule.{Schedule};
@@ -33,7 +31,7 @@ fn schedule_for(alloc: Global, program: &Program, text: &[u8]) -> Result<Schedul
     }
 }
 
-/// Talks at a console about a program under a schedule. What is shown is the transcript of what is
+/// Talks at a console about a program under a schedule. What is shown is a transcript of what is
 /// typed; where the schedule is refused, nothing is; and where the dialog is broken off, which only
 /// a device that fails, memory that ran out or an input without an end does, a beginning of it is.
 pub fn talk_about<C: Console>(
@@ -46,9 +44,9 @@ pub fn talk_about<C: Console>(
     requires { C.failure console.old ≡ None }
     ensures shown { OnOk result ((s : Schedule) × (schedule_for program.now schedule.now ≡ Ok s)
         × IfSome (C.left console.old) (λ input.
-        Appends (C.shown console.old) (C.shown console.new)
-        (transcript prompt_text answer_line
-        (opened_prompt (run_over program.now s) shows) (typed_lines input)))) }
+        ShowsTranscript prompt_text Says next_line
+        (opened_prompt (run_over program.now s) shows) (typed_lines input)
+        (C.shown console.old) (C.shown console.new))) }
     ensures refused { (r : Refusal) → result ≡ Err (Refused r) →
         (schedule_for program.now schedule.now ≡ Err r) × (console.new ≡ console.old) }
     ensures well { OnOk result (C.failure console.new ≡ None) }
@@ -56,9 +54,9 @@ pub fn talk_about<C: Console>(
         EndsFor fault (C.failure console.new) (C.left console.old)) }
     ensures shown_part { OnErr result ((s : Schedule) →
         schedule_for program.now schedule.now ≡ Ok s → IfSome (C.left console.old) (λ input.
-        ShowsPart (C.shown console.old) (C.shown console.new)
-        (transcript prompt_text answer_line
-        (opened_prompt (run_over program.now s) shows) (typed_lines input)))) }
+        ShowsTranscriptPart prompt_text Says next_line
+        (opened_prompt (run_over program.now s) shows) (typed_lines input)
+        (C.shown console.old) (C.shown console.new))) }
 {
     let schedule = schedule_for(alloc, program, schedule)?;
     converse(alloc, program, schedule, shows, console)?;

@@ -1,3 +1,2 @@
 -- The definitions of snapdb_command_line, by their modules.
-pub mod Asked
-pub mod Views
+pub mod Sessions

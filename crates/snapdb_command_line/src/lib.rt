@@ -1,6 +1,8 @@
-//! The words of the command line of the debugger with a prompt.
+//! The command line of the debugger with a prompt.
 #![tactic(auto)]
 
-mod asked;
+mod arguments;
+mod command_line;
 
-pub use asked::{Asked, asked_of};
+pub use arguments::Session;
+pub use command_line::{CommandLine, read_arguments};

@@ -1,2 +1,3 @@
 -- The proofs of snapdraw, by their modules.
 pub mod Drawn
+pub mod Said

@@ -1,9 +1,7 @@
--- `IsDrawing`: the picture that snapdraw draws for the files that its command line names, or the first reason why there
--- is none.
+-- `IsDrawing`: the picture that snapdraw draws of the texts of the files that its command line names, or the first
+-- reason why there is none.
 use Rattle.std.specs.Prelude.{◌≡◌, ℕ, List, Option, Some, None, Result, Ok, Err, ⊤, Vec}
 use Rattle.std.specs.Global.{Global}
-use Rattle.std.specs.declared.io.ErrorKind.{ErrorKind}
-use Rattle.snap_words.specs.declared.kind.KindTag.{KindTag}
 use Rattle.snap_semantics.specs.Answers.{◌>>=◌, refused_as}
 use Rattle.snap_semantics.specs.Listing.{listing_of}
 use Rattle.snap_semantics.specs.Source.{Source}
@@ -13,11 +11,8 @@ use Rattle.snap_shipped.specs.Shipped.{shipped}
 use Rattle.snap_picture.specs.Picture.{FailsUnder, IsPictureBy, picture_of}
 use Rattle.snap_picture.specs.declared.options.Options.{Options}
 use Rattle.snap_picture.specs.declared.refusal.PictureRefusal.TheVariants.{Input}
-use Rattle.snap_files.specs.FileTexts.{IsTextOf}
-use Rattle.snap_files.specs.declared.fault.FileFault.{FileFault}
-use Rattle.snapdraw_command_line.specs.Files.{Named, Files, Shipped}
+use Rattle.snap_named_files.specs.Texts.{Read, OfFiles, OfShipped}
 use Rattle.snapdraw_command_line.specs.declared.arguments.Drawing.{Drawing}
-use Rattle.snapdraw.specs.Faults.{of_file}
 use Rattle.snapdraw.specs.declared.fault.DrawFault.{DrawFault}
 use Rattle.snapdraw.specs.declared.fault.DrawFault.TheVariants as fault
 
@@ -27,12 +22,8 @@ abbrev pub Comes : {X Y : Type 0} → (X → Y) → Result X DrawFault → Resul
 Comes view (Ok x) wanted = wanted ≡ Ok (view x)
 Comes view (Err fault.Memory) wanted = ⊤
 Comes view (Err (fault.Refused r)) wanted = wanted ≡ Err (fault.Refused r)
-Comes view (Err (fault.File f)) wanted = wanted ≡ Err (fault.File f)
+Comes view (Err (fault.Unread w k)) wanted = wanted ≡ Err (fault.Unread w k)
 Comes view (Err fault.Write) wanted = ⊥
-
--- the most bytes that a file may have, and one more
-abbrev pub too_many : ℕ
-too_many = 16777217
 
 -- the items that are asked for
 abbrev pub options_of : Drawing → Options
@@ -56,33 +47,9 @@ drawn_texts listing schedule o style legend wrong = do
   l ← listing_in listing
   picture_in l (Some listing) schedule o style legend wrong
 
--- the picture of the texts of two files, or why they were not read
-abbrev pub drawn_files : (listing schedule : Result (List ℕ) FileFault) → Options → (style legend : List ℕ) →
-    (wrong : Option Event) → Result (List ℕ) DrawFault
-drawn_files listing schedule o style legend wrong = do
-  l ← refused_as of_file listing
-  s ← refused_as of_file schedule
-  drawn_texts l s o style legend wrong
-
--- the picture of the listing that is shipped for a kind
-abbrev pub drawn_shipped : KindTag → (schedule : Result (List ℕ) FileFault) → Options → (style legend : List ℕ) →
-    (wrong : Option Event) → Result (List ℕ) DrawFault
-drawn_shipped kind schedule o style legend wrong = do
-  s ← refused_as of_file schedule
-  picture_in (shipped kind) None s o style legend wrong
-
 -- The run of two texts fails at this event, or at none, by a judgement of it that is so.
 abbrev pub FailsInTexts : (listing schedule : List ℕ) → Option Event → Type 0
 FailsInTexts listing schedule wrong = (l : Source) × (listing_in listing ≡ Ok l) × FailsUnder l schedule wrong
-
--- the same of the texts of two files
-abbrev pub FailsInFiles : (listing schedule : Result (List ℕ) FileFault) → Option Event → Type 0
-FailsInFiles listing schedule wrong =
-    (l s : List ℕ) × (listing ≡ Ok l) × (schedule ≡ Ok s) × FailsInTexts l s wrong
-
--- the same of the listing that is shipped for a kind
-abbrev pub FailsInShipped : KindTag → (schedule : Result (List ℕ) FileFault) → Option Event → Type 0
-FailsInShipped kind schedule wrong = (s : List ℕ) × (schedule ≡ Ok s) × FailsUnder (shipped kind) s wrong
 
 -- What is drawn is a picture of which what is judged to be wrong, and nothing else, is crossed out. A fault comes before
 -- anything is judged, and a want of memory may stand in place of both; no fault is one of writing.
@@ -97,17 +64,8 @@ abbrev pub bytes_of : Result (Vec ℕ Global) DrawFault → Result (List ℕ) Dr
 bytes_of (Ok out) = Ok out.items
 bytes_of (Err f) = Err f
 
--- a text that the file of this name has, as far as that is known, or why it is not read
-abbrev pub IsTextIn : (files : List ℕ → Option (Result (List ℕ) ErrorKind)) → (name : List ℕ) →
-    Result (List ℕ) FileFault → Type 0
-IsTextIn files name text = IsTextOf too_many (files name) text
-
--- the picture of what these names name, or why there is none
-abbrev pub IsDrawing : (files : List ℕ → Option (Result (List ℕ) ErrorKind)) → Named → Options →
-    (style legend : List ℕ) → Result (List ℕ) DrawFault → Type 0
-IsDrawing files (Files listing schedule) o style legend picture =
-    (l s : Result (List ℕ) FileFault) × IsTextIn files listing l × IsTextIn files schedule s
-    × IsDrawnBy (FailsInFiles l s) (drawn_files l s o style legend) picture
-IsDrawing files (Shipped kind schedule) o style legend picture =
-    (s : Result (List ℕ) FileFault) × IsTextIn files schedule s
-    × IsDrawnBy (FailsInShipped kind s) (drawn_shipped kind s o style legend) picture
+-- the picture of these texts, or why there is none
+abbrev pub IsDrawing : Read → Options → (style legend : List ℕ) → Result (List ℕ) DrawFault → Type 0
+IsDrawing (OfFiles l s) o style legend picture = IsDrawnBy (FailsInTexts l s) (drawn_texts l s o style legend) picture
+IsDrawing (OfShipped kind s) o style legend picture =
+    IsDrawnBy (FailsUnder (shipped kind) s) (picture_in (shipped kind) None s o style legend) picture

@@ -1,27 +1,21 @@
-//! `draw`: the picture that is asked for, of the files that are named; or why there is none.
-ghost use Rattle.std.specs.Prelude.{◌≡◌, Ok, Result, List, ℕ, option_map};
-ghost use Rattle.snap_files.specs.declared.fault.FileFault.{FileFault};
-ghost use Rattle.snap_semantics.specs.Answers.{refused_as};
-ghost use Rattle.snapdraw.specs.Drawing.{Comes, FailsInTexts, IsDrawing, IsDrawnBy, IsTextIn};
-ghost use Rattle.snapdraw.specs.Drawing.{bytes_of, drawn_texts, listing_in, options_of, picture_in};
+//! `draw`: the picture that is asked for, of the texts of the files that are named; or why there is
+//! none.
+ghost use Rattle.std.specs.Prelude.{◌≡◌, Ok, option_map};
+ghost use Rattle.snapdraw.specs.Drawing.{Comes, FailsInTexts, IsDrawing, IsDrawnBy, bytes_of};
+ghost use Rattle.snapdraw.specs.Drawing.{drawn_texts, listing_in, options_of, picture_in};
+ghost use Rattle.snap_named_files.specs.Texts.{OfShipped, view_texts};
 ghost use Rattle.snap_picture.specs.Picture.{FailsUnder};
-ghost use Rattle.snapdraw.specs.Faults.{of_file};
-ghost use Rattle.snapdraw.specs.declared.fault.DrawFault.{DrawFault};
-ghost use Rattle.snapdraw_command_line.specs.Files.{Files, Shipped, view_drawn};
 ghost use Rattle.snap_shipped.specs.Shipped.{shipped};
 
-use crate::fault::{DrawFault, of_file};
+use crate::fault::DrawFault;
 use snap_asm_program::Program;
-use snap_files::FileSource;
 use snap_input::program_of;
+use snap_named_files::Texts;
 use snap_picture::{Look, Options, PictureRefusal, picture};
 use snap_semantics::Fault;
 use snap_words::KindTag;
-use snapdraw_command_line::{Drawing, Drawn};
+use snapdraw_command_line::Drawing;
 use std::alloc::Global;
-
-/// The most bytes that a file may have, and one more.
-const TOO_MANY: u64 = 16_777_217;
 
 /// The items that are asked for.
 fn options_of(drawing: &Drawing<'_>) -> Options
@@ -31,17 +25,6 @@ fn options_of(drawing: &Drawing<'_>) -> Options
         from: drawing.from,
         to: drawing.to,
         reads: drawing.reads,
-    }
-}
-
-/// The bytes of the file of this name.
-fn text_in<F: FileSource>(alloc: Global, files: &F, name: &str) -> Result<Vec<u8>, DrawFault>
-    ensures { (text : Result (List ℕ) FileFault) × IsTextIn (F.found files.now) name.now text
-        × Comes (λ v. v.items) result (refused_as of_file text) }
-{
-    match files.read(alloc, name, TOO_MANY) {
-        Ok(text) => Ok(text),
-        Err(fault) => Err(of_file(fault)),
     }
 }
 
@@ -92,23 +75,6 @@ fn draw_texts(
     picture_in(alloc, &program, Some(listing), schedule, options, look)
 }
 
-/// The picture of the listing in a file under the schedule in another.
-fn draw_files<F: FileSource>(
-    alloc: Global,
-    files: &F,
-    listing: &str,
-    schedule: &str,
-    options: &Options,
-    look: &Look<'_>,
-) -> Result<Vec<u8>, DrawFault>
-    ensures { IsDrawing (F.found files.now) (Files listing.now schedule.now) options.now
-        look.now.style.now look.now.legend.now (bytes_of result) }
-{
-    let text = text_in(alloc, files, listing)?;
-    let items = text_in(alloc, files, schedule)?;
-    draw_texts(alloc, text.as_slice(), items.as_slice(), options, look)
-}
-
 /// The program of the listing that is shipped for a kind.
 fn shipped_program(alloc: Global, kind: KindTag) -> Result<Program, DrawFault>
     ensures { Comes (λ p. p) result (Ok (shipped kind)) }
@@ -119,40 +85,42 @@ fn shipped_program(alloc: Global, kind: KindTag) -> Result<Program, DrawFault>
     }
 }
 
-/// The picture of the listing that is shipped for a kind, under the schedule in a file.
-fn draw_shipped<F: FileSource>(
+/// The picture of the listing that is shipped for a kind, under the schedule that a text is.
+fn draw_shipped(
     alloc: Global,
-    files: &F,
     kind: KindTag,
-    schedule: &str,
+    schedule: &[u8],
     options: &Options,
     look: &Look<'_>,
 ) -> Result<Vec<u8>, DrawFault>
-    ensures { IsDrawing (F.found files.now) (Shipped kind schedule.now) options.now
-        look.now.style.now look.now.legend.now (bytes_of result) }
+    ensures { IsDrawing (OfShipped kind schedule.now) options.now look.now.style.now
+        look.now.legend.now (bytes_of result) }
 {
-    let items = text_in(alloc, files, schedule)?;
     let program = shipped_program(alloc, kind)?;
-    picture_in(alloc, &program, None, items.as_slice(), options, look)
+    picture_in(alloc, &program, None, schedule, options, look)
 }
 
-/// The picture that is asked for.
-pub(crate) fn draw<F: FileSource>(
+/// The picture that is asked for, of these texts.
+pub(crate) fn draw(
     alloc: Global,
-    files: &F,
+    texts: &Texts,
     drawing: &Drawing<'_>,
     look: &Look<'_>,
 ) -> Result<Vec<u8>, DrawFault>
-    ensures { IsDrawing (F.found files.now) (view_drawn drawing.now.drawn) (options_of drawing.now)
-        look.now.style.now look.now.legend.now (bytes_of result) }
+    ensures { IsDrawing (view_texts texts.now) (options_of drawing.now) look.now.style.now
+        look.now.legend.now (bytes_of result) }
 {
     let options = options_of(drawing);
-    match drawing.drawn {
-        Drawn::Files(listing, schedule) => {
-            draw_files(alloc, files, listing, schedule, &options, look)
-        }
-        Drawn::Shipped(kind, schedule) => {
-            draw_shipped(alloc, files, kind, schedule, &options, look)
+    match texts {
+        Texts::Files(listing, schedule) => draw_texts(
+            alloc,
+            listing.as_slice(),
+            schedule.as_slice(),
+            &options,
+            look,
+        ),
+        Texts::Shipped(kind, schedule) => {
+            draw_shipped(alloc, *kind, schedule.as_slice(), &options, look)
         }
     }
 }

@@ -1,19 +1,26 @@
 //! `DrawFault`: why snapdraw drew nothing, or not all; and the status that it ends with.
 ghost use Rattle.std.specs.Prelude.{◌≡◌};
-ghost use Rattle.snapdraw.specs.Faults.{of_file, status_of};
+ghost use Rattle.snapdraw.specs.Faults.{of_text, status_of};
 
-use snap_files::FileFault;
+use snap_named_files::{TextFault, Which};
 use snap_picture::PictureRefusal;
+use snap_semantics::Refusal;
+use std::io::ErrorKind;
+use thiserror::Error;
 
 /// Why nothing, or not all, was drawn.
-#[derive(Clone, Copy)]
+#[derive(Clone, Copy, Debug, Error)]
 pub enum DrawFault {
+    #[error("out of memory")]
     Memory,
     /// A listing, a schedule or a choice of items is refused.
+    #[error("{0}")]
     Refused(PictureRefusal),
-    /// A file was not read.
-    File(FileFault),
+    /// A file could not be read, for this reason.
+    #[error("the file cannot be read")]
+    Unread(Which, ErrorKind),
     /// Standard output could not be written.
+    #[error("the output could not be written")]
     Write,
 }
 
@@ -23,16 +30,17 @@ pub fn status_of(fault: &DrawFault) -> u8
 {
     match fault {
         DrawFault::Memory | DrawFault::Refused(_) => 1,
-        DrawFault::File(_) | DrawFault::Write => 3,
+        DrawFault::Unread(..) | DrawFault::Write => 3,
     }
 }
 
-/// Why a file was not read.
-pub(crate) fn of_file(fault: FileFault) -> DrawFault
-    ensures { result ≡ of_file fault }
+/// Why a text was not read.
+pub(crate) fn of_text(fault: TextFault) -> DrawFault
+    ensures { result ≡ of_text fault }
 {
     match fault {
-        FileFault::Memory => DrawFault::Memory,
-        other => DrawFault::File(other),
+        TextFault::Memory => DrawFault::Memory,
+        TextFault::TooLong(_) => DrawFault::Refused(PictureRefusal::Input(Refusal::InputTooLong)),
+        TextFault::Unread(which, kind) => DrawFault::Unread(which, kind),
     }
 }

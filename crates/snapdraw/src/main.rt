@@ -9,9 +9,10 @@ mod fault_line;
 use answers::answer;
 use snap_files::Disk;
 use snap_picture::{LEGEND, Look, STYLE};
-use snap_streams::Std;
+use snap_pipe::{PipeReader, Piped, Quiet};
 use snapdraw_command_line::{CommandLine, read_arguments};
 use std::alloc::AllocError;
+use std::io::IsTerminal;
 use std::process::ExitCode;
 use std::{env, io};
 
@@ -34,14 +35,26 @@ fn words_of(rt: &HostRuntime) -> Result<Option<Vec<String>>, AllocError> {
     }
 }
 
+/// What the words of a command line come to, where a refusal is explained in any case if `explains`.
+fn line_of<'a>(
+    rt: &HostRuntime,
+    words: &'a [String],
+    explains: bool,
+) -> Result<CommandLine<'a>, AllocError> {
+    Ok(read_arguments(rt.alloc(), words)?.explained_if(explains))
+}
+
 fn main(rt: HostRuntime) -> ExitCode {
     let words = words_of(&rt);
+    let explains = rt.stderr().is_terminal();
     let line = match &words {
-        Ok(Some(words)) => read_arguments(rt.alloc(), words.as_slice()),
+        Ok(Some(words)) => line_of(&rt, words.as_slice(), explains),
         Ok(None) => Ok(CommandLine::NoText),
         Err(_) => Err(AllocError),
     };
-    let mut sink = Std::new(io::writer(&rt));
-    let mut errors = Std::new(rt.stderr());
-    ExitCode::from(answer(rt.alloc(), &line, &LOOK, &Disk(&rt), &mut sink, &mut errors))
+    let reader = PipeReader::new();
+    let mut sink = Piped::new(io::writer(&rt), &reader);
+    let mut errors = Quiet::new(rt.stderr(), &reader);
+    let status = answer(rt.alloc(), &line, &LOOK, &Disk(&rt), &mut sink, &mut errors);
+    ExitCode::from(reader.status(status))
 }

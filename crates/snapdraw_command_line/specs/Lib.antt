@@ -1,3 +1,2 @@
 -- The definitions of snapdraw_command_line, by their modules.
-pub mod Files
 pub mod Drawings

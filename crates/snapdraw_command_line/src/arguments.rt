@@ -4,10 +4,10 @@ ghost use Rattle.clap.specs.Matches.{first_value, found_of};
 ghost use Rattle.clap.specs.declared.parser.matches.ArgMatches.{ArgMatches};
 ghost use Rattle.snapdraw_command_line.specs.Drawings.{IsAskedBy, kind_given};
 
-use crate::files::{Drawn, drawn_of};
 use clap::builder::ValueParser;
 use clap::error::ErrorKind;
 use clap::{Arg, ArgAction, ArgMatches, Command, Error};
+use snap_named_files::{Named, named_of};
 use snap_options::{is_given, number_of};
 use snap_tasks::kind_of;
 use snap_words::{KindTag, MAX_ITEMS};
@@ -30,10 +30,11 @@ Examples:
 /// A picture that is asked for.
 #[derive(Clone, Copy)]
 pub struct Drawing<'a> {
-    pub drawn: Drawn<'a>,
+    pub named: Named<'a>,
     pub from: Option<u64>,
     pub to: Option<u64>,
     pub reads: bool,
+    pub explains: bool,
 }
 
 /// An option that takes the number of an item.
@@ -42,6 +43,14 @@ fn item_option<'a>(alloc: Global, name: &'a str, help: &'a str) -> Arg<'a> {
         .long(name)
         .value_name("ITEM")
         .value_parser(ValueParser::unsigned(1, MAX_ITEMS))
+        .help(help)
+}
+
+/// An option without a value.
+fn flag<'a>(alloc: Global, name: &'a str, help: &'a str) -> Arg<'a> {
+    Arg::new(alloc, name)
+        .long(name)
+        .action(ArgAction::SetTrue)
         .help(help)
 }
 
@@ -55,10 +64,16 @@ fn command<'a>(alloc: Global) -> Result<Command<'a>, AllocError> {
     let files = Arg::new(alloc, "FILE").required(true).num_args(1..=2).help(
         "A listing and a schedule; a schedule alone with --shipped",
     );
-    let reads = Arg::new(alloc, "reads")
-        .long("reads")
-        .action(ArgAction::SetTrue)
-        .help("Draws a line from the last write of a word to each{n}read of it");
+    let reads = flag(
+        alloc,
+        "reads",
+        "Draws a line from the last write of a word to each{n}read of it",
+    );
+    let explain = flag(
+        alloc,
+        "explain",
+        "Explains on standard error where and why a file is{n}refused",
+    );
     Command::new(alloc, "snapdraw")
         .about("Draws the run of a listing under a schedule as SVG")
         .version(VERSION)
@@ -67,7 +82,8 @@ fn command<'a>(alloc: Global) -> Result<Command<'a>, AllocError> {
         .arg(shipped)?
         .arg(item_option(alloc, "from", "The first item that is drawn"))?
         .arg(item_option(alloc, "to", "The last item that is drawn"))?
-        .arg(reads)
+        .arg(reads)?
+        .arg(explain)
 }
 
 /// The kind whose shipped listing is asked for, if one is; none where there is no such kind.
@@ -87,10 +103,11 @@ fn drawing_by<'a>(matches: &ArgMatches<'a>) -> Option<Drawing<'a>>
     let kind = kind_given(matches)?;
     let names = matches.get_strs("FILE")?;
     Some(Drawing {
-        drawn: drawn_of(kind, names)?,
+        named: named_of(kind, names)?,
         from: number_of(matches, "from"),
         to: number_of(matches, "to"),
         reads: is_given(matches, "reads"),
+        explains: is_given(matches, "explain"),
     })
 }
 

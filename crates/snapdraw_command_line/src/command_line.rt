@@ -1,7 +1,7 @@
 //! `CommandLine`: what the arguments of snapdraw come to, a picture that is asked for or a text
 //! such as the help.
-ghost use Rattle.std.specs.Prelude.{IfOk};
-ghost use Rattle.snapdraw_command_line.specs.Drawings.{IsMatched};
+ghost use Rattle.std.specs.Prelude.{◌≡◌, IfOk};
+ghost use Rattle.snapdraw_command_line.specs.Drawings.{IsMatched, explained_if};
 
 use crate::arguments::{Drawing, drawing_of};
 use clap::Error;
@@ -19,6 +19,24 @@ pub enum CommandLine<'a> {
     Wrong(String),
     /// They are no text.
     NoText,
+}
+
+impl<'a> CommandLine<'a> {
+    /// The same, where a refusal is explained in any case if `explains`.
+    pub fn explained_if(self, explains: bool) -> CommandLine<'a>
+        ensures { result ≡ explained_if explains self.entry }
+    {
+        match self {
+            CommandLine::Asks(asked) => CommandLine::Asks(Drawing {
+                named: asked.named,
+                from: asked.from,
+                to: asked.to,
+                reads: asked.reads,
+                explains: asked.explains || explains,
+            }),
+            other => other,
+        }
+    }
 }
 
 /// What is said where the arguments ask for no picture.

@@ -3,8 +3,6 @@
 
 mod arguments;
 mod command_line;
-mod files;
 
 pub use arguments::Drawing;
 pub use command_line::{CommandLine, read_arguments};
-pub use files::{Drawn, drawn_of};

@@ -1,6 +1,5 @@
 -- What the hunt that a command line asks for comes to, by what was read of its listing.
-use Rattle.std.proofs.Common.{◌≡◌, inl, inr, ℕ, List, Vec, Option, Result, Ok, Err, ap, subst, sym, ◌∙◌}
-use Rattle.std.specs.Prelude.{IfErr, IfOk}
+use Rattle.std.proofs.Common.{◌≡◌, inl, inr, ℕ, List, Vec, Bool, Option, Result, Ok, Err, ap, refl, sym}
 use Rattle.std.specs.Global.{Global}
 use Rattle.std.specs.declared.io.ErrorKind.{ErrorKind}
 use Rattle.snap_semantics.specs.Answers.{refused_as}
@@ -8,12 +7,13 @@ use Rattle.snap_files.specs.FileTexts.{Gives, IsTextOf, Reads}
 use Rattle.snap_files.specs.declared.fault.FileFault.{FileFault}
 use Rattle.snap_files.specs.declared.fault.FileFault.TheVariants as file
 use Rattle.snap_files.proofs.Texts.{text_read}
-use Rattle.snap_hunt_output.specs.Hunted.{IsDue, IsHunted}
+use Rattle.snap_hunt_output.specs.Hunted.{IsDue}
 use Rattle.snap_hunt_output.specs.declared.asked.Asked.{Asked}
 use Rattle.snap_hunt_output.specs.declared.hunted.Hunted.{Hunted}
 use Rattle.snap_hunt_output.specs.declared.hunted.HuntFault.{HuntFault}
 use Rattle.snap_hunt_output.specs.declared.hunted.HuntFault.TheVariants as hunt
-use Rattle.snaphunt_command_line.specs.Search.{Named, File}
+use Rattle.snaphunt_command_line.specs.Search.{Named, File, Shipped}
+use Rattle.snaphunt.specs.Answer.{Hunts, HuntsIn}
 use Rattle.snaphunt.specs.Faults.{of_file, of_hunt}
 use Rattle.snaphunt.specs.Searching.{ComesTo, GivesText, IsSearched, IsText, too_many}
 use Rattle.snaphunt.specs.declared.fault.RunFault.{RunFault}
@@ -46,24 +46,41 @@ hunt_ends text a hunt.Memory h = tt
 hunt_ends text a (hunt.Refused r) h = h
 hunt_ends text a hunt.Unsaid h = h
 
--- there is no text to hunt in
-pub no_text : (files : List ℕ → Option (Result (List ℕ) ErrorKind)) (named : Named) (a : Asked) (e : RunFault) →
-    GivesText files named (Err e) → IsSearched files named a (Err e)
-no_text files named a fault.Memory h = tt
-no_text files named a (fault.Refused r) h = inl h
-no_text files named a fault.Unsaid h = inl h
-no_text files named a (fault.Unread k) h = inl h
-no_text files named a fault.Write h = inl h
+no_write_read : (read : Result (List ℕ) FileFault) → Err fault.Write ≡ refused_as of_file read → ⊥
+no_write_read (Ok t) h = absurd cc
+no_write_read (Err file.Memory) h = absurd cc
+no_write_read (Err file.TooLong) h = absurd cc
+no_write_read (Err (file.Unread k)) h = absurd cc
 
--- there is one
-pub with_text : (files : List ℕ → Option (Result (List ℕ) ErrorKind)) (named : Named) (a : Asked) (v : Vec ℕ Global)
-    (text : List ℕ) (r : Result Hunted RunFault) → text ≡ v.items → GivesText files named (Ok v) → ComesTo text a r →
-    IsSearched files named a r
-with_text files named a v text (Ok h) is given comes = (text, subst (λ t. IsText files named (Ok t)) (sym is) given, comes)
-with_text files named a v text (Err fault.Memory) is given comes = tt
-with_text files named a v text (Err (fault.Refused r)) is given comes =
-    inr (text, subst (λ t. IsText files named (Ok t)) (sym is) given, comes)
-with_text files named a v text (Err fault.Unsaid) is given comes =
-    inr (text, subst (λ t. IsText files named (Ok t)) (sym is) given, comes)
-with_text files named a v text (Err (fault.Unread k)) is given comes = absurd comes
-with_text files named a v text (Err fault.Write) is given comes = absurd comes
+no_write_shipped : (t : List ℕ) (x : Result (List ℕ) RunFault) → x ≡ Err fault.Write → x ≡ Ok t → ⊥
+no_write_shipped t x h is = absurd cc
+
+-- no fault of reading is one of writing
+no_write : (files : List ℕ → Option (Result (List ℕ) ErrorKind)) (named : Named) → IsText files named (Err fault.Write) → ⊥
+no_write files (File name) h = no_write_read h.0 h.2
+no_write files (Shipped g) h = no_write_shipped h.0 (Err fault.Write) refl h.1
+
+-- there is no text to hunt in, and nothing was printed
+pub no_text : (files : List ℕ → Option (Result (List ℕ) ErrorKind)) (named : Named) (a : Asked) (e : RunFault)
+    (text : List ℕ) (taken : Option (List ℕ)) (w s : Bool) →
+    GivesText files named (Err e) → Hunts files named a text (Err e) taken taken w s
+no_text files named a fault.Memory text taken w s h = (Err fault.Memory, tt, refl)
+no_text files named a (fault.Refused r) text taken w s h = (Err (fault.Refused r), inl h, (refl, refl))
+no_text files named a fault.Unsaid text taken w s h = (Err fault.Unsaid, inl h, (refl, refl))
+no_text files named a (fault.Unread k) text taken w s h = (Err (fault.Unread k), inl h, (refl, refl))
+no_text files named a fault.Write text taken w s h = absurd (no_write files named h)
+
+in_text : (files : List ℕ → Option (Result (List ℕ) ErrorKind)) (named : Named) (a : Asked) (text : List ℕ)
+    (r : Result Hunted RunFault) → IsText files named (Ok text) → ComesTo text a r → IsSearched files named a text r
+in_text files named a text (Ok h) is comes = (is, comes)
+in_text files named a text (Err fault.Memory) is comes = tt
+in_text files named a text (Err (fault.Refused r)) is comes = inr (is, comes)
+in_text files named a text (Err fault.Unsaid) is comes = inr (is, comes)
+in_text files named a text (Err (fault.Unread k)) is comes = absurd comes
+in_text files named a text (Err fault.Write) is comes = absurd comes
+
+-- there is one, and this was printed of a hunt in it
+pub with_text : (files : List ℕ → Option (Result (List ℕ) ErrorKind)) (named : Named) (a : Asked) (text : List ℕ)
+    (done : Result Hunted RunFault) (taken after : Option (List ℕ)) (w s : Bool) → IsText files named (Ok text) →
+    HuntsIn text a done taken after w s → Hunts files named a text done taken after w s
+with_text files named a text done taken after w s is h = (h.0, in_text files named a text h.0 is h.1, h.2)

@@ -1,18 +1,22 @@
 -- `AnswersLine`: what snaphunt does about its command line: what it prints for the files that are there, what it says,
 -- and the status that it ends with.
-use Rattle.std.specs.Prelude.{◌≡◌, ℕ, Bool, List, Option, Result, Ok, Err, codes, string_bytes, ◌⊎◌}
+use Rattle.std.specs.Prelude.{◌≡◌, ℕ, Bool, List, [], ◌++◌, Option, Result, Ok, Err, if◌then◌else◌, codes, string_bytes, ◌⊎◌}
 use Rattle.std.specs.declared.io.ErrorKind.{ErrorKind}
 use Rattle.snap_streams.specs.Sent.{Says, Sends, unsent}
 use Rattle.snap_streams.specs.declared.sending.Unsent.{Unsent}
+use Rattle.snap_semantics.specs.declared.refusal.Refusal.TheVariants as refusal
+use Rattle.snap_explanation.specs.Explanation.{explanation}
+use Rattle.snap_explanation.specs.declared.layout.Layout.TheVariants as layout
 use Rattle.snap_hunt_output.specs.declared.asked.Asked.{Asked}
 use Rattle.snap_hunt_output.specs.declared.hunted.Hunted.{Hunted}
 use Rattle.snap_hunt_output.specs.declared.hunted.Hunted.TheVariants as hunted
 use Rattle.snaphunt_command_line.specs.Search.{Named, view_listed}
+use Rattle.snaphunt_command_line.specs.declared.arguments.Search.{Search}
 use Rattle.snaphunt_command_line.specs.declared.command_line.CommandLine.{CommandLine}
 use Rattle.snaphunt_command_line.specs.declared.command_line.CommandLine.TheVariants.{Asks, Help, Wrong, NoText}
 use Rattle.snaphunt.specs.FaultLine.{fault_line}
 use Rattle.snaphunt.specs.Faults.{status_of}
-use Rattle.snaphunt.specs.Searching.{IsSearched, hunted_text}
+use Rattle.snaphunt.specs.Searching.{ComesTo, IsSearched, hunted_text}
 use Rattle.snaphunt.specs.declared.fault.RunFault.{RunFault}
 use Rattle.snaphunt.specs.declared.fault.RunFault.TheVariants as fault
 
@@ -37,11 +41,18 @@ Prints a came (Err fault.Write) taken taken_after w s =
 Prints a came (Err fault.Memory) taken taken_after w s = taken ≡ taken_after
 Prints a came (Err f) taken taken_after w s = (came ≡ Err f) × (taken ≡ taken_after)
 
--- What was done about a search, and what was printed of it.
-abbrev pub Hunts : (files : List ℕ → Option (Result (List ℕ) ErrorKind)) → Named → Asked → Result Hunted RunFault →
-    (taken taken_after : Option (List ℕ)) → (failed stalled : Bool) → Type 0
-Hunts files named a done taken taken_after w s =
-    (came : Result Hunted RunFault) × IsSearched files named a came × Prints a came done taken taken_after w s
+-- What was done about a hunt in the runs of the listing that a text is, and what was printed of it.
+abbrev pub HuntsIn : (text : List ℕ) → Asked → Result Hunted RunFault → (taken taken_after : Option (List ℕ)) →
+    (failed stalled : Bool) → Type 0
+HuntsIn text a done taken taken_after w s =
+    (came : Result Hunted RunFault) × ComesTo text a came × Prints a came done taken taken_after w s
+
+-- What was done about a search in the runs of the listing that is named, whose text this is where it has one, and what
+-- was printed of it.
+abbrev pub Hunts : (files : List ℕ → Option (Result (List ℕ) ErrorKind)) → Named → Asked → (text : List ℕ) →
+    Result Hunted RunFault → (taken taken_after : Option (List ℕ)) → (failed stalled : Bool) → Type 0
+Hunts files named a text done taken taken_after w s =
+    (came : Result Hunted RunFault) × IsSearched files named a text came × Prints a came done taken taken_after w s
 
 -- A fault is told in its line, or in that of missing memory where there was none for the other one.
 abbrev pub Tells : Named → RunFault → (said said_after : Option (List ℕ)) → (failed stalled : Bool) → Type 0
@@ -49,11 +60,33 @@ Tells named f said said_after failed stalled =
     Says (fault_line named f) said said_after failed stalled
     ⊎ Says (fault_line named fault.Memory) said said_after failed stalled
 
--- Where there is no fault, nothing is said.
-abbrev pub SaysFault : Named → Result Hunted RunFault → (said said_after : Option (List ℕ)) → (failed stalled : Bool) →
-    Type 0
-SaysFault named (Ok h) said said_after failed stalled = said ≡ said_after
-SaysFault named (Err f) said said_after failed stalled = Tells named f said said_after failed stalled
+-- What is said behind the line of a fault, where refusals are explained: what `snaplab check` says of the listing. A
+-- shape is no part of it.
+abbrev pub why : (text : List ℕ) → RunFault → List ℕ
+why text (fault.Refused (refusal.Words f)) = []
+why text (fault.Refused r) = explanation layout.Listing text r
+why text _ = []
+
+abbrev pub explained : (explains : Bool) → (text : List ℕ) → RunFault → List ℕ
+explained explains text f = if explains then why text f else []
+
+-- A fault is told with what explains it, or without where there was no memory for that; where there is none, nothing
+-- is said.
+abbrev pub SaysWhy : (explains : Bool) → Named → (text : List ℕ) → Result Hunted RunFault →
+    (said said_after : Option (List ℕ)) → (failed stalled : Bool) → Type 0
+SaysWhy explains named text (Ok h) said said_after failed stalled = said ≡ said_after
+SaysWhy explains named text (Err f) said said_after failed stalled =
+    Says (fault_line named f ++ explained explains text f) said said_after failed stalled
+    ⊎ Tells named f said said_after failed stalled
+
+-- What the program does about a search. Where the listing is refused, it is the one that is explained.
+abbrev pub AnswersSearch : (files : List ℕ → Option (Result (List ℕ) ErrorKind)) → Search → (status : ℕ) →
+    (taken taken_after said said_after : Option (List ℕ)) →
+    (writer_failed writer_stalled failed stalled : Bool) → Type 0
+AnswersSearch files search status taken taken_after said said_after w s failed stalled =
+    (done : Result Hunted RunFault) × (text : List ℕ) × (status ≡ exit_status done)
+    × Hunts files (view_listed search.listed) search.asked text done taken taken_after w s
+    × SaysWhy search.explains (view_listed search.listed) text done said said_after failed stalled
 
 -- what is said of arguments that are no text, and where there is no memory to read them
 abbrev pub no_text_line : List ℕ
@@ -74,9 +107,7 @@ abbrev pub AnswersLine : {E : Type 0} → (files : List ℕ → Option (Result (
     (status : ℕ) → (taken taken_after said said_after : Option (List ℕ)) →
     (writer_failed writer_stalled failed stalled : Bool) → Type 0
 AnswersLine files (Ok (Asks search)) status taken taken_after said said_after w s failed stalled =
-    (done : Result Hunted RunFault) × (status ≡ exit_status done)
-    × Hunts files (view_listed search.listed) search.asked done taken taken_after w s
-    × SaysFault (view_listed search.listed) done said said_after failed stalled
+    AnswersSearch files search status taken taken_after said said_after w s failed stalled
 AnswersLine files (Ok (Help text)) status taken taken_after said said_after w s failed stalled =
     Helps (string_bytes text) status taken taken_after w s × (said ≡ said_after)
 AnswersLine files (Ok (Wrong text)) status taken taken_after said said_after w s failed stalled =

@@ -44,14 +44,14 @@ ComesTo text a (Err fault.Unsaid) = IsDue text a hunt.Unsaid
 ComesTo text a (Err (fault.Unread kind)) = ⊥
 ComesTo text a (Err fault.Write) = ⊥
 
--- There is no text for this reason, or there is one, and the hunt in it comes to this. A want of memory may stand in
+-- There is no text for this reason, or it is this one, and the hunt in it comes to this. A want of memory may stand in
 -- the place of all.
-abbrev pub IsSearched : (files : List ℕ → Option (Result (List ℕ) ErrorKind)) → Named → Asked → Result Hunted RunFault →
-    Type 0
-IsSearched files named a (Err fault.Memory) = ⊤
-IsSearched files named a (Ok h) = (text : List ℕ) × IsText files named (Ok text) × IsHunted text a h
-IsSearched files named a (Err f) =
-    IsText files named (Err f) ⊎ ((text : List ℕ) × IsText files named (Ok text) × ComesTo text a (Err f))
+abbrev pub IsSearched : (files : List ℕ → Option (Result (List ℕ) ErrorKind)) → Named → Asked → (text : List ℕ) →
+    Result Hunted RunFault → Type 0
+IsSearched files named a text (Err fault.Memory) = ⊤
+IsSearched files named a text (Ok h) = IsText files named (Ok text) × IsHunted text a h
+IsSearched files named a text (Err f) =
+    IsText files named (Err f) ⊎ (IsText files named (Ok text) × ComesTo text a (Err f))
 
 -- what is printed where none of the runs fails
 abbrev pub none_text : Asked → List ℕ

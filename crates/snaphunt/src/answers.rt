@@ -1,24 +1,28 @@
 //! `answer`: what snaphunt does about its command line, over any files, sink and device for
 //! messages, and the status of it.
-ghost use Rattle.std.specs.Prelude.{◌≡◌, Ok, IfOk, false};
+ghost use Rattle.std.specs.Prelude.{◌≡◌, ◌<◌, ◌^◌, ◌++◌, Ok, Err, IfOk, OnOk, OnErr, false};
 ghost use Rattle.snaphunt.specs.Answer.{
   AnswersLine,
+  AnswersSearch,
   Helps,
-  Hunts,
+  HuntsIn,
   Prints,
-  SaysFault,
+  SaysWhy,
   Tells,
   exit_status,
+  explained,
   hunted_status,
 };
 ghost use Rattle.snaphunt_command_line.specs.Search.{IsLine, IsSearch, view_listed};
 
 use crate::fault::{RunFault, status_of};
 use crate::fault_line::fault_line;
-use crate::searching::{hunted_text, search};
+use crate::searching::{hunted_text, search_text, text_of};
+use snap_explanation::{Layout, explanation};
 use snap_files::FileSource;
 use snap_hunt::Watcher;
 use snap_hunt_output::{Asked, Hunted};
+use snap_semantics::Refusal;
 use snap_streams::{ByteSink, say, write_all};
 use snaphunt_command_line::{CommandLine, Listed, Search};
 use std::alloc::{AllocError, Global};
@@ -63,22 +67,22 @@ fn print<W: ByteSink>(
     }
 }
 
-/// Hunts as is asked for, and prints what that came to and nothing else.
-fn hunt<F: FileSource, W: Watcher, S: ByteSink>(
+/// Hunts in the runs of the listing that a text is, and prints what that came to and nothing else.
+fn hunt_in<W: Watcher, S: ByteSink>(
     threads: &(impl Threads + Sync),
     alloc: Global,
-    files: &F,
-    asked: &Search<'_>,
+    listing: &[u8],
+    asked: &Asked,
     watcher: &mut W,
     sink: &mut S,
 ) -> Result<Hunted, RunFault>
-    requires search { IsSearch asked.now }
+    requires runs { asked.now.runs < 2 ^ 63 }
     requires sink { S.has_failed sink.old ≡ false }
-    ensures { Hunts (F.found files.now) (view_listed asked.now.listed) asked.now.asked result
-        (S.taken sink.old) (S.taken sink.new) (S.has_failed sink.new) (S.is_stalled sink.new) }
+    ensures { HuntsIn listing.now asked.now result (S.taken sink.old) (S.taken sink.new)
+        (S.has_failed sink.new) (S.is_stalled sink.new) }
 {
-    match search(threads, alloc, files, asked, watcher) {
-        Ok(hunted) => print(alloc, &asked.asked, hunted, sink),
+    match search_text(threads, alloc, listing, asked, watcher) {
+        Ok(hunted) => print(alloc, asked, hunted, sink),
         Err(fault) => Err(fault),
     }
 }
@@ -95,24 +99,106 @@ fn complain<E: ByteSink>(alloc: Global, listed: &Listed<'_>, fault: &RunFault, e
     }
 }
 
+/// Adds what is said behind the line of a fault, where refusals are explained.
+fn push_explained(
+    alloc: Global,
+    explains: bool,
+    listing: &[u8],
+    fault: &RunFault,
+    line: &mut Vec<u8>,
+) -> Result<(), AllocError>
+    ensures ok { OnOk result (line.new.items
+        ≡ line.old.items ++ explained explains listing.now fault.now) }
+    ensures unchanged { OnErr result (line.new.items ≡ line.old.items) }
+{
+    match fault {
+        RunFault::Refused(Refusal::Words(_)) => Ok(()),
+        RunFault::Refused(refusal) if explains => {
+            let text = explanation(alloc, Layout::Listing, listing, refusal)?;
+            line.extend_from_slice(text.as_slice())
+        }
+        _ => Ok(()),
+    }
+}
+
+/// Says why nothing, or not all, was printed, and explains it where that is asked for and there is
+/// memory for it.
+#[tactic(auto, using(crate::proofs::Said::explained_said))]
+fn explain<E: ByteSink>(
+    alloc: Global,
+    asked: &Search<'_>,
+    listing: &[u8],
+    fault: &RunFault,
+    errors: &mut E,
+)
+    requires { E.has_failed errors.old ≡ false }
+    ensures { SaysWhy asked.now.explains (view_listed asked.now.listed) listing.now (Err fault.now)
+        (E.taken errors.old) (E.taken errors.new) (E.has_failed errors.new)
+        (E.is_stalled errors.new) }
+{
+    match fault_line(alloc, &asked.listed, fault) {
+        Ok(mut line) => {
+            let _explained = push_explained(alloc, asked.explains, listing, fault, &mut line);
+            say(line.as_slice(), errors);
+        }
+        Err(_) => complain(alloc, &asked.listed, fault, errors),
+    }
+}
+
 /// The status of a whole hunt, whose fault it tells.
 fn finish<E: ByteSink>(
     alloc: Global,
-    listed: &Listed<'_>,
+    asked: &Search<'_>,
+    listing: &[u8],
     done: &Result<Hunted, RunFault>,
     errors: &mut E,
 ) -> u8
     requires { E.has_failed errors.old ≡ false }
     ensures status { result ≡ exit_status done.now }
-    ensures says { SaysFault (view_listed listed.now) done.now (E.taken errors.old)
-        (E.taken errors.new) (E.has_failed errors.new) (E.is_stalled errors.new) }
+    ensures says { SaysWhy asked.now.explains (view_listed asked.now.listed) listing.now done.now
+        (E.taken errors.old) (E.taken errors.new) (E.has_failed errors.new)
+        (E.is_stalled errors.new) }
 {
     match done {
         Ok(hunted) => hunted_status(hunted),
         Err(fault) => {
-            complain(alloc, listed, fault, errors);
+            explain(alloc, asked, listing, fault, errors);
             status_of(fault)
         }
+    }
+}
+
+/// Hunts as is asked for, says why where nothing, or not all, was printed, and answers the status
+/// of it.
+fn hunt<F: FileSource, W: Watcher, S: ByteSink, E: ByteSink>(
+    threads: &(impl Threads + Sync),
+    alloc: Global,
+    asked: &Search<'_>,
+    files: &F,
+    watcher: &mut W,
+    sink: &mut S,
+    errors: &mut E,
+) -> u8
+    requires search { IsSearch asked.now }
+    requires sink { S.has_failed sink.old ≡ false }
+    requires errors { E.has_failed errors.old ≡ false }
+    ensures { AnswersSearch (F.found files.now) asked.now result (S.taken sink.old)
+        (S.taken sink.new) (E.taken errors.old) (E.taken errors.new) (S.has_failed sink.new)
+        (S.is_stalled sink.new) (E.has_failed errors.new) (E.is_stalled errors.new) }
+{
+    match text_of(alloc, files, &asked.listed) {
+        Ok(listing) => {
+            let done = hunt_in(
+                threads,
+                alloc,
+                listing.as_slice(),
+                &asked.asked,
+                watcher,
+                sink,
+            );
+            finish(alloc, asked, listing.as_slice(), &done, errors)
+        }
+        Err(fault) => finish(alloc, asked, b"", &Err(fault), errors),
     }
 }
 
@@ -146,10 +232,7 @@ pub(crate) fn answer<F: FileSource, W: Watcher, S: ByteSink, E: ByteSink>(
         (S.is_stalled sink.new) (E.has_failed errors.new) (E.is_stalled errors.new) }
 {
     match line {
-        Ok(CommandLine::Asks(asked)) => {
-            let done = hunt(threads, alloc, files, asked, watcher, sink);
-            finish(alloc, &asked.listed, &done, errors)
-        }
+        Ok(CommandLine::Asks(asked)) => hunt(threads, alloc, asked, files, watcher, sink, errors),
         Ok(CommandLine::Help(text)) => help(text.as_bytes(), sink),
         Ok(CommandLine::Wrong(text)) => {
             say(text.as_bytes(), errors);

@@ -6,17 +6,24 @@ use snap_files::FileFault;
 use snap_hunt_output::HuntFault;
 use snap_semantics::Refusal;
 use std::io::ErrorKind;
+use thiserror::Error;
 
 /// Why nothing, or not all, was printed.
-#[derive(Clone, Copy)]
+#[derive(Clone, Copy, Debug, Error)]
 pub enum RunFault {
+    #[error("out of memory")]
     Memory,
+    /// The listing is refused, or the shape does not fit it.
+    #[error("{0}")]
     Refused(Refusal),
     /// What was to be printed does not fail as it says.
+    #[error("the run that was found does not fail")]
     Unsaid,
     /// The file of the listing could not be read.
+    #[error("the file cannot be read")]
     Unread(ErrorKind),
     /// Standard output could not be written.
+    #[error("the output could not be written")]
     Write,
 }
 

@@ -13,9 +13,10 @@ mod searching;
 use crate::answers::answer;
 use crate::progress::Progress;
 use snap_files::Disk;
-use snap_streams::Std;
+use snap_pipe::{PipeReader, Piped, Quiet};
 use snaphunt_command_line::{CommandLine, read_arguments};
 use std::alloc::AllocError;
+use std::io::IsTerminal;
 use std::process::ExitCode;
 use std::{env, io};
 
@@ -46,13 +47,28 @@ fn line_of<'a>(
     }
 }
 
+/// The same, where a refusal is explained in any case if `explains`.
+fn explained_line(
+    line: Result<CommandLine<'_>, AllocError>,
+    explains: bool,
+) -> Result<CommandLine<'_>, AllocError>
+    requires { IfOk line IsLine }
+    ensures { IfOk result IsLine }
+{
+    match line {
+        Ok(line) => Ok(line.explained_if(explains)),
+        Err(error) => Err(error),
+    }
+}
+
 fn main(rt: HostRuntime) -> ExitCode {
     let words = words_of(&rt);
-    let line = line_of(&rt, &words);
+    let line = explained_line(line_of(&rt, &words), rt.stderr().is_terminal());
     let mut progress = Progress::new(&rt);
-    let mut sink = Std::new(io::writer(&rt));
-    let mut errors = Std::new(rt.stderr());
-    ExitCode::from(answer(
+    let reader = PipeReader::new();
+    let mut sink = Piped::new(io::writer(&rt), &reader);
+    let mut errors = Quiet::new(rt.stderr(), &reader);
+    let status = answer(
         &rt,
         rt.alloc(),
         &line,
@@ -60,5 +76,6 @@ fn main(rt: HostRuntime) -> ExitCode {
         &mut progress,
         &mut sink,
         &mut errors,
-    ))
+    );
+    ExitCode::from(reader.status(status))
 }

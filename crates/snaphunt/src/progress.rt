@@ -1,8 +1,33 @@
 //! `Progress`: tells on standard error, once a second, how far snaphunt is with its runs.
 
 use snap_hunt::Watcher;
+use snap_streams::{Std, say};
+use snap_text::{push_number, push_text};
+use std::alloc::{AllocError, Global};
 use std::io::IsTerminal;
 use std::time::Instant;
+
+/// The line that tells how many runs were tried, of how many, how many a second, and how many
+/// seconds are left.
+fn line_of(
+    alloc: Global,
+    runs: u64,
+    all: u64,
+    pace: u64,
+    left: u64,
+) -> Result<Vec<u8>, AllocError> {
+    let mut line = Vec::new(alloc);
+    push_text(&mut line, b"\r")?;
+    push_number(&mut line, runs)?;
+    push_text(&mut line, b" of ")?;
+    push_number(&mut line, all)?;
+    push_text(&mut line, b" runs tried, ")?;
+    push_number(&mut line, pace)?;
+    push_text(&mut line, b" a second, ")?;
+    push_number(&mut line, left)?;
+    push_text(&mut line, b" s left  ")?;
+    Ok(line)
+}
 
 /// Tells how far a hunt is, once a second, where standard error is a terminal. What was told last
 /// stays there where the hunt is interrupted.
@@ -30,9 +55,9 @@ impl<'r> Progress<'r> {
     fn tell(&self, runs: u64, all: u64, seconds: u64) {
         let pace = (runs / seconds.max(1)).max(1);
         let left = all.saturating_sub(runs) / pace;
-        let _said = eprint!(self.rt;
-            "\r{runs} of {all} runs tried, {pace} a second, {left} s left  "
-        );
+        if let Ok(line) = line_of(self.rt.alloc(), runs, all, pace, left) {
+            say(line.as_slice(), &mut Std::new(self.rt.stderr()));
+        }
     }
 }
 
@@ -53,7 +78,7 @@ impl Watcher for Progress<'_> {
     /// Ends the line on which it was told.
     fn ended(&mut self) {
         if self.told > 0 {
-            let _said = eprintln!(self.rt; "");
+            say(b"\n", &mut Std::new(self.rt.stderr()));
         }
     }
 }

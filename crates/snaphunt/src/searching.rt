@@ -1,9 +1,10 @@
-//! `search`: what the hunt that a command line asks for comes to, or why it comes to nothing.
+//! `search_text`: what the hunt that a command line asks for comes to, or why it comes to nothing; `text_of`, the text
+//! of the listing in whose runs is hunted.
 ghost use Rattle.std.specs.Prelude.{◌≡◌, ◌<◌, ◌^◌, ◌++◌, IfOk, Ok, OnOk};
 ghost use Rattle.snap_semantics.specs.Listing.{listing_of};
 ghost use Rattle.snap_shipped.specs.Shipped.{shipped};
-ghost use Rattle.snaphunt.specs.Searching.{ComesTo, GivesText, IsSearched, hunted_text, none_text};
-ghost use Rattle.snaphunt_command_line.specs.Search.{IsSearch, view_listed};
+ghost use Rattle.snaphunt.specs.Searching.{ComesTo, GivesText, hunted_text, none_text};
+ghost use Rattle.snaphunt_command_line.specs.Search.{view_listed};
 
 use crate::fault::{RunFault, of_file, of_hunt};
 use snap_files::FileSource;
@@ -12,7 +13,7 @@ use snap_hunt_output::{Asked, Hunted, hunt_listing};
 use snap_shipped::{text_b, text_m, text_u};
 use snap_text::{push_number, push_text};
 use snap_words::KindTag;
-use snaphunt_command_line::{Listed, Search};
+use snaphunt_command_line::Listed;
 use std::alloc::{AllocError, Global};
 use std::thread::Threads;
 
@@ -32,7 +33,7 @@ fn shipped_text(kind: KindTag) -> &'static [u8]
 
 /// The text of the listing that is named.
 #[tactic(auto, using(crate::proofs::Searches::file_read, crate::proofs::Searches::file_unread))]
-fn text_of<F: FileSource>(
+pub(crate) fn text_of<F: FileSource>(
     alloc: Global,
     files: &F,
     listed: &Listed<'_>,
@@ -53,7 +54,7 @@ fn text_of<F: FileSource>(
 
 /// What a hunt in the runs of the listing that a text is comes to.
 #[tactic(auto, using(crate::proofs::Searches::hunt_ends))]
-fn search_text<W: Watcher>(
+pub(crate) fn search_text<W: Watcher>(
     threads: &(impl Threads + Sync),
     alloc: Global,
     listing: &[u8],
@@ -66,25 +67,6 @@ fn search_text<W: Watcher>(
     match hunt_listing(threads, alloc, listing, asked, watcher) {
         Ok(hunted) => Ok(hunted),
         Err(fault) => Err(of_hunt(fault)),
-    }
-}
-
-/// What the hunt that is asked for comes to.
-#[tactic(auto, using(crate::proofs::Searches::no_text, crate::proofs::Searches::with_text))]
-pub(crate) fn search<F: FileSource, W: Watcher>(
-    threads: &(impl Threads + Sync),
-    alloc: Global,
-    files: &F,
-    search: &Search<'_>,
-    watcher: &mut W,
-) -> Result<Hunted, RunFault>
-    requires { IsSearch search.now }
-    ensures { IsSearched (F.found files.now) (view_listed search.now.listed) search.now.asked
-        result }
-{
-    match text_of(alloc, files, &search.listed) {
-        Ok(text) => search_text(threads, alloc, text.as_slice(), &search.asked, watcher),
-        Err(fault) => Err(fault),
     }
 }
 

@@ -1,5 +1,5 @@
 -- `IsSearch`: a command line of snaphunt asks for a number of runs that can be counted; and which listing it names.
-use Rattle.std.specs.Prelude.{ℕ, List, ◌<◌, ◌^◌, ⊤}
+use Rattle.std.specs.Prelude.{ℕ, List, Bool, ◌||◌, ◌<◌, ◌^◌, ⊤}
 use Rattle.snap_words.specs.declared.kind.KindTag.{KindTag}
 use Rattle.snaphunt_command_line.specs.declared.arguments.Listed.{Listed}
 use Rattle.snaphunt_command_line.specs.declared.arguments.Listed.TheVariants as listed
@@ -25,3 +25,10 @@ IsLine (Asks s) = IsSearch s
 IsLine (Help text) = ⊤
 IsLine (Wrong text) = ⊤
 IsLine NoText = ⊤
+
+-- the same, where a refusal is explained in any case if `more`
+abbrev pub explained_if : Bool → CommandLine → CommandLine
+explained_if more (Asks s) = Asks (record { listed = s.listed; asked = s.asked; explains = s.explains || more })
+explained_if more (Help text) = Help text
+explained_if more (Wrong text) = Wrong text
+explained_if more NoText = NoText

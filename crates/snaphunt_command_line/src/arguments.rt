@@ -5,10 +5,11 @@ ghost use Rattle.snaphunt_command_line.specs.Search.{IsSearch};
 
 use clap::builder::ValueParser;
 use clap::error::ErrorKind;
-use clap::{Arg, ArgMatches, Command, Error};
+use clap::{Arg, ArgAction, ArgMatches, Command, Error};
 use snap_chance::{MAX_TURNS, Pace, Plan};
 use snap_failure::{StepBound, Wanted};
 use snap_hunt_output::Asked;
+use snap_options::is_given;
 use snap_tasks::kind_of;
 use snap_words::{KindTag, MAX_COUNT, Shape};
 use std::alloc::{AllocError, Global};
@@ -42,6 +43,32 @@ const MAX_RUNS: u64 = 1_000_000_000_000;
 /// The greatest depth.
 const MAX_DEPTH: u64 = 100;
 
+/// What is said of `--pace`.
+const PACE_HELP: &str = "\
+How processes take turns [possible values: mixed,{n}\
+bursts, interruptions, rounds, witnesses, duels,{n}coins]";
+
+/// What is said of `--fails`.
+const FAILS_HELP: &str = "\
+What is hunted, with commas between;{n}linearizable,trap,steps where nothing is said{n}\
+[possible values: linearizable, point, trap, steps]";
+
+/// What is said of `--repeat`.
+const REPEAT_HELP: &str = "\
+In half of the runs values are from 0 to this, and come{n}\
+back; 0: in none; without --depth in none with witnesses{n}or of duels";
+
+/// What stands under the options.
+const MORE: &str = "\
+Reads: the file LISTING, or nothing with --shipped
+
+Ends with status 4 where a run that fails was printed, as an input of
+'snaplab debug'.
+
+Examples:
+  snaphunt --shipped seq --runs 5000
+  snaphunt examples/hunts/gives-up.txt > found.txt";
+
 /// The listing in whose runs is hunted.
 #[derive(Clone, Copy)]
 pub enum Listed<'a> {
@@ -51,11 +78,13 @@ pub enum Listed<'a> {
     Shipped(KindTag),
 }
 
-/// What a command line asks for: the listing, and what is hunted in its runs.
+/// What a command line asks for: the listing, what is hunted in its runs, and whether a refusal is
+/// explained.
 #[derive(Clone, Copy)]
 pub struct Search<'a> {
     pub listed: Listed<'a>,
     pub asked: Asked,
+    pub explains: bool,
 }
 
 /// An option that takes a number, with the number that it has where it is not given.
@@ -81,7 +110,7 @@ fn depth<'a>(alloc: Global) -> Arg<'a> {
         .long("depth")
         .value_name("D")
         .value_parser(ValueParser::unsigned(1, MAX_DEPTH))
-        .help("Priorities, lowered at D - 1 turns, decide which process moves")
+        .help("Priorities, lowered at D - 1 turns, decide which{n}process moves")
 }
 
 /// The arguments that say how many processes and words there are.
@@ -101,7 +130,7 @@ fn with_shape<'a>(alloc: Global, command: Command<'a>) -> Result<Command<'a>, Al
             0,
             MAX_COUNT,
             "0",
-            "How many words there are; 0: one for each process",
+            "How many words there are;{n}0: one for each process",
         ))
 }
 
@@ -112,7 +141,8 @@ fn with_plan<'a>(alloc: Global, command: Command<'a>) -> Result<Command<'a>, All
         .value_name("PACE")
         .value_parser(PACES)
         .default_value("mixed")
-        .help("How processes take turns");
+        .hide_possible_values(true)
+        .help(PACE_HELP);
     with_shape(alloc, command)?
         .arg(pace)?
         .arg(depth(alloc))?
@@ -132,14 +162,7 @@ fn with_plan<'a>(alloc: Global, command: Command<'a>) -> Result<Command<'a>, All
             "0",
             "How many of a thousand turns are crashes",
         ))?
-        .arg(number(
-            alloc,
-            "repeat",
-            0,
-            4_294_967_295,
-            "1",
-            "In half of the runs values are from 0 to this; 0: in none",
-        ))
+        .arg(number(alloc, "repeat", 0, 4_294_967_295, "1", REPEAT_HELP))
 }
 
 /// The arguments that say what is hunted.
@@ -149,7 +172,8 @@ fn with_failures<'a>(alloc: Global, command: Command<'a>) -> Result<Command<'a>,
         .value_name("WHAT")
         .value_parser(FAILURES)
         .value_delimiter(',')
-        .help("What is hunted; linearizable,trap,steps where nothing is said");
+        .hide_possible_values(true)
+        .help(FAILS_HELP);
     command
         .arg(fails)?
         .arg(number(
@@ -158,7 +182,7 @@ fn with_failures<'a>(alloc: Global, command: Command<'a>) -> Result<Command<'a>,
             0,
             1_000_000,
             "0",
-            "Hunts an operation of more own steps than this; 0: than the shipped listing takes",
+            "Hunts an operation of more own steps than this; 0: than{n}the shipped listing takes",
         ))?
         .arg(number(
             alloc,
@@ -166,7 +190,7 @@ fn with_failures<'a>(alloc: Global, command: Command<'a>) -> Result<Command<'a>,
             0,
             1_000_000,
             "0",
-            "Hunts a scan of more double collects than this; 0: none",
+            "Hunts a scan of more double collects than this;{n}0: none",
         ))
 }
 
@@ -177,12 +201,18 @@ fn command<'a>(alloc: Global) -> Result<Command<'a>, AllocError> {
         .long("shipped")
         .value_name("KIND")
         .value_parser(KINDS)
-        .help("Takes the shipped listing of this kind of registers");
+        .help("Hunts in the shipped listing of this kind of registers;{n}no LISTING is named");
+    let explain = Arg::new(alloc, "explain")
+        .long("explain")
+        .action(ArgAction::SetTrue)
+        .help("Explains on standard error where and why the listing{n}is refused");
     let command = Command::new(alloc, "snaphunt")
         .about("Looks for a run of a listing that fails")
         .version(VERSION)
+        .after_help(MORE)
         .arg(listing)?
-        .arg(shipped)?;
+        .arg(shipped)?
+        .arg(explain)?;
     let command = with_failures(alloc, command)?
         .arg(number(
             alloc,
@@ -300,6 +330,7 @@ fn search_of<'a>(arguments: &ArgMatches<'a>) -> Option<Search<'a>>
             seed: number_of(arguments, "seed")?,
             runs,
         },
+        explains: is_given(arguments, "explain"),
     })
 }
 

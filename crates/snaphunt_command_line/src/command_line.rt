@@ -1,7 +1,7 @@
 //! `CommandLine`: what the arguments of snaphunt come to, a hunt that is asked for or a text such
 //! as the help.
-ghost use Rattle.std.specs.Prelude.{IfOk};
-ghost use Rattle.snaphunt_command_line.specs.Search.{IsLine};
+ghost use Rattle.std.specs.Prelude.{◌≡◌, IfOk};
+ghost use Rattle.snaphunt_command_line.specs.Search.{IsLine, explained_if};
 
 use crate::arguments::{Search, search_of_arguments};
 use clap::Error;
@@ -19,6 +19,23 @@ pub enum CommandLine<'a> {
     Wrong(String),
     /// They are no text.
     NoText,
+}
+
+impl<'a> CommandLine<'a> {
+    /// The same, where a refusal is explained in any case if `explains`.
+    pub fn explained_if(self, explains: bool) -> CommandLine<'a>
+        ensures same { result ≡ explained_if explains self.entry }
+        ensures line { IsLine self.entry → IsLine result }
+    {
+        match self {
+            CommandLine::Asks(asked) => CommandLine::Asks(Search {
+                listed: asked.listed,
+                asked: asked.asked,
+                explains: asked.explains || explains,
+            }),
+            other => other,
+        }
+    }
 }
 
 /// What is said where the arguments ask for no hunt.

@@ -26,7 +26,7 @@ const UPDATE: &[u8] = b"shape 1 1\n1 update 1 7\n1*13\n";
 
 /// The program of the listing.
 fn program(alloc: Global) -> Result<Program, Fail> {
-    Ok(load(alloc, snap_single::listing(alloc)?)?)
+    Ok(load(alloc, snap_single::listing(alloc)?.into_listing())?)
 }
 
 /// A session of the listing over a schedule.

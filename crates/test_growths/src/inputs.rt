@@ -61,7 +61,7 @@ impl<'a> Inputs<'a> {
 pub fn single(alloc: Global) -> Result<Program, Trouble>
     ensures { IfOk result (λ p. p.kind ≡ Seq) }
 {
-    let program = load(alloc, snap_single::listing(alloc)?)?;
+    let program = load(alloc, snap_single::listing(alloc)?.into_listing())?;
     if program.kind() != KindTag::Seq {
         return Err(Trouble::Refused);
     }

@@ -18,7 +18,7 @@ use std::alloc::{AllocError, Global};
 
 /// A machine of the bounded single-writer listing, for a schedule.
 fn new_machine(alloc: Global, schedule: &Schedule) -> Result<Machine<Bits>, Trouble> {
-    let program = load(alloc, snap_bounded::listing(alloc)?)?;
+    let program = load(alloc, snap_bounded::listing(alloc)?.into_listing())?;
     if program.kind() != KindTag::Bits {
         return Err(Trouble::Refused);
     }

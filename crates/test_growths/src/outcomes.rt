@@ -26,7 +26,7 @@ pub fn tell_outcome(rt: &HostRuntime, outcome: &Outcome) -> Result<(), Trouble> 
 /// The report of all items of a record.
 pub fn record_report<K: Kind>(alloc: Global, record: &Record<K>) -> Result<Vec<u8>, AllocError> {
     let mut text = Vec::new(alloc);
-    let position = record.items().len() as u64;
+    let position = record.items().len();
     report(
         &mut text,
         record.machine(),

@@ -30,7 +30,7 @@ fn play<G: Gate, R: Threads + Wait + Sync + Abort>(
     alloc: Global,
     text: &[u8],
     gate: &G,
-) -> Result<usize, Fail> {
+) -> Result<u64, Fail> {
     let program = program(rt, alloc)?;
     let scripts = read_scripts(alloc, text)?;
     let live: LiveRun<Seq> = run_live(rt, alloc, &program, &scripts, 1000, gate)?;

@@ -21,7 +21,7 @@ fn mark(marks: &mut [bool], turns: &[Turn]) -> bool {
 
 /// Whether each item that was kept is one turn, by its number.
 pub(crate) fn has_each_turn_once(alloc: Global, live: &LiveRun<Seq>) -> Result<bool, Fail> {
-    let mut marks = vec![in alloc; false; live.kept.items().len()]?;
+    let mut marks = vec![in alloc; false; live.kept.items().len() as usize]?;
     for turns in &live.turns {
         if !mark(marks.as_mut_slice(), turns.as_slice()) {
             return Ok(false);

@@ -13,7 +13,7 @@ use std::test::Fail;
 pub(crate) fn program(rt: &impl Abort, alloc: Global) -> Result<Program, Fail>
     ensures { IfOk result (λ p. p.kind ≡ Seq) }
 {
-    let program = load(alloc, snap_single::listing(alloc)?)?;
+    let program = load(alloc, snap_single::listing(alloc)?.into_listing())?;
     assert!(rt; program.kind() == KindTag::Seq);
     Ok(program)
 }

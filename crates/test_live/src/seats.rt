@@ -276,7 +276,7 @@ fn apply(rt: &impl Abort, record: &mut Record<Seq>, item: Item) -> Result<(), Fa
 fn run_again(rt: &impl Abort, alloc: Global, kept: &Record<Seq>) -> Result<Record<Seq>, Fail> {
     let program = program(rt, alloc)?;
     let mut again = Record::new(alloc, &program, Shape::new(2, 2)?)?;
-    for number in 1..=kept.items().len() as u64 {
+    for number in 1..=kept.items().len() {
         let Some(item) = kept.items().item(number) else {
             panic!(rt; "no item {number}")
         };
@@ -303,7 +303,7 @@ fn check_events(rt: &impl Abort, events: &[Event]) {
 /// The report of all items of a record.
 fn report_of(alloc: Global, record: &Record<Seq>) -> Result<Vec<u8>, AllocError> {
     let mut text = Vec::new(alloc);
-    let position = record.items().len() as u64;
+    let position = record.items().len();
     report(
         &mut text,
         record.machine(),
@@ -316,7 +316,7 @@ fn report_of(alloc: Global, record: &Record<Seq>) -> Result<Vec<u8>, AllocError>
 
 /// The words have what was written, and the report is that of the items.
 fn check_report(rt: &impl Abort, alloc: Global, kept: &Record<Seq>) -> Result<(), Fail> {
-    let Some(values) = kept.values_after(kept.items().len() as u64)? else {
+    let Some(values) = kept.values_after(kept.items().len())? else {
         panic!(rt; "no values")
     };
     assert_eq!(rt; values.as_slice(), [10, 20].as_slice());
@@ -327,7 +327,7 @@ fn check_report(rt: &impl Abort, alloc: Global, kept: &Record<Seq>) -> Result<()
 
 /// How many items there are: 12 more where a write of one failed the first double collect of the
 /// other, which only one of two can, and 2 more where each made a step when it was idle.
-fn wanted_len(kept: &Record<Seq>, idle: bool) -> usize {
+fn wanted_len(kept: &Record<Seq>, idle: bool) -> u64 {
     match (kept.event_collects().contains(&2), idle) {
         (false, false) => 36,
         (false, true) => 38,

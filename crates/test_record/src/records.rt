@@ -5,7 +5,7 @@ ghost use Rattle.snap_words.specs.Shape.{IsOneOf};
 ghost use Rattle.snap_semantics.specs.Table.{who};
 
 use snap_asm::{Program, assemble, load};
-use snap_audit::{audit, verdict_line};
+use snap_audit::{audit, push_verdict_line};
 use snap_record::{MAX_ITEMS, Record, RecordFault};
 use snap_semantics::{Item, Op, Outcome, Reason};
 use snap_shipped::text_u;
@@ -77,7 +77,7 @@ fn check_audit(
 ) -> Result<(), Fail> {
     let mut text = Vec::new(alloc);
     for verdict in &audit(alloc, record)? {
-        verdict_line(&mut text, verdict)?;
+        push_verdict_line(&mut text, verdict)?;
     }
     assert_eq!(rt; text.as_slice(), wanted);
     Ok(())
@@ -142,7 +142,7 @@ fn a_scan_has_its_double_collects(rt: HostRuntime) -> Result<(), Fail> {
 }
 
 /// Items of a process that is idle.
-fn skip(rt: &impl Abort, record: &mut Record<Seq>, count: usize) -> Result<(), Fail> {
+fn skip(rt: &impl Abort, record: &mut Record<Seq>, count: u64) -> Result<(), Fail> {
     for _ in 0..count {
         match apply(rt, record, Item::Step(1))? {
             Outcome::Skipped(Reason::Idle) => {}

@@ -9,7 +9,7 @@ use std::test::Fail;
 
 #[test]
 fn single_reads(rt: HostRuntime) -> Result<(), Fail> {
-    let listing = snap_single::listing(rt.alloc())?;
+    let listing = snap_single::listing(rt.alloc())?.into_listing();
     assert_eq!(rt; listing.lines().len(), 18);
     assert_eq!(rt; listing.update(), 30);
     Ok(())
@@ -17,7 +17,7 @@ fn single_reads(rt: HostRuntime) -> Result<(), Fail> {
 
 #[test]
 fn bounded_reads(rt: HostRuntime) -> Result<(), Fail> {
-    let listing = snap_bounded::listing(rt.alloc())?;
+    let listing = snap_bounded::listing(rt.alloc())?.into_listing();
     assert_eq!(rt; listing.lines().len(), 26);
     assert_eq!(rt; listing.update(), 40);
     Ok(())
@@ -25,7 +25,7 @@ fn bounded_reads(rt: HostRuntime) -> Result<(), Fail> {
 
 #[test]
 fn multi_reads(rt: HostRuntime) -> Result<(), Fail> {
-    let listing = snap_multi::listing(rt.alloc())?;
+    let listing = snap_multi::listing(rt.alloc())?.into_listing();
     assert_eq!(rt; listing.lines().len(), 37);
     assert_eq!(rt; listing.update(), 50);
     Ok(())
@@ -71,7 +71,7 @@ event 14 1 done\n";
 /// The report of all items of a record.
 fn report_of(alloc: Global, record: &Record<Seq>) -> Result<Vec<u8>, AllocError> {
     let mut text = Vec::new(alloc);
-    let position = record.items().len() as u64;
+    let position = record.items().len();
     report(
         &mut text,
         record.machine(),

@@ -1,6 +1,6 @@
 //! Tests of images that are encoded and decoded, and of images that are cut or changed.
 use snap_image::{ImageFault, decode, encode};
-use snap_listing::read_commented;
+use snap_listing::read;
 use snap_semantics::{ImageRefusal, ListingRefusal};
 use snap_shipped::{text_b, text_m, text_u};
 use std::alloc::Global;
@@ -29,7 +29,7 @@ const ONE_COMPARISON: &[u8] =
 
 /// The image of a text.
 fn image_of(alloc: Global, text: &[u8]) -> Result<Vec<u8>, Fail> {
-    let listing = read_commented(alloc, text)?;
+    let listing = read(alloc, text)?;
     let image = encode(alloc, &listing)?;
     Ok(image)
 }

@@ -1,5 +1,6 @@
 //! Tests of listings: which texts are read, why the others are refused, and what is printed.
-use snap_listing::{Listing, ListingFault, print, read, read_commented};
+use snap_listing::{ListingFault, print, read, read_source};
+use snap_listing_core::Listing;
 use snap_semantics::{BitBank, Expr, Index, Instr, ListingRefusal, Name, Term, Tuple};
 use snap_shipped::{text_b, text_m, text_u};
 use snap_text::{push_number, push_text};
@@ -210,7 +211,7 @@ const MALFORMED: [Case; 10] = [
 
 /// Why a text is refused, or nothing where it is read.
 fn refusal(alloc: Global, text: &[u8]) -> Result<Option<ListingRefusal>, Fail> {
-    match read(alloc, text) {
+    match read_source(alloc, text) {
         Ok(_) => Ok(None),
         Err(ListingFault::Refused(refusal)) => Ok(Some(refusal)),
         Err(ListingFault::Memory) => Err(Fail::from(ListingFault::Memory)),
@@ -362,7 +363,7 @@ fn has_multi_lines(listing: &Listing) -> bool {
 
 /// Whether what is printed of the listing that a text is, is this.
 fn prints(alloc: Global, text: &[u8], want: &[u8]) -> Result<bool, Fail> {
-    let listing = read_commented(alloc, text)?;
+    let listing = read(alloc, text)?;
     let printed = print(alloc, &listing)?;
     Ok(printed.as_slice() == want)
 }
@@ -416,14 +417,14 @@ fn refuses_the_line_after_200(rt: HostRuntime) -> Result<(), Fail> {
 
 #[test]
 fn reads(rt: HostRuntime) -> Result<(), Fail> {
-    let listing = read(rt.alloc(), SMALL)?;
+    let listing = read_source(rt.alloc(), SMALL)?;
     assert!(rt; is_small(&listing));
     Ok(())
 }
 
 #[test]
 fn copies(rt: HostRuntime) -> Result<(), Fail> {
-    let listing = read(rt.alloc(), SMALL)?;
+    let listing = read_source(rt.alloc(), SMALL)?;
     let copy = listing.copy(rt.alloc())?;
     assert!(rt; is_small(&copy));
     Ok(())
@@ -431,21 +432,21 @@ fn copies(rt: HostRuntime) -> Result<(), Fail> {
 
 #[test]
 fn reads_a_listing_of_kind_seq(rt: HostRuntime) -> Result<(), Fail> {
-    let listing = read(rt.alloc(), text_u())?;
+    let listing = read_source(rt.alloc(), text_u())?;
     assert!(rt; is_of(&listing, KindTag::Seq, 18) && has_seq_lines(&listing));
     Ok(())
 }
 
 #[test]
 fn reads_a_listing_of_kind_bit(rt: HostRuntime) -> Result<(), Fail> {
-    let listing = read(rt.alloc(), text_b())?;
+    let listing = read_source(rt.alloc(), text_b())?;
     assert!(rt; is_of(&listing, KindTag::Bits, 26) && has_bit_lines(&listing));
     Ok(())
 }
 
 #[test]
 fn reads_a_listing_of_kind_multi(rt: HostRuntime) -> Result<(), Fail> {
-    let listing = read(rt.alloc(), text_m())?;
+    let listing = read_source(rt.alloc(), text_m())?;
     assert!(rt; is_of(&listing, KindTag::Multi, 37) && has_multi_lines(&listing));
     Ok(())
 }

@@ -1,38 +1,35 @@
 -- `page_output` of snap_page (src/lib.rt): the proof of what its contract says.
 use Rattle.std.proofs.Common.{◌≡◌, [], ◌∷◌, Ok, Err, Some, arith, length, subst, sym, take}
-use Rattle.snap_run_judge.specs.Judged.{AnswersJudged}
 use Rattle.snap_semantics.specs.declared.refusal.Refusal.TheVariants.{InputTooLong}
-use Rattle.snap_output.specs.AtOnce.{found_at_once}
-use Rattle.snap_output.specs.Output.{AreJudged, output_of}
-use Rattle.snap_tasks.specs.declared.task.Task.{Task}
+use Rattle.snap_page.specs.Answer.{AnswersAsked, found_at_once}
+use Rattle.snap_page.specs.declared.asked.Asked.{Asked}
 use Rattle.snap_page.specs.Page.{answer_code, answer_text}
 use Rattle.snap_page.proofs.Answered.{told}
 use Rattle.snap_page.proofs.Short.{needs_none}
 use Rattle.snap_page.proofs.page_output.Goals as goal
 
 pub returns-clause-at_once : goal.returns-clause-at_once
-returns-clause-at_once c t r named found =
+returns-clause-at_once c a r named found =
     let input = c.args.input.now in
     let chosen = c.in-Some.is in
-    let told = c.task_of.ensures in
-    let same : c.in-Some.task ≡ t = cc in
+    let told = c.asked_of.ensures in
+    let same : c.in-Some.asked ≡ a = cc in
     c.handed_answer.ensures.at_once r
-    (c.output_alone-answer.ensures.at_once r (subst (λ (k : Task). found_at_once k input ≡ Some r) (sym same) found))
-    (needs_none t input r found)
+    (c.answer_to-answer.ensures.at_once r (subst (λ (k : Asked). found_at_once k input ≡ Some r) (sym same) found))
+    (needs_none a input r found)
 
 -- the answer that was handed
 pub returns-clause-answer : goal.returns-clause-answer
-returns-clause-answer c t named little =
+returns-clause-answer c a named little =
     let input = c.args.input.now in
     let chosen = c.in-Some.is in
-    let asked = c.task_of.ensures in
-    let same : c.in-Some.task ≡ t = cc in
+    let asked = c.asked_of.ensures in
+    let same : c.in-Some.asked ≡ a = cc in
     let code = c.handed_answer.result.code in
     let room = take c.handed_answer.result.len c.handed_answer.new.room in
     let found =
-    told t input c.output_alone-answer.result
-    (subst (λ (k : Task). AnswersJudged (λ out. out.items) (AreJudged k input) c.output_alone-answer.result
-    (λ judged. output_of judged k input)) same c.output_alone-answer.ensures.output)
+    told a input c.answer_to-answer.result
+    (subst (λ (k : Asked). AnswersAsked k input c.answer_to-answer.result) same c.answer_to-answer.ensures.output)
     (λ d. (code ≡ answer_code d) × (room ≡ answer_text d))
     (λ d is. c.handed_answer.ensures.answer d is little)
     (λ all. let zero : code ≡ 0 = (all (Ok [])).0 in let one : code ≡ 1 = (all (Err InputTooLong)).0 in
@@ -41,14 +38,13 @@ returns-clause-answer c t named little =
 
 -- and its length
 pub returns-clause-needed : goal.returns-clause-needed
-returns-clause-needed c t named large =
+returns-clause-needed c a named large =
     let input = c.args.input.now in
     let chosen = c.in-Some.is in
-    let asked = c.task_of.ensures in
-    let same : c.in-Some.task ≡ t = cc in
+    let asked = c.asked_of.ensures in
+    let same : c.in-Some.asked ≡ a = cc in
     let len = c.handed_answer.result.len in
-    told t input c.output_alone-answer.result
-    (subst (λ (k : Task). AnswersJudged (λ out. out.items) (AreJudged k input) c.output_alone-answer.result
-    (λ judged. output_of judged k input)) same c.output_alone-answer.ensures.output)
+    told a input c.answer_to-answer.result
+    (subst (λ (k : Asked). AnswersAsked k input c.answer_to-answer.result) same c.answer_to-answer.ensures.output)
     (λ d. len ≡ length (answer_text d)) (λ d is. c.handed_answer.ensures.needed d is large)
     (λ all. let zero : len ≡ 0 = all (Ok []) in let one : len ≡ 1 = all (Ok (0 ∷ [])) in omega (arith, zero, one))

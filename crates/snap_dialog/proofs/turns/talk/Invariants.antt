@@ -8,9 +8,9 @@ use Rattle.snap_dialog.proofs.turns.talk.Given as goal
 abbrev pub invariant-loop-count : goal.invariant-loop-count
 invariant-loop-count g l = record {
   well : g.C.Console.failure l.console ≡ None;
-  passed : HasPassed g.P.Respondent.prompt_of g.P.Respondent.answer_of l.fn.partner l.partner
+  passed : HasPassed g.P.Respondent.prompt_of g.P.Respondent.says g.P.Respondent.next_of l.fn.partner l.partner
       (g.C.Console.passed l.fn.console) (g.C.Console.passed l.console);
-  shown : HasShown g.P.Respondent.prompt_of g.P.Respondent.answer_of l.fn.partner l.partner
+  shown : HasShown g.P.Respondent.prompt_of g.P.Respondent.says g.P.Respondent.next_of l.fn.partner l.partner
       (g.C.Console.left l.fn.console) (g.C.Console.left l.console) (g.C.Console.shown l.fn.console)
       (g.C.Console.shown l.console);
   taken : HasTaken l._count (g.C.Console.left l.fn.console) (g.C.Console.left l.console);

@@ -1,20 +1,18 @@
 -- `draw_and_write` of snapdraw (src/answers.rt): the proof of what its contract says.
-use Rattle.snapdraw_command_line.specs.Files.{view_drawn}
 use Rattle.snapdraw.specs.Answer.{Draws}
+use Rattle.snap_named_files.specs.Texts.{view_texts}
 use Rattle.snapdraw.specs.Drawing.{options_of}
 use Rattle.snapdraw.proofs.Drawn.{not_drawn, passed}
 use Rattle.snapdraw.proofs.answers.draw_and_write.Goals as goal
 
 pub returns-in_err-text : goal.returns-in_err-text
 returns-in_err-text g c =
-    let found = g.F.FileSource.found c.args.files.now in
     let o = options_of c.args.drawing.now in
-    let named = view_drawn c.args.drawing.now.drawn in
+    let texts = view_texts c.args.texts.now in
     let look = c.args.look.now in
     let e = c.in_err-text.field-0.0 in
     let taken = g.W.ByteSink.taken c.args.sink.now in
     let w = g.W.ByteSink.has_failed c.args.sink.now in
     let s = g.W.ByteSink.is_stalled c.args.sink.now in
-    passed (λ r. Draws found named o look.style.now look.legend.now r taken taken w s) c.from_residual.result e
-    c.from_residual.ensures
-    (not_drawn found o look.style.now look.legend.now named taken w s e c.in_err-text.ensures)
+    passed (λ r. Draws texts o look.style.now look.legend.now r taken taken w s) c.from_residual.result e
+    c.from_residual.ensures (not_drawn o look.style.now look.legend.now texts taken w s e c.in_err-text.ensures)

@@ -1,8 +1,0 @@
--- `items_of` of snap_live_output (src/written.rt): what holds at the head of each of its loops.
--- The items of a history, as a schedule keeps them.
-use Rattle.std.proofs.Common.{◌≡◌, take}
-use Rattle.snap_live_output.proofs.written.items_of.Given as goal
-
--- the first items so far
-abbrev pub invariant-loop-t : goal.invariant-loop-t
-invariant-loop-t l = l.items ≡ take l.t l.history.items

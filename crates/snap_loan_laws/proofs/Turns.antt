@@ -1,0 +1,402 @@
+-- `Turn`: what an item does to the link of its process. The scan of an update begins at a line `call N`, which leaves a
+-- link, and ends at a line `return S`; in between the link stays, or the process stops for good.
+use Rattle.std.proofs.Common.{◌≡◌, ◌⊎◌, inl, inr, ℕ, ◌-◌, ◌<◌, Bool, true, false, nat_lt, List, [], Option, Some, None}
+use Rattle.std.proofs.Common.{Result, Ok, Err, if◌then◌else◌, length, slice_set, refl, sym, subst, ap, ◌∙◌, arith}
+use Rattle.std.proofs.lemmas.List.{get_or-set_same}
+use Rattle.snap_words.specs.Shape.{Counts, IsOneOf, places}
+use Rattle.snap_words.specs.declared.address.Bank.TheVariants as bank
+use Rattle.snap_semantics.specs.Answers.{◌>>=◌}
+use Rattle.snap_semantics.specs.Source.{Name, Source, following, instr_at}
+use Rattle.snap_semantics.specs.State.{Locals, Memory, Process, State, nobody, process_at, value_at}
+use Rattle.snap_semantics.specs.Table.{Effect, Goes, Answers, Finishes, all_true, bank_of, bit_value, call, call_goes}
+use Rattle.snap_semantics.specs.Table.{call_skip, called, conditions, crash, done, each_value, effect, effect_at}
+use Rattle.snap_semantics.specs.Table.{finish_goes, first_goes, first_true, leave, on, owned, places_to, range_end}
+use Rattle.snap_semantics.specs.Table.{return_goes, step, tuple_word, who, with_bits}
+use Rattle.snap_semantics.specs.Value.{Context, at_place, condition_holds, each_of, expr_value, index_value, place_in}
+use Rattle.snap_semantics.specs.declared.instr.Instr.{Instr}
+use Rattle.snap_semantics.specs.declared.instr.Instr.TheVariants.{Let, LetPlace, Get, Bit, Look, Put, PutBit, PutView}
+use Rattle.snap_semantics.specs.declared.instr.Instr.TheVariants.{ViewData, ViewOf, Each, First, Next, If, IfAll}
+use Rattle.snap_semantics.specs.declared.instr.Instr.TheVariants.{Goto, Call, Return, Finish}
+use Rattle.snap_semantics.specs.declared.process.Activity.{Activity}
+use Rattle.snap_semantics.specs.declared.process.Cause.{Cause}
+use Rattle.snap_semantics.specs.declared.process.Cause.TheVariants as cause
+use Rattle.snap_semantics.specs.declared.process.Item.{Item}
+use Rattle.snap_semantics.specs.declared.process.Item.TheVariants as item
+use Rattle.snap_semantics.specs.declared.process.Op.{Op}
+use Rattle.snap_semantics.specs.declared.process.Op.TheVariants as op
+use Rattle.snap_semantics.specs.declared.process.Outcome.{Outcome}
+use Rattle.snap_semantics.specs.declared.process.Outcome.TheVariants as outcome
+use Rattle.snap_semantics.specs.declared.process.Reason.{Reason}
+use Rattle.snap_semantics.specs.declared.process.Status.{Status}
+use Rattle.snap_semantics.specs.declared.process.Status.TheVariants.{Idle, Busy, Trapped, Crashed}
+use Rattle.snap_runs.specs.Scan.{IsCallLine, line_in, link_in}
+use Rattle.snap_acts.specs.Searches.{is_leave}
+use Rattle.snap_acts.specs.Trace.{act_of, context_of, plan_in, plan_of, plan_of_instr, plan_of_line, returned, step_of}
+use Rattle.snap_acts.specs.Trace.{stepped}
+use Rattle.snap_acts.specs.declared.act.Act.{Act}
+use Rattle.snap_acts.specs.declared.act.Act.TheVariants as act
+
+-- a process that goes on nowhere
+abbrev pub IsStuck : Status → Type 0
+IsStuck (Trapped c a) = Unit {0}
+IsStuck (Crashed was) = Unit {0}
+IsStuck _ = ⊥
+
+-- the links before and after an instruction
+abbrev pub IsLinked : Instr → Act → Option ℕ → Option ℕ → Type 0
+IsLinked i act.Enter b a = IsCallLine (Some i) × (b ≡ None) × (k : ℕ) × (a ≡ Some k)
+IsLinked i (act.Leave x) b a = (i ≡ Return x) × (k : ℕ) × (b ≡ Some k)
+IsLinked i _ b a = a ≡ b
+
+module _ (i : Instr) (t : Act) (b : Option ℕ) where
+  abbrev pub Links : Result Effect Cause → Type 0
+  Links (Ok (Goes m l link line)) = IsLinked i t b link
+  Links (Ok (Answers v)) = b ≡ None
+  Links (Ok Finishes) = b ≡ None
+  Links (Err c) = Unit {0}
+
+  bound : {A : Type 0} (r : Result A Cause) (f : A → Result Effect Cause) → ((x : A) → Links (f x)) → Links (r >>= f)
+  bound (Ok x) f h = h x
+  bound (Err c) f h = tt
+
+  onward : (o : Option ℕ) (m : Memory) (l : Locals) (link : Option ℕ) → IsLinked i t b link →
+      Links (on o (Goes m l link))
+  onward None m l link h = tt
+  onward (Some line) m l link h = h
+
+  choice : (c : Bool) (x y : Result Effect Cause) → Links x → Links y → Links (if c then x else y)
+  choice true x y h k = h
+  choice false x y h k = k
+
+first_links : (i : Instr) (s : Source) (a : Activity) (m : Memory) (l : Locals) (x : Name) (target : ℕ) (o : Option ℕ) →
+    Links i act.Other a.link (first_goes s a m l x target o)
+first_links i s a m l x target None = onward i act.Other a.link (following s.lines a.line) m l a.link refl
+first_links i s a m l x target (Some p) = refl
+
+call_on : (i : Instr) (o : Option ℕ) (m : Memory) (l : Locals) (target : ℕ) → IsCallLine (Some i) →
+    Links i act.Enter None (on o (λ k. Goes m l (Some k) target))
+call_on i None m l target is = tt
+call_on i (Some line) m l target is = (is, refl, line, refl)
+
+call_links : (i : Instr) (s : Source) (a : Activity) (m : Memory) (l : Locals) (target : ℕ) (link : Option ℕ) →
+    IsCallLine (Some i) → Links i act.Enter link (call_goes s a m l target link)
+call_links i s a m l target (Some line) is = tt
+call_links i s a m l target None is = call_on i (following s.lines a.line) m l target is
+
+return_links : (x : Name) (m : Memory) (l : Locals) (o : Op) (link : Option ℕ) →
+    Links (Return x) (act.Leave x) link (return_goes m l (value_at x l.views []) o link)
+return_links x m l o (Some line) = (refl, line, refl)
+return_links x m l op.Scan None = refl
+return_links x m l (op.Update word value) None = tt
+
+finish_links : (i : Instr) (o : Op) (link : Option ℕ) → Links i act.Other link (finish_goes o link)
+finish_links i (op.Update word value) None = refl
+finish_links i (op.Update word value) (Some line) = tt
+finish_links i op.Scan link = tt
+
+-- each form of a line
+links : (s : Source) (S : State) (c : Context) (m : Memory) (a : Activity) (i : Instr) →
+    Links i (stepped (plan_of_line c i) S c.me) a.link (effect s c m a i)
+links s S c m a (Let x e) =
+    bound (Let x e) act.Other a.link (expr_value c e) _
+    (λ v. onward (Let x e) act.Other a.link (following s.lines a.line) m _ a.link refl)
+links s S c m a (LetPlace x i e) =
+    let j = LetPlace x i e in
+    bound j act.Other a.link (place_in (places c.shape) (index_value c i)) _ (λ k.
+    bound j act.Other a.link (expr_value c e) _
+    (λ v. onward j act.Other a.link (following s.lines a.line) m _ a.link refl))
+links s S c m a (Get x i k) =
+    let j = Get x i k in
+    let t : Act = stepped (plan_of_line c j) S c.me in
+    bound j t a.link (place_in (places c.shape) (index_value c i)) _ (λ p.
+    bound j t a.link (place_in c.shape.w (index_value c k)) _
+    (λ r. onward j t a.link (following s.lines a.line) m _ a.link refl))
+links s S c m a (Bit x b i k) =
+    let j = Bit x b i k in
+    bound j act.Other a.link (place_in c.shape.n (index_value c i)) _ (λ p.
+    bound j act.Other a.link (place_in c.shape.n (index_value c k)) _
+    (λ r. onward j act.Other a.link (following s.lines a.line) m _ a.link refl))
+links s S c m a (Look x i) =
+    let j = Look x i in
+    let t : Act = stepped (plan_of_line c j) S c.me in
+    bound j t a.link (place_in c.shape.n (index_value c i)) _
+    (λ p. onward j t a.link (following s.lines a.line) m _ a.link refl)
+links s S c m a (Put i u) =
+    let j = Put i u in
+    let t : Act = stepped (plan_of_line c j) S c.me in
+    bound j t a.link (place_in c.shape.w (index_value c i)) _ (λ r. bound j t a.link (tuple_word c u) _ (λ parts.
+    bound j t a.link (with_bits parts) _ (λ word. bound j t a.link (owned s.kind c bank.R (index_value c i) word) _
+    (λ x. onward j t a.link (following s.lines a.line) _ c.locals a.link refl))))
+links s S c m a (PutBit b i k e) =
+    let j = PutBit b i k e in
+    bound j act.Other a.link (place_in c.shape.n (index_value c i)) _ (λ p.
+    bound j act.Other a.link (place_in c.shape.n (index_value c k)) _ (λ q.
+    bound j act.Other a.link (expr_value c e) _ (λ v. bound j act.Other a.link (bit_value v) _ (λ bit.
+    bound j act.Other a.link (owned s.kind c (bank_of b) (index_value c i) bit) _
+    (λ x. onward j act.Other a.link (following s.lines a.line) _ c.locals a.link refl)))))
+links s S c m a (PutView i x) =
+    let j = PutView i x in
+    let t : Act = stepped (plan_of_line c j) S c.me in
+    bound j t a.link (place_in c.shape.n (index_value c i)) _ (λ p.
+    bound j t a.link (owned s.kind c bank.V (index_value c i) (value_at x c.locals.views [])) _
+    (λ v. onward j t a.link (following s.lines a.line) _ c.locals a.link refl))
+links s S c m a (ViewData x y) =
+    onward (ViewData x y) (act.Collect x) a.link (following s.lines a.line) m _ a.link refl
+links s S c m a (ViewOf x y i) =
+    let j = ViewOf x y i in
+    let t : Act = stepped (plan_of_line c j) S c.me in
+    bound j t a.link (place_in (places c.shape) (index_value c i)) _
+    (λ p. onward j t a.link (following s.lines a.line) m _ a.link refl)
+links s S c m a (Each g x e k) =
+    let j = Each g x e k in
+    bound j act.Other a.link (each_of (λ p. each_value (at_place c p) x e k) (places_to (range_end c.shape g))) _
+    (λ vs. onward j act.Other a.link (following s.lines a.line) m _ a.link refl)
+links s S c m a (First x g k target) =
+    bound (First x g k target) act.Other a.link (conditions c (range_end c.shape g) k) _
+    (λ bs. first_links (First x g k target) s a m c.locals x target (first_true 1 bs))
+links s S c m a (Next x g target) =
+    choice (Next x g target) act.Other a.link (nat_lt (value_at x c.locals.scalars 0) (range_end c.shape g)) _ _ refl
+    (onward (Next x g target) act.Other a.link (following s.lines a.line) m _ a.link refl)
+links s S c m a (If k target) =
+    bound (If k target) act.Other a.link (condition_holds c k) _ (λ b. choice (If k target) act.Other a.link b _ _ refl
+    (onward (If k target) act.Other a.link (following s.lines a.line) m c.locals a.link refl))
+links s S c m a (IfAll g k target) =
+    let j = IfAll g k target in
+    let t : Act = stepped (plan_of_line c j) S c.me in
+    bound j t a.link (conditions c (range_end c.shape g) k) _ (λ bs. choice j t a.link (all_true bs) _ _ refl
+    (onward j t a.link (following s.lines a.line) m c.locals a.link refl))
+links s S c m a (Goto target) = refl
+links s S c m a (Call target) = call_links (Call target) s a m c.locals target a.link tt
+links s S c m a (Return x) = return_links x m c.locals a.op a.link
+links s S c m a Finish = finish_links Finish a.op a.link
+
+-- the link of a process stays where it does not leave
+stays_of : (i : Instr) (k : ℕ) (b a : Option ℕ) (t : Act) → IsLinked i t b a → is_leave t ≡ false → b ≡ Some k →
+    a ≡ Some k
+stays_of i k b a (act.Call o) h stays has = h ∙ has
+stays_of i k b a (act.Answer view x) h stays has = h ∙ has
+stays_of i k b a act.Done h stays has = h ∙ has
+stays_of i k b a act.Crash h stays has = h ∙ has
+stays_of i k b a act.Trap h stays has = h ∙ has
+stays_of i k b a act.Skip h stays has = h ∙ has
+stays_of i k b a (act.Write word values x) h stays has = h ∙ has
+stays_of i k b a (act.Publish j x) h stays has = h ∙ has
+stays_of i k b a (act.Read word into) h stays has = h ∙ has
+stays_of i k b a (act.Look j x) h stays has = h ∙ has
+stays_of i k b a (act.Borrow into x) h stays has = h ∙ has
+stays_of i k b a (act.Collect x) h stays has = h ∙ has
+stays_of i k b a (act.Test passed) h stays has = h ∙ has
+stays_of i k b a act.Enter h stays has = let none = h.1 in absurd cc
+stays_of i k b a (act.Leave x) h stays has = absurd cc
+stays_of i k b a act.Other h stays has = h ∙ has
+
+-- a scan of an update of process i begins by this item
+pub record Begins (s : Source) (i : ℕ) (x : Item) (u : Status) (o : Outcome) (u' : Status) : Type 0 where
+  pub item : x ≡ item.Step i
+  pub line : IsCallLine (line_in s u)
+  pub goes : o ≡ outcome.Stepped
+  pub link : ℕ
+  pub has : link_in u' ≡ Some link
+
+-- or ends
+pub record Returns (s : Source) (i : ℕ) (x : Item) (u : Status) (y : Name) : Type 0 where
+  pub item : x ≡ item.Step i
+  pub line : line_in s u ≡ Some (Return y)
+  pub link : ℕ
+  pub has : link_in u ≡ Some link
+
+-- what an item of process i, which did this, makes of its status
+pub record Turn (s : Source) (i : ℕ) (x : Item) (u : Status) (t : Act) (o : Outcome) (u' : Status) : Type 0 where
+  pub enters : t ≡ act.Enter → Begins s i x u o u'
+  pub leaves : (y : Name) → t ≡ act.Leave y → Returns s i x u y
+  pub stays : (k : ℕ) → is_leave t ≡ false → link_in u ≡ Some k → (link_in u' ≡ Some k) ⊎ IsStuck u'
+  pub stuck : IsStuck u → IsStuck u'
+  pub returns : (y : Name) (k : ℕ) → x ≡ item.Step i → line_in s u ≡ Some (Return y) → link_in u ≡ Some k →
+      is_leave t ≡ true
+
+return_goes_on : (m : Memory) (l : Locals) (v : List ℕ) (o : Op) (link : Option ℕ) (k : ℕ) (c : Cause) →
+    link ≡ Some k → return_goes m l v o link ≡ Err c → ⊥
+return_goes_on m l v o (Some line) k c has e = absurd cc
+return_goes_on m l v o None k c has e = absurd cc
+
+module _ (s : Source) (shape : Counts) (i : ℕ) where
+  -- an item that changes nothing
+  rests : (x : Item) (u : Status) (o : Outcome) → ((y : Name) → x ≡ item.Step i → line_in s u ≡ Some (Return y) → ⊥) →
+      Turn s i x u act.Skip o u
+  rests x u o none = record {
+    enters = λ is. absurd cc;
+    leaves = λ y is. absurd cc;
+    stays = λ k away has. inl has;
+    stuck = λ h. h;
+    returns = λ y k is line has. absurd (none y is line);
+  }
+
+  -- an operation that traps, ends or begins at a step or a call
+  stops : (x : Item) (u : Status) (t : Act) (o : Outcome) (u' : Status) → (t ≡ act.Enter → ⊥) →
+      ((y : Name) → t ≡ act.Leave y → ⊥) → ((k : ℕ) → link_in u ≡ Some k → IsStuck u') → (IsStuck u → IsStuck u') →
+      ((y : Name) (k : ℕ) → x ≡ item.Step i → line_in s u ≡ Some (Return y) → link_in u ≡ Some k → ⊥) →
+      Turn s i x u t o u'
+  stops x u t o u' enters leaves stays stuck returns = record {
+    enters = λ is. absurd (enters is);
+    leaves = λ y is. absurd (leaves y is);
+    stays = λ k away has. inr (stays k has);
+    stuck = stuck;
+    returns = λ y k is line has. absurd (returns y k is line has);
+  }
+
+  none_some : (o : Option ℕ) (k : ℕ) → o ≡ None → o ≡ Some k → ⊥
+  none_some o k none some = absurd cc
+
+  own_status : (S : State) (m : Memory) (p : Process) → IsOneOf shape.n i → length S.processes ≡ shape.n →
+      p.status ≡ (process_at (record { memory = m; processes = slice_set S.processes (i - 1) p }) i).status
+  own_status S m p one count =
+      let within : i - 1 < length S.processes =
+      (let first = one.0 in let last = one.1 in omega (arith, first, last, count)) in
+      ap (λ (q : Process). q.status) (sym (get_or-set_same S.processes (i - 1) p nobody within))
+
+  leave_turn : (S : State) (a : Activity) (c : Context) (j : Instr) (e : Result Effect Cause) → IsOneOf shape.n i →
+      length S.processes ≡ shape.n → instr_at s.lines a.line ≡ Some j →
+      ((S' : State) → Links j (stepped (plan_of_line c j) S' i) a.link e) →
+      ((y : Name) (k : ℕ) (w : Cause) → j ≡ Return y → a.link ≡ Some k → e ≡ Err w → ⊥) →
+      (let r = leave S i a (process_at S i).locals e in
+      Turn s i (item.Step i) (Busy a) (act_of (plan_of_line c j) r.0 i (item.Step i) r.1) r.1 (process_at r.0 i).status)
+  leave_turn S a c j (Ok (Goes m l link line)) one count there h fails =
+      let q : Process = record { status = Busy (record { op = a.op; line = line; link = link }); locals = l } in
+      let S' : State = record { memory = m; processes = slice_set S.processes (i - 1) q } in
+      let t : Act = stepped (plan_of_line c j) S' i in
+      subst (Turn s i (item.Step i) (Busy a) t outcome.Stepped) (own_status S m q one count) (record {
+        enters = λ is. (let g = subst (λ (v : Act). IsLinked j v a.link link) is (h S') in record {
+          item = refl;
+          line = subst IsCallLine (sym there) g.0;
+          goes = refl;
+          link = g.2;
+          has = g.3;
+        });
+        leaves = λ y is. (let g = subst (λ (v : Act). IsLinked j v a.link link) is (h S') in record {
+          item = refl;
+          line = there ∙ ap (λ (v : Instr). Some v) g.0;
+          link = g.1;
+          has = g.2;
+        });
+        stays = λ k away has. inl (stays_of j k a.link link t (h S') away has);
+        stuck = λ none. absurd none;
+        returns = λ y k is line has.
+            let same : j ≡ Return y = (let both : Some j ≡ Some (Return y) = sym there ∙ line in cc) in
+            ap (λ (v : Instr). is_leave (stepped (plan_of_line c v) S' i)) same;
+      })
+  leave_turn S a c j (Ok (Answers v)) one count there h fails =
+      let q : Process = record { status = Idle; locals = (process_at S i).locals } in
+      subst (Turn s i (item.Step i) (Busy a) _ (outcome.Answered v)) (own_status S S.memory q one count)
+      (stops (item.Step i) (Busy a) (act.Answer v (returned (plan_of_line c j))) (outcome.Answered v) Idle
+      (λ is. absurd cc) (λ y is. absurd cc) (λ k has. none_some a.link k (h S) has) (λ none. absurd none)
+      (λ y k is line has. none_some a.link k (h S) has))
+  leave_turn S a c j (Ok Finishes) one count there h fails =
+      let q : Process = record { status = Idle; locals = (process_at S i).locals } in
+      subst (Turn s i (item.Step i) (Busy a) act.Done outcome.Finished) (own_status S S.memory q one count)
+      (stops (item.Step i) (Busy a) act.Done outcome.Finished Idle
+      (λ is. absurd cc) (λ y is. absurd cc) (λ k has. none_some a.link k (h S) has) (λ none. absurd none)
+      (λ y k is line has. none_some a.link k (h S) has))
+  leave_turn S a c j (Err w) one count there h fails =
+      let q : Process = record { status = Trapped w a; locals = (process_at S i).locals } in
+      subst (Turn s i (item.Step i) (Busy a) act.Trap (outcome.Trapped w)) (own_status S S.memory q one count)
+      (stops (item.Step i) (Busy a) act.Trap (outcome.Trapped w) (Trapped w a)
+      (λ is. absurd cc) (λ y is. absurd cc) (λ k has. tt) (λ none. tt)
+      (λ y k is line has. fails y k w (let both : Some j ≡ Some (Return y) = sym there ∙ line in cc) has refl))
+
+  busy_turn : (S : State) (a : Activity) (c : Context) (found : Option Instr) → IsOneOf shape.n i →
+      length S.processes ≡ shape.n → instr_at s.lines a.line ≡ found → c.me ≡ i →
+      (let r = leave S i a (process_at S i).locals (effect_at s c S.memory a found) in
+      Turn s i (item.Step i) (Busy a) (act_of (plan_of_instr c found) r.0 i (item.Step i) r.1) r.1
+      (process_at r.0 i).status)
+  busy_turn S a c None one count there me =
+      let q : Process = record { status = Trapped cause.OffEnd a; locals = (process_at S i).locals } in
+      subst (Turn s i (item.Step i) (Busy a) act.Trap (outcome.Trapped cause.OffEnd))
+      (own_status S S.memory q one count)
+      (stops (item.Step i) (Busy a) act.Trap (outcome.Trapped cause.OffEnd) (Trapped cause.OffEnd a)
+      (λ is. absurd cc) (λ y is. absurd cc) (λ k has. tt) (λ none. tt)
+      (λ y k is line has. absurd (let both : None ≡ Some (Return y) = sym there ∙ line in cc)))
+  busy_turn S a c (Some j) one count there me =
+      leave_turn S a c j (effect s c S.memory a j) one count there
+      (λ S'. subst (λ (k : ℕ). Links j (stepped (plan_of_line c j) S' k) a.link (effect s c S.memory a j)) me
+      (links s S' c S.memory a j))
+      (λ y k w is has e. return_goes_on S.memory c.locals (value_at y c.locals.views []) a.op a.link k w has
+      (subst (λ (v : Instr). effect s c S.memory a v ≡ Err w) is e))
+
+  step_turn : (S : State) (u : Status) → (process_at S i).status ≡ u → IsOneOf shape.n i →
+      length S.processes ≡ shape.n → (let r = step s shape S i (process_at S i) u in
+      Turn s i (item.Step i) u (act_of (plan_in s shape i (process_at S i) u) r.0 i (item.Step i) r.1) r.1
+      (process_at r.0 i).status)
+  step_turn S Idle is one count =
+      subst (Turn s i (item.Step i) Idle act.Skip _) (sym is) (rests (item.Step i) Idle _ (λ y same line. absurd cc))
+  step_turn S (Trapped c a) is one count =
+      subst (Turn s i (item.Step i) (Trapped c a) act.Skip _) (sym is)
+      (rests (item.Step i) (Trapped c a) _ (λ y same line. absurd cc))
+  step_turn S (Crashed was) is one count =
+      subst (Turn s i (item.Step i) (Crashed was) act.Skip _) (sym is)
+      (rests (item.Step i) (Crashed was) _ (λ y same line. absurd cc))
+  step_turn S (Busy a) is one count =
+      busy_turn S a (context_of shape i (process_at S i) a.op) (instr_at s.lines a.line) one count refl refl
+
+  called_turn : (S : State) (o : Op) (why : Option Reason) → (process_at S i).status ≡ Idle → IsOneOf shape.n i →
+      length S.processes ≡ shape.n → (let r = called s S i (process_at S i) o why in
+      Turn s i (item.Call i o) Idle (act_of (plan_of s shape S (item.Call i o)) r.0 i (item.Call i o) r.1) r.1
+      (process_at r.0 i).status)
+  called_turn S o (Some reason) is one count =
+      subst (Turn s i (item.Call i o) Idle act.Skip _) (sym is)
+      (rests (item.Call i o) Idle _ (λ y same line. absurd cc))
+  called_turn S o None is one count =
+      subst (Turn s i (item.Call i o) Idle (act.Call o) outcome.Called) (own_status S S.memory _ one count)
+      (stops (item.Call i o) Idle (act.Call o) outcome.Called _ (λ e. absurd cc) (λ y e. absurd cc)
+      (λ k has. absurd cc) (λ none. absurd none) (λ y k same line has. absurd cc))
+
+  call_turn : (S : State) (o : Op) (u : Status) → (process_at S i).status ≡ u → IsOneOf shape.n i →
+      length S.processes ≡ shape.n → (let r = call s shape S i o (process_at S i) u in
+      Turn s i (item.Call i o) u (act_of (plan_of s shape S (item.Call i o)) r.0 i (item.Call i o) r.1) r.1
+      (process_at r.0 i).status)
+  call_turn S o Idle is one count = called_turn S o (call_skip s.kind shape i o) is one count
+  call_turn S o (Busy a) is one count =
+      subst (Turn s i (item.Call i o) (Busy a) act.Skip _) (sym is)
+      (rests (item.Call i o) (Busy a) _ (λ y same line. absurd cc))
+  call_turn S o (Trapped c a) is one count =
+      subst (Turn s i (item.Call i o) (Trapped c a) act.Skip _) (sym is)
+      (rests (item.Call i o) (Trapped c a) _ (λ y same line. absurd cc))
+  call_turn S o (Crashed was) is one count =
+      subst (Turn s i (item.Call i o) (Crashed was) act.Skip _) (sym is)
+      (rests (item.Call i o) (Crashed was) _ (λ y same line. absurd cc))
+
+  crashed_turn : (S : State) (u : Status) (was : Option Activity) → IsOneOf shape.n i →
+      length S.processes ≡ shape.n →
+      Turn s i (item.Crash i) u act.Crash outcome.Crashed (process_at (record {
+        memory = S.memory;
+        processes =
+            slice_set S.processes (i - 1) (record { status = Crashed was; locals = (process_at S i).locals });
+      }) i).status
+  crashed_turn S u was one count =
+      subst (Turn s i (item.Crash i) u act.Crash outcome.Crashed)
+      (own_status S S.memory (record { status = Crashed was; locals = (process_at S i).locals }) one count)
+      (stops (item.Crash i) u act.Crash outcome.Crashed (Crashed was) (λ e. absurd cc) (λ y e. absurd cc)
+      (λ k has. tt) (λ none. tt) (λ y k same line has. absurd cc))
+
+  crash_turn : (S : State) (u : Status) → (process_at S i).status ≡ u → IsOneOf shape.n i →
+      length S.processes ≡ shape.n → (let r = crash S i (process_at S i) u in
+      Turn s i (item.Crash i) u (act_of (plan_of s shape S (item.Crash i)) r.0 i (item.Crash i) r.1) r.1
+      (process_at r.0 i).status)
+  crash_turn S (Busy a) is one count = crashed_turn S (Busy a) (Some a) one count
+  crash_turn S Idle is one count = crashed_turn S Idle None one count
+  crash_turn S (Trapped c a) is one count =
+      subst (Turn s i (item.Crash i) (Trapped c a) act.Skip _) (sym is)
+      (rests (item.Crash i) (Trapped c a) _ (λ y same line. absurd cc))
+  crash_turn S (Crashed was) is one count =
+      subst (Turn s i (item.Crash i) (Crashed was) act.Skip _) (sym is)
+      (rests (item.Crash i) (Crashed was) _ (λ y same line. absurd cc))
+
+-- each item
+pub done_turn : (s : Source) (shape : Counts) (S : State) (t : ℕ) (x : Item) → IsOneOf shape.n (who x) →
+    length S.processes ≡ shape.n →
+    Turn s (step_of s shape S t x).process x (process_at S (step_of s shape S t x).process).status
+    (step_of s shape S t x).act (done s shape S x).1
+    (process_at (done s shape S x).0 (step_of s shape S t x).process).status
+unfolding step_of
+done_turn s shape S t (item.Step i) one count = step_turn s shape i S (process_at S i).status refl one count
+done_turn s shape S t (item.Call i o) one count = call_turn s shape i S o (process_at S i).status refl one count
+done_turn s shape S t (item.Crash i) one count = crash_turn s shape i S (process_at S i).status refl one count

@@ -1,0 +1,2 @@
+-- The proofs of snap_named_files, by their modules.
+mod Read

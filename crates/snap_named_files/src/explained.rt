@@ -1,0 +1,50 @@
+//! `explanation_in`: what explains why one of the texts of named files is refused.
+ghost use Rattle.std.specs.Prelude.{◌≡◌, IfOk, option_map};
+ghost use Rattle.snap_named_files.specs.Explained.{explanation_in, schedule_alone};
+ghost use Rattle.snap_named_files.specs.Texts.{view_texts};
+
+use crate::texts::Texts;
+use snap_explanation::{Layout, explanation};
+use snap_semantics::Refusal;
+use snap_tasks::Subject;
+use snap_words::KindTag;
+use std::alloc::{AllocError, Global};
+
+/// What an input consists of that is a schedule alone, whichever listing is shipped.
+fn schedule_alone() -> Layout
+    ensures { result ≡ schedule_alone }
+{
+    Layout::Parts(
+        Subject::Shipped(KindTag::Seq),
+        snap_explanation::Texts::Schedule,
+    )
+}
+
+/// Returns what explains why one of these texts is refused, or why none was read: of a listing what
+/// `snaplab check --explain` says, and else what `snaplab run --shipped KIND --explain` says of the
+/// schedule.
+///
+/// # Errors
+///
+/// There is no memory for it.
+pub fn explanation_in(
+    alloc: Global,
+    texts: Option<&Texts>,
+    refusal: &Refusal,
+) -> Result<Vec<u8>, AllocError>
+    ensures { IfOk result (λ text. text.items
+        ≡ explanation_in (option_map (λ t. view_texts t.now) texts.entry) refusal.now) }
+{
+    match (texts, refusal) {
+        (None, _) => explanation(alloc, schedule_alone(), b"", refusal),
+        (Some(Texts::Files(listing, _)), Refusal::Listing(_)) => {
+            explanation(alloc, Layout::Listing, listing.as_slice(), refusal)
+        }
+        (Some(Texts::Files(_, schedule)), _) => {
+            explanation(alloc, schedule_alone(), schedule.as_slice(), refusal)
+        }
+        (Some(Texts::Shipped(_, schedule)), _) => {
+            explanation(alloc, schedule_alone(), schedule.as_slice(), refusal)
+        }
+    }
+}

@@ -1,0 +1,11 @@
+//! The files that a command line names: a listing and a schedule, or a schedule for a shipped listing; their texts; and
+//! what explains why one of them is refused.
+#![tactic(auto)]
+
+mod explained;
+mod named;
+mod texts;
+
+pub use explained::explanation_in;
+pub use named::{Named, Which, file_name, named_of};
+pub use texts::{TextFault, Texts, read_texts};

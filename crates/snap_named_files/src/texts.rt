@@ -1,0 +1,111 @@
+//! `read_texts`: the texts of the files that a command line names, or why they are not read.
+ghost use Rattle.std.specs.Prelude.{◌≡◌, Result, List, ℕ};
+ghost use Rattle.snap_files.specs.declared.fault.FileFault.{FileFault};
+ghost use Rattle.snap_semantics.specs.Answers.{refused_as};
+ghost use Rattle.snap_named_files.specs.Named.{Files, Shipped, view_named};
+ghost use Rattle.snap_named_files.specs.Texts.{AreTexts, Comes, IsTextIn, of_file};
+
+use crate::named::{Named, Which};
+use snap_files::{FileFault, FileSource};
+use snap_words::KindTag;
+use std::alloc::Global;
+use std::io::ErrorKind;
+use thiserror::Error;
+
+/// The most bytes that a file may have, and one more.
+const TOO_MANY: u64 = 16_777_217;
+
+/// Why a text was not read.
+#[derive(Clone, Copy, Debug, Error)]
+pub enum TextFault {
+    #[error("out of memory")]
+    Memory,
+    /// The file has more bytes than an input may have.
+    #[error("the file is too long")]
+    TooLong(Which),
+    /// The file could not be read, for this reason.
+    #[error("the file cannot be read")]
+    Unread(Which, ErrorKind),
+}
+
+/// The texts of the files that are named.
+#[derive(Drop)]
+pub enum Texts {
+    /// Those of a listing and of a schedule.
+    Files(Vec<u8>, Vec<u8>),
+    /// The shipped listing of a kind, and the text of a schedule.
+    Shipped(KindTag, Vec<u8>),
+}
+
+/// Why a file was not read.
+fn of_file(which: Which, fault: FileFault) -> TextFault
+    ensures { result ≡ of_file which fault }
+{
+    match fault {
+        FileFault::Memory => TextFault::Memory,
+        FileFault::TooLong => TextFault::TooLong(which),
+        FileFault::Unread(kind) => TextFault::Unread(which, kind),
+    }
+}
+
+/// The bytes of the file of this name.
+fn text_in<F: FileSource>(
+    alloc: Global,
+    files: &F,
+    which: Which,
+    name: &str,
+) -> Result<Vec<u8>, TextFault>
+    ensures { (text : Result (List ℕ) FileFault) × IsTextIn (F.found files.now) name.now text
+        × Comes (λ v. v.items) result (refused_as (of_file which) text) }
+{
+    match files.read(alloc, name, TOO_MANY) {
+        Ok(text) => Ok(text),
+        Err(fault) => Err(of_file(which, fault)),
+    }
+}
+
+/// The texts of a listing and of a schedule in files of these names.
+fn both_texts<F: FileSource>(
+    alloc: Global,
+    files: &F,
+    listing: &str,
+    schedule: &str,
+) -> Result<Texts, TextFault>
+    ensures { AreTexts (F.found files.now) (Files listing.now schedule.now) result }
+{
+    let listing = text_in(alloc, files, Which::Listing, listing)?;
+    let schedule = text_in(alloc, files, Which::Schedule, schedule)?;
+    Ok(Texts::Files(listing, schedule))
+}
+
+/// The text of a schedule for a shipped listing, in the file of this name.
+fn one_text<F: FileSource>(
+    alloc: Global,
+    files: &F,
+    kind: KindTag,
+    schedule: &str,
+) -> Result<Texts, TextFault>
+    ensures { AreTexts (F.found files.now) (Shipped kind schedule.now) result }
+{
+    let schedule = text_in(alloc, files, Which::Schedule, schedule)?;
+    Ok(Texts::Shipped(kind, schedule))
+}
+
+/// Returns the texts of the files that are named.
+///
+/// # Errors
+///
+/// A file cannot be read, or is too long, that of the listing before that of the schedule; or
+/// there is no memory.
+pub fn read_texts<F: FileSource>(
+    alloc: Global,
+    files: &F,
+    named: &Named<'_>,
+) -> Result<Texts, TextFault>
+    ensures { AreTexts (F.found files.now) (view_named named.now) result }
+{
+    match *named {
+        Named::Files(listing, schedule) => both_texts(alloc, files, listing, schedule),
+        Named::Shipped(kind, schedule) => one_text(alloc, files, kind, schedule),
+    }
+}

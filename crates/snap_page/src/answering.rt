@@ -1,0 +1,55 @@
+//! `answer_to`: what is written for an input that a page in a browser asks about, a task or whether
+//! a run is linearizable.
+ghost use Rattle.std.specs.Prelude.{◌≡◌, Err, Some};
+ghost use Rattle.snap_semantics.specs.declared.fault.Fault.TheVariants.{Refused};
+ghost use Rattle.snap_semantics.specs.declared.refusal.Refusal.{Refusal};
+ghost use Rattle.snap_page.specs.Answer.{AnswersAsked, found_at_once, judge_request};
+ghost use Rattle.snap_page.specs.declared.asked.Asked.TheVariants.{Judge};
+
+use crate::asked::Asked;
+use snap_judge_task::{JudgeFault, judge_input};
+use snap_output::output_alone;
+use snap_semantics::{Fault, Refusal};
+use snap_tasks::{JudgeRequest, JudgeSource, Subject};
+use std::alloc::Global;
+
+/// How many configurations a search for an order meets at most: a page waits some seconds for so
+/// many, where the program itself allows ten times as many.
+const PAGE_CONFIGURATIONS: u64 = 100_000;
+
+/// What is judged: the run of this listing.
+fn judge_request(subject: Subject) -> JudgeRequest
+    ensures { result ≡ judge_request subject }
+{
+    JudgeRequest {
+        source: JudgeSource::Run(subject),
+        most: PAGE_CONFIGURATIONS,
+    }
+}
+
+/// What is written of the run that an input asks for, or why it asks for none.
+#[tactic(auto, using(crate::proofs::Judging::of_run))]
+fn judged_run(alloc: Global, subject: Subject, input: &[u8]) -> Result<Vec<u8>, Fault<Refusal>>
+    ensures output { AnswersAsked (Judge subject) input.now result }
+    ensures at_once { (r : Refusal) → found_at_once (Judge subject) input.now ≡ Some r →
+        result ≡ Err (Refused r) }
+{
+    match judge_input(alloc, &judge_request(subject), input) {
+        Ok(output) => Ok(output.text),
+        Err(JudgeFault::Memory) => Err(Fault::Memory),
+        Err(JudgeFault::Refused(refusal)) => Err(Fault::Refused(refusal)),
+        Err(JudgeFault::History(_)) => unreachable!(),
+    }
+}
+
+/// The whole output for an input, or why there is none.
+pub fn answer_to(alloc: Global, asked: &Asked, input: &[u8]) -> Result<Vec<u8>, Fault<Refusal>>
+    ensures output { AnswersAsked asked.now input.now result }
+    ensures at_once { (r : Refusal) → found_at_once asked.now input.now ≡ Some r →
+        result ≡ Err (Refused r) }
+{
+    match asked {
+        Asked::Do(task) => output_alone(alloc, task, input),
+        Asked::Judge(subject) => judged_run(alloc, *subject, input),
+    }
+}

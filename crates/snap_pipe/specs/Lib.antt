@@ -1,0 +1,2 @@
+-- The definitions of snap_pipe, by their modules.
+pub mod Status

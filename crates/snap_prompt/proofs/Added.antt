@@ -1,0 +1,52 @@
+-- What the prompt has added is said: what a line asks for, where no question was asked.
+use Rattle.std.proofs.Common.{◌≡◌, ◌+◌, ◌-◌, ◌^◌, ◌++◌, ◌∙◌, ℕ, min, List, Option, None, Result, Ok, Err, OnOk, refl, sym}
+use Rattle.std.proofs.Common.{ap, subst}
+use Rattle.snap_semantics.specs.declared.refusal.CommandRefusal.{CommandRefusal}
+use Rattle.snap_sched_edits.specs.declared.addition.Addition.{Addition}
+use Rattle.snap_prompt_lines.specs.Ask.{ask_of}
+use Rattle.snap_prompt_lines.specs.declared.ask.Ask.{Ask}
+use Rattle.snap_prompt.specs.Prompt.{Answer, Prompt, Says, answer_line, answered_to, asked, counted}
+use Rattle.snap_prompt.specs.Said.{IsAdded, IsSaid, Said, text, why}
+
+-- what follows from what holds where a call did not fail
+pub on_ok : {A E : Type 0} {P Q : Type 0} (r : Result A E) → OnOk r P → (P → Q) → OnOk r Q
+on_ok (Ok x) p f = f p
+on_ok (Err e) p f = tt
+
+-- the same as is said
+pub same_added : (s t : Said) (old new : List ℕ) → s ≡ t → IsAdded t old new → IsAdded s old new
+same_added s t old new is adds = subst (λ (y : Said). IsAdded y old new) (sym is) adds
+
+-- something that is said
+pub it_is_said : (s : Said) (old new : List ℕ) → IsAdded s old new → (it : List ℕ) × IsSaid s it × (new ≡ old ++ it)
+it_is_said (text x) old new adds = (x, refl, adds)
+it_is_said (why r t) old new adds = adds
+
+-- so many lines were read
+abbrev pub with_lines : ℕ → Prompt → Prompt
+with_lines n p = record {
+  session = p.session;
+  last = p.last;
+  question = p.question;
+  lines = n;
+  shows = p.shows;
+}
+
+-- what a line asks for, where no question was asked: of a prompt v that is p, with one line more
+asked_now : (p v : Prompt) (line : List ℕ) (n : ℕ) (r : Result Ask CommandRefusal) → v ≡ p →
+    n ≡ min (v.lines + 1) (2 ^ 64 - 1) → v.question ≡ None → ask_of n line ≡ r →
+    answer_line p line ≡ asked (with_lines n v) r
+unfolding answer_line
+asked_now p v line n r is counts none asks =
+    let there : answer_line p line ≡ answer_line v line = ap (λ (x : Prompt). answer_line x line) (sym is) in
+    there ∙ ap (λ (o : Option Addition). answered_to (counted v) o line) none
+    ∙ ap (λ (k : ℕ). asked (with_lines k v) (ask_of k line)) (sym counts)
+    ∙ ap (λ (x : Result Ask CommandRefusal). asked (with_lines n v) x) asks
+
+pub asked_is_said : (p v : Prompt) (line : List ℕ) (n : ℕ) (r : Result Ask CommandRefusal) (old new : List ℕ) → v ≡ p →
+    n ≡ min (v.lines + 1) (2 ^ 64 - 1) → v.question ≡ None → ask_of n line ≡ r →
+    IsAdded (asked (with_lines n v) r).said old new → (it : List ℕ) × Says p line it × (new ≡ old ++ it)
+asked_is_said p v line n r old new is counts none asks adds =
+    it_is_said (answer_line p line).said old new
+    (same_added (answer_line p line).said (asked (with_lines n v) r).said old new
+    (ap (λ (a : Answer Said). a.said) (asked_now p v line n r is counts none asks)) adds)

@@ -1,0 +1,67 @@
+//! The items of a record as a schedule.
+ghost use Rattle.std.specs.Prelude.{◌≡◌, ◌+◌, ◌<◌, ◌≤◌, ◌^◌, ◌++◌, [], ◌∷◌, IfOk, OnOk, length};
+ghost use Rattle.std.specs.Prelude.{take};
+ghost use Rattle.snap_words.specs.Shape.{max_items};
+
+use crate::record::Record;
+use snap_history::History;
+use snap_sched::{Items, Schedule};
+use snap_semantics::Item;
+use snap_words::Kind;
+use std::alloc::{AllocError, Global};
+
+impl<K: Kind> Record<K> {
+    /// Returns its items as a schedule, whose run is the record's.
+    ///
+    /// # Errors
+    ///
+    /// Memory ran out.
+    pub fn schedule(&self) -> Result<Schedule, AllocError>
+        ensures shape { IfOk result (λ s. s.shape ≡ self.now.shape) }
+        ensures items { IfOk result (λ s. s.items ≡ self.now.items) }
+    {
+        let items = items_of(self.allocator(), self.items())?;
+        let shape = self.machine().shape();
+        let _fits = items.segments();
+        let _count = shape.n();
+        Ok(Schedule::new(shape, items))
+    }
+}
+
+/// Returns the items of a history, as a schedule keeps them.
+fn items_of(alloc: Global, history: &History) -> Result<Items, AllocError>
+    requires { length history.now.items ≤ max_items }
+    ensures { IfOk result (λ items. items ≡ history.now.items) }
+{
+    let mut items = Items::new(alloc);
+    for t in 0..history.len() {
+        push_next(&mut items, history, t)?;
+    }
+    Ok(items)
+}
+
+/// Adds the item of a history behind its first `t`.
+fn push_next(items: &mut Items, history: &History, t: u64) -> Result<(), AllocError>
+    requires there { t < length history.now.items }
+    requires few { length history.now.items ≤ max_items }
+    requires first { items.old ≡ take t history.now.items }
+    ensures { OnOk result (items.new ≡ take (t + 1) history.now.items) }
+{
+    let Some(item) = history.item(t + 1) else {
+        unreachable!()
+    };
+    push_item(items, item)?;
+    Ok(())
+}
+
+/// Adds an item.
+fn push_item(items: &mut Items, item: Item) -> Result<(), AllocError>
+    requires { length items.old + 1 < 2 ^ 32 }
+    ensures { OnOk result (items.new ≡ items.old ++ item ∷ []) }
+{
+    match item {
+        Item::Step(process) => items.push_steps(process, 1),
+        Item::Call(process, op) => items.push_call(process, op),
+        Item::Crash(process) => items.push_crash(process),
+    }
+}

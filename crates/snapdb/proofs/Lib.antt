@@ -1,0 +1,3 @@
+-- The proofs of snapdb, by their modules.
+pub mod Said
+pub mod Talked

@@ -1,0 +1,26 @@
+-- `talk_over` of snapdb (src/answers.rt): the proof of what its contract says.
+use Rattle.std.proofs.Common.{inl, inr, ap, sym, ◌∙◌}
+use Rattle.snapdb.specs.Talk.{listing_in}
+use Rattle.snapdb.proofs.Talked.{talked, unlisted}
+use Rattle.snapdb.proofs.answers.talk_over.Goals as goal
+
+pub returns-in-Ok : goal.returns-in-Ok
+returns-in-Ok g c =
+    let told = c.talk_about.ensures in
+    let old = c.args.console.now in
+    let new = c.talk_about.new.console in
+    inr (
+      c.in-Ok.program,
+      c.in-Ok.ensures,
+      talked c.in-Ok.program c.args.schedule.now c.args.shows c.talk_about.result (g.C.Console.left old)
+          (g.C.Console.shown old) (g.C.Console.shown new) (g.C.Console.failure new) told.shown
+          (λ r is.
+          let h = told.refused r is in
+          (h.0, ap (λ x. g.C.Console.shown x) (sym h.1), ap (λ x. g.C.Console.failure x) h.1 ∙ c.requires))
+          told.well told.fails told.shown_part,
+    )
+
+pub returns-in-Err : goal.returns-in-Err
+returns-in-Err g c =
+    rw c.from.ensures
+    (inl (unlisted c.in-Err.fault (listing_in c.args.listing.now) (g.C.Console.shown c.args.console.now) c.in-Err.ensures))

@@ -1,0 +1,27 @@
+-- `talk_over_shipped` of snapdb (src/answers.rt): the proof of what its contract says.
+use Rattle.std.proofs.Common.{inl, inr, ap, refl, subst, sym, ◌∙◌}
+use Rattle.snap_semantics.specs.Source.{Source}
+use Rattle.snapdb.specs.Talk.{Talks}
+use Rattle.snapdb.proofs.Talked.{talked}
+use Rattle.snapdb.proofs.answers.talk_over_shipped.Goals as goal
+
+pub returns-in-Ok : goal.returns-in-Ok
+returns-in-Ok g c =
+    let told = c.talk_about.ensures in
+    let old = c.args.console.now in
+    let new = c.talk_about.new.console in
+    inr
+    (subst
+    (λ (l : Source).
+    Talks l c.args.schedule.now c.args.shows c.talk_about.result (g.C.Console.left old) (g.C.Console.shown old)
+    (g.C.Console.shown new) (g.C.Console.failure new))
+    c.in-Ok.ensures
+    (talked c.in-Ok.program c.args.schedule.now c.args.shows c.talk_about.result (g.C.Console.left old)
+    (g.C.Console.shown old) (g.C.Console.shown new) (g.C.Console.failure new) told.shown
+    (λ r is.
+    let h = told.refused r is in
+    (h.0, ap (λ x. g.C.Console.shown x) (sym h.1), ap (λ x. g.C.Console.failure x) h.1 ∙ c.requires))
+    told.well told.fails told.shown_part))
+
+pub returns-in-Err : goal.returns-in-Err
+returns-in-Err g c = inl (inr (refl, refl))

@@ -1,0 +1,72 @@
+//! `CommandLine`: what the arguments of snapdb come to, a session that is asked for or a text such
+//! as the help.
+ghost use Rattle.std.specs.Prelude.{◌≡◌, IfOk};
+ghost use Rattle.snapdb_command_line.specs.Sessions.{IsMatched, explained_if};
+
+use crate::arguments::{Session, session_of};
+use clap::Error;
+use clap::error::ErrorKind;
+use std::alloc::{AllocError, Global};
+
+/// What the arguments of a command line come to.
+#[derive(Drop)]
+pub enum CommandLine<'a> {
+    /// They ask for this session.
+    Asks(Session<'a>),
+    /// They ask for help, or for the version: its text.
+    Help(String),
+    /// They ask for nothing that the program does: why, as text.
+    Wrong(String),
+    /// They are no text.
+    NoText,
+}
+
+impl<'a> CommandLine<'a> {
+    /// The same, where a refusal is explained in any case if `explains`.
+    pub fn explained_if(self, explains: bool) -> CommandLine<'a>
+        ensures { result ≡ explained_if explains self.entry }
+    {
+        match self {
+            CommandLine::Asks(asked) => CommandLine::Asks(Session {
+                named: asked.named,
+                explains: asked.explains || explains,
+            }),
+            other => other,
+        }
+    }
+}
+
+/// What is said where the arguments ask for no session.
+fn explained<'a>(alloc: Global, error: &Error) -> Result<CommandLine<'a>, AllocError>
+    ensures { IfOk result IsMatched }
+{
+    if error.kind() == ErrorKind::OutOfMemory {
+        return Err(AllocError);
+    }
+    let Ok(text) = format!(in alloc; "{error}") else {
+        return Err(AllocError);
+    };
+    if error.use_stderr() {
+        Ok(CommandLine::Wrong(text))
+    } else {
+        Ok(CommandLine::Help(text))
+    }
+}
+
+/// Returns what arguments come to, the program's own name first. The session that they ask for is
+/// the one that `clap` has found in them; that it finds what stands there is its own promise.
+///
+/// # Errors
+///
+/// Memory ran out.
+pub fn read_arguments<'a>(
+    alloc: Global,
+    arguments: &'a [String],
+) -> Result<CommandLine<'a>, AllocError>
+    ensures { IfOk result IsMatched }
+{
+    match session_of(alloc, arguments) {
+        Ok(session) => Ok(CommandLine::Asks(session)),
+        Err(error) => explained(alloc, &error),
+    }
+}

@@ -1,0 +1,17 @@
+-- `hunt` of snaphunt (src/answers.rt): the proof of what its contract says.
+use Rattle.std.proofs.Common.{Err, []}
+use Rattle.snaphunt_command_line.specs.Search.{view_listed}
+use Rattle.snaphunt.proofs.Searches.{no_text}
+use Rattle.snaphunt.proofs.answers.hunt.Goals as goal
+
+pub returns-in-Err : goal.returns-in-Err
+returns-in-Err g c =
+    let asked = c.args.asked.now in
+    let sink = c.args.sink.now in (
+      Err c.in-Err.fault,
+      [],
+      c.finish-in-Err.ensures.status,
+      no_text (g.F.FileSource.found c.args.files.now) (view_listed asked.listed) asked.asked c.in-Err.fault []
+          (g.S.ByteSink.taken sink) (g.S.ByteSink.has_failed sink) (g.S.ByteSink.is_stalled sink) c.in-Err.ensures,
+      c.finish-in-Err.ensures.says,
+    )

@@ -9,7 +9,7 @@ _snapdraw() {
     fi
     case $before,$word in
         --shipped,*) offered="seq bit multi" ;;
-        *,-*) offered="--shipped --from --to --reads -h --help -V --version" ;;
+        *,-*) offered="--shipped --from --to --reads --explain -h --help -V --version" ;;
     esac
     mapfile -t COMPREPLY < <(compgen -W "$offered" -- "$word")
 }

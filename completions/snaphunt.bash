@@ -16,7 +16,7 @@ _snaphunt() {
             ;;
         *,-*)
             offered="--shipped --fails --steps --collects --runs --seed --processes --words --pace --depth --turns --crash --repeat"
-            offered="$offered -h --help -V --version"
+            offered="$offered --explain -h --help -V --version"
             ;;
     esac
     mapfile -t COMPREPLY < <(compgen -P "$front" -W "$offered" -- "${word#"$front"}")

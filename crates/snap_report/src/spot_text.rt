@@ -1,15 +1,15 @@
 //! The printed texts of a `Spot`, where an item writes: of a register, and of a local.
-ghost use Rattle.std.specs.Prelude.{◌≡◌, ◌++◌, OnOk};
+ghost use Rattle.std.specs.Prelude.{◌≡◌, ◌++◌, OnOk, Some, map, slice_get};
 ghost use Rattle.snap_words.specs.Shape.{IsOneOf};
 ghost use Rattle.snap_semantics.specs.State.{process_at};
 ghost use Rattle.snap_semantics.specs.declared.text.Sort.TheVariants.{Words};
-ghost use Rattle.snap_machine.specs.SeenContents.{local_at};
-ghost use Rattle.snap_report.specs.SpotLines.{named_lines, place_line, spot_local, spot_shared};
+ghost use Rattle.snap_machine.specs.SeenContents.{local_at, seen_named};
+ghost use Rattle.snap_report.specs.SpotLines.{named_lines, place_line, spot_local, spot_shared, word_there};
 
 use crate::process_text::{local_lines, word_local};
 use crate::register_text::{register_line, values_line};
-use snap_machine::{Local, Machine, Sort, Spot};
-use snap_words::{Bank, Kind};
+use snap_machine::{Local, Machine, Name, Sort, Spot};
+use snap_words::{Bank, Kind, KindTag};
 use std::alloc::AllocError;
 
 /// The line of the register that a spot is, behind the values where it is a word.
@@ -53,8 +53,42 @@ fn named_lines<K: Kind>(
     }
 }
 
-/// The line of a place of a `words` local, where there is one. Places are counted from 0.
+/// The line of a place of words, where there is one. Places are counted from 0.
+fn word_there<K: Kind>(
+    out: &mut Vec<u8>,
+    kind: KindTag,
+    name: &Name,
+    words: &[K::Word],
+    place: usize,
+) -> Result<(), AllocError>
+    ensures { OnOk result (out.new.items ≡ out.old.items
+        ++ word_there kind name.now place (slice_get (map K.as_word words.now) place)) }
+{
+    match words.get(place) {
+        Some(word) => word_local::<K>(out, kind, name, place as u64 + 1, word),
+        None => Ok(()),
+    }
+}
+
+/// The line of a place of a local, where it has words and such a place.
 fn place_line<K: Kind>(
+    out: &mut Vec<u8>,
+    kind: KindTag,
+    local: (Name, Local<'_, K>),
+    place: usize,
+) -> Result<(), AllocError>
+    ensures { OnOk result (out.new.items ≡ out.old.items
+        ++ place_line kind place (Some (seen_named K.as_word local.entry))) }
+{
+    let (name, value) = local;
+    match value {
+        Local::Words(words) => word_there::<K>(out, kind, &name, words, place),
+        _ => Ok(()),
+    }
+}
+
+/// The line of a place of `words` local `k`, where there is one.
+fn place_lines<K: Kind>(
     out: &mut Vec<u8>,
     machine: &Machine<K>,
     i: u32,
@@ -67,11 +101,8 @@ fn place_line<K: Kind>(
 {
     let kind = machine.program().kind();
     match machine.local_at(i, Sort::Words, k) {
-        Some((name, Local::Words(words))) => match words.get(place) {
-            Some(word) => word_local::<K>(out, kind, &name, place as u64 + 1, word),
-            None => Ok(()),
-        },
-        _ => Ok(()),
+        Some(local) => place_line(out, kind, local, place),
+        None => Ok(()),
     }
 }
 
@@ -88,7 +119,7 @@ pub fn spot_local<K: Kind>(
 {
     match spot {
         Spot::Local(sort, k) => named_lines(out, machine, i, sort, k),
-        Spot::WordsPlace(k, place) => place_line(out, machine, i, k, place),
+        Spot::WordsPlace(k, place) => place_lines(out, machine, i, k, place),
         _ => Ok(()),
     }
 }

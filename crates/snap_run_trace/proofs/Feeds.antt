@@ -50,7 +50,7 @@ pub decimal_plain : (n : ℕ) → feeds (decimal n) ≡ 0
 unfolding digits
 decimal_plain n = digits_plain 64 n []
 
-numbers_plain : (xs : List ℕ) → feeds (numbers_text xs) ≡ 0
+pub numbers_plain : (xs : List ℕ) → feeds (numbers_text xs) ≡ 0
 numbers_plain [] = refl
 numbers_plain (x ∷ xs) =
     feeds_append (decimal x) (numbers_text xs)
@@ -70,7 +70,7 @@ cause_plain cause.Nested = refl
 cause_plain cause.BadEnd = refl
 cause_plain cause.OffEnd = refl
 
-op_plain : (o : Op) → feeds (op_text o) ≡ 0
+pub op_plain : (o : Op) → feeds (op_text o) ≡ 0
 op_plain op.Scan = refl
 op_plain (op.Update word value) = simp (feeds_append, decimal_plain)
 

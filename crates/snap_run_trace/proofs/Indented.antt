@@ -46,7 +46,7 @@ both_indented a b h k = record {
 }
 
 -- a text without a line feed, and one behind it
-one_line : (a : List ℕ) → feeds a ≡ 0 → lines_of (a ++ codes "\n") ≡ a ∷ []
+pub one_line : (a : List ℕ) → feeds a ≡ 0 → lines_of (a ++ codes "\n") ≡ a ∷ []
 one_line [] e = refl
 one_line (b ∷ a) e = by_case (nat_eq b 10) e (one_line a)
   where
@@ -56,7 +56,7 @@ one_line (b ∷ a) e = by_case (nat_eq b 10) e (one_line a)
     by_case true e rest = absurd (omega (arith, e))
     by_case false e rest = ap (onto_line b) (rest e)
 
-plain_before : (a : List ℕ) → feeds (a ++ codes "\n") ≡ 1 → feeds a ≡ 0
+pub plain_before : (a : List ℕ) → feeds (a ++ codes "\n") ≡ 1 → feeds a ≡ 0
 plain_before a e = let f = feeds_append a (codes "\n") in omega (arith, e, f)
 
 line_indented : (a : List ℕ) → feeds ((32 ∷ a) ++ codes "\n") ≡ 1 → IsIndented ((32 ∷ a) ++ codes "\n")
@@ -86,11 +86,11 @@ words_indented g x p (v ∷ vs) h =
     (words_indented g x (p + 1) vs h)
 
 -- of whom lines speak that are indented, behind these
-abbrev owner_after : List ℕ → List (List ℕ) → List ℕ
+abbrev pub owner_after : List ℕ → List (List ℕ) → List ℕ
 owner_after owner [] = owner
 owner_after owner (x ∷ xs) = owner_after (next_owner owner x) xs
 
-owned_apart : (owner : List ℕ) (xs ys : List (List ℕ)) →
+pub owned_apart : (owner : List ℕ) (xs ys : List (List ℕ)) →
     owned_text owner (xs ++ ys) ≡ owned_text owner xs ++ owned_text (owner_after owner xs) ys
 owned_apart owner [] ys = refl
 owned_apart owner (x ∷ xs) ys =
@@ -133,16 +133,16 @@ word_short (b ∷ xs) = by_case (b == 32) (word_short xs)
     by_case true h = omega arith
     by_case false h = omega (arith, h)
 
-take_front : (n : ℕ) (xs ys : List ℕ) → n ≤ length xs → take n (xs ++ ys) ≡ take n xs
+pub take_front : (n : ℕ) (xs ys : List ℕ) → n ≤ length xs → take n (xs ++ ys) ≡ take n xs
 take_front zero xs ys h = refl
 take_front (suc n) [] ys h = absurd (omega (arith, h))
 take_front (suc n) (x ∷ xs) ys h = ap (λ (t : List ℕ). x ∷ t) (take_front n xs ys (omega (arith, h)))
 
 -- `process I `
-abbrev front_of : ℕ → List ℕ
+abbrev pub front_of : ℕ → List ℕ
 front_of i = codes "process " ++ decimal i ++ codes " "
 
-abbrev owner_of : ℕ → List ℕ
+abbrev pub owner_of : ℕ → List ℕ
 owner_of i = take (8 + word_len (decimal i ++ codes " ")) (front_of i)
 
 owner_plain : (i : ℕ) → IsPlain (owner_of i)
@@ -152,9 +152,9 @@ owner_plain i = taken_plain (8 + word_len (decimal i ++ codes " ")) (front_of i)
     plain = simp (feeds_append, decimal_plain)
 
 -- of whom the lines below the first line of a process speak
-head_owner : (i : ℕ) (s : Status) → owner_after [] (lines_of (head_line i s)) ≡ owner_of i
-head_owner i s =
-    ap (owner_after []) (one_line (front_of i ++ status_text s) (plain_before (front_of i ++ status_text s)
+pub head_owner : (owner : List ℕ) (i : ℕ) (s : Status) → owner_after owner (lines_of (head_line i s)) ≡ owner_of i
+head_owner owner i s =
+    ap (owner_after owner) (one_line (front_of i ++ status_text s) (plain_before (front_of i ++ status_text s)
     (head_feeds i s)))
     ∙ ap (λ n. take (8 + n) (front_of i ++ status_text s)) (word_alone (decimal i) (status_text s))
     ∙ take_front (8 + word_len (decimal i ++ codes " ")) (front_of i) (status_text s) short
@@ -166,7 +166,7 @@ head_owner i s =
         let c = word_short (decimal i) in
         omega (arith, a, b, c)
 
-head_whole : (i : ℕ) (s : Status) → IsWhole (head_line i s)
+pub head_whole : (i : ℕ) (s : Status) → IsWhole (head_line i s)
 head_whole i s = (before (front_of i ++ status_text s) (codes "\n") new_line).whole
 
 head_told : (i : ℕ) (s : Status) (t : List ℕ) →
@@ -174,7 +174,7 @@ head_told : (i : ℕ) (s : Status) (t : List ℕ) →
 head_told i s t =
     ap (λ ls. lines_of (owned_text [] ls)) ((head_whole i s).apart t)
     ∙ ap lines_of (owned_apart [] (lines_of (head_line i s)) (lines_of t)
-    ∙ ap (λ o. owned_text [] (lines_of (head_line i s)) ++ owned_text o (lines_of t)) (head_owner i s))
+    ∙ ap (λ o. owned_text [] (lines_of (head_line i s)) ++ owned_text o (lines_of t)) (head_owner [] i s))
     ∙ (owned_whole [] (lines_of (head_line i s))).apart (owned_text (owner_of i) (lines_of t))
 
 heads_apart : (i : ℕ) (s s' : Status) (t t' : List ℕ) → between (head_line i s ++ t) (head_line i s' ++ t')

@@ -11,6 +11,7 @@ pub mod Indented
 pub mod Named
 pub mod Locals
 pub mod Registers
+pub mod Own
 pub mod Touched
 pub mod Items
 pub mod Walks

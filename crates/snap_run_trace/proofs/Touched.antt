@@ -16,12 +16,15 @@ use Rattle.snap_semantics.specs.Report.{register_lines, status_text, values_line
 use Rattle.snap_semantics.specs.Source.{Source}
 use Rattle.snap_semantics.specs.State.{Locals, Memory, Process, State, nobody, process_at, values}
 use Rattle.snap_semantics.specs.Table.{done, who}
+use Rattle.snap_semantics.specs.Token.{lines_of}
+use Rattle.snap_text.specs.Changes.{text_between}
 use Rattle.snap_undo.specs.Spot.{spot_of}
+use Rattle.snap_undo.specs.declared.undo.Spot.{Spot}
 use Rattle.snap_undo.specs.Undo.{CanPut, FitsPlace, Overwritten, Place, Nowhere, WordRegister, BitRegister}
 use Rattle.snap_undo.specs.Undo.{ViewRegister, Scalar, Number, Row, LocalWord, LocalView, put, put_local, put_register}
 use Rattle.snap_machine.specs.Configuration.{HasLocals}
 use Rattle.snap_report.specs.SpotLines.{spot_local, spot_shared}
-use Rattle.snap_run_trace.specs.Between.{between, process_text}
+use Rattle.snap_run_trace.specs.Between.{between, owned, process_text}
 use Rattle.snap_run_trace.specs.Touched.{touched_text}
 use Rattle.snap_run_trace.proofs.Wholes.{IsWhole, feeds, feeds_append, joined, no_text}
 use Rattle.snap_run_trace.proofs.Feeds.{head_feeds, values_feeds}
@@ -33,6 +36,13 @@ use Rattle.snap_run_trace.proofs.Named.{IsSorted, sorted, sorted_before}
 use Rattle.snap_run_trace.proofs.Differs.{Differs}
 use Rattle.snap_run_trace.proofs.Locals.{local_differs}
 use Rattle.snap_run_trace.proofs.Registers.{register_differs, registers_part}
+use Rattle.snap_run_trace.proofs.Own.{told}
+
+-- the lines that an item can change, as they stand in a report
+abbrev reported_text : KindTag → ℕ → Spot → State → List Event → List ℕ
+reported_text g i spot S es =
+    spot_shared g S spot ++ head_line i (process_at S i).status ++ spot_local g (process_at S i).locals spot
+    ++ event_lines es
 
 -- what changed of a text around a part that differs
 around : (a a' m m' : List ℕ) → Differs IsPart a a' m m' → between a a' ≡ between m m'
@@ -172,7 +182,7 @@ module _ (s : Source) (i : ℕ) (S S' : State) (p : Place) (move : IsMove s.kind
       mine.alike.same
 
   shortened : (new : List Event) → between (process_text g i S []) (process_text g i S' new)
-      ≡ between (touched_text g i (spot_of p) S []) (touched_text g i (spot_of p) S' new)
+      ≡ between (reported_text g i (spot_of p) S []) (reported_text g i (spot_of p) S' new)
   shortened new =
       let a = spot_shared g S (spot_of p) in
       let a' = spot_shared g S' (spot_of p) in
@@ -186,7 +196,7 @@ module _ (s : Source) (i : ℕ) (S S' : State) (p : Place) (move : IsMove s.kind
       (events_part new) short.count (mine_feeds i old.status now.status m m' mine.alike.same))
       ∙ ap (λ t. between (t ++ []) ((a' ++ (head_line i now.status ++ m')) ++ event_lines new))
       (sym (append_assoc a (head_line i old.status) m))
-      ∙ ap (λ t. between (touched_text g i (spot_of p) S []) (t ++ event_lines new))
+      ∙ ap (λ t. between (reported_text g i (spot_of p) S []) (t ++ event_lines new))
       (sym (append_assoc a' (head_line i now.status) m'))
 
 -- what an item changed, told by what it overwrote
@@ -194,10 +204,14 @@ pub touched : (s : Source) (n : Counts) (S : State) (x : Item) (u : Overwritten)
     who x - 1 < length S.processes → HasLocals s (process_at S (who x)).locals → u.process ≡ who x → CanPut s n u →
     put s u (done s n S x).0 ≡ S →
     between (process_text s.kind (who x) S []) (process_text s.kind (who x) (done s n S x).0 new)
-    ≡ between (touched_text s.kind (who x) (spot_of u.place) S [])
-    (touched_text s.kind (who x) (spot_of u.place) (done s n S x).0 new)
+    ≡ text_between (lines_of (touched_text s.kind (who x) (spot_of u.place) S []))
+    (lines_of (touched_text s.kind (who x) (spot_of u.place) (done s n S x).0 new))
 touched s n S x u new rules there locals is fits back =
     shortened s i S S' u.place move short mine count new
+    ∙ ap (λ t. text_between (lines_of t) (lines_of (owned (reported_text s.kind i (spot_of u.place) S' new))))
+    (told s i S u.place [] stands)
+    ∙ ap (λ t. text_between (lines_of (touched_text s.kind i (spot_of u.place) S [])) (lines_of t))
+    (told s i S' u.place new stands')
   where
     i : ℕ
     i = who x
@@ -233,6 +247,12 @@ touched s n S x u new rules there locals is fits back =
         (spot_shared s.kind T (spot_of u.place)) (spot_shared s.kind S' (spot_of u.place)))
         (sym memory_is) (shared_short s.kind s n S'.memory S.processes S'.processes u.place fits.1)
 
+    stands : IsSorted s (process_at S i).locals
+    stands = sorted s (process_at S i).locals rules locals
+
+    stands' : IsSorted s (process_at S' i).locals
+    stands' = sorted_before s u.place (process_at S' i).locals (subst (IsSorted s) locals_are stands)
+
     mine : Differs IsIndented
         (locals_text s.kind (process_at S i).locals) (locals_text s.kind (process_at S' i).locals)
         (spot_local s.kind (process_at S i).locals (spot_of u.place))
@@ -241,9 +261,7 @@ touched s n S x u new rules there locals is fits back =
         subst (λ (l : Locals). Differs IsIndented
         (locals_text s.kind l) (locals_text s.kind (process_at S' i).locals)
         (spot_local s.kind l (spot_of u.place)) (spot_local s.kind (process_at S' i).locals (spot_of u.place)))
-        (sym locals_are) (local_differs s.kind s (process_at S' i).locals
-        (sorted_before s u.place (process_at S' i).locals
-        (subst (IsSorted s) locals_are (sorted s (process_at S i).locals rules locals))) u.place)
+        (sym locals_are) (local_differs s.kind s (process_at S' i).locals stands' u.place)
 
     now : process_at S' i ≡ move.process
     now =

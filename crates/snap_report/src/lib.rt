@@ -8,7 +8,7 @@ mod printed;
 mod process_text;
 mod register_text;
 mod reports;
-mod spot_text;
+mod written_text;
 mod word_text;
 
 pub use event_text::{event_line, event_lines, op_text};
@@ -17,4 +17,4 @@ pub use printed::Report;
 pub use process_text::{head_line, process_lines};
 pub use register_text::{register_line, register_lines, values_line};
 pub use reports::{position_line, report};
-pub use spot_text::{spot_local, spot_shared};
+pub use written_text::{written_local, written_shared};

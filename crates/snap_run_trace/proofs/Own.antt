@@ -26,11 +26,11 @@ use Rattle.snap_semantics.specs.Source.{Name, Source}
 use Rattle.snap_semantics.specs.State.{Locals, NameMap, State, process_at, values}
 use Rattle.snap_semantics.specs.Token.{lines_of}
 use Rattle.snap_text.specs.Owned.{owned_text, word_len}
-use Rattle.snap_undo.specs.Spot.{spot_of}
+use Rattle.snap_undo.specs.WritePlace.{write_place_of}
 use Rattle.snap_undo.specs.Undo.{Place, Nowhere, WordRegister, BitRegister, ViewRegister, Scalar, Number, Row}
 use Rattle.snap_undo.specs.Undo.{LocalWord, LocalView}
 use Rattle.snap_report.specs.ReportLines.{register_line}
-use Rattle.snap_report.specs.SpotLines.{named_lines, place_line, spot_local, spot_shared, word_there}
+use Rattle.snap_report.specs.WrittenLines.{named_lines, place_line, written_local, written_shared, word_there}
 use Rattle.snap_run_trace.specs.Between.{owned}
 use Rattle.snap_run_trace.specs.Touched.{of_process, touched_text}
 use Rattle.snap_run_trace.proofs.Wholes.{IsWhole, before, feeds, feeds_append, joined, new_line, no_text}
@@ -87,19 +87,19 @@ register_own g bank.Q i j (Some (BitContents x)) = line_own 113 (bit_tail i j x)
 register_own g bank.P i j (Some (BitContents x)) = line_own 112 (bit_tail i j x) refl (bit_feeds (codes "p") i j x refl)
 register_own g bank.V i j (Some (BitContents x)) = line_own 118 (bit_tail i j x) refl (bit_feeds (codes "v") i j x refl)
 
-spot_own : (g : KindTag) (S : State) (p : Place) → IsOwn (spot_shared g S (spot_of p))
-spot_own g S Nowhere = none_own
-spot_own g S (WordRegister k x) =
+written_own : (g : KindTag) (S : State) (p : Place) → IsOwn (written_shared g S (write_place_of p))
+written_own g S Nowhere = none_own
+written_own g S (WordRegister k x) =
     both_own (values_line (values S)) (register_line g bank.R k 0 (contents S.memory bank.R k 0))
     (values_own (values S)) (register_own g bank.R k 0 (contents S.memory bank.R k 0))
-spot_own g S (BitRegister bits.Q i j x) = register_own g bank.Q i j (contents S.memory bank.Q i j)
-spot_own g S (BitRegister bits.P i j x) = register_own g bank.P i j (contents S.memory bank.P i j)
-spot_own g S (ViewRegister i v) = register_own g bank.V i 0 (contents S.memory bank.V i 0)
-spot_own g S (Scalar k v) = none_own
-spot_own g S (Number k p v) = none_own
-spot_own g S (Row k r) = none_own
-spot_own g S (LocalWord k p x) = none_own
-spot_own g S (LocalView k v) = none_own
+written_own g S (BitRegister bits.Q i j x) = register_own g bank.Q i j (contents S.memory bank.Q i j)
+written_own g S (BitRegister bits.P i j x) = register_own g bank.P i j (contents S.memory bank.P i j)
+written_own g S (ViewRegister i v) = register_own g bank.V i 0 (contents S.memory bank.V i 0)
+written_own g S (Scalar k v) = none_own
+written_own g S (Number k p v) = none_own
+written_own g S (Row k r) = none_own
+written_own g S (LocalWord k p x) = none_own
+written_own g S (LocalView k v) = none_own
 
 head_own : (i : ℕ) (s : Status) → IsOwn (head_line i s)
 head_own i s = line_own 112 (codes "rocess " ++ decimal i ++ codes " " ++ status_text s) refl (head_feeds i s)
@@ -224,7 +224,7 @@ module _ (i : ℕ) (g : KindTag) where
   word_told p None h = refl
   word_told p (Some e) h = there_told e.0 p (slice_get e.1 p) h
 
-  local_told : (s : Source) (l : Locals) (p : Place) → IsSorted s l → IsTold i (spot_local g l (spot_of p))
+  local_told : (s : Source) (l : Locals) (p : Place) → IsSorted s l → IsTold i (written_local g l (write_place_of p))
   local_told s l Nowhere h = refl
   local_told s l (WordRegister k x) h = refl
   local_told s l (BitRegister b r c x) h = refl
@@ -275,11 +275,11 @@ in_order i s a m e ha hm told he =
 
 -- the lines that an item can change, as they stand in a report, and with their owners
 pub told : (s : Source) (i : ℕ) (S : State) (p : Place) (es : List Event) → IsSorted s (process_at S i).locals →
-    owned (((spot_shared s.kind S (spot_of p) ++ head_line i (process_at S i).status)
-    ++ spot_local s.kind (process_at S i).locals (spot_of p)) ++ event_lines es)
-    ≡ touched_text s.kind i (spot_of p) S es
+    owned (((written_shared s.kind S (write_place_of p) ++ head_line i (process_at S i).status)
+    ++ written_local s.kind (process_at S i).locals (write_place_of p)) ++ event_lines es)
+    ≡ touched_text s.kind i (write_place_of p) S es
 told s i S p es h =
-    in_order i (process_at S i).status (spot_shared s.kind S (spot_of p))
-    (spot_local s.kind (process_at S i).locals (spot_of p)) (event_lines es) (spot_own s.kind S p)
+    in_order i (process_at S i).status (written_shared s.kind S (write_place_of p))
+    (written_local s.kind (process_at S i).locals (write_place_of p)) (event_lines es) (written_own s.kind S p)
     (local_differs s.kind s (process_at S i).locals h p).alike.mine'.whole
     (local_told i s.kind s (process_at S i).locals p h) (events_own es)

@@ -18,12 +18,12 @@ use Rattle.snap_semantics.specs.State.{Locals, Memory, Process, State, nobody, p
 use Rattle.snap_semantics.specs.Table.{done, who}
 use Rattle.snap_semantics.specs.Token.{lines_of}
 use Rattle.snap_text.specs.Changes.{text_between}
-use Rattle.snap_undo.specs.Spot.{spot_of}
-use Rattle.snap_undo.specs.declared.undo.Spot.{Spot}
+use Rattle.snap_undo.specs.WritePlace.{write_place_of}
+use Rattle.snap_undo.specs.declared.undo.WritePlace.{WritePlace}
 use Rattle.snap_undo.specs.Undo.{CanPut, FitsPlace, Overwritten, Place, Nowhere, WordRegister, BitRegister}
 use Rattle.snap_undo.specs.Undo.{ViewRegister, Scalar, Number, Row, LocalWord, LocalView, put, put_local, put_register}
 use Rattle.snap_machine.specs.Configuration.{HasLocals}
-use Rattle.snap_report.specs.SpotLines.{spot_local, spot_shared}
+use Rattle.snap_report.specs.WrittenLines.{written_local, written_shared}
 use Rattle.snap_run_trace.specs.Between.{between, owned, process_text}
 use Rattle.snap_run_trace.specs.Touched.{touched_text}
 use Rattle.snap_run_trace.proofs.Wholes.{IsWhole, feeds, feeds_append, joined, no_text}
@@ -39,9 +39,9 @@ use Rattle.snap_run_trace.proofs.Registers.{register_differs, registers_part}
 use Rattle.snap_run_trace.proofs.Own.{told}
 
 -- the lines that an item can change, as they stand in a report
-abbrev reported_text : KindTag → ℕ → Spot → State → List Event → List ℕ
-reported_text g i spot S es =
-    spot_shared g S spot ++ head_line i (process_at S i).status ++ spot_local g (process_at S i).locals spot
+abbrev reported_text : KindTag → ℕ → WritePlace → State → List Event → List ℕ
+reported_text g i written S es =
+    written_shared g S written ++ head_line i (process_at S i).status ++ written_local g (process_at S i).locals written
     ++ event_lines es
 
 -- what changed of a text around a part that differs
@@ -98,7 +98,7 @@ values_whole xs = ended (codes "values" ++ numbers_text xs)
 shared_short : (g : KindTag) (s : Source) (n : Counts) (m : Memory) (ps ps' : List Process) (u : Place) →
     FitsPlace s n u → let S : State = record { memory = put_register u m; processes = ps } in
     let S' : State = record { memory = m; processes = ps' } in
-    IsShort (shared g S) (shared g S') (spot_shared g S (spot_of u)) (spot_shared g S' (spot_of u))
+    IsShort (shared g S) (shared g S') (written_shared g S (write_place_of u)) (written_shared g S' (write_place_of u))
 shared_short g s n m ps ps' Nowhere h = no_change (shared g (record { memory = m; processes = ps }))
 shared_short g s n m ps ps' (WordRegister k x) h =
     let old = put_register (WordRegister k x) m in
@@ -153,9 +153,9 @@ mine_feeds i t t' m m' e =
 
 module _ (s : Source) (i : ℕ) (S S' : State) (p : Place) (move : IsMove s.kind i S S')
     (short : IsShort (shared s.kind S) (shared s.kind S')
-    (spot_shared s.kind S (spot_of p)) (spot_shared s.kind S' (spot_of p)))
+    (written_shared s.kind S (write_place_of p)) (written_shared s.kind S' (write_place_of p)))
     (mine : Differs IsIndented (locals_text s.kind (process_at S i).locals) (locals_text s.kind (process_at S' i).locals)
-    (spot_local s.kind (process_at S i).locals (spot_of p)) (spot_local s.kind (process_at S' i).locals (spot_of p)))
+    (written_local s.kind (process_at S i).locals (write_place_of p)) (written_local s.kind (process_at S' i).locals (write_place_of p)))
     (count : feeds (process_lines s.kind i (process_at S i)) ≡ feeds (process_lines s.kind i (process_at S' i))) where
   abbrev g : KindTag
   g = s.kind
@@ -167,10 +167,10 @@ module _ (s : Source) (i : ℕ) (S S' : State) (p : Place) (move : IsMove s.kind
   now = process_at S' i
 
   abbrev m : List ℕ
-  m = spot_local g old.locals (spot_of p)
+  m = written_local g old.locals (write_place_of p)
 
   abbrev m' : List ℕ
-  m' = spot_local g now.locals (spot_of p)
+  m' = written_local g now.locals (write_place_of p)
 
   process_short : between (process_lines g i old) (process_lines g i now)
       ≡ between (head_line i old.status ++ m) (head_line i now.status ++ m')
@@ -182,10 +182,10 @@ module _ (s : Source) (i : ℕ) (S S' : State) (p : Place) (move : IsMove s.kind
       mine.alike.same
 
   shortened : (new : List Event) → between (process_text g i S []) (process_text g i S' new)
-      ≡ between (reported_text g i (spot_of p) S []) (reported_text g i (spot_of p) S' new)
+      ≡ between (reported_text g i (write_place_of p) S []) (reported_text g i (write_place_of p) S' new)
   shortened new =
-      let a = spot_shared g S (spot_of p) in
-      let a' = spot_shared g S' (spot_of p) in
+      let a = written_shared g S (write_place_of p) in
+      let a' = written_shared g S' (write_place_of p) in
       in_three (shared g S) (shared g S') (process_lines g i old) (process_lines g i now) (event_lines new)
       (shared_whole g S) (shared_whole g S') (process_part g i old) (process_part g i now) (events_part new)
       (shared_feeds g i S S' move) count
@@ -196,7 +196,7 @@ module _ (s : Source) (i : ℕ) (S S' : State) (p : Place) (move : IsMove s.kind
       (events_part new) short.count (mine_feeds i old.status now.status m m' mine.alike.same))
       ∙ ap (λ t. between (t ++ []) ((a' ++ (head_line i now.status ++ m')) ++ event_lines new))
       (sym (append_assoc a (head_line i old.status) m))
-      ∙ ap (λ t. between (reported_text g i (spot_of p) S []) (t ++ event_lines new))
+      ∙ ap (λ t. between (reported_text g i (write_place_of p) S []) (t ++ event_lines new))
       (sym (append_assoc a' (head_line i now.status) m'))
 
 -- what an item changed, told by what it overwrote
@@ -204,13 +204,13 @@ pub touched : (s : Source) (n : Counts) (S : State) (x : Item) (u : Overwritten)
     who x - 1 < length S.processes → HasLocals s (process_at S (who x)).locals → u.process ≡ who x → CanPut s n u →
     put s u (done s n S x).0 ≡ S →
     between (process_text s.kind (who x) S []) (process_text s.kind (who x) (done s n S x).0 new)
-    ≡ text_between (lines_of (touched_text s.kind (who x) (spot_of u.place) S []))
-    (lines_of (touched_text s.kind (who x) (spot_of u.place) (done s n S x).0 new))
+    ≡ text_between (lines_of (touched_text s.kind (who x) (write_place_of u.place) S []))
+    (lines_of (touched_text s.kind (who x) (write_place_of u.place) (done s n S x).0 new))
 touched s n S x u new rules there locals is fits back =
     shortened s i S S' u.place move short mine count new
-    ∙ ap (λ t. text_between (lines_of t) (lines_of (owned (reported_text s.kind i (spot_of u.place) S' new))))
+    ∙ ap (λ t. text_between (lines_of t) (lines_of (owned (reported_text s.kind i (write_place_of u.place) S' new))))
     (told s i S u.place [] stands)
-    ∙ ap (λ t. text_between (lines_of (touched_text s.kind i (spot_of u.place) S [])) (lines_of t))
+    ∙ ap (λ t. text_between (lines_of (touched_text s.kind i (write_place_of u.place) S [])) (lines_of t))
     (told s i S' u.place new stands')
   where
     i : ℕ
@@ -240,11 +240,11 @@ touched s n S x u new rules there locals is fits back =
     memory_is = ap (λ (T : State). T.memory) (sym back)
 
     short : IsShort (shared s.kind S) (shared s.kind S')
-        (spot_shared s.kind S (spot_of u.place)) (spot_shared s.kind S' (spot_of u.place))
+        (written_shared s.kind S (write_place_of u.place)) (written_shared s.kind S' (write_place_of u.place))
     short =
         subst (λ (m : Memory). let T : State = record { memory = m; processes = S.processes } in
         IsShort (shared s.kind T) (shared s.kind S')
-        (spot_shared s.kind T (spot_of u.place)) (spot_shared s.kind S' (spot_of u.place)))
+        (written_shared s.kind T (write_place_of u.place)) (written_shared s.kind S' (write_place_of u.place)))
         (sym memory_is) (shared_short s.kind s n S'.memory S.processes S'.processes u.place fits.1)
 
     stands : IsSorted s (process_at S i).locals
@@ -255,12 +255,12 @@ touched s n S x u new rules there locals is fits back =
 
     mine : Differs IsIndented
         (locals_text s.kind (process_at S i).locals) (locals_text s.kind (process_at S' i).locals)
-        (spot_local s.kind (process_at S i).locals (spot_of u.place))
-        (spot_local s.kind (process_at S' i).locals (spot_of u.place))
+        (written_local s.kind (process_at S i).locals (write_place_of u.place))
+        (written_local s.kind (process_at S' i).locals (write_place_of u.place))
     mine =
         subst (λ (l : Locals). Differs IsIndented
         (locals_text s.kind l) (locals_text s.kind (process_at S' i).locals)
-        (spot_local s.kind l (spot_of u.place)) (spot_local s.kind (process_at S' i).locals (spot_of u.place)))
+        (written_local s.kind l (write_place_of u.place)) (written_local s.kind (process_at S' i).locals (write_place_of u.place)))
         (sym locals_are) (local_differs s.kind s (process_at S' i).locals stands' u.place)
 
     now : process_at S' i ≡ move.process

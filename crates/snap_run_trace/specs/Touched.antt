@@ -4,8 +4,8 @@ use Rattle.snap_words.specs.declared.kind.KindTag.{KindTag}
 use Rattle.snap_semantics.specs.declared.event.Event.{Event}
 use Rattle.snap_semantics.specs.Report.{event_lines, head_line}
 use Rattle.snap_semantics.specs.State.{State, process_at}
-use Rattle.snap_undo.specs.declared.undo.Spot.{Spot}
-use Rattle.snap_report.specs.SpotLines.{spot_local, spot_shared}
+use Rattle.snap_undo.specs.declared.undo.WritePlace.{WritePlace}
+use Rattle.snap_report.specs.WrittenLines.{written_local, written_shared}
 
 -- the line of a local, with its process in place of its first space
 abbrev pub of_process : ℕ → List ℕ → List ℕ
@@ -14,7 +14,7 @@ of_process i (b ∷ bs) = codes "process " ++ decimal i ++ bs
 
 -- The register where an item writes, with the values where it is a word; how its process i stands, and the local that
 -- it writes; and events.
-abbrev pub touched_text : KindTag → ℕ → Spot → State → List Event → List ℕ
-touched_text g i spot S es =
-    spot_shared g S spot ++ head_line i (process_at S i).status
-    ++ of_process i (spot_local g (process_at S i).locals spot) ++ event_lines es
+abbrev pub touched_text : KindTag → ℕ → WritePlace → State → List Event → List ℕ
+touched_text g i written S es =
+    written_shared g S written ++ head_line i (process_at S i).status
+    ++ of_process i (written_local g (process_at S i).locals written) ++ event_lines es

@@ -8,8 +8,8 @@ ghost use Rattle.snap_run_trace.specs.Step.{done_text, head_text, line_run, numb
 ghost use Rattle.snap_run_trace.specs.Touched.{of_process, touched_text};
 
 use snap_listing_printer::LineTexts;
-use snap_machine::{Machine, Spot};
-use snap_report::{event_lines, head_line, outcome_text, spot_local, spot_shared};
+use snap_machine::{Machine, WritePlace};
+use snap_report::{event_lines, head_line, outcome_text, written_local, written_shared};
 use snap_semantics::{Event, Happening, Item, Outcome, Status, who};
 use snap_text::{push_changes, push_number, push_text};
 use snap_words::Kind;
@@ -73,18 +73,18 @@ fn touched_text<K: Kind>(
     local: &mut Vec<u8>,
     machine: &Machine<K>,
     i: u32,
-    spot: Spot,
+    written: WritePlace,
     events: &[Event],
 ) -> Result<(), AllocError>
     requires { IsOneOf machine.now.shape.n i }
-    ensures { OnOk result (text.new.items ≡ touched_text machine.now.source.kind i spot
+    ensures { OnOk result (text.new.items ≡ touched_text machine.now.source.kind i written
         machine.now.state events.now) }
 {
     text.clear();
-    spot_shared(text, machine, spot)?;
+    written_shared(text, machine, written)?;
     head_line(text, machine, i)?;
     local.clear();
-    spot_local(local, machine, i, spot)?;
+    written_local(local, machine, i, written)?;
     push_of_process(text, i, local.as_slice())?;
     event_lines(text, events)
 }
@@ -196,8 +196,8 @@ pub(crate) fn push_item<K: Kind>(
     // As many processes as the shape has, and rules that say that the names of locals are words.
     let _shape = machine.shape();
     let _lines = machine.program().listing().lines();
-    let spot = machine.overwritten(item)?.spot();
-    touched_text(&mut sheet.before, &mut sheet.local, machine, i, spot, &[])?;
+    let written = machine.overwritten(item)?.write_place();
+    touched_text(&mut sheet.before, &mut sheet.local, machine, i, written, &[])?;
     let outcome = machine.apply(item)?;
     push_did(&mut sheet.out, texts, number, i, &outcome, run)?;
     let events = events_of(alloc, number, item, outcome)?;
@@ -206,7 +206,7 @@ pub(crate) fn push_item<K: Kind>(
         &mut sheet.local,
         machine,
         i,
-        spot,
+        written,
         events.as_slice(),
     )?;
     push_changes(

@@ -8,7 +8,7 @@
  * was before that event. With each answer that it calls right in place of the one that was given, an order has to explain
  * the event; and its reasons have to hold (crates/snap_judge_reasons/specs/Reasons.antt) and to be a circle. The search
  * knows nothing of the program: an order is tried operation by operation, straight from the definition
- * (docs/proofs/definitions.md, crates/snap_judge/specs/Linearizable.antt), for each beginning in turn.
+ * (crates/snap_judge/specs/Linearizable.antt), for each beginning in turn.
  *
  * Prints what was counted, and ends with 1 where an answer is wrong, or where a verdict hardly came up.
  */

@@ -532,7 +532,7 @@ static bool read_answers(const char **text, const struct history *history, int c
     unsigned views[MOST_ANSWERS][MOST_WORDS] = {{0}};
     int told = 0, at = 0;
 
-    while (take(text, "right would have been:")) {
+    while (take(text, "right answer:")) {
         struct history other = *history;
         if (told == MOST_ANSWERS || other.events[count - 1].what != ANSWERS)
             return false;
@@ -646,7 +646,7 @@ int main(int argc, char *argv[])
         }
         find_operations(&history, history.count, &operations);
         failing += failure != NULL;
-        answered += strstr(answer, "\nright would have been:") != NULL;
+        answered += strstr(answer, "\nright answer:") != NULL;
         reasoned += strstr(answer, "\nbecause: ") != NULL;
         for (int o = 0; o < operations.count; o++)
             open += operations.all[o].end == 0;

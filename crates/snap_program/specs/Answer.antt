@@ -111,9 +111,9 @@ abbrev pub SaysTerminal : {E : Type 0} → Result CommandLine E → (said said_a
 SaysTerminal (Ok (Asks asked)) said said_after failed stalled = Says terminal_line said said_after failed stalled
 SaysTerminal _ said said_after failed stalled = said ≡ said_after
 
--- What is said of arguments that are no text.
+-- What is said of arguments that are not valid UTF-8.
 abbrev pub no_text_line : List ℕ
-no_text_line = codes "error: the words of the command line are no text\n"
+no_text_line = codes "error: the arguments are not valid UTF-8\n"
 
 -- What the program does about a task: what it takes of its source, what it gives its sink and its device for
 -- messages, and its status. Where an input is refused, it is the one that is explained.

@@ -60,9 +60,9 @@ AnswersSession files session shows status left shown shown_after failure said sa
     × TalksRead read texts shows done left shown shown_after failure
     × SaysWhy session.explains (view_named session.named) texts done said said_after failed stalled
 
--- what is said of arguments that are no text, where there is no memory to read them, and where help cannot be shown
+-- what is said of arguments that are not valid UTF-8, where there is no memory to read them, and where help cannot be shown
 abbrev pub no_text_line : List ℕ
-no_text_line = codes "error: the words of the command line are no text\n"
+no_text_line = codes "error: the arguments are not valid UTF-8\n"
 
 abbrev pub no_memory_line : List ℕ
 no_memory_line = codes "refused: Memory\n"

@@ -89,9 +89,9 @@ AnswersDrawing files style legend d status taken taken_after said said_after w s
     × DrawsRead read texts (options_of d) style legend done taken taken_after w s
     × SaysWhy d.explains (view_named d.named) texts done said said_after failed stalled
 
--- what is said of arguments that are no text, where there is no memory to read them, and where help cannot be written
+-- what is said of arguments that are not valid UTF-8, where there is no memory to read them, and where help cannot be written
 abbrev pub no_text_line : List ℕ
-no_text_line = codes "error: the words of the command line are no text\n"
+no_text_line = codes "error: the arguments are not valid UTF-8\n"
 
 abbrev pub no_memory_line : List ℕ
 no_memory_line = codes "refused: Memory\n"

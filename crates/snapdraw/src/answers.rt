@@ -20,8 +20,8 @@ use std::alloc::{AllocError, Global};
 /// What is said where there is no memory for the line of a fault.
 const NO_MEMORY: &[u8] = b"refused: Memory\n";
 
-/// What is said of arguments that are no text.
-const NO_TEXT: &[u8] = b"error: the words of the command line are no text\n";
+/// What is said of arguments that are not valid UTF-8.
+const NO_TEXT: &[u8] = b"error: the arguments are not valid UTF-8\n";
 
 /// What is said where help could not be written.
 const UNWRITTEN: &[u8] = b"snapdraw: the output could not be written\n";

@@ -88,9 +88,9 @@ AnswersSearch files search status taken taken_after said said_after w s failed s
     × Hunts files (view_listed search.listed) search.asked text done taken taken_after w s
     × SaysWhy search.explains (view_listed search.listed) text done said said_after failed stalled
 
--- what is said of arguments that are no text, and where there is no memory to read them
+-- what is said of arguments that are not valid UTF-8, and where there is no memory to read them
 abbrev pub no_text_line : List ℕ
-no_text_line = codes "error: the words of the command line are no text\n"
+no_text_line = codes "error: the arguments are not valid UTF-8\n"
 
 abbrev pub no_memory_line : List ℕ
 no_memory_line = codes "refused: Memory\n"

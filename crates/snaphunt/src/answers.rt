@@ -31,8 +31,8 @@ use std::thread::Threads;
 /// What is said where there is no memory.
 const NO_MEMORY: &[u8] = b"refused: Memory\n";
 
-/// What is said of arguments that are no text.
-const NO_TEXT: &[u8] = b"error: the words of the command line are no text\n";
+/// What is said of arguments that are not valid UTF-8.
+const NO_TEXT: &[u8] = b"error: the arguments are not valid UTF-8\n";
 
 /// The status of a run that could not write.
 const UNWRITTEN: u8 = 3;

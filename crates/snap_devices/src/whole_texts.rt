@@ -12,8 +12,8 @@ const CHUNK: usize = 4096;
 
 /// Reads all there is, or one byte more than is allowed.
 pub fn read_all<R: ByteSource>(alloc: Global, source: &mut R) -> Result<Vec<u8>, ConductFault>
-    requires { R.has_failed source.old ≡ false }
-    ensures { Reads result (R.left source.old) (R.left source.new) (R.has_failed source.new) }
+    requires { (R.state source.old).failed ≡ false }
+    ensures { Reads result (R.state source.old) (R.state source.new) }
 {
     let mut input = Vec::new(alloc);
     let mut buffer = [0u8; CHUNK];
@@ -30,9 +30,8 @@ pub fn read_all<R: ByteSource>(alloc: Global, source: &mut R) -> Result<Vec<u8>,
 
 /// Writes all of a text. After `Write(count)` the sink has taken its first `count` bytes.
 pub fn write_all<W: ByteSink>(sink: &mut W, text: &[u8]) -> Result<(), ConductFault>
-    requires { W.has_failed sink.old ≡ false }
-    ensures { Sends result text.now (W.taken sink.old) (W.taken sink.new) (W.has_failed sink.new)
-        (W.is_stalled sink.new) }
+    requires { (W.state sink.old).failed ≡ false }
+    ensures { Sends result text.now (W.state sink.old) (W.state sink.new) }
 {
     Ok(snap_streams::write_all(sink, text)?)
 }

@@ -3,6 +3,7 @@
 use Rattle.std.specs.Prelude.{◌≡◌, ℕ, Vec, Bool, true, List, [], ◌++◌, Option, Some, None, Result, Ok, Err}
 use Rattle.std.specs.Prelude.{if◌then◌else◌, codes, string_bytes, ◌⊎◌}
 use Rattle.std.specs.Global.{Global}
+use Rattle.snap_streams.specs.State.{SourceState, SinkState}
 use Rattle.snap_command_line.specs.declared.command_line.Invocation.{Invocation}
 use Rattle.snap_command_line.specs.declared.command_line.CommandLine.{CommandLine}
 use Rattle.snap_command_line.specs.declared.command_line.CommandLine.TheVariants.{Asks, Help, Wrong, NoText}
@@ -52,24 +53,22 @@ strict_subject true (request.Do (task.Survey subject)) = Some subject
 strict_subject _ _ = None
 
 -- A text was sent to the device for messages: all of it, or what it took before it failed or took nothing.
-abbrev pub Says : List ℕ → (said said_after : Option (List ℕ)) → (failed stalled : Bool) → Type 0
-Says text said said_after failed stalled =
-    (done : Result (Unit {0}) ConductFault) × Sends done text said said_after failed stalled
+abbrev pub Says : List ℕ → (errors errors_after : SinkState) → Type 0
+Says text errors errors_after = (done : Result (Unit {0}) ConductFault) × Sends done text errors errors_after
 
 -- the line of a fault
 abbrev pub line_of : ConductFault → List ℕ
 line_of fault = fault_text fault ++ codes "\n"
 
 -- A fault is told in its line, or in that of missing memory where there was none for the other one.
-abbrev pub Tells : ConductFault → (said said_after : Option (List ℕ)) → (failed stalled : Bool) → Type 0
-Tells fault said said_after failed stalled =
-    Says (line_of fault) said said_after failed stalled ⊎ Says (line_of Memory) said said_after failed stalled
+abbrev pub Tells : ConductFault → (errors errors_after : SinkState) → Type 0
+Tells fault errors errors_after =
+    Says (line_of fault) errors errors_after ⊎ Says (line_of Memory) errors errors_after
 
 -- Where there is no fault, nothing is said.
-abbrev pub SaysFault : Result (Unit {0}) ConductFault → (said said_after : Option (List ℕ)) →
-    (failed stalled : Bool) → Type 0
-SaysFault (Ok done) said said_after failed stalled = said ≡ said_after
-SaysFault (Err fault) said said_after failed stalled = Tells fault said said_after failed stalled
+abbrev pub SaysFault : Result (Unit {0}) ConductFault → (errors errors_after : SinkState) → Type 0
+SaysFault (Ok done) errors errors_after = errors ≡ errors_after
+SaysFault (Err fault) errors errors_after = Tells fault errors errors_after
 
 -- what is said behind the line of a fault, where refusals are explained
 abbrev pub why : Request → (input : List ℕ) → ConductFault → List ℕ
@@ -87,29 +86,28 @@ explained explains asked input fault = if explains then why asked input fault el
 -- A fault is told with what explains it, or without where there was no memory for that; where there is none, nothing
 -- is said.
 abbrev pub SaysWhy : (explains : Bool) → Request → (input : List ℕ) → Result (Unit {0}) ConductFault →
-    (said said_after : Option (List ℕ)) → (failed stalled : Bool) → Type 0
-SaysWhy explains asked input (Ok done) said said_after failed stalled = said ≡ said_after
-SaysWhy explains asked input (Err fault) said said_after failed stalled =
-    Says (line_of fault ++ explained explains asked input fault) said said_after failed stalled
-    ⊎ Tells fault said said_after failed stalled
+    (errors errors_after : SinkState) → Type 0
+SaysWhy explains asked input (Ok done) errors errors_after = errors ≡ errors_after
+SaysWhy explains asked input (Err fault) errors errors_after =
+    Says (line_of fault ++ explained explains asked input fault) errors errors_after
+    ⊎ Tells fault errors errors_after
 
 -- A whole live run: where it was written, what is said of the operations that call nothing.
 abbrev pub SaysUncalled : (explains : Bool) → Request → (input : List ℕ) → Result (Vec ℕ Global) ConductFault →
-    (said said_after : Option (List ℕ)) → (failed stalled : Bool) → Type 0
-SaysUncalled explains asked input (Ok uncalled) said said_after failed stalled =
-    Says uncalled.items said said_after failed stalled
-SaysUncalled explains asked input (Err fault) said said_after failed stalled =
-    SaysWhy explains asked input (Err fault) said said_after failed stalled
+    (errors errors_after : SinkState) → Type 0
+SaysUncalled explains asked input (Ok uncalled) errors errors_after =
+    Says uncalled.items errors errors_after
+SaysUncalled explains asked input (Err fault) errors errors_after =
+    SaysWhy explains asked input (Err fault) errors errors_after
 
 -- What is said where the input is read from a terminal.
 abbrev pub terminal_line : List ℕ
 terminal_line = codes "reading from the terminal; end with Ctrl-D\n"
 
 -- It is said where an input is asked for, and nothing else.
-abbrev pub SaysTerminal : {E : Type 0} → Result CommandLine E → (said said_after : Option (List ℕ)) →
-    (failed stalled : Bool) → Type 0
-SaysTerminal (Ok (Asks asked)) said said_after failed stalled = Says terminal_line said said_after failed stalled
-SaysTerminal _ said said_after failed stalled = said ≡ said_after
+abbrev pub SaysTerminal : {E : Type 0} → Result CommandLine E → (errors errors_after : SinkState) → Type 0
+SaysTerminal (Ok (Asks asked)) errors errors_after = Says terminal_line errors errors_after
+SaysTerminal _ errors errors_after = errors ≡ errors_after
 
 -- What is said of arguments that are no text.
 abbrev pub no_text_line : List ℕ
@@ -118,91 +116,80 @@ no_text_line = codes "error: the words of the command line are no text\n"
 -- What the program does about a task: what it takes of its source, what it gives its sink and its device for
 -- messages, and its status. Where an input is refused, it is the one that is explained.
 abbrev pub AnswersTask : Task → Invocation → (status : ℕ) →
-    (left left_after taken taken_after said said_after : Option (List ℕ)) →
-    (reader_failed writer_failed writer_stalled failed stalled : Bool) → Type 0
-AnswersTask task asked status left left_after taken taken_after said said_after r w s failed stalled =
+    (source source_after : SourceState) → (sink sink_after errors errors_after : SinkState) → Type 0
+AnswersTask task asked status source source_after sink sink_after errors errors_after =
     (done : Result (Unit {0}) ConductFault) × (kept : List ℕ) × (status ≡ exit_status done)
-    × ConductsKeeping (IsOutputOf task) (RefusesTask task) kept done left left_after taken taken_after r w s
-    × SaysWhy asked.explains asked.request kept done said said_after failed stalled
+    × ConductsKeeping (IsOutputOf task) (RefusesTask task) kept done source source_after sink sink_after
+    × SaysWhy asked.explains asked.request kept done errors errors_after
 
 -- What it does about a live run, at no gate.
 abbrev pub AnswersLively : Subject → (limit : ℕ) → Invocation → (status : ℕ) →
-    (left left_after taken taken_after said said_after : Option (List ℕ)) →
-    (reader_failed writer_failed writer_stalled failed stalled : Bool) → Type 0
-AnswersLively subject limit asked status left left_after taken taken_after said said_after r w s failed stalled =
+    (source source_after : SourceState) → (sink sink_after errors errors_after : SinkState) → Type 0
+AnswersLively subject limit asked status source source_after sink sink_after errors errors_after =
     (done : Result (Vec ℕ Global) ConductFault) × (kept : List ℕ) × (status ≡ exit_status (done_of done))
-    × ConductsLiveKeeping (λ process turn answer. answer ≡ true) subject limit kept done left
-    left_after taken taken_after r w s
-    × SaysUncalled asked.explains asked.request kept done said said_after failed stalled
+    × ConductsLiveKeeping (λ process turn answer. answer ≡ true) subject limit kept done
+    source source_after sink sink_after
+    × SaysUncalled asked.explains asked.request kept done errors errors_after
 
 -- What it does about what is to be judged.
 abbrev pub AnswersJudge : JudgeRequest → Invocation → (status : ℕ) →
-    (left left_after taken taken_after said said_after : Option (List ℕ)) →
-    (reader_failed writer_failed writer_stalled failed stalled : Bool) → Type 0
-AnswersJudge judged asked status left left_after taken taken_after said said_after r w s failed stalled =
+    (source source_after : SourceState) → (sink sink_after errors errors_after : SinkState) → Type 0
+AnswersJudge judged asked status source source_after sink sink_after errors errors_after =
     (done : Result Linearizability ConductFault) × (kept : List ℕ) × (status ≡ judge_status done)
-    × ConductsJudge judged kept done left left_after taken taken_after r w s
-    × SaysWhy asked.explains asked.request kept (done_of done) said said_after failed stalled
+    × ConductsJudge judged kept done source source_after sink sink_after
+    × SaysWhy asked.explains asked.request kept (done_of done) errors errors_after
 
 -- What it does about a model.
 abbrev pub AnswersModelled : Subject → Invocation → (status : ℕ) →
-    (left left_after taken taken_after said said_after : Option (List ℕ)) →
-    (reader_failed writer_failed writer_stalled failed stalled : Bool) → Type 0
-AnswersModelled subject asked status left left_after taken taken_after said said_after r w s failed stalled =
+    (source source_after : SourceState) → (sink sink_after errors errors_after : SinkState) → Type 0
+AnswersModelled subject asked status source source_after sink sink_after errors errors_after =
     (done : Result (Unit {0}) ConductFault) × (kept : List ℕ) × (status ≡ exit_status done)
-    × ConductsModel subject kept done left left_after taken taken_after r w s
-    × SaysWhy asked.explains asked.request kept done said said_after failed stalled
+    × ConductsModel subject kept done source source_after sink sink_after
+    × SaysWhy asked.explains asked.request kept done errors errors_after
 
 -- What it does about what was asked for.
 abbrev pub AnswersRequest : Request → Invocation → (status : ℕ) →
-    (left left_after taken taken_after said said_after : Option (List ℕ)) →
-    (reader_failed writer_failed writer_stalled failed stalled : Bool) → Type 0
-AnswersRequest (request.Do task) asked status left left_after taken taken_after said said_after r w s failed stalled =
-    AnswersTask task asked status left left_after taken taken_after said said_after r w s failed stalled
-AnswersRequest (request.Live subject limit) asked status left left_after taken taken_after said said_after r w s
-    failed stalled =
-    AnswersLively subject limit asked status left left_after taken taken_after said said_after r w s failed stalled
-AnswersRequest (request.Judge judged) asked status left left_after taken taken_after said said_after r w s
-    failed stalled =
-    AnswersJudge judged asked status left left_after taken taken_after said said_after r w s failed stalled
-AnswersRequest (request.Model subject crashes) asked status left left_after taken taken_after said said_after r w s
-    failed stalled =
-    AnswersModelled subject asked status left left_after taken taken_after said said_after r w s failed stalled
+    (source source_after : SourceState) → (sink sink_after errors errors_after : SinkState) → Type 0
+AnswersRequest (request.Do task) asked status source source_after sink sink_after errors errors_after =
+    AnswersTask task asked status source source_after sink sink_after errors errors_after
+AnswersRequest (request.Live subject limit) asked status source source_after sink sink_after errors errors_after =
+    AnswersLively subject limit asked status source source_after sink sink_after errors errors_after
+AnswersRequest (request.Judge judged) asked status source source_after sink sink_after errors errors_after =
+    AnswersJudge judged asked status source source_after sink sink_after errors errors_after
+AnswersRequest (request.Model subject crashes) asked status source source_after sink sink_after errors errors_after =
+    AnswersModelled subject asked status source source_after sink sink_after errors errors_after
 
 -- What it does about a strict survey.
 abbrev pub AnswersStrictly : Subject → Invocation → (status : ℕ) →
-    (left left_after taken taken_after said said_after : Option (List ℕ)) →
-    (reader_failed writer_failed writer_stalled failed stalled : Bool) → Type 0
-AnswersStrictly subject asked status left left_after taken taken_after said said_after r w s failed stalled =
+    (source source_after : SourceState) → (sink sink_after errors errors_after : SinkState) → Type 0
+AnswersStrictly subject asked status source source_after sink sink_after errors errors_after =
     (done : Result Bool ConductFault) × (kept : List ℕ) × (status ≡ strict_status done)
-    × ConductsSurvey done subject kept left left_after taken taken_after r w s
-    × SaysWhy asked.explains asked.request kept (done_of done) said said_after failed stalled
+    × ConductsSurvey done subject kept source source_after sink sink_after
+    × SaysWhy asked.explains asked.request kept (done_of done) errors errors_after
 
 -- The one or the other, where a strict survey of this listing is asked for, or none.
 abbrev pub AnswersAsked : Option Subject → Invocation → (status : ℕ) →
-    (left left_after taken taken_after said said_after : Option (List ℕ)) →
-    (reader_failed writer_failed writer_stalled failed stalled : Bool) → Type 0
-AnswersAsked None asked status left left_after taken taken_after said said_after r w s failed stalled =
-    AnswersRequest asked.request asked status left left_after taken taken_after said said_after r w s failed stalled
-AnswersAsked (Some subject) asked status left left_after taken taken_after said said_after r w s failed stalled =
-    AnswersStrictly subject asked status left left_after taken taken_after said said_after r w s failed stalled
+    (source source_after : SourceState) → (sink sink_after errors errors_after : SinkState) → Type 0
+AnswersAsked None asked status source source_after sink sink_after errors errors_after =
+    AnswersRequest asked.request asked status source source_after sink sink_after errors errors_after
+AnswersAsked (Some subject) asked status source source_after sink sink_after errors errors_after =
+    AnswersStrictly subject asked status source source_after sink sink_after errors errors_after
 
 -- What the program does about a command line, or where there was no memory to read it: what it takes of its source,
 -- what it gives its sink and its device for messages, and its status.
 abbrev pub AnswersLine : {E : Type 0} → Result CommandLine E → (status : ℕ) →
-    (left left_after taken taken_after said said_after : Option (List ℕ)) →
-    (reader_failed writer_failed writer_stalled failed stalled : Bool) → Type 0
-AnswersLine (Ok (Asks asked)) status left left_after taken taken_after said said_after r w s failed stalled =
-    AnswersAsked (strict_subject asked.strict asked.request) asked status left left_after taken
-    taken_after said said_after r w s failed stalled
-AnswersLine (Ok (Help text)) status left left_after taken taken_after said said_after r w s failed stalled =
-    (left ≡ left_after) × ((done : Result (Unit {0}) ConductFault) × (status ≡ exit_status done)
-    × Sends done (string_bytes text) taken taken_after w s
-    × SaysFault done said said_after failed stalled)
-AnswersLine (Ok (Wrong text)) status left left_after taken taken_after said said_after r w s failed stalled =
-    (status ≡ 2) × (left ≡ left_after) × (taken ≡ taken_after) × Says (string_bytes text) said said_after failed stalled
-AnswersLine (Ok NoText) status left left_after taken taken_after said said_after r w s failed stalled =
-    (status ≡ 2) × (left ≡ left_after) × (taken ≡ taken_after) × Says no_text_line said said_after failed stalled
-AnswersLine (Err e) status left left_after taken taken_after said said_after r w s failed stalled =
-    (status ≡ exit_status (Err Memory)) × (left ≡ left_after) × (taken ≡ taken_after)
-    × SaysFault (Err Memory) said said_after failed stalled
+    (source source_after : SourceState) → (sink sink_after errors errors_after : SinkState) → Type 0
+AnswersLine (Ok (Asks asked)) status source source_after sink sink_after errors errors_after =
+    AnswersAsked (strict_subject asked.strict asked.request) asked status
+    source source_after sink sink_after errors errors_after
+AnswersLine (Ok (Help text)) status source source_after sink sink_after errors errors_after =
+    (source ≡ source_after) × ((done : Result (Unit {0}) ConductFault) × (status ≡ exit_status done)
+    × Sends done (string_bytes text) sink sink_after
+    × SaysFault done errors errors_after)
+AnswersLine (Ok (Wrong text)) status source source_after sink sink_after errors errors_after =
+    (status ≡ 2) × (source ≡ source_after) × (sink ≡ sink_after) × Says (string_bytes text) errors errors_after
+AnswersLine (Ok NoText) status source source_after sink sink_after errors errors_after =
+    (status ≡ 2) × (source ≡ source_after) × (sink ≡ sink_after) × Says no_text_line errors errors_after
+AnswersLine (Err e) status source source_after sink sink_after errors errors_after =
+    (status ≡ exit_status (Err Memory)) × (source ≡ source_after) × (sink ≡ sink_after)
+    × SaysFault (Err Memory) errors errors_after

@@ -1,5 +1,6 @@
 -- A whole run of a task, from a byte source to a byte sink: its output, and why there is none.
-use Rattle.std.specs.Prelude.{◌≡◌, ℕ, Bool, List, Option, Result, Ok, Err, IfOk}
+use Rattle.std.specs.Prelude.{◌≡◌, ℕ, Bool, List, Result, Ok, Err, IfOk}
+use Rattle.snap_streams.specs.State.{SourceState, SinkState}
 use Rattle.snap_devices.specs.WholeRun.{ConductsBy, ConductsKeeping, done_of}
 use Rattle.snap_devices.specs.declared.fault.ConductFault.{ConductFault}
 use Rattle.snap_devices.specs.declared.fault.ConductFault.TheVariants as fault
@@ -20,9 +21,9 @@ RefusesTask task input _ = ⊥
 
 -- A whole run of a task: each input has one refusal, or one output for what was judged for it.
 abbrev pub Conducts : (answer : Result (Unit {0}) ConductFault) (task : Task)
-    (left left_after taken taken_after : Option (List ℕ)) (reader_failed writer_failed writer_stalled : Bool) → Type 0
-Conducts answer task left left_after taken taken_after r w s =
-    ConductsBy (IsOutputOf task) (RefusesTask task) answer left left_after taken taken_after r w s
+    (source source_after : SourceState) (sink sink_after : SinkState) → Type 0
+Conducts answer task source source_after sink sink_after =
+    ConductsBy (IsOutputOf task) (RefusesTask task) answer source source_after sink sink_after
 
 -- the output of a survey, and whether all of its runs are clean, where that is answered, both by the same judgements
 abbrev pub IsSurveyOf : Result Bool ConductFault → Subject → (input text : List ℕ) → Type 0
@@ -33,7 +34,7 @@ IsSurveyOf answer subject input text =
 
 -- A whole run of a survey, which keeps its input: what it writes and when it is refused are the task's.
 abbrev pub ConductsSurvey : (answer : Result Bool ConductFault) (subject : Subject) (kept : List ℕ)
-    (left left_after taken taken_after : Option (List ℕ)) (reader_failed writer_failed writer_stalled : Bool) → Type 0
-ConductsSurvey answer subject kept left left_after taken taken_after r w s =
+    (source source_after : SourceState) (sink sink_after : SinkState) → Type 0
+ConductsSurvey answer subject kept source source_after sink sink_after =
     ConductsKeeping (IsSurveyOf answer subject) (RefusesTask (task.Survey subject)) kept
-    (done_of answer) left left_after taken taken_after r w s
+    (done_of answer) source source_after sink sink_after

@@ -43,18 +43,16 @@ const TERMINAL: &[u8] = b"reading from the terminal; end with Ctrl-D\n";
 
 /// Says a text. Where the device does not take it, nothing more is said.
 fn say<E: ByteSink>(text: &[u8], errors: &mut E)
-    requires { E.has_failed errors.old ≡ false }
-    ensures { Says text.now (E.taken errors.old) (E.taken errors.new) (E.has_failed errors.new)
-        (E.is_stalled errors.new) }
+    requires { (E.state errors.old).failed ≡ false }
+    ensures { Says text.now (E.state errors.old) (E.state errors.new) }
 {
     let _said = write_all(errors, text);
 }
 
 /// Says why nothing, or not all, was written, or that there is no memory for that line.
 fn complain<E: ByteSink>(alloc: Global, fault: &ConductFault, errors: &mut E)
-    requires { E.has_failed errors.old ≡ false }
-    ensures { Tells fault.now (E.taken errors.old) (E.taken errors.new) (E.has_failed errors.new)
-        (E.is_stalled errors.new) }
+    requires { (E.state errors.old).failed ≡ false }
+    ensures { Tells fault.now (E.state errors.old) (E.state errors.new) }
 {
     match fault_line(alloc, fault) {
         Ok(line) => say(line.as_slice(), errors),
@@ -64,10 +62,9 @@ fn complain<E: ByteSink>(alloc: Global, fault: &ConductFault, errors: &mut E)
 
 /// The status of a whole run, whose fault it tells.
 fn finish<E: ByteSink>(alloc: Global, done: &Result<(), ConductFault>, errors: &mut E) -> u8
-    requires { E.has_failed errors.old ≡ false }
+    requires { (E.state errors.old).failed ≡ false }
     ensures status { result ≡ exit_status done.now }
-    ensures says { SaysFault done.now (E.taken errors.old) (E.taken errors.new)
-        (E.has_failed errors.new) (E.is_stalled errors.new) }
+    ensures says { SaysFault done.now (E.state errors.old) (E.state errors.new) }
 {
     match done {
         Ok(()) => 0,
@@ -121,10 +118,9 @@ fn explain<E: ByteSink>(
     fault: &ConductFault,
     errors: &mut E,
 )
-    requires { E.has_failed errors.old ≡ false }
+    requires { (E.state errors.old).failed ≡ false }
     ensures { SaysWhy asked.now.explains asked.now.request input.now (Err fault.now)
-        (E.taken errors.old) (E.taken errors.new) (E.has_failed errors.new)
-        (E.is_stalled errors.new) }
+        (E.state errors.old) (E.state errors.new) }
 {
     match fault_line(alloc, fault) {
         Ok(mut line) => {
@@ -145,14 +141,13 @@ fn do_task<R: ByteSource, W: ByteSink, E: ByteSink>(
     sink: &mut W,
     errors: &mut E,
 ) -> u8
-    requires source { R.has_failed source.old ≡ false }
-    requires sink { W.has_failed sink.old ≡ false }
-    requires goes_on { W.is_stalled sink.old ≡ false }
-    requires errors { E.has_failed errors.old ≡ false }
-    ensures { AnswersTask task.now asked.now result (R.left source.old) (R.left source.new)
-        (W.taken sink.old) (W.taken sink.new)
-        (E.taken errors.old) (E.taken errors.new) (R.has_failed source.new) (W.has_failed sink.new)
-        (W.is_stalled sink.new) (E.has_failed errors.new) (E.is_stalled errors.new) }
+    requires source { (R.state source.old).failed ≡ false }
+    requires sink { (W.state sink.old).failed ≡ false }
+    requires goes_on { (W.state sink.old).stalled ≡ false }
+    requires errors { (E.state errors.old).failed ≡ false }
+    ensures { AnswersTask task.now asked.now result (R.state source.old) (R.state source.new)
+        (W.state sink.old) (W.state sink.new)
+        (E.state errors.old) (E.state errors.new) }
 {
     let mut input = Vec::new(alloc);
     match conduct_keeping(rt, alloc, task, source, sink, &mut input) {
@@ -177,14 +172,13 @@ fn play_live<R: ByteSource, W: ByteSink, E: ByteSink>(
     errors: &mut E,
 ) -> u8
     requires limit { HasLimit (Live subject limit) }
-    requires source { R.has_failed source.old ≡ false }
-    requires sink { W.has_failed sink.old ≡ false }
-    requires goes_on { W.is_stalled sink.old ≡ false }
-    requires errors { E.has_failed errors.old ≡ false }
-    ensures { AnswersLively subject limit asked.now result (R.left source.old) (R.left source.new)
-        (W.taken sink.old) (W.taken sink.new)
-        (E.taken errors.old) (E.taken errors.new) (R.has_failed source.new) (W.has_failed sink.new)
-        (W.is_stalled sink.new) (E.has_failed errors.new) (E.is_stalled errors.new) }
+    requires source { (R.state source.old).failed ≡ false }
+    requires sink { (W.state sink.old).failed ≡ false }
+    requires goes_on { (W.state sink.old).stalled ≡ false }
+    requires errors { (E.state errors.old).failed ≡ false }
+    ensures { AnswersLively subject limit asked.now result (R.state source.old) (R.state source.new)
+        (W.state sink.old) (W.state sink.new)
+        (E.state errors.old) (E.state errors.new) }
 {
     let mut input = Vec::new(alloc);
     match conduct_live_keeping(rt, alloc, subject, limit, &NoGate, source, sink, &mut input) {
@@ -220,14 +214,13 @@ fn judge_asked<R: ByteSource, W: ByteSink, E: ByteSink>(
     sink: &mut W,
     errors: &mut E,
 ) -> u8
-    requires source { R.has_failed source.old ≡ false }
-    requires sink { W.has_failed sink.old ≡ false }
-    requires goes_on { W.is_stalled sink.old ≡ false }
-    requires errors { E.has_failed errors.old ≡ false }
-    ensures { AnswersJudge request.now asked.now result (R.left source.old) (R.left source.new)
-        (W.taken sink.old) (W.taken sink.new)
-        (E.taken errors.old) (E.taken errors.new) (R.has_failed source.new) (W.has_failed sink.new)
-        (W.is_stalled sink.new) (E.has_failed errors.new) (E.is_stalled errors.new) }
+    requires source { (R.state source.old).failed ≡ false }
+    requires sink { (W.state sink.old).failed ≡ false }
+    requires goes_on { (W.state sink.old).stalled ≡ false }
+    requires errors { (E.state errors.old).failed ≡ false }
+    ensures { AnswersJudge request.now asked.now result (R.state source.old) (R.state source.new)
+        (W.state sink.old) (W.state sink.new)
+        (E.state errors.old) (E.state errors.new) }
 {
     let mut input = Vec::new(alloc);
     match conduct_judge(alloc, request, source, sink, &mut input) {
@@ -249,14 +242,13 @@ fn write_model<R: ByteSource, W: ByteSink, E: ByteSink>(
     sink: &mut W,
     errors: &mut E,
 ) -> u8
-    requires source { R.has_failed source.old ≡ false }
-    requires sink { W.has_failed sink.old ≡ false }
-    requires goes_on { W.is_stalled sink.old ≡ false }
-    requires errors { E.has_failed errors.old ≡ false }
-    ensures { AnswersModelled subject asked.now result (R.left source.old) (R.left source.new)
-        (W.taken sink.old) (W.taken sink.new)
-        (E.taken errors.old) (E.taken errors.new) (R.has_failed source.new) (W.has_failed sink.new)
-        (W.is_stalled sink.new) (E.has_failed errors.new) (E.is_stalled errors.new) }
+    requires source { (R.state source.old).failed ≡ false }
+    requires sink { (W.state sink.old).failed ≡ false }
+    requires goes_on { (W.state sink.old).stalled ≡ false }
+    requires errors { (E.state errors.old).failed ≡ false }
+    ensures { AnswersModelled subject asked.now result (R.state source.old) (R.state source.new)
+        (W.state sink.old) (W.state sink.new)
+        (E.state errors.old) (E.state errors.new) }
 {
     let mut input = Vec::new(alloc);
     match conduct_model(alloc, subject, crashes, source, sink, &mut input) {
@@ -278,14 +270,13 @@ fn do_asked<R: ByteSource, W: ByteSink, E: ByteSink>(
     errors: &mut E,
 ) -> u8
     requires limit { HasLimit asked.now.request }
-    requires source { R.has_failed source.old ≡ false }
-    requires sink { W.has_failed sink.old ≡ false }
-    requires goes_on { W.is_stalled sink.old ≡ false }
-    requires errors { E.has_failed errors.old ≡ false }
-    ensures { AnswersRequest asked.now.request asked.now result (R.left source.old)
-        (R.left source.new) (W.taken sink.old) (W.taken sink.new)
-        (E.taken errors.old) (E.taken errors.new) (R.has_failed source.new) (W.has_failed sink.new)
-        (W.is_stalled sink.new) (E.has_failed errors.new) (E.is_stalled errors.new) }
+    requires source { (R.state source.old).failed ≡ false }
+    requires sink { (W.state sink.old).failed ≡ false }
+    requires goes_on { (W.state sink.old).stalled ≡ false }
+    requires errors { (E.state errors.old).failed ≡ false }
+    ensures { AnswersRequest asked.now.request asked.now result (R.state source.old)
+        (R.state source.new) (W.state sink.old) (W.state sink.new)
+        (E.state errors.old) (E.state errors.new) }
 {
     match asked.request {
         Request::Do(task) => do_task(rt, alloc, asked, &task, source, sink, errors),
@@ -319,14 +310,13 @@ fn survey_strictly<R: ByteSource, W: ByteSink, E: ByteSink>(
     sink: &mut W,
     errors: &mut E,
 ) -> u8
-    requires source { R.has_failed source.old ≡ false }
-    requires sink { W.has_failed sink.old ≡ false }
-    requires goes_on { W.is_stalled sink.old ≡ false }
-    requires errors { E.has_failed errors.old ≡ false }
-    ensures { AnswersStrictly subject asked.now result (R.left source.old) (R.left source.new)
-        (W.taken sink.old) (W.taken sink.new)
-        (E.taken errors.old) (E.taken errors.new) (R.has_failed source.new) (W.has_failed sink.new)
-        (W.is_stalled sink.new) (E.has_failed errors.new) (E.is_stalled errors.new) }
+    requires source { (R.state source.old).failed ≡ false }
+    requires sink { (W.state sink.old).failed ≡ false }
+    requires goes_on { (W.state sink.old).stalled ≡ false }
+    requires errors { (E.state errors.old).failed ≡ false }
+    ensures { AnswersStrictly subject asked.now result (R.state source.old) (R.state source.new)
+        (W.state sink.old) (W.state sink.new)
+        (E.state errors.old) (E.state errors.new) }
 {
     let mut input = Vec::new(alloc);
     match conduct_survey(alloc, subject, source, sink, &mut input) {
@@ -341,9 +331,8 @@ fn survey_strictly<R: ByteSource, W: ByteSink, E: ByteSink>(
 
 /// Says that the input is read from a terminal, where one is asked for.
 pub fn say_terminal<E: ByteSink>(line: &Result<CommandLine, AllocError>, errors: &mut E)
-    requires { E.has_failed errors.old ≡ false }
-    ensures { SaysTerminal line.now (E.taken errors.old) (E.taken errors.new)
-        (E.has_failed errors.new) (E.is_stalled errors.new) }
+    requires { (E.state errors.old).failed ≡ false }
+    ensures { SaysTerminal line.now (E.state errors.old) (E.state errors.new) }
 {
     match line {
         Ok(CommandLine::Asks(_)) => say(TERMINAL, errors),
@@ -362,14 +351,13 @@ pub fn answer<R: ByteSource, W: ByteSink, E: ByteSink>(
     errors: &mut E,
 ) -> u8
     requires limits { IfOk line.now HasLimits }
-    requires source { R.has_failed source.old ≡ false }
-    requires sink { W.has_failed sink.old ≡ false }
-    requires goes_on { W.is_stalled sink.old ≡ false }
-    requires errors { E.has_failed errors.old ≡ false }
-    ensures { AnswersLine line.now result (R.left source.old) (R.left source.new) (W.taken sink.old)
-        (W.taken sink.new)
-        (E.taken errors.old) (E.taken errors.new) (R.has_failed source.new) (W.has_failed sink.new)
-        (W.is_stalled sink.new) (E.has_failed errors.new) (E.is_stalled errors.new) }
+    requires source { (R.state source.old).failed ≡ false }
+    requires sink { (W.state sink.old).failed ≡ false }
+    requires goes_on { (W.state sink.old).stalled ≡ false }
+    requires errors { (E.state errors.old).failed ≡ false }
+    ensures { AnswersLine line.now result (R.state source.old) (R.state source.new)
+        (W.state sink.old) (W.state sink.new)
+        (E.state errors.old) (E.state errors.new) }
 {
     match line {
         Ok(CommandLine::Asks(asked)) => match strict_subject(asked) {

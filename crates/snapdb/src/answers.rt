@@ -92,9 +92,8 @@ fn talk<C: Console>(
 
 /// Says why there was no dialog, or no whole one, or that there is no memory for that line.
 fn complain<E: ByteSink>(alloc: Global, named: &Named<'_>, fault: &StartFault, errors: &mut E)
-    requires { E.has_failed errors.old ≡ false }
-    ensures { Tells (view_named named.now) fault.now (E.taken errors.old) (E.taken errors.new)
-        (E.has_failed errors.new) (E.is_stalled errors.new) }
+    requires { (E.state errors.old).failed ≡ false }
+    ensures { Tells (view_named named.now) fault.now (E.state errors.old) (E.state errors.new) }
 {
     match fault_line(alloc, named, fault) {
         Ok(line) => say(line.as_slice(), errors),
@@ -137,11 +136,10 @@ fn explain<E: ByteSink>(
     fault: &StartFault,
     errors: &mut E,
 )
-    requires { E.has_failed errors.old ≡ false }
+    requires { (E.state errors.old).failed ≡ false }
     ensures { SaysWhy session.now.explains (view_named session.now.named)
         (option_map (λ t. view_texts t.now) texts.entry) (Err fault.now)
-        (E.taken errors.old) (E.taken errors.new) (E.has_failed errors.new)
-        (E.is_stalled errors.new) }
+        (E.state errors.old) (E.state errors.new) }
 {
     match fault_line(alloc, &session.named, fault) {
         Ok(mut line) => {
@@ -160,12 +158,11 @@ fn finish<E: ByteSink>(
     done: &Result<(), StartFault>,
     errors: &mut E,
 ) -> u8
-    requires { E.has_failed errors.old ≡ false }
+    requires { (E.state errors.old).failed ≡ false }
     ensures status { result ≡ exit_status done.now }
     ensures says { SaysWhy session.now.explains (view_named session.now.named)
         (option_map (λ t. view_texts t.now) texts.entry) done.now
-        (E.taken errors.old) (E.taken errors.new) (E.has_failed errors.new)
-        (E.is_stalled errors.new) }
+        (E.state errors.old) (E.state errors.new) }
 {
     match done {
         Ok(()) => 0,
@@ -187,11 +184,10 @@ fn open<F: FileSource, C: Console, E: ByteSink>(
     errors: &mut E,
 ) -> u8
     requires console { C.failure console.old ≡ None }
-    requires errors { E.has_failed errors.old ≡ false }
+    requires errors { (E.state errors.old).failed ≡ false }
     ensures { AnswersSession (F.found files.now) session.now shows result (C.left console.old)
         (C.shown console.old) (C.shown console.new) (C.failure console.new)
-        (E.taken errors.old) (E.taken errors.new) (E.has_failed errors.new)
-        (E.is_stalled errors.new) }
+        (E.state errors.old) (E.state errors.new) }
 {
     match read_texts(alloc, files, &session.named) {
         Ok(texts) => {
@@ -205,10 +201,9 @@ fn open<F: FileSource, C: Console, E: ByteSink>(
 /// Shows help, or the version, says where that cannot be done, and answers the status of it.
 fn help<C: Console, E: ByteSink>(text: &[u8], console: &mut C, errors: &mut E) -> u8
     requires console { C.failure console.old ≡ None }
-    requires errors { E.has_failed errors.old ≡ false }
+    requires errors { (E.state errors.old).failed ≡ false }
     ensures { Helps text.now result (C.shown console.old) (C.shown console.new)
-        (E.taken errors.old) (E.taken errors.new) (E.has_failed errors.new)
-        (E.is_stalled errors.new) }
+        (E.state errors.old) (E.state errors.new) }
 {
     match console.say(text) {
         Ok(()) => 0,
@@ -230,11 +225,10 @@ pub(crate) fn answer<F: FileSource, C: Console, E: ByteSink>(
     errors: &mut E,
 ) -> u8
     requires console { C.failure console.old ≡ None }
-    requires errors { E.has_failed errors.old ≡ false }
+    requires errors { (E.state errors.old).failed ≡ false }
     ensures { AnswersLine (F.found files.now) line.now shows result (C.left console.old)
         (C.shown console.old) (C.shown console.new) (C.failure console.new)
-        (E.taken errors.old) (E.taken errors.new) (E.has_failed errors.new)
-        (E.is_stalled errors.new) }
+        (E.state errors.old) (E.state errors.new) }
 {
     match line {
         Ok(CommandLine::Asks(session)) => open(alloc, session, shows, files, console, errors),

@@ -1,11 +1,12 @@
 -- What is drawn of the texts of files, or the first reason why nothing is.
-use Rattle.std.proofs.Common.{◌≡◌, ℕ, List, Vec, Bool, Result, Ok, Err, Option, None, refl, sym, ap, subst}
+use Rattle.std.proofs.Common.{◌≡◌, ℕ, List, Vec, Result, Ok, Err, Option, None, refl, sym, ap, subst}
 use Rattle.std.specs.Prelude.{IsErr, IsErrAnd}
 use Rattle.std.specs.Global.{Global}
 use Rattle.snap_words.specs.declared.kind.KindTag.{KindTag}
 use Rattle.snap_semantics.specs.Answers.{◌>>=◌}
 use Rattle.snap_semantics.specs.Source.{Source}
 use Rattle.snap_semantics.specs.declared.event.Event.{Event}
+use Rattle.snap_streams.specs.State.{SinkState}
 use Rattle.snap_named_files.specs.Texts.{Read, OfFiles, OfShipped}
 use Rattle.snap_picture.specs.declared.options.Options.{Options}
 use Rattle.snapdraw.specs.Answer.{Draws, Writes}
@@ -54,17 +55,17 @@ module _ (o : Options) (style legend : List ℕ) where
   no_write (OfShipped kind s) h = h
 
   -- a fault came of drawing, and nothing was written
-  pub not_drawn : (texts : Read) (taken : Option (List ℕ)) (w s : Bool) (e : DrawFault) →
-      IsDrawing texts o style legend (Err e) → Draws texts o style legend (Err e) taken taken w s
-  not_drawn texts taken w s fault.Memory h = (Err fault.Memory, h, refl)
-  not_drawn texts taken w s (fault.Refused r) h = (Err (fault.Refused r), h, (refl, refl))
-  not_drawn texts taken w s (fault.Unread which k) h = (Err (fault.Unread which k), h, (refl, refl))
-  not_drawn texts taken w s fault.Write h = absurd (no_write texts h)
+  pub not_drawn : (texts : Read) (sink : SinkState) (e : DrawFault) →
+      IsDrawing texts o style legend (Err e) → Draws texts o style legend (Err e) sink sink
+  not_drawn texts sink fault.Memory h = (Err fault.Memory, h, refl)
+  not_drawn texts sink (fault.Refused r) h = (Err (fault.Refused r), h, (refl, refl))
+  not_drawn texts sink (fault.Unread which k) h = (Err (fault.Unread which k), h, (refl, refl))
+  not_drawn texts sink fault.Write h = absurd (no_write texts h)
 
   -- a picture came of it, and was written
-  pub drawn : (texts : Read) (taken : Option (List ℕ)) (w s : Bool) (v : Vec ℕ Global)
-      (done : Result (Unit {0}) DrawFault) (text : List ℕ) (after : Option (List ℕ)) → text ≡ v.items →
-      IsDrawing texts o style legend (Ok v.items) → Writes done (Ok text) taken after w s →
-      Draws texts o style legend done taken after w s
-  drawn texts taken w s v done text after is h written =
-      (Ok v.items, h, subst (λ x. Writes done (Ok x) taken after w s) is written)
+  pub drawn : (texts : Read) (sink : SinkState) (v : Vec ℕ Global)
+      (done : Result (Unit {0}) DrawFault) (text : List ℕ) (sink_after : SinkState) → text ≡ v.items →
+      IsDrawing texts o style legend (Ok v.items) → Writes done (Ok text) sink sink_after →
+      Draws texts o style legend done sink sink_after
+  drawn texts sink v done text sink_after is h written =
+      (Ok v.items, h, subst (λ x. Writes done (Ok x) sink sink_after) is written)

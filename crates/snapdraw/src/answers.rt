@@ -28,9 +28,8 @@ const UNWRITTEN: &[u8] = b"snapdraw: the output could not be written\n";
 
 /// Writes a text.
 fn write_text<W: ByteSink>(text: &[u8], sink: &mut W) -> Result<(), DrawFault>
-    requires { W.has_failed sink.old ≡ false }
-    ensures { Writes result (Ok text.now) (W.taken sink.old) (W.taken sink.new)
-        (W.has_failed sink.new) (W.is_stalled sink.new) }
+    requires { (W.state sink.old).failed ≡ false }
+    ensures { Writes result (Ok text.now) (W.state sink.old) (W.state sink.new) }
 {
     match write_all(sink, text) {
         Ok(()) => Ok(()),
@@ -46,10 +45,9 @@ fn draw_and_write<W: ByteSink>(
     look: &Look<'_>,
     sink: &mut W,
 ) -> Result<(), DrawFault>
-    requires { W.has_failed sink.old ≡ false }
+    requires { (W.state sink.old).failed ≡ false }
     ensures { Draws (view_texts texts.now) (options_of drawing.now) look.now.style.now
-        look.now.legend.now result (W.taken sink.old) (W.taken sink.new)
-        (W.has_failed sink.new) (W.is_stalled sink.new) }
+        look.now.legend.now result (W.state sink.old) (W.state sink.new) }
 {
     let text = draw(alloc, texts, drawing, look)?;
     write_text(text.as_slice(), sink)
@@ -57,9 +55,8 @@ fn draw_and_write<W: ByteSink>(
 
 /// Says why nothing, or not all, was drawn, or that there is no memory for that line.
 fn complain<E: ByteSink>(alloc: Global, named: &Named<'_>, fault: &DrawFault, errors: &mut E)
-    requires { E.has_failed errors.old ≡ false }
-    ensures { Tells (view_named named.now) fault.now (E.taken errors.old) (E.taken errors.new)
-        (E.has_failed errors.new) (E.is_stalled errors.new) }
+    requires { (E.state errors.old).failed ≡ false }
+    ensures { Tells (view_named named.now) fault.now (E.state errors.old) (E.state errors.new) }
 {
     match fault_line(alloc, named, fault) {
         Ok(line) => say(line.as_slice(), errors),
@@ -98,11 +95,10 @@ fn explain<E: ByteSink>(
     fault: &DrawFault,
     errors: &mut E,
 )
-    requires { E.has_failed errors.old ≡ false }
+    requires { (E.state errors.old).failed ≡ false }
     ensures { SaysWhy drawing.now.explains (view_named drawing.now.named)
         (option_map (λ t. view_texts t.now) texts.entry) (Err fault.now)
-        (E.taken errors.old) (E.taken errors.new) (E.has_failed errors.new)
-        (E.is_stalled errors.new) }
+        (E.state errors.old) (E.state errors.new) }
 {
     match fault_line(alloc, &drawing.named, fault) {
         Ok(mut line) => {
@@ -121,12 +117,11 @@ fn finish<E: ByteSink>(
     done: &Result<(), DrawFault>,
     errors: &mut E,
 ) -> u8
-    requires { E.has_failed errors.old ≡ false }
+    requires { (E.state errors.old).failed ≡ false }
     ensures status { result ≡ exit_status done.now }
     ensures says { SaysWhy drawing.now.explains (view_named drawing.now.named)
         (option_map (λ t. view_texts t.now) texts.entry) done.now
-        (E.taken errors.old) (E.taken errors.new) (E.has_failed errors.new)
-        (E.is_stalled errors.new) }
+        (E.state errors.old) (E.state errors.new) }
 {
     match done {
         Ok(()) => 0,
@@ -147,12 +142,10 @@ fn draw_asked<F: FileSource, W: ByteSink, E: ByteSink>(
     sink: &mut W,
     errors: &mut E,
 ) -> u8
-    requires sink { W.has_failed sink.old ≡ false }
-    requires errors { E.has_failed errors.old ≡ false }
+    requires sink { (W.state sink.old).failed ≡ false }
+    requires errors { (E.state errors.old).failed ≡ false }
     ensures { AnswersDrawing (F.found files.now) look.now.style.now look.now.legend.now drawing.now
-        result (W.taken sink.old) (W.taken sink.new) (E.taken errors.old) (E.taken errors.new)
-        (W.has_failed sink.new) (W.is_stalled sink.new) (E.has_failed errors.new)
-        (E.is_stalled errors.new) }
+        result (W.state sink.old) (W.state sink.new) (E.state errors.old) (E.state errors.new) }
 {
     match read_texts(alloc, files, &drawing.named) {
         Ok(texts) => {
@@ -165,11 +158,10 @@ fn draw_asked<F: FileSource, W: ByteSink, E: ByteSink>(
 
 /// Writes help, or the version, says where that cannot be done, and answers the status of it.
 fn help<W: ByteSink, E: ByteSink>(text: &[u8], sink: &mut W, errors: &mut E) -> u8
-    requires sink { W.has_failed sink.old ≡ false }
-    requires errors { E.has_failed errors.old ≡ false }
-    ensures { Helps text.now result (W.taken sink.old) (W.taken sink.new)
-        (E.taken errors.old) (E.taken errors.new) (W.has_failed sink.new)
-        (W.is_stalled sink.new) (E.has_failed errors.new) (E.is_stalled errors.new) }
+    requires sink { (W.state sink.old).failed ≡ false }
+    requires errors { (E.state errors.old).failed ≡ false }
+    ensures { Helps text.now result (W.state sink.old) (W.state sink.new)
+        (E.state errors.old) (E.state errors.new) }
 {
     match write_all(sink, text) {
         Ok(()) => 0,
@@ -189,12 +181,10 @@ pub(crate) fn answer<F: FileSource, W: ByteSink, E: ByteSink>(
     sink: &mut W,
     errors: &mut E,
 ) -> u8
-    requires sink { W.has_failed sink.old ≡ false }
-    requires errors { E.has_failed errors.old ≡ false }
+    requires sink { (W.state sink.old).failed ≡ false }
+    requires errors { (E.state errors.old).failed ≡ false }
     ensures { AnswersLine (F.found files.now) look.now.style.now look.now.legend.now line.now result
-        (W.taken sink.old) (W.taken sink.new) (E.taken errors.old) (E.taken errors.new)
-        (W.has_failed sink.new) (W.is_stalled sink.new) (E.has_failed errors.new)
-        (E.is_stalled errors.new) }
+        (W.state sink.old) (W.state sink.new) (E.state errors.old) (E.state errors.new) }
 {
     match line {
         Ok(CommandLine::Asks(drawing)) => draw_asked(alloc, drawing, look, files, sink, errors),

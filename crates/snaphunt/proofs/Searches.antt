@@ -1,5 +1,5 @@
 -- What the hunt that a command line asks for comes to, by what was read of its listing.
-use Rattle.std.proofs.Common.{◌≡◌, inl, inr, ℕ, List, Vec, Bool, Option, Result, Ok, Err, ap, refl, sym}
+use Rattle.std.proofs.Common.{◌≡◌, inl, inr, ℕ, List, Vec, Option, Result, Ok, Err, ap, refl, sym}
 use Rattle.std.specs.Global.{Global}
 use Rattle.std.specs.declared.io.ErrorKind.{ErrorKind}
 use Rattle.snap_semantics.specs.Answers.{refused_as}
@@ -62,13 +62,13 @@ no_write files (Shipped g) h = no_write_shipped h.0 (Err fault.Write) refl h.1
 
 -- there is no text to hunt in, and nothing was printed
 pub no_text : (files : List ℕ → Option (Result (List ℕ) ErrorKind)) (named : Named) (a : Asked) (e : RunFault)
-    (text : List ℕ) (taken : Option (List ℕ)) (w s : Bool) →
-    GivesText files named (Err e) → Hunts files named a text (Err e) taken taken w s
-no_text files named a fault.Memory text taken w s h = (Err fault.Memory, tt, refl)
-no_text files named a (fault.Refused r) text taken w s h = (Err (fault.Refused r), inl h, (refl, refl))
-no_text files named a fault.Unsaid text taken w s h = (Err fault.Unsaid, inl h, (refl, refl))
-no_text files named a (fault.Unread k) text taken w s h = (Err (fault.Unread k), inl h, (refl, refl))
-no_text files named a fault.Write text taken w s h = absurd (no_write files named h)
+    (text : List ℕ) (sink : SinkState) →
+    GivesText files named (Err e) → Hunts files named a text (Err e) sink sink
+no_text files named a fault.Memory text sink h = (Err fault.Memory, tt, refl)
+no_text files named a (fault.Refused r) text sink h = (Err (fault.Refused r), inl h, (refl, refl))
+no_text files named a fault.Unsaid text sink h = (Err fault.Unsaid, inl h, (refl, refl))
+no_text files named a (fault.Unread k) text sink h = (Err (fault.Unread k), inl h, (refl, refl))
+no_text files named a fault.Write text sink h = absurd (no_write files named h)
 
 in_text : (files : List ℕ → Option (Result (List ℕ) ErrorKind)) (named : Named) (a : Asked) (text : List ℕ)
     (r : Result Hunted RunFault) → IsText files named (Ok text) → ComesTo text a r → IsSearched files named a text r
@@ -81,6 +81,6 @@ in_text files named a text (Err fault.Write) is comes = absurd comes
 
 -- there is one, and this was printed of a hunt in it
 pub with_text : (files : List ℕ → Option (Result (List ℕ) ErrorKind)) (named : Named) (a : Asked) (text : List ℕ)
-    (done : Result Hunted RunFault) (taken after : Option (List ℕ)) (w s : Bool) → IsText files named (Ok text) →
-    HuntsIn text a done taken after w s → Hunts files named a text done taken after w s
-with_text files named a text done taken after w s is h = (h.0, in_text files named a text h.0 is h.1, h.2)
+    (done : Result Hunted RunFault) (sink sink_after : SinkState) → IsText files named (Ok text) →
+    HuntsIn text a done sink sink_after → Hunts files named a text done sink sink_after
+with_text files named a text done sink sink_after is h = (h.0, in_text files named a text h.0 is h.1, h.2)

@@ -54,9 +54,8 @@ fn print<W: ByteSink>(
     hunted: Hunted,
     sink: &mut W,
 ) -> Result<Hunted, RunFault>
-    requires { W.has_failed sink.old ≡ false }
-    ensures { Prints asked.now (Ok hunted) result (W.taken sink.old) (W.taken sink.new)
-        (W.has_failed sink.new) (W.is_stalled sink.new) }
+    requires { (W.state sink.old).failed ≡ false }
+    ensures { Prints asked.now (Ok hunted) result (W.state sink.old) (W.state sink.new) }
 {
     let Ok(text) = hunted_text(alloc, asked, &hunted) else {
         return Err(RunFault::Memory);
@@ -77,9 +76,8 @@ fn hunt_in<W: Watcher, S: ByteSink>(
     sink: &mut S,
 ) -> Result<Hunted, RunFault>
     requires runs { asked.now.runs < 2 ^ 63 }
-    requires sink { S.has_failed sink.old ≡ false }
-    ensures { HuntsIn listing.now asked.now result (S.taken sink.old) (S.taken sink.new)
-        (S.has_failed sink.new) (S.is_stalled sink.new) }
+    requires sink { (S.state sink.old).failed ≡ false }
+    ensures { HuntsIn listing.now asked.now result (S.state sink.old) (S.state sink.new) }
 {
     match search_text(threads, alloc, listing, asked, watcher) {
         Ok(hunted) => print(alloc, asked, hunted, sink),
@@ -89,9 +87,8 @@ fn hunt_in<W: Watcher, S: ByteSink>(
 
 /// Says why nothing, or not all, was printed, or that there is no memory for that line.
 fn complain<E: ByteSink>(alloc: Global, listed: &Listed<'_>, fault: &RunFault, errors: &mut E)
-    requires { E.has_failed errors.old ≡ false }
-    ensures { Tells (view_listed listed.now) fault.now (E.taken errors.old) (E.taken errors.new)
-        (E.has_failed errors.new) (E.is_stalled errors.new) }
+    requires { (E.state errors.old).failed ≡ false }
+    ensures { Tells (view_listed listed.now) fault.now (E.state errors.old) (E.state errors.new) }
 {
     match fault_line(alloc, listed, fault) {
         Ok(line) => say(line.as_slice(), errors),
@@ -131,10 +128,9 @@ fn explain<E: ByteSink>(
     fault: &RunFault,
     errors: &mut E,
 )
-    requires { E.has_failed errors.old ≡ false }
+    requires { (E.state errors.old).failed ≡ false }
     ensures { SaysWhy asked.now.explains (view_listed asked.now.listed) listing.now (Err fault.now)
-        (E.taken errors.old) (E.taken errors.new) (E.has_failed errors.new)
-        (E.is_stalled errors.new) }
+        (E.state errors.old) (E.state errors.new) }
 {
     match fault_line(alloc, &asked.listed, fault) {
         Ok(mut line) => {
@@ -153,11 +149,10 @@ fn finish<E: ByteSink>(
     done: &Result<Hunted, RunFault>,
     errors: &mut E,
 ) -> u8
-    requires { E.has_failed errors.old ≡ false }
+    requires { (E.state errors.old).failed ≡ false }
     ensures status { result ≡ exit_status done.now }
     ensures says { SaysWhy asked.now.explains (view_listed asked.now.listed) listing.now done.now
-        (E.taken errors.old) (E.taken errors.new) (E.has_failed errors.new)
-        (E.is_stalled errors.new) }
+        (E.state errors.old) (E.state errors.new) }
 {
     match done {
         Ok(hunted) => hunted_status(hunted),
@@ -180,11 +175,10 @@ fn hunt<F: FileSource, W: Watcher, S: ByteSink, E: ByteSink>(
     errors: &mut E,
 ) -> u8
     requires search { IsSearch asked.now }
-    requires sink { S.has_failed sink.old ≡ false }
-    requires errors { E.has_failed errors.old ≡ false }
-    ensures { AnswersSearch (F.found files.now) asked.now result (S.taken sink.old)
-        (S.taken sink.new) (E.taken errors.old) (E.taken errors.new) (S.has_failed sink.new)
-        (S.is_stalled sink.new) (E.has_failed errors.new) (E.is_stalled errors.new) }
+    requires sink { (S.state sink.old).failed ≡ false }
+    requires errors { (E.state errors.old).failed ≡ false }
+    ensures { AnswersSearch (F.found files.now) asked.now result (S.state sink.old)
+        (S.state sink.new) (E.state errors.old) (E.state errors.new) }
 {
     match text_of(alloc, files, &asked.listed) {
         Ok(listing) => {
@@ -204,9 +198,8 @@ fn hunt<F: FileSource, W: Watcher, S: ByteSink, E: ByteSink>(
 
 /// Prints help, or the version.
 fn help<S: ByteSink>(text: &[u8], sink: &mut S) -> u8
-    requires { S.has_failed sink.old ≡ false }
-    ensures { Helps text.now result (S.taken sink.old) (S.taken sink.new) (S.has_failed sink.new)
-        (S.is_stalled sink.new) }
+    requires { (S.state sink.old).failed ≡ false }
+    ensures { Helps text.now result (S.state sink.old) (S.state sink.new) }
 {
     match write_all(sink, text) {
         Ok(()) => 0,
@@ -225,11 +218,10 @@ pub(crate) fn answer<F: FileSource, W: Watcher, S: ByteSink, E: ByteSink>(
     errors: &mut E,
 ) -> u8
     requires line { IfOk line.now IsLine }
-    requires sink { S.has_failed sink.old ≡ false }
-    requires errors { E.has_failed errors.old ≡ false }
-    ensures { AnswersLine (F.found files.now) line.now result (S.taken sink.old)
-        (S.taken sink.new) (E.taken errors.old) (E.taken errors.new) (S.has_failed sink.new)
-        (S.is_stalled sink.new) (E.has_failed errors.new) (E.is_stalled errors.new) }
+    requires sink { (S.state sink.old).failed ≡ false }
+    requires errors { (E.state errors.old).failed ≡ false }
+    ensures { AnswersLine (F.found files.now) line.now result (S.state sink.old)
+        (S.state sink.new) (E.state errors.old) (E.state errors.new) }
 {
     match line {
         Ok(CommandLine::Asks(asked)) => hunt(threads, alloc, asked, files, watcher, sink, errors),

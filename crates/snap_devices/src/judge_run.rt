@@ -3,8 +3,8 @@
 ghost use Rattle.std.specs.Prelude.{◌≡◌, false};
 ghost use Rattle.snap_devices.specs.WholeRun.{ConductsJudge};
 
-use crate::fault::ConductFault;
-use crate::whole_texts::{read_all, write_all};
+use crate::whole_texts::read_all;
+use snap_faults::{ProgramFault, write_all};
 use snap_judge_task::{Linearizability, judge_input};
 use snap_streams::{ByteSink, ByteSource};
 use snap_tasks::JudgeRequest;
@@ -18,7 +18,7 @@ pub fn conduct_judge<R: ByteSource, W: ByteSink>(
     source: &mut R,
     sink: &mut W,
     kept: &mut Vec<u8>,
-) -> Result<Linearizability, ConductFault>
+) -> Result<Linearizability, ProgramFault>
     requires source { (R.state source.old).failed ≡ false }
     requires sink { (W.state sink.old).failed ≡ false }
     requires goes_on { (W.state sink.old).stalled ≡ false }

@@ -4,8 +4,8 @@ ghost use Rattle.std.specs.Prelude.{◌≡◌, ◌≤◌, false};
 ghost use Rattle.snap_words.specs.Shape.{max_items};
 ghost use Rattle.snap_devices.specs.WholeRun.{ConductsLive, ConductsLiveKeeping};
 
-use crate::fault::ConductFault;
-use crate::whole_texts::{read_all, write_all};
+use crate::whole_texts::read_all;
+use snap_faults::{ProgramFault, write_all};
 use snap_live::Gate;
 use snap_live_output::live_output;
 use snap_streams::{ByteSink, ByteSource};
@@ -24,7 +24,7 @@ pub fn conduct_live<G: Gate, R: ByteSource, W: ByteSink>(
     gate: &G,
     source: &mut R,
     sink: &mut W,
-) -> Result<(), ConductFault>
+) -> Result<(), ProgramFault>
     requires limit { (1 ≤ limit) × (limit ≤ max_items) }
     requires source { (R.state source.old).failed ≡ false }
     requires sink { (W.state sink.old).failed ≡ false }
@@ -48,7 +48,7 @@ pub fn conduct_live_keeping<G: Gate, R: ByteSource, W: ByteSink>(
     source: &mut R,
     sink: &mut W,
     kept: &mut Vec<u8>,
-) -> Result<Vec<u8>, ConductFault>
+) -> Result<Vec<u8>, ProgramFault>
     requires limit { (1 ≤ limit) × (limit ≤ max_items) }
     requires source { (R.state source.old).failed ≡ false }
     requires sink { (W.state sink.old).failed ≡ false }

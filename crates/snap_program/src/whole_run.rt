@@ -10,7 +10,8 @@ ghost use Rattle.snap_output.specs.Output.{AreJudged, output_of};
 ghost use Rattle.snap_program.specs.TaskRun.{Conducts, ConductsSurvey, IsOutputOf, RefusesTask};
 ghost use Rattle.snap_tasks.specs.declared.task.Task.TheVariants.{Run};
 
-use snap_devices::{ByteSink, ByteSource, ConductFault, read_all, write_all};
+use snap_devices::{ByteSink, ByteSource, read_all};
+use snap_faults::{ProgramFault, write_all};
 use snap_output::{output, planned_run, run_planned, survey_output};
 use snap_semantics::{Fault, Refusal};
 use snap_tasks::{Subject, Task};
@@ -54,7 +55,7 @@ pub fn conduct<R: ByteSource, W: ByteSink>(
     task: &Task,
     source: &mut R,
     sink: &mut W,
-) -> Result<(), ConductFault>
+) -> Result<(), ProgramFault>
     requires source { (R.state source.old).failed ≡ false }
     requires sink { (W.state sink.old).failed ≡ false }
     requires goes_on { (W.state sink.old).stalled ≡ false }
@@ -73,7 +74,7 @@ pub fn conduct_keeping<R: ByteSource, W: ByteSink>(
     source: &mut R,
     sink: &mut W,
     kept: &mut Vec<u8>,
-) -> Result<(), ConductFault>
+) -> Result<(), ProgramFault>
     requires source { (R.state source.old).failed ≡ false }
     requires sink { (W.state sink.old).failed ≡ false }
     requires goes_on { (W.state sink.old).stalled ≡ false }
@@ -94,7 +95,7 @@ pub fn conduct_survey<R: ByteSource, W: ByteSink>(
     source: &mut R,
     sink: &mut W,
     kept: &mut Vec<u8>,
-) -> Result<bool, ConductFault>
+) -> Result<bool, ProgramFault>
     requires source { (R.state source.old).failed ≡ false }
     requires sink { (W.state sink.old).failed ≡ false }
     requires goes_on { (W.state sink.old).stalled ≡ false }

@@ -1,7 +1,7 @@
 -- `conduct_judge` of snap_devices (src/judge_run.rt): the proof of what its contract says.
 -- Reads the input, judges what it gives, writes what is said of it and nothing else, and answers the word for it.
 use Rattle.std.specs.Prelude.{Ok}
-use Rattle.snap_devices.specs.WholeRun.{IsJudgeOf, RefusesJudge, done_of, of_judge_fault}
+use Rattle.snap_devices.specs.WholeRun.{IsJudgeOf, RefusesJudge, done_of}
 use Rattle.snap_devices.proofs.Runs.{is_kept, not_read, passed_on, refused, sends, some_word, stops, why_judge}
 use Rattle.snap_devices.proofs.judge_run.conduct_judge.Goals as goal
 
@@ -23,10 +23,10 @@ returns-in_err-found g c =
       c.in_ok-input.input.items,
       is_kept (done_of answer) c.in_ok-input.input.items,
       refused (IsJudgeOf answer c.args.request.now) (RefusesJudge c.args.request.now)
-          (done_of answer) (of_judge_fault why) c.in_ok-input.input.items c.as_slice.result.now
+          (done_of answer) why c.in_ok-input.input.items c.as_slice.result.now
           (g.R.ByteSource.state c.args.source.now) (g.R.ByteSource.state c.read_all.new.source)
           (g.W.ByteSink.state c.args.sink.now)
-          (passed_on answer (of_judge_fault why) c.from_residual-in_err-found.ensures)
+          (passed_on answer why c.from_residual-in_err-found.ensures)
           c.as_slice.ensures.value read.0 read.1
           (why_judge why c.args.request.now c.as_slice.result.now c.in_err-found.ensures.answers),
     )

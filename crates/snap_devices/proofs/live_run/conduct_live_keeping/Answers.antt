@@ -1,7 +1,7 @@
 -- What `conduct_live_keeping` (src/live_run.rt) answers, wherever it ends.
 use Rattle.std.specs.Prelude.{◌≡◌, Ok}
 use Rattle.snap_live_output.specs.Uncalled.{uncalled_of}
-use Rattle.snap_devices.specs.WholeRun.{IsLiveOf, RefusesLive, done_of, of_live_fault}
+use Rattle.snap_devices.specs.WholeRun.{IsLiveOf, RefusesLive, done_of}
 use Rattle.snap_devices.proofs.Runs.{is_kept, not_read, nothing_found, passed_on, refused, sends, stops, why_live}
 use Rattle.snap_devices.proofs.live_run.conduct_live_keeping.Goals as goal
 
@@ -23,10 +23,10 @@ returns-in_err-found g c =
       c.in_ok-input.input.items,
       is_kept (done_of answer) c.in_ok-input.input.items,
       refused (IsLiveOf answer may c.args.subject c.args.limit) (RefusesLive may c.args.subject c.args.limit)
-          (done_of answer) (of_live_fault why) c.in_ok-input.input.items c.as_slice.result.now
+          (done_of answer) why c.in_ok-input.input.items c.as_slice.result.now
           (g.R.ByteSource.state c.args.source.now) (g.R.ByteSource.state c.read_all.new.source)
           (g.W.ByteSink.state c.args.sink.now)
-          (passed_on answer (of_live_fault why) c.from_residual-in_err-found.ensures)
+          (passed_on answer why c.from_residual-in_err-found.ensures)
           c.as_slice.ensures.value read.0 read.1
           (why_live why may c.args.subject c.args.limit c.as_slice.result.now c.in_err-found.ensures.answer),
     )

@@ -1,7 +1,7 @@
 -- `conduct_keeping` of snap_program (src/whole_run.rt): the proof of what its contract says.
 -- Does the same, and keeps the input: where it is refused, it was kept.
 use Rattle.std.proofs.Common.{Err, ap, refl}
-use Rattle.snap_devices.specs.WholeRun.{of_fault}
+use Rattle.snap_faults.specs.Faults.{of_input_fault}
 use Rattle.snap_devices.proofs.Runs.{need_not_keep, not_read, refused, sends, still_kept}
 use Rattle.snap_program.specs.TaskRun.{IsOutputOf, RefusesTask}
 use Rattle.snap_program.proofs.Refused.{why_task}
@@ -15,7 +15,7 @@ returns-in_err-text g c =
       still_kept answer fault c.kept_output.new.kept.items input c.from_residual-in_err-text.ensures
           (λ r is. c.in_err-text.ensures.kept r (ap Err is)),
       refused (IsOutputOf c.args.task.now) (RefusesTask c.args.task.now) answer
-          (of_fault fault) input input
+          (of_input_fault fault) input input
           (g.R.ByteSource.state c.args.source.now) (g.R.ByteSource.state c.read_all.new.source)
           (g.W.ByteSink.state c.args.sink.now)
           c.from_residual-in_err-text.ensures refl read.0 read.1

@@ -3,7 +3,8 @@
 use Rattle.std.specs.Prelude.{◌≡◌, Ok}
 use Rattle.snap_output.specs.Output.{clean_of}
 use Rattle.snap_tasks.specs.declared.task.Task.TheVariants.{Survey}
-use Rattle.snap_devices.specs.WholeRun.{done_of, of_fault}
+use Rattle.snap_devices.specs.WholeRun.{done_of}
+use Rattle.snap_faults.specs.Faults.{of_input_fault}
 use Rattle.snap_program.specs.TaskRun.{IsSurveyOf, RefusesTask}
 use Rattle.snap_devices.proofs.Runs.{is_kept, not_read, nothing_found, passed_on, refused, sends, stops}
 use Rattle.snap_program.proofs.Refused.{why_task}
@@ -26,10 +27,10 @@ returns-in_err-found g c =
       c.in_ok-input.input.items,
       is_kept (done_of answer) c.in_ok-input.input.items,
       refused (IsSurveyOf answer c.args.subject) (RefusesTask (Survey c.args.subject)) (done_of answer)
-          (of_fault why) c.in_ok-input.input.items c.as_slice.result.now
+          (of_input_fault why) c.in_ok-input.input.items c.as_slice.result.now
           (g.R.ByteSource.state c.args.source.now) (g.R.ByteSource.state c.read_all.new.source)
           (g.W.ByteSink.state c.args.sink.now)
-          (passed_on answer (of_fault why) c.from_residual-in_err-found.ensures) c.as_slice.ensures.value read.0 read.1
+          (passed_on answer (of_input_fault why) c.from_residual-in_err-found.ensures) c.as_slice.ensures.value read.0 read.1
           (why_task why (Survey c.args.subject) c.as_slice.result.now c.in_err-found.ensures.output),
     )
 

@@ -1,5 +1,5 @@
-//! The printed texts of positions, registers, processes, events and outcomes, and the report of a
-//! machine.
+//! The printed texts of positions, registers, processes, events and outcomes, of where an item
+//! writes, and the report of a machine.
 #![tactic(auto)]
 
 mod event_text;
@@ -8,6 +8,7 @@ mod printed;
 mod process_text;
 mod register_text;
 mod reports;
+mod spot_text;
 mod word_text;
 
 pub use event_text::{event_line, event_lines, op_text};
@@ -16,3 +17,4 @@ pub use printed::Report;
 pub use process_text::{head_line, process_lines};
 pub use register_text::{register_line, register_lines, values_line};
 pub use reports::{position_line, report};
+pub use spot_text::{spot_local, spot_shared};

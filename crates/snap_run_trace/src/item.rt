@@ -4,12 +4,13 @@ ghost use Rattle.std.specs.Prelude.{◌≡◌, [], ◌++◌, IfOk, OnOk};
 ghost use Rattle.snap_words.specs.Shape.{IsOneOf};
 ghost use Rattle.snap_semantics.specs.Run.{event_of};
 ghost use Rattle.snap_semantics.specs.Table.{done, who};
-ghost use Rattle.snap_run_trace.specs.Between.{owned, process_text};
+ghost use Rattle.snap_run_trace.specs.Between.{owned};
 ghost use Rattle.snap_run_trace.specs.Step.{done_text, head_text, line_run, number_text, run_text};
+ghost use Rattle.snap_run_trace.specs.Touched.{touched_text};
 
 use snap_listing_printer::LineTexts;
-use snap_machine::Machine;
-use snap_report::{event_lines, outcome_text, process_lines, register_lines, values_line};
+use snap_machine::{Machine, Spot};
+use snap_report::{event_lines, head_line, outcome_text, spot_local, spot_shared};
 use snap_semantics::{Event, Happening, Item, Outcome, Status, who};
 use snap_text::{push_changes, push_number, push_owned_lines, push_text};
 use snap_words::Kind;
@@ -50,22 +51,24 @@ fn events_of(
     Ok(events)
 }
 
-/// The values, the registers, a process and events: each line says of whom it speaks.
+/// What an item that writes there can change in a report, and events: each line says of whom it
+/// speaks.
 #[tactic(auto, using(snap_text::proofs::Texts::joined))]
-fn process_text<K: Kind>(
+fn touched_text<K: Kind>(
     alloc: Global,
     machine: &Machine<K>,
     i: u32,
+    spot: Spot,
     events: &[Event],
 ) -> Result<Vec<u8>, AllocError>
     requires { IsOneOf machine.now.shape.n i }
-    ensures { IfOk result (λ text. text.items ≡ owned (process_text machine.now.source.kind i
+    ensures { IfOk result (λ text. text.items ≡ owned (touched_text machine.now.source.kind i spot
         machine.now.state events.now)) }
 {
     let mut lines = Vec::new(alloc);
-    values_line(&mut lines, machine)?;
-    register_lines(&mut lines, machine)?;
-    process_lines(&mut lines, machine, i)?;
+    spot_shared(&mut lines, machine, spot)?;
+    head_line(&mut lines, machine, i)?;
+    spot_local(&mut lines, machine, i, spot)?;
     event_lines(&mut lines, events)?;
     let mut text = Vec::new(alloc);
     push_owned_lines(&mut text, lines.as_slice())?;
@@ -140,10 +143,14 @@ pub(crate) fn push_item<K: Kind>(
 {
     let i = who(item);
     let run = line_run(item, machine.status(i));
-    let before = process_text(alloc, machine, i, &[])?;
+    let _processes = machine.shape();
+    // Its rules say that the names of locals are words.
+    let _lines = machine.program().listing().lines();
+    let spot = machine.overwritten(item)?.spot();
+    let before = touched_text(alloc, machine, i, spot, &[])?;
     let outcome = machine.apply(item)?;
     push_did(out, texts, number, i, &outcome, run)?;
     let events = events_of(alloc, number, item, outcome)?;
-    let after = process_text(alloc, machine, i, events.as_slice())?;
+    let after = touched_text(alloc, machine, i, spot, events.as_slice())?;
     push_changes(out, before.as_slice(), after.as_slice())
 }

@@ -1,8 +1,22 @@
 //! `Undo`: what an item overwrote: the status of its process, and the register or local that it
-//! wrote with what that had.
-use snap_semantics::{BitBank, Status};
-use snap_words::{Kind, View};
+//! wrote with what that had; and `Spot`, which register or local that is.
+ghost use Rattle.std.specs.Prelude.{◌≡◌};
+ghost use Rattle.snap_semantics.specs.Table.{bank_of};
+ghost use Rattle.snap_undo.specs.Spot.{lone, spot_of};
+
+use snap_semantics::{BitBank, Sort, Status};
+use snap_words::{Address, Bank, Kind, View};
 use std::marker::Model;
+
+/// Where an item writes besides the status of its process: in a register, in a local of its
+/// process, or in one of the places of a `words` local. Slots and places are counted from 0.
+#[derive(Clone, Copy, PartialEq, Eq)]
+pub enum Spot {
+    Nowhere,
+    Register(Address),
+    Local(Sort, usize),
+    WordsPlace(usize, usize),
+}
 
 /// A place that an item writes, with what it had: a register by its indices, counted from 1; or a
 /// local of the process by its slot, whole or one of its places, all counted from 0.
@@ -38,4 +52,44 @@ impl<K: Kind> Model for Undo<K> {
       status = u.status;
       place = seen_place K.as_word u.place;
     } };
+}
+
+impl<K: Kind> Undo<K> {
+    /// Where that is what the item overwrote.
+    pub fn spot(&self) -> Spot
+        ensures { result ≡ spot_of self.now.place }
+    {
+        match &self.place {
+            SlotPlace::Nowhere => Spot::Nowhere,
+            SlotPlace::WordRegister(k, _) => lone(Bank::R, *k),
+            SlotPlace::BitRegister(bits, i, j, _) => Spot::Register(Address {
+                bank: bank_of(*bits),
+                i: *i,
+                j: *j,
+            }),
+            SlotPlace::ViewRegister(i, _) => lone(Bank::V, *i),
+            SlotPlace::Scalar(slot, _) => Spot::Local(Sort::Scalar, *slot),
+            SlotPlace::Number(slot, _, _) => Spot::Local(Sort::Row, *slot),
+            SlotPlace::Row(slot, _) => Spot::Local(Sort::Row, *slot),
+            SlotPlace::LocalWord(slot, place, _) => Spot::WordsPlace(*slot, *place),
+            SlotPlace::LocalView(slot, _) => Spot::Local(Sort::View, *slot),
+        }
+    }
+}
+
+/// The register of a bank whose registers have one index.
+fn lone(bank: Bank, i: u64) -> Spot
+    ensures { result ≡ lone bank i }
+{
+    Spot::Register(Address { bank, i, j: 0 })
+}
+
+/// The bank of registers that a bank of bits is.
+fn bank_of(bits: BitBank) -> Bank
+    ensures { result ≡ bank_of bits }
+{
+    match bits {
+        BitBank::Q => Bank::Q,
+        BitBank::P => Bank::P,
+    }
 }

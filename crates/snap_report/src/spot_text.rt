@@ -1,0 +1,94 @@
+//! The printed texts of a `Spot`, where an item writes: of a register, and of a local.
+ghost use Rattle.std.specs.Prelude.{◌≡◌, ◌++◌, OnOk};
+ghost use Rattle.snap_words.specs.Shape.{IsOneOf};
+ghost use Rattle.snap_semantics.specs.State.{process_at};
+ghost use Rattle.snap_semantics.specs.declared.text.Sort.TheVariants.{Words};
+ghost use Rattle.snap_machine.specs.SeenContents.{local_at};
+ghost use Rattle.snap_report.specs.SpotLines.{named_lines, place_line, spot_local, spot_shared};
+
+use crate::process_text::{local_lines, word_local};
+use crate::register_text::{register_line, values_line};
+use snap_machine::{Local, Machine, Sort, Spot};
+use snap_words::{Bank, Kind};
+use std::alloc::AllocError;
+
+/// The line of the register that a spot is, behind the values where it is a word.
+#[tactic(auto, using(snap_text::proofs::Texts::joined))]
+pub fn spot_shared<K: Kind>(
+    out: &mut Vec<u8>,
+    machine: &Machine<K>,
+    spot: Spot,
+) -> Result<(), AllocError>
+    ensures { OnOk result (out.new.items ≡ out.old.items
+        ++ spot_shared machine.now.source.kind machine.now.state spot) }
+{
+    match spot {
+        Spot::Register(address) => {
+            match address.bank {
+                Bank::R => values_line(out, machine)?,
+                _ => {}
+            }
+            register_line(out, machine, address)
+        }
+        _ => Ok(()),
+    }
+}
+
+/// The lines of local `k` of a sort, where there is one.
+fn named_lines<K: Kind>(
+    out: &mut Vec<u8>,
+    machine: &Machine<K>,
+    i: u32,
+    sort: Sort,
+    k: usize,
+) -> Result<(), AllocError>
+    requires { IsOneOf machine.now.shape.n i }
+    ensures { OnOk result (out.new.items ≡ out.old.items ++ named_lines machine.now.source.kind
+        (local_at (process_at machine.now.state i).locals sort k)) }
+{
+    let kind = machine.program().kind();
+    match machine.local_at(i, sort, k) {
+        Some(local) => local_lines(out, kind, local),
+        None => Ok(()),
+    }
+}
+
+/// The line of a place of a `words` local, where there is one. Places are counted from 0.
+fn place_line<K: Kind>(
+    out: &mut Vec<u8>,
+    machine: &Machine<K>,
+    i: u32,
+    k: usize,
+    place: usize,
+) -> Result<(), AllocError>
+    requires { IsOneOf machine.now.shape.n i }
+    ensures { OnOk result (out.new.items ≡ out.old.items ++ place_line machine.now.source.kind place
+        (local_at (process_at machine.now.state i).locals Words k)) }
+{
+    let kind = machine.program().kind();
+    match machine.local_at(i, Sort::Words, k) {
+        Some((name, Local::Words(words))) => match words.get(place) {
+            Some(word) => word_local::<K>(out, kind, &name, place as u64 + 1, word),
+            None => Ok(()),
+        },
+        _ => Ok(()),
+    }
+}
+
+/// The lines of the local of process `i` that a spot is.
+pub fn spot_local<K: Kind>(
+    out: &mut Vec<u8>,
+    machine: &Machine<K>,
+    i: u32,
+    spot: Spot,
+) -> Result<(), AllocError>
+    requires { IsOneOf machine.now.shape.n i }
+    ensures { OnOk result (out.new.items ≡ out.old.items ++ spot_local machine.now.source.kind
+        (process_at machine.now.state i).locals spot) }
+{
+    match spot {
+        Spot::Local(sort, k) => named_lines(out, machine, i, sort, k),
+        Spot::WordsPlace(k, place) => place_line(out, machine, i, k, place),
+        _ => Ok(()),
+    }
+}

@@ -2,4 +2,4 @@
 pub mod ReportLines
 pub mod OutcomeText
 pub mod RunReport
-pub mod SpotLines
+pub mod WrittenLines

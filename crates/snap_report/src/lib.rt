@@ -8,8 +8,8 @@ mod printed;
 mod process_text;
 mod register_text;
 mod reports;
-mod spot_text;
 mod word_text;
+mod written_text;
 
 pub use event_text::{event_line, event_lines, op_text};
 pub use outcomes::{head_lines, outcome_text, reason_text};
@@ -17,4 +17,4 @@ pub use printed::Report;
 pub use process_text::{head_line, process_lines};
 pub use register_text::{register_line, register_lines, values_line};
 pub use reports::{position_line, report};
-pub use spot_text::{spot_local, spot_shared};
+pub use written_text::{written_local, written_shared};

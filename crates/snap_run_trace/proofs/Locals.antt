@@ -13,10 +13,10 @@ use Rattle.snap_semantics.specs.Source.{Name, Source}
 use Rattle.snap_semantics.specs.State.{Locals, NameMap, value_at, with_row, with_scalar, with_value, with_view}
 use Rattle.snap_semantics.specs.State.{with_words}
 use Rattle.snap_asm_program.specs.NamedLines.{name_at}
-use Rattle.snap_undo.specs.Spot.{spot_of}
+use Rattle.snap_undo.specs.WritePlace.{write_place_of}
 use Rattle.snap_undo.specs.Undo.{Place, Nowhere, WordRegister, BitRegister, ViewRegister, Scalar, Number, Row}
 use Rattle.snap_undo.specs.Undo.{LocalWord, LocalView, put_local}
-use Rattle.snap_report.specs.SpotLines.{named_lines, place_line, spot_local, word_there}
+use Rattle.snap_report.specs.WrittenLines.{named_lines, place_line, written_local, word_there}
 use Rattle.snap_run_trace.proofs.Wholes.{feeds}
 use Rattle.snap_run_trace.proofs.Feeds.{list_feeds, number_feeds, place_feeds, places_same}
 use Rattle.snap_run_trace.proofs.Owned.{IsPlain}
@@ -81,12 +81,12 @@ module _ (g : KindTag) where
       (word_there g x p (slice_get old p)) (word_there g x p (slice_get new p))
   places_differ x p vs old new v w h e e' =
       let lines : ℕ → Word → List ℕ = λ m w. word_local g x m w in
-      let spot : Word → List ℕ = λ w. word_local g x (1 + p) w in
+      let written : Word → List ℕ = λ w. word_local g x (1 + p) w in
       differ_as IsIndented (words_lines x old) (words_lines x new)
-      (at spot (slice_get old p)) (at spot (slice_get new p))
+      (at written (slice_get old p)) (at written (slice_get new p))
       (word_there g x p (slice_get old p)) (word_there g x p (slice_get new p))
       (differ_of IsIndented (numbered lines 1 old) (numbered lines 1 new) (words_lines x old) (words_lines x new)
-      (at spot (slice_get old p)) (at spot (slice_get new p))
+      (at written (slice_get old p)) (at written (slice_get new p))
       (one_differs IsIndented none_indented both_indented lines (λ w. Unit {0}) (λ n w good. place_indented g x n w h)
       1 p vs old new v w (any vs) tt tt (place_feeds g x (1 + p) v ∙ sym (place_feeds g x (1 + p) w)) e e')
       (as_places x 1 old) (as_places x 1 new))
@@ -278,7 +278,7 @@ module _ (g : KindTag) where
 
     -- what differs where a place was put back
     pub local_differs : (p : Place) → Differs IsIndented (locals_text g (put_local s p l)) (locals_text g l)
-        (spot_local g (put_local s p l) (spot_of p)) (spot_local g l (spot_of p))
+        (written_local g (put_local s p l) (write_place_of p)) (written_local g l (write_place_of p))
     local_differs Nowhere = same_locals
     local_differs (WordRegister k x) = same_locals
     local_differs (BitRegister b i j x) = same_locals

@@ -21,11 +21,11 @@ use Rattle.snap_semantics.specs.Source.{Source}
 use Rattle.snap_semantics.specs.State.{Memory, with_memory_words}
 use Rattle.snap_semantics.specs.Table.{bank_of, bits_of, with_bit_at, with_memory_bits, with_memory_views}
 use Rattle.snap_regs.specs.Access.{is_bit_place, is_view_place}
-use Rattle.snap_undo.specs.Spot.{spot_of}
+use Rattle.snap_undo.specs.WritePlace.{write_place_of}
 use Rattle.snap_undo.specs.Undo.{FitsPlace, Place, Nowhere, WordRegister, BitRegister, ViewRegister, Scalar, Number}
 use Rattle.snap_undo.specs.Undo.{Row, LocalWord, LocalView, put_register}
-use Rattle.snap_undo.specs.declared.undo.Spot.{Spot}
-use Rattle.snap_undo.specs.declared.undo.Spot.TheVariants as spot
+use Rattle.snap_undo.specs.declared.undo.WritePlace.{WritePlace}
+use Rattle.snap_undo.specs.declared.undo.WritePlace.TheVariants as written
 use Rattle.snap_report.specs.ReportLines.{bank_text, register_line}
 use Rattle.snap_run_trace.proofs.Wholes.{feeds}
 use Rattle.snap_run_trace.proofs.Feeds.{bit_feeds, row_feeds, view_feeds, word_feeds}
@@ -34,10 +34,10 @@ use Rattle.snap_run_trace.proofs.Splits.{all_are, any, numbered}
 use Rattle.snap_run_trace.proofs.Differs.{Differs, at, differ_as, differ_of, differ_within, if_there, in_first}
 use Rattle.snap_run_trace.proofs.Differs.{in_fourth, in_second, in_third, is_there, one_differs, stays}
 
--- the line of the register at a spot
-abbrev pub spot_register : KindTag → Memory → Spot → List ℕ
-spot_register g m (spot.Register a) = register_line g a.bank a.i a.j (contents m a.bank a.i a.j)
-spot_register g m _ = []
+-- the line of the register at a write place
+abbrev pub written_register : KindTag → Memory → WritePlace → List ℕ
+written_register g m (written.Register a) = register_line g a.bank a.i a.j (contents m a.bank a.i a.j)
+written_register g m _ = []
 
 word_part : (g : KindTag) (k : ℕ) (x : Word) → IsPart (word_line g k x)
 word_part g k x = record {
@@ -322,7 +322,7 @@ bit_differs g m bits.P i j x one column =
 -- what differs where a place was put back
 pub register_differs : (g : KindTag) (s : Source) (n : Counts) (m : Memory) (u : Place) → FitsPlace s n u →
     Differs IsPart (register_lines g (put_register u m)) (register_lines g m)
-    (spot_register g (put_register u m) (spot_of u)) (spot_register g m (spot_of u))
+    (written_register g (put_register u m) (write_place_of u)) (written_register g m (write_place_of u))
 register_differs g s n m Nowhere h = same_registers g m
 register_differs g s n m (WordRegister k x) h = word_differs g m k x (one_at_least n.w k h.0)
 register_differs g s n m (BitRegister b i j x) h =

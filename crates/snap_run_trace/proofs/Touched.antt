@@ -16,11 +16,11 @@ use Rattle.snap_semantics.specs.Report.{register_lines, status_text, values_line
 use Rattle.snap_semantics.specs.Source.{Source}
 use Rattle.snap_semantics.specs.State.{Locals, Memory, Process, State, nobody, process_at, values}
 use Rattle.snap_semantics.specs.Table.{done, who}
-use Rattle.snap_undo.specs.Spot.{spot_of}
+use Rattle.snap_undo.specs.WritePlace.{write_place_of}
 use Rattle.snap_undo.specs.Undo.{CanPut, FitsPlace, Overwritten, Place, Nowhere, WordRegister, BitRegister}
 use Rattle.snap_undo.specs.Undo.{ViewRegister, Scalar, Number, Row, LocalWord, LocalView, put, put_local, put_register}
 use Rattle.snap_machine.specs.Configuration.{HasLocals}
-use Rattle.snap_report.specs.SpotLines.{spot_local, spot_shared}
+use Rattle.snap_report.specs.WrittenLines.{written_local, written_shared}
 use Rattle.snap_run_trace.specs.Between.{between, process_text}
 use Rattle.snap_run_trace.specs.Touched.{touched_text}
 use Rattle.snap_run_trace.proofs.Wholes.{IsWhole, feeds, feeds_append, joined, no_text}
@@ -88,7 +88,7 @@ values_whole xs = ended (codes "values" ++ numbers_text xs)
 shared_short : (g : KindTag) (s : Source) (n : Counts) (m : Memory) (ps ps' : List Process) (u : Place) →
     FitsPlace s n u → let S : State = record { memory = put_register u m; processes = ps } in
     let S' : State = record { memory = m; processes = ps' } in
-    IsShort (shared g S) (shared g S') (spot_shared g S (spot_of u)) (spot_shared g S' (spot_of u))
+    IsShort (shared g S) (shared g S') (written_shared g S (write_place_of u)) (written_shared g S' (write_place_of u))
 shared_short g s n m ps ps' Nowhere h = no_change (shared g (record { memory = m; processes = ps }))
 shared_short g s n m ps ps' (WordRegister k x) h =
     let old = put_register (WordRegister k x) m in
@@ -143,9 +143,9 @@ mine_feeds i t t' m m' e =
 
 module _ (s : Source) (i : ℕ) (S S' : State) (p : Place) (move : IsMove s.kind i S S')
     (short : IsShort (shared s.kind S) (shared s.kind S')
-    (spot_shared s.kind S (spot_of p)) (spot_shared s.kind S' (spot_of p)))
+    (written_shared s.kind S (write_place_of p)) (written_shared s.kind S' (write_place_of p)))
     (mine : Differs IsIndented (locals_text s.kind (process_at S i).locals) (locals_text s.kind (process_at S' i).locals)
-    (spot_local s.kind (process_at S i).locals (spot_of p)) (spot_local s.kind (process_at S' i).locals (spot_of p)))
+    (written_local s.kind (process_at S i).locals (write_place_of p)) (written_local s.kind (process_at S' i).locals (write_place_of p)))
     (count : feeds (process_lines s.kind i (process_at S i)) ≡ feeds (process_lines s.kind i (process_at S' i))) where
   abbrev g : KindTag
   g = s.kind
@@ -157,10 +157,10 @@ module _ (s : Source) (i : ℕ) (S S' : State) (p : Place) (move : IsMove s.kind
   now = process_at S' i
 
   abbrev m : List ℕ
-  m = spot_local g old.locals (spot_of p)
+  m = written_local g old.locals (write_place_of p)
 
   abbrev m' : List ℕ
-  m' = spot_local g now.locals (spot_of p)
+  m' = written_local g now.locals (write_place_of p)
 
   process_short : between (process_lines g i old) (process_lines g i now)
       ≡ between (head_line i old.status ++ m) (head_line i now.status ++ m')
@@ -172,10 +172,10 @@ module _ (s : Source) (i : ℕ) (S S' : State) (p : Place) (move : IsMove s.kind
       mine.alike.same
 
   shortened : (new : List Event) → between (process_text g i S []) (process_text g i S' new)
-      ≡ between (touched_text g i (spot_of p) S []) (touched_text g i (spot_of p) S' new)
+      ≡ between (touched_text g i (write_place_of p) S []) (touched_text g i (write_place_of p) S' new)
   shortened new =
-      let a = spot_shared g S (spot_of p) in
-      let a' = spot_shared g S' (spot_of p) in
+      let a = written_shared g S (write_place_of p) in
+      let a' = written_shared g S' (write_place_of p) in
       in_three (shared g S) (shared g S') (process_lines g i old) (process_lines g i now) (event_lines new)
       (shared_whole g S) (shared_whole g S') (process_part g i old) (process_part g i now) (events_part new)
       (shared_feeds g i S S' move) count
@@ -186,7 +186,7 @@ module _ (s : Source) (i : ℕ) (S S' : State) (p : Place) (move : IsMove s.kind
       (events_part new) short.count (mine_feeds i old.status now.status m m' mine.alike.same))
       ∙ ap (λ t. between (t ++ []) ((a' ++ (head_line i now.status ++ m')) ++ event_lines new))
       (sym (append_assoc a (head_line i old.status) m))
-      ∙ ap (λ t. between (touched_text g i (spot_of p) S []) (t ++ event_lines new))
+      ∙ ap (λ t. between (touched_text g i (write_place_of p) S []) (t ++ event_lines new))
       (sym (append_assoc a' (head_line i now.status) m'))
 
 -- what an item changed, told by what it overwrote
@@ -194,8 +194,8 @@ pub touched : (s : Source) (n : Counts) (S : State) (x : Item) (u : Overwritten)
     who x - 1 < length S.processes → HasLocals s (process_at S (who x)).locals → u.process ≡ who x → CanPut s n u →
     put s u (done s n S x).0 ≡ S →
     between (process_text s.kind (who x) S []) (process_text s.kind (who x) (done s n S x).0 new)
-    ≡ between (touched_text s.kind (who x) (spot_of u.place) S [])
-    (touched_text s.kind (who x) (spot_of u.place) (done s n S x).0 new)
+    ≡ between (touched_text s.kind (who x) (write_place_of u.place) S [])
+    (touched_text s.kind (who x) (write_place_of u.place) (done s n S x).0 new)
 touched s n S x u new rules there locals is fits back =
     shortened s i S S' u.place move short mine count new
   where
@@ -226,21 +226,21 @@ touched s n S x u new rules there locals is fits back =
     memory_is = ap (λ (T : State). T.memory) (sym back)
 
     short : IsShort (shared s.kind S) (shared s.kind S')
-        (spot_shared s.kind S (spot_of u.place)) (spot_shared s.kind S' (spot_of u.place))
+        (written_shared s.kind S (write_place_of u.place)) (written_shared s.kind S' (write_place_of u.place))
     short =
         subst (λ (m : Memory). let T : State = record { memory = m; processes = S.processes } in
         IsShort (shared s.kind T) (shared s.kind S')
-        (spot_shared s.kind T (spot_of u.place)) (spot_shared s.kind S' (spot_of u.place)))
+        (written_shared s.kind T (write_place_of u.place)) (written_shared s.kind S' (write_place_of u.place)))
         (sym memory_is) (shared_short s.kind s n S'.memory S.processes S'.processes u.place fits.1)
 
     mine : Differs IsIndented
         (locals_text s.kind (process_at S i).locals) (locals_text s.kind (process_at S' i).locals)
-        (spot_local s.kind (process_at S i).locals (spot_of u.place))
-        (spot_local s.kind (process_at S' i).locals (spot_of u.place))
+        (written_local s.kind (process_at S i).locals (write_place_of u.place))
+        (written_local s.kind (process_at S' i).locals (write_place_of u.place))
     mine =
         subst (λ (l : Locals). Differs IsIndented
         (locals_text s.kind l) (locals_text s.kind (process_at S' i).locals)
-        (spot_local s.kind l (spot_of u.place)) (spot_local s.kind (process_at S' i).locals (spot_of u.place)))
+        (written_local s.kind l (write_place_of u.place)) (written_local s.kind (process_at S' i).locals (write_place_of u.place)))
         (sym locals_are) (local_differs s.kind s (process_at S' i).locals
         (sorted_before s u.place (process_at S' i).locals
         (subst (IsSorted s) locals_are (sorted s (process_at S i).locals rules locals))) u.place)

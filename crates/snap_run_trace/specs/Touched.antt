@@ -4,12 +4,12 @@ use Rattle.snap_words.specs.declared.kind.KindTag.{KindTag}
 use Rattle.snap_semantics.specs.declared.event.Event.{Event}
 use Rattle.snap_semantics.specs.Report.{event_lines, head_line}
 use Rattle.snap_semantics.specs.State.{State, process_at}
-use Rattle.snap_undo.specs.declared.undo.Spot.{Spot}
-use Rattle.snap_report.specs.SpotLines.{spot_local, spot_shared}
+use Rattle.snap_undo.specs.declared.undo.WritePlace.{WritePlace}
+use Rattle.snap_report.specs.WrittenLines.{written_local, written_shared}
 
 -- The register where an item writes, with the values where it is a word; how its process i stands, and the local that
 -- it writes; and events.
-abbrev pub touched_text : KindTag → ℕ → Spot → State → List Event → List ℕ
-touched_text g i spot S es =
-    spot_shared g S spot ++ head_line i (process_at S i).status ++ spot_local g (process_at S i).locals spot
+abbrev pub touched_text : KindTag → ℕ → WritePlace → State → List Event → List ℕ
+touched_text g i written S es =
+    written_shared g S written ++ head_line i (process_at S i).status ++ written_local g (process_at S i).locals written
     ++ event_lines es

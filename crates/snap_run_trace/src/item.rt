@@ -9,8 +9,8 @@ ghost use Rattle.snap_run_trace.specs.Step.{done_text, head_text, line_run, numb
 ghost use Rattle.snap_run_trace.specs.Touched.{touched_text};
 
 use snap_listing_printer::LineTexts;
-use snap_machine::{Machine, Spot};
-use snap_report::{event_lines, head_line, outcome_text, spot_local, spot_shared};
+use snap_machine::{Machine, WritePlace};
+use snap_report::{event_lines, head_line, outcome_text, written_local, written_shared};
 use snap_semantics::{Event, Happening, Item, Outcome, Status, who};
 use snap_text::{push_changes, push_number, push_owned_lines, push_text};
 use snap_words::Kind;
@@ -58,17 +58,17 @@ fn touched_text<K: Kind>(
     alloc: Global,
     machine: &Machine<K>,
     i: u32,
-    spot: Spot,
+    written: WritePlace,
     events: &[Event],
 ) -> Result<Vec<u8>, AllocError>
     requires { IsOneOf machine.now.shape.n i }
-    ensures { IfOk result (λ text. text.items ≡ owned (touched_text machine.now.source.kind i spot
+    ensures { IfOk result (λ text. text.items ≡ owned (touched_text machine.now.source.kind i written
         machine.now.state events.now)) }
 {
     let mut lines = Vec::new(alloc);
-    spot_shared(&mut lines, machine, spot)?;
+    written_shared(&mut lines, machine, written)?;
     head_line(&mut lines, machine, i)?;
-    spot_local(&mut lines, machine, i, spot)?;
+    written_local(&mut lines, machine, i, written)?;
     event_lines(&mut lines, events)?;
     let mut text = Vec::new(alloc);
     push_owned_lines(&mut text, lines.as_slice())?;
@@ -146,11 +146,11 @@ pub(crate) fn push_item<K: Kind>(
     let _processes = machine.shape();
     // Its rules say that the names of locals are words.
     let _lines = machine.program().listing().lines();
-    let spot = machine.overwritten(item)?.spot();
-    let before = touched_text(alloc, machine, i, spot, &[])?;
+    let written = machine.overwritten(item)?.write_place();
+    let before = touched_text(alloc, machine, i, written, &[])?;
     let outcome = machine.apply(item)?;
     push_did(out, texts, number, i, &outcome, run)?;
     let events = events_of(alloc, number, item, outcome)?;
-    let after = touched_text(alloc, machine, i, spot, events.as_slice())?;
+    let after = touched_text(alloc, machine, i, written, events.as_slice())?;
     push_changes(out, before.as_slice(), after.as_slice())
 }

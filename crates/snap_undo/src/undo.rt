@@ -1,8 +1,8 @@
 //! `Undo`: what an item overwrote: the status of its process, and the register or local that it
-//! wrote with what that had; and `Spot`, which register or local that is.
+//! wrote with what that had; and `WritePlace`, which register or local that is.
 ghost use Rattle.std.specs.Prelude.{◌≡◌};
 ghost use Rattle.snap_semantics.specs.Table.{bank_of};
-ghost use Rattle.snap_undo.specs.Spot.{lone, spot_of};
+ghost use Rattle.snap_undo.specs.WritePlace.{lone, write_place_of};
 
 use snap_semantics::{BitBank, Sort, Status};
 use snap_words::{Address, Bank, Kind, View};
@@ -11,7 +11,7 @@ use std::marker::Model;
 /// Where an item writes besides the status of its process: in a register, in a local of its
 /// process, or in one of the places of a `words` local. Slots and places are counted from 0.
 #[derive(Clone, Copy, PartialEq, Eq)]
-pub enum Spot {
+pub enum WritePlace {
     Nowhere,
     Register(Address),
     Local(Sort, usize),
@@ -56,32 +56,32 @@ impl<K: Kind> Model for Undo<K> {
 
 impl<K: Kind> Undo<K> {
     /// Where that is what the item overwrote.
-    pub fn spot(&self) -> Spot
-        ensures { result ≡ spot_of self.now.place }
+    pub fn write_place(&self) -> WritePlace
+        ensures { result ≡ write_place_of self.now.place }
     {
         match &self.place {
-            SlotPlace::Nowhere => Spot::Nowhere,
+            SlotPlace::Nowhere => WritePlace::Nowhere,
             SlotPlace::WordRegister(k, _) => lone(Bank::R, *k),
-            SlotPlace::BitRegister(bits, i, j, _) => Spot::Register(Address {
+            SlotPlace::BitRegister(bits, i, j, _) => WritePlace::Register(Address {
                 bank: bank_of(*bits),
                 i: *i,
                 j: *j,
             }),
             SlotPlace::ViewRegister(i, _) => lone(Bank::V, *i),
-            SlotPlace::Scalar(slot, _) => Spot::Local(Sort::Scalar, *slot),
-            SlotPlace::Number(slot, _, _) => Spot::Local(Sort::Row, *slot),
-            SlotPlace::Row(slot, _) => Spot::Local(Sort::Row, *slot),
-            SlotPlace::LocalWord(slot, place, _) => Spot::WordsPlace(*slot, *place),
-            SlotPlace::LocalView(slot, _) => Spot::Local(Sort::View, *slot),
+            SlotPlace::Scalar(slot, _) => WritePlace::Local(Sort::Scalar, *slot),
+            SlotPlace::Number(slot, _, _) => WritePlace::Local(Sort::Row, *slot),
+            SlotPlace::Row(slot, _) => WritePlace::Local(Sort::Row, *slot),
+            SlotPlace::LocalWord(slot, place, _) => WritePlace::WordsPlace(*slot, *place),
+            SlotPlace::LocalView(slot, _) => WritePlace::Local(Sort::View, *slot),
         }
     }
 }
 
 /// The register of a bank whose registers have one index.
-fn lone(bank: Bank, i: u64) -> Spot
+fn lone(bank: Bank, i: u64) -> WritePlace
     ensures { result ≡ lone bank i }
 {
-    Spot::Register(Address { bank, i, j: 0 })
+    WritePlace::Register(Address { bank, i, j: 0 })
 }
 
 /// The bank of registers that a bank of bits is.

@@ -1,29 +1,29 @@
-//! The printed texts of a `Spot`, where an item writes: of a register, and of a local.
+//! The printed texts of a `WritePlace`, where an item writes: of a register, and of a local.
 ghost use Rattle.std.specs.Prelude.{◌≡◌, ◌++◌, OnOk};
 ghost use Rattle.snap_words.specs.Shape.{IsOneOf};
 ghost use Rattle.snap_semantics.specs.State.{process_at};
 ghost use Rattle.snap_semantics.specs.declared.text.Sort.TheVariants.{Words};
 ghost use Rattle.snap_machine.specs.SeenContents.{local_at};
-ghost use Rattle.snap_report.specs.SpotLines.{named_lines, place_line, spot_local, spot_shared};
+ghost use Rattle.snap_report.specs.WrittenLines.{named_lines, place_line, written_local, written_shared};
 
 use crate::process_text::{local_lines, word_local};
 use crate::register_text::{register_line, values_line};
-use snap_machine::{Local, Machine, Sort, Spot};
+use snap_machine::{Local, Machine, Sort, WritePlace};
 use snap_words::{Bank, Kind};
 use std::alloc::AllocError;
 
-/// The line of the register that a spot is, behind the values where it is a word.
+/// The line of the register that a write place is, behind the values where it is a word.
 #[tactic(auto, using(snap_text::proofs::Texts::joined))]
-pub fn spot_shared<K: Kind>(
+pub fn written_shared<K: Kind>(
     out: &mut Vec<u8>,
     machine: &Machine<K>,
-    spot: Spot,
+    written: WritePlace,
 ) -> Result<(), AllocError>
     ensures { OnOk result (out.new.items ≡ out.old.items
-        ++ spot_shared machine.now.source.kind machine.now.state spot) }
+        ++ written_shared machine.now.source.kind machine.now.state written) }
 {
-    match spot {
-        Spot::Register(address) => {
+    match written {
+        WritePlace::Register(address) => {
             match address.bank {
                 Bank::R => values_line(out, machine)?,
                 _ => {}
@@ -75,20 +75,20 @@ fn place_line<K: Kind>(
     }
 }
 
-/// The lines of the local of process `i` that a spot is.
-pub fn spot_local<K: Kind>(
+/// The lines of the local of process `i` that a write place is.
+pub fn written_local<K: Kind>(
     out: &mut Vec<u8>,
     machine: &Machine<K>,
     i: u32,
-    spot: Spot,
+    written: WritePlace,
 ) -> Result<(), AllocError>
     requires { IsOneOf machine.now.shape.n i }
-    ensures { OnOk result (out.new.items ≡ out.old.items ++ spot_local machine.now.source.kind
-        (process_at machine.now.state i).locals spot) }
+    ensures { OnOk result (out.new.items ≡ out.old.items ++ written_local machine.now.source.kind
+        (process_at machine.now.state i).locals written) }
 {
-    match spot {
-        Spot::Local(sort, k) => named_lines(out, machine, i, sort, k),
-        Spot::WordsPlace(k, place) => place_line(out, machine, i, k, place),
+    match written {
+        WritePlace::Local(sort, k) => named_lines(out, machine, i, sort, k),
+        WritePlace::WordsPlace(k, place) => place_line(out, machine, i, k, place),
         _ => Ok(()),
     }
 }

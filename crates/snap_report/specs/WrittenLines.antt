@@ -1,4 +1,4 @@
--- The lines of a report that speak of a `Spot`, where an item writes: of the registers, and of the locals of a process.
+-- The lines of a report that speak of a `WritePlace`, where an item writes: of the registers, and of the locals of a process.
 use Rattle.std.specs.Prelude.{ℕ, ◌+◌, List, [], ◌++◌, Option, Some, None, slice_get}
 use Rattle.snap_words.specs.Word.{Word}
 use Rattle.snap_words.specs.declared.address.Bank.{Bank}
@@ -10,8 +10,8 @@ use Rattle.snap_semantics.specs.Report.{values_line, word_local}
 use Rattle.snap_semantics.specs.Source.{Name}
 use Rattle.snap_semantics.specs.State.{Locals, State, values}
 use Rattle.snap_machine.specs.SeenContents.{local_at}
-use Rattle.snap_undo.specs.declared.undo.Spot.{Spot}
-use Rattle.snap_undo.specs.declared.undo.Spot.TheVariants as spot
+use Rattle.snap_undo.specs.declared.undo.WritePlace.{WritePlace}
+use Rattle.snap_undo.specs.declared.undo.WritePlace.TheVariants as written
 use Rattle.snap_report.specs.ReportLines.{local_lines, register_line}
 
 -- the line of the values, which a register of the words changes
@@ -19,11 +19,11 @@ abbrev pub values_of : Bank → State → List ℕ
 values_of bank.R S = values_line (values S)
 values_of _ S = []
 
--- what stands of a spot before the processes: its register, and the values where it is a word
-abbrev pub spot_shared : KindTag → State → Spot → List ℕ
-spot_shared g S (spot.Register a) =
+-- what stands of a write place before the processes: its register, and the values where it is a word
+abbrev pub written_shared : KindTag → State → WritePlace → List ℕ
+written_shared g S (written.Register a) =
     values_of a.bank S ++ register_line g a.bank a.i a.j (contents S.memory a.bank a.i a.j)
-spot_shared g S _ = []
+written_shared g S _ = []
 
 -- the lines of a local, where there is one
 abbrev pub named_lines : KindTag → Option (Name × LocalValue) → List ℕ
@@ -39,8 +39,8 @@ abbrev pub place_line : KindTag → ℕ → Option (Name × LocalValue) → List
 place_line g p (Some (x, WordsValue ws)) = word_there g x p (slice_get ws p)
 place_line g p _ = []
 
--- what stands of a spot among the locals of its process
-abbrev pub spot_local : KindTag → Locals → Spot → List ℕ
-spot_local g l (spot.Local sort k) = named_lines g (local_at l sort k)
-spot_local g l (spot.WordsPlace k p) = place_line g p (local_at l sort.Words k)
-spot_local g l _ = []
+-- what stands of a write place among the locals of its process
+abbrev pub written_local : KindTag → Locals → WritePlace → List ℕ
+written_local g l (written.Local sort k) = named_lines g (local_at l sort k)
+written_local g l (written.WordsPlace k p) = place_line g p (local_at l sort.Words k)
+written_local g l _ = []

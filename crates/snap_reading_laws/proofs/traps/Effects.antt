@@ -17,11 +17,11 @@ use Rattle.snap_semantics.specs.declared.process.Activity.{Activity}
 use Rattle.snap_semantics.specs.declared.process.Cause.{Cause}
 use Rattle.snap_semantics.specs.declared.process.Op.{Op}
 use Rattle.snap_semantics.specs.declared.process.Op.TheVariants as op
-use Rattle.snap_troubles.specs.Troubles.{bit_trouble, condition_trouble, conditions_trouble, context_of, expr_number}
-use Rattle.snap_troubles.specs.Troubles.{expr_trouble, line_trouble, owner_trouble, place_trouble, tuple_trouble}
-use Rattle.snap_troubles.specs.Troubles.{values_trouble}
-use Rattle.snap_troubles.specs.declared.taker.Taker.{Taker}
-use Rattle.snap_troubles.specs.declared.trouble.Trouble.{Trouble}
+use Rattle.snap_why.specs.Troubles.{bit_trouble, condition_trouble, conditions_trouble, context_of, expr_number}
+use Rattle.snap_why.specs.Troubles.{expr_trouble, line_trouble, owner_trouble, place_trouble, tuple_trouble}
+use Rattle.snap_why.specs.Troubles.{values_trouble}
+use Rattle.snap_why.specs.declared.taker.Taker.{Taker}
+use Rattle.snap_why.specs.declared.trouble.Trouble.{Trouble}
 use Rattle.snap_reading_laws.specs.traps.Told.{IsTold}
 use Rattle.snap_reading_laws.proofs.traps.Places.{conditions_take, tuple_takes, values_take}
 use Rattle.snap_reading_laws.proofs.traps.Values.{HaveOneSort}

@@ -26,13 +26,13 @@ use Rattle.snap_semantics.specs.declared.instr.Tuple.{Tuple}
 use Rattle.snap_semantics.specs.declared.instr.Tuple.TheVariants as tuple
 use Rattle.snap_semantics.specs.declared.process.Cause.{Cause}
 use Rattle.snap_semantics.specs.declared.process.Cause.TheVariants as cause
-use Rattle.snap_troubles.specs.Troubles.{bit_trouble, bits_trouble, comparison_trouble, condition_trouble}
-use Rattle.snap_troubles.specs.Troubles.{conditions_trouble, context_of, expr_number, expr_trouble, line_trouble}
-use Rattle.snap_troubles.specs.Troubles.{owner_trouble, place_trouble, row_in, sum_trouble}
-use Rattle.snap_troubles.specs.Troubles.{term_number, term_trouble, tuple_trouble, values_trouble, where_trouble}
-use Rattle.snap_troubles.specs.declared.taker.Taker.{Taker}
-use Rattle.snap_troubles.specs.declared.trouble.Trouble.{Trouble}
-use Rattle.snap_troubles.specs.declared.trouble.Trouble.TheVariants.{NoPlace, LargeSum, NoBit, NotOwn}
+use Rattle.snap_why.specs.Troubles.{bit_trouble, bits_trouble, comparison_trouble, condition_trouble}
+use Rattle.snap_why.specs.Troubles.{conditions_trouble, context_of, expr_number, expr_trouble, line_trouble}
+use Rattle.snap_why.specs.Troubles.{owner_trouble, place_trouble, row_in, sum_trouble}
+use Rattle.snap_why.specs.Troubles.{term_number, term_trouble, tuple_trouble, values_trouble, where_trouble}
+use Rattle.snap_why.specs.declared.taker.Taker.{Taker}
+use Rattle.snap_why.specs.declared.trouble.Trouble.{Trouble}
+use Rattle.snap_why.specs.declared.trouble.Trouble.TheVariants.{NoPlace, LargeSum, NoBit, NotOwn}
 use Rattle.snap_reading_laws.specs.traps.Operands.{IsFirstFault, Operand, Taken, at_each, bit, bit_fault}
 use Rattle.snap_reading_laws.specs.traps.Operands.{comparison_operands, condition_operands, expr_operands, fault_at, fault_of}
 use Rattle.snap_reading_laws.specs.traps.Operands.{handshake, here, operands_of, place, register, sum, sum_fault}

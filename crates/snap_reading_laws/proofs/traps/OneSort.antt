@@ -19,7 +19,7 @@ use Rattle.snap_asm_program.proofs.Alone.{behind_distinct}
 use Rattle.snap_asm_program.proofs.Distinct.{front_apart, right_false}
 use Rattle.snap_record.proofs.KeptLocals.{in_each_state}
 use Rattle.snap_record.proofs.Names.{not_named, set_lacks}
-use Rattle.snap_troubles.specs.Troubles.{row_in, words_in}
+use Rattle.snap_why.specs.Troubles.{row_in, words_in}
 use Rattle.snap_reading_laws.proofs.traps.Values.{HaveOneSort}
 
 -- of scalars, rows and words, this name has one at most

@@ -18,12 +18,12 @@ use Rattle.snap_semantics.specs.declared.instr.Tuple.{Tuple}
 use Rattle.snap_semantics.specs.declared.instr.Tuple.TheVariants as tuple
 use Rattle.snap_semantics.specs.declared.process.Cause.{Cause}
 use Rattle.snap_semantics.specs.declared.process.Cause.TheVariants as cause
-use Rattle.snap_troubles.specs.Troubles.{bit_trouble, bits_trouble, condition_trouble, conditions_trouble, context_of}
-use Rattle.snap_troubles.specs.Troubles.{expr_number, expr_trouble, taker_at, tuple_trouble, values_trouble}
-use Rattle.snap_troubles.specs.Troubles.{where_trouble}
-use Rattle.snap_troubles.specs.declared.taker.Taker.{Taker}
-use Rattle.snap_troubles.specs.declared.trouble.Trouble.{Trouble}
-use Rattle.snap_troubles.specs.declared.trouble.Trouble.TheVariants.{NoBit}
+use Rattle.snap_why.specs.Troubles.{bit_trouble, bits_trouble, condition_trouble, conditions_trouble, context_of}
+use Rattle.snap_why.specs.Troubles.{expr_number, expr_trouble, taker_at, tuple_trouble, values_trouble}
+use Rattle.snap_why.specs.Troubles.{where_trouble}
+use Rattle.snap_why.specs.declared.taker.Taker.{Taker}
+use Rattle.snap_why.specs.declared.trouble.Trouble.{Trouble}
+use Rattle.snap_why.specs.declared.trouble.Trouble.TheVariants.{NoBit}
 use Rattle.snap_reading_laws.proofs.traps.Values.{HaveOneSort}
 use Rattle.snap_reading_laws.proofs.traps.Values.{Gives, Takes, condition_takes, expr_gives, expr_takes, takes_last}
 use Rattle.snap_reading_laws.proofs.traps.Values.{takes_then}

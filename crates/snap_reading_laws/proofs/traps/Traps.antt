@@ -16,9 +16,9 @@ use Rattle.snap_semantics.specs.declared.process.Status.{Status}
 use Rattle.snap_semantics.specs.declared.process.Status.TheVariants.{Busy, Trapped}
 use Rattle.snap_runs.specs.Run.{Run, item, outcome, state}
 use Rattle.snap_runs.proofs.Embedding.{next_state}
-use Rattle.snap_troubles.specs.Troubles.{context_of}
-use Rattle.snap_troubles.specs.declared.taker.Taker.{Taker}
-use Rattle.snap_troubles.specs.declared.trouble.Trouble.{Trouble}
+use Rattle.snap_why.specs.Troubles.{context_of}
+use Rattle.snap_why.specs.declared.taker.Taker.{Taker}
+use Rattle.snap_why.specs.declared.trouble.Trouble.{Trouble}
 use Rattle.snap_why.specs.Trap.{trouble_of}
 use Rattle.snap_reading_laws.specs.traps.Operands.{IsFirstFault, operands_at, operands_of}
 use Rattle.snap_reading_laws.specs.traps.Told.{IsCauseOf, IsTold, effect_there, operands_there, standing, trouble_there}

@@ -26,11 +26,11 @@ use Rattle.snap_semantics.specs.declared.instr.Term.{Term}
 use Rattle.snap_semantics.specs.declared.instr.Term.TheVariants as term
 use Rattle.snap_semantics.specs.declared.process.Cause.{Cause}
 use Rattle.snap_semantics.specs.declared.process.Cause.TheVariants as cause
-use Rattle.snap_troubles.specs.Troubles.{bit_trouble, comparison_trouble, condition_trouble, expr_number, expr_trouble}
-use Rattle.snap_troubles.specs.Troubles.{negated, owner_trouble, place_trouble, sum_trouble, term_number, term_trouble}
-use Rattle.snap_troubles.specs.Troubles.{row_in, words_in}
-use Rattle.snap_troubles.specs.declared.trouble.Trouble.{Trouble}
-use Rattle.snap_troubles.specs.declared.trouble.Trouble.TheVariants.{NoPlace, LargeSum, NoBit, NotOwn}
+use Rattle.snap_why.specs.Troubles.{bit_trouble, comparison_trouble, condition_trouble, expr_number, expr_trouble}
+use Rattle.snap_why.specs.Troubles.{negated, owner_trouble, place_trouble, sum_trouble, term_number, term_trouble}
+use Rattle.snap_why.specs.Troubles.{row_in, words_in}
+use Rattle.snap_why.specs.declared.trouble.Trouble.{Trouble}
+use Rattle.snap_why.specs.declared.trouble.Trouble.TheVariants.{NoPlace, LargeSum, NoBit, NotOwn}
 use Rattle.snap_reading_laws.specs.traps.Told.{trouble_cause}
 
 -- What is found under a name among all locals is what is found among those of its sort: no name has two sorts.

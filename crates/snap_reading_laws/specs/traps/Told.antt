@@ -15,8 +15,8 @@ use Rattle.snap_semantics.specs.declared.process.Outcome.TheVariants.{Trapped}
 use Rattle.snap_semantics.specs.declared.process.Status.TheVariants.{Busy}
 use Rattle.snap_runs.specs.Run.{Run, item, outcome, state}
 use Rattle.snap_why.specs.Trap.{trouble_of}
-use Rattle.snap_troubles.specs.declared.trouble.Trouble.{Trouble}
-use Rattle.snap_troubles.specs.declared.trouble.Trouble.TheVariants.{NoPlace, LargeSum, NoBit, NotOwn}
+use Rattle.snap_why.specs.declared.trouble.Trouble.{Trouble}
+use Rattle.snap_why.specs.declared.trouble.Trouble.TheVariants.{NoPlace, LargeSum, NoBit, NotOwn}
 use Rattle.snap_reading_laws.specs.traps.Operands.{IsFirstFault, Taken, operands_at}
 
 -- the cause of a trap at such an operand

@@ -160,7 +160,7 @@ export function verdictOf(numbers, item) {
 // What the program prints of a judgement: its verdict; where it names an event, the item and the process of that; and
 // behind a run that is not linearizable what would have been right, and why.
 const VERDICT = /^(linearizable|not linearizable|undecided)(?:: event (\d+) process (\d+))?$/;
-const REASON = /^(?:right would have been|because): .*$/gm;
+const REASON = /^(?:right answer|because): .*$/gm;
 
 export function readJudgement(text) {
     const [, verdict, item, who] = VERDICT.exec(text.slice(0, text.indexOf('\n')));

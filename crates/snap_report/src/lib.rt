@@ -8,8 +8,8 @@ mod printed;
 mod process_text;
 mod register_text;
 mod reports;
-mod written_text;
 mod word_text;
+mod written_text;
 
 pub use event_text::{event_line, event_lines, op_text};
 pub use outcomes::{head_lines, outcome_text, reason_text};

@@ -197,7 +197,14 @@ pub(crate) fn push_item<K: Kind>(
     let _shape = machine.shape();
     let _lines = machine.program().listing().lines();
     let written = machine.overwritten(item)?.write_place();
-    touched_text(&mut sheet.before, &mut sheet.local, machine, i, written, &[])?;
+    touched_text(
+        &mut sheet.before,
+        &mut sheet.local,
+        machine,
+        i,
+        written,
+        &[],
+    )?;
     let outcome = machine.apply(item)?;
     push_did(&mut sheet.out, texts, number, i, &outcome, run)?;
     let events = events_of(alloc, number, item, outcome)?;

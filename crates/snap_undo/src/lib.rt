@@ -8,4 +8,4 @@ mod undo;
 
 pub use overwrites::overwritten;
 pub use reversal::revert;
-pub use undo::{WritePlace, Undo};
+pub use undo::{Undo, WritePlace};

@@ -13,6 +13,7 @@ pub mod Locals
 pub mod Registers
 pub mod Own
 pub mod Touched
+pub mod Said
 pub mod Items
 pub mod Walks
 pub mod Sums

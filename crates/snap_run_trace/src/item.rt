@@ -73,18 +73,18 @@ fn touched_text<K: Kind>(
     local: &mut Vec<u8>,
     machine: &Machine<K>,
     i: u32,
-    written: WritePlace,
+    place: WritePlace,
     events: &[Event],
 ) -> Result<(), AllocError>
     requires { IsOneOf machine.now.shape.n i }
-    ensures { OnOk result (text.new.items ≡ touched_text machine.now.source.kind i written
+    ensures { OnOk result (text.new.items ≡ touched_text machine.now.source.kind i place
         machine.now.state events.now) }
 {
     text.clear();
-    written_shared(text, machine, written)?;
+    written_shared(text, machine, place)?;
     head_line(text, machine, i)?;
     local.clear();
-    written_local(local, machine, i, written)?;
+    written_local(local, machine, i, place)?;
     push_of_process(text, i, local.as_slice())?;
     event_lines(text, events)
 }
@@ -196,15 +196,8 @@ pub(crate) fn push_item<K: Kind>(
     // As many processes as the shape has, and rules that say that the names of locals are words.
     let _shape = machine.shape();
     let _lines = machine.program().listing().lines();
-    let written = machine.overwritten(item)?.write_place();
-    touched_text(
-        &mut sheet.before,
-        &mut sheet.local,
-        machine,
-        i,
-        written,
-        &[],
-    )?;
+    let place = machine.overwritten(item)?.write_place();
+    touched_text(&mut sheet.before, &mut sheet.local, machine, i, place, &[])?;
     let outcome = machine.apply(item)?;
     push_did(&mut sheet.out, texts, number, i, &outcome, run)?;
     let events = events_of(alloc, number, item, outcome)?;
@@ -213,12 +206,11 @@ pub(crate) fn push_item<K: Kind>(
         &mut sheet.local,
         machine,
         i,
-        written,
+        place,
         events.as_slice(),
     )?;
-    push_changes(
-        &mut sheet.out,
-        sheet.before.as_slice(),
-        sheet.after.as_slice(),
-    )
+    let before = sheet.before.as_slice();
+    let after = sheet.after.as_slice();
+    push_changes(&mut sheet.out, before, after)?;
+    Ok(())
 }

@@ -8,7 +8,7 @@ import tempfile
 sys.dont_write_bytecode = True
 import browser  # noqa: E402
 from browser import Failed  # noqa: E402
-from controls import FIRST_IDEA, Page, attempt, open_bytes, read  # noqa: E402
+from controls import FIRST_IDEA, Page, attempt, open_bytes, read, saved  # noqa: E402
 
 IDEAS = 14
 PROJECTOR, ZOOMED, PHONE = {"width": 1280, "height": 720}, {"width": 640, "height": 360, "scale": 2}, {
@@ -102,12 +102,16 @@ def try_loans(page, count):
     count.check("nothing guesses who lent", "BORROWED" not in text and "findLenders" not in text)
 
 
+# What stands here is what is kept of it.
+DRAFT_IS_KEPT = "(() => { const d = JSON.parse(localStorage.getItem('snaplab.draft')); return d?.schedule === state.schedule && d.at === state.at; })()"
+
+
 def try_keeping(page, count):
     page.choose(FIRST_IDEA)
     page.click("#end")
     page.click(".process .scan")
     wanted = page.schedule()
-    page.run("new Promise(done => setTimeout(done, 400))")
+    page.tab.until(DRAFT_IS_KEPT)
     page.tab.open("file://" + browser.PAGE)
     count.check("work is there after a reload", page.schedule() == wanted and page.at() == "Item 15 of 15", page.at())
     page.click(".process .step")
@@ -141,7 +145,7 @@ def try_keeping(page, count):
     stopped = page.run("(() => { const e = new Event('beforeunload', {cancelable: true}); window.dispatchEvent(e); return e.defaultPrevented; })()")
     page.run("Storage.prototype.setItem = window.kept")
     page.click(".process .crash", 1)
-    page.run("new Promise(done => setTimeout(done, 400))")
+    page.tab.until(DRAFT_IS_KEPT)
     fine = page.run("(() => { const e = new Event('beforeunload', {cancelable: true}); window.dispatchEvent(e); return e.defaultPrevented; })()")
     count.check("it warns where work cannot be kept, and there alone", stopped and not fine, [stopped, fine])
 
@@ -249,7 +253,7 @@ def try_without_module(page, count, running):
             file.write(text.replace(old, new, 1))
             file.flush()
             other = Page(running.tab(address="file://" + file.name))
-            other.tab.until("!document.getElementById('broken').hidden", 20)
+            other.tab.until("!document.getElementById('broken').hidden")
             said = other.text("#broken")
             alive = other.run("[...document.querySelectorAll('header button, main button, footer button, input, select, textarea')]"
                               ".filter(e => !e.disabled && !e.closest('[inert]') && e.checkVisibility()).map(e => e.id)")
@@ -392,7 +396,7 @@ def try_movers(page, count):
     box = page.run("(() => { const r = document.querySelectorAll('.process .step')[1].getBoundingClientRect(); return [r.x + 5, r.y + 5]; })()")
     page.tab.ask("Input.dispatchMouseEvent", type="mouseMoved", x=1, y=1)
     page.tab.ask("Input.dispatchMouseEvent", type="mouseMoved", x=box[0], y=box[1])
-    page.tab.until("document.querySelectorAll('.process .peek')[1].innerText !== ''", 10)
+    page.tab.until("document.querySelectorAll('.process .peek')[1].innerText !== ''")
     told, before = page.text(".process:nth-child(2) .peek"), page.run("snaplab.state.report.processes[1].locals")
     page.click(".process .step", 1)
     after = page.run("snaplab.state.report.processes[1].locals")
@@ -507,19 +511,29 @@ def try_play(page, count):
     page.choose(FIRST_IDEA)
     page.run("document.getElementById('speed').value = '20'")
     page.click("#play")
-    page.tab.until("snaplab.state.at === 14 && document.getElementById('play').innerText === 'Play'", 20)
+    page.tab.until("snaplab.state.at === 14 && document.getElementById('play').innerText === 'Play'")
     count.check("play goes to the end, and ends", page.at() == "Item 14 of 14", page.at())
     page.click("#home")
     page.click("#play")
     page.key("ArrowLeft")
-    at = page.at()
-    page.run("new Promise(done => setTimeout(done, 300))")
-    count.check("a key ends it", page.at() == at and page.text("#play") == "Play", [at, page.at()])
+    page.tab.settled()
+    count.check("a key ends it", page.run("playing.timer") == 0 and page.text("#play") == "Play", [page.run("playing.timer"), page.at()])
     size = page.run("getComputedStyle(document.querySelector('#listing textarea')).fontSize")
     page.key("f")
     large = page.run("getComputedStyle(document.querySelector('#listing textarea')).fontSize")
     count.check("present is large type", float(large[:-2]) > 1.2 * float(size[:-2]), [size, large])
     page.key("f")
+
+
+def said_in_frame(host, script, first):
+    """What an expression says in the frame of a page, where that begins so; its document may be on its way."""
+    try:
+        frame, *_ = host.tab.ask("Page.getFrameTree")["frameTree"].get("childFrames", [])
+        world = host.tab.ask("Page.createIsolatedWorld", frameId=frame["frame"]["id"])["executionContextId"]
+        said = host.tab.ask("Runtime.evaluate", expression=script, contextId=world, returnByValue=True)["result"].get("value")
+        return str(said).startswith(first) and said
+    except (Failed, ValueError):
+        return False
 
 
 def try_addresses(page, count, running):
@@ -541,16 +555,8 @@ def try_addresses(page, count, running):
         file.write(f"<!doctype html><title>a page</title>{frame}")
         file.flush()
         host = Page(running.tab(address="file://" + file.name, wait=False))
-        host.tab.until("document.querySelector('iframe') !== null")
-        host.run("new Promise(done => setTimeout(done, 500))")
-        frames = host.tab.ask("Page.getFrameTree")["frameTree"].get("childFrames", [])
-        world = host.tab.ask("Page.createIsolatedWorld", frameId=frames[0]["frame"]["id"])["executionContextId"]
         said = "document.querySelector('#where .at')?.innerText + getComputedStyle(document.querySelector('.files') ?? document.body).display"
-        for _ in range(60):
-            shown = host.tab.ask("Runtime.evaluate", expression=said, contextId=world, returnByValue=True)["result"].get("value")
-            if str(shown).startswith("Item"):
-                break
-            host.run("new Promise(done => setTimeout(done, 250))")
+        shown = browser.wait_for("a position in a frame", lambda: said_in_frame(host, said, "Item"))
         count.check("a frame opens at the position, without what it does not need", shown == "Item 24 of 64none", shown)
         host.tab.close()
     bomb = other.run("""(async () => { const big = new Blob([JSON.stringify({input: ' '.repeat(40000000)})]);
@@ -558,7 +564,7 @@ def try_addresses(page, count, running):
         let s = ''; for (let k = 0; k < packed.length; k += 8192) s += String.fromCharCode(...packed.subarray(k, k + 8192));
         return btoa(s).replace(/\\+/g, '-').replace(/\\//g, '_').replace(/=+$/, ''); })()""")
     other.run(f"location.hash = '#{bomb}'")
-    other.tab.until("document.getElementById('note').innerText.includes('more than an input')", 20)
+    other.tab.until("document.getElementById('note').innerText.includes('more than an input')")
     count.check("a link that unpacks to too much is not opened", other.at() == "Item 24 of 64", other.text("#note"))
     other.tab.close()
 
@@ -569,12 +575,7 @@ def try_png(page, count):
     with tempfile.TemporaryDirectory() as folder:
         page.tab.ask("Browser.setDownloadBehavior", behavior="allow", downloadPath=folder)
         page.click("#keep-png")
-        path = os.path.join(folder, "snaplab-run.png")
-        for _ in range(200):
-            if os.path.exists(path) and os.path.getsize(path) > 1000:
-                break
-            page.run("new Promise(done => setTimeout(done, 50))")
-        head = open(path, "rb").read(24) if os.path.exists(path) else b""
+        head = open(saved(page, folder, "snaplab-run.png"), "rb").read(24)
         count.check("a picture is saved as PNG", head[:8] == b"\x89PNG\r\n\x1a\n" and int.from_bytes(head[16:20], "big") == 3200, head)
     page.tab.key("Escape")
 

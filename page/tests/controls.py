@@ -526,7 +526,7 @@ def try_readers(page, count):
         reached.add(page.run("document.activeElement.id || document.activeElement.className || document.activeElement.dataset.register || "
                              "document.activeElement.parentElement?.parentElement?.id || document.activeElement.tagName"))
     wanted = {"menu", "undo", "open", "save", "copy", "link", "picture", "make", "keys", "gutter", "word", "value", "step", "scan", "update", "crash",
-              "cut", "run", "rrun", "home", "end", "at", "timeline", "play", "next", "previous", "words", "present", "trust", "frame",
+              "cut", "run", "rrun", "home", "end", "at", "timeline", "play", "next", "previous", "compare", "words", "present", "trust", "frame",
               "edge-left", "edge-right", "edge-middle", "edge-lesson"}
     count.check("the Tab key reaches every control", wanted <= reached, wanted - reached)
     page.leave()

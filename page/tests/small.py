@@ -8,7 +8,7 @@ from controls import FIRST_IDEA, Page, attempt  # noqa: E402
 
 SIZES = {"a phone": {"width": 390, "height": 844, "scale": 2, "mobile": True}, "1280 x 720 at 200 %": {"width": 640, "height": 360, "scale": 2},
          "1440 x 900 at 200 %": {"width": 720, "height": 450, "scale": 2}}
-HEADER = ["menu", "more", "open", "save", "copy", "link", "frame", "picture", "make", "present", "words", "trust", "keys"]
+HEADER = ["menu", "more", "open", "save", "copy", "link", "frame", "picture", "make", "compare", "present", "words", "trust", "keys"]
 CONTROLS = ["home", "rrun", "back", "on", "run", "end", "play", "speed", "at", "closer", "wider", "fit", "timeline"]
 # What is beyond an edge of the window, or scrolls sideways; a picture alone may be wider.
 BEYOND = """[...document.querySelectorAll('body *')].filter(e => e.checkVisibility() && !e.closest('canvas, figure, .back, #cursor, #future'))

@@ -424,6 +424,48 @@ def try_movers(page, count):
     count.check("a value leads to its write", page.at() == "Item 54 of 64", page.at())
 
 
+def try_compare(page, count):
+    """The run of a lesson beside that of its change: what differs, and the first item that did something else."""
+    page.choose(FIRST_IDEA + 3)
+    page.key("c")
+    told = page.text("#compared")
+    edited = page.run("[...document.querySelectorAll('#compared .edited')].map(e => e.textContent)")
+    count.check("two runs: the changed line of each is marked", edited == [f"16 18: first j n: moved[@] = {k} goto 23" for k in (2, 1)], edited)
+    parted = page.run("[...document.querySelectorAll('#compared li.parted button')].map(e => e.textContent)")
+    count.check("and the first item at which they part", "part at item 50" in told and parted == [
+        f"item 50, process 1: stepped at 18: first j n: moved[@] = {k} goto 23" for k in (2, 1)], parted)
+    traced = [page.tab.answer("trace", "", "%\n".join(page.run(f"[data.choices[{FIRST_IDEA + 3}]{part}].map(c => [c.listing, c.schedule])[0]")).encode()
+                              )[1].decode().split("\nitem ") for part in ("", ".change")]
+    effects = [[re.sub(r"^(\d+ \d+ [^:\n]*):.*", r"\1", one, flags=re.M) for one in run] for run in traced]
+    first = next(k + 1 for k, (a, b) in enumerate(zip(*effects)) if a != b)
+    count.check("which is so in the module's traces", first == 50, first)
+    columns = page.run("[...document.querySelectorAll('#compared section')].map(e => e.innerText)")
+    count.check("and what is judged of each", "answers 3 5: point 42" in columns[0] and "Linearizable." in columns[0] and
+                "answers 0 0: no point" in columns[1] and "Not linearizable: item 52, process 1." in columns[1], columns)
+    page.click("#compared section:nth-child(2) li.parted button")
+    count.check("a click leads to the item, in its run", page.at() == "Item 50 of 62" and not page.shown("#compared") and
+                page.text("#change") == "Back to how it was", page.at())
+    page.click("#undo")
+    count.check("and undo leads back", page.text("#change") == "Make the change", page.text("#change"))
+    page.choose(FIRST_IDEA + 2)
+    page.click("#compare")
+    count.check("a change of the schedule alone is compared, too", "schedule" in page.text("#compared") and "Here the runs part" in page.text(
+        "#compared"), page.text("#compared")[:300])
+    page.tab.key("Escape")
+    page.run("change({idea: null, listing: state.listing, schedule: 'shape 2 2\\n1 scan\\n1*13\\n', at: 0})")
+    page.tab.settled()
+    page.write("schedule", "shape 2 2\n1 scan\n1*12\n2 scan\n")
+    page.leave()
+    page.click("#compare")
+    count.check("without a lesson it is what stood there before", "Before the last change" in page.text("#compared") and "part at item 14" in page.text(
+        "#compared-first"), page.text("#compared-first"))
+    page.tab.key("Escape")
+    page.write("listing", page.value("#listing textarea").replace("33: finish", "33: finnish"))
+    page.leave()
+    page.click("#compare")
+    count.check("what is refused is told", not page.shown("#compared") and "Now: refused: L3" in page.text("#note"), page.text("#note"))
+
+
 CONTRAST = """(() => {
     const parts = c => (c.match(/[\\d.]+/g) ?? []).map(Number), light = ([r, g, b]) => [r, g, b].map(v => v / 255).map(v =>
         v <= .03928 ? v / 12.92 : ((v + .055) / 1.055) ** 2.4).reduce((sum, v, k) => sum + v * [.2126, .7152, .0722][k], 0);
@@ -586,7 +628,7 @@ def main():
     with browser.Browser() as running:
         page = fresh(running.tab(**PROJECTOR))
         for trial in (try_first_seconds, try_position, try_keys_after_a_choice, try_loans, try_keeping, try_changes, try_texts, try_zoomed,
-                      try_exercises, try_refusals, try_opening, try_notes, try_traps, try_untold, try_margin, try_movers, try_lessons, try_contrast, try_play,
+                      try_exercises, try_refusals, try_opening, try_notes, try_traps, try_untold, try_margin, try_movers, try_compare, try_lessons, try_contrast, try_play,
                       try_png):
             attempt(trial, count, page)
         attempt(try_without_module, count, page, running)

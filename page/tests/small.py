@@ -137,6 +137,27 @@ def try_lanes(page, count):
         count.check(f"{name}: the lane of the process that moved is in sight", seen == [True] * 3, seen)
 
 
+def try_many(page, count):
+    """The registers of twelve processes leave the verdicts in sight."""
+    page.choose(0)
+    page.write("schedule", "shape 12 12\n" + "".join(f"{k} scan\n" for k in range(1, 13)) + "".join(f"{k}*60\n" for k in range(1, 13)))
+    page.leave()
+    page.key("End")
+    inside = ("(() => { const edge = document.querySelector('footer').getBoundingClientRect().top, box = id => document.querySelector(id)"
+              ".getBoundingClientRect(); return [box('#run-verdict').bottom <= edge, box('#verdicts button').bottom <= edge, box('#memory').height >"
+              " 80, document.getElementById('memory').scrollHeight > document.getElementById('memory').clientHeight]; })()")
+    for name, how in (("1280 x 720", {"width": 1280, "height": 720}), ("1440 x 900", {"width": 1440, "height": 900})):
+        page.tab.look(**how)
+        count.check(f"{name}: the verdicts of twelve processes are in sight", page.tab.when(f"{inside}.slice(0, 3).every(Boolean)"), page.run(inside))
+    for name, how in SIZES.items():
+        shown_in(page, how)
+        share = "document.getElementById('memory').getBoundingClientRect().height / innerHeight"
+        count.check(f"{name}: their registers take less than half of the window", page.tab.when(f"{share} < .5"), page.run(share))
+    page.tab.look(1280, 720)
+    lines = "document.querySelector('header').getBoundingClientRect().height"
+    count.check("at 1280 x 720 the buttons are in one line", page.run(lines) < 50, page.run(lines))
+
+
 def try_values(page, count):
     """The values are written whole, however many lanes there are."""
     page.tab.look(1280, 720)
@@ -156,7 +177,7 @@ def main():
     with browser.Browser() as running:
         page = Page(running.tab())
         page.run("document.getElementById('hello-close').click()")
-        for trial in (try_edges, try_words, try_keys, try_names, try_lanes, try_values, try_lower):
+        for trial in (try_edges, try_words, try_keys, try_names, try_lanes, try_many, try_values, try_lower):
             attempt(trial, count, page)
         attempt(try_deaf, count, page, running)
         wrong = [str(one["params"])[:300] for one in list(running.events.queue) if one["method"] == "Runtime.exceptionThrown"]

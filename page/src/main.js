@@ -23,14 +23,15 @@ const BUTTONS = {
     trust: () => $('proved').showModal(), compare, present, home: () => goTo(0), end: () => goTo(Infinity),
     back: () => goTo(state.at - 1), on: () => goTo(state.at + 1), run: () => refresh('run'),
     rrun: () => refresh('rrun'), closer: () => zoom(.5), wider: () => zoom(2), fit: () => zoom(0), stop: stopAsking,
-    cut: cutHere, play, next: () => nextCaption(1), previous: () => nextCaption(-1), 'hello-close': closeHello, more,
+    cut: cutHere, play, next: () => nextCaption(1), previous: () => nextCaption(-1), more,
+    'hello-close': closeHello,
 };
 
 // Keys of their own, beside those that page.html writes at buttons; it lists them all.
 const KEYS = {
     PageUp: () => goTo(state.at - 10), PageDown: () => goTo(state.at + 10), b: () => toggleBreak(breakLine()),
     w: watchFocused, u: goToLine, e: goToEnd, l: () => listingEditor.gutter.focus(),
-    m: () => $('memory').querySelector('button').focus(),
+    m: () => $('memory').querySelector('[data-register]').focus(),
     p: () => $('processes').querySelector('button:not(:disabled)').focus(), t: () => $('timeline').focus(),
 };
 

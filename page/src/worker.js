@@ -99,6 +99,12 @@ function reach({listing, schedule, at, most, who, line}) {
     return {code: OUTPUT, steps: end ? Number(end[1]) - at : 0};
 }
 
+// The last item up to a position that changed a register; 0 where none did.
+function writer({listing, schedule, at, name}) {
+    const answer = askOf('debug', listing, schedule, `watch ${name}\ngoto ${at}\nrrun`);
+    return answer.code === OUTPUT ? {code: OUTPUT, item: readSession(answer.text).report.at} : answer;
+}
+
 // What one item more would do: the report after it, and its outcome.
 function peek({listing, schedule, at}) {
     const answer = askOf('debug', listing, schedule, `goto ${at}\nwhere`);
@@ -170,7 +176,7 @@ async function start(letters) {
     return {code: OUTPUT};
 }
 
-const TASKS = {start, look, audit, judge, draw, peek, reach, compare, tryInput,
+const TASKS = {start, look, audit, judge, draw, peek, reach, writer, compare, tryInput,
     answer: ({name, texts, numbers}) => glue.answer(name, texts, numbers)};
 
 onmessage = async ({data: {kind, request}}) => {

@@ -135,6 +135,8 @@ def try_lanes(page, count):
             seen.append(page.tab.when(f"(() => {{ const b = document.getElementById('timeline'), top = 18 + ({item} - 1) * line.high; return"
                                       " b.scrollTop <= top && top + line.high <= b.scrollTop + b.clientHeight; })()"))
         count.check(f"{name}: the lane of the process that moved is in sight", seen == [True] * 3, seen)
+        tall = page.run("['#cursor', 'canvas'].map(s => document.querySelector(`#timeline ${s}`).getBoundingClientRect().height)")
+        count.check(f"{name}: the position goes through all lanes", tall[0] == tall[1] > 12 * 12, tall)
 
 
 def try_many(page, count):

@@ -424,6 +424,40 @@ def try_movers(page, count):
     count.check("a value leads to its write", page.at() == "Item 54 of 64", page.at())
 
 
+def written_at(page, register):
+    """The last item of the run that changed a register, by the module's trace."""
+    text = page.tab.answer("trace", "", page.run("state.listing + '%\\n' + state.schedule").encode())[1].decode()
+    items = [one for one in ("\n" + text).split("\nitem ")[1:] if f"\n+ {register} = " in one]
+    return int(items[-1].split()[0]) if items else 0
+
+
+def try_writers(page, count):
+    """A click on a value leads to the item that wrote it, whichever register has it, and however far it is."""
+    for idea, names in ((3, ("r 1", "r 2")), (6, ("r 1", "r 3")), (7, ("r 1", "r 2", "v 1", "v 2"))):
+        page.choose(FIRST_IDEA + idea - 1)
+        for name in names:
+            page.click("#end")
+            wanted = written_at(page, name)
+            place = page.run(f"[...document.querySelectorAll('#memory .writer')].findLastIndex(b => b.ariaLabel.includes('of {name}:'))")
+            page.click("#memory .writer", place)
+            found = page.at().split()[1]
+            told = "Nobody has written" in page.text("#note")
+            count.check(f"idea {idea}, {name}: its writer", found == str(wanted) if wanted else told, [found, wanted, page.text("#note")])
+    page.choose(FIRST_IDEA + 2)
+    page.click("#end")
+    page.click("#memory .values .writer", 1)
+    count.check("the values lead to their writers", page.at() == "Item 54 of 64", page.at())
+    page.choose(0)
+    page.write("schedule", "shape 3 3\n2 update 2 5\n2*40\n" + "1 scan\n1*20000\n" * 3)
+    page.leave()
+    page.key("End")
+    page.click("#memory .values .writer", 1)
+    count.check("the writer of a value that is far away", "0\u21925" in page.text("#memory") and int(page.at().split()[1]) < 42, page.at())
+    page.click("#end")
+    page.click("#memory .values .writer", 0)
+    count.check("and that there is none", "Nobody has written r 1" in page.text("#note") and page.at() == "Item 60044 of 60044", page.text("#note"))
+
+
 def try_compare(page, count):
     """The run of a lesson beside that of its change: what differs, and the first item that did something else."""
     page.choose(FIRST_IDEA + 3)
@@ -628,7 +662,7 @@ def main():
     with browser.Browser() as running:
         page = fresh(running.tab(**PROJECTOR))
         for trial in (try_first_seconds, try_position, try_keys_after_a_choice, try_loans, try_keeping, try_changes, try_texts, try_zoomed,
-                      try_exercises, try_refusals, try_opening, try_notes, try_traps, try_untold, try_margin, try_movers, try_compare, try_lessons, try_contrast, try_play,
+                      try_exercises, try_refusals, try_opening, try_notes, try_traps, try_untold, try_margin, try_movers, try_writers, try_compare, try_lessons, try_contrast, try_play,
                       try_png):
             attempt(trial, count, page)
         attempt(try_without_module, count, page, running)

@@ -14,7 +14,8 @@ use Rattle.snap_machine.specs.Configuration.{Configuration}
 use Rattle.snap_walk.specs.Walk.{Passes, Way}
 use Rattle.snap_walk.proofs.Ways.{all_items, items_more}
 use Rattle.snap_walk.specs.declared.passed.Passed.{Passed}
-use Rattle.snap_acts.specs.Trace.{Tells, act_of, line_number, plan_of, step_of, steps_of, trace_of}
+use Rattle.snap_acts.specs.Tells.{Tells}
+use Rattle.snap_acts.specs.Trace.{act_of, line_number, plan_of, step_of, steps_of, trace_of}
 use Rattle.snap_acts.specs.declared.act.Act.{Act}
 use Rattle.snap_acts.specs.declared.act.Step.{Step}
 use Rattle.snap_acts.specs.declared.plan.Plan.{Plan}

@@ -1,5 +1,5 @@
 -- What each item of a run did, as far as a picture shows it.
-use Rattle.std.specs.Prelude.{◌≡◌, ℕ, suc, ◌+◌, ◌<◌, Bool, false, List, [], ◌∷◌, length, Option, Some, None, nat_eq}
+use Rattle.std.specs.Prelude.{ℕ, ◌+◌, Bool, false, List, [], ◌∷◌, Option, Some, None, nat_eq}
 use Rattle.snap_words.specs.Shape.{Counts}
 use Rattle.snap_semantics.specs.Readers.{line_of}
 use Rattle.snap_semantics.specs.Source.{Name, Source, instr_at}
@@ -18,8 +18,7 @@ use Rattle.snap_semantics.specs.declared.process.Outcome.{Outcome}
 use Rattle.snap_semantics.specs.declared.process.Outcome.TheVariants as outcome
 use Rattle.snap_semantics.specs.declared.process.Status.{Status}
 use Rattle.snap_semantics.specs.declared.process.Status.TheVariants.{Busy}
-use Rattle.snap_runs.specs.Run.{Run, item, state}
-use Rattle.snap_walk.specs.Walk.{Way, further}
+use Rattle.snap_runs.specs.Run.{Run}
 use Rattle.snap_acts.specs.declared.act.Act.{Act}
 use Rattle.snap_acts.specs.declared.act.Act.TheVariants as act
 use Rattle.snap_acts.specs.declared.act.Spot.{Spot}
@@ -128,9 +127,3 @@ steps_of s shape S t (x ∷ xs) = step_of s shape S t x ∷ steps_of s shape (do
 -- the items of a run
 abbrev pub trace_of : Run → List Step
 trace_of r = steps_of r.source r.shape (initial r.source r.shape) 1 r.items
-
--- the next item of a run was done, and this is what it did
-pub record Tells (w : Way) (s : Step) (w' : Way) : Type 0 where
-  pub left : w.at < length w.run.items
-  pub step : s ≡ step_of w.run.source w.run.shape (state w.run w.at) (suc w.at) (item w.run (suc w.at))
-  pub way : w' ≡ further w

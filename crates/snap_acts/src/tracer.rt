@@ -5,8 +5,9 @@ ghost use Rattle.snap_semantics.specs.Readers.{line_of};
 ghost use Rattle.snap_semantics.specs.State.{process_at};
 ghost use Rattle.snap_semantics.specs.Table.{who};
 ghost use Rattle.snap_runs.specs.Run.{run_over};
+ghost use Rattle.snap_acts.specs.Tells.{Tells};
 ghost use Rattle.snap_acts.specs.Trace.{act_of, call_act, line_number, returned};
-ghost use Rattle.snap_acts.specs.Trace.{Tells, stands_at, stepped, trace_of};
+ghost use Rattle.snap_acts.specs.Trace.{stands_at, stepped, trace_of};
 
 use crate::act::{Act, Step};
 use crate::plan::{Plan, plan_of};

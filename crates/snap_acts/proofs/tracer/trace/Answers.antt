@@ -2,7 +2,7 @@
 -- What each item of a program's run over a schedule did.
 use Rattle.std.proofs.Common.{◌≡◌, length, MatchOption, subst}
 use Rattle.snap_runs.specs.Run.{run_over}
-use Rattle.snap_acts.specs.Trace.{Tells}
+use Rattle.snap_acts.specs.Tells.{Tells}
 use Rattle.snap_acts.proofs.Traces.{one_more}
 use Rattle.snap_acts.proofs.tracer.trace.Goals as goal
 

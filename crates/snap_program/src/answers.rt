@@ -312,6 +312,7 @@ fn strict_subject(asked: &Invocation) -> Option<Subject>
 /// Surveys, says why where it is not done, and answers the status of it, which tells whether all
 /// runs are clean.
 fn survey_strictly<R: ByteSource, W: ByteSink, E: ByteSink>(
+    rt: &(impl Threads + Sync),
     alloc: Global,
     asked: &Invocation,
     subject: Subject,
@@ -329,7 +330,7 @@ fn survey_strictly<R: ByteSource, W: ByteSink, E: ByteSink>(
         (W.is_stalled sink.new) (E.has_failed errors.new) (E.is_stalled errors.new) }
 {
     let mut input = Vec::new(alloc);
-    match conduct_survey(alloc, subject, source, sink, &mut input) {
+    match conduct_survey(rt, alloc, subject, source, sink, &mut input) {
         Ok(true) => 0,
         Ok(false) => NOT_CLEAN,
         Err(fault) => {
@@ -373,7 +374,7 @@ pub fn answer<R: ByteSource, W: ByteSink, E: ByteSink>(
 {
     match line {
         Ok(CommandLine::Asks(asked)) => match strict_subject(asked) {
-            Some(subject) => survey_strictly(alloc, asked, subject, source, sink, errors),
+            Some(subject) => survey_strictly(rt, alloc, asked, subject, source, sink, errors),
             None => do_asked(rt, alloc, asked, source, sink, errors),
         },
         Ok(CommandLine::Help(text)) => {

@@ -143,6 +143,12 @@ pub record Seeks (r : Run) (w : Way) (vs : List ℕ) : Type 0 where
   pub values : vs ≡ values (state w.run w.at)
   pub still : changing_line w.run w.at (length w.run.items - w.at) ≡ changing_line r 0 (length r.items)
 
+-- the roles of the lines are those of the run
+pub are_roles : (r : Run) (w : Way) (vs : List ℕ) (ms roles : List LineRole) → Seeks r w vs → ms ≡ roles →
+    AreRoles r.source roles → AreRoles w.run.source ms
+are_roles r w vs ms roles h same are =
+    subst (λ (q : Run). AreRoles q.source ms) (sym h.run) (subst (AreRoles r.source) (sym same) are)
+
 -- before the first one
 pub seeks_first : (r : Run) (w : Way) (vs : List ℕ) → w ≡ record { run = r; at = 0 } →
     vs ≡ values (state w.run w.at) → Seeks r w vs

@@ -3,8 +3,10 @@ use Rattle.std.specs.Prelude.{◌≡◌, List, length, Option, Some, None, Resul
 use Rattle.std.specs.Prelude.{ℕ, refl}
 use Rattle.std.proofs.Common.{sym, ◌∙◌, ap}
 use Rattle.snap_semantics.specs.Answers.{◌>>=◌}
+use Rattle.snap_semantics.specs.Schedule.{Schedule}
+use Rattle.snap_semantics.specs.Source.{Source}
 use Rattle.snap_runs.specs.Linearization.{IsLinearizable}
-use Rattle.snap_runs.specs.Run.{Run, IsValidRun}
+use Rattle.snap_runs.specs.Run.{Run, IsValidRun, run_of_items, run_over}
 use Rattle.snap_certification.specs.Certificate.{IsCertificate}
 use Rattle.snap_certification.specs.Certification.{CertifiedHasCertificate, Evidence, certificate_of, certification_of}
 use Rattle.snap_certification.specs.Certification.{write_line, writes}
@@ -26,6 +28,13 @@ module _ (r : Run) (line : ℕ) (missing : Option Missing) (ws : List UpdateWrit
   lacks_nothing is =
       ap (λ k. pointed r k ws) at
       ∙ sym (ap (λ res. res >>= λ vs. pointed r (write_line r) vs) (found_there ∙ ap (λ o. so_far o ws) is))
+
+-- a run over a schedule that has its shape and its items
+pub same_run : (r : Run) (l : Source) (s : Schedule) → l ≡ r.source → s.shape ≡ r.shape → s.items ≡ r.items →
+    run_over l s ≡ r
+same_run r l s source shape items =
+    ap (λ y. run_of_items y s.shape s.items) source ∙ ap (λ y. run_of_items r.source y s.items) shape
+    ∙ ap (run_of_items r.source r.shape) items
 
 -- what holds of an answer, and what follows
 pub ok_then : {X E : Type 0} (res : Result X E) (P Q : X → Type 0) → ((x : X) → P x → Q x) → IfOk res P → IfOk res Q

@@ -99,7 +99,7 @@ fn putting_line(lines: &[Line]) -> u64
 
 /// The line at which updates write in the run of a program over a schedule: that of the first item
 /// that changes the values, and where none does, the first line that writes a word.
-#[tactic(auto, using(crate::proofs::Lines::chosen, crate::proofs::Lines::chosen_writes, crate::proofs::Lines::putting_writes))]
+#[tactic(auto, using(crate::proofs::Lines::chosen, crate::proofs::Lines::putting_writes))]
 pub(crate) fn write_line<K: Kind>(
     alloc: Global,
     program: &Program,

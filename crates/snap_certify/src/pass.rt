@@ -16,7 +16,7 @@ use std::alloc::{AllocError, Global};
 /// Notes the item that was passed last on the way.
 #[inline(always)]
 fn note<K: Kind>(finder: &mut Finder, walk: &Walk<'_, K>, passed: &Passed) -> Result<(), AllocError>
-    requires { (w : Way) × Finds w.run w.at finder.old × Passes w passed.now walk.now }
+    requires passed { (w : Way) × Finds w.run w.at finder.old × Passes w passed.now walk.now }
     ensures line { OnOk result (finder.new.line ≡ finder.old.line) }
     ensures finds { OnOk result ((w : Way) → Finds w.run w.at finder.old →
         Passes w passed.now walk.now → Finds walk.now.run walk.now.at finder.new) }

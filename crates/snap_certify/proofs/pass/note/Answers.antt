@@ -2,19 +2,9 @@
 -- Notes the item that was passed last on the way.
 use Rattle.std.proofs.Common.{ap, refl, subst}
 use Rattle.snap_semantics.specs.State.{values}
-use Rattle.snap_certify.proofs.Passing.{WritesNone, note_rest, note_seen, one_there}
+use Rattle.snap_certify.proofs.Passing.{WritesNone, note_rest, note_seen}
 use Rattle.snap_certify.proofs.Worth.{on_both}
 use Rattle.snap_certify.proofs.pass.note.Goals as goal
-
-pub note_write-requires : goal.note_write-requires
-note_write-requires g c κs within =
-    one_there c.requires.0 c.args.walk.now c.args.passed.now c.args.finder.now c.who-process.result c.requires.1
-    c.requires.2 c.who-process.ensures
-
-pub note_other-requires : goal.note_other-requires
-note_other-requires g c κs within =
-    one_there c.requires.0 c.args.walk.now c.args.passed.now c.args.finder.now c.who-process.result c.requires.1
-    c.requires.2 c.who-process.ensures
 
 pub returns-in-Some-clause-finds : goal.returns-in-Some-clause-finds
 returns-in-Some-clause-finds g c =

@@ -1,6 +1,6 @@
 -- What a `Finder` has found of a run it has found of the longer run, once the next item is noted (`finds_more`).
-use Rattle.std.specs.Prelude.{◌≡◌, ℕ, zero, suc, ◌-◌, ◌<◌, ◌≤◌, Bool, true, false, ◌||◌, List, [], ◌++◌, length}
-use Rattle.std.specs.Prelude.{Option, Some, None, Result, Ok, Err, get_or, nat_eq, replicate, if◌then◌else◌, slice_set, refl}
+use Rattle.std.specs.Prelude.{◌≡◌, ℕ, suc, ◌-◌, ◌<◌, ◌≤◌, Bool, true, false, ◌||◌, List, [], length}
+use Rattle.std.specs.Prelude.{Option, Some, None, Result, Ok, Err, get_or, replicate, if◌then◌else◌, slice_set, refl}
 use Rattle.std.proofs.Common.{sym, ◌∙◌, ap, subst, arith, inl, inr}
 use Rattle.std.proofs.lemmas.Bool.{cases_eq}
 use Rattle.std.proofs.lemmas.Grind.{get_or-set_at}

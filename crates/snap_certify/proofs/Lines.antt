@@ -1,8 +1,8 @@
 -- An item that writes no word changes no value and does not execute the line at which updates write (`dry_line`); the
 -- line that a certification chooses writes a word, where it is there (`changing_writes`, `putting_writes`).
 use Rattle.std.specs.Prelude.{◌≡◌, ℕ, zero, suc, ◌+◌, ◌<◌, ◌≤◌, ◌⊎◌, Bool, true, false, not, List, [], ◌∷◌, length}
-use Rattle.std.specs.Prelude.{Option, Some, None, Result, Ok, Err, bytes_eq, nat_eq, if◌then◌else◌, option_map, refl}
-use Rattle.std.proofs.Common.{sym, ◌∙◌, ap, subst, arith, inl, inr}
+use Rattle.std.specs.Prelude.{Option, Some, None, nat_eq, if◌then◌else◌, option_map, refl}
+use Rattle.std.proofs.Common.{sym, ◌∙◌, ap, arith, inl, inr}
 use Rattle.std.proofs.lemmas.Bool.{eqb-true}
 use Rattle.snap_words.specs.Shape.{Counts}
 use Rattle.snap_semantics.specs.IsListing.{AreRising}
@@ -20,10 +20,9 @@ use Rattle.snap_semantics.specs.declared.process.Item.{Item}
 use Rattle.snap_semantics.specs.declared.process.Item.TheVariants as item
 use Rattle.snap_semantics.specs.declared.process.Op.{Op}
 use Rattle.snap_semantics.specs.declared.process.Op.TheVariants.{Scan, Update}
-use Rattle.snap_semantics.specs.declared.process.Outcome.{Outcome}
 use Rattle.snap_semantics.specs.declared.process.Status.{Status}
 use Rattle.snap_semantics.specs.declared.process.Status.TheVariants.{Idle, Busy, Trapped, Crashed}
-use Rattle.snap_runs.specs.Run.{Run, item as item_at, outcome as outcome_at, state}
+use Rattle.snap_runs.specs.Run.{Run, item as item_at, state}
 use Rattle.snap_runs.specs.StepRoles.{is_write, line_step_role, returned, step_role_at, step_role_in, step_role_of}
 use Rattle.snap_runs.specs.Update.{goes_on}
 use Rattle.snap_runs.proofs.Embedding.{next_state}

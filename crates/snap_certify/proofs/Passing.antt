@@ -1,9 +1,8 @@
 -- What is found of the item that a walk passes (`note_seen`, `note_rest`), and the line that it executes, where it
 -- changes the values.
-use Rattle.std.specs.Prelude.{◌≡◌, ℕ, zero, suc, ◌-◌, ◌<◌, Bool, true, false, not, List, length, Option, Some, None}
+use Rattle.std.specs.Prelude.{◌≡◌, ℕ, suc, ◌-◌, ◌<◌, Bool, true, false, not, List, length, Option, Some, None}
 use Rattle.std.specs.Prelude.{bytes_eq, get_or, if◌then◌else◌, option_map, refl}
 use Rattle.std.proofs.Common.{sym, ◌∙◌, ap, subst, arith}
-use Rattle.snap_words.specs.Shape.{IsOneOf}
 use Rattle.snap_semantics.specs.Source.{Source}
 use Rattle.snap_semantics.specs.State.{State, process_at, values}
 use Rattle.snap_semantics.specs.Table.{who}
@@ -21,7 +20,9 @@ use Rattle.snap_certification.specs.Certification.{at_line, changes, changing_li
 use Rattle.snap_certification.specs.declared.found.Progress.{Progress}
 use Rattle.snap_certification.specs.declared.found.SeenItem.{SeenItem}
 use Rattle.snap_certification.proofs.Findings.{equal_numbers}
-use Rattle.snap_certify.specs.Finding.{Finds, Notes, changed_line, fresh, seen_write}
+use Rattle.snap_audit.specs.Watch.{Watches}
+use Rattle.snap_audit.specs.declared.watch.Watch.{Watch}
+use Rattle.snap_certify.specs.Finding.{Finds, Notes, all_of, changed_line, fresh, seen_write}
 use Rattle.snap_certify.specs.declared.finder.Finder.{Finder}
 use Rattle.snap_certify.proofs.Finding.{finds_more}
 use Rattle.snap_certify.proofs.Lines.{dry_line, dry_values}
@@ -112,18 +113,18 @@ module _ (w w' : Way) (p : Passed) (d : Passes w p w') where
         (subst (λ m. Notes m next (get_or f.progress.items (i - 1) fresh) f g) (number ∙ d.number) there))
         (now ∙ h.values ∙ sym (still_values next still)))
 
--- its process is there
-pub one_there : (w w' : Way) (p : Passed) (f : Finder) (i : ℕ) → Finds w.run w.at f → Passes w p w' → i ≡ who p.item →
-    IsOneOf (length f.progress.items) i
-one_there w w' p f i h d is =
-    subst (λ j. IsOneOf (length f.progress.items) j) (sym is)
-    (subst (λ n. IsOneOf n (who p.item)) (sym h.progress.count) d.process)
-
 -- where all items are passed, what is found is found of all
 pub found_all : (r : Run) (w : Way) (f : Finder) → w.run ≡ r → Finds w.run w.at f → w.at ≡ length w.run.items →
     Finds r (length r.items) f
 found_all r w f run found over =
     subst (λ (s : Run). Finds s (length s.items) f) run (subst (λ n. Finds w.run n f) over found)
+
+-- and so is what an audit has to know
+pub watched_all : (r : Run) (w : Way) (x : Watch) → w.run ≡ r → Watches w x → w.at ≡ length w.run.items →
+    Watches (all_of r) x
+watched_all r w x run h over =
+    subst (λ (q : Run). Watches (all_of q) x) run
+    (subst (λ n. Watches (record { run = w.run; at = n }) x) over h)
 
 -- an item that changes no value, and one that does
 pub unchanged : (x : SeenItem) → changes x ≡ false → None ≡ changed_line x

@@ -13,6 +13,7 @@ use Rattle.snap_semantics.specs.declared.process.Outcome.{Outcome}
 use Rattle.snap_runs.specs.Audit.{audit}
 use Rattle.snap_runs.specs.Run.{Run, IsValidRun, run_over, state}
 use Rattle.snap_record.specs.Roles.{AreRoles}
+use Rattle.snap_walk.specs.Walk.{Way}
 use Rattle.snap_certification.specs.Certification.{Evidence, changes, executed, found_at, is_put, points}
 use Rattle.snap_certification.specs.Certification.{progress, progress_after, with_finding, writes}
 use Rattle.snap_certification.specs.declared.found.Finding.{Finding}
@@ -84,6 +85,10 @@ pub record Finds (r : Run) (t : ℕ) (f : Finder) : Type 0 where
   pub values : f.values ≡ values (state r t)
   pub progress : AreProgress r f.line t f.progress.items
   pub found : writes r f.line t ≡ so_far f.missing f.writes.items
+
+-- the end of the way through a run
+abbrev pub all_of : Run → Way
+all_of r = record { run = r; at = length r.items }
 
 -- the values before the first item of a run
 abbrev pub values_first : Source → Schedule → List ℕ

@@ -19,7 +19,6 @@ ghost use Rattle.snap_certify.specs.Finding.{pointed};
 use crate::line::write_line;
 use crate::pass::find;
 use snap_asm_program::Program;
-use snap_audit::audit_over;
 use snap_certification::{
     Certification, Certified, Lack, Missing, UpdateWrite, certified_has_certificate,
 };
@@ -80,11 +79,13 @@ pub(crate) fn certification_over<K: Kind>(
         ≡ certification_of (run_over program.now schedule.now)) }
 {
     let line = write_line::<K>(alloc, program, schedule)?;
-    let (writes, missing) = find::<K>(alloc, program, schedule, line)?.found();
+    let found = find::<K>(alloc, program, schedule, line)?;
+    let (finder, watch) = found;
+    let (writes, missing) = finder.found();
     match missing {
         Some(missing) => Ok(Certification::Missing(missing)),
         None => {
-            let verdicts = audit_over::<K>(alloc, program, schedule)?;
+            let verdicts = watch.verdicts(alloc)?;
             Ok(pointed(line, writes, verdicts))
         }
     }

@@ -1,10 +1,10 @@
--- `note` of snap_certify (src/pass.rt): the proof of what its contract says.
--- Notes the item that was passed last on the way.
+-- `notice` of snap_certify (src/pass.rt): the proof of what its contract says.
+-- Notes the item that was passed last on the way, for the finder.
 use Rattle.std.proofs.Common.{ap, refl, subst}
 use Rattle.snap_semantics.specs.State.{values}
 use Rattle.snap_certify.proofs.Passing.{WritesNone, note_rest, note_seen}
 use Rattle.snap_certify.proofs.Worth.{on_both}
-use Rattle.snap_certify.proofs.pass.note.Goals as goal
+use Rattle.snap_certify.proofs.pass.notice.Goals as goal
 
 pub returns-in-Some-clause-finds : goal.returns-in-Some-clause-finds
 returns-in-Some-clause-finds g c =

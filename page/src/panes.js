@@ -2,6 +2,7 @@
 import {$, say, within} from './elements.js';
 import {keep, kept} from './drafts.js';
 import {goTo, state} from './state.js';
+import {fitTimeline} from './timeline.js';
 
 const PANES = 'snaplab.panes', EDGE_STEP = 4, LEAST = 15, MOST = 70, SLOWEST = 16;
 const EDGES = {'edge-left': ['--left', 29], 'edge-right': ['--right', 30], 'edge-middle': ['--upper', 50],
@@ -50,6 +51,7 @@ export function watchPanes() {
 export function present() {
     const on = document.body.classList.toggle('present');
     $('present').ariaPressed = String(on);
+    fitTimeline();
     say(on ? 'Large type: f, or the button, goes back.' : '');
     if (on && document.fullscreenEnabled) document.documentElement.requestFullscreen().catch(() => {});
     else if (document.fullscreenElement) document.exitFullscreen();
@@ -87,6 +89,9 @@ export function endPlay() {
 export function watchSize() {
     const low = matchMedia('(max-height: 520px), (max-width: 699px)');
     const told = () => document.body.classList.toggle('small', low.matches);
-    low.onchange = told;
+    low.onchange = () => {
+        told();
+        fitTimeline();
+    };
     told();
 }

@@ -7,7 +7,7 @@ import {goOn, hindrance, parted, press, state, withItem} from './state.js';
 export const cards = [];
 const MOST_CHANGES = 4, MANY = 16, PARTS = ['what', 'next', 'peek', 'changes', 'locals'];
 const MOST_PEEKED = 300000, MOST_NEWS = 6, PEEK_AFTER = 90;
-const peeked = {timer: 0, serial: 0};
+const peeked = {timer: 0, serial: 0, run: null, at: 0};
 
 function makeCard(who) {
     const part = className => make('div', {className}), [what, next, peek, changes, locals] = PARTS.map(part);
@@ -51,7 +51,8 @@ export function showProcesses() {
     fill($('word'), [own, ...words], () => [...own ? ['own'] : [], ...words].map(word => make('option', {}, word)));
     document.body.classList.toggle('stale', Boolean(refusal));
     document.body.classList.toggle('many', cards.length > MANY);
-    endPeek();
+    if (peeked.run !== state.run || peeked.at !== report.at || refusal) endPeek();
+    Object.assign(peeked, {run: state.run, at: report.at});
 }
 
 function showCard(card, {who, what, at, link}, lines, moved) {

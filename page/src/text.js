@@ -160,7 +160,7 @@ export function verdictOf(numbers, item) {
 // What the program prints of a judgement: its verdict; where it names an event, the item and the process of that; and
 // behind a run that is not linearizable what would have been right, and why.
 const VERDICT = /^(linearizable|not linearizable|undecided)(?:: event (\d+) process (\d+))?$/;
-const REASON = /^(?:right would have been|because): .*$/gm;
+const REASON = /^(?:right answer|because): .*$/gm;
 
 export function readJudgement(text) {
     const [, verdict, item, who] = VERDICT.exec(text.slice(0, text.indexOf('\n')));
@@ -176,6 +176,25 @@ export function readLines(listing) {
         if (line) found.set(Number(line[1]), {number: Number(line[1]), place, text: line[2].trim()});
     });
     return found;
+}
+
+// The items of a trace: the words of each, what it did in one text, and what it changed, old beside new. The text of
+// the line that was executed is none of what it did.
+export function readTrace(text) {
+    const items = [];
+    for (const line of text.split('\n')) {
+        const [, item, who, words] = /^item (\d+) (\d+) (.*)$/.exec(line) ?? [];
+        if (item) items.push({item: Number(item), who: Number(who), words, did: `${who} ${words.split(': ')[0]}`,
+            changes: []});
+        else if (line) {
+            const {changes} = items.at(-1), is = line.slice(2), last = changes.at(-1);
+            if (line[0] === '-') changes.push([is, '']);
+            else if (last && !last[1]) last[1] = is;
+            else changes.push(['', is]);
+            items.at(-1).did += `\n${line}`;
+        }
+    }
+    return items;
 }
 
 // What the module's picture of some items tells of them: the title of each shape that it draws, in its words.

@@ -19,15 +19,15 @@ export function showTimeline() {
     line.from = within(at < line.from || at > line.to ? at - (width >> 1) : line.from, 0, total - width);
     line.to = line.from + width;
     const n = report.processes.length, high = highOf(n), past = pastOf(at), wrong = unexplained();
-    const drawn = [line.from, line.to, wide, n, high, dark.matches, devicePixelRatio, operations, verdicts, items,
-        shapes, past, wrong];
+    const drawn = [line.from, line.to, wide, n, high, large(), dark.matches, devicePixelRatio, operations, verdicts,
+        items, shapes, past, wrong];
     if (wide && drawn.some((each, k) => each !== line.drawn[k])) {
         Object.assign(line, {drawn, operations, verdicts, items, shapes, high, n, past: at, wrong});
         draw();
     }
     showLane(box, Number(state.last.split(' ')[0]));
-    $('cursor').style.left = `${placeOf(at) - 1}px`;
-    Object.assign($('future').style, {left: `${placeOf(at) + 1}px`, width: `${Math.max(wide - placeOf(at) - 1, 0)}px`});
+    // A share of the box, which is in its place before the canvas has been drawn for another width, too.
+    box.style.setProperty('--place', `calc(${LABEL}px + ${shareOf(at)} * (100% - ${LABEL + RIGHT}px))`);
     Object.assign(box, {ariaValueMax: total, ariaValueNow: at, ariaValueText: `item ${at} of ${total}: ${outcome()}`});
 }
 
@@ -59,7 +59,8 @@ function pastOf(at) {
     return count;
 }
 
-export const placeOf = item => LABEL + (item - line.from) / (line.to - line.from) * (line.wide - LABEL - RIGHT);
+const shareOf = item => (item - line.from) / (line.to - line.from);
+export const placeOf = item => LABEL + shareOf(item) * (line.wide - LABEL - RIGHT);
 const colour = name => colours[name] ??= getComputedStyle(document.body).getPropertyValue(`--${name}`).trim();
 const isHere = item => item >= line.from && item <= line.to;
 const topOf = who => VALUES + (who - 1) * line.high;
@@ -258,16 +259,19 @@ function tellItem(item) {
     $('timeline').title = told.length ? told.map(({title}) => title).join('\n') : `item ${item}`;
 }
 
+// Draws for the box as it is now, where its width, its height of a lane, its letters or its pixels are other ones.
+export function fitTimeline() {
+    line.wide = $('timeline').clientWidth;
+    if (state.report) showTimeline();
+}
+
 export function watchTimeline() {
-    const box = $('timeline'), again = () => {
-        line.wide = box.clientWidth;
-        if (state.report) showTimeline();
-    };
+    const box = $('timeline');
     box.onpointerdown = box.onpointermove = ({pointerId, buttons, clientX}) => {
         if (!buttons) return tellItem(itemAt(clientX));
         box.setPointerCapture(pointerId);
         goTo(itemAt(clientX));
     };
-    new ResizeObserver(again).observe(box);
-    dark.onchange = again;
+    new ResizeObserver(fitTimeline).observe(box, {box: 'device-pixel-content-box'});
+    dark.onchange = fitTimeline;
 }

@@ -155,7 +155,7 @@ def try_pairs(tab, count, pairs, first):
     if not os.access(program, os.X_OK):
         count.skip(f"{pairs} made-up pairs", "there is no native program")
         return
-    tools, same = os.path.join(TOP, ".ci", "fuzzing"), 0
+    tools, same = os.path.join(TOP, "tools", "fuzzing"), 0
     with tempfile.TemporaryDirectory() as folder:
         for seed in range(first, first + pairs):
             subprocess.run(["awk", "-v", f"seed={seed}", "-v", f"into={folder}", "-v", f"examples={TOP}/examples", "-f",

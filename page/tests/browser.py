@@ -1,4 +1,7 @@
-"""A headless Chromium, driven through the DevTools protocol over two pipes. Standard library alone."""
+"""A headless Chromium, driven through the DevTools protocol over two pipes. Standard library alone.
+
+The environment's SLOWED, as 4, makes pages so many times as slow as the machine is: a test waits for what is to be, never for a time.
+"""
 import base64
 import itertools
 import json
@@ -15,10 +18,23 @@ TOP = os.path.abspath(os.path.join(os.path.dirname(__file__), "..", ".."))
 PAGE = os.path.join(TOP, "page", "snaplab.html")
 NAMES = ("chromium", "chromium-browser", "google-chrome", "chrome")
 NOT_HERE = 77
+USUAL_LOOP = 25      # milliseconds of the loop by which the speed of a processor is told
 
 
 class Failed(Exception):
     """What the browser or the page refused."""
+
+
+def wait_for(what, holds, limit=60):
+    """What holds() tells as soon as that is true; a slow machine has time for it."""
+    end = time.time() + limit
+    while True:
+        told = holds()
+        if told:
+            return told
+        if time.time() > end:
+            raise Failed(f"not in {limit} s: {what}")
+        time.sleep(0.02)
 
 
 def program():
@@ -123,6 +139,8 @@ class Tab:
         self.session = browser.ask("Target.attachToTarget", targetId=self.target, flatten=True)["sessionId"]
         for domain in ("Page", "Runtime", "Log"):
             self.ask(domain + ".enable")
+        if os.environ.get("SLOWED"):
+            self.ask("Emulation.setCPUThrottlingRate", rate=float(os.environ["SLOWED"]))
         self.look(width, height, dark, scale, mobile)
         self.open(address or "file://" + PAGE, wait)
 
@@ -130,14 +148,17 @@ class Tab:
         return self.browser.ask(method, self.session, limit, **params)
 
     def look(self, width, height, dark=False, scale=1, mobile=False):
+        """Another window; a page that is there already is waited for until it knows its width."""
         self.ask("Emulation.setDeviceMetricsOverride", width=width, height=height, deviceScaleFactor=scale, mobile=mobile)
         scheme = {"name": "prefers-color-scheme", "value": "dark" if dark else "light"}
         self.ask("Emulation.setEmulatedMedia", features=[scheme])
+        self.until("window.snaplab === undefined || line.wide === document.getElementById('timeline').clientWidth")
 
     def open(self, address, wait=True):
+        self.run("window.oldPage = true")
         self.ask("Page.navigate", url=address)
         if wait:
-            self.until("document.readyState === 'complete' && window.snaplab !== undefined")
+            self.until("window.oldPage === undefined && document.readyState === 'complete' && window.snaplab !== undefined")
             self.settled()
 
     def run(self, script, limit=60):
@@ -149,18 +170,24 @@ class Tab:
             raise Failed(details.get("exception", {}).get("description", details["text"]))
         return told["result"].get("value")
 
-    def until(self, script, limit=30):
+    def until(self, script, limit=60):
         """Waits until an expression is true."""
-        end = time.time() + limit
-        while time.time() < end:
+        def holds():
             try:
-                if self.run(script):
-                    return
+                return self.run(script)
             except Failed as failed:
                 if "context" not in str(failed):
                     raise
-            time.sleep(0.02)
-        raise Failed(f"not in {limit} s: {script}")
+                return False
+        wait_for(script, holds, limit)
+
+    def when(self, script, limit=10):
+        """Whether an expression is true, or comes to be so: what the page does at the next frame it may do late."""
+        try:
+            self.until(script, limit)
+            return True
+        except Failed:
+            return False
 
     def settled(self, limit=60):
         """Waits until nothing that the page has asked of the module is under way."""
@@ -212,6 +239,17 @@ class Tab:
     def answer(self, sub, shipped, given):
         """What the module answers to a subcommand, the kind of a shipped listing and an input."""
         return self.ask_module("page_output", (sub.encode(), shipped.encode(), given))
+
+    def slowness(self):
+        """How many times as long as usual a processor of this machine takes for what it is given; 1 where it is as fast, or faster."""
+        best = self.run("""(() => { let best = Infinity, x = 0;
+            for (let k = 0; k < 9; k++) {
+                const begun = performance.now();
+                for (let j = 0; j < 1e7; j++) x = (x * 31 + j) | 0;
+                best = Math.min(best, performance.now() - begun + x * 0);
+            }
+            return best; })()""")
+        return max(1, best / USUAL_LOOP)
 
     def watch_tasks(self):
         """Begins to note what the page's thread does."""

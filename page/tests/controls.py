@@ -297,10 +297,7 @@ def try_picture(page, count):
 def saved(page, folder, name):
     """The path of a file that is saved, once it is there."""
     path = os.path.join(folder, name)
-    for _ in range(100):
-        if os.path.exists(path) and os.path.getsize(path):
-            break
-        page.run("new Promise(done => setTimeout(done, 50))")
+    browser.wait_for(f"the file {name}", lambda: os.path.exists(path) and os.path.getsize(path))
     return path
 
 
@@ -308,8 +305,7 @@ def open_file(page, path):
     root = page.tab.ask("DOM.getDocument")["root"]["nodeId"]
     node = page.tab.ask("DOM.querySelector", nodeId=root, selector="#file")["nodeId"]
     page.tab.ask("DOM.setFileInputFiles", files=[path], nodeId=node)
-    page.run("new Promise(done => setTimeout(done, 100))")
-    page.tab.settled()
+    page.tab.until("document.getElementById('file').value === '' && snaplab.settled()")
 
 
 def try_exercise(page, count, running):
@@ -327,7 +323,7 @@ def try_exercise(page, count, running):
     page.run("""(() => { const e = document.querySelector('#form form').elements; e.task.value = 'Find one double collect.';
         e.who.value = ''; e.view.value = '0  0'; e.collects.value = '1'; e.items.value = '14'; })()""")
     page.click("#form button[value=make]")
-    page.tab.until("snaplab.state.goal?.task === 'Find one double collect.' && snaplab.settled()", 5)
+    page.tab.until("snaplab.state.goal?.task === 'Find one double collect.' && snaplab.settled()")
     count.check("a task of one's own", "Find one double collect." in page.text("#idea-text") and "in at most 14 items" in page.text("#goal"))
     link = page.run("asHash()")
     other = Page(running.tab(address="file://" + browser.PAGE + link))
@@ -384,8 +380,8 @@ def try_refusals(page, count):
     open_bytes(page, (read("examples", "refusals", "G6.txt")).encode())
     count.check("65 marks are not too many", page.run("markCommands().length") > 64 and page.at().startswith("Item"), page.text("#note"))
     page.run("location.hash = '#nonsense'")
-    page.run("new Promise(done => setTimeout(done, 50))")
-    count.check("a link that is cut is told", "cannot be read" in page.text("#note"), page.text("#note"))
+    count.check("a link that is cut is told", page.tab.when("document.getElementById('note').innerText.includes('cannot be read')"), page.text(
+        "#note"))
     lives_on(page, count, "a bad link")
 
 
@@ -426,14 +422,15 @@ def work_long_schedules(page, check):
 
 def try_tasks(page, count):
     """What takes a task of the page long by its own work does so each time; what a busy machine makes longer does not."""
-    found = []
+    found, most = [], 100
     for check in (count.check, lambda *_: None, lambda *_: None):
+        most = 100 * page.tab.slowness()
         page.tab.watch_tasks()
         work_long_schedules(page, check)
         found.append(page.tab.longest_tasks())
-        if found[-1] and max(found[-1]) <= 100:
+        if found[-1] and max(found[-1]) <= most:
             break
-    count.check("no task of the page takes a processor for 100 ms", found[-1] and max(found[-1]) <= 100, found)
+    count.check("no task of the page takes a processor for 100 ms, or on a slow one as much longer", found[-1] and max(found[-1]) <= most, [found, most])
     print("the longest tasks", found, "ms")
 
 
@@ -465,11 +462,7 @@ def try_stop(page, count):
         a.value = 'shape 64 64\\n' + Array.from({length: 64}, (_, k) => `${k + 1} update ${k + 1} 5\\n`).join('') +
             Array.from({length: 15000}, (_, k) => `${k % 64 + 1}*60\\n`).join('');
         a.dispatchEvent(new Event('input', {bubbles: true})); })()""")
-    try:
-        page.tab.until("!document.getElementById('progress').hidden", 30)
-        count.check("a long run has a bar", True)
-    except Failed:
-        count.check("a long run has a bar", False)
+    count.check("a long run has a bar", page.tab.when("!document.getElementById('progress').hidden", 60))
     page.tab.click("#stop")
     page.tab.settled()
     count.check("a long run is stopped", "Stopped" in page.text("#note"), page.text("#note"))
@@ -507,7 +500,7 @@ def try_trap(page, count):
     count.check("after a trap the instance is given up, and a new one made", told[:2] == [True, 3], told)
     count.check("room that is too small is made larger once", told[2:6] == [0, 100000, 65, "65536,65536,100000,100000"], told)
     count.check("want of memory is told", told[6], told)
-    page.run("state.refusal = readRefusal({code: 5, text: 'RuntimeError: unreachable'}), showState()")
+    page.run("state.refusal = readRefusal({code: TRAPPED, text: 'RuntimeError: unreachable'}), showState()")
     count.check("and the page says so", "was started anew" in page.text("#note"), page.text("#note"))
     lives_on(page, count, "a trap")
 
@@ -534,7 +527,7 @@ def try_readers(page, count):
         reached.add(page.run("document.activeElement.id || document.activeElement.className || document.activeElement.dataset.register || "
                              "document.activeElement.parentElement?.parentElement?.id || document.activeElement.tagName"))
     wanted = {"menu", "undo", "open", "save", "copy", "link", "picture", "make", "keys", "gutter", "word", "value", "step", "scan", "update", "crash",
-              "cut", "run", "rrun", "home", "end", "at", "timeline", "play", "next", "previous", "words", "present", "trust", "frame",
+              "cut", "run", "rrun", "home", "end", "at", "timeline", "play", "next", "previous", "compare", "words", "present", "trust", "frame",
               "edge-left", "edge-right", "edge-middle", "edge-lesson"}
     count.check("the Tab key reaches every control", wanted <= reached, wanted - reached)
     page.leave()

@@ -67,7 +67,7 @@ def try_wrong(page, count):
     count.check("and where the position is told", "no order explains this answer" in page.text("#where"), page.text("#where"))
     page.click("#run-verdict summary")
     why = page.text("#run-verdict")
-    count.check("with the reasons that the program prints", "right would have been: 7 0" in why and
+    count.check("with the reasons that the program prints", "right answer: 7 0" in why and
                 "because: update 1 7 (event 1) ended before scan of process 2 (event 3) was called" in why, why)
     count.check("and on the time line", drawn(page) > 20, drawn(page))
     page.tab.look(1280, 720, True)

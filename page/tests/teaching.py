@@ -8,7 +8,7 @@ import tempfile
 sys.dont_write_bytecode = True
 import browser  # noqa: E402
 from browser import Failed  # noqa: E402
-from controls import FIRST_IDEA, Page, attempt, open_bytes, read  # noqa: E402
+from controls import FIRST_IDEA, Page, attempt, open_bytes, read, saved  # noqa: E402
 
 IDEAS = 14
 PROJECTOR, ZOOMED, PHONE = {"width": 1280, "height": 720}, {"width": 640, "height": 360, "scale": 2}, {
@@ -102,12 +102,16 @@ def try_loans(page, count):
     count.check("nothing guesses who lent", "BORROWED" not in text and "findLenders" not in text)
 
 
+# What stands here is what is kept of it.
+DRAFT_IS_KEPT = "(() => { const d = JSON.parse(localStorage.getItem('snaplab.draft')); return d?.schedule === state.schedule && d.at === state.at; })()"
+
+
 def try_keeping(page, count):
     page.choose(FIRST_IDEA)
     page.click("#end")
     page.click(".process .scan")
     wanted = page.schedule()
-    page.run("new Promise(done => setTimeout(done, 400))")
+    page.tab.until(DRAFT_IS_KEPT)
     page.tab.open("file://" + browser.PAGE)
     count.check("work is there after a reload", page.schedule() == wanted and page.at() == "Item 15 of 15", page.at())
     page.click(".process .step")
@@ -141,7 +145,7 @@ def try_keeping(page, count):
     stopped = page.run("(() => { const e = new Event('beforeunload', {cancelable: true}); window.dispatchEvent(e); return e.defaultPrevented; })()")
     page.run("Storage.prototype.setItem = window.kept")
     page.click(".process .crash", 1)
-    page.run("new Promise(done => setTimeout(done, 400))")
+    page.tab.until(DRAFT_IS_KEPT)
     fine = page.run("(() => { const e = new Event('beforeunload', {cancelable: true}); window.dispatchEvent(e); return e.defaultPrevented; })()")
     count.check("it warns where work cannot be kept, and there alone", stopped and not fine, [stopped, fine])
 
@@ -249,7 +253,7 @@ def try_without_module(page, count, running):
             file.write(text.replace(old, new, 1))
             file.flush()
             other = Page(running.tab(address="file://" + file.name))
-            other.tab.until("!document.getElementById('broken').hidden", 20)
+            other.tab.until("!document.getElementById('broken').hidden")
             said = other.text("#broken")
             alive = other.run("[...document.querySelectorAll('header button, main button, footer button, input, select, textarea')]"
                               ".filter(e => !e.disabled && !e.closest('[inert]') && e.checkVisibility()).map(e => e.id)")
@@ -392,7 +396,7 @@ def try_movers(page, count):
     box = page.run("(() => { const r = document.querySelectorAll('.process .step')[1].getBoundingClientRect(); return [r.x + 5, r.y + 5]; })()")
     page.tab.ask("Input.dispatchMouseEvent", type="mouseMoved", x=1, y=1)
     page.tab.ask("Input.dispatchMouseEvent", type="mouseMoved", x=box[0], y=box[1])
-    page.tab.until("document.querySelectorAll('.process .peek')[1].innerText !== ''", 10)
+    page.tab.until("document.querySelectorAll('.process .peek')[1].innerText !== ''")
     told, before = page.text(".process:nth-child(2) .peek"), page.run("snaplab.state.report.processes[1].locals")
     page.click(".process .step", 1)
     after = page.run("snaplab.state.report.processes[1].locals")
@@ -418,6 +422,82 @@ def try_movers(page, count):
     page.click("#end")
     page.click("#memory .writer", 1)
     count.check("a value leads to its write", page.at() == "Item 54 of 64", page.at())
+
+
+def written_at(page, register):
+    """The last item of the run that changed a register, by the module's trace."""
+    text = page.tab.answer("trace", "", page.run("state.listing + '%\\n' + state.schedule").encode())[1].decode()
+    items = [one for one in ("\n" + text).split("\nitem ")[1:] if f"\n+ {register} = " in one]
+    return int(items[-1].split()[0]) if items else 0
+
+
+def try_writers(page, count):
+    """A click on a value leads to the item that wrote it, whichever register has it, and however far it is."""
+    for idea, names in ((3, ("r 1", "r 2")), (6, ("r 1", "r 3")), (7, ("r 1", "r 2", "v 1", "v 2"))):
+        page.choose(FIRST_IDEA + idea - 1)
+        for name in names:
+            page.click("#end")
+            wanted = written_at(page, name)
+            place = page.run(f"[...document.querySelectorAll('#memory .writer')].findLastIndex(b => b.ariaLabel.includes('of {name}:'))")
+            page.click("#memory .writer", place)
+            found = page.at().split()[1]
+            told = "Nobody has written" in page.text("#note")
+            count.check(f"idea {idea}, {name}: its writer", found == str(wanted) if wanted else told, [found, wanted, page.text("#note")])
+    page.choose(FIRST_IDEA + 2)
+    page.click("#end")
+    page.click("#memory .values .writer", 1)
+    count.check("the values lead to their writers", page.at() == "Item 54 of 64", page.at())
+    page.choose(0)
+    page.write("schedule", "shape 3 3\n2 update 2 5\n2*40\n" + "1 scan\n1*20000\n" * 3)
+    page.leave()
+    page.key("End")
+    page.click("#memory .values .writer", 1)
+    count.check("the writer of a value that is far away", "0\u21925" in page.text("#memory") and int(page.at().split()[1]) < 42, page.at())
+    page.click("#end")
+    page.click("#memory .values .writer", 0)
+    count.check("and that there is none", "Nobody has written r 1" in page.text("#note") and page.at() == "Item 60044 of 60044", page.text("#note"))
+
+
+def try_compare(page, count):
+    """The run of a lesson beside that of its change: what differs, and the first item that did something else."""
+    page.choose(FIRST_IDEA + 3)
+    page.key("c")
+    told = page.text("#compared")
+    edited = page.run("[...document.querySelectorAll('#compared .edited')].map(e => e.textContent)")
+    count.check("two runs: the changed line of each is marked", edited == [f"16 18: first j n: moved[@] = {k} goto 23" for k in (2, 1)], edited)
+    parted = page.run("[...document.querySelectorAll('#compared li.parted button')].map(e => e.textContent)")
+    count.check("and the first item at which they part", "part at item 50" in told and parted == [
+        f"item 50, process 1: stepped at 18: first j n: moved[@] = {k} goto 23" for k in (2, 1)], parted)
+    traced = [page.tab.answer("trace", "", "%\n".join(page.run(f"[data.choices[{FIRST_IDEA + 3}]{part}].map(c => [c.listing, c.schedule])[0]")).encode()
+                              )[1].decode().split("\nitem ") for part in ("", ".change")]
+    effects = [[re.sub(r"^(\d+ \d+ [^:\n]*):.*", r"\1", one, flags=re.M) for one in run] for run in traced]
+    first = next(k + 1 for k, (a, b) in enumerate(zip(*effects)) if a != b)
+    count.check("which is so in the module's traces", first == 50, first)
+    columns = page.run("[...document.querySelectorAll('#compared section')].map(e => e.innerText)")
+    count.check("and what is judged of each", "answers 3 5: point 42" in columns[0] and "Linearizable." in columns[0] and
+                "answers 0 0: no point" in columns[1] and "Not linearizable: item 52, process 1." in columns[1], columns)
+    page.click("#compared section:nth-child(2) li.parted button")
+    count.check("a click leads to the item, in its run", page.at() == "Item 50 of 62" and not page.shown("#compared") and
+                page.text("#change") == "Back to how it was", page.at())
+    page.click("#undo")
+    count.check("and undo leads back", page.text("#change") == "Make the change", page.text("#change"))
+    page.choose(FIRST_IDEA + 2)
+    page.click("#compare")
+    count.check("a change of the schedule alone is compared, too", "schedule" in page.text("#compared") and "Here the runs part" in page.text(
+        "#compared"), page.text("#compared")[:300])
+    page.tab.key("Escape")
+    page.run("change({idea: null, listing: state.listing, schedule: 'shape 2 2\\n1 scan\\n1*13\\n', at: 0})")
+    page.tab.settled()
+    page.write("schedule", "shape 2 2\n1 scan\n1*12\n2 scan\n")
+    page.leave()
+    page.click("#compare")
+    count.check("without a lesson it is what stood there before", "Before the last change" in page.text("#compared") and "part at item 14" in page.text(
+        "#compared-first"), page.text("#compared-first"))
+    page.tab.key("Escape")
+    page.write("listing", page.value("#listing textarea").replace("33: finish", "33: finnish"))
+    page.leave()
+    page.click("#compare")
+    count.check("what is refused is told", not page.shown("#compared") and "Now: refused: L3" in page.text("#note"), page.text("#note"))
 
 
 CONTRAST = """(() => {
@@ -507,19 +587,29 @@ def try_play(page, count):
     page.choose(FIRST_IDEA)
     page.run("document.getElementById('speed').value = '20'")
     page.click("#play")
-    page.tab.until("snaplab.state.at === 14 && document.getElementById('play').innerText === 'Play'", 20)
+    page.tab.until("snaplab.state.at === 14 && document.getElementById('play').innerText === 'Play'")
     count.check("play goes to the end, and ends", page.at() == "Item 14 of 14", page.at())
     page.click("#home")
     page.click("#play")
     page.key("ArrowLeft")
-    at = page.at()
-    page.run("new Promise(done => setTimeout(done, 300))")
-    count.check("a key ends it", page.at() == at and page.text("#play") == "Play", [at, page.at()])
+    page.tab.settled()
+    count.check("a key ends it", page.run("playing.timer") == 0 and page.text("#play") == "Play", [page.run("playing.timer"), page.at()])
     size = page.run("getComputedStyle(document.querySelector('#listing textarea')).fontSize")
     page.key("f")
     large = page.run("getComputedStyle(document.querySelector('#listing textarea')).fontSize")
     count.check("present is large type", float(large[:-2]) > 1.2 * float(size[:-2]), [size, large])
     page.key("f")
+
+
+def said_in_frame(host, script, first):
+    """What an expression says in the frame of a page, where that begins so; its document may be on its way."""
+    try:
+        frame, *_ = host.tab.ask("Page.getFrameTree")["frameTree"].get("childFrames", [])
+        world = host.tab.ask("Page.createIsolatedWorld", frameId=frame["frame"]["id"])["executionContextId"]
+        said = host.tab.ask("Runtime.evaluate", expression=script, contextId=world, returnByValue=True)["result"].get("value")
+        return str(said).startswith(first) and said
+    except (Failed, ValueError):
+        return False
 
 
 def try_addresses(page, count, running):
@@ -541,16 +631,8 @@ def try_addresses(page, count, running):
         file.write(f"<!doctype html><title>a page</title>{frame}")
         file.flush()
         host = Page(running.tab(address="file://" + file.name, wait=False))
-        host.tab.until("document.querySelector('iframe') !== null")
-        host.run("new Promise(done => setTimeout(done, 500))")
-        frames = host.tab.ask("Page.getFrameTree")["frameTree"].get("childFrames", [])
-        world = host.tab.ask("Page.createIsolatedWorld", frameId=frames[0]["frame"]["id"])["executionContextId"]
         said = "document.querySelector('#where .at')?.innerText + getComputedStyle(document.querySelector('.files') ?? document.body).display"
-        for _ in range(60):
-            shown = host.tab.ask("Runtime.evaluate", expression=said, contextId=world, returnByValue=True)["result"].get("value")
-            if str(shown).startswith("Item"):
-                break
-            host.run("new Promise(done => setTimeout(done, 250))")
+        shown = browser.wait_for("a position in a frame", lambda: said_in_frame(host, said, "Item"))
         count.check("a frame opens at the position, without what it does not need", shown == "Item 24 of 64none", shown)
         host.tab.close()
     bomb = other.run("""(async () => { const big = new Blob([JSON.stringify({input: ' '.repeat(40000000)})]);
@@ -558,7 +640,7 @@ def try_addresses(page, count, running):
         let s = ''; for (let k = 0; k < packed.length; k += 8192) s += String.fromCharCode(...packed.subarray(k, k + 8192));
         return btoa(s).replace(/\\+/g, '-').replace(/\\//g, '_').replace(/=+$/, ''); })()""")
     other.run(f"location.hash = '#{bomb}'")
-    other.tab.until("document.getElementById('note').innerText.includes('more than an input')", 20)
+    other.tab.until("document.getElementById('note').innerText.includes('more than an input')")
     count.check("a link that unpacks to too much is not opened", other.at() == "Item 24 of 64", other.text("#note"))
     other.tab.close()
 
@@ -569,12 +651,7 @@ def try_png(page, count):
     with tempfile.TemporaryDirectory() as folder:
         page.tab.ask("Browser.setDownloadBehavior", behavior="allow", downloadPath=folder)
         page.click("#keep-png")
-        path = os.path.join(folder, "snaplab-run.png")
-        for _ in range(200):
-            if os.path.exists(path) and os.path.getsize(path) > 1000:
-                break
-            page.run("new Promise(done => setTimeout(done, 50))")
-        head = open(path, "rb").read(24) if os.path.exists(path) else b""
+        head = open(saved(page, folder, "snaplab-run.png"), "rb").read(24)
         count.check("a picture is saved as PNG", head[:8] == b"\x89PNG\r\n\x1a\n" and int.from_bytes(head[16:20], "big") == 3200, head)
     page.tab.key("Escape")
 
@@ -585,7 +662,7 @@ def main():
     with browser.Browser() as running:
         page = fresh(running.tab(**PROJECTOR))
         for trial in (try_first_seconds, try_position, try_keys_after_a_choice, try_loans, try_keeping, try_changes, try_texts, try_zoomed,
-                      try_exercises, try_refusals, try_opening, try_notes, try_traps, try_untold, try_margin, try_movers, try_lessons, try_contrast, try_play,
+                      try_exercises, try_refusals, try_opening, try_notes, try_traps, try_untold, try_margin, try_movers, try_writers, try_compare, try_lessons, try_contrast, try_play,
                       try_png):
             attempt(trial, count, page)
         attempt(try_without_module, count, page, running)

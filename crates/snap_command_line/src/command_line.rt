@@ -26,9 +26,9 @@ pub enum CommandLine {
     Asks(Invocation),
     /// They ask for help, or for the version: its text.
     Help(String),
-    /// They ask for nothing that the program does: why, as text.
+    /// Invalid arguments, with the message.
     Wrong(String),
-    /// They are no text.
+    /// Arguments that are not valid UTF-8.
     NoText,
 }
 

@@ -1,4 +1,2 @@
 -- The definitions of snap_devices, by their modules.
 pub mod WholeRun
-pub mod FaultText
-pub mod ExitStatus

@@ -1,142 +1,101 @@
 -- A whole run of the program, from a byte source to a byte sink.
 use Rattle.std.specs.Prelude.{◌≡◌, ℕ, ◌<◌, ◌≤◌, Vec, Bool, true, List, [], false, take}
-use Rattle.std.specs.Prelude.{Option, Result, Ok, Err, IfOk, length, ⊤, ◌⊎◌}
+use Rattle.std.specs.Prelude.{Result, Ok, Err, IfOk, length, ⊤, ◌⊎◌}
 use Rattle.std.specs.Global.{Global}
 use Rattle.std.specs.Io.KnownBytes.{Consumes, Appends, IsAtEnd}
-use Rattle.snap_semantics.specs.declared.refusal.Refusal.{Refusal}
-use Rattle.snap_semantics.specs.declared.fault.Fault.{Fault}
-use Rattle.snap_semantics.specs.declared.fault.Fault.TheVariants as inner
-use Rattle.snap_live_output.specs.declared.fault.LiveRunFault.{LiveRunFault}
-use Rattle.snap_live_output.specs.declared.fault.LiveRunFault.TheVariants as run
 use Rattle.snap_live_output.specs.LiveOutput.{MayGiveUp, MayWrite, setup_of}
 use Rattle.snap_live_output.specs.Uncalled.{uncalled_of}
 use Rattle.snap_run_judge.specs.declared.linearizability.Linearizability.{Linearizability}
-use Rattle.snap_judge_task.specs.declared.fault.JudgeFault.{JudgeFault}
-use Rattle.snap_judge_task.specs.declared.fault.JudgeFault.TheVariants as judge
 use Rattle.snap_judge_task.specs.Judged.{judged}
 use Rattle.snap_judge_task.specs.JudgeAnswer.{IsJudged}
-use Rattle.snap_model_output.specs.declared.fault.ModelFault.{ModelFault}
-use Rattle.snap_model_output.specs.declared.fault.ModelFault.TheVariants as model
 use Rattle.snap_model_output.specs.ModelOutput.{MayModel, RefusesModel}
-use Rattle.snap_streams.specs.Sent as sent
+use Rattle.snap_streams.specs.State.{SourceState, SinkState}
 use Rattle.snap_tasks.specs.declared.judge_request.JudgeRequest.{JudgeRequest}
 use Rattle.snap_tasks.specs.declared.subject.Subject.{Subject}
-use Rattle.snap_devices.specs.declared.fault.ConductFault.{ConductFault}
-use Rattle.snap_devices.specs.declared.fault.ConductFault.TheVariants as fault
-
--- why there is no output, as a fault of a whole run
-abbrev pub of_fault : Fault Refusal → ConductFault
-of_fault inner.Memory = fault.Memory
-of_fault (inner.Refused r) = fault.Refused r
-
--- why a live run wrote nothing, as a fault of a whole run
-abbrev pub of_live_fault : LiveRunFault → ConductFault
-of_live_fault run.Memory = fault.Memory
-of_live_fault (run.Refused r) = fault.Refused r
-of_live_fault (run.Live r) = fault.Live r
-
--- why nothing was judged, as a fault of a whole run
-abbrev pub of_judge_fault : JudgeFault → ConductFault
-of_judge_fault judge.Memory = fault.Memory
-of_judge_fault (judge.Refused r) = fault.Refused r
-of_judge_fault (judge.History r) = fault.History r
-
--- why there is no model, as a fault of a whole run
-abbrev pub of_model_fault : ModelFault → ConductFault
-of_model_fault model.Memory = fault.Memory
-of_model_fault (model.Refused r) = fault.Refused r
-of_model_fault (model.Model r) = fault.Model r
+use Rattle.snap_faults.specs.declared.fault.ProgramFault.{ProgramFault}
+use Rattle.snap_faults.specs.declared.fault.ProgramFault.TheVariants as fault
 
 -- the input is all that was there, or one byte more than is allowed
-abbrev pub IsWhole : List ℕ → Option (List ℕ) → Type 0
-IsWhole input left = (length input ≡ 16777217) ⊎ IsAtEnd left
+abbrev pub IsWhole : List ℕ → (source_after : SourceState) → Type 0
+IsWhole input source_after = (length input ≡ 16777217) ⊎ IsAtEnd source_after.left
 
 -- what a run read of a byte source: at most one byte more than is allowed
-abbrev pub Takes : List ℕ → Option (List ℕ) → Option (List ℕ) → Type 0
-Takes input before after = Consumes before after input × (length input ≤ 16777217)
+abbrev pub Takes : List ℕ → (source source_after : SourceState) → Type 0
+Takes input source source_after = Consumes source.left source_after.left input × (length input ≤ 16777217)
 
 -- reading took an input, whole where it answers one; or it failed, or found no memory
-abbrev pub Reads : Result (Vec ℕ Global) ConductFault → Option (List ℕ) → Option (List ℕ) → Bool → Type 0
-Reads (Ok v) before after failed = Takes v.items before after × IsWhole v.items after × (failed ≡ false)
-Reads (Err e) before after failed =
-    (input : List ℕ) × Takes input before after × ((e ≡ fault.Memory) ⊎ ((e ≡ fault.Read) × (failed ≡ true)))
-
--- writing sent all of a text, or the first count bytes
-abbrev pub Sends : Result (Unit {0}) ConductFault → List ℕ → Option (List ℕ) → Option (List ℕ) →
-    (failed stalled : Bool) → Type 0
-Sends answer text before after failed stalled = sent.Sends fault.Write answer text before after failed stalled
+abbrev pub Reads : Result (Vec ℕ Global) ProgramFault → (source source_after : SourceState) → Type 0
+Reads (Ok v) source source_after =
+    Takes v.items source source_after × IsWhole v.items source_after × (source_after.failed ≡ false)
+Reads (Err e) source source_after =
+    (input : List ℕ) × Takes input source source_after
+    × ((e ≡ fault.Memory) ⊎ ((e ≡ fault.Read) × (source_after.failed ≡ true)))
 
 -- what has been written by a run that answered so, where an input may have these outputs
 -- and be refused for these reasons
-abbrev pub Writes : (answer : Result (Unit {0}) ConductFault) (IsOutput : List ℕ → Type 0)
-    (Refuses : ConductFault → Type 0) (text : List ℕ) (reader_failed writer_failed writer_stalled : Bool) → Type 0
-Writes (Ok done) IsOutput Refuses text r w s = IsOutput text
-Writes (Err fault.Memory) IsOutput Refuses text r w s = text ≡ []
-Writes (Err (fault.Refused f)) IsOutput Refuses text r w s = (text ≡ []) × Refuses (fault.Refused f)
-Writes (Err (fault.Live f)) IsOutput Refuses text r w s = (text ≡ []) × Refuses (fault.Live f)
-Writes (Err (fault.History f)) IsOutput Refuses text r w s = (text ≡ []) × Refuses (fault.History f)
-Writes (Err (fault.Model f)) IsOutput Refuses text r w s = (text ≡ []) × Refuses (fault.Model f)
-Writes (Err fault.Read) IsOutput Refuses text r w s = (text ≡ []) × (r ≡ true)
-Writes (Err (fault.Write count)) IsOutput Refuses text r w s =
-    (whole : List ℕ) × IsOutput whole × (count < length whole) × (text ≡ take count whole) × ((w ≡ true) ⊎ (s ≡ true))
+abbrev pub Writes : (answer : Result (Unit {0}) ProgramFault) (IsOutput : List ℕ → Type 0)
+    (Refuses : ProgramFault → Type 0) (text : List ℕ) (source_after : SourceState) (sink_after : SinkState) → Type 0
+Writes (Ok done) IsOutput Refuses text source sink = IsOutput text
+Writes (Err fault.Memory) IsOutput Refuses text source sink = text ≡ []
+Writes (Err fault.Read) IsOutput Refuses text source sink = (text ≡ []) × (source.failed ≡ true)
+Writes (Err (fault.Write count)) IsOutput Refuses text source sink =
+    (whole : List ℕ) × IsOutput whole × (count < length whole) × (text ≡ take count whole)
+    × ((sink.failed ≡ true) ⊎ (sink.stalled ≡ true))
+Writes (Err f) IsOutput Refuses text source sink = (text ≡ []) × Refuses f
 
 -- whether the input that was taken is whole; after a read fault or for want of memory it need not be
-abbrev pub IsWholeFor : Result (Unit {0}) ConductFault → List ℕ → Option (List ℕ) → Type 0
-IsWholeFor (Ok done) input after = IsWhole input after
-IsWholeFor (Err fault.Memory) input after = ⊤
-IsWholeFor (Err (fault.Refused f)) input after = IsWhole input after
-IsWholeFor (Err (fault.Live f)) input after = IsWhole input after
-IsWholeFor (Err (fault.History f)) input after = IsWhole input after
-IsWholeFor (Err (fault.Model f)) input after = IsWhole input after
-IsWholeFor (Err fault.Read) input after = ⊤
-IsWholeFor (Err (fault.Write count)) input after = IsWhole input after
+abbrev pub IsWholeFor : Result (Unit {0}) ProgramFault → List ℕ → (source_after : SourceState) → Type 0
+IsWholeFor (Err fault.Memory) input source_after = ⊤
+IsWholeFor (Err fault.Read) input source_after = ⊤
+IsWholeFor _ input source_after = IsWhole input source_after
 
 -- A whole run on this input: it takes it, and has written what its answer says of the outputs that the input may
 -- have, and nothing else.
 abbrev pub ConductsOn : (IsOutput : (input text : List ℕ) → Type 0)
-    (Refuses : (input : List ℕ) → ConductFault → Type 0) (input : List ℕ)
-    (answer : Result (Unit {0}) ConductFault) (left left_after taken taken_after : Option (List ℕ))
-    (reader_failed writer_failed writer_stalled : Bool) → Type 0
-ConductsOn IsOutput Refuses input answer left left_after taken taken_after r w s =
-    (text : List ℕ) × Takes input left left_after × IsWholeFor answer input left_after
-    × Appends taken taken_after text × Writes answer (IsOutput input) (Refuses input) text r w s
+    (Refuses : (input : List ℕ) → ProgramFault → Type 0) (input : List ℕ)
+    (answer : Result (Unit {0}) ProgramFault) (source source_after : SourceState)
+    (sink sink_after : SinkState) → Type 0
+ConductsOn IsOutput Refuses input answer source source_after sink sink_after =
+    (text : List ℕ) × Takes input source source_after × IsWholeFor answer input source_after
+    × Appends sink.taken sink_after.taken text
+    × Writes answer (IsOutput input) (Refuses input) text source_after sink_after
 
 -- A whole run of some input.
-abbrev pub ConductsBy : (IsOutput : (input text : List ℕ) → Type 0) (Refuses : (input : List ℕ) → ConductFault → Type 0)
-    (answer : Result (Unit {0}) ConductFault) (left left_after taken taken_after : Option (List ℕ))
-    (reader_failed writer_failed writer_stalled : Bool) → Type 0
-ConductsBy IsOutput Refuses answer left left_after taken taken_after r w s =
-    (input : List ℕ) × ConductsOn IsOutput Refuses input answer left left_after taken taken_after r w s
+abbrev pub ConductsBy : (IsOutput : (input text : List ℕ) → Type 0) (Refuses : (input : List ℕ) → ProgramFault → Type 0)
+    (answer : Result (Unit {0}) ProgramFault) (source source_after : SourceState)
+    (sink sink_after : SinkState) → Type 0
+ConductsBy IsOutput Refuses answer source source_after sink sink_after =
+    (input : List ℕ) × ConductsOn IsOutput Refuses input answer source source_after sink sink_after
 
 -- where the input is refused, as no history too, it was kept
-abbrev pub IsKept : (answer : Result (Unit {0}) ConductFault) (kept input : List ℕ) → Type 0
+abbrev pub IsKept : (answer : Result (Unit {0}) ProgramFault) (kept input : List ℕ) → Type 0
 IsKept (Err (fault.Refused f)) kept input = kept ≡ input
 IsKept (Err (fault.History f)) kept input = kept ≡ input
 IsKept _ kept input = ⊤
 
 -- A whole run that keeps its input.
 abbrev pub ConductsKeeping : (IsOutput : (input text : List ℕ) → Type 0)
-    (Refuses : (input : List ℕ) → ConductFault → Type 0) (kept : List ℕ)
-    (answer : Result (Unit {0}) ConductFault) (left left_after taken taken_after : Option (List ℕ))
-    (reader_failed writer_failed writer_stalled : Bool) → Type 0
-ConductsKeeping IsOutput Refuses kept answer left left_after taken taken_after r w s =
+    (Refuses : (input : List ℕ) → ProgramFault → Type 0) (kept : List ℕ)
+    (answer : Result (Unit {0}) ProgramFault) (source source_after : SourceState)
+    (sink sink_after : SinkState) → Type 0
+ConductsKeeping IsOutput Refuses kept answer source source_after sink sink_after =
     (input : List ℕ) × IsKept answer kept input
-    × ConductsOn IsOutput Refuses input answer left left_after taken taken_after r w s
+    × ConductsOn IsOutput Refuses input answer source source_after sink sink_after
 
 -- why a live run writes nothing: the input is refused, or the run is given up
 abbrev pub RefusesLive : (may : ℕ → ℕ → Bool → Type 0) → Subject → (limit : ℕ) →
-    (input : List ℕ) → ConductFault → Type 0
+    (input : List ℕ) → ProgramFault → Type 0
 RefusesLive may subject limit input (fault.Refused f) = setup_of subject input ≡ Err f
 RefusesLive may subject limit input (fault.Live f) = MayGiveUp may subject limit input f
 RefusesLive may subject limit input _ = ⊥
 
 -- a whole run that also answers what it found, without that
-abbrev pub done_of : {A : Type 0} → Result A ConductFault → Result (Unit {0}) ConductFault
+abbrev pub done_of : {A : Type 0} → Result A ProgramFault → Result (Unit {0}) ProgramFault
 done_of (Ok found) = Ok tt
 done_of (Err e) = Err e
 
 -- an output of a live run, and what is said of the operations that call nothing, where that is answered
-abbrev pub IsLiveOf : Result (Vec ℕ Global) ConductFault → (may : ℕ → ℕ → Bool → Type 0) → Subject → (limit : ℕ) →
+abbrev pub IsLiveOf : Result (Vec ℕ Global) ProgramFault → (may : ℕ → ℕ → Bool → Type 0) → Subject → (limit : ℕ) →
     (input text : List ℕ) → Type 0
 IsLiveOf answer may subject limit input text =
     MayWrite may subject limit input text × IfOk answer (λ uncalled. uncalled_of subject input ≡ Ok uncalled.items)
@@ -144,47 +103,41 @@ IsLiveOf answer may subject limit input text =
 -- A whole live run that keeps its input, and answers what is said of the operations that call nothing: each input has
 -- many outputs, or one refusal; and the run may be given up.
 abbrev pub ConductsLiveKeeping : (may : ℕ → ℕ → Bool → Type 0) (subject : Subject) (limit : ℕ) (kept : List ℕ)
-    (answer : Result (Vec ℕ Global) ConductFault) (left left_after taken taken_after : Option (List ℕ))
-    (reader_failed writer_failed writer_stalled : Bool) → Type 0
-ConductsLiveKeeping may subject limit kept answer left left_after taken taken_after r w s =
+    (answer : Result (Vec ℕ Global) ProgramFault) (source source_after : SourceState)
+    (sink sink_after : SinkState) → Type 0
+ConductsLiveKeeping may subject limit kept answer source source_after sink sink_after =
     ConductsKeeping (IsLiveOf answer may subject limit) (RefusesLive may subject limit) kept
-    (done_of answer) left left_after taken taken_after r w s
+    (done_of answer) source source_after sink sink_after
 
 -- A whole live run, of which no more is answered.
 abbrev pub ConductsLive : (may : ℕ → ℕ → Bool → Type 0) (subject : Subject) (limit : ℕ)
-    (answer : Result (Unit {0}) ConductFault) (left left_after taken taken_after : Option (List ℕ))
-    (reader_failed writer_failed writer_stalled : Bool) → Type 0
-ConductsLive may subject limit answer left left_after taken taken_after r w s =
+    (answer : Result (Unit {0}) ProgramFault) (source source_after : SourceState)
+    (sink sink_after : SinkState) → Type 0
+ConductsLive may subject limit answer source source_after sink sink_after =
     ConductsBy (MayWrite may subject limit)
-    (RefusesLive may subject limit) answer left left_after taken taken_after r w s
+    (RefusesLive may subject limit) answer source source_after sink sink_after
 
 -- why nothing is judged
-abbrev pub RefusesJudge : JudgeRequest → (input : List ℕ) → ConductFault → Type 0
-RefusesJudge asked input (fault.Refused f) = judged asked.source input ≡ Err (judge.Refused f)
-RefusesJudge asked input (fault.History f) = judged asked.source input ≡ Err (judge.History f)
+abbrev pub RefusesJudge : JudgeRequest → (input : List ℕ) → ProgramFault → Type 0
+RefusesJudge asked input (fault.Refused f) = judged asked.source input ≡ Err (fault.Refused f)
+RefusesJudge asked input (fault.History f) = judged asked.source input ≡ Err (fault.History f)
 RefusesJudge asked input _ = ⊥
 
 -- what is written of what was judged, and the word for it, where that is answered
-abbrev pub IsJudgeOf : Result Linearizability ConductFault → JudgeRequest → (input text : List ℕ) → Type 0
+abbrev pub IsJudgeOf : Result Linearizability ProgramFault → JudgeRequest → (input text : List ℕ) → Type 0
 IsJudgeOf (Ok word) asked input text = IsJudged asked input text word
 IsJudgeOf (Err e) asked input text = (word : Linearizability) × IsJudged asked input text word
 
 -- A whole run that judges, and answers the word for what it judged; it keeps its input.
-abbrev pub ConductsJudge : (asked : JudgeRequest) (kept : List ℕ) (answer : Result Linearizability ConductFault)
-    (left left_after taken taken_after : Option (List ℕ)) (reader_failed writer_failed writer_stalled : Bool) → Type 0
-ConductsJudge asked kept answer left left_after taken taken_after r w s =
+abbrev pub ConductsJudge : (asked : JudgeRequest) (kept : List ℕ) (answer : Result Linearizability ProgramFault)
+    (source source_after : SourceState) (sink sink_after : SinkState) → Type 0
+ConductsJudge asked kept answer source source_after sink sink_after =
     ConductsKeeping (IsJudgeOf answer asked) (RefusesJudge asked) kept
-    (done_of answer) left left_after taken taken_after r w s
-
--- why no model is written
-abbrev pub RefusesModelOf : Subject → (input : List ℕ) → ConductFault → Type 0
-RefusesModelOf subject input (fault.Refused f) = RefusesModel subject input (model.Refused f)
-RefusesModelOf subject input (fault.Model f) = RefusesModel subject input (model.Model f)
-RefusesModelOf subject input _ = ⊥
+    (done_of answer) source source_after sink sink_after
 
 -- A whole run that writes a model; it keeps its input. Of the text of a model nothing is promised.
-abbrev pub ConductsModel : (subject : Subject) (kept : List ℕ) (answer : Result (Unit {0}) ConductFault)
-    (left left_after taken taken_after : Option (List ℕ)) (reader_failed writer_failed writer_stalled : Bool) → Type 0
-ConductsModel subject kept answer left left_after taken taken_after r w s =
-    ConductsKeeping (λ input text. MayModel subject input) (RefusesModelOf subject) kept
-    answer left left_after taken taken_after r w s
+abbrev pub ConductsModel : (subject : Subject) (kept : List ℕ) (answer : Result (Unit {0}) ProgramFault)
+    (source source_after : SourceState) (sink sink_after : SinkState) → Type 0
+ConductsModel subject kept answer source source_after sink sink_after =
+    ConductsKeeping (λ input text. MayModel subject input) (RefusesModel subject) kept
+    answer source source_after sink sink_after

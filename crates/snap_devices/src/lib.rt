@@ -2,18 +2,14 @@
 //! writes an output to a byte sink, or says why not; and whole live runs, judgements and models.
 #![tactic(auto)]
 
-mod fault;
-mod fault_text;
 mod judge_run;
 mod live_run;
 mod model_run;
 mod whole_texts;
 
-pub use fault::{ConductFault, fault_status};
-pub use fault_text::fault_line;
 pub use judge_run::conduct_judge;
 pub use live_run::{conduct_live, conduct_live_keeping};
 pub use model_run::conduct_model;
 pub use snap_judge_task::Linearizability;
 pub use snap_streams::{ByteSink, ByteSource, Failed, Std};
-pub use whole_texts::{read_all, write_all};
+pub use whole_texts::read_all;

@@ -4,8 +4,8 @@ ghost use Rattle.std.specs.Prelude.{◌≡◌, ◌≤◌, false};
 ghost use Rattle.snap_words.specs.Shape.{max_items};
 ghost use Rattle.snap_devices.specs.WholeRun.{ConductsLive, ConductsLiveKeeping};
 
-use crate::fault::ConductFault;
-use crate::whole_texts::{read_all, write_all};
+use crate::whole_texts::read_all;
+use snap_faults::{ProgramFault, write_all};
 use snap_live::Gate;
 use snap_live_output::live_output;
 use snap_streams::{ByteSink, ByteSource};
@@ -24,14 +24,13 @@ pub fn conduct_live<G: Gate, R: ByteSource, W: ByteSink>(
     gate: &G,
     source: &mut R,
     sink: &mut W,
-) -> Result<(), ConductFault>
+) -> Result<(), ProgramFault>
     requires limit { (1 ≤ limit) × (limit ≤ max_items) }
-    requires source { R.has_failed source.old ≡ false }
-    requires sink { W.has_failed sink.old ≡ false }
-    requires goes_on { W.is_stalled sink.old ≡ false }
-    ensures { ConductsLive (G.may_answer gate.now) subject limit result (R.left source.old)
-        (R.left source.new) (W.taken sink.old) (W.taken sink.new)
-        (R.has_failed source.new) (W.has_failed sink.new) (W.is_stalled sink.new) }
+    requires source { (R.state source.old).failed ≡ false }
+    requires sink { (W.state sink.old).failed ≡ false }
+    requires goes_on { (W.state sink.old).stalled ≡ false }
+    ensures { ConductsLive (G.may_answer gate.now) subject limit result (R.state source.old)
+        (R.state source.new) (W.state sink.old) (W.state sink.new) }
 {
     let mut kept = Vec::new(alloc);
     conduct_live_keeping(rt, alloc, subject, limit, gate, source, sink, &mut kept)?;
@@ -49,14 +48,13 @@ pub fn conduct_live_keeping<G: Gate, R: ByteSource, W: ByteSink>(
     source: &mut R,
     sink: &mut W,
     kept: &mut Vec<u8>,
-) -> Result<Vec<u8>, ConductFault>
+) -> Result<Vec<u8>, ProgramFault>
     requires limit { (1 ≤ limit) × (limit ≤ max_items) }
-    requires source { R.has_failed source.old ≡ false }
-    requires sink { W.has_failed sink.old ≡ false }
-    requires goes_on { W.is_stalled sink.old ≡ false }
+    requires source { (R.state source.old).failed ≡ false }
+    requires sink { (W.state sink.old).failed ≡ false }
+    requires goes_on { (W.state sink.old).stalled ≡ false }
     ensures { ConductsLiveKeeping (G.may_answer gate.now) subject limit kept.new.items result
-        (R.left source.old) (R.left source.new) (W.taken sink.old) (W.taken sink.new)
-        (R.has_failed source.new) (W.has_failed sink.new) (W.is_stalled sink.new) }
+        (R.state source.old) (R.state source.new) (W.state sink.old) (W.state sink.new) }
 {
     let input = read_all(alloc, source)?;
     *kept = input;

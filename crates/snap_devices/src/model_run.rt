@@ -3,8 +3,8 @@
 ghost use Rattle.std.specs.Prelude.{◌≡◌, false};
 ghost use Rattle.snap_devices.specs.WholeRun.{ConductsModel};
 
-use crate::fault::ConductFault;
-use crate::whole_texts::{read_all, write_all};
+use crate::whole_texts::read_all;
+use snap_faults::{ProgramFault, write_all};
 use snap_model_output::model_output;
 use snap_streams::{ByteSink, ByteSource};
 use snap_tasks::Subject;
@@ -19,13 +19,12 @@ pub fn conduct_model<R: ByteSource, W: ByteSink>(
     source: &mut R,
     sink: &mut W,
     kept: &mut Vec<u8>,
-) -> Result<(), ConductFault>
-    requires source { R.has_failed source.old ≡ false }
-    requires sink { W.has_failed sink.old ≡ false }
-    requires goes_on { W.is_stalled sink.old ≡ false }
-    ensures { ConductsModel subject kept.new.items result (R.left source.old)
-        (R.left source.new) (W.taken sink.old) (W.taken sink.new)
-        (R.has_failed source.new) (W.has_failed sink.new) (W.is_stalled sink.new) }
+) -> Result<(), ProgramFault>
+    requires source { (R.state source.old).failed ≡ false }
+    requires sink { (W.state sink.old).failed ≡ false }
+    requires goes_on { (W.state sink.old).stalled ≡ false }
+    ensures { ConductsModel subject kept.new.items result (R.state source.old)
+        (R.state source.new) (W.state sink.old) (W.state sink.new) }
 {
     let input = read_all(alloc, source)?;
     *kept = input;

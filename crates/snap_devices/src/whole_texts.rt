@@ -1,19 +1,19 @@
-//! `read_all` and `write_all`: an input that is read whole, and an output that is sent whole.
+//! `read_all`: an input that is read whole.
 ghost use Rattle.std.specs.Prelude.{◌≡◌, false};
-ghost use Rattle.snap_devices.specs.WholeRun.{Reads, Sends};
+ghost use Rattle.snap_devices.specs.WholeRun.{Reads};
 
-use crate::fault::ConductFault;
+use snap_faults::ProgramFault;
 use snap_input::MAX_INPUT;
-use snap_streams::{ByteSink, ByteSource};
+use snap_streams::ByteSource;
 use std::alloc::Global;
 
 /// The bytes of one read.
 const CHUNK: usize = 4096;
 
 /// Reads all there is, or one byte more than is allowed.
-pub fn read_all<R: ByteSource>(alloc: Global, source: &mut R) -> Result<Vec<u8>, ConductFault>
-    requires { R.has_failed source.old ≡ false }
-    ensures { Reads result (R.left source.old) (R.left source.new) (R.has_failed source.new) }
+pub fn read_all<R: ByteSource>(alloc: Global, source: &mut R) -> Result<Vec<u8>, ProgramFault>
+    requires { (R.state source.old).failed ≡ false }
+    ensures { Reads result (R.state source.old) (R.state source.new) }
 {
     let mut input = Vec::new(alloc);
     let mut buffer = [0u8; CHUNK];
@@ -22,17 +22,8 @@ pub fn read_all<R: ByteSource>(alloc: Global, source: &mut R) -> Result<Vec<u8>,
         match source.read(&mut buffer[..room]) {
             Ok(0) => break,
             Ok(count) => input.extend_from_slice(&buffer[..count])?,
-            Err(_) => return Err(ConductFault::Read),
+            Err(_) => return Err(ProgramFault::Read),
         }
     }
     Ok(input)
-}
-
-/// Writes all of a text. After `Write(count)` the sink has taken its first `count` bytes.
-pub fn write_all<W: ByteSink>(sink: &mut W, text: &[u8]) -> Result<(), ConductFault>
-    requires { W.has_failed sink.old ≡ false }
-    ensures { Sends result text.now (W.taken sink.old) (W.taken sink.new) (W.has_failed sink.new)
-        (W.is_stalled sink.new) }
-{
-    Ok(snap_streams::write_all(sink, text)?)
 }

@@ -17,14 +17,15 @@ use Rattle.snap_dialog.specs.declared.fault.DialogFault.TheVariants as fault
 use Rattle.snap_dialog.proofs.Dialogs.{all_pass, appends_nothing, appends_then, nothing_passes, one_passes}
 use Rattle.snap_dialog.proofs.Dialogs.{part_of_first}
 use Rattle.snap_streams.specs.Sent.{Sends, unsent}
+use Rattle.snap_streams.specs.State.{SinkState}
 use Rattle.snap_streams.specs.declared.sending.Unsent.{Unsent}
 
 -- what a sink has taken of a text that it did not take whole
-pub sent_in_part : (answer : Result (Unit {0}) DialogFault) (e : Unsent) (text : List ℕ) (u v : Option (List ℕ))
-    (failed stalled : Bool) (P : DialogFault → Type 0) → IsErr answer × IsErrAnd answer P →
-    Sends unsent (Err e) text u v failed stalled → Shows answer u v text
-sent_in_part (Ok done) e text u v failed stalled P h sent = absurd h.1
-sent_in_part (Err fault) e text u v failed stalled P h sent =
+pub sent_in_part : (answer : Result (Unit {0}) DialogFault) (e : Unsent) (text : List ℕ) (sink sink_after : SinkState)
+    (P : DialogFault → Type 0) → IsErr answer × IsErrAnd answer P →
+    Sends unsent (Err e) text sink sink_after → Shows answer sink.taken sink_after.taken text
+sent_in_part (Ok done) e text sink sink_after P h sent = absurd h.1
+sent_in_part (Err fault) e text sink sink_after P h sent =
     (take sent.0 text, drop sent.0 text, take-append-drop sent.0 text, sent.3)
 
 -- nothing is taken yet

@@ -26,12 +26,12 @@ impl<R, W> Terminal<R, W> {
 }
 
 impl<R: ByteSource, W: ByteSink> Console for Terminal<R, W> {
-    ghost left = { λ t. R.left t.reader };
+    ghost left = { λ t. (R.state t.reader).left };
 
-    ghost shown = { λ t. W.taken t.writer };
+    ghost shown = { λ t. (W.state t.writer).taken };
 
-    ghost failure = { λ t. failure_in (R.has_failed t.reader) (W.has_failed t.writer)
-        (W.is_stalled t.writer) };
+    ghost failure = { λ t. failure_in (R.state t.reader).failed
+        (W.state t.writer).failed (W.state t.writer).stalled };
 
     fn say(&mut self, text: &[u8]) -> Result<(), DialogFault> {
         Ok(write_all(&mut self.writer, text)?)

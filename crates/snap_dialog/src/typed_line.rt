@@ -15,10 +15,10 @@ const MAX_LINE: usize = 1_048_576;
 
 /// The next byte, where there is one.
 fn next_byte<R: ByteSource>(reader: &mut R) -> Result<Option<u8>, DialogFault>
-    requires { R.has_failed reader.old ≡ false }
+    requires { (R.state reader.old).failed ≡ false }
     ensures byte { IfOk result (λ next.
-        GivesNext next (R.left reader.old) (R.left reader.new)) }
-    ensures failed { R.has_failed reader.new ≡ is_err result }
+        GivesNext next (R.state reader.old).left (R.state reader.new).left) }
+    ensures failed { (R.state reader.new).failed ≡ is_err result }
     ensures fault { IfErr result (λ fault. fault ≡ Read) }
 {
     let mut byte = [0u8; 1];
@@ -43,12 +43,13 @@ fn keep_byte(line: &mut Vec<u8>, byte: u8) -> Result<(), AllocError>
 /// byte more than a line may have. It fails with its source, for want of memory, or where the bytes
 /// of a line are more than can be counted.
 pub fn read_line<R: ByteSource>(alloc: Global, reader: &mut R) -> Result<Vec<u8>, DialogFault>
-    requires { R.has_failed reader.old ≡ false }
+    requires { (R.state reader.old).failed ≡ false }
     ensures line { IfOk result (λ line.
-        IfSome (R.left reader.old) (λ xs. line.items ≡ kept (take_through 10 xs))) }
-    ensures rest { OnOk result (DropsThrough (R.left reader.old) (R.left reader.new) 10) }
-    ensures failed { R.has_failed reader.new ≡ is_read_fault result }
-    ensures fails { IfErr result (λ fault. MayEndLine fault (R.left reader.old)) }
+        IfSome (R.state reader.old).left (λ xs. line.items ≡ kept (take_through 10 xs))) }
+    ensures rest { OnOk result
+        (DropsThrough (R.state reader.old).left (R.state reader.new).left 10) }
+    ensures failed { (R.state reader.new).failed ≡ is_read_fault result }
+    ensures fails { IfErr result (λ fault. MayEndLine fault (R.state reader.old).left) }
 {
     let mut line = Vec::new(alloc);
     for _count in 0..u64::MAX {

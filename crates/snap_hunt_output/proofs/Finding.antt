@@ -6,8 +6,8 @@ use Rattle.snap_hunt_output.specs.Hunted.{IsPrinted, Says, asked_source}
 use Rattle.snap_hunt_output.specs.Asked.{owned}
 use Rattle.snap_hunt_output.specs.Check.{run_in_input}
 use Rattle.snap_hunt_output.specs.Input.{input_text}
-use Rattle.snap_hunt_output.specs.declared.hunted.HuntFault.{HuntFault}
-use Rattle.snap_hunt_output.specs.declared.hunted.HuntFault.TheVariants.{Memory, Refused, Unsaid}
+use Rattle.snap_faults.specs.declared.fault.ProgramFault.{ProgramFault}
+use Rattle.snap_faults.specs.declared.fault.ProgramFault.TheVariants.{Memory, Unsaid}
 use Rattle.snap_hunt_output.specs.declared.asked.Asked.{Asked}
 use Rattle.snap_hunt_output.specs.declared.hunted.Hunted.{Hunted}
 use Rattle.snap_semantics.specs.Schedule.{Schedule}
@@ -92,15 +92,15 @@ none_by l a p r plan first none =
     subst (λ o. IsFirstOf l a o) none (subst (λ q. IsFirst l q a.wanted a.seed 0 a.runs r) plan first)
 
 -- a fault that refuses nothing, where a run fails
-pub fault_by : (l : Source) (a : Asked) (p : Plan) (x : Found) (e : HuntFault) → p ≡ owned l.kind a.plan →
+pub fault_by : (l : Source) (a : Asked) (p : Plan) (x : Found) (e : ProgramFault) → p ≡ owned l.kind a.plan →
     IsFirst l p a.wanted a.seed 0 a.runs (Some x) → IsNoRefusal e → IsFaultOf l a e
 fault_by l a p x Memory plan first h = tt
-fault_by l a p x (Refused r) plan first h = h
 fault_by l a p x Unsaid plan first h = (x, subst (λ q. IsFirst l q a.wanted a.seed 0 a.runs (Some x)) plan first)
+fault_by l a p x e plan first h = h
 
 -- a fault of a hunt of the listing that is asked for
-pub due_by : (text : List ℕ) (a : Asked) (l : Source) (e : HuntFault) → asked_source text a ≡ Ok l → IsFaultOf l a e →
+pub due_by : (text : List ℕ) (a : Asked) (l : Source) (e : ProgramFault) → asked_source text a ≡ Ok l → IsFaultOf l a e →
     IsDue text a e
 due_by text a l Memory is h = tt
-due_by text a l (Refused r) is h = absurd h
 due_by text a l Unsaid is h = (l, is, h)
+due_by text a l e is h = absurd h

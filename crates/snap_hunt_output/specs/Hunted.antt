@@ -7,8 +7,6 @@ use Rattle.snap_semantics.specs.Answers.{◌>>=◌, refused_as}
 use Rattle.snap_semantics.specs.Listing.{listing_of}
 use Rattle.snap_semantics.specs.Schedule.{Schedule}
 use Rattle.snap_semantics.specs.Source.{Source}
-use Rattle.snap_semantics.specs.declared.fault.Fault.{Fault}
-use Rattle.snap_semantics.specs.declared.fault.Fault.TheVariants as fault
 use Rattle.snap_semantics.specs.declared.refusal.Refusal.{Refusal}
 use Rattle.snap_semantics.specs.declared.refusal.Refusal.TheVariants as refusal
 use Rattle.snap_runs.specs.Run.{Run, run_over}
@@ -28,8 +26,8 @@ use Rattle.snap_hunt_output.specs.Input.{input_text}
 use Rattle.snap_hunt_output.specs.declared.asked.Asked.{Asked}
 use Rattle.snap_hunt_output.specs.declared.hunted.Hunted.{Hunted}
 use Rattle.snap_hunt_output.specs.declared.hunted.Hunted.TheVariants as hunted
-use Rattle.snap_hunt_output.specs.declared.hunted.HuntFault.{HuntFault}
-use Rattle.snap_hunt_output.specs.declared.hunted.HuntFault.TheVariants.{Memory, Refused, Unsaid}
+use Rattle.snap_faults.specs.declared.fault.ProgramFault.{ProgramFault}
+use Rattle.snap_faults.specs.declared.fault.ProgramFault.TheVariants.{Memory, Refused, Unsaid}
 
 -- what a hunt of a listing is to find: the first of the runs that are asked for in which something fails, or none
 abbrev pub IsFirstOf : Source → Asked → Option Found → Type 0
@@ -74,25 +72,21 @@ pub record IsHunted (text : List ℕ) (a : Asked) (h : Hunted) : Type 0 where
   pub is : asked_source text a ≡ Ok listing
   pub hunted : IsHuntedOf listing text a h
 
--- a fault as one of a hunt
-abbrev pub hunt_fault : Fault Refusal → HuntFault
-hunt_fault fault.Memory = Memory
-hunt_fault (fault.Refused r) = Refused r
-
 -- a fault that refuses nothing
-abbrev pub IsNoRefusal : HuntFault → Type 0
+abbrev pub IsNoRefusal : ProgramFault → Type 0
 IsNoRefusal Memory = ⊤
-IsNoRefusal (Refused r) = ⊥
 IsNoRefusal Unsaid = ⊤
+IsNoRefusal _ = ⊥
 
 -- a fault of a hunt of a listing: it refuses nothing, and unless memory ran out a run fails
-abbrev pub IsFaultOf : Source → Asked → HuntFault → Type 0
+abbrev pub IsFaultOf : Source → Asked → ProgramFault → Type 0
 IsFaultOf l a Memory = ⊤
-IsFaultOf l a (Refused r) = ⊥
 IsFaultOf l a Unsaid = (x : Found) × IsFirstOf l a (Some x)
+IsFaultOf l a _ = ⊥
 
 -- a fault that is due: a refusal is that of what is asked for, and where nothing is refused it is one of its listing
-abbrev pub IsDue : List ℕ → Asked → HuntFault → Type 0
+abbrev pub IsDue : List ℕ → Asked → ProgramFault → Type 0
 IsDue text a Memory = ⊤
 IsDue text a (Refused r) = asked_source text a ≡ Err r
 IsDue text a Unsaid = (l : Source) × (asked_source text a ≡ Ok l) × ((x : Found) × IsFirstOf l a (Some x))
+IsDue text a _ = ⊥

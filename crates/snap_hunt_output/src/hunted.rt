@@ -8,8 +8,6 @@ ghost use Rattle.snap_semantics.specs.Answers.{Answers};
 ghost use Rattle.snap_hunt.specs.Hunt.{run_of};
 ghost use Rattle.snap_hunt_output.specs.Hunted.{IsDue, IsFaultOf, IsHunted, IsHuntedOf};
 ghost use Rattle.snap_hunt_output.specs.Hunted.{IsNoRefusal, IsPrinted, Says, asked_source};
-ghost use Rattle.snap_hunt_output.specs.Hunted.{hunt_fault};
-ghost use Rattle.snap_hunt_output.specs.declared.hunted.HuntFault.TheVariants.{Memory};
 
 use crate::asked::{Asked, fits_kind, owned};
 use crate::check::{InputRun, run_in_input};
@@ -17,13 +15,13 @@ use crate::input::input_text;
 use snap_asm_program::Program;
 use snap_chance::{Plan, schedule_of};
 use snap_failure::{Failure, Wanted, failure_over};
+use snap_faults::ProgramFault;
 use snap_hunt::{Found, Watcher, first_failing, shrunk};
 use snap_input::{MAX_INPUT, program_of};
 use snap_semantics::{Fault, Refusal};
 use snap_words::WordFault;
-use std::alloc::{AllocError, Global};
+use std::alloc::Global;
 use std::thread::Threads;
-use thiserror::Error;
 
 /// What a hunt comes to.
 #[derive(Drop)]
@@ -36,37 +34,6 @@ pub enum Hunted {
         failure: Failure,
         input: Vec<u8>,
     },
-}
-
-/// Why a hunt comes to nothing.
-#[derive(Clone, Copy, Debug, PartialEq, Eq, Error)]
-pub enum HuntFault {
-    #[error("out of memory")]
-    Memory,
-    #[error("{0}")]
-    Refused(Refusal),
-    /// What was to be printed does not fail as it says.
-    #[error("the run that was found does not fail")]
-    Unsaid,
-}
-
-impl From<AllocError> for HuntFault {
-    ghost from_gives = { λ _ fault. fault ≡ Memory };
-
-    fn from(_error: AllocError) -> HuntFault {
-        HuntFault::Memory
-    }
-}
-
-impl From<Fault<Refusal>> for HuntFault {
-    ghost from_gives = { λ found fault. fault ≡ hunt_fault found };
-
-    fn from(fault: Fault<Refusal>) -> HuntFault {
-        match fault {
-            Fault::Memory => HuntFault::Memory,
-            Fault::Refused(refusal) => HuntFault::Refused(refusal),
-        }
-    }
 }
 
 /// A small run that fails, as an input, and what fails in it.
@@ -85,7 +52,7 @@ fn small_input(
     plan: &Plan,
     asked: &Asked,
     found: &Found,
-) -> Result<SmallInput, HuntFault>
+) -> Result<SmallInput, ProgramFault>
     requires { Finds asked.now.wanted (run_of program.now plan.now asked.now.seed found.now.run)
         (Some found.now.failure) }
     ensures printed { IfOk result (λ small. IsPrinted program.now plan.now listing.now asked.now
@@ -103,7 +70,7 @@ fn small_input(
             failure,
             input: input_text(alloc, listing, asked.seed, found.run, &failure, &small)?,
         }),
-        _ => Err(HuntFault::Unsaid),
+        _ => Err(ProgramFault::Unsaid),
     }
 }
 
@@ -113,30 +80,35 @@ fn check_run(
     read: &InputRun,
     wanted: &Wanted,
     failure: &Failure,
-) -> Result<(), HuntFault>
+) -> Result<(), ProgramFault>
     ensures says { OnOk result (Finds wanted.now (run_over read.now.program read.now.schedule)
         (Some failure.now)) }
     ensures fault { IfErr result IsNoRefusal }
 {
     match failure_over(alloc, &read.program, &read.schedule, wanted)? {
         Some(found) if found == *failure => Ok(()),
-        _ => Err(HuntFault::Unsaid),
+        _ => Err(ProgramFault::Unsaid),
     }
 }
 
 /// Reads an input that is printed once more, and sees that this is what fails in its run.
 #[tactic(auto, using(crate::proofs::Finding::said))]
-fn check(alloc: Global, input: &[u8], wanted: &Wanted, failure: &Failure) -> Result<(), HuntFault>
+fn check(
+    alloc: Global,
+    input: &[u8],
+    wanted: &Wanted,
+    failure: &Failure,
+) -> Result<(), ProgramFault>
     ensures says { OnOk result (Says wanted.now input.now failure.now) }
     ensures fault { IfErr result IsNoRefusal }
 {
     if input.len() > MAX_INPUT {
-        return Err(HuntFault::Unsaid);
+        return Err(ProgramFault::Unsaid);
     }
     match run_in_input(alloc, input) {
         Ok(read) => check_run(alloc, &read, wanted, failure),
-        Err(Fault::Memory) => Err(HuntFault::Memory),
-        Err(Fault::Refused(_)) => Err(HuntFault::Unsaid),
+        Err(Fault::Memory) => Err(ProgramFault::Memory),
+        Err(Fault::Refused(_)) => Err(ProgramFault::Unsaid),
     }
 }
 
@@ -150,7 +122,7 @@ fn hunt_program<W: Watcher>(
     program: &Program,
     asked: &Asked,
     watcher: &mut W,
-) -> Result<Hunted, HuntFault>
+) -> Result<Hunted, ProgramFault>
     requires { asked.now.runs < 2 ^ 63 }
     ensures hunted { IfOk result (IsHuntedOf program.now listing.now asked.now) }
     ensures fault { IfErr result (IsFaultOf program.now asked.now) }
@@ -201,7 +173,7 @@ pub fn hunt_listing<W: Watcher>(
     listing: &[u8],
     asked: &Asked,
     watcher: &mut W,
-) -> Result<Hunted, HuntFault>
+) -> Result<Hunted, ProgramFault>
     requires { asked.now.runs < 2 ^ 63 }
     ensures hunted { IfOk result (IsHunted listing.now asked.now) }
     ensures refused { IfErr result (IsDue listing.now asked.now) }

@@ -36,7 +36,7 @@ reason_lines [] = []
 reason_lines (r ∷ rs) = reason_line r ++ reason_lines rs
 
 abbrev pub answer_line : List ℕ → List ℕ
-answer_line view = codes "right would have been:" ++ numbers_text view ++ codes "\n"
+answer_line view = codes "right answer:" ++ numbers_text view ++ codes "\n"
 
 abbrev pub answer_lines : List (List ℕ) → List ℕ
 answer_lines [] = []

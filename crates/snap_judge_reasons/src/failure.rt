@@ -130,7 +130,7 @@ fn push_reasons(draft: &mut Draft, reasons: &[Reason])
 fn push_answer(draft: &mut Draft, view: &View)
     ensures { Adds draft.old draft.new (answer_line view.now) }
 {
-    draft.push(b"right would have been:");
+    draft.push(b"right answer:");
     draft.push_numbers(view.as_slice());
     draft.push(b"\n");
 }

@@ -12,15 +12,15 @@ use Rattle.snap_tasks.specs.declared.subject.Subject.{Subject}
 use Rattle.snap_input.specs.Input.{checked_parts}
 use Rattle.snap_input.specs.Parts.{max_input, parts_of}
 use Rattle.snap_judge_task.specs.Judged.{found_at_once, why}
-use Rattle.snap_judge_task.specs.declared.fault.JudgeFault.{JudgeFault}
-use Rattle.snap_judge_task.specs.declared.fault.JudgeFault.TheVariants as fault
+use Rattle.snap_faults.specs.declared.fault.ProgramFault.{ProgramFault}
+use Rattle.snap_faults.specs.declared.fault.ProgramFault.TheVariants as fault
 
-module _ {X : Type 0} (result : Result X JudgeFault) where
+module _ {X : Type 0} (result : Result X ProgramFault) where
   -- what is found is answered
-  abbrev pub Answered : Option JudgeFault → Type 0
-  Answered found = (e : JudgeFault) → found ≡ Some e → result ≡ Err e
+  abbrev pub Answered : Option ProgramFault → Type 0
+  Answered found = (e : ProgramFault) → found ≡ Some e → result ≡ Err e
 
-  of_one : (e : JudgeFault) → result ≡ Err e → Answered (Some e)
+  of_one : (e : ProgramFault) → result ≡ Err e → Answered (Some e)
   of_one e h f is = cc
 
   of_none : Answered None
@@ -31,7 +31,7 @@ module _ {X : Type 0} (result : Result X JudgeFault) where
   of_parts (Ok x) h = of_none
   of_parts (Err r) h = of_one (fault.Refused r) (h r refl)
 
-  of_length : (long : Bool) (e : JudgeFault) (rest : Option JudgeFault) → (long ≡ true → result ≡ Err e) →
+  of_length : (long : Bool) (e : ProgramFault) (rest : Option ProgramFault) → (long ≡ true → result ≡ Err e) →
       (long ≡ false → Answered rest) → Answered (if long then Some e else rest)
   of_length true e rest h k = of_one e (h refl)
   of_length false e rest h k = k refl

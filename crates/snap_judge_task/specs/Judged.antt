@@ -16,8 +16,8 @@ use Rattle.snap_tasks.specs.declared.subject.Subject.{Subject}
 use Rattle.snap_input.specs.Input.{checked_parts, parted}
 use Rattle.snap_input.specs.Parts.{max_input, part, parts_of}
 use Rattle.snap_input.specs.Schedules.{schedule_for}
-use Rattle.snap_judge_task.specs.declared.fault.JudgeFault.{JudgeFault}
-use Rattle.snap_judge_task.specs.declared.fault.JudgeFault.TheVariants as fault
+use Rattle.snap_faults.specs.declared.fault.ProgramFault.{ProgramFault}
+use Rattle.snap_faults.specs.declared.fault.ProgramFault.TheVariants as fault
 
 -- the history of a listing's run under the schedule that a text is
 unfoldable pub run_history : Source → List ℕ → Result History Refusal
@@ -34,7 +34,7 @@ history_in s input =
     if nat_lt max_input (length input) then Err refusal.InputTooLong else parted s 1 (parts_of input) history_of_texts
 
 -- the history that is judged
-abbrev pub judged : JudgeSource → List ℕ → Result History JudgeFault
+abbrev pub judged : JudgeSource → List ℕ → Result History ProgramFault
 judged (source.Run s) input = refused_as fault.Refused (history_in s input)
 judged source.History input = refused_as fault.History (text.history_of input)
 
@@ -44,7 +44,7 @@ why (Ok x) = None
 why (Err e) = Some e
 
 -- the reason that is found before any memory is asked for
-abbrev pub found_at_once : JudgeSource → List ℕ → Option JudgeFault
+abbrev pub found_at_once : JudgeSource → List ℕ → Option ProgramFault
 found_at_once (source.Run s) input =
     if nat_lt max_input (length input) then Some (fault.Refused refusal.InputTooLong) else
     why (refused_as fault.Refused (checked_parts s 1 (parts_of input)))

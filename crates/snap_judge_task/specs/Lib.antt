@@ -1,5 +1,4 @@
 -- The definitions of snap_judge_task, by their modules.
 pub mod Failing
-pub mod Faults
 pub mod Judged
 pub mod JudgeAnswer

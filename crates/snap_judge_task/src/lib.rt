@@ -3,10 +3,8 @@
 #![tactic(auto)]
 
 mod failing;
-mod fault;
 mod output;
 mod run_history;
 
-pub use fault::JudgeFault;
 pub use output::{JudgeOutput, judge_input};
 pub use snap_run_judge::Linearizability;

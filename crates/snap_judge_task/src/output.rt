@@ -4,11 +4,11 @@ ghost use Rattle.std.specs.Prelude.{◌≡◌, Err, IfOk, Some};
 ghost use Rattle.snap_judge.specs.History.{IsHistory};
 ghost use Rattle.snap_judge_task.specs.Judged.{found_at_once};
 ghost use Rattle.snap_judge_task.specs.JudgeAnswer.{AnswersHistory, AnswersJudge, TellsOf};
-ghost use Rattle.snap_judge_task.specs.declared.fault.JudgeFault.{JudgeFault};
+ghost use Rattle.snap_faults.specs.declared.fault.ProgramFault.{ProgramFault};
 
 use crate::failing::push_more;
-use crate::fault::JudgeFault;
 use crate::run_history::history_in;
+use snap_faults::ProgramFault;
 use snap_judge::{History, judge};
 use snap_judge_output::judgement_text;
 use snap_run_judge::{Linearizability, word_of};
@@ -37,10 +37,10 @@ fn told(alloc: Global, history: History, most: u64) -> Result<JudgeOutput, Alloc
 
 /// The history that is judged.
 #[tactic(auto, using(crate::proofs::AtOnce::of_run, crate::proofs::AtOnce::of_history))]
-fn judged(alloc: Global, source: JudgeSource, input: &[u8]) -> Result<History, JudgeFault>
+fn judged(alloc: Global, source: JudgeSource, input: &[u8]) -> Result<History, ProgramFault>
     ensures value { AnswersHistory source input.now result }
     ensures history { IfOk result (λ h. IsHistory h) }
-    ensures at_once { (e : JudgeFault) → found_at_once source input.now ≡ Some e → result ≡ Err e }
+    ensures at_once { (e : ProgramFault) → found_at_once source input.now ≡ Some e → result ≡ Err e }
 {
     match source {
         JudgeSource::Run(subject) => Ok(history_in(alloc, subject, input)?),
@@ -58,9 +58,9 @@ pub fn judge_input(
     alloc: Global,
     request: &JudgeRequest,
     input: &[u8],
-) -> Result<JudgeOutput, JudgeFault>
+) -> Result<JudgeOutput, ProgramFault>
     ensures answers { AnswersJudge request.now input.now result }
-    ensures at_once { (e : JudgeFault) → found_at_once request.now.source input.now ≡ Some e →
+    ensures at_once { (e : ProgramFault) → found_at_once request.now.source input.now ≡ Some e →
         result ≡ Err e }
 {
     let history = judged(alloc, request.source, input)?;

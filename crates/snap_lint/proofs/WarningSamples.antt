@@ -18,7 +18,7 @@ listing_text =
 
 abbrev lint_text : List ℕ
 lint_text =
-    codes "line 14: may return or finish where its operation does not end so\nline 22: may write a register of another process\n"
+    codes "line 14: may return from an update, or finish a scan or a call\nline 22: may write a register of another process\n"
     ++ codes "line 24: leads to no end\nline 25: is never reached\n"
     ++ codes "line 26: may finish an update that has written no word\nline 31: may call within a call\n"
     ++ codes "line 32: may run off the end\n"

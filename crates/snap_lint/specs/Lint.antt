@@ -14,7 +14,7 @@ use Rattle.snap_lint.specs.Warnings.{warnings}
 abbrev pub concern_text : Concern → List ℕ
 concern_text concern.OffEnd = codes "may run off the end"
 concern_text concern.Nested = codes "may call within a call"
-concern_text concern.BadEnd = codes "may return or finish where its operation does not end so"
+concern_text concern.BadEnd = codes "may return from an update, or finish a scan or a call"
 concern_text concern.Owner = codes "may write a register of another process"
 concern_text concern.Unreached = codes "is never reached"
 concern_text concern.Endless = codes "leads to no end"

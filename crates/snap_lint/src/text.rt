@@ -22,7 +22,7 @@ fn concern_text(concern: Concern) -> &'static [u8]
     match concern {
         Concern::OffEnd => b"may run off the end",
         Concern::Nested => b"may call within a call",
-        Concern::BadEnd => b"may return or finish where its operation does not end so",
+        Concern::BadEnd => b"may return from an update, or finish a scan or a call",
         Concern::Owner => b"may write a register of another process",
         Concern::Unreached => b"is never reached",
         Concern::Endless => b"leads to no end",

@@ -4,7 +4,6 @@ use Rattle.std.specs.Prelude.{◌≡◌, ℕ, ◌+◌, ◌<◌, ◌≤◌, List,
 use Rattle.snap_words.specs.Shape.{max_items}
 use Rattle.snap_words.specs.Kind.{fits}
 use Rattle.snap_words.specs.declared.shape.WordFault.TheVariants.{BadShape}
-use Rattle.snap_semantics.specs.declared.fault.Fault.{Fault}
 use Rattle.snap_semantics.specs.declared.fault.Fault.TheVariants as inner
 use Rattle.snap_semantics.specs.declared.process.Item.{Item}
 use Rattle.snap_semantics.specs.declared.refusal.Refusal.{Refusal}
@@ -26,8 +25,6 @@ use Rattle.snap_live.specs.Play.{IsPlay}
 use Rattle.snap_live.specs.Script.{script_at}
 use Rattle.snap_live.specs.Worker.{IsLetOn}
 use Rattle.snap_live_desk.specs.Turns.{run_of, turns_of}
-use Rattle.snap_live_output.specs.declared.fault.LiveRunFault.{LiveRunFault}
-use Rattle.snap_live_output.specs.declared.fault.LiveRunFault.TheVariants as fault
 
 -- what a live run plays: a listing, and a script for each process
 pub record Setup : Type 0 where
@@ -83,15 +80,6 @@ pub record IsLiveText (g : Setup) (limit : ℕ) (text : List ℕ) : Type 0 where
 pub record IsGatedText (may : ℕ → ℕ → Bool → Type 0) (g : Setup) (limit : ℕ) (text : List ℕ) : Type 0 where
   pub live : IsLiveText g limit text
   pub let_on : (k : ℕ) → k < g.scripts.shape.n → IsLetOn may (k + 1) (length (turns_of (setting g) (k + 1) live.items))
-
--- a fault of the input, and one of the run, as one of both
-abbrev pub of_input_fault : Fault Refusal → LiveRunFault
-of_input_fault inner.Memory = fault.Memory
-of_input_fault (inner.Refused r) = fault.Refused r
-
-abbrev pub of_live_fault : Fault LiveRefusal → LiveRunFault
-of_live_fault inner.Memory = fault.Memory
-of_live_fault (inner.Refused r) = fault.Live r
 
 -- a text that a live run may write for an input
 abbrev pub IsLiveOutput : Subject → (limit : ℕ) → (input text : List ℕ) → Type 0

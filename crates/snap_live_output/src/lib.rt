@@ -2,7 +2,6 @@
 //! why there is none.
 #![tactic(auto)]
 
-mod fault;
 mod laws;
 mod output;
 mod played_text;
@@ -10,7 +9,6 @@ mod setup;
 mod uncalled;
 mod written;
 
-pub use fault::LiveRunFault;
 pub use laws::live_runs_are_snapshots;
 pub use output::{LiveOutput, live_output};
 pub use setup::{Setup, setup_of};

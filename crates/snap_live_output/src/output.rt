@@ -7,12 +7,12 @@ ghost use Rattle.snap_semantics.specs.declared.refusal.Refusal.TheVariants as re
 ghost use Rattle.snap_input.specs.Input.{checked_parts};
 ghost use Rattle.snap_input.specs.Parts.{max_input, parts_of};
 ghost use Rattle.snap_live_output.specs.LiveAnswer.{AnswersLive};
-ghost use Rattle.snap_live_output.specs.declared.fault.LiveRunFault.TheVariants as fault;
+ghost use Rattle.snap_faults.specs.declared.fault.ProgramFault.TheVariants as fault;
 
-use crate::fault::LiveRunFault;
 use crate::played_text::play;
 use crate::setup::setup_of;
 use crate::uncalled::uncalled_text;
+use snap_faults::ProgramFault;
 use snap_live::Gate;
 use snap_tasks::Subject;
 use std::alloc::Global;
@@ -38,7 +38,7 @@ pub fn live_output<G: Gate, R: Threads + Wait + Sync>(
     limit: u64,
     gate: &G,
     input: &[u8],
-) -> Result<LiveOutput, LiveRunFault>
+) -> Result<LiveOutput, ProgramFault>
     requires { (1 ≤ limit) × (limit ≤ max_items) }
     ensures answer { AnswersLive (G.may_answer gate.now) subject limit input.now result }
     ensures too_long { max_input < length input.now →

@@ -7,3 +7,4 @@ pub mod Replicas
 pub mod Passed
 pub mod Configurations
 pub mod Steps
+pub mod Named

@@ -13,5 +13,5 @@ pub use contents::{Contents, Local};
 pub use machine::Machine;
 pub use snap_regs::RegisterFault;
 pub use snap_semantics::{Activity, BitBank, Cause, Item, Name, Op, Outcome, Reason, Sort, Status};
-pub use snap_undo::Undo;
+pub use snap_undo::{Undo, WritePlace};
 pub use snap_words::{Address, Bank, Shape, View};

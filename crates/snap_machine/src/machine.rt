@@ -27,6 +27,7 @@ ghost use Rattle.snap_semantics.specs.State.{initial, process_at, values};
 ghost use Rattle.snap_semantics.specs.Table.{done, who};
 ghost use Rattle.snap_regs.specs.Store.{IsOfShape};
 ghost use Rattle.snap_regs.specs.declared.fault.RegisterFault.TheVariants.{Index};
+ghost use Rattle.snap_machine.specs.Configuration.{HasLocals};
 ghost use Rattle.snap_machine.specs.SeenContents.{
   local_at,
   seen_contents,
@@ -141,6 +142,26 @@ impl<K: Kind> Machine<K> {
         }
     }
 
+    /// What an item overwrites in this state: put back after the item, all is as before. The locals
+    /// of its process are those of the program.
+    pub fn overwritten(&self, item: Item) -> Result<Undo<K>, AllocError>
+        requires { IsOneOf self.now.shape.n (who item) }
+        ensures back { IfOk result (λ u.
+            put self.now.source u (done self.now.source self.now.shape self.now.state item).0
+            ≡ self.now.state) }
+        ensures fits { IfOk result (λ u. CanPut self.now.source self.now.shape u) }
+        ensures process { IfOk result (λ u. u.process ≡ who item) }
+        ensures locals { HasLocals self.now.source (process_at self.now.state (who item)).locals }
+    {
+        overwritten(
+            self.alloc,
+            &self.program,
+            &self.registers,
+            self.processes.as_slice(),
+            item,
+        )
+    }
+
     /// One item of a schedule, as `apply` does it, and what it overwrote: put back, all is as
     /// before. Where there is no memory for either, everything is as before.
     pub fn apply_undo(&mut self, item: Item) -> Result<(Outcome, Undo<K>), AllocError>
@@ -153,13 +174,7 @@ impl<K: Kind> Machine<K> {
         ensures shape { self.new.shape ≡ self.old.shape }
         ensures err { OnErr result (self.new ≡ self.old) }
     {
-        let undo = overwritten(
-            self.alloc,
-            &self.program,
-            &self.registers,
-            self.processes.as_slice(),
-            item,
-        )?;
+        let undo = self.overwritten(item)?;
         let outcome = self.apply(item)?;
         Ok((outcome, undo))
     }

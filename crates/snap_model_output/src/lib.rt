@@ -2,9 +2,7 @@
 //! the reason why there is none.
 #![tactic(auto)]
 
-mod fault;
 mod output;
 
-pub use fault::ModelFault;
 pub use output::model_output;
 pub use snap_promela::ModelRefusal;

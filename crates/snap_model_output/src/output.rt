@@ -2,7 +2,7 @@
 ghost use Rattle.std.specs.Prelude.{◌≡◌};
 ghost use Rattle.snap_model_output.specs.ModelOutput.{AnswersInput};
 
-use crate::fault::ModelFault;
+use snap_faults::ProgramFault;
 use snap_live_output::setup_of;
 use snap_promela::model_text;
 use snap_tasks::Subject;
@@ -20,7 +20,7 @@ pub fn model_output(
     subject: Subject,
     crashes: u64,
     input: &[u8],
-) -> Result<Vec<u8>, ModelFault>
+) -> Result<Vec<u8>, ProgramFault>
     ensures { AnswersInput subject input.now result }
 {
     let setup = setup_of(alloc, subject, input)?;

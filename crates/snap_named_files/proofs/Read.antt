@@ -10,16 +10,17 @@ use Rattle.snap_files.specs.declared.fault.FileFault.{FileFault}
 use Rattle.snap_files.specs.declared.fault.FileFault.TheVariants as file
 use Rattle.snap_files.proofs.Texts.{some_text, text_read}
 use Rattle.snap_named_files.specs.Named.{Files, Shipped}
-use Rattle.snap_named_files.specs.Texts.{AreTexts, Comes, IsTextIn, Read, OfFiles, OfShipped, of_file, too_many, view_texts}
-use Rattle.snap_named_files.specs.declared.named.Which.{Which}
-use Rattle.snap_named_files.specs.declared.named.Which.TheVariants as which
-use Rattle.snap_named_files.specs.declared.texts.TextFault.{TextFault}
-use Rattle.snap_named_files.specs.declared.texts.TextFault.TheVariants as fault
+use Rattle.snap_named_files.specs.Texts.{AreTexts, Comes, IsTextIn, Read, OfFiles, OfShipped, too_many, view_texts}
+use Rattle.snap_faults.specs.Faults.{of_file}
+use Rattle.snap_faults.specs.declared.files.Which.{Which}
+use Rattle.snap_faults.specs.declared.files.Which.TheVariants as which
+use Rattle.snap_faults.specs.declared.fault.ProgramFault.{ProgramFault}
+use Rattle.snap_faults.specs.declared.fault.ProgramFault.TheVariants as fault
 use Rattle.snap_named_files.specs.declared.texts.Texts.{Texts}
 use Rattle.snap_named_files.specs.declared.texts.Texts.TheVariants as texts
 
 -- what holds of a fault holds where it is passed on
-pub passed : {A : Type 0} (P : Result A TextFault → Type 0) (answer : Result A TextFault) (e : TextFault) →
+pub passed : {A : Type 0} (P : Result A ProgramFault → Type 0) (answer : Result A ProgramFault) (e : ProgramFault) →
     IsErr answer × IsErrAnd answer (λ f. f ≡ e) → P (Err e) → P answer
 passed P (Ok x) e from h = absurd from.1
 passed P (Err f) e from h = subst (λ x. P (Err x)) (sym from.1) h
@@ -39,19 +40,20 @@ pub has_text : (w : Which) (there : Option (Result (List ℕ) ErrorKind)) (r : R
 has_text w there r h = let read = text_read too_many there r h in (read.0, read.1, gives_text w r read.0 read.2)
 
 -- reading ends with a file that is not read
-stops_reading : (e : TextFault) (x : Result (List ℕ) TextFault) (k : List ℕ → Result Read TextFault) →
+stops_reading : (e : ProgramFault) (x : Result (List ℕ) ProgramFault) (k : List ℕ → Result Read ProgramFault) →
     Comes {X = Vec ℕ Global} (λ v. v.items) (Err e) x → Comes view_texts (Err e) (x >>= k)
 stops_reading fault.Memory x k h = tt
 stops_reading (fault.TooLong w) x k h = ap (λ y. y >>= k) h
 stops_reading (fault.Unread w i) x k h = ap (λ y. y >>= k) h
+stops_reading e x k h = absurd h
 
-goes_on_reading : (read : Result Texts TextFault) (t : List ℕ) (x : Result (List ℕ) TextFault)
-    (k : List ℕ → Result Read TextFault) → x ≡ Ok t → Comes view_texts read (k t) → Comes view_texts read (x >>= k)
+goes_on_reading : (read : Result Texts ProgramFault) (t : List ℕ) (x : Result (List ℕ) ProgramFault)
+    (k : List ℕ → Result Read ProgramFault) → x ≡ Ok t → Comes view_texts read (k t) → Comes view_texts read (x >>= k)
 goes_on_reading read t x k is h = subst (λ y. Comes view_texts read (y >>= k)) (sym is) h
 
 module _ (files : List ℕ → Option (Result (List ℕ) ErrorKind)) where
   -- the listing was not read
-  pub no_listing : (listing schedule : List ℕ) (e : TextFault) (l : Result (List ℕ) FileFault) →
+  pub no_listing : (listing schedule : List ℕ) (e : ProgramFault) (l : Result (List ℕ) FileFault) →
       IsTextIn files listing l →
       Comes {X = Vec ℕ Global} (λ v. v.items) (Err e) (refused_as (of_file which.Listing) l) →
       AreTexts files (Files listing schedule) (Err e)
@@ -66,7 +68,7 @@ module _ (files : List ℕ → Option (Result (List ℕ) ErrorKind)) where
       )
 
   -- the schedule was not read
-  pub no_schedule : (listing schedule text : List ℕ) (e : TextFault) (l s : Result (List ℕ) FileFault) →
+  pub no_schedule : (listing schedule text : List ℕ) (e : ProgramFault) (l s : Result (List ℕ) FileFault) →
       IsTextIn files listing l → refused_as (of_file which.Listing) l ≡ Ok text → IsTextIn files schedule s →
       Comes {X = Vec ℕ Global} (λ v. v.items) (Err e) (refused_as (of_file which.Schedule) s) →
       AreTexts files (Files listing schedule) (Err e)
@@ -97,7 +99,7 @@ module _ (files : List ℕ → Option (Result (List ℕ) ErrorKind)) where
   )
 
   -- the schedule of a shipped listing was not read
-  pub no_items : (kind : KindTag) (schedule : List ℕ) (e : TextFault) (s : Result (List ℕ) FileFault) →
+  pub no_items : (kind : KindTag) (schedule : List ℕ) (e : ProgramFault) (s : Result (List ℕ) FileFault) →
       IsTextIn files schedule s →
       Comes {X = Vec ℕ Global} (λ v. v.items) (Err e) (refused_as (of_file which.Schedule) s) →
       AreTexts files (Shipped kind schedule) (Err e)

@@ -1,11 +1,10 @@
 -- `named_of`: what a command line names: the files of a listing and of a schedule, or the file of a schedule for a
 -- shipped listing.
 use Rattle.std.specs.Prelude.{ℕ, List, [], ◌∷◌, Option, Some, None}
+use Rattle.snap_faults.specs.Names as faults
 use Rattle.snap_words.specs.declared.kind.KindTag.{KindTag}
 use Rattle.snap_named_files.specs.declared.named.Named.{Named}
 use Rattle.snap_named_files.specs.declared.named.Named.TheVariants as named
-use Rattle.snap_named_files.specs.declared.named.Which.{Which}
-use Rattle.snap_named_files.specs.declared.named.Which.TheVariants as which
 
 -- what is named, by the names of files
 pub data Names : Type 0 where
@@ -22,8 +21,7 @@ named_of None (listing ∷ schedule ∷ []) = Some (Files listing schedule)
 named_of (Some kind) (schedule ∷ []) = Some (Shipped kind schedule)
 named_of _ _ = None
 
--- the name of a file; where a listing is shipped, there is none but that of the schedule
-abbrev pub file_name : Names → Which → List ℕ
-file_name (Files listing schedule) which.Listing = listing
-file_name (Files listing schedule) which.Schedule = schedule
-file_name (Shipped kind schedule) w = schedule
+-- what a program is called, and the files that are named: where a listing is shipped, a schedule alone
+abbrev pub names_of : (program : List ℕ) → Names → faults.Names
+names_of p (Files listing schedule) = record { program = p; listing = Some listing; schedule = Some schedule }
+names_of p (Shipped kind schedule) = record { program = p; listing = None; schedule = Some schedule }

@@ -1,16 +1,11 @@
 //! `Named`: what a command line names: the files of a listing and of a schedule, or the file of a
 //! schedule for a shipped listing.
 ghost use Rattle.std.specs.Prelude.{◌≡◌, map, option_map};
-ghost use Rattle.snap_named_files.specs.Named.{file_name, named_of, view_named};
+ghost use Rattle.snap_faults.specs.Names.{view_names};
+ghost use Rattle.snap_named_files.specs.Named.{named_of, names_of, view_named};
 
+use snap_faults::Names;
 use snap_words::KindTag;
-
-/// Which of the files that a command line names.
-#[derive(Clone, Copy, Debug, PartialEq, Eq)]
-pub enum Which {
-    Listing,
-    Schedule,
-}
 
 /// What a command line names.
 #[derive(Clone, Copy)]
@@ -32,13 +27,17 @@ pub fn named_of<'a>(kind: Option<KindTag>, names: &[&'a str]) -> Option<Named<'a
     }
 }
 
-/// The name of a file. Where a listing is shipped, there is none but that of the schedule.
-pub fn file_name<'a>(named: &Named<'a>, which: Which) -> &'a str
-    ensures { result.now ≡ file_name (view_named named.now) which }
+/// What a program of this name is called, and the files that are named.
+pub fn names_of<'a>(program: &'a str, named: &Named<'a>) -> Names<'a>
+    ensures { view_names result ≡ names_of program.now (view_named named.now) }
 {
-    match (*named, which) {
-        (Named::Files(listing, _), Which::Listing) => listing,
-        (Named::Files(_, schedule), Which::Schedule) => schedule,
-        (Named::Shipped(_, schedule), _) => schedule,
+    let (listing, schedule) = match *named {
+        Named::Files(listing, schedule) => (Some(listing), schedule),
+        Named::Shipped(_, schedule) => (None, schedule),
+    };
+    Names {
+        program,
+        listing,
+        schedule: Some(schedule),
     }
 }

@@ -3,30 +3,17 @@ ghost use Rattle.std.specs.Prelude.{◌≡◌, Result, List, ℕ};
 ghost use Rattle.snap_files.specs.declared.fault.FileFault.{FileFault};
 ghost use Rattle.snap_semantics.specs.Answers.{refused_as};
 ghost use Rattle.snap_named_files.specs.Named.{Files, Shipped, view_named};
-ghost use Rattle.snap_named_files.specs.Texts.{AreTexts, Comes, IsTextIn, of_file};
+ghost use Rattle.snap_faults.specs.Faults.{of_file};
+ghost use Rattle.snap_named_files.specs.Texts.{AreTexts, Comes, IsTextIn};
 
-use crate::named::{Named, Which};
-use snap_files::{FileFault, FileSource};
+use crate::named::Named;
+use snap_faults::{ProgramFault, Which, of_file};
+use snap_files::FileSource;
 use snap_words::KindTag;
 use std::alloc::Global;
-use std::io::ErrorKind;
-use thiserror::Error;
 
 /// The most bytes that a file may have, and one more.
 const TOO_MANY: u64 = 16_777_217;
-
-/// Why a text was not read.
-#[derive(Clone, Copy, Debug, Error)]
-pub enum TextFault {
-    #[error("out of memory")]
-    Memory,
-    /// The file has more bytes than an input may have.
-    #[error("the file is too long")]
-    TooLong(Which),
-    /// The file could not be read, for this reason.
-    #[error("the file cannot be read")]
-    Unread(Which, ErrorKind),
-}
 
 /// The texts of the files that are named.
 #[derive(Drop)]
@@ -37,24 +24,13 @@ pub enum Texts {
     Shipped(KindTag, Vec<u8>),
 }
 
-/// Why a file was not read.
-fn of_file(which: Which, fault: FileFault) -> TextFault
-    ensures { result ≡ of_file which fault }
-{
-    match fault {
-        FileFault::Memory => TextFault::Memory,
-        FileFault::TooLong => TextFault::TooLong(which),
-        FileFault::Unread(kind) => TextFault::Unread(which, kind),
-    }
-}
-
 /// The bytes of the file of this name.
 fn text_in<F: FileSource>(
     alloc: Global,
     files: &F,
     which: Which,
     name: &str,
-) -> Result<Vec<u8>, TextFault>
+) -> Result<Vec<u8>, ProgramFault>
     ensures { (text : Result (List ℕ) FileFault) × IsTextIn (F.found files.now) name.now text
         × Comes (λ v. v.items) result (refused_as (of_file which) text) }
 {
@@ -70,7 +46,7 @@ fn both_texts<F: FileSource>(
     files: &F,
     listing: &str,
     schedule: &str,
-) -> Result<Texts, TextFault>
+) -> Result<Texts, ProgramFault>
     ensures { AreTexts (F.found files.now) (Files listing.now schedule.now) result }
 {
     let listing = text_in(alloc, files, Which::Listing, listing)?;
@@ -84,7 +60,7 @@ fn one_text<F: FileSource>(
     files: &F,
     kind: KindTag,
     schedule: &str,
-) -> Result<Texts, TextFault>
+) -> Result<Texts, ProgramFault>
     ensures { AreTexts (F.found files.now) (Shipped kind schedule.now) result }
 {
     let schedule = text_in(alloc, files, Which::Schedule, schedule)?;
@@ -101,7 +77,7 @@ pub fn read_texts<F: FileSource>(
     alloc: Global,
     files: &F,
     named: &Named<'_>,
-) -> Result<Texts, TextFault>
+) -> Result<Texts, ProgramFault>
     ensures { AreTexts (F.found files.now) (view_named named.now) result }
 {
     match *named {

@@ -5,7 +5,7 @@ use Rattle.snap_semantics.specs.Answers.{refused_as}
 use Rattle.snap_semantics.specs.declared.refusal.Refusal.{Refusal}
 use Rattle.snap_semantics.specs.declared.refusal.Refusal.TheVariants.{InputTooLong}
 use Rattle.snap_judge_task.specs.Judged as judging
-use Rattle.snap_judge_task.specs.declared.fault.JudgeFault.TheVariants as judge
+use Rattle.snap_faults.specs.declared.fault.ProgramFault.TheVariants as judge
 use Rattle.snap_tasks.specs.declared.judge_request.JudgeSource.TheVariants as source
 use Rattle.snap_tasks.specs.declared.subject.Subject.{Subject}
 use Rattle.snap_input.specs.Input.{checked_parts}

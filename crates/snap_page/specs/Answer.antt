@@ -9,7 +9,7 @@ use Rattle.snap_semantics.specs.declared.refusal.Refusal.TheVariants as refusal
 use Rattle.snap_run_judge.specs.declared.linearizability.Linearizability.{Linearizability}
 use Rattle.snap_judge_task.specs.JudgeAnswer.{IsJudged}
 use Rattle.snap_judge_task.specs.Judged.{judged}
-use Rattle.snap_judge_task.specs.declared.fault.JudgeFault.TheVariants as judge
+use Rattle.snap_faults.specs.declared.fault.ProgramFault.TheVariants as judge
 use Rattle.snap_tasks.specs.declared.judge_request.JudgeRequest.{JudgeRequest}
 use Rattle.snap_tasks.specs.declared.judge_request.JudgeSource.TheVariants as source
 use Rattle.snap_tasks.specs.declared.subject.Subject.{Subject}

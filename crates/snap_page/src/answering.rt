@@ -7,7 +7,8 @@ ghost use Rattle.snap_page.specs.Answer.{AnswersAsked, found_at_once, judge_requ
 ghost use Rattle.snap_page.specs.declared.asked.Asked.TheVariants.{Judge};
 
 use crate::asked::Asked;
-use snap_judge_task::{JudgeFault, judge_input};
+use snap_faults::ProgramFault;
+use snap_judge_task::judge_input;
 use snap_output::output_alone;
 use snap_semantics::{Fault, Refusal};
 use snap_tasks::{JudgeRequest, JudgeSource, Subject};
@@ -36,9 +37,9 @@ fn judged_run(alloc: Global, subject: Subject, input: &[u8]) -> Result<Vec<u8>, 
 {
     match judge_input(alloc, &judge_request(subject), input) {
         Ok(output) => Ok(output.text),
-        Err(JudgeFault::Memory) => Err(Fault::Memory),
-        Err(JudgeFault::Refused(refusal)) => Err(Fault::Refused(refusal)),
-        Err(JudgeFault::History(_)) => unreachable!(),
+        Err(ProgramFault::Memory) => Err(Fault::Memory),
+        Err(ProgramFault::Refused(refusal)) => Err(Fault::Refused(refusal)),
+        Err(_) => unreachable!(),
     }
 }
 

@@ -8,7 +8,7 @@ use Rattle.snap_runs.specs.Run.{Run}
 use Rattle.snap_draft.specs.Drafted.{Drafted}
 use Rattle.snap_judge.specs.declared.judgements.Judgement.{Judgement}
 use Rattle.snap_run_judge.specs.RunJudgement.{IsRunJudgement, most_configurations}
-use Rattle.snap_shapes.specs.Shapes.{shapes}
+use Rattle.snap_picture.specs.Shapes.{shapes}
 use Rattle.snap_svg.specs.ShapeText.{shapes_text}
 use Rattle.snap_svg.specs.Window.{Part}
 use Rattle.snap_svg.specs.declared.shape.Shape.{Shape}

@@ -19,7 +19,7 @@ use Rattle.snap_svg.specs.Window.{Part, most_items}
 use Rattle.snap_svg.specs.declared.frame.Counts as title
 use Rattle.snap_svg.specs.declared.shape.Shape.{Shape}
 use Rattle.snap_svg.specs.declared.shape.Shape.TheVariants as shape
-use Rattle.snap_shapes.specs.Shapes.{shapes}
+use Rattle.snap_picture.specs.Shapes.{shapes}
 use Rattle.snap_picture.specs.Crossed.{FailsBy, crossed_at}
 use Rattle.snap_picture.specs.declared.options.Options.{Options}
 use Rattle.snap_picture.specs.declared.refusal.PictureRefusal.{PictureRefusal}

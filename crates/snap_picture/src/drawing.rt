@@ -14,6 +14,7 @@ ghost use Rattle.snap_picture.specs.declared.refusal.PictureRefusal.TheVariants 
 use crate::crossed::{crossed_at, wrong_at};
 use crate::options::{Look, Options};
 use crate::refusal::PictureRefusal;
+use crate::shapes;
 use crate::sought::{Sought, count};
 use snap_acts::trace;
 use snap_asm_program::Program;
@@ -22,7 +23,6 @@ use snap_record::{Record, record_over};
 use snap_run_judge::{MOST_CONFIGURATIONS, judge_record};
 use snap_sched::Schedule;
 use snap_semantics::{Event, Fault};
-use snap_shapes::shapes;
 use snap_svg::{Counts, Shape, Window, push_foot, push_head, push_input, push_shapes};
 use snap_words::{Bits, Kind, KindTag, Multi, Seq};
 use std::alloc::{AllocError, Global};

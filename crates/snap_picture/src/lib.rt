@@ -3,12 +3,16 @@
 
 mod crossed;
 mod drawing;
+mod drawn;
 mod look;
 mod options;
 mod refusal;
 mod sought;
+mod steps;
+mod verdicts;
 
 pub use drawing::picture;
+pub use drawn::shapes;
 pub use look::{LEGEND, STYLE};
 pub use options::{Look, Options};
 pub use refusal::PictureRefusal;

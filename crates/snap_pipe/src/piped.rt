@@ -33,11 +33,11 @@ impl<'r, D> Piped<'r, D> {
 }
 
 impl<W: Write> ByteSink for Piped<'_, W> {
-    ghost taken = { λ s. W.contents s.device };
-
-    ghost has_failed = { λ s. s.failed };
-
-    ghost is_stalled = { λ s. s.stalled };
+    ghost state = { λ s. record {
+      taken = W.contents s.device;
+      failed = s.failed;
+      stalled = s.stalled;
+    } };
 
     fn write(&mut self, bytes: &[u8]) -> Result<usize, Failed> {
         match self.device.write(bytes) {

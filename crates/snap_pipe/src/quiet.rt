@@ -32,11 +32,11 @@ impl<'r, D> Quiet<'r, D> {
 }
 
 impl<W: Write> ByteSink for Quiet<'_, W> {
-    ghost taken = { λ _. None };
-
-    ghost has_failed = { λ s. s.failed };
-
-    ghost is_stalled = { λ s. s.stalled };
+    ghost state = { λ s. record {
+      taken = None;
+      failed = s.failed;
+      stalled = s.stalled;
+    } };
 
     fn write(&mut self, bytes: &[u8]) -> Result<usize, Failed> {
         if self.reader.has_gone() {

@@ -7,13 +7,13 @@ use Rattle.snap_semantics.specs.declared.refusal.Refusal.{Refusal}
 use Rattle.snap_run_judge.specs.Judged.{AnswersJudged}
 use Rattle.snap_output.specs.Output.{AreJudged, output_of}
 use Rattle.snap_tasks.specs.declared.task.Task.{Task}
-use Rattle.snap_devices.specs.WholeRun.{of_fault}
+use Rattle.snap_faults.specs.Faults.{of_input_fault}
 use Rattle.snap_devices.proofs.Runs.{Why}
 use Rattle.snap_program.specs.TaskRun.{RefusesTask}
 
 -- a task is refused as its output says
 pub why_task : (e : Fault Refusal) (task : Task) (input : List ℕ) →
     AnswersJudged {X = Vec ℕ Global} (λ v. v.items) (AreJudged task input) (Err e) (λ js. output_of js task input) →
-    Why (RefusesTask task input) (of_fault e)
+    Why (RefusesTask task input) (of_input_fault e)
 why_task inner.Memory task input h = tt
 why_task (inner.Refused f) task input h = h

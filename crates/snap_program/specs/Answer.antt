@@ -15,25 +15,20 @@ use Rattle.snap_tasks.specs.declared.judge_request.JudgeRequest.{JudgeRequest}
 use Rattle.snap_run_judge.specs.declared.linearizability.Linearizability.{Linearizability}
 use Rattle.snap_run_judge.specs.declared.linearizability.Linearizability.TheVariants as word
 use Rattle.snap_devices.specs.WholeRun.{ConductsJudge, ConductsKeeping, ConductsLiveKeeping, ConductsModel}
-use Rattle.snap_devices.specs.WholeRun.{Sends, done_of}
+use Rattle.snap_faults.specs.Names.{Names, of_program}
+use Rattle.snap_faults.specs.Told.{Helps, SaysWhy, TellsMore, exit_status, no_memory_line, no_text_line, success}
+use Rattle.snap_faults.specs.declared.fault.ProgramFault.{ProgramFault}
+use Rattle.snap_faults.specs.declared.fault.ProgramFault.TheVariants.{Refused, History}
+use Rattle.snap_streams.specs.Sent.{Says}
+use Rattle.snap_streams.specs.State.{SourceState, SinkState}
 use Rattle.snap_program.specs.TaskRun.{ConductsSurvey, IsOutputOf, RefusesTask}
 use Rattle.snap_explanation.specs.Explanation.{explanation}
 use Rattle.snap_explanation.specs.HistoryExplanation.{history_explanation}
 use Rattle.snap_explanation.specs.Part.{layout_of}
-use Rattle.snap_devices.specs.FaultText.{fault_text}
-use Rattle.snap_devices.specs.ExitStatus.{fault_status}
-use Rattle.snap_devices.specs.declared.fault.ConductFault.{ConductFault}
-use Rattle.snap_devices.specs.declared.fault.ConductFault.TheVariants.{Memory, Refused, Live, History, Model, Read, Write}
 
--- the status of a whole run: 0 where all of its output was written, and nowhere else
-abbrev pub exit_status : Result (Unit {0}) ConductFault → ℕ
-exit_status (Ok done) = 0
-exit_status (Err fault) = fault_status fault
-
--- the status of a strict survey: 4 where all of its output was written, and a run is not clean
-abbrev pub strict_status : Result Bool ConductFault → ℕ
-strict_status (Ok clean) = if clean then 0 else 4
-strict_status (Err fault) = fault_status fault
+-- the status of a strict survey where all of its output was written: 4 where a run is not clean
+abbrev pub clean_status : (clean : Bool) → ℕ
+clean_status clean = if clean then 0 else 4
 
 -- the status where all of a judgement was written: 0 where what was judged is linearizable, 4 where it is not, and 5
 -- where that is undecided
@@ -42,167 +37,114 @@ word_status word.Linearizable = 0
 word_status word.NotLinearizable = 4
 word_status word.Undecided = 5
 
-abbrev pub judge_status : Result Linearizability ConductFault → ℕ
-judge_status (Ok found) = word_status found
-judge_status (Err fault) = fault_status fault
-
 -- the listing of a strict survey, where one is asked for
 abbrev pub strict_subject : (strict : Bool) → Request → Option Subject
 strict_subject true (request.Do (task.Survey subject)) = Some subject
 strict_subject _ _ = None
 
--- A text was sent to the device for messages: all of it, or what it took before it failed or took nothing.
-abbrev pub Says : List ℕ → (said said_after : Option (List ℕ)) → (failed stalled : Bool) → Type 0
-Says text said said_after failed stalled =
-    (done : Result (Unit {0}) ConductFault) × Sends done text said said_after failed stalled
-
--- the line of a fault
-abbrev pub line_of : ConductFault → List ℕ
-line_of fault = fault_text fault ++ codes "\n"
-
--- A fault is told in its line, or in that of missing memory where there was none for the other one.
-abbrev pub Tells : ConductFault → (said said_after : Option (List ℕ)) → (failed stalled : Bool) → Type 0
-Tells fault said said_after failed stalled =
-    Says (line_of fault) said said_after failed stalled ⊎ Says (line_of Memory) said said_after failed stalled
-
--- Where there is no fault, nothing is said.
-abbrev pub SaysFault : Result (Unit {0}) ConductFault → (said said_after : Option (List ℕ)) →
-    (failed stalled : Bool) → Type 0
-SaysFault (Ok done) said said_after failed stalled = said ≡ said_after
-SaysFault (Err fault) said said_after failed stalled = Tells fault said said_after failed stalled
+-- what the program is called; its command line names no files
+abbrev pub snaplab : Names
+snaplab = of_program (codes "snaplab")
 
 -- what is said behind the line of a fault, where refusals are explained
-abbrev pub why : Request → (input : List ℕ) → ConductFault → List ℕ
+abbrev pub why : Request → (input : List ℕ) → ProgramFault → List ℕ
 why asked input (Refused r) = explanation (layout_of asked) input r
-why asked input Memory = []
-why asked input (Live r) = []
 why asked input (History r) = history_explanation input r
-why asked input (Model r) = []
-why asked input Read = []
-why asked input (Write count) = []
+why asked input _ = []
 
-abbrev pub explained : (explains : Bool) → Request → (input : List ℕ) → ConductFault → List ℕ
-explained explains asked input fault = if explains then why asked input fault else []
-
--- A fault is told with what explains it, or without where there was no memory for that; where there is none, nothing
--- is said.
-abbrev pub SaysWhy : (explains : Bool) → Request → (input : List ℕ) → Result (Unit {0}) ConductFault →
-    (said said_after : Option (List ℕ)) → (failed stalled : Bool) → Type 0
-SaysWhy explains asked input (Ok done) said said_after failed stalled = said ≡ said_after
-SaysWhy explains asked input (Err fault) said said_after failed stalled =
-    Says (line_of fault ++ explained explains asked input fault) said said_after failed stalled
-    ⊎ Tells fault said said_after failed stalled
+abbrev pub explained : Invocation → (input : List ℕ) → ProgramFault → List ℕ
+explained asked input fault = if asked.explains then why asked.request input fault else []
 
 -- A whole live run: where it was written, what is said of the operations that call nothing.
-abbrev pub SaysUncalled : (explains : Bool) → Request → (input : List ℕ) → Result (Vec ℕ Global) ConductFault →
-    (said said_after : Option (List ℕ)) → (failed stalled : Bool) → Type 0
-SaysUncalled explains asked input (Ok uncalled) said said_after failed stalled =
-    Says uncalled.items said said_after failed stalled
-SaysUncalled explains asked input (Err fault) said said_after failed stalled =
-    SaysWhy explains asked input (Err fault) said said_after failed stalled
+abbrev pub SaysUncalled : Invocation → (input : List ℕ) → Result (Vec ℕ Global) ProgramFault →
+    (errors errors_after : SinkState) → Type 0
+SaysUncalled asked input (Ok uncalled) errors errors_after = Says uncalled.items errors errors_after
+SaysUncalled asked input (Err fault) errors errors_after =
+    TellsMore snaplab fault (explained asked input fault) errors errors_after
 
 -- What is said where the input is read from a terminal.
 abbrev pub terminal_line : List ℕ
 terminal_line = codes "reading from the terminal; end with Ctrl-D\n"
 
 -- It is said where an input is asked for, and nothing else.
-abbrev pub SaysTerminal : {E : Type 0} → Result CommandLine E → (said said_after : Option (List ℕ)) →
-    (failed stalled : Bool) → Type 0
-SaysTerminal (Ok (Asks asked)) said said_after failed stalled = Says terminal_line said said_after failed stalled
-SaysTerminal _ said said_after failed stalled = said ≡ said_after
-
--- What is said of arguments that are no text.
-abbrev pub no_text_line : List ℕ
-no_text_line = codes "error: the words of the command line are no text\n"
+abbrev pub SaysTerminal : {E : Type 0} → Result CommandLine E → (errors errors_after : SinkState) → Type 0
+SaysTerminal (Ok (Asks asked)) errors errors_after = Says terminal_line errors errors_after
+SaysTerminal _ errors errors_after = errors ≡ errors_after
 
 -- What the program does about a task: what it takes of its source, what it gives its sink and its device for
 -- messages, and its status. Where an input is refused, it is the one that is explained.
 abbrev pub AnswersTask : Task → Invocation → (status : ℕ) →
-    (left left_after taken taken_after said said_after : Option (List ℕ)) →
-    (reader_failed writer_failed writer_stalled failed stalled : Bool) → Type 0
-AnswersTask task asked status left left_after taken taken_after said said_after r w s failed stalled =
-    (done : Result (Unit {0}) ConductFault) × (kept : List ℕ) × (status ≡ exit_status done)
-    × ConductsKeeping (IsOutputOf task) (RefusesTask task) kept done left left_after taken taken_after r w s
-    × SaysWhy asked.explains asked.request kept done said said_after failed stalled
+    (source source_after : SourceState) → (sink sink_after errors errors_after : SinkState) → Type 0
+AnswersTask task asked status source source_after sink sink_after errors errors_after =
+    (done : Result (Unit {0}) ProgramFault) × (kept : List ℕ) × (status ≡ exit_status success done)
+    × ConductsKeeping (IsOutputOf task) (RefusesTask task) kept done source source_after sink sink_after
+    × SaysWhy snaplab (explained asked kept) done errors errors_after
 
 -- What it does about a live run, at no gate.
 abbrev pub AnswersLively : Subject → (limit : ℕ) → Invocation → (status : ℕ) →
-    (left left_after taken taken_after said said_after : Option (List ℕ)) →
-    (reader_failed writer_failed writer_stalled failed stalled : Bool) → Type 0
-AnswersLively subject limit asked status left left_after taken taken_after said said_after r w s failed stalled =
-    (done : Result (Vec ℕ Global) ConductFault) × (kept : List ℕ) × (status ≡ exit_status (done_of done))
-    × ConductsLiveKeeping (λ process turn answer. answer ≡ true) subject limit kept done left
-    left_after taken taken_after r w s
-    × SaysUncalled asked.explains asked.request kept done said said_after failed stalled
+    (source source_after : SourceState) → (sink sink_after errors errors_after : SinkState) → Type 0
+AnswersLively subject limit asked status source source_after sink sink_after errors errors_after =
+    (done : Result (Vec ℕ Global) ProgramFault) × (kept : List ℕ) × (status ≡ exit_status success done)
+    × ConductsLiveKeeping (λ process turn answer. answer ≡ true) subject limit kept done
+    source source_after sink sink_after
+    × SaysUncalled asked kept done errors errors_after
 
 -- What it does about what is to be judged.
 abbrev pub AnswersJudge : JudgeRequest → Invocation → (status : ℕ) →
-    (left left_after taken taken_after said said_after : Option (List ℕ)) →
-    (reader_failed writer_failed writer_stalled failed stalled : Bool) → Type 0
-AnswersJudge judged asked status left left_after taken taken_after said said_after r w s failed stalled =
-    (done : Result Linearizability ConductFault) × (kept : List ℕ) × (status ≡ judge_status done)
-    × ConductsJudge judged kept done left left_after taken taken_after r w s
-    × SaysWhy asked.explains asked.request kept (done_of done) said said_after failed stalled
+    (source source_after : SourceState) → (sink sink_after errors errors_after : SinkState) → Type 0
+AnswersJudge judged asked status source source_after sink sink_after errors errors_after =
+    (done : Result Linearizability ProgramFault) × (kept : List ℕ) × (status ≡ exit_status word_status done)
+    × ConductsJudge judged kept done source source_after sink sink_after
+    × SaysWhy snaplab (explained asked kept) done errors errors_after
 
 -- What it does about a model.
 abbrev pub AnswersModelled : Subject → Invocation → (status : ℕ) →
-    (left left_after taken taken_after said said_after : Option (List ℕ)) →
-    (reader_failed writer_failed writer_stalled failed stalled : Bool) → Type 0
-AnswersModelled subject asked status left left_after taken taken_after said said_after r w s failed stalled =
-    (done : Result (Unit {0}) ConductFault) × (kept : List ℕ) × (status ≡ exit_status done)
-    × ConductsModel subject kept done left left_after taken taken_after r w s
-    × SaysWhy asked.explains asked.request kept done said said_after failed stalled
+    (source source_after : SourceState) → (sink sink_after errors errors_after : SinkState) → Type 0
+AnswersModelled subject asked status source source_after sink sink_after errors errors_after =
+    (done : Result (Unit {0}) ProgramFault) × (kept : List ℕ) × (status ≡ exit_status success done)
+    × ConductsModel subject kept done source source_after sink sink_after
+    × SaysWhy snaplab (explained asked kept) done errors errors_after
 
 -- What it does about what was asked for.
 abbrev pub AnswersRequest : Request → Invocation → (status : ℕ) →
-    (left left_after taken taken_after said said_after : Option (List ℕ)) →
-    (reader_failed writer_failed writer_stalled failed stalled : Bool) → Type 0
-AnswersRequest (request.Do task) asked status left left_after taken taken_after said said_after r w s failed stalled =
-    AnswersTask task asked status left left_after taken taken_after said said_after r w s failed stalled
-AnswersRequest (request.Live subject limit) asked status left left_after taken taken_after said said_after r w s
-    failed stalled =
-    AnswersLively subject limit asked status left left_after taken taken_after said said_after r w s failed stalled
-AnswersRequest (request.Judge judged) asked status left left_after taken taken_after said said_after r w s
-    failed stalled =
-    AnswersJudge judged asked status left left_after taken taken_after said said_after r w s failed stalled
-AnswersRequest (request.Model subject crashes) asked status left left_after taken taken_after said said_after r w s
-    failed stalled =
-    AnswersModelled subject asked status left left_after taken taken_after said said_after r w s failed stalled
+    (source source_after : SourceState) → (sink sink_after errors errors_after : SinkState) → Type 0
+AnswersRequest (request.Do task) asked status source source_after sink sink_after errors errors_after =
+    AnswersTask task asked status source source_after sink sink_after errors errors_after
+AnswersRequest (request.Live subject limit) asked status source source_after sink sink_after errors errors_after =
+    AnswersLively subject limit asked status source source_after sink sink_after errors errors_after
+AnswersRequest (request.Judge judged) asked status source source_after sink sink_after errors errors_after =
+    AnswersJudge judged asked status source source_after sink sink_after errors errors_after
+AnswersRequest (request.Model subject crashes) asked status source source_after sink sink_after errors errors_after =
+    AnswersModelled subject asked status source source_after sink sink_after errors errors_after
 
 -- What it does about a strict survey.
 abbrev pub AnswersStrictly : Subject → Invocation → (status : ℕ) →
-    (left left_after taken taken_after said said_after : Option (List ℕ)) →
-    (reader_failed writer_failed writer_stalled failed stalled : Bool) → Type 0
-AnswersStrictly subject asked status left left_after taken taken_after said said_after r w s failed stalled =
-    (done : Result Bool ConductFault) × (kept : List ℕ) × (status ≡ strict_status done)
-    × ConductsSurvey done subject kept left left_after taken taken_after r w s
-    × SaysWhy asked.explains asked.request kept (done_of done) said said_after failed stalled
+    (source source_after : SourceState) → (sink sink_after errors errors_after : SinkState) → Type 0
+AnswersStrictly subject asked status source source_after sink sink_after errors errors_after =
+    (done : Result Bool ProgramFault) × (kept : List ℕ) × (status ≡ exit_status clean_status done)
+    × ConductsSurvey done subject kept source source_after sink sink_after
+    × SaysWhy snaplab (explained asked kept) done errors errors_after
 
 -- The one or the other, where a strict survey of this listing is asked for, or none.
 abbrev pub AnswersAsked : Option Subject → Invocation → (status : ℕ) →
-    (left left_after taken taken_after said said_after : Option (List ℕ)) →
-    (reader_failed writer_failed writer_stalled failed stalled : Bool) → Type 0
-AnswersAsked None asked status left left_after taken taken_after said said_after r w s failed stalled =
-    AnswersRequest asked.request asked status left left_after taken taken_after said said_after r w s failed stalled
-AnswersAsked (Some subject) asked status left left_after taken taken_after said said_after r w s failed stalled =
-    AnswersStrictly subject asked status left left_after taken taken_after said said_after r w s failed stalled
+    (source source_after : SourceState) → (sink sink_after errors errors_after : SinkState) → Type 0
+AnswersAsked None asked status source source_after sink sink_after errors errors_after =
+    AnswersRequest asked.request asked status source source_after sink sink_after errors errors_after
+AnswersAsked (Some subject) asked status source source_after sink sink_after errors errors_after =
+    AnswersStrictly subject asked status source source_after sink sink_after errors errors_after
 
 -- What the program does about a command line, or where there was no memory to read it: what it takes of its source,
 -- what it gives its sink and its device for messages, and its status.
 abbrev pub AnswersLine : {E : Type 0} → Result CommandLine E → (status : ℕ) →
-    (left left_after taken taken_after said said_after : Option (List ℕ)) →
-    (reader_failed writer_failed writer_stalled failed stalled : Bool) → Type 0
-AnswersLine (Ok (Asks asked)) status left left_after taken taken_after said said_after r w s failed stalled =
-    AnswersAsked (strict_subject asked.strict asked.request) asked status left left_after taken
-    taken_after said said_after r w s failed stalled
-AnswersLine (Ok (Help text)) status left left_after taken taken_after said said_after r w s failed stalled =
-    (left ≡ left_after) × ((done : Result (Unit {0}) ConductFault) × (status ≡ exit_status done)
-    × Sends done (string_bytes text) taken taken_after w s
-    × SaysFault done said said_after failed stalled)
-AnswersLine (Ok (Wrong text)) status left left_after taken taken_after said said_after r w s failed stalled =
-    (status ≡ 2) × (left ≡ left_after) × (taken ≡ taken_after) × Says (string_bytes text) said said_after failed stalled
-AnswersLine (Ok NoText) status left left_after taken taken_after said said_after r w s failed stalled =
-    (status ≡ 2) × (left ≡ left_after) × (taken ≡ taken_after) × Says no_text_line said said_after failed stalled
-AnswersLine (Err e) status left left_after taken taken_after said said_after r w s failed stalled =
-    (status ≡ exit_status (Err Memory)) × (left ≡ left_after) × (taken ≡ taken_after)
-    × SaysFault (Err Memory) said said_after failed stalled
+    (source source_after : SourceState) → (sink sink_after errors errors_after : SinkState) → Type 0
+AnswersLine (Ok (Asks asked)) status source source_after sink sink_after errors errors_after =
+    AnswersAsked (strict_subject asked.strict asked.request) asked status
+    source source_after sink sink_after errors errors_after
+AnswersLine (Ok (Help text)) status source source_after sink sink_after errors errors_after =
+    (source ≡ source_after) × Helps snaplab (string_bytes text) status sink sink_after errors errors_after
+AnswersLine (Ok (Wrong text)) status source source_after sink sink_after errors errors_after =
+    (status ≡ 2) × (source ≡ source_after) × (sink ≡ sink_after) × Says (string_bytes text) errors errors_after
+AnswersLine (Ok NoText) status source source_after sink sink_after errors errors_after =
+    (status ≡ 2) × (source ≡ source_after) × (sink ≡ sink_after) × Says no_text_line errors errors_after
+AnswersLine (Err e) status source source_after sink sink_after errors errors_after =
+    (status ≡ 1) × (source ≡ source_after) × (sink ≡ sink_after) × Says no_memory_line errors errors_after

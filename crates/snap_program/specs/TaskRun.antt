@@ -1,8 +1,9 @@
 -- A whole run of a task, from a byte source to a byte sink: its output, and why there is none.
-use Rattle.std.specs.Prelude.{◌≡◌, ℕ, Bool, List, Option, Result, Ok, Err, IfOk}
+use Rattle.std.specs.Prelude.{◌≡◌, ℕ, Bool, List, Result, Ok, Err, IfOk}
+use Rattle.snap_streams.specs.State.{SourceState, SinkState}
 use Rattle.snap_devices.specs.WholeRun.{ConductsBy, ConductsKeeping, done_of}
-use Rattle.snap_devices.specs.declared.fault.ConductFault.{ConductFault}
-use Rattle.snap_devices.specs.declared.fault.ConductFault.TheVariants as fault
+use Rattle.snap_faults.specs.declared.fault.ProgramFault.{ProgramFault}
+use Rattle.snap_faults.specs.declared.fault.ProgramFault.TheVariants as fault
 use Rattle.snap_judge.specs.declared.judgements.Judgement.{Judgement}
 use Rattle.snap_output.specs.Output.{AreJudged, IsAnswerTo, clean_of, output_of}
 use Rattle.snap_tasks.specs.declared.subject.Subject.{Subject}
@@ -14,26 +15,26 @@ abbrev pub IsOutputOf : Task → (input text : List ℕ) → Type 0
 IsOutputOf task input text = IsAnswerTo task input (Ok text)
 
 -- why there is none
-abbrev pub RefusesTask : Task → (input : List ℕ) → ConductFault → Type 0
+abbrev pub RefusesTask : Task → (input : List ℕ) → ProgramFault → Type 0
 RefusesTask task input (fault.Refused f) = IsAnswerTo task input (Err f)
 RefusesTask task input _ = ⊥
 
 -- A whole run of a task: each input has one refusal, or one output for what was judged for it.
-abbrev pub Conducts : (answer : Result (Unit {0}) ConductFault) (task : Task)
-    (left left_after taken taken_after : Option (List ℕ)) (reader_failed writer_failed writer_stalled : Bool) → Type 0
-Conducts answer task left left_after taken taken_after r w s =
-    ConductsBy (IsOutputOf task) (RefusesTask task) answer left left_after taken taken_after r w s
+abbrev pub Conducts : (answer : Result (Unit {0}) ProgramFault) (task : Task)
+    (source source_after : SourceState) (sink sink_after : SinkState) → Type 0
+Conducts answer task source source_after sink sink_after =
+    ConductsBy (IsOutputOf task) (RefusesTask task) answer source source_after sink sink_after
 
 -- the output of a survey, and whether all of its runs are clean, where that is answered, both by the same judgements
-abbrev pub IsSurveyOf : Result Bool ConductFault → Subject → (input text : List ℕ) → Type 0
+abbrev pub IsSurveyOf : Result Bool ProgramFault → Subject → (input text : List ℕ) → Type 0
 IsSurveyOf answer subject input text =
     (judged : List Judgement) × AreJudged (task.Survey subject) input judged
     × (output_of judged (task.Survey subject) input ≡ Ok text)
     × IfOk answer (λ clean. clean_of judged subject input ≡ Ok clean)
 
 -- A whole run of a survey, which keeps its input: what it writes and when it is refused are the task's.
-abbrev pub ConductsSurvey : (answer : Result Bool ConductFault) (subject : Subject) (kept : List ℕ)
-    (left left_after taken taken_after : Option (List ℕ)) (reader_failed writer_failed writer_stalled : Bool) → Type 0
-ConductsSurvey answer subject kept left left_after taken taken_after r w s =
+abbrev pub ConductsSurvey : (answer : Result Bool ProgramFault) (subject : Subject) (kept : List ℕ)
+    (source source_after : SourceState) (sink sink_after : SinkState) → Type 0
+ConductsSurvey answer subject kept source source_after sink sink_after =
     ConductsKeeping (IsSurveyOf answer subject) (RefusesTask (task.Survey subject)) kept
-    (done_of answer) left left_after taken taken_after r w s
+    (done_of answer) source source_after sink sink_after

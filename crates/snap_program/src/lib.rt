@@ -5,12 +5,12 @@
 mod answers;
 mod whole_run;
 
-pub use answers::{answer, say_terminal};
+pub use answers::{answer, fault_line, say_terminal};
 pub use snap_devices::{
-    ByteSink, ByteSink as Sink, ByteSource, ByteSource as Source, ConductFault,
-    ConductFault as Fault, Failed, Linearizability, Std, conduct_judge, conduct_live,
-    conduct_live_keeping, conduct_model, fault_line, fault_status, write_all,
+    ByteSink, ByteSink as Sink, ByteSource, ByteSource as Source, Failed, Linearizability, Std,
+    conduct_judge, conduct_live, conduct_live_keeping, conduct_model,
 };
+pub use snap_faults::{ProgramFault, ProgramFault as Fault, fault_status, write_all};
 pub use snap_input::{shipped, split_parts};
 pub use snap_live::{Gate, NoGate};
 pub use snap_output::perform;

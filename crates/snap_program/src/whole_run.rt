@@ -10,7 +10,8 @@ ghost use Rattle.snap_output.specs.Output.{AreJudged, output_of};
 ghost use Rattle.snap_program.specs.TaskRun.{Conducts, ConductsSurvey, IsOutputOf, RefusesTask};
 ghost use Rattle.snap_tasks.specs.declared.task.Task.TheVariants.{Run};
 
-use snap_devices::{ByteSink, ByteSource, ConductFault, read_all, write_all};
+use snap_devices::{ByteSink, ByteSource, read_all};
+use snap_faults::{ProgramFault, write_all};
 use snap_output::{output, planned_run, run_planned, survey_output};
 use snap_semantics::{Fault, Refusal};
 use snap_tasks::{Subject, Task};
@@ -54,13 +55,12 @@ pub fn conduct<R: ByteSource, W: ByteSink>(
     task: &Task,
     source: &mut R,
     sink: &mut W,
-) -> Result<(), ConductFault>
-    requires source { R.has_failed source.old ≡ false }
-    requires sink { W.has_failed sink.old ≡ false }
-    requires goes_on { W.is_stalled sink.old ≡ false }
-    ensures { Conducts result task.now (R.left source.old) (R.left source.new) (W.taken sink.old)
-        (W.taken sink.new)
-        (R.has_failed source.new) (W.has_failed sink.new) (W.is_stalled sink.new) }
+) -> Result<(), ProgramFault>
+    requires source { (R.state source.old).failed ≡ false }
+    requires sink { (W.state sink.old).failed ≡ false }
+    requires goes_on { (W.state sink.old).stalled ≡ false }
+    ensures { Conducts result task.now (R.state source.old) (R.state source.new) (W.state sink.old)
+        (W.state sink.new) }
 {
     let mut kept = Vec::new(alloc);
     conduct_keeping(rt, alloc, task, source, sink, &mut kept)
@@ -74,13 +74,12 @@ pub fn conduct_keeping<R: ByteSource, W: ByteSink>(
     source: &mut R,
     sink: &mut W,
     kept: &mut Vec<u8>,
-) -> Result<(), ConductFault>
-    requires source { R.has_failed source.old ≡ false }
-    requires sink { W.has_failed sink.old ≡ false }
-    requires goes_on { W.is_stalled sink.old ≡ false }
+) -> Result<(), ProgramFault>
+    requires source { (R.state source.old).failed ≡ false }
+    requires sink { (W.state sink.old).failed ≡ false }
+    requires goes_on { (W.state sink.old).stalled ≡ false }
     ensures { ConductsKeeping (IsOutputOf task.now) (RefusesTask task.now) kept.new.items result
-        (R.left source.old) (R.left source.new) (W.taken sink.old) (W.taken sink.new)
-        (R.has_failed source.new) (W.has_failed sink.new) (W.is_stalled sink.new) }
+        (R.state source.old) (R.state source.new) (W.state sink.old) (W.state sink.new) }
 {
     let input = read_all(alloc, source)?;
     *kept = input;
@@ -91,22 +90,22 @@ pub fn conduct_keeping<R: ByteSource, W: ByteSink>(
 /// Reads the input, writes its survey and nothing else, and answers whether all of its runs are
 /// clean. The input is kept: where it is refused, it was kept.
 pub fn conduct_survey<R: ByteSource, W: ByteSink>(
+    rt: &(impl Threads + Sync),
     alloc: Global,
     subject: Subject,
     source: &mut R,
     sink: &mut W,
     kept: &mut Vec<u8>,
-) -> Result<bool, ConductFault>
-    requires source { R.has_failed source.old ≡ false }
-    requires sink { W.has_failed sink.old ≡ false }
-    requires goes_on { W.is_stalled sink.old ≡ false }
-    ensures { ConductsSurvey result subject kept.new.items (R.left source.old) (R.left source.new)
-        (W.taken sink.old) (W.taken sink.new) (R.has_failed source.new) (W.has_failed sink.new)
-        (W.is_stalled sink.new) }
+) -> Result<bool, ProgramFault>
+    requires source { (R.state source.old).failed ≡ false }
+    requires sink { (W.state sink.old).failed ≡ false }
+    requires goes_on { (W.state sink.old).stalled ≡ false }
+    ensures { ConductsSurvey result subject kept.new.items (R.state source.old) (R.state source.new)
+        (W.state sink.old) (W.state sink.new) }
 {
     let input = read_all(alloc, source)?;
     *kept = input;
-    let found = survey_output(alloc, subject, kept.as_slice())?;
+    let found = survey_output(rt, alloc, subject, kept.as_slice())?;
     write_all(sink, found.text.as_slice())?;
     Ok(found.clean)
 }

@@ -2,7 +2,7 @@
 use Rattle.std.proofs.Common.{◌≡◌, ◌+◌, ◌-◌, ◌^◌, ◌++◌, ◌∙◌, ℕ, min, List, Option, None, Result, Ok, Err, OnOk, refl, sym}
 use Rattle.std.proofs.Common.{ap, subst}
 use Rattle.snap_semantics.specs.declared.refusal.CommandRefusal.{CommandRefusal}
-use Rattle.snap_sched_edits.specs.declared.addition.Addition.{Addition}
+use Rattle.snap_prompt_lines.specs.declared.addition.Addition.{Addition}
 use Rattle.snap_prompt_lines.specs.Ask.{ask_of}
 use Rattle.snap_prompt_lines.specs.declared.ask.Ask.{Ask}
 use Rattle.snap_prompt.specs.Prompt.{Answer, Prompt, Says, answer_line, answered_to, asked, counted}

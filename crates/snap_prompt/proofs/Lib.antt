@@ -3,3 +3,5 @@ pub mod Added
 pub mod GoesOn
 pub mod KeepsRun
 pub mod LastItems
+pub mod Goals
+pub mod Fewest

@@ -12,8 +12,8 @@ use Rattle.snap_semantics.specs.declared.refusal.ScheduleRefusal.TheVariants as 
 use Rattle.snap_refusals.specs.RefusalText.{refused_text}
 use Rattle.snap_debug_commands.specs.FaultText.{refusal_text}
 use Rattle.snap_debug.specs.Session.{Session, total}
-use Rattle.snap_reach.specs.declared.goal.NoSteps.{NoSteps}
-use Rattle.snap_reach.specs.declared.goal.NoSteps.TheVariants as none
+use Rattle.snap_prompt.specs.declared.goal.NoSteps.{NoSteps}
+use Rattle.snap_prompt.specs.declared.goal.NoSteps.TheVariants as none
 
 -- the numbers of the first and of the last of some lines, and 0 where there is none
 abbrev pub first_number : List Line → ℕ

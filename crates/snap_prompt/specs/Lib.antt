@@ -5,3 +5,4 @@ pub mod Hints
 pub mod Listed
 pub mod Prompt
 pub mod Said
+pub mod Reach

@@ -14,13 +14,13 @@ use Rattle.snap_debug.specs.Session.{Session, answer, at_position, commanded, op
 use Rattle.snap_debug.specs.Session.{reply_text, session_report, state_of, total}
 use Rattle.snap_debug_commands.specs.declared.command.Command.{Command}
 use Rattle.snap_debug_commands.specs.declared.command.Command.TheVariants as command
-use Rattle.snap_sched_edits.specs.Edits.{edited, form_of}
-use Rattle.snap_sched_edits.specs.declared.addition.Addition.{Addition}
-use Rattle.snap_sched_edits.specs.declared.addition.Addition.TheVariants as addition
-use Rattle.snap_reach.specs.Reach.{steps_to}
-use Rattle.snap_reach.specs.declared.goal.Goal.{Goal}
-use Rattle.snap_reach.specs.declared.goal.Goal.TheVariants as goal
-use Rattle.snap_reach.specs.declared.goal.NoSteps.{NoSteps}
+use Rattle.snap_prompt_lines.specs.Edits.{edited, form_of}
+use Rattle.snap_prompt_lines.specs.declared.addition.Addition.{Addition}
+use Rattle.snap_prompt_lines.specs.declared.addition.Addition.TheVariants as addition
+use Rattle.snap_prompt.specs.Reach.{steps_to}
+use Rattle.snap_prompt.specs.declared.goal.Goal.{Goal}
+use Rattle.snap_prompt.specs.declared.goal.Goal.TheVariants as goal
+use Rattle.snap_prompt.specs.declared.goal.NoSteps.{NoSteps}
 use Rattle.snap_prompt_lines.specs.Ask.{ask_of, is_yes}
 use Rattle.snap_prompt_lines.specs.declared.ask.Ask.{Ask}
 use Rattle.snap_prompt_lines.specs.declared.ask.Ask.TheVariants as ask

@@ -4,8 +4,8 @@ ghost use Rattle.snap_prompt.specs.Hints.{added_hint, first_number, hint_text, l
 ghost use Rattle.snap_prompt.specs.Hints.{range_text, refused_addition, refused_line};
 ghost use Rattle.snap_prompt.specs.Hints.{refused_steps, registers_text, standing_line};
 
+use crate::NoSteps;
 use snap_debug::{Session, push_refusal};
-use snap_reach::NoSteps;
 use snap_refusals::push_refused;
 use snap_semantics::{CommandRefusal, Line, Refusal, ScheduleRefusal};
 use snap_text::{push_number, push_text};

@@ -4,11 +4,15 @@
 mod changed;
 mod conversation;
 mod explained;
+mod goal;
 mod hints;
 mod last_item;
 mod listed;
 mod meant;
 mod prompt;
+mod steps;
 
 pub use conversation::converse;
+pub use goal::{Goal, NoSteps};
 pub use prompt::Prompt;
+pub use steps::steps_to;

@@ -23,15 +23,14 @@ use crate::hints::{push_refused_addition, push_refused_line, push_refused_steps}
 use crate::last_item::{do_command, go_to, push_item};
 use crate::listed::push_list;
 use crate::meant::{meant, moves, push_help};
+use crate::{Goal, steps_to};
 use snap_asm_program::Program;
 use snap_debug::{Command, Session};
 use snap_dialog::Respondent;
 use snap_listing_printer::LineTexts;
-use snap_prompt_lines::{Ask, ask_of, is_yes};
-use snap_reach::{Goal, steps_to};
+use snap_prompt_lines::{Addition, Ask, ask_of, edited, is_yes};
 use snap_report::{head_lines, position_line};
 use snap_sched::{Schedule, print};
-use snap_sched_edits::{Addition, edited};
 use snap_semantics::{CommandRefusal, Fault};
 use snap_text::{push_changes, push_number, push_text};
 use snap_words::{Bits, Kind, Multi, Seq};

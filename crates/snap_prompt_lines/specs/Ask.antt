@@ -13,7 +13,7 @@ use Rattle.snap_debug_commands.specs.CommandForms.{keyword_form, number_form, nu
 use Rattle.snap_debug_commands.specs.Commands.{commands_of}
 use Rattle.snap_debug_commands.specs.declared.command.Command.{Command}
 use Rattle.snap_debug_commands.specs.declared.command.Command.TheVariants as command
-use Rattle.snap_sched_edits.specs.declared.addition.Addition.TheVariants as addition
+use Rattle.snap_prompt_lines.specs.declared.addition.Addition.TheVariants as addition
 use Rattle.snap_prompt_lines.specs.declared.ask.Ask.{Ask}
 use Rattle.snap_prompt_lines.specs.declared.ask.Ask.TheVariants as ask
 

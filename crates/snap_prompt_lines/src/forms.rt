@@ -5,9 +5,9 @@ ghost use Rattle.snap_prompt_lines.specs.Ask.{adding_ask, alone, break_ask, call
 ghost use Rattle.snap_prompt_lines.specs.Ask.{list_ask, op_form, prompt_ask, steps_ask, why_ask};
 ghost use Rattle.snap_prompt_lines.specs.Ask.{word_ask, yes_form};
 
+use crate::Addition;
 use crate::ask::Ask;
 use snap_debug_commands::{Breakpoint, Command, keyword_form, number_form, numbers_form};
-use snap_sched_edits::Addition;
 use snap_semantics::Op;
 use snap_text::{Token, keyword_at, number_at};
 

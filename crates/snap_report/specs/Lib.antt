@@ -2,3 +2,4 @@
 pub mod ReportLines
 pub mod OutcomeText
 pub mod RunReport
+pub mod WrittenLines

@@ -1,5 +1,5 @@
-//! The printed texts of positions, registers, processes, events and outcomes, and the report of a
-//! machine.
+//! The printed texts of positions, registers, processes, events and outcomes, of where an item
+//! writes, and the report of a machine.
 #![tactic(auto)]
 
 mod event_text;
@@ -9,6 +9,7 @@ mod process_text;
 mod register_text;
 mod reports;
 mod word_text;
+mod written_text;
 
 pub use event_text::{event_line, event_lines, op_text};
 pub use outcomes::{head_lines, outcome_text, reason_text};
@@ -16,3 +17,4 @@ pub use printed::Report;
 pub use process_text::{head_line, process_lines};
 pub use register_text::{register_line, register_lines, values_line};
 pub use reports::{position_line, report};
+pub use written_text::{written_local, written_shared};

@@ -147,7 +147,7 @@ fn place_text(out: &mut Vec<u8>, name: &Name, place: u64) -> Result<(), AllocErr
 
 /// A place of a `words` local.
 #[tactic(auto, using(snap_text::proofs::Texts::joined))]
-fn word_local<K: Kind>(
+pub(crate) fn word_local<K: Kind>(
     out: &mut Vec<u8>,
     kind: KindTag,
     name: &Name,
@@ -181,7 +181,7 @@ fn words_local<K: Kind>(
 }
 
 /// The lines of a local.
-fn local_lines<K: Kind>(
+pub(crate) fn local_lines<K: Kind>(
     out: &mut Vec<u8>,
     kind: KindTag,
     local: (Name, Local<'_, K>),

@@ -50,7 +50,7 @@ pub decimal_plain : (n : ℕ) → feeds (decimal n) ≡ 0
 unfolding digits
 decimal_plain n = digits_plain 64 n []
 
-numbers_plain : (xs : List ℕ) → feeds (numbers_text xs) ≡ 0
+pub numbers_plain : (xs : List ℕ) → feeds (numbers_text xs) ≡ 0
 numbers_plain [] = refl
 numbers_plain (x ∷ xs) =
     feeds_append (decimal x) (numbers_text xs)
@@ -70,7 +70,7 @@ cause_plain cause.Nested = refl
 cause_plain cause.BadEnd = refl
 cause_plain cause.OffEnd = refl
 
-op_plain : (o : Op) → feeds (op_text o) ≡ 0
+pub op_plain : (o : Op) → feeds (op_text o) ≡ 0
 op_plain op.Scan = refl
 op_plain (op.Update word value) = simp (feeds_append, decimal_plain)
 
@@ -94,7 +94,7 @@ head_feeds i s = simp (feeds_append, decimal_plain, status_plain)
 pub values_feeds : (xs : List ℕ) → feeds (values_line xs) ≡ 1
 values_feeds xs = simp (feeds_append, numbers_plain)
 
-word_feeds : (g : KindTag) (k : ℕ) (x : Word) → feeds (word_line g k x) ≡ 1
+pub word_feeds : (g : KindTag) (k : ℕ) (x : Word) → feeds (word_line g k x) ≡ 1
 word_feeds g k x = simp (feeds_append, decimal_plain, word_plain)
 
 words_feeds : (g : KindTag) (k : ℕ) (xs : List Word) → feeds (word_lines g k xs) ≡ length xs
@@ -103,16 +103,16 @@ words_feeds g k (x ∷ xs) =
     feeds_append (word_line g k x) (word_lines g (k + 1) xs)
     ∙ (let first = word_feeds g k x in let rest = words_feeds g (k + 1) xs in omega (arith, first, rest))
 
-bit_feeds : (bank : List ℕ) (i j x : ℕ) → feeds bank ≡ 0 → feeds (bit_line bank i j x) ≡ 1
+pub bit_feeds : (bank : List ℕ) (i j x : ℕ) → feeds bank ≡ 0 → feeds (bit_line bank i j x) ≡ 1
 bit_feeds bank i j x h = simp (feeds_append, decimal_plain) (omega (arith, h))
 
-row_feeds : (bank : List ℕ) (i j : ℕ) (xs : List ℕ) → feeds bank ≡ 0 → feeds (row_lines bank i j xs) ≡ length xs
+pub row_feeds : (bank : List ℕ) (i j : ℕ) (xs : List ℕ) → feeds bank ≡ 0 → feeds (row_lines bank i j xs) ≡ length xs
 row_feeds bank i j [] h = refl
 row_feeds bank i j (x ∷ xs) h =
     feeds_append (bit_line bank i j x) (row_lines bank i (j + 1) xs)
     ∙ (let first = bit_feeds bank i j x h in let rest = row_feeds bank i (j + 1) xs h in omega (arith, first, rest))
 
-view_feeds : (i : ℕ) (view : List ℕ) → feeds (view_line i view) ≡ 1
+pub view_feeds : (i : ℕ) (view : List ℕ) → feeds (view_line i view) ≡ 1
 view_feeds i view = simp (feeds_append, decimal_plain, numbers_plain)
 
 views_feeds : (i : ℕ) (views : List (List ℕ)) → feeds (view_lines i views) ≡ length views
@@ -167,17 +167,17 @@ locals_apart g l =
     ∙ ap (λ n. n + feeds (locals_lines list_local l.views))
     (feeds_append (scalars ++ rows) words ∙ ap (λ n. n + feeds words) (feeds_append scalars rows))
 
-number_feeds : (x : Name) (v : ℕ) → feeds (number_local x v) ≡ feeds x + 1
+pub number_feeds : (x : Name) (v : ℕ) → feeds (number_local x v) ≡ feeds x + 1
 number_feeds x v = simp (feeds_append, decimal_plain) (omega arith)
 
-list_feeds : (x : Name) (vs : List ℕ) → feeds (list_local x vs) ≡ feeds x + 1
+pub list_feeds : (x : Name) (vs : List ℕ) → feeds (list_local x vs) ≡ feeds x + 1
 list_feeds x vs = simp (feeds_append, numbers_plain) (omega arith)
 
-place_feeds : (g : KindTag) (x : Name) (p : ℕ) (v : Word) → feeds (word_local g x p v) ≡ feeds x + 1
+pub place_feeds : (g : KindTag) (x : Name) (p : ℕ) (v : Word) → feeds (word_local g x p v) ≡ feeds x + 1
 place_feeds g x p v = simp (feeds_append, decimal_plain, word_plain) (omega arith)
 
 -- as many words under one name
-places_same : (g : KindTag) (x : Name) (p : ℕ) (vs ws : List Word) → length vs ≡ length ws →
+pub places_same : (g : KindTag) (x : Name) (p : ℕ) (vs ws : List Word) → length vs ≡ length ws →
     feeds (words_local g x p vs) ≡ feeds (words_local g x p ws)
 places_same g x p [] [] e = refl
 places_same g x p [] (w ∷ ws) e = absurd (omega (arith, e))

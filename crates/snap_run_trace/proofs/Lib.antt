@@ -5,6 +5,15 @@ pub mod Owned
 pub mod Feeds
 pub mod Kept
 pub mod Parts
+pub mod Splits
+pub mod Differs
+pub mod Indented
+pub mod Named
+pub mod Locals
+pub mod Registers
+pub mod Own
+pub mod Touched
+pub mod Said
 pub mod Items
 pub mod Walks
 pub mod Sums

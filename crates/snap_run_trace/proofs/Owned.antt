@@ -1,6 +1,6 @@
 -- Lines of a report with their owner, such as a process, put in front (`owned_text`), where the report is put
 -- together from parts.
-use Rattle.std.proofs.Common.{◌≡◌, ℕ, zero, suc, ◌+◌, Bool, true, false, List, [], ◌∷◌, ◌++◌, length, take, nat_eq}
+use Rattle.std.proofs.Common.{◌≡◌, ℕ, zero, suc, Bool, true, false, List, [], ◌∷◌, ◌++◌, length, take, nat_eq}
 use Rattle.std.proofs.Common.{codes, if◌then◌else◌, refl, sym, ap, ◌∙◌, append_assoc, arith}
 use Rattle.std.specs.Prelude.{◌==◌}
 use Rattle.std.specs.List.{AllByRecursion}
@@ -27,7 +27,7 @@ lines_plain (b ∷ t) = by_case (nat_eq b 10) refl (lines_plain t)
     by_case true e h = (refl, h)
     by_case false e h = onto_plain b (lines_of t) e h
 
-taken_plain : (k : ℕ) (line : List ℕ) → IsPlain line → IsPlain (take k line)
+pub taken_plain : (k : ℕ) (line : List ℕ) → IsPlain line → IsPlain (take k line)
 taken_plain zero line h = refl
 taken_plain (suc k) [] h = refl
 taken_plain (suc k) (b ∷ line) h = by_case (nat_eq b 10) h (taken_plain k line)

@@ -31,7 +31,7 @@ pub record IsPart (t : List ℕ) : Type 0 where
   pub speaks : SpeaksFirst (lines_of t)
 
 -- whether a text begins a line that speaks of itself
-abbrev begins : List ℕ → Bool
+abbrev pub begins : List ℕ → Bool
 begins [] = false
 begins (b ∷ t) = not (nat_eq b 10) && not (b == 32)
 
@@ -39,7 +39,7 @@ speaks_byte : (b : ℕ) (lines : List (List ℕ)) → (b == 32) ≡ false → Sp
 speaks_byte b [] e = e
 speaks_byte b (line ∷ lines) e = e
 
-speaks_text : (t : List ℕ) → begins t ≡ true → SpeaksFirst (lines_of t)
+pub speaks_text : (t : List ℕ) → begins t ≡ true → SpeaksFirst (lines_of t)
 speaks_text [] e = tt
 speaks_text (b ∷ t) e = by_case (nat_eq b 10) (b == 32) refl e
   where
@@ -54,20 +54,20 @@ speaks_more [] ys h k = k
 speaks_more ([] ∷ xs) ys h k = h
 speaks_more ((b ∷ bs) ∷ xs) ys h k = h
 
-no_part : IsPart []
+pub no_part : IsPart []
 no_part = record { whole = no_text; speaks = tt }
 
-part_joined : (a b : List ℕ) → IsPart a → IsPart b → IsPart (a ++ b)
+pub part_joined : (a b : List ℕ) → IsPart a → IsPart b → IsPart (a ++ b)
 part_joined a b h k = record {
   whole = joined a b h.whole k.whole;
   speaks = subst SpeaksFirst (sym (h.whole.apart b)) (speaks_more (lines_of a) (lines_of b) h.speaks k.speaks);
 }
 
 -- a line
-ended : (x : List ℕ) → IsWhole (x ++ codes "\n")
+pub ended : (x : List ℕ) → IsWhole (x ++ codes "\n")
 ended x = (before x (codes "\n") new_line).whole
 
-words_whole : (g : KindTag) (k : ℕ) (xs : List Word) → IsWhole (word_lines g k xs)
+pub words_whole : (g : KindTag) (k : ℕ) (xs : List Word) → IsWhole (word_lines g k xs)
 words_whole g k [] = no_text
 words_whole g k (x ∷ xs) =
     joined (word_line g k x) (word_lines g (k + 1) xs)
@@ -130,7 +130,7 @@ locals_whole g l =
     (sort_whole (λ x vs. words_local g x 1 vs) l.words (λ x vs. places_whole g x 1 vs)))
     (sort_whole list_local l.views list_whole)
 
-process_part : (g : KindTag) (i : ℕ) (p : Process) → IsPart (process_lines g i p)
+pub process_part : (g : KindTag) (i : ℕ) (p : Process) → IsPart (process_lines g i p)
 process_part g i p = record {
   whole =
       joined (head_line i p.status) (locals_text g p.locals)
@@ -151,7 +151,7 @@ event_part e = record {
   speaks = speaks_text (event_line e) refl;
 }
 
-events_part : (es : List Event) → IsPart (event_lines es)
+pub events_part : (es : List Event) → IsPart (event_lines es)
 events_part [] = no_part
 events_part (e ∷ es) = part_joined (event_line e) (event_lines es) (event_part e) (events_part es)
 
@@ -162,15 +162,15 @@ events_more (e ∷ es) new =
     ∙ sym (append_assoc (event_line e) (event_lines es) (event_lines new))
 
 -- the values and the registers
-abbrev shared : KindTag → State → List ℕ
+abbrev pub shared : KindTag → State → List ℕ
 shared g S = values_line (values S) ++ register_lines g S.memory
 
-shared_whole : (g : KindTag) (S : State) → IsWhole (shared g S)
+pub shared_whole : (g : KindTag) (S : State) → IsWhole (shared g S)
 shared_whole g S =
     joined (values_line (values S)) (register_lines g S.memory)
     (ended (codes "values" ++ numbers_text (values S))) (registers_whole g S.memory)
 
-shared_feeds : (g : KindTag) (i : ℕ) (S S' : State) → IsMove g i S S' → feeds (shared g S) ≡ feeds (shared g S')
+pub shared_feeds : (g : KindTag) (i : ℕ) (S S' : State) → IsMove g i S S' → feeds (shared g S) ≡ feeds (shared g S')
 shared_feeds g i S S' h =
     wholes.feeds_append (values_line (values S)) (register_lines g S.memory)
     ∙ ap (λ n. n + feeds (register_lines g S.memory)) (values_feeds (values S) ∙ sym (values_feeds (values S')))
@@ -188,7 +188,7 @@ owned_lines a b h k =
 owned_count : (t : List ℕ) → IsWhole t → length (lines_of (owned t)) ≡ feeds t
 owned_count t h = (owned_whole [] (lines_of t)).count ∙ owned_feeds [] (lines_of t) refl (lines_plain t) ∙ h.count
 
-between_apart : (a a' b b' : List ℕ) → IsWhole a → IsWhole a' → IsPart b → IsPart b' → feeds a ≡ feeds a' →
+pub between_apart : (a a' b b' : List ℕ) → IsWhole a → IsWhole a' → IsPart b → IsPart b' → feeds a ≡ feeds a' →
     between (a ++ b) (a' ++ b') ≡ between a a' ++ between b b'
 between_apart a a' b b' h h' k k' e =
     ap (λ xs. text_between xs (lines_of (owned (a' ++ b')))) (owned_lines a b h k)
@@ -196,10 +196,10 @@ between_apart a a' b b' h h' k k' e =
     ∙ changes.apart (lines_of (owned a)) (lines_of (owned a')) (lines_of (owned b)) (lines_of (owned b'))
     (owned_count a h ∙ e ∙ sym (owned_count a' h'))
 
-between_same : (a : List ℕ) → between a a ≡ []
+pub between_same : (a : List ℕ) → between a a ≡ []
 between_same a = changes.same (lines_of (owned a))
 
-between_came : (a b : List ℕ) → IsWhole a → IsPart b → between a (a ++ b) ≡ between [] b
+pub between_came : (a b : List ℕ) → IsWhole a → IsPart b → between a (a ++ b) ≡ between [] b
 between_came a b h k =
     ap (text_between (lines_of (owned a))) (owned_lines a b h k)
     ∙ changes.came (lines_of (owned a)) (lines_of (owned b))

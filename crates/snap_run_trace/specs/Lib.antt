@@ -4,3 +4,4 @@ pub mod Step
 pub mod Trace
 pub mod TraceLaws
 pub mod Traces
+pub mod Touched

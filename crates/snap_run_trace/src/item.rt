@@ -4,14 +4,14 @@ ghost use Rattle.std.specs.Prelude.{◌≡◌, [], ◌++◌, IfOk, OnOk};
 ghost use Rattle.snap_words.specs.Shape.{IsOneOf};
 ghost use Rattle.snap_semantics.specs.Run.{event_of};
 ghost use Rattle.snap_semantics.specs.Table.{done, who};
-ghost use Rattle.snap_run_trace.specs.Between.{owned, process_text};
 ghost use Rattle.snap_run_trace.specs.Step.{done_text, head_text, line_run, number_text, run_text};
+ghost use Rattle.snap_run_trace.specs.Touched.{of_process, touched_text};
 
 use snap_listing_printer::LineTexts;
-use snap_machine::Machine;
-use snap_report::{event_lines, outcome_text, process_lines, register_lines, values_line};
+use snap_machine::{Machine, WritePlace};
+use snap_report::{event_lines, head_line, outcome_text, written_local, written_shared};
 use snap_semantics::{Event, Happening, Item, Outcome, Status, who};
-use snap_text::{push_changes, push_number, push_owned_lines, push_text};
+use snap_text::{push_changes, push_number, push_text};
 use snap_words::Kind;
 use std::alloc::{AllocError, Global};
 
@@ -50,26 +50,43 @@ fn events_of(
     Ok(events)
 }
 
-/// The values, the registers, a process and events: each line says of whom it speaks.
+/// Adds the line of a local, with its process in place of its first space.
 #[tactic(auto, using(snap_text::proofs::Texts::joined))]
-fn process_text<K: Kind>(
-    alloc: Global,
+fn push_of_process(out: &mut Vec<u8>, i: u32, line: &[u8]) -> Result<(), AllocError>
+    ensures { OnOk result (out.new.items ≡ out.old.items ++ of_process i line.now) }
+{
+    match line {
+        [] => Ok(()),
+        [_, rest @ ..] => {
+            push_text(out, b"process ")?;
+            push_number(out, u64::from(i))?;
+            push_text(out, rest)
+        }
+    }
+}
+
+/// Makes the text of what an item that writes there can change in a report, and of events: each
+/// line says of whom it speaks. The line of a local is made in memory of its own.
+#[tactic(auto, using(snap_text::proofs::Texts::joined))]
+fn touched_text<K: Kind>(
+    text: &mut Vec<u8>,
+    local: &mut Vec<u8>,
     machine: &Machine<K>,
     i: u32,
+    place: WritePlace,
     events: &[Event],
-) -> Result<Vec<u8>, AllocError>
+) -> Result<(), AllocError>
     requires { IsOneOf machine.now.shape.n i }
-    ensures { IfOk result (λ text. text.items ≡ owned (process_text machine.now.source.kind i
-        machine.now.state events.now)) }
+    ensures { OnOk result (text.new.items ≡ touched_text machine.now.source.kind i place
+        machine.now.state events.now) }
 {
-    let mut lines = Vec::new(alloc);
-    values_line(&mut lines, machine)?;
-    register_lines(&mut lines, machine)?;
-    process_lines(&mut lines, machine, i)?;
-    event_lines(&mut lines, events)?;
-    let mut text = Vec::new(alloc);
-    push_owned_lines(&mut text, lines.as_slice())?;
-    Ok(text)
+    text.clear();
+    written_shared(text, machine, place)?;
+    head_line(text, machine, i)?;
+    local.clear();
+    written_local(local, machine, i, place)?;
+    push_of_process(text, i, local.as_slice())?;
+    event_lines(text, events)
 }
 
 /// Adds ` at ` and the text of the line that was run, where one was.
@@ -120,10 +137,46 @@ fn push_did(
     push_text(out, b"\n")
 }
 
+/// What is written, and texts that are made anew for each item, in the same memory.
+#[derive(Drop)]
+pub(crate) struct Sheet {
+    out: Vec<u8>,
+    before: Vec<u8>,
+    after: Vec<u8>,
+    local: Vec<u8>,
+}
+
+impl Sheet {
+    /// A sheet without text.
+    pub(crate) fn new(alloc: Global) -> Sheet
+        ensures { result.out.items ≡ [] }
+    {
+        Sheet {
+            out: Vec::new(alloc),
+            before: Vec::new(alloc),
+            after: Vec::new(alloc),
+            local: Vec::new(alloc),
+        }
+    }
+
+    /// What is written.
+    pub(crate) fn into_text(self) -> Vec<u8>
+        ensures { result.items ≡ self.out.items }
+    {
+        let Sheet {
+            out,
+            before: _,
+            after: _,
+            local: _,
+        } = self;
+        out
+    }
+}
+
 /// Does an item of this number, and adds what it did and what it changed.
 #[tactic(auto, using(snap_text::proofs::Texts::joined), unfolding(crate::specs::Step::done_text))]
 pub(crate) fn push_item<K: Kind>(
-    out: &mut Vec<u8>,
+    sheet: &mut Sheet,
     alloc: Global,
     texts: &LineTexts,
     machine: &mut Machine<K>,
@@ -131,7 +184,7 @@ pub(crate) fn push_item<K: Kind>(
     item: Item,
 ) -> Result<(), AllocError>
     requires { IsOneOf machine.old.shape.n (who item) }
-    ensures text { OnOk result (out.new.items ≡ out.old.items ++ done_text texts.now
+    ensures text { OnOk result (sheet.new.out.items ≡ sheet.old.out.items ++ done_text texts.now
         machine.old.source machine.old.shape machine.old.state number item) }
     ensures state { OnOk result (machine.new.state
         ≡ (done machine.old.source machine.old.shape machine.old.state item).0) }
@@ -140,10 +193,24 @@ pub(crate) fn push_item<K: Kind>(
 {
     let i = who(item);
     let run = line_run(item, machine.status(i));
-    let before = process_text(alloc, machine, i, &[])?;
+    // As many processes as the shape has, and rules that say that the names of locals are words.
+    let _shape = machine.shape();
+    let _lines = machine.program().listing().lines();
+    let place = machine.overwritten(item)?.write_place();
+    touched_text(&mut sheet.before, &mut sheet.local, machine, i, place, &[])?;
     let outcome = machine.apply(item)?;
-    push_did(out, texts, number, i, &outcome, run)?;
+    push_did(&mut sheet.out, texts, number, i, &outcome, run)?;
     let events = events_of(alloc, number, item, outcome)?;
-    let after = process_text(alloc, machine, i, events.as_slice())?;
-    push_changes(out, before.as_slice(), after.as_slice())
+    touched_text(
+        &mut sheet.after,
+        &mut sheet.local,
+        machine,
+        i,
+        place,
+        events.as_slice(),
+    )?;
+    let before = sheet.before.as_slice();
+    let after = sheet.after.as_slice();
+    push_changes(&mut sheet.out, before, after)?;
+    Ok(())
 }

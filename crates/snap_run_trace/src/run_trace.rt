@@ -3,7 +3,7 @@ ghost use Rattle.std.specs.Prelude.{◌≡◌, IfOk};
 ghost use Rattle.snap_runs.specs.Run.{run_over};
 ghost use Rattle.snap_run_trace.specs.Trace.{trace_text};
 
-use crate::item::push_item;
+use crate::item::{Sheet, push_item};
 use snap_asm_program::Program;
 use snap_listing_printer::LineTexts;
 use snap_machine::Machine;
@@ -23,12 +23,12 @@ pub fn trace<K: Kind>(
     let texts = LineTexts::of(alloc, program.listing())?;
     let shape = schedule.shape();
     let mut machine = Machine::<K>::new(alloc, program, shape)?;
-    let mut out = Vec::new(alloc);
+    let mut sheet = Sheet::new(alloc);
     let mut number: u64 = 0;
     let mut left = schedule.items().iter();
     while let Some(item) = left.next() {
         number += 1;
-        push_item(&mut out, alloc, &texts, &mut machine, number, item)?;
+        push_item(&mut sheet, alloc, &texts, &mut machine, number, item)?;
     }
-    Ok(out)
+    Ok(sheet.into_text())
 }

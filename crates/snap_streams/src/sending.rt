@@ -15,11 +15,11 @@ pub struct Unsent {
 
 /// Writes all of a text. After `Unsent` the sink has taken its first `count` bytes.
 pub fn write_all<W: ByteSink>(sink: &mut W, text: &[u8]) -> Result<(), Unsent>
-    requires { W.has_failed sink.old ≡ false }
-    ensures sends { Sends unsent result text.now (W.taken sink.old) (W.taken sink.new) (W.has_failed sink.new)
-        (W.is_stalled sink.new) }
-    ensures well { OnOk result (W.has_failed sink.new ≡ false) }
-    ensures goes_on { OnOk result (W.is_stalled sink.old ≡ false → W.is_stalled sink.new ≡ false) }
+    requires { (W.state sink.old).failed ≡ false }
+    ensures sends { Sends unsent result text.now (W.state sink.old) (W.state sink.new) }
+    ensures well { OnOk result ((W.state sink.new).failed ≡ false) }
+    ensures goes_on { OnOk result ((W.state sink.old).stalled ≡ false →
+        (W.state sink.new).stalled ≡ false) }
 {
     let mut sent = 0;
     while sent < text.len() {
@@ -34,9 +34,8 @@ pub fn write_all<W: ByteSink>(sink: &mut W, text: &[u8]) -> Result<(), Unsent>
 
 /// Says a text. Where the sink does not take it, nothing more is said.
 pub fn say<W: ByteSink>(text: &[u8], sink: &mut W)
-    requires { W.has_failed sink.old ≡ false }
-    ensures { Says text.now (W.taken sink.old) (W.taken sink.new) (W.has_failed sink.new)
-        (W.is_stalled sink.new) }
+    requires { (W.state sink.old).failed ≡ false }
+    ensures { Says text.now (W.state sink.old) (W.state sink.new) }
 {
     let _said = write_all(sink, text);
 }

@@ -2,3 +2,4 @@
 pub mod Undo
 pub mod Written
 pub mod Seen
+pub mod WritePlace

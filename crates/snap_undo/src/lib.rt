@@ -1,4 +1,4 @@
-//! Undoing items: what an item overwrites (`Undo`), and how that is put back.
+//! Undoing items: what an item overwrites (`Undo`), where that is (`WritePlace`), and how it is put back.
 #![tactic(auto)]
 
 mod before;
@@ -8,4 +8,4 @@ mod undo;
 
 pub use overwrites::overwritten;
 pub use reversal::revert;
-pub use undo::Undo;
+pub use undo::{Undo, WritePlace};

@@ -112,6 +112,7 @@ pub fn overwritten<K: Kind>(
     ensures back { let S = seen_state K.as_word program.now registers.now.memory processes.now in
         IfOk result (λ u. put program.now u (done program.now registers.now.shape S item).0 ≡ S) }
     ensures fits { IfOk result (λ u. CanPut program.now registers.now.shape u) }
+    ensures process { IfOk result (λ u. u.process ≡ who item) }
 {
     let i = who(item);
     let _shape = registers.shape();

@@ -2,3 +2,4 @@
 pub mod Chains
 pub mod Told
 pub mod Traces
+pub mod Places

@@ -2,3 +2,5 @@
 pub mod Answer
 pub mod Trap
 pub mod Why
+pub mod Troubles
+pub mod TroubleText

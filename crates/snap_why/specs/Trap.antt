@@ -14,10 +14,10 @@ use Rattle.snap_semantics.specs.declared.process.Outcome.TheVariants as outcome
 use Rattle.snap_semantics.specs.declared.process.Status.{Status}
 use Rattle.snap_semantics.specs.declared.process.Status.TheVariants.{Trapped}
 use Rattle.snap_listing_printer.specs.LineTexts.{NumberedText, text_with, written}
-use Rattle.snap_troubles.specs.Troubles.{line_trouble}
-use Rattle.snap_troubles.specs.TroubleText.{trouble_text}
-use Rattle.snap_troubles.specs.declared.taker.Taker.{Taker}
-use Rattle.snap_troubles.specs.declared.trouble.Trouble.{Trouble}
+use Rattle.snap_why.specs.Troubles.{line_trouble}
+use Rattle.snap_why.specs.TroubleText.{trouble_text}
+use Rattle.snap_why.specs.declared.taker.Taker.{Taker}
+use Rattle.snap_why.specs.declared.trouble.Trouble.{Trouble}
 use Rattle.snap_why.specs.Answer.{process_text}
 
 -- the text of a line, and its number where it is not there

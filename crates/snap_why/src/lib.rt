@@ -3,8 +3,19 @@
 #![tactic(auto)]
 
 mod answer;
+mod conditions;
+mod numbers;
+mod operands;
 mod point;
+mod puts;
+mod taker;
+mod text;
 mod trap;
+mod trouble;
 mod why;
 
+pub use operands::line_trouble;
+pub use taker::Taker;
+pub use text::push_trouble;
+pub use trouble::Trouble;
 pub use why::push_why;

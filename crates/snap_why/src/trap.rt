@@ -9,12 +9,12 @@ ghost use Rattle.snap_why.specs.Trap.{cause_line, end_line, nested_line, operand
 ghost use Rattle.snap_why.specs.Trap.{text_or_number, trap_line, trap_lines, trouble_of};
 
 use crate::answer::push_process;
+use crate::{Taker, Trouble, line_trouble, push_trouble};
 use snap_listing_printer::LineTexts;
 use snap_machine::Machine;
 use snap_report::outcome_text;
 use snap_semantics::{Activity, Cause, Op, Outcome, Status};
 use snap_text::{push_number, push_text};
-use snap_troubles::{Taker, Trouble, line_trouble, push_trouble};
 use snap_words::Kind;
 use std::alloc::AllocError;
 

@@ -2,6 +2,9 @@
 use Rattle.std.proofs.Common.{◌≡◌, inl, inr, ℕ, Bool, List, Option, None, Result, Ok, Err, refl}
 use Rattle.std.specs.Prelude.{IfErr, OnErr, OnOk}
 use Rattle.snap_dialog.specs.declared.fault.DialogFault.{DialogFault}
+use Rattle.snap_faults.specs.Faults.{of_input_fault}
+use Rattle.snap_faults.specs.declared.fault.ProgramFault.{ProgramFault}
+use Rattle.snap_faults.specs.declared.fault.ProgramFault.TheVariants as fault
 use Rattle.snap_input.specs.Schedules.{schedule_for}
 use Rattle.snap_semantics.specs.Answers.{IsRefusal}
 use Rattle.snap_semantics.specs.Schedule.{Schedule}
@@ -9,30 +12,24 @@ use Rattle.snap_semantics.specs.Source.{Source}
 use Rattle.snap_semantics.specs.declared.fault.Fault.{Fault}
 use Rattle.snap_semantics.specs.declared.fault.Fault.TheVariants as given
 use Rattle.snap_semantics.specs.declared.refusal.Refusal.{Refusal}
-use Rattle.snapdb.specs.Start.{EndsFor, of_fault}
+use Rattle.snapdb.specs.Start.{EndsFor}
 use Rattle.snapdb.specs.Talk.{IsUnlisted, ShowsAll, ShowsSome, Talks}
-use Rattle.snapdb.specs.declared.fault.StartFault.{StartFault}
-use Rattle.snapdb.specs.declared.fault.StartFault.TheVariants as start
 
 -- there is no listing to talk about
 pub unlisted : (f : Fault Refusal) (listing : Result Source Refusal) (shown : Option (List ℕ)) → IsRefusal f listing →
-    IsUnlisted listing (Err (of_fault f)) shown shown
+    IsUnlisted listing (Err (of_input_fault f)) shown shown
 unlisted given.Memory listing shown h = inr (refl, refl)
 unlisted (given.Refused r) listing shown h = inl (r, h, refl, refl)
 
 -- the clauses of a dialog about a listing, as one
-pub talked : (l : Source) (schedule : List ℕ) (shows : Bool) (done : Result (Unit {0}) StartFault)
+pub talked : (l : Source) (schedule : List ℕ) (shows : Bool) (done : Result (Unit {0}) ProgramFault)
     (left shown after : Option (List ℕ)) (failed : Option DialogFault) →
     OnOk done ((s : Schedule) × (schedule_for l schedule ≡ Ok s) × ShowsAll l s shows left shown after) →
-    ((r : Refusal) → done ≡ Err (start.Refused r) →
+    ((r : Refusal) → done ≡ Err (fault.Refused r) →
     (schedule_for l schedule ≡ Err r) × (shown ≡ after) × (failed ≡ None)) →
     OnOk done (failed ≡ None) → IfErr done (λ f. EndsFor f failed left) →
     OnErr done ((s : Schedule) → schedule_for l schedule ≡ Ok s → ShowsSome l s shows left shown after) →
     Talks l schedule shows done left shown after failed
 talked l schedule shows (Ok done) left shown after failed all refused well fails some = (all.0, all.1, all.2, well)
-talked l schedule shows (Err (start.Refused r)) left shown after failed all refused well fails some = refused r refl
-talked l schedule shows (Err start.Memory) left shown after failed all refused well fails some = (fails, some)
-talked l schedule shows (Err (start.TooLong w)) left shown after failed all refused well fails some = (fails, some)
-talked l schedule shows (Err (start.Unread w k)) left shown after failed all refused well fails some = (fails, some)
-talked l schedule shows (Err start.Read) left shown after failed all refused well fails some = (fails, some)
-talked l schedule shows (Err start.Write) left shown after failed all refused well fails some = (fails, some)
+talked l schedule shows (Err (fault.Refused r)) left shown after failed all refused well fails some = refused r refl
+talked l schedule shows (Err f) left shown after failed all refused well fails some = (fails, some)

@@ -4,9 +4,10 @@ use Rattle.std.specs.Prelude.{◌≡◌, ◌⊎◌, ℕ, Bool, List, Option, Som
 use Rattle.snap_dialog.specs.Dialog.{ShowsTranscript, ShowsTranscriptPart}
 use Rattle.snap_dialog.specs.TypedLines.{typed_lines}
 use Rattle.snap_dialog.specs.declared.fault.DialogFault.{DialogFault}
+use Rattle.snap_faults.specs.declared.fault.ProgramFault.{ProgramFault}
+use Rattle.snap_faults.specs.declared.fault.ProgramFault.TheVariants as fault
 use Rattle.snap_input.specs.Schedules.{schedule_for}
 use Rattle.snap_named_files.specs.Texts.{Read, OfFiles, OfShipped, view_texts}
-use Rattle.snap_named_files.specs.declared.texts.TextFault.{TextFault}
 use Rattle.snap_named_files.specs.declared.texts.Texts.{Texts}
 use Rattle.snap_prompt.specs.Prompt.{Says, next_line, opened_prompt, prompt_text}
 use Rattle.snap_runs.specs.Run.{run_over}
@@ -17,9 +18,7 @@ use Rattle.snap_semantics.specs.Source.{Source}
 use Rattle.snap_semantics.specs.declared.refusal.Refusal.{Refusal}
 use Rattle.snap_semantics.specs.declared.refusal.Refusal.TheVariants as refusal
 use Rattle.snap_shipped.specs.Shipped.{shipped}
-use Rattle.snapdb.specs.Start.{EndsFor, of_text}
-use Rattle.snapdb.specs.declared.fault.StartFault.{StartFault}
-use Rattle.snapdb.specs.declared.fault.StartFault.TheVariants as start
+use Rattle.snapdb.specs.Start.{EndsFor}
 
 -- A transcript of what is left to be typed was shown, of a dialog about this listing under this schedule.
 abbrev pub ShowsAll : Source → Schedule → (shows : Bool) → (left shown shown_after : Option (List ℕ)) → Type 0
@@ -35,11 +34,11 @@ ShowsSome l s shows left shown shown_after =
 
 -- What comes of a dialog about this listing under the schedule that a text is: all of it is shown; or the schedule is
 -- refused, and nothing is; or it is broken off, after a beginning of it. This has failed of the console then.
-abbrev pub Talks : Source → (schedule : List ℕ) → (shows : Bool) → Result (Unit {0}) StartFault →
+abbrev pub Talks : Source → (schedule : List ℕ) → (shows : Bool) → Result (Unit {0}) ProgramFault →
     (left shown shown_after : Option (List ℕ)) → (failed : Option DialogFault) → Type 0
 Talks l schedule shows (Ok done) left shown shown_after failed =
     (s : Schedule) × (schedule_for l schedule ≡ Ok s) × ShowsAll l s shows left shown shown_after × (failed ≡ None)
-Talks l schedule shows (Err (start.Refused r)) left shown shown_after failed =
+Talks l schedule shows (Err (fault.Refused r)) left shown shown_after failed =
     (schedule_for l schedule ≡ Err r) × (shown ≡ shown_after) × (failed ≡ None)
 Talks l schedule shows (Err f) left shown shown_after failed =
     EndsFor f failed left
@@ -50,14 +49,14 @@ abbrev pub listing_in : List ℕ → Result Source Refusal
 listing_in text = refused_as refusal.Listing (listing_of text)
 
 -- There is no listing to talk about, since it is refused, or for want of memory; and nothing is shown.
-abbrev pub IsUnlisted : Result Source Refusal → Result (Unit {0}) StartFault → (shown shown_after : Option (List ℕ)) →
+abbrev pub IsUnlisted : Result Source Refusal → Result (Unit {0}) ProgramFault → (shown shown_after : Option (List ℕ)) →
     Type 0
 IsUnlisted listing done shown shown_after =
-    ((r : Refusal) × (listing ≡ Err r) × (done ≡ Err (start.Refused r)) × (shown ≡ shown_after))
-    ⊎ ((done ≡ Err start.Memory) × (shown ≡ shown_after))
+    ((r : Refusal) × (listing ≡ Err r) × (done ≡ Err (fault.Refused r)) × (shown ≡ shown_after))
+    ⊎ ((done ≡ Err fault.Memory) × (shown ≡ shown_after))
 
 -- What comes of a dialog about the texts of files.
-abbrev pub TalksIn : Read → (shows : Bool) → Result (Unit {0}) StartFault →
+abbrev pub TalksIn : Read → (shows : Bool) → Result (Unit {0}) ProgramFault →
     (left shown shown_after : Option (List ℕ)) → (failed : Option DialogFault) → Type 0
 TalksIn (OfFiles listing schedule) shows done left shown shown_after failed =
     IsUnlisted (listing_in listing) done shown shown_after
@@ -67,9 +66,9 @@ TalksIn (OfShipped kind schedule) shows done left shown shown_after failed =
     ⊎ Talks (shipped kind) schedule shows done left shown shown_after failed
 
 -- What comes of a dialog about what was read; where nothing was, nothing is shown.
-abbrev pub TalksRead : Result Texts TextFault → Option Read → (shows : Bool) → Result (Unit {0}) StartFault →
+abbrev pub TalksRead : Result Texts ProgramFault → Option Read → (shows : Bool) → Result (Unit {0}) ProgramFault →
     (left shown shown_after : Option (List ℕ)) → (failed : Option DialogFault) → Type 0
 TalksRead (Ok read) texts shows done left shown shown_after failed =
     (texts ≡ Some (view_texts read)) × TalksIn (view_texts read) shows done left shown shown_after failed
 TalksRead (Err f) texts shows done left shown shown_after failed =
-    (texts ≡ None) × (done ≡ Err (of_text f)) × (shown ≡ shown_after)
+    (texts ≡ None) × (done ≡ Err f) × (shown ≡ shown_after)

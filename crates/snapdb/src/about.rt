@@ -5,31 +5,17 @@ ghost use Rattle.snap_dialog.specs.TypedLines.{typed_lines};
 ghost use Rattle.snap_input.specs.Schedules.{schedule_for};
 ghost use Rattle.snap_prompt.specs.Prompt.{Says, next_line, opened_prompt, prompt_text};
 ghost use Rattle.snap_runs.specs.Run.{run_over};
-ghost use Rattle.snap_semantics.specs.Answers.{Answers};
 ghost use Rattle.snap_semantics.specs.Schedule.{Schedule};
 ghost use Rattle.snap_semantics.specs.declared.refusal.Refusal.{Refusal};
 ghost use Rattle.snapdb.specs.Start.{EndsFor};
-ghost use Rattle.snapdb.specs.declared.fault.StartFault.TheVariants.{Refused};
+ghost use Rattle.snap_faults.specs.declared.fault.ProgramFault.TheVariants.{Refused};
 
-use crate::fault::StartFault;
 use snap_asm_program::Program;
 use snap_dialog::Console;
+use snap_faults::ProgramFault;
+use snap_input::read_schedule;
 use snap_prompt::converse;
-use snap_sched::Schedule;
-use snap_semantics::{Fault, Refusal};
-use snap_words::{Bits, KindTag, Multi, Seq};
 use std::alloc::Global;
-
-/// Reads a schedule whose shape fits a program.
-fn schedule_for(alloc: Global, program: &Program, text: &[u8]) -> Result<Schedule, Fault<Refusal>>
-    ensures { Answers (λ s. s) result (schedule_for program.now text.now) }
-{
-    match program.kind() {
-        KindTag::Seq => snap_input::schedule_for::<Seq>(alloc, program, text),
-        KindTag::Bits => snap_input::schedule_for::<Bits>(alloc, program, text),
-        KindTag::Multi => snap_input::schedule_for::<Multi>(alloc, program, text),
-    }
-}
 
 /// Talks at a console about a program under a schedule. What is shown is a transcript of what is
 /// typed; where the schedule is refused, nothing is; and where the dialog is broken off, which only
@@ -40,7 +26,7 @@ pub fn talk_about<C: Console>(
     schedule: &[u8],
     shows: bool,
     console: &mut C,
-) -> Result<(), StartFault>
+) -> Result<(), ProgramFault>
     requires { C.failure console.old ≡ None }
     ensures shown { OnOk result ((s : Schedule) × (schedule_for program.now schedule.now ≡ Ok s)
         × IfSome (C.left console.old) (λ input.
@@ -58,7 +44,7 @@ pub fn talk_about<C: Console>(
         (opened_prompt (run_over program.now s) shows) (typed_lines input)
         (C.shown console.old) (C.shown console.new))) }
 {
-    let schedule = schedule_for(alloc, program, schedule)?;
+    let schedule = read_schedule(alloc, program, schedule)?;
     converse(alloc, program, schedule, shows, console)?;
     Ok(())
 }

@@ -1,33 +1,27 @@
 //! `answer`: what snapdb does about its command line, over any files, console and device for
 //! messages, and the status of it.
-ghost use Rattle.std.specs.Prelude.{◌≡◌, ◌++◌, Err, None, OnErr, OnOk, false, option_map};
-ghost use Rattle.snap_named_files.specs.Named.{view_named};
+ghost use Rattle.std.specs.Prelude.{◌≡◌, IfOk, None, false, option_map};
+ghost use Rattle.snap_faults.specs.Faults.{fault_status};
+ghost use Rattle.snap_faults.specs.Told.{SaysWhy, TellsMore, exit_status, success};
+ghost use Rattle.snap_named_files.specs.Named.{names_of, view_named};
 ghost use Rattle.snap_named_files.specs.Texts.{OfFiles, OfShipped, view_texts};
-ghost use Rattle.snapdb.specs.Answer.{AnswersLine, AnswersSession, Helps, SaysWhy, Tells};
-ghost use Rattle.snapdb.specs.Answer.{exit_status, explained};
+ghost use Rattle.snapdb.specs.Answer.{AnswersLine, AnswersSession, Shown, called, explained};
 ghost use Rattle.snapdb.specs.Talk.{TalksIn};
 
 use crate::about::talk_about;
-use crate::fault::{StartFault, of_text, status_of};
-use crate::fault_line::fault_line;
 use snap_dialog::Console;
+use snap_faults::{Names, ProgramFault, complain, fault_status, say_no_memory, say_no_text, tell};
 use snap_files::FileSource;
 use snap_input::{program_of, shipped};
-use snap_named_files::{Named, Texts, explanation_in, read_texts};
+use snap_named_files::{Texts, explanation_in, names_of, read_texts};
 use snap_semantics::Refusal;
 use snap_streams::{ByteSink, say};
 use snap_words::KindTag;
 use snapdb_command_line::{CommandLine, Session};
 use std::alloc::{AllocError, Global};
 
-/// What is said where there is no memory for the line of a fault.
-const NO_MEMORY: &[u8] = b"refused: Memory\n";
-
-/// What is said of arguments that are no text.
-const NO_TEXT: &[u8] = b"error: the words of the command line are no text\n";
-
-/// What is said where help could not be shown.
-const UNWRITTEN: &[u8] = b"snapdb: the output could not be written\n";
+/// What the program is called.
+const PROGRAM: &str = "snapdb";
 
 /// Talks about the listing that a text is, under the schedule that another is.
 fn talk_over<C: Console>(
@@ -36,14 +30,14 @@ fn talk_over<C: Console>(
     schedule: &[u8],
     shows: bool,
     console: &mut C,
-) -> Result<(), StartFault>
+) -> Result<(), ProgramFault>
     requires { C.failure console.old ≡ None }
     ensures { TalksIn (OfFiles listing.now schedule.now) shows result (C.left console.old)
         (C.shown console.old) (C.shown console.new) (C.failure console.new) }
 {
     match program_of(alloc, listing) {
         Ok(program) => talk_about(alloc, &program, schedule, shows, console),
-        Err(fault) => Err(StartFault::from(fault)),
+        Err(fault) => Err(ProgramFault::from(fault)),
     }
 }
 
@@ -54,14 +48,14 @@ fn talk_over_shipped<C: Console>(
     schedule: &[u8],
     shows: bool,
     console: &mut C,
-) -> Result<(), StartFault>
+) -> Result<(), ProgramFault>
     requires { C.failure console.old ≡ None }
     ensures { TalksIn (OfShipped kind schedule.now) shows result (C.left console.old)
         (C.shown console.old) (C.shown console.new) (C.failure console.new) }
 {
     match shipped(alloc, kind) {
         Ok(program) => talk_about(alloc, &program, schedule, shows, console),
-        Err(_) => Err(StartFault::Memory),
+        Err(_) => Err(ProgramFault::Memory),
     }
 }
 
@@ -71,7 +65,7 @@ fn talk<C: Console>(
     texts: &Texts,
     shows: bool,
     console: &mut C,
-) -> Result<(), StartFault>
+) -> Result<(), ProgramFault>
     requires { C.failure console.old ≡ None }
     ensures { TalksIn (view_texts texts.now) shows result (C.left console.old)
         (C.shown console.old) (C.shown console.new) (C.failure console.new) }
@@ -90,65 +84,47 @@ fn talk<C: Console>(
     }
 }
 
-/// Says why there was no dialog, or no whole one, or that there is no memory for that line.
-fn complain<E: ByteSink>(alloc: Global, named: &Named<'_>, fault: &StartFault, errors: &mut E)
-    requires { E.has_failed errors.old ≡ false }
-    ensures { Tells (view_named named.now) fault.now (E.taken errors.old) (E.taken errors.new)
-        (E.has_failed errors.new) (E.is_stalled errors.new) }
-{
-    match fault_line(alloc, named, fault) {
-        Ok(line) => say(line.as_slice(), errors),
-        Err(_) => say(NO_MEMORY, errors),
-    }
-}
-
-/// Adds what is said behind the line of a fault, where refusals are explained.
-fn push_explained(
+/// What is said behind the line of a fault, where refusals are explained.
+fn explained(
     alloc: Global,
     explains: bool,
     texts: Option<&Texts>,
-    fault: &StartFault,
-    line: &mut Vec<u8>,
-) -> Result<(), AllocError>
-    ensures ok { OnOk result (line.new.items ≡ line.old.items
-        ++ explained explains (option_map (λ t. view_texts t.now) texts.entry) fault.now) }
-    ensures unchanged { OnErr result (line.new.items ≡ line.old.items) }
+    fault: &ProgramFault,
+) -> Result<Vec<u8>, AllocError>
+    ensures { IfOk result (λ more. more.items
+        ≡ explained explains (option_map (λ t. view_texts t.now) texts.entry) fault.now) }
 {
     match fault {
-        StartFault::Refused(refusal) if explains => {
-            let text = explanation_in(alloc, texts, refusal)?;
-            line.extend_from_slice(text.as_slice())
+        ProgramFault::Refused(refusal) if explains => explanation_in(alloc, texts, refusal),
+        ProgramFault::TooLong(_) if explains => {
+            explanation_in(alloc, texts, &Refusal::InputTooLong)
         }
-        StartFault::TooLong(_) if explains => {
-            let text = explanation_in(alloc, texts, &Refusal::InputTooLong)?;
-            line.extend_from_slice(text.as_slice())
-        }
-        _ => Ok(()),
+        _ => Ok(Vec::new(alloc)),
     }
 }
 
 /// Says why there was no dialog, or no whole one, and explains it where that is asked for and there
-/// is memory for it.
-#[tactic(auto, using(crate::proofs::Said::explained_said))]
+/// is memory for it. Returns the status for it.
 fn explain<E: ByteSink>(
     alloc: Global,
     session: &Session<'_>,
     texts: Option<&Texts>,
-    fault: &StartFault,
+    fault: &ProgramFault,
     errors: &mut E,
-)
-    requires { E.has_failed errors.old ≡ false }
-    ensures { SaysWhy session.now.explains (view_named session.now.named)
-        (option_map (λ t. view_texts t.now) texts.entry) (Err fault.now)
-        (E.taken errors.old) (E.taken errors.new) (E.has_failed errors.new)
-        (E.is_stalled errors.new) }
+) -> u8
+    requires { (E.state errors.old).failed ≡ false }
+    ensures status { result ≡ fault_status fault.now }
+    ensures says { TellsMore (names_of called (view_named session.now.named)) fault.now
+        (explained session.now.explains (option_map (λ t. view_texts t.now) texts.entry) fault.now)
+        (E.state errors.old) (E.state errors.new) }
 {
-    match fault_line(alloc, &session.named, fault) {
-        Ok(mut line) => {
-            let _explained = push_explained(alloc, session.explains, texts, fault, &mut line);
-            say(line.as_slice(), errors);
+    let names = names_of(PROGRAM, &session.named);
+    match explained(alloc, session.explains, texts, fault) {
+        Ok(more) => tell(alloc, &names, fault, more.as_slice(), errors),
+        Err(_) => {
+            complain(alloc, &names, fault, errors);
+            fault_status(fault)
         }
-        Err(_) => complain(alloc, &session.named, fault, errors),
     }
 }
 
@@ -157,22 +133,18 @@ fn finish<E: ByteSink>(
     alloc: Global,
     session: &Session<'_>,
     texts: Option<&Texts>,
-    done: &Result<(), StartFault>,
+    done: &Result<(), ProgramFault>,
     errors: &mut E,
 ) -> u8
-    requires { E.has_failed errors.old ≡ false }
-    ensures status { result ≡ exit_status done.now }
-    ensures says { SaysWhy session.now.explains (view_named session.now.named)
-        (option_map (λ t. view_texts t.now) texts.entry) done.now
-        (E.taken errors.old) (E.taken errors.new) (E.has_failed errors.new)
-        (E.is_stalled errors.new) }
+    requires { (E.state errors.old).failed ≡ false }
+    ensures status { result ≡ exit_status success done.now }
+    ensures says { SaysWhy (names_of called (view_named session.now.named))
+        (explained session.now.explains (option_map (λ t. view_texts t.now) texts.entry)) done.now
+        (E.state errors.old) (E.state errors.new) }
 {
     match done {
         Ok(()) => 0,
-        Err(fault) => {
-            explain(alloc, session, texts, fault, errors);
-            status_of(fault)
-        }
+        Err(fault) => explain(alloc, session, texts, fault, errors),
     }
 }
 
@@ -187,33 +159,36 @@ fn open<F: FileSource, C: Console, E: ByteSink>(
     errors: &mut E,
 ) -> u8
     requires console { C.failure console.old ≡ None }
-    requires errors { E.has_failed errors.old ≡ false }
+    requires errors { (E.state errors.old).failed ≡ false }
     ensures { AnswersSession (F.found files.now) session.now shows result (C.left console.old)
         (C.shown console.old) (C.shown console.new) (C.failure console.new)
-        (E.taken errors.old) (E.taken errors.new) (E.has_failed errors.new)
-        (E.is_stalled errors.new) }
+        (E.state errors.old) (E.state errors.new) }
 {
     match read_texts(alloc, files, &session.named) {
         Ok(texts) => {
             let done = talk(alloc, &texts, shows, console);
             finish(alloc, session, Some(&texts), &done, errors)
         }
-        Err(fault) => finish(alloc, session, None, &Err(of_text(fault)), errors),
+        Err(fault) => finish(alloc, session, None, &Err(fault), errors),
     }
 }
 
 /// Shows help, or the version, says where that cannot be done, and answers the status of it.
-fn help<C: Console, E: ByteSink>(text: &[u8], console: &mut C, errors: &mut E) -> u8
+fn help<C: Console, E: ByteSink>(alloc: Global, text: &[u8], console: &mut C, errors: &mut E) -> u8
     requires console { C.failure console.old ≡ None }
-    requires errors { E.has_failed errors.old ≡ false }
-    ensures { Helps text.now result (C.shown console.old) (C.shown console.new)
-        (E.taken errors.old) (E.taken errors.new) (E.has_failed errors.new)
-        (E.is_stalled errors.new) }
+    requires errors { (E.state errors.old).failed ≡ false }
+    ensures { Shown text.now result (C.shown console.old) (C.shown console.new)
+        (E.state errors.old) (E.state errors.new) }
 {
     match console.say(text) {
         Ok(()) => 0,
         Err(_) => {
-            say(UNWRITTEN, errors);
+            complain(
+                alloc,
+                &Names::of_program(PROGRAM),
+                &ProgramFault::Show,
+                errors,
+            );
             3
         }
     }
@@ -230,25 +205,24 @@ pub(crate) fn answer<F: FileSource, C: Console, E: ByteSink>(
     errors: &mut E,
 ) -> u8
     requires console { C.failure console.old ≡ None }
-    requires errors { E.has_failed errors.old ≡ false }
+    requires errors { (E.state errors.old).failed ≡ false }
     ensures { AnswersLine (F.found files.now) line.now shows result (C.left console.old)
         (C.shown console.old) (C.shown console.new) (C.failure console.new)
-        (E.taken errors.old) (E.taken errors.new) (E.has_failed errors.new)
-        (E.is_stalled errors.new) }
+        (E.state errors.old) (E.state errors.new) }
 {
     match line {
         Ok(CommandLine::Asks(session)) => open(alloc, session, shows, files, console, errors),
-        Ok(CommandLine::Help(text)) => help(text.as_bytes(), console, errors),
+        Ok(CommandLine::Help(text)) => help(alloc, text.as_bytes(), console, errors),
         Ok(CommandLine::Wrong(text)) => {
             say(text.as_bytes(), errors);
             2
         }
         Ok(CommandLine::NoText) => {
-            say(NO_TEXT, errors);
+            say_no_text(errors);
             2
         }
         Err(_) => {
-            say(NO_MEMORY, errors);
+            say_no_memory(errors);
             1
         }
     }

@@ -3,8 +3,6 @@
 
 mod about;
 mod answers;
-mod fault;
-mod fault_line;
 
 use answers::answer;
 use snap_dialog::Terminal;

@@ -1,3 +1,2 @@
 -- The proofs of snapdraw, by their modules.
 pub mod Drawn
-pub mod Said

@@ -1,40 +1,37 @@
 //! `answer`: what snapdraw does about its command line, over any files, sink and device for
 //! messages, and the status of it.
-ghost use Rattle.std.specs.Prelude.{◌≡◌, ◌++◌, Ok, Err, OnErr, OnOk, false, option_map};
-ghost use Rattle.snapdraw.specs.Answer.{AnswersDrawing, AnswersLine, Draws, Helps, SaysWhy, Tells};
-ghost use Rattle.snapdraw.specs.Answer.{Writes, exit_status, explained};
+ghost use Rattle.std.specs.Prelude.{◌≡◌, Ok, IfOk, false, option_map};
+ghost use Rattle.snap_faults.specs.Faults.{fault_status};
+ghost use Rattle.snap_faults.specs.Told.{SaysWhy, TellsMore, exit_status, success};
+ghost use Rattle.snapdraw.specs.Answer.{AnswersDrawing, AnswersLine, Draws, Writes, explained};
+ghost use Rattle.snapdraw.specs.Answer.{called};
 ghost use Rattle.snapdraw.specs.Drawing.{options_of};
-ghost use Rattle.snap_named_files.specs.Named.{view_named};
+ghost use Rattle.snap_named_files.specs.Named.{names_of, view_named};
 ghost use Rattle.snap_named_files.specs.Texts.{view_texts};
 
 use crate::drawing::draw;
-use crate::fault::{DrawFault, of_text, status_of};
-use crate::fault_line::fault_line;
+use snap_faults::{
+    Names, ProgramFault, complain, fault_status, help, say_no_memory, say_no_text, tell,
+};
 use snap_files::FileSource;
-use snap_named_files::{Named, Texts, explanation_in, read_texts};
-use snap_picture::{Look, PictureRefusal};
+use snap_named_files::{Texts, explanation_in, names_of, read_texts};
+use snap_picture::Look;
+use snap_semantics::Refusal;
 use snap_streams::{ByteSink, say, write_all};
 use snapdraw_command_line::{CommandLine, Drawing};
 use std::alloc::{AllocError, Global};
 
-/// What is said where there is no memory for the line of a fault.
-const NO_MEMORY: &[u8] = b"refused: Memory\n";
-
-/// What is said of arguments that are no text.
-const NO_TEXT: &[u8] = b"error: the words of the command line are no text\n";
-
-/// What is said where help could not be written.
-const UNWRITTEN: &[u8] = b"snapdraw: the output could not be written\n";
+/// What the program is called.
+const PROGRAM: &str = "snapdraw";
 
 /// Writes a text.
-fn write_text<W: ByteSink>(text: &[u8], sink: &mut W) -> Result<(), DrawFault>
-    requires { W.has_failed sink.old ≡ false }
-    ensures { Writes result (Ok text.now) (W.taken sink.old) (W.taken sink.new)
-        (W.has_failed sink.new) (W.is_stalled sink.new) }
+fn write_text<W: ByteSink>(text: &[u8], sink: &mut W) -> Result<(), ProgramFault>
+    requires { (W.state sink.old).failed ≡ false }
+    ensures { Writes result (Ok text.now) (W.state sink.old) (W.state sink.new) }
 {
     match write_all(sink, text) {
         Ok(()) => Ok(()),
-        Err(_) => Err(DrawFault::Write),
+        Err(unsent) => Err(ProgramFault::Write(unsent.count)),
     }
 }
 
@@ -45,71 +42,56 @@ fn draw_and_write<W: ByteSink>(
     drawing: &Drawing<'_>,
     look: &Look<'_>,
     sink: &mut W,
-) -> Result<(), DrawFault>
-    requires { W.has_failed sink.old ≡ false }
+) -> Result<(), ProgramFault>
+    requires { (W.state sink.old).failed ≡ false }
     ensures { Draws (view_texts texts.now) (options_of drawing.now) look.now.style.now
-        look.now.legend.now result (W.taken sink.old) (W.taken sink.new)
-        (W.has_failed sink.new) (W.is_stalled sink.new) }
+        look.now.legend.now result (W.state sink.old) (W.state sink.new) }
 {
     let text = draw(alloc, texts, drawing, look)?;
     write_text(text.as_slice(), sink)
 }
 
-/// Says why nothing, or not all, was drawn, or that there is no memory for that line.
-fn complain<E: ByteSink>(alloc: Global, named: &Named<'_>, fault: &DrawFault, errors: &mut E)
-    requires { E.has_failed errors.old ≡ false }
-    ensures { Tells (view_named named.now) fault.now (E.taken errors.old) (E.taken errors.new)
-        (E.has_failed errors.new) (E.is_stalled errors.new) }
-{
-    match fault_line(alloc, named, fault) {
-        Ok(line) => say(line.as_slice(), errors),
-        Err(_) => say(NO_MEMORY, errors),
-    }
-}
-
-/// Adds what is said behind the line of a fault, where refusals are explained.
-fn push_explained(
+/// What is said behind the line of a fault, where refusals are explained.
+fn explained(
     alloc: Global,
     explains: bool,
     texts: Option<&Texts>,
-    fault: &DrawFault,
-    line: &mut Vec<u8>,
-) -> Result<(), AllocError>
-    ensures ok { OnOk result (line.new.items ≡ line.old.items
-        ++ explained explains (option_map (λ t. view_texts t.now) texts.entry) fault.now) }
-    ensures unchanged { OnErr result (line.new.items ≡ line.old.items) }
+    fault: &ProgramFault,
+) -> Result<Vec<u8>, AllocError>
+    ensures { IfOk result (λ more. more.items
+        ≡ explained explains (option_map (λ t. view_texts t.now) texts.entry) fault.now) }
 {
     match fault {
-        DrawFault::Refused(PictureRefusal::Input(refusal)) if explains => {
-            let text = explanation_in(alloc, texts, refusal)?;
-            line.extend_from_slice(text.as_slice())
+        ProgramFault::Refused(refusal) if explains => explanation_in(alloc, texts, refusal),
+        ProgramFault::TooLong(_) if explains => {
+            explanation_in(alloc, texts, &Refusal::InputTooLong)
         }
-        _ => Ok(()),
+        _ => Ok(Vec::new(alloc)),
     }
 }
 
 /// Says why nothing, or not all, was drawn, and explains it where that is asked for and there is
-/// memory for it.
-#[tactic(auto, using(crate::proofs::Said::explained_said))]
+/// memory for it. Returns the status for it.
 fn explain<E: ByteSink>(
     alloc: Global,
     drawing: &Drawing<'_>,
     texts: Option<&Texts>,
-    fault: &DrawFault,
+    fault: &ProgramFault,
     errors: &mut E,
-)
-    requires { E.has_failed errors.old ≡ false }
-    ensures { SaysWhy drawing.now.explains (view_named drawing.now.named)
-        (option_map (λ t. view_texts t.now) texts.entry) (Err fault.now)
-        (E.taken errors.old) (E.taken errors.new) (E.has_failed errors.new)
-        (E.is_stalled errors.new) }
+) -> u8
+    requires { (E.state errors.old).failed ≡ false }
+    ensures status { result ≡ fault_status fault.now }
+    ensures says { TellsMore (names_of called (view_named drawing.now.named)) fault.now
+        (explained drawing.now.explains (option_map (λ t. view_texts t.now) texts.entry) fault.now)
+        (E.state errors.old) (E.state errors.new) }
 {
-    match fault_line(alloc, &drawing.named, fault) {
-        Ok(mut line) => {
-            let _explained = push_explained(alloc, drawing.explains, texts, fault, &mut line);
-            say(line.as_slice(), errors);
+    let names = names_of(PROGRAM, &drawing.named);
+    match explained(alloc, drawing.explains, texts, fault) {
+        Ok(more) => tell(alloc, &names, fault, more.as_slice(), errors),
+        Err(_) => {
+            complain(alloc, &names, fault, errors);
+            fault_status(fault)
         }
-        Err(_) => complain(alloc, &drawing.named, fault, errors),
     }
 }
 
@@ -118,22 +100,18 @@ fn finish<E: ByteSink>(
     alloc: Global,
     drawing: &Drawing<'_>,
     texts: Option<&Texts>,
-    done: &Result<(), DrawFault>,
+    done: &Result<(), ProgramFault>,
     errors: &mut E,
 ) -> u8
-    requires { E.has_failed errors.old ≡ false }
-    ensures status { result ≡ exit_status done.now }
-    ensures says { SaysWhy drawing.now.explains (view_named drawing.now.named)
-        (option_map (λ t. view_texts t.now) texts.entry) done.now
-        (E.taken errors.old) (E.taken errors.new) (E.has_failed errors.new)
-        (E.is_stalled errors.new) }
+    requires { (E.state errors.old).failed ≡ false }
+    ensures status { result ≡ exit_status success done.now }
+    ensures says { SaysWhy (names_of called (view_named drawing.now.named))
+        (explained drawing.now.explains (option_map (λ t. view_texts t.now) texts.entry)) done.now
+        (E.state errors.old) (E.state errors.new) }
 {
     match done {
         Ok(()) => 0,
-        Err(fault) => {
-            explain(alloc, drawing, texts, fault, errors);
-            status_of(fault)
-        }
+        Err(fault) => explain(alloc, drawing, texts, fault, errors),
     }
 }
 
@@ -147,36 +125,17 @@ fn draw_asked<F: FileSource, W: ByteSink, E: ByteSink>(
     sink: &mut W,
     errors: &mut E,
 ) -> u8
-    requires sink { W.has_failed sink.old ≡ false }
-    requires errors { E.has_failed errors.old ≡ false }
+    requires sink { (W.state sink.old).failed ≡ false }
+    requires errors { (E.state errors.old).failed ≡ false }
     ensures { AnswersDrawing (F.found files.now) look.now.style.now look.now.legend.now drawing.now
-        result (W.taken sink.old) (W.taken sink.new) (E.taken errors.old) (E.taken errors.new)
-        (W.has_failed sink.new) (W.is_stalled sink.new) (E.has_failed errors.new)
-        (E.is_stalled errors.new) }
+        result (W.state sink.old) (W.state sink.new) (E.state errors.old) (E.state errors.new) }
 {
     match read_texts(alloc, files, &drawing.named) {
         Ok(texts) => {
             let done = draw_and_write(alloc, &texts, drawing, look, sink);
             finish(alloc, drawing, Some(&texts), &done, errors)
         }
-        Err(fault) => finish(alloc, drawing, None, &Err(of_text(fault)), errors),
-    }
-}
-
-/// Writes help, or the version, says where that cannot be done, and answers the status of it.
-fn help<W: ByteSink, E: ByteSink>(text: &[u8], sink: &mut W, errors: &mut E) -> u8
-    requires sink { W.has_failed sink.old ≡ false }
-    requires errors { E.has_failed errors.old ≡ false }
-    ensures { Helps text.now result (W.taken sink.old) (W.taken sink.new)
-        (E.taken errors.old) (E.taken errors.new) (W.has_failed sink.new)
-        (W.is_stalled sink.new) (E.has_failed errors.new) (E.is_stalled errors.new) }
-{
-    match write_all(sink, text) {
-        Ok(()) => 0,
-        Err(_) => {
-            say(UNWRITTEN, errors);
-            3
-        }
+        Err(fault) => finish(alloc, drawing, None, &Err(fault), errors),
     }
 }
 
@@ -189,26 +148,30 @@ pub(crate) fn answer<F: FileSource, W: ByteSink, E: ByteSink>(
     sink: &mut W,
     errors: &mut E,
 ) -> u8
-    requires sink { W.has_failed sink.old ≡ false }
-    requires errors { E.has_failed errors.old ≡ false }
+    requires sink { (W.state sink.old).failed ≡ false }
+    requires errors { (E.state errors.old).failed ≡ false }
     ensures { AnswersLine (F.found files.now) look.now.style.now look.now.legend.now line.now result
-        (W.taken sink.old) (W.taken sink.new) (E.taken errors.old) (E.taken errors.new)
-        (W.has_failed sink.new) (W.is_stalled sink.new) (E.has_failed errors.new)
-        (E.is_stalled errors.new) }
+        (W.state sink.old) (W.state sink.new) (E.state errors.old) (E.state errors.new) }
 {
     match line {
         Ok(CommandLine::Asks(drawing)) => draw_asked(alloc, drawing, look, files, sink, errors),
-        Ok(CommandLine::Help(text)) => help(text.as_bytes(), sink, errors),
+        Ok(CommandLine::Help(text)) => help(
+            alloc,
+            &Names::of_program(PROGRAM),
+            text.as_bytes(),
+            sink,
+            errors,
+        ),
         Ok(CommandLine::Wrong(text)) => {
             say(text.as_bytes(), errors);
             2
         }
         Ok(CommandLine::NoText) => {
-            say(NO_TEXT, errors);
+            say_no_text(errors);
             2
         }
         Err(_) => {
-            say(NO_MEMORY, errors);
+            say_no_memory(errors);
             1
         }
     }

@@ -7,8 +7,8 @@ ghost use Rattle.snap_named_files.specs.Texts.{OfShipped, view_texts};
 ghost use Rattle.snap_picture.specs.Picture.{FailsUnder};
 ghost use Rattle.snap_shipped.specs.Shipped.{shipped};
 
-use crate::fault::DrawFault;
 use snap_asm_program::Program;
+use snap_faults::ProgramFault;
 use snap_input::program_of;
 use snap_named_files::Texts;
 use snap_picture::{Look, Options, PictureRefusal, picture};
@@ -29,13 +29,13 @@ fn options_of(drawing: &Drawing<'_>) -> Options
 }
 
 /// The program of the listing that a text is.
-fn program_in(alloc: Global, text: &[u8]) -> Result<Program, DrawFault>
+fn program_in(alloc: Global, text: &[u8]) -> Result<Program, ProgramFault>
     ensures { Comes (λ p. p) result (listing_in text.now) }
 {
     match program_of(alloc, text) {
         Ok(program) => Ok(program),
-        Err(Fault::Memory) => Err(DrawFault::Memory),
-        Err(Fault::Refused(refusal)) => Err(DrawFault::Refused(PictureRefusal::Input(refusal))),
+        Err(Fault::Memory) => Err(ProgramFault::Memory),
+        Err(Fault::Refused(refusal)) => Err(ProgramFault::Refused(refusal)),
     }
 }
 
@@ -47,15 +47,21 @@ fn picture_in(
     schedule: &[u8],
     options: &Options,
     look: &Look<'_>,
-) -> Result<Vec<u8>, DrawFault>
+) -> Result<Vec<u8>, ProgramFault>
     ensures { IsDrawnBy (FailsUnder program.now schedule.now)
         (picture_in program.now (option_map (λ t. t.now) listing.entry) schedule.now options.now
         look.now.style.now look.now.legend.now) (bytes_of result) }
 {
     match picture(alloc, program, listing, schedule, options, look) {
         Ok(text) => Ok(text),
-        Err(Fault::Memory) => Err(DrawFault::Memory),
-        Err(Fault::Refused(refusal)) => Err(DrawFault::Refused(refusal)),
+        Err(Fault::Memory) => Err(ProgramFault::Memory),
+        Err(Fault::Refused(PictureRefusal::Input(refusal))) => Err(ProgramFault::Refused(refusal)),
+        Err(Fault::Refused(PictureRefusal::NoSuchItems(total))) => {
+            Err(ProgramFault::NoSuchItems(total))
+        }
+        Err(Fault::Refused(PictureRefusal::TooManyItems(count))) => {
+            Err(ProgramFault::TooManyItems(count))
+        }
     }
 }
 
@@ -66,7 +72,7 @@ fn draw_texts(
     schedule: &[u8],
     options: &Options,
     look: &Look<'_>,
-) -> Result<Vec<u8>, DrawFault>
+) -> Result<Vec<u8>, ProgramFault>
     ensures { IsDrawnBy (FailsInTexts listing.now schedule.now)
         (drawn_texts listing.now schedule.now options.now look.now.style.now look.now.legend.now)
         (bytes_of result) }
@@ -76,12 +82,12 @@ fn draw_texts(
 }
 
 /// The program of the listing that is shipped for a kind.
-fn shipped_program(alloc: Global, kind: KindTag) -> Result<Program, DrawFault>
+fn shipped_program(alloc: Global, kind: KindTag) -> Result<Program, ProgramFault>
     ensures { Comes (λ p. p) result (Ok (shipped kind)) }
 {
     match snap_input::shipped(alloc, kind) {
         Ok(program) => Ok(program),
-        Err(_) => Err(DrawFault::Memory),
+        Err(_) => Err(ProgramFault::Memory),
     }
 }
 
@@ -92,7 +98,7 @@ fn draw_shipped(
     schedule: &[u8],
     options: &Options,
     look: &Look<'_>,
-) -> Result<Vec<u8>, DrawFault>
+) -> Result<Vec<u8>, ProgramFault>
     ensures { IsDrawing (OfShipped kind schedule.now) options.now look.now.style.now
         look.now.legend.now (bytes_of result) }
 {
@@ -106,7 +112,7 @@ pub(crate) fn draw(
     texts: &Texts,
     drawing: &Drawing<'_>,
     look: &Look<'_>,
-) -> Result<Vec<u8>, DrawFault>
+) -> Result<Vec<u8>, ProgramFault>
     ensures { IsDrawing (view_texts texts.now) (options_of drawing.now) look.now.style.now
         look.now.legend.now (bytes_of result) }
 {

@@ -3,8 +3,6 @@
 
 mod answers;
 mod drawing;
-mod fault;
-mod fault_line;
 
 use answers::answer;
 use snap_files::Disk;

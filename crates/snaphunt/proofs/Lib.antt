@@ -1,3 +1,2 @@
 -- The proofs of snaphunt, by their modules.
-pub mod Said
 pub mod Searches

@@ -1,41 +1,43 @@
 //! `answer`: what snaphunt does about its command line, over any files, sink and device for
 //! messages, and the status of it.
-ghost use Rattle.std.specs.Prelude.{◌≡◌, ◌<◌, ◌^◌, ◌++◌, Ok, Err, IfOk, OnOk, OnErr, false};
-ghost use Rattle.snaphunt.specs.Answer.{
-  AnswersLine,
-  AnswersSearch,
-  Helps,
-  HuntsIn,
-  Prints,
-  SaysWhy,
-  Tells,
-  exit_status,
-  explained,
-  hunted_status,
-};
+ghost use Rattle.std.specs.Prelude.{◌≡◌, ◌<◌, ◌^◌, Ok, Err, IfOk, false};
+ghost use Rattle.snap_faults.specs.Faults.{fault_status};
+ghost use Rattle.snap_faults.specs.Names.{of_program, view_names};
+ghost use Rattle.snap_faults.specs.Told.{SaysWhy, TellsMore, exit_status};
+ghost use Rattle.snaphunt.specs.Answer.{AnswersLine, AnswersSearch, HuntsIn, Prints, explained};
+ghost use Rattle.snaphunt.specs.Answer.{hunted_status, names_of};
 ghost use Rattle.snaphunt_command_line.specs.Search.{IsLine, IsSearch, view_listed};
 
-use crate::fault::{RunFault, status_of};
-use crate::fault_line::fault_line;
-use crate::searching::{hunted_text, search_text, text_of};
+use crate::searching::{hunted_text, text_of};
 use snap_explanation::{Layout, explanation};
+use snap_faults::{
+    Names, ProgramFault, complain, fault_status, help, say_no_memory, say_no_text, tell,
+};
 use snap_files::FileSource;
 use snap_hunt::Watcher;
-use snap_hunt_output::{Asked, Hunted};
+use snap_hunt_output::{Asked, Hunted, hunt_listing};
 use snap_semantics::Refusal;
 use snap_streams::{ByteSink, say, write_all};
 use snaphunt_command_line::{CommandLine, Listed, Search};
 use std::alloc::{AllocError, Global};
 use std::thread::Threads;
 
-/// What is said where there is no memory.
-const NO_MEMORY: &[u8] = b"refused: Memory\n";
+/// What the program is called.
+const PROGRAM: &str = "snaphunt";
 
-/// What is said of arguments that are no text.
-const NO_TEXT: &[u8] = b"error: the words of the command line are no text\n";
-
-/// The status of a run that could not write.
-const UNWRITTEN: u8 = 3;
+/// What the program is called, and the file of the listing, where it is not shipped.
+fn names_of<'a>(listed: &Listed<'a>) -> Names<'a>
+    ensures { view_names result ≡ names_of (view_listed listed.now) }
+{
+    match *listed {
+        Listed::File(name) => Names {
+            program: PROGRAM,
+            listing: Some(name),
+            schedule: None,
+        },
+        Listed::Shipped(_) => Names::of_program(PROGRAM),
+    }
+}
 
 /// The status of what a hunt came to: 0 where no run fails, and 4 where one does.
 fn hunted_status(hunted: &Hunted) -> u8
@@ -53,21 +55,21 @@ fn print<W: ByteSink>(
     asked: &Asked,
     hunted: Hunted,
     sink: &mut W,
-) -> Result<Hunted, RunFault>
-    requires { W.has_failed sink.old ≡ false }
-    ensures { Prints asked.now (Ok hunted) result (W.taken sink.old) (W.taken sink.new)
-        (W.has_failed sink.new) (W.is_stalled sink.new) }
+) -> Result<Hunted, ProgramFault>
+    requires { (W.state sink.old).failed ≡ false }
+    ensures { Prints asked.now (Ok hunted) result (W.state sink.old) (W.state sink.new) }
 {
     let Ok(text) = hunted_text(alloc, asked, &hunted) else {
-        return Err(RunFault::Memory);
+        return Err(ProgramFault::Memory);
     };
     match write_all(sink, text.as_slice()) {
         Ok(()) => Ok(hunted),
-        Err(_) => Err(RunFault::Write),
+        Err(unsent) => Err(ProgramFault::Write(unsent.count)),
     }
 }
 
 /// Hunts in the runs of the listing that a text is, and prints what that came to and nothing else.
+#[tactic(auto, using(crate::proofs::Searches::nothing_came))]
 fn hunt_in<W: Watcher, S: ByteSink>(
     threads: &(impl Threads + Sync),
     alloc: Global,
@@ -75,73 +77,60 @@ fn hunt_in<W: Watcher, S: ByteSink>(
     asked: &Asked,
     watcher: &mut W,
     sink: &mut S,
-) -> Result<Hunted, RunFault>
+) -> Result<Hunted, ProgramFault>
     requires runs { asked.now.runs < 2 ^ 63 }
-    requires sink { S.has_failed sink.old ≡ false }
-    ensures { HuntsIn listing.now asked.now result (S.taken sink.old) (S.taken sink.new)
-        (S.has_failed sink.new) (S.is_stalled sink.new) }
+    requires sink { (S.state sink.old).failed ≡ false }
+    ensures { HuntsIn listing.now asked.now result (S.state sink.old) (S.state sink.new) }
 {
-    match search_text(threads, alloc, listing, asked, watcher) {
+    match hunt_listing(threads, alloc, listing, asked, watcher) {
         Ok(hunted) => print(alloc, asked, hunted, sink),
         Err(fault) => Err(fault),
     }
 }
 
-/// Says why nothing, or not all, was printed, or that there is no memory for that line.
-fn complain<E: ByteSink>(alloc: Global, listed: &Listed<'_>, fault: &RunFault, errors: &mut E)
-    requires { E.has_failed errors.old ≡ false }
-    ensures { Tells (view_listed listed.now) fault.now (E.taken errors.old) (E.taken errors.new)
-        (E.has_failed errors.new) (E.is_stalled errors.new) }
-{
-    match fault_line(alloc, listed, fault) {
-        Ok(line) => say(line.as_slice(), errors),
-        Err(_) => say(NO_MEMORY, errors),
-    }
-}
-
-/// Adds what is said behind the line of a fault, where refusals are explained.
-fn push_explained(
+/// What is said behind the line of a fault, where refusals are explained.
+fn explained(
     alloc: Global,
     explains: bool,
     listing: &[u8],
-    fault: &RunFault,
-    line: &mut Vec<u8>,
-) -> Result<(), AllocError>
-    ensures ok { OnOk result (line.new.items
-        ≡ line.old.items ++ explained explains listing.now fault.now) }
-    ensures unchanged { OnErr result (line.new.items ≡ line.old.items) }
+    fault: &ProgramFault,
+) -> Result<Vec<u8>, AllocError>
+    ensures { IfOk result (λ more. more.items ≡ explained explains listing.now fault.now) }
 {
     match fault {
-        RunFault::Refused(Refusal::Words(_)) => Ok(()),
-        RunFault::Refused(refusal) if explains => {
-            let text = explanation(alloc, Layout::Listing, listing, refusal)?;
-            line.extend_from_slice(text.as_slice())
+        ProgramFault::Refused(Refusal::Words(_)) => Ok(Vec::new(alloc)),
+        ProgramFault::Refused(refusal) if explains => {
+            explanation(alloc, Layout::Listing, listing, refusal)
         }
-        _ => Ok(()),
+        ProgramFault::TooLong(_) if explains => {
+            explanation(alloc, Layout::Listing, listing, &Refusal::InputTooLong)
+        }
+        _ => Ok(Vec::new(alloc)),
     }
 }
 
 /// Says why nothing, or not all, was printed, and explains it where that is asked for and there is
-/// memory for it.
-#[tactic(auto, using(crate::proofs::Said::explained_said))]
+/// memory for it. Returns the status for it.
 fn explain<E: ByteSink>(
     alloc: Global,
     asked: &Search<'_>,
     listing: &[u8],
-    fault: &RunFault,
+    fault: &ProgramFault,
     errors: &mut E,
-)
-    requires { E.has_failed errors.old ≡ false }
-    ensures { SaysWhy asked.now.explains (view_listed asked.now.listed) listing.now (Err fault.now)
-        (E.taken errors.old) (E.taken errors.new) (E.has_failed errors.new)
-        (E.is_stalled errors.new) }
+) -> u8
+    requires { (E.state errors.old).failed ≡ false }
+    ensures status { result ≡ fault_status fault.now }
+    ensures says { TellsMore (names_of (view_listed asked.now.listed)) fault.now
+        (explained asked.now.explains listing.now fault.now) (E.state errors.old)
+        (E.state errors.new) }
 {
-    match fault_line(alloc, &asked.listed, fault) {
-        Ok(mut line) => {
-            let _explained = push_explained(alloc, asked.explains, listing, fault, &mut line);
-            say(line.as_slice(), errors);
+    let names = names_of(&asked.listed);
+    match explained(alloc, asked.explains, listing, fault) {
+        Ok(more) => tell(alloc, &names, fault, more.as_slice(), errors),
+        Err(_) => {
+            complain(alloc, &names, fault, errors);
+            fault_status(fault)
         }
-        Err(_) => complain(alloc, &asked.listed, fault, errors),
     }
 }
 
@@ -150,21 +139,18 @@ fn finish<E: ByteSink>(
     alloc: Global,
     asked: &Search<'_>,
     listing: &[u8],
-    done: &Result<Hunted, RunFault>,
+    done: &Result<Hunted, ProgramFault>,
     errors: &mut E,
 ) -> u8
-    requires { E.has_failed errors.old ≡ false }
-    ensures status { result ≡ exit_status done.now }
-    ensures says { SaysWhy asked.now.explains (view_listed asked.now.listed) listing.now done.now
-        (E.taken errors.old) (E.taken errors.new) (E.has_failed errors.new)
-        (E.is_stalled errors.new) }
+    requires { (E.state errors.old).failed ≡ false }
+    ensures status { result ≡ exit_status hunted_status done.now }
+    ensures says { SaysWhy (names_of (view_listed asked.now.listed))
+        (explained asked.now.explains listing.now) done.now (E.state errors.old)
+        (E.state errors.new) }
 {
     match done {
         Ok(hunted) => hunted_status(hunted),
-        Err(fault) => {
-            explain(alloc, asked, listing, fault, errors);
-            status_of(fault)
-        }
+        Err(fault) => explain(alloc, asked, listing, fault, errors),
     }
 }
 
@@ -180,11 +166,10 @@ fn hunt<F: FileSource, W: Watcher, S: ByteSink, E: ByteSink>(
     errors: &mut E,
 ) -> u8
     requires search { IsSearch asked.now }
-    requires sink { S.has_failed sink.old ≡ false }
-    requires errors { E.has_failed errors.old ≡ false }
-    ensures { AnswersSearch (F.found files.now) asked.now result (S.taken sink.old)
-        (S.taken sink.new) (E.taken errors.old) (E.taken errors.new) (S.has_failed sink.new)
-        (S.is_stalled sink.new) (E.has_failed errors.new) (E.is_stalled errors.new) }
+    requires sink { (S.state sink.old).failed ≡ false }
+    requires errors { (E.state errors.old).failed ≡ false }
+    ensures { AnswersSearch (F.found files.now) asked.now result (S.state sink.old)
+        (S.state sink.new) (E.state errors.old) (E.state errors.new) }
 {
     match text_of(alloc, files, &asked.listed) {
         Ok(listing) => {
@@ -202,18 +187,6 @@ fn hunt<F: FileSource, W: Watcher, S: ByteSink, E: ByteSink>(
     }
 }
 
-/// Prints help, or the version.
-fn help<S: ByteSink>(text: &[u8], sink: &mut S) -> u8
-    requires { S.has_failed sink.old ≡ false }
-    ensures { Helps text.now result (S.taken sink.old) (S.taken sink.new) (S.has_failed sink.new)
-        (S.is_stalled sink.new) }
-{
-    match write_all(sink, text) {
-        Ok(()) => 0,
-        Err(_) => UNWRITTEN,
-    }
-}
-
 /// Does what a command line asks for, and answers the status of it.
 pub(crate) fn answer<F: FileSource, W: Watcher, S: ByteSink, E: ByteSink>(
     threads: &(impl Threads + Sync),
@@ -225,25 +198,30 @@ pub(crate) fn answer<F: FileSource, W: Watcher, S: ByteSink, E: ByteSink>(
     errors: &mut E,
 ) -> u8
     requires line { IfOk line.now IsLine }
-    requires sink { S.has_failed sink.old ≡ false }
-    requires errors { E.has_failed errors.old ≡ false }
-    ensures { AnswersLine (F.found files.now) line.now result (S.taken sink.old)
-        (S.taken sink.new) (E.taken errors.old) (E.taken errors.new) (S.has_failed sink.new)
-        (S.is_stalled sink.new) (E.has_failed errors.new) (E.is_stalled errors.new) }
+    requires sink { (S.state sink.old).failed ≡ false }
+    requires errors { (E.state errors.old).failed ≡ false }
+    ensures { AnswersLine (F.found files.now) line.now result (S.state sink.old)
+        (S.state sink.new) (E.state errors.old) (E.state errors.new) }
 {
     match line {
         Ok(CommandLine::Asks(asked)) => hunt(threads, alloc, asked, files, watcher, sink, errors),
-        Ok(CommandLine::Help(text)) => help(text.as_bytes(), sink),
+        Ok(CommandLine::Help(text)) => help(
+            alloc,
+            &Names::of_program(PROGRAM),
+            text.as_bytes(),
+            sink,
+            errors,
+        ),
         Ok(CommandLine::Wrong(text)) => {
             say(text.as_bytes(), errors);
             2
         }
         Ok(CommandLine::NoText) => {
-            say(NO_TEXT, errors);
+            say_no_text(errors);
             2
         }
         Err(_) => {
-            say(NO_MEMORY, errors);
+            say_no_memory(errors);
             1
         }
     }

@@ -5,8 +5,6 @@ ghost use Rattle.std.specs.Prelude.{IfOk};
 ghost use Rattle.snaphunt_command_line.specs.Search.{IsLine};
 
 mod answers;
-mod fault;
-mod fault_line;
 mod progress;
 mod searching;
 

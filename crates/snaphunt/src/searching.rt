@@ -1,21 +1,19 @@
-//! `search_text`: what the hunt that a command line asks for comes to, or why it comes to nothing; `text_of`, the text
-//! of the listing in whose runs is hunted.
-ghost use Rattle.std.specs.Prelude.{◌≡◌, ◌<◌, ◌^◌, ◌++◌, IfOk, Ok, OnOk};
+//! `text_of`: the text of the listing in whose runs is hunted; `hunted_text`: what is printed of
+//! what a hunt came to.
+ghost use Rattle.std.specs.Prelude.{◌≡◌, ◌++◌, IfOk, Ok, OnOk};
 ghost use Rattle.snap_semantics.specs.Listing.{listing_of};
 ghost use Rattle.snap_shipped.specs.Shipped.{shipped};
-ghost use Rattle.snaphunt.specs.Searching.{ComesTo, GivesText, hunted_text, none_text};
+ghost use Rattle.snaphunt.specs.Searching.{GivesText, hunted_text, none_text};
 ghost use Rattle.snaphunt_command_line.specs.Search.{view_listed};
 
-use crate::fault::{RunFault, of_file, of_hunt};
+use snap_faults::{ProgramFault, Which, of_file};
 use snap_files::FileSource;
-use snap_hunt::Watcher;
-use snap_hunt_output::{Asked, Hunted, hunt_listing};
+use snap_hunt_output::{Asked, Hunted};
 use snap_shipped::{text_b, text_m, text_u};
 use snap_text::{push_number, push_text};
 use snap_words::KindTag;
 use snaphunt_command_line::Listed;
 use std::alloc::{AllocError, Global};
-use std::thread::Threads;
 
 /// The bytes that are too many for a listing.
 const TOO_MANY: u64 = 16_777_217;
@@ -37,36 +35,18 @@ pub(crate) fn text_of<F: FileSource>(
     alloc: Global,
     files: &F,
     listed: &Listed<'_>,
-) -> Result<Vec<u8>, RunFault>
+) -> Result<Vec<u8>, ProgramFault>
     ensures { GivesText (F.found files.now) (view_listed listed.now) result }
 {
     match listed {
         Listed::File(name) => match files.read(alloc, name, TOO_MANY) {
             Ok(text) => Ok(text),
-            Err(fault) => Err(of_file(fault)),
+            Err(fault) => Err(of_file(Which::Listing, fault)),
         },
         Listed::Shipped(kind) => match Vec::from_slice(alloc, shipped_text(*kind)) {
             Ok(text) => Ok(text),
-            Err(_) => Err(RunFault::Memory),
+            Err(_) => Err(ProgramFault::Memory),
         },
-    }
-}
-
-/// What a hunt in the runs of the listing that a text is comes to.
-#[tactic(auto, using(crate::proofs::Searches::hunt_ends))]
-pub(crate) fn search_text<W: Watcher>(
-    threads: &(impl Threads + Sync),
-    alloc: Global,
-    listing: &[u8],
-    asked: &Asked,
-    watcher: &mut W,
-) -> Result<Hunted, RunFault>
-    requires { asked.now.runs < 2 ^ 63 }
-    ensures { ComesTo listing.now asked.now result }
-{
-    match hunt_listing(threads, alloc, listing, asked, watcher) {
-        Ok(hunted) => Ok(hunted),
-        Err(fault) => Err(of_hunt(fault)),
     }
 }
 

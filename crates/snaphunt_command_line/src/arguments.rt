@@ -34,7 +34,7 @@ const PACES: &[&str] = &[
 /// The failures that `--fails` takes.
 const FAILURES: &[&str] = &["linearizable", "point", "trap", "steps"];
 
-/// The failures that are hunted where nothing is said.
+/// The failures that are hunted by default.
 const USUAL: &[&str] = &["linearizable", "trap", "steps"];
 
 /// The most runs of a hunt.
@@ -50,7 +50,7 @@ bursts, interruptions, rounds, witnesses, duels,{n}coins]";
 
 /// What is said of `--fails`.
 const FAILS_HELP: &str = "\
-What is hunted, with commas between;{n}linearizable,trap,steps where nothing is said{n}\
+What is hunted, with commas between;{n}linearizable,trap,steps by default{n}\
 [possible values: linearizable, point, trap, steps]";
 
 /// What is said of `--repeat`.

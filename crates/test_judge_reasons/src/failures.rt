@@ -28,7 +28,7 @@ fn told(alloc: Global, history: &History, count: usize) -> Result<Vec<u8>, Alloc
 fn new_value_then_old(rt: HostRuntime) -> Result<(), Fail> {
     let history = new_then_old(rt.alloc())?;
     let told = told(rt.alloc(), &history, 5)?;
-    let wanted = b"right would have been: 5 0
+    let wanted = b"right answer: 5 0
 because: scan of process 3 (event 4) did not see update 1 5 (event 1)
 because: scan of process 2 (event 2) saw update 1 5 (event 1)
 because: scan of process 2 (event 2) ended before scan of process 3 (event 4) was called
@@ -41,8 +41,8 @@ because: scan of process 2 (event 2) ended before scan of process 3 (event 4) wa
 fn update_lost(rt: HostRuntime) -> Result<(), Fail> {
     let history = lost_update(rt.alloc())?;
     let told = told(rt.alloc(), &history, 5)?;
-    let wanted = b"right would have been: 5 0
-right would have been: 5 7
+    let wanted = b"right answer: 5 0
+right answer: 5 7
 because: scan of process 3 (event 4) did not see update 1 5 (event 1)
 because: update 1 5 (event 1) ended before scan of process 3 (event 4) was called
 ";
@@ -54,7 +54,7 @@ because: update 1 5 (event 1) ended before scan of process 3 (event 4) was calle
 fn seen_too_early(rt: HostRuntime) -> Result<(), Fail> {
     let history = early_sight(rt.alloc())?;
     let told = told(rt.alloc(), &history, 2)?;
-    let wanted = b"right would have been: 0 0
+    let wanted = b"right answer: 0 0
 because: scan of process 3 (event 1) saw 7 in word 2, but no update 2 7 was called before it ended
 ";
     assert!(rt; told.as_slice() == wanted.as_slice());

@@ -1,7 +1,7 @@
 //! Tests of whole live runs of the program, from scripts to the text of a history.
 use crate::live_runs::TWO;
 use crate::meeting::Meeting;
-use snap_program::{ConductFault, Gate, Std, Subject, conduct_live};
+use snap_program::{Gate, ProgramFault, Std, Subject, conduct_live};
 use snap_words::KindTag;
 use std::sync::Wait;
 use std::test::Fail;
@@ -12,7 +12,7 @@ fn written<G: Gate, R: AllocGlobal + Threads + Wait + Sync>(
     rt: &R,
     gate: &G,
     scripts: &[u8],
-) -> Result<Vec<u8>, ConductFault> {
+) -> Result<Vec<u8>, ProgramFault> {
     let subject = Subject::Shipped(KindTag::Seq);
     let mut source = Std::new(scripts);
     let mut sink = Std::new(Vec::new(rt.alloc()));

@@ -27,9 +27,7 @@ impl<'a> Trickle<'a> {
 }
 
 impl ByteSource for Trickle<'_> {
-    ghost left = { λ s. Some s.rest.now };
-
-    ghost has_failed = { λ s. s.failed };
+    ghost state = { λ s. record { left = Some s.rest.now; failed = s.failed } };
 
     fn read(&mut self, buffer: &mut [u8]) -> Result<usize, Failed> {
         if self.calls == 0 {
@@ -73,11 +71,11 @@ impl Narrow {
 }
 
 impl ByteSink for Narrow {
-    ghost taken = { λ s. Some s.taken.items };
-
-    ghost has_failed = { λ s. s.failed };
-
-    ghost is_stalled = { λ s. s.stalled };
+    ghost state = { λ s. record {
+      taken = Some s.taken.items;
+      failed = s.failed;
+      stalled = s.stalled;
+    } };
 
     fn write(&mut self, bytes: &[u8]) -> Result<usize, Failed> {
         let count = self.step.min(bytes.len());

@@ -1,6 +1,6 @@
 //! Tests of turns at a desk, also of seats in threads, and of scripts that are played there at
 //! once; of batches in threads; and of whole runs of the program, on devices in memory. What the
-//! program writes for an input is tried by the program itself, in `.ci/cases`.
+//! program writes for an input is tried by the program itself, in `tests/cases`.
 #![tactic(auto)]
 
 #[cfg(test)]

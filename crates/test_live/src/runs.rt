@@ -1,7 +1,7 @@
 //! Tests of whole runs of the program on devices in memory, which give or take a few bytes a call,
 //! or fail.
 use crate::devices_of_memory::{Narrow, Trickle};
-use snap_program::{ConductFault, Std, Subject, Task, conduct};
+use snap_program::{ProgramFault, Std, Subject, Task, conduct};
 use std::test::Fail;
 
 /// A listing and a schedule.
@@ -41,7 +41,7 @@ fn reader_fails_at_each_call(rt: HostRuntime) {
         let mut source = Trickle::new(INPUT.as_slice(), calls);
         let mut sink = Narrow::new(rt.alloc(), 1, 1000);
         let done = conduct(&rt, rt.alloc(), &RUN, &mut source, &mut sink);
-        assert_eq!(rt; done, Err(ConductFault::Read), "at {calls}");
+        assert_eq!(rt; done, Err(ProgramFault::Read), "at {calls}");
         assert_eq!(rt; sink.taken.len(), 0, "at {calls}");
     }
 }
@@ -52,7 +52,7 @@ fn writer_fails_at_each_call(rt: HostRuntime) {
         let mut source = Trickle::new(INPUT.as_slice(), 1000);
         let mut sink = Narrow::new(rt.alloc(), 1, calls);
         let done = conduct(&rt, rt.alloc(), &RUN, &mut source, &mut sink);
-        assert_eq!(rt; done, Err(ConductFault::Write(calls)), "at {calls}");
+        assert_eq!(rt; done, Err(ProgramFault::Write(calls)), "at {calls}");
         assert_eq!(rt;
             sink.taken.as_slice(),
             &OUTPUT[..calls as usize],
@@ -67,13 +67,13 @@ fn writer_takes_five_or_none(rt: HostRuntime) {
     let mut sink = Narrow::new(rt.alloc(), 5, 1);
     assert_eq!(rt;
         conduct(&rt, rt.alloc(), &RUN, &mut source, &mut sink),
-        Err(ConductFault::Write(5))
+        Err(ProgramFault::Write(5))
     );
     assert_eq!(rt; sink.taken.as_slice(), b"> run".as_slice());
     let mut source = Trickle::new(INPUT.as_slice(), 1000);
     let mut sink = Narrow::new(rt.alloc(), 0, 1000);
     assert_eq!(rt;
         conduct(&rt, rt.alloc(), &RUN, &mut source, &mut sink),
-        Err(ConductFault::Write(0))
+        Err(ProgramFault::Write(0))
     );
 }

@@ -79,9 +79,7 @@ struct Broken {
 }
 
 impl Source for Broken {
-    ghost left = { λ _. Some [] };
-
-    ghost has_failed = { λ s. s.failed };
+    ghost state = { λ s. record { left = Some []; failed = s.failed } };
 
     fn read(&mut self, _buffer: &mut [u8]) -> Result<usize, Failed> {
         self.failed = true;
@@ -113,11 +111,11 @@ impl Small {
 }
 
 impl Sink for Small {
-    ghost taken = { λ s. Some s.taken.items };
-
-    ghost has_failed = { λ s. s.failed };
-
-    ghost is_stalled = { λ s. s.stalled };
+    ghost state = { λ s. record {
+      taken = Some s.taken.items;
+      failed = s.failed;
+      stalled = s.stalled;
+    } };
 
     fn write(&mut self, bytes: &[u8]) -> Result<usize, Failed> {
         let count = self.room.min(bytes.len());

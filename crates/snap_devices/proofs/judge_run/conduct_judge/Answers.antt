@@ -1,7 +1,7 @@
 -- `conduct_judge` of snap_devices (src/judge_run.rt): the proof of what its contract says.
 -- Reads the input, judges what it gives, writes what is said of it and nothing else, and answers the word for it.
 use Rattle.std.specs.Prelude.{Ok}
-use Rattle.snap_devices.specs.WholeRun.{IsJudgeOf, RefusesJudge, done_of, of_judge_fault}
+use Rattle.snap_devices.specs.WholeRun.{IsJudgeOf, RefusesJudge, done_of}
 use Rattle.snap_devices.proofs.Runs.{is_kept, not_read, passed_on, refused, sends, some_word, stops, why_judge}
 use Rattle.snap_devices.proofs.judge_run.conduct_judge.Goals as goal
 
@@ -11,8 +11,8 @@ returns-in_err-input g c =
     let fault = c.in_err-input.field-0.0 in
     not_read (IsJudgeOf answer c.args.request.now) (RefusesJudge c.args.request.now)
     (done_of answer) fault c.args.kept.now.items
-    (g.R.ByteSource.left c.args.source.now) (g.R.ByteSource.left c.read_all.new.source)
-    (g.W.ByteSink.taken c.args.sink.now) _ _ _
+    (g.R.ByteSource.state c.args.source.now) (g.R.ByteSource.state c.read_all.new.source)
+    (g.W.ByteSink.state c.args.sink.now)
     (passed_on answer fault c.from_residual.ensures) c.in_err-input.ensures
 
 pub returns-in_err-found : goal.returns-in_err-found
@@ -23,10 +23,10 @@ returns-in_err-found g c =
       c.in_ok-input.input.items,
       is_kept (done_of answer) c.in_ok-input.input.items,
       refused (IsJudgeOf answer c.args.request.now) (RefusesJudge c.args.request.now)
-          (done_of answer) (of_judge_fault why) c.in_ok-input.input.items c.as_slice.result.now
-          (g.R.ByteSource.left c.args.source.now) (g.R.ByteSource.left c.read_all.new.source)
-          (g.W.ByteSink.taken c.args.sink.now) _ _ _
-          (passed_on answer (of_judge_fault why) c.from_residual-in_err-found.ensures)
+          (done_of answer) why c.in_ok-input.input.items c.as_slice.result.now
+          (g.R.ByteSource.state c.args.source.now) (g.R.ByteSource.state c.read_all.new.source)
+          (g.W.ByteSink.state c.args.sink.now)
+          (passed_on answer why c.from_residual-in_err-found.ensures)
           c.as_slice.ensures.value read.0 read.1
           (why_judge why c.args.request.now c.as_slice.result.now c.in_err-found.ensures.answers),
     )
@@ -42,13 +42,13 @@ returns-in_err-write_all g c =
       sends (IsJudgeOf answer c.args.request.now) (RefusesJudge c.args.request.now)
           (done_of answer) c.in_ok-input.input.items c.as_slice.result.now
           c.in_ok-found.found.text.items c.as_slice-2.result.now
-          (g.R.ByteSource.left c.args.source.now) (g.R.ByteSource.left c.read_all.new.source)
-          (g.W.ByteSink.taken c.args.sink.now) (g.W.ByteSink.taken c.write_all.new.sink) _ _ _
+          (g.R.ByteSource.state c.args.source.now) (g.R.ByteSource.state c.read_all.new.source)
+          (g.W.ByteSink.state c.args.sink.now) (g.W.ByteSink.state c.write_all.new.sink)
           c.as_slice.ensures.value c.as_slice-2.ensures.value read.0 read.1
           (some_word answer fault c.args.request.now c.as_slice.result.now c.in_ok-found.found.text.items
           c.in_ok-found.found.word c.from_residual-in_err-write_all.ensures found)
-          (stops answer fault c.as_slice-2.result.now (g.W.ByteSink.taken c.args.sink.now)
-          (g.W.ByteSink.taken c.write_all.new.sink) _ _
+          (stops answer fault c.as_slice-2.result.now (g.W.ByteSink.state c.args.sink.now)
+          (g.W.ByteSink.state c.write_all.new.sink)
           c.from_residual-in_err-write_all.ensures c.in_err-write_all.ensures),
     )
 
@@ -61,10 +61,8 @@ returns g c =
       is_kept (Ok tt) c.in_ok-input.input.items,
       sends (IsJudgeOf (Ok word) c.args.request.now) (RefusesJudge c.args.request.now)
           (Ok tt) c.in_ok-input.input.items c.as_slice.result.now c.in_ok-found.found.text.items c.as_slice-2.result.now
-          (g.R.ByteSource.left c.args.source.now) (g.R.ByteSource.left c.read_all.new.source)
-          (g.W.ByteSink.taken c.args.sink.now) (g.W.ByteSink.taken c.write_all.new.sink)
-          (g.R.ByteSource.has_failed c.read_all.new.source) (g.W.ByteSink.has_failed c.write_all.new.sink)
-          (g.W.ByteSink.is_stalled c.write_all.new.sink)
+          (g.R.ByteSource.state c.args.source.now) (g.R.ByteSource.state c.read_all.new.source)
+          (g.W.ByteSink.state c.args.sink.now) (g.W.ByteSink.state c.write_all.new.sink)
           c.as_slice.ensures.value c.as_slice-2.ensures.value read.0 read.1
           found c.in_ok-write_all.ensures,
     )

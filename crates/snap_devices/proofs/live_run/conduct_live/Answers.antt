@@ -13,9 +13,7 @@ returns g c =
       h.0,
       also (IsLiveOf (Ok c.in_ok-conduct_live_keeping.field-0) may c.args.subject c.args.limit)
           (MayWrite may c.args.subject c.args.limit) (RefusesLive may c.args.subject c.args.limit)
-          (λ input text live. live.0) (Ok tt) h.0 _ _ _ _ (g.R.ByteSource.has_failed c.conduct_live_keeping.new.source)
-          (g.W.ByteSink.has_failed c.conduct_live_keeping.new.sink)
-          (g.W.ByteSink.is_stalled c.conduct_live_keeping.new.sink) h.2,
+          (λ input text live. live.0) (Ok tt) h.0 _ _ _ _ h.2,
     )
 
 pub returns-in_err-conduct_live_keeping : goal.returns-in_err-conduct_live_keeping

@@ -12,11 +12,11 @@ returns-in_err-extend_from_slice-in-Ok g c =
     let more = take c.in-Ok.count c.read.new.buffer in
     let h = c.loop-buffer.invariant in
     let bytes = c.in-Ok.ensures.bytes in
-    no_room c.from_residual.result (before ++ more) (g.R.ByteSource.left c.args.source.now)
-    (g.R.ByteSource.left c.read.new.self) (g.R.ByteSource.has_failed c.read.new.self)
+    no_room c.from_residual.result (before ++ more) (g.R.ByteSource.state c.args.source.now)
+    (g.R.ByteSource.state c.read.new.self)
     c.from_residual.ensures (
-      Consumes-trans (g.R.ByteSource.left c.args.source.now) (g.R.ByteSource.left c.loop-buffer.source)
-          (g.R.ByteSource.left c.read.new.self) before more h.2 bytes.0,
+      Consumes-trans (g.R.ByteSource.state c.args.source.now).left (g.R.ByteSource.state c.loop-buffer.source).left
+          (g.R.ByteSource.state c.read.new.self).left before more h.2 bytes.0,
       let all = length-append before more in
           let some = length-take c.in-Ok.count c.read.new.buffer in
           let offered = length-take c.min-room.result c.loop-buffer.buffer in

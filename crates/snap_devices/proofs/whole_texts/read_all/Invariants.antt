@@ -7,8 +7,8 @@ use Rattle.snap_devices.proofs.whole_texts.read_all.Given as goal
 -- the input so far is what was taken
 abbrev pub invariant-loop-buffer : goal.invariant-loop-buffer
 invariant-loop-buffer g l =
-    (vec_len l.input ≤ 16777217) × (g.R.ByteSource.has_failed l.source ≡ false)
-    × Consumes (g.R.ByteSource.left l.initial.source) (g.R.ByteSource.left l.source) l.input.items
+    (vec_len l.input ≤ 16777217) × ((g.R.ByteSource.state l.source).failed ≡ false)
+    × Consumes (g.R.ByteSource.state l.initial.source).left (g.R.ByteSource.state l.source).left l.input.items
 
 abbrev pub decreases-loop-buffer : goal.decreases-loop-buffer
 decreases-loop-buffer g l = 16777217 - vec_len l.input

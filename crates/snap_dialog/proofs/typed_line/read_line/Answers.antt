@@ -9,14 +9,17 @@ use Rattle.snap_dialog.proofs.typed_line.read_line.Goals as goal
 pub returns-then-byte-eq10-clause-line : goal.returns-then-byte-eq10-clause-line
 returns-then-byte-eq10-clause-line g c =
     line_at_end _ _ _ _ _ _ c.loop-count.invariant.kept
-    (subst (λ o. GivesNext o (g.R.ByteSource.left c.loop-count.reader) (g.R.ByteSource.left c.next_byte.new.reader))
+    (subst
+    (λ o. GivesNext o (g.R.ByteSource.state c.loop-count.reader).left
+    (g.R.ByteSource.state c.next_byte.new.reader).left)
     c.in-Some.is c.in_ok-byte.ensures.byte)
     c.in_ok-keep_byte.ensures c.if-byte-eq10.true
 
 pub loop-count-preserved : goal.loop-count-preserved
 loop-count-preserved g c =
     let gives = subst
-    (λ o. GivesNext o (g.R.ByteSource.left c.loop-count.reader) (g.R.ByteSource.left c.next_byte.new.reader))
+    (λ o. GivesNext o (g.R.ByteSource.state c.loop-count.reader).left
+    (g.R.ByteSource.state c.next_byte.new.reader).left)
     c.in-Some.is c.in_ok-byte.ensures.byte in record {
       well = c.in_ok-byte.ensures.failed;
       kept =

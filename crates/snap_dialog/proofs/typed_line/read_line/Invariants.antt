@@ -7,7 +7,7 @@ use Rattle.snap_dialog.proofs.typed_line.read_line.Given as goal
 -- what was kept so far, and what is left
 abbrev pub invariant-loop-count : goal.invariant-loop-count
 invariant-loop-count g l = record {
-  well : g.R.ByteSource.has_failed l.reader ≡ false;
-  kept : HasKept (g.R.ByteSource.left l.fn.reader) (g.R.ByteSource.left l.reader) l.line.items;
-  taken : HasTaken l._count (g.R.ByteSource.left l.fn.reader) (g.R.ByteSource.left l.reader);
+  well : (g.R.ByteSource.state l.reader).failed ≡ false;
+  kept : HasKept (g.R.ByteSource.state l.fn.reader).left (g.R.ByteSource.state l.reader).left l.line.items;
+  taken : HasTaken l._count (g.R.ByteSource.state l.fn.reader).left (g.R.ByteSource.state l.reader).left;
 }

@@ -1,7 +1,7 @@
 -- `judged_run` of snap_page (src/answering.rt): the proof of what its contract says.
 use Rattle.std.proofs.Common.{◌≡◌, Some, subst, sym}
 use Rattle.snap_judge_task.specs.Judged as judging
-use Rattle.snap_judge_task.specs.declared.fault.JudgeFault.TheVariants as judge
+use Rattle.snap_faults.specs.declared.fault.ProgramFault.TheVariants as judge
 use Rattle.snap_tasks.specs.declared.judge_request.JudgeRequest.{JudgeRequest}
 use Rattle.snap_page.proofs.Judging.{of_run}
 use Rattle.snap_page.proofs.answering.judged_run.Goals as goal

@@ -3,7 +3,8 @@
 use Rattle.std.specs.Prelude.{◌≡◌, Ok}
 use Rattle.snap_output.specs.Output.{clean_of}
 use Rattle.snap_tasks.specs.declared.task.Task.TheVariants.{Survey}
-use Rattle.snap_devices.specs.WholeRun.{done_of, of_fault}
+use Rattle.snap_devices.specs.WholeRun.{done_of}
+use Rattle.snap_faults.specs.Faults.{of_input_fault}
 use Rattle.snap_program.specs.TaskRun.{IsSurveyOf, RefusesTask}
 use Rattle.snap_devices.proofs.Runs.{is_kept, not_read, nothing_found, passed_on, refused, sends, stops}
 use Rattle.snap_program.proofs.Refused.{why_task}
@@ -14,8 +15,8 @@ returns-in_err-input g c =
     let answer = c.from_residual.result in let fault = c.in_err-input.field-0.0 in
     not_read (IsSurveyOf answer c.args.subject) (RefusesTask (Survey c.args.subject))
     (done_of answer) fault c.args.kept.now.items
-    (g.R.ByteSource.left c.args.source.now) (g.R.ByteSource.left c.read_all.new.source)
-    (g.W.ByteSink.taken c.args.sink.now) _ _ _
+    (g.R.ByteSource.state c.args.source.now) (g.R.ByteSource.state c.read_all.new.source)
+    (g.W.ByteSink.state c.args.sink.now)
     (passed_on answer fault c.from_residual.ensures) c.in_err-input.ensures
 
 pub returns-in_err-found : goal.returns-in_err-found
@@ -26,10 +27,10 @@ returns-in_err-found g c =
       c.in_ok-input.input.items,
       is_kept (done_of answer) c.in_ok-input.input.items,
       refused (IsSurveyOf answer c.args.subject) (RefusesTask (Survey c.args.subject)) (done_of answer)
-          (of_fault why) c.in_ok-input.input.items c.as_slice.result.now
-          (g.R.ByteSource.left c.args.source.now) (g.R.ByteSource.left c.read_all.new.source)
-          (g.W.ByteSink.taken c.args.sink.now) _ _ _
-          (passed_on answer (of_fault why) c.from_residual-in_err-found.ensures) c.as_slice.ensures.value read.0 read.1
+          (of_input_fault why) c.in_ok-input.input.items c.as_slice.result.now
+          (g.R.ByteSource.state c.args.source.now) (g.R.ByteSource.state c.read_all.new.source)
+          (g.W.ByteSink.state c.args.sink.now)
+          (passed_on answer (of_input_fault why) c.from_residual-in_err-found.ensures) c.as_slice.ensures.value read.0 read.1
           (why_task why (Survey c.args.subject) c.as_slice.result.now c.in_err-found.ensures.output),
     )
 
@@ -42,8 +43,8 @@ returns-in_err-write_all g c =
       is_kept (done_of answer) c.in_ok-input.input.items,
       sends (IsSurveyOf answer c.args.subject) (RefusesTask (Survey c.args.subject)) (done_of answer)
           c.in_ok-input.input.items c.as_slice.result.now c.in_ok-found.found.text.items c.as_slice-2.result.now
-          (g.R.ByteSource.left c.args.source.now) (g.R.ByteSource.left c.read_all.new.source)
-          (g.W.ByteSink.taken c.args.sink.now) (g.W.ByteSink.taken c.write_all.new.sink) _ _ _
+          (g.R.ByteSource.state c.args.source.now) (g.R.ByteSource.state c.read_all.new.source)
+          (g.W.ByteSink.state c.args.sink.now) (g.W.ByteSink.state c.write_all.new.sink)
           c.as_slice.ensures.value c.as_slice-2.ensures.value read.0 read.1 (
             c.in_ok-found.ensures.output.0,
             c.in_ok-found.ensures.output.1,
@@ -51,8 +52,8 @@ returns-in_err-write_all g c =
             nothing_found (λ clean. clean_of c.in_ok-found.ensures.output.0 c.args.subject c.as_slice.result.now ≡ Ok clean)
                 answer fault c.from_residual-in_err-write_all.ensures,
           )
-          (stops answer fault c.as_slice-2.result.now (g.W.ByteSink.taken c.args.sink.now)
-          (g.W.ByteSink.taken c.write_all.new.sink) _ _
+          (stops answer fault c.as_slice-2.result.now (g.W.ByteSink.state c.args.sink.now)
+          (g.W.ByteSink.state c.write_all.new.sink)
           c.from_residual-in_err-write_all.ensures c.in_err-write_all.ensures),
     )
 
@@ -63,10 +64,8 @@ returns g c =
       is_kept (Ok tt) c.in_ok-input.input.items,
       sends (IsSurveyOf (Ok found.clean) c.args.subject) (RefusesTask (Survey c.args.subject))
           (Ok tt) c.in_ok-input.input.items c.as_slice.result.now found.text.items c.as_slice-2.result.now
-          (g.R.ByteSource.left c.args.source.now) (g.R.ByteSource.left c.read_all.new.source)
-          (g.W.ByteSink.taken c.args.sink.now) (g.W.ByteSink.taken c.write_all.new.sink)
-          (g.R.ByteSource.has_failed c.read_all.new.source) (g.W.ByteSink.has_failed c.write_all.new.sink)
-          (g.W.ByteSink.is_stalled c.write_all.new.sink)
+          (g.R.ByteSource.state c.args.source.now) (g.R.ByteSource.state c.read_all.new.source)
+          (g.W.ByteSink.state c.args.sink.now) (g.W.ByteSink.state c.write_all.new.sink)
           c.as_slice.ensures.value c.as_slice-2.ensures.value read.0 read.1
           c.in_ok-found.ensures.output c.in_ok-write_all.ensures,
     )

@@ -24,6 +24,6 @@ loop-sent-preserved g c =
       goes_on = λ _. c.in-Ok.ensures.stalls ∙ is_some count c.in-Ok.count-test.1;
       sent =
           rw (take-add sent count text)
-          (Appends-trans (g.W.ByteSink.taken c.args.sink.now) (g.W.ByteSink.taken c.loop-sent.sink)
-          (g.W.ByteSink.taken c.write.new.self) (take sent text) (take count (drop sent text)) h.sent bytes);
+          (Appends-trans (g.W.ByteSink.state c.args.sink.now).taken (g.W.ByteSink.state c.loop-sent.sink).taken
+          (g.W.ByteSink.state c.write.new.self).taken (take sent text) (take count (drop sent text)) h.sent bytes);
     }

@@ -8,9 +8,9 @@ use Rattle.snap_streams.proofs.sending.write_all.Given as goal
 abbrev pub invariant-loop-sent : goal.invariant-loop-sent
 invariant-loop-sent g l = record {
   within : l.sent ≤ length l.text;
-  well : g.W.ByteSink.has_failed l.sink ≡ false;
-  goes_on : g.W.ByteSink.is_stalled l.initial.sink ≡ false → g.W.ByteSink.is_stalled l.sink ≡ false;
-  sent : Appends (g.W.ByteSink.taken l.initial.sink) (g.W.ByteSink.taken l.sink) (take l.sent l.text);
+  well : (g.W.ByteSink.state l.sink).failed ≡ false;
+  goes_on : (g.W.ByteSink.state l.initial.sink).stalled ≡ false → (g.W.ByteSink.state l.sink).stalled ≡ false;
+  sent : Appends (g.W.ByteSink.state l.initial.sink).taken (g.W.ByteSink.state l.sink).taken (take l.sent l.text);
 }
 
 abbrev pub decreases-loop-sent : goal.decreases-loop-sent

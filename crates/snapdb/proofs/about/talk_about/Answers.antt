@@ -7,11 +7,11 @@ use Rattle.snap_dialog.proofs.Dialogs.{shown_first}
 use Rattle.snap_dialog.proofs.Parts.{shown_between}
 use Rattle.snap_runs.specs.Run.{run_over}
 use Rattle.snap_prompt.specs.Prompt.{Prompt, Says, next_line, opened_prompt, prompt_text}
-use Rattle.snapdb.specs.declared.fault.StartFault.{StartFault}
+use Rattle.snap_faults.specs.declared.fault.ProgramFault.{ProgramFault}
 use Rattle.snapdb.proofs.about.talk_about.Goals as goal
 
 -- what holds anyway holds of an error
-on_err : {A : Type 0} {P : Type 0} (answer : Result A StartFault) → P → OnErr answer P
+on_err : {A : Type 0} {P : Type 0} (answer : Result A ProgramFault) → P → OnErr answer P
 on_err (Ok found) p = tt
 on_err (Err fault) p = p
 

@@ -11,8 +11,6 @@ returns-in_err-text g c =
     let texts = view_texts c.args.texts.now in
     let look = c.args.look.now in
     let e = c.in_err-text.field-0.0 in
-    let taken = g.W.ByteSink.taken c.args.sink.now in
-    let w = g.W.ByteSink.has_failed c.args.sink.now in
-    let s = g.W.ByteSink.is_stalled c.args.sink.now in
-    passed (λ r. Draws texts o look.style.now look.legend.now r taken taken w s) c.from_residual.result e
-    c.from_residual.ensures (not_drawn o look.style.now look.legend.now texts taken w s e c.in_err-text.ensures)
+    let sink = g.W.ByteSink.state c.args.sink.now in
+    passed (λ r. Draws texts o look.style.now look.legend.now r sink sink) c.from_residual.result e
+    c.from_residual.ensures (not_drawn o look.style.now look.legend.now texts sink e c.in_err-text.ensures)

@@ -6,12 +6,11 @@ use Rattle.snaphunt.proofs.answers.hunt.Goals as goal
 
 pub returns-in-Err : goal.returns-in-Err
 returns-in-Err g c =
-    let asked = c.args.asked.now in
-    let sink = c.args.sink.now in (
+    let asked = c.args.asked.now in (
       Err c.in-Err.fault,
       [],
       c.finish-in-Err.ensures.status,
       no_text (g.F.FileSource.found c.args.files.now) (view_listed asked.listed) asked.asked c.in-Err.fault []
-          (g.S.ByteSink.taken sink) (g.S.ByteSink.has_failed sink) (g.S.ByteSink.is_stalled sink) c.in-Err.ensures,
+          (g.S.ByteSink.state c.args.sink.now) c.in-Err.ensures,
       c.finish-in-Err.ensures.says,
     )

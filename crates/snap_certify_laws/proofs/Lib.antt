@@ -1,2 +1,0 @@
--- The proofs of snap_certify_laws, by their modules.
-pub mod Kept

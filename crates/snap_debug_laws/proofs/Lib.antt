@@ -1,2 +1,0 @@
--- The proofs of snap_debug_laws, by their modules.
-pub mod FirstStops

@@ -1,2 +1,0 @@
--- The definitions of snap_debug_laws, by their modules.
-pub mod IsStop

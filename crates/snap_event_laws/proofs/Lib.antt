@@ -1,2 +1,0 @@
--- The proofs of snap_event_laws, by their modules.
-mod Telling

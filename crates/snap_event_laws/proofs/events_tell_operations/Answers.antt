@@ -1,8 +1,0 @@
--- `events_tell_operations` of snap_event_laws (src/lib.rt): the proof of what its contract says.
--- The events of a run of any listing are the calls and the ends of its operations, and nothing that did not happen:
--- so what is proved of operations, as that they are linearizable, is said of the events that are printed.
-use Rattle.snap_event_laws.proofs.Telling.{tells_operations}
-use Rattle.snap_event_laws.proofs.events_tell_operations.Goals as goal
-
-pub returns : goal.returns
-returns c = tells_operations c.ends_are_of_operations.ensures

@@ -1,0 +1,1 @@
+-- The proofs of snap_faults, by their modules.

@@ -1,0 +1,5 @@
+-- The definitions of snap_faults, by their modules.
+pub mod Faults
+pub mod Names
+pub mod FaultText
+pub mod Told

@@ -1,0 +1,195 @@
+//! `fault_line`: the line that a program says for a fault.
+ghost use Rattle.std.specs.Prelude.{◌≡◌, ◌++◌, IfOk, OnOk, codes, option_map};
+ghost use Rattle.snap_faults.specs.FaultText.{fault_line, fault_text, history_refusal_text};
+ghost use Rattle.snap_faults.specs.FaultText.{live_refusal_text, model_refusal_text, refused_file};
+ghost use Rattle.snap_faults.specs.FaultText.{refused_in};
+ghost use Rattle.snap_faults.specs.Names.{file_of, front, view_names};
+ghost use Rattle.snap_faults.specs.declared.fault.ProgramFault.TheVariants.{Unread};
+
+use crate::fault::ProgramFault;
+use crate::files::{Names, Which};
+use snap_files::reason;
+use snap_history_text::HistoryRefusal;
+use snap_live_desk::LiveRefusal;
+use snap_promela::ModelRefusal;
+use snap_refusals::{push_numbered, push_refused};
+use snap_semantics::Refusal;
+use snap_text::push_text;
+use std::alloc::{AllocError, Global};
+use std::io::ErrorKind;
+
+fn push_live_refusal(out: &mut Vec<u8>, refusal: &LiveRefusal) -> Result<(), AllocError>
+    ensures { OnOk result (out.new.items ≡ out.old.items ++ live_refusal_text refusal.now) }
+{
+    match refusal {
+        LiveRefusal::Full(count) => push_numbered(out, b"V1 Full", *count),
+        LiveRefusal::TurnLimit(process) => {
+            push_numbered(out, b"V2 TurnLimit", u64::from(*process))
+        }
+        LiveRefusal::SeatMissing(process) => {
+            push_numbered(out, b"V3 SeatMissing", u64::from(*process))
+        }
+    }
+}
+
+fn push_history_refusal(out: &mut Vec<u8>, refusal: &HistoryRefusal) -> Result<(), AllocError>
+    ensures { OnOk result (out.new.items ≡ out.old.items ++ history_refusal_text refusal.now) }
+{
+    match refusal {
+        HistoryRefusal::TooLong => push_text(out, b"H1 TooLong"),
+        HistoryRefusal::BadShape => push_text(out, b"H2 BadShape"),
+        HistoryRefusal::BadEvent(line) => push_numbered(out, b"H3 BadEvent", *line),
+        HistoryRefusal::NoSuchProcess(line) => push_numbered(out, b"H4 NoSuchProcess", *line),
+        HistoryRefusal::NotRising(line) => push_numbered(out, b"H5 NotRising", *line),
+        HistoryRefusal::NoSuchWord(line) => push_numbered(out, b"H6 NoSuchWord", *line),
+        HistoryRefusal::Busy(line) => push_numbered(out, b"H7 Busy", *line),
+        HistoryRefusal::Crashed(line) => push_numbered(out, b"H8 Crashed", *line),
+        HistoryRefusal::NotCalled(line) => push_numbered(out, b"H9 NotCalled", *line),
+        HistoryRefusal::BadView(line) => push_numbered(out, b"H10 BadView", *line),
+    }
+}
+
+fn push_model_refusal(out: &mut Vec<u8>, refusal: &ModelRefusal) -> Result<(), AllocError>
+    ensures { OnOk result (out.new.items ≡ out.old.items ++ model_refusal_text refusal.now) }
+{
+    match refusal {
+        ModelRefusal::TooLarge => push_text(out, b"M1 TooLarge"),
+        ModelRefusal::BadNumber(number) => push_numbered(out, b"M2 BadNumber", *number),
+    }
+}
+
+/// The name of a file.
+fn file_of<'a>(names: &Names<'a>, which: Which) -> Option<&'a str>
+    ensures { option_map (λ name. name.now) result ≡ file_of (view_names names.now) which }
+{
+    match which {
+        Which::Listing => names.listing,
+        Which::Schedule => names.schedule,
+    }
+}
+
+/// Adds the front of a line that speaks of a file, where it has a name.
+#[tactic(auto, using(snap_text::proofs::Texts::joined))]
+fn push_front(out: &mut Vec<u8>, program: &str, file: Option<&str>) -> Result<(), AllocError>
+    ensures { OnOk result (out.new.items
+        ≡ out.old.items ++ front program.now (option_map (λ name. name.now) file.entry)) }
+{
+    match file {
+        Some(file) => {
+            push_text(out, program.as_bytes())?;
+            push_text(out, b": ")?;
+            push_text(out, file.as_bytes())?;
+            push_text(out, b": ")
+        }
+        None => Ok(()),
+    }
+}
+
+/// Which of the files is refused so.
+fn refused_file(refusal: &Refusal) -> Which
+    ensures { result ≡ refused_file refusal.now }
+{
+    match refusal {
+        Refusal::Listing(_) => Which::Listing,
+        _ => Which::Schedule,
+    }
+}
+
+/// Adds that a file, or an input that has no name, is refused.
+#[tactic(auto, using(snap_text::proofs::Texts::joined))]
+fn push_refused_in(
+    out: &mut Vec<u8>,
+    names: &Names<'_>,
+    which: Which,
+    refusal: &Refusal,
+) -> Result<(), AllocError>
+    ensures { OnOk result (out.new.items
+        ≡ out.old.items ++ refused_in (view_names names.now) which refusal.now) }
+{
+    push_front(out, names.program, file_of(names, which))?;
+    push_refused(out, refusal)
+}
+
+/// Adds why a file was not read.
+#[tactic(auto, using(snap_text::proofs::Texts::joined))]
+fn push_unread(
+    out: &mut Vec<u8>,
+    names: &Names<'_>,
+    which: Which,
+    kind: ErrorKind,
+) -> Result<(), AllocError>
+    ensures { OnOk result (out.new.items ≡ out.old.items
+        ++ fault_text (view_names names.now) (Unread which kind)) }
+{
+    push_front(out, names.program, file_of(names, which))?;
+    push_text(out, reason(kind).as_bytes())
+}
+
+/// Adds that what a hunt found is not that of its input.
+#[tactic(auto, using(snap_text::proofs::Texts::joined))]
+fn push_unsaid(out: &mut Vec<u8>, program: &str) -> Result<(), AllocError>
+    ensures { OnOk result (out.new.items ≡ out.old.items
+        ++ (program.now ++ codes ": the run that was found is not that of the input")) }
+{
+    push_text(out, program.as_bytes())?;
+    push_text(out, b": the run that was found is not that of the input")
+}
+
+/// Adds what is said for a fault.
+#[tactic(auto, using(snap_text::proofs::Texts::joined))]
+fn push_fault(out: &mut Vec<u8>, names: &Names<'_>, fault: &ProgramFault) -> Result<(), AllocError>
+    ensures { OnOk result (out.new.items
+        ≡ out.old.items ++ fault_text (view_names names.now) fault.now) }
+{
+    match fault {
+        ProgramFault::Memory => push_text(out, b"refused: Memory"),
+        ProgramFault::Refused(refusal) => {
+            push_refused_in(out, names, refused_file(refusal), refusal)
+        }
+        ProgramFault::Live(refusal) => {
+            push_text(out, b"refused: ")?;
+            push_live_refusal(out, refusal)
+        }
+        ProgramFault::History(refusal) => {
+            push_text(out, b"refused: ")?;
+            push_history_refusal(out, refusal)
+        }
+        ProgramFault::Model(refusal) => {
+            push_text(out, b"refused: ")?;
+            push_model_refusal(out, refusal)
+        }
+        ProgramFault::NoSuchItems(total) => {
+            push_numbered(out, b"refused: D1 NoSuchItems", *total)
+        }
+        ProgramFault::TooManyItems(count) => {
+            push_numbered(out, b"refused: D2 TooManyItems", *count)
+        }
+        ProgramFault::Unsaid => push_unsaid(out, names.program),
+        ProgramFault::TooLong(which) => {
+            push_refused_in(out, names, *which, &Refusal::InputTooLong)
+        }
+        ProgramFault::Unread(which, kind) => push_unread(out, names, *which, *kind),
+        ProgramFault::Read => push_text(out, b"read fault"),
+        ProgramFault::Write(count) => push_numbered(out, b"write fault after", *count),
+        ProgramFault::Show => push_text(out, b"write fault"),
+    }
+}
+
+/// Returns the line that a program says for a fault, with the name of the file that it is about,
+/// where there is one.
+///
+/// # Errors
+///
+/// There is no memory for it.
+pub fn fault_line(
+    alloc: Global,
+    names: &Names<'_>,
+    fault: &ProgramFault,
+) -> Result<Vec<u8>, AllocError>
+    ensures { IfOk result (λ line. line.items ≡ fault_line (view_names names.now) fault.now) }
+{
+    let mut line = Vec::new(alloc);
+    push_fault(&mut line, names, fault)?;
+    line.push(b'\n')?;
+    Ok(line)
+}

@@ -1,0 +1,2 @@
+-- The proofs of snap_history_laws, by their modules.
+mod Telling

@@ -1,0 +1,3 @@
+-- The proofs of snap_history_laws, by their modules.
+pub mod Steps
+pub mod Nothing

@@ -1,0 +1,8 @@
+-- `shipped_runs_are_seen_linearizable` of snap_history_laws (src/judgements.rt): the proof of what its contract says.
+use Rattle.snap_history_laws.proofs.judgements.Shipped.{shipped_runs}
+use Rattle.snap_history_laws.proofs.judgements.shipped_runs_are_seen_linearizable.Goals as goal
+
+pub returns : goal.returns
+returns c =
+    shipped_runs c.runs_have_histories.ensures c.runs_are_told_by_their_histories.ensures
+    c.linearizable_from_the_beginning.ensures c.shipped_are_listings.ensures c.shipped_runs_keep_promises.ensures

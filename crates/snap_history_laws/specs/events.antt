@@ -1,0 +1,2 @@
+-- The definitions of snap_history_laws, by their modules.
+pub mod EventLaws

@@ -1,9 +1,0 @@
--- The proofs of snap_judge_laws, by their modules.
-mod Crashing
-mod Matching
-mod Linear
-mod Once
-mod Cutting
-mod Judged
-mod Threads
-mod Shipped

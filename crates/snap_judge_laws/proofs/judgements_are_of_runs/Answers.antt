@@ -1,8 +1,0 @@
--- `judgements_are_of_runs` of snap_judge_laws (src/lib.rt): the proof of what its contract says.
-use Rattle.snap_judge_laws.proofs.Judged.{judgements_are_of_runs}
-use Rattle.snap_judge_laws.proofs.judgements_are_of_runs.Goals as goal
-
-pub returns : goal.returns
-returns c =
-    judgements_are_of_runs c.events_tell_operations.ensures c.runs_have_histories.ensures
-    c.runs_are_told_by_their_histories.ensures c.linearizable_from_the_beginning.ensures

@@ -1,5 +1,0 @@
--- The definitions of snap_judge_laws, by their modules.
-pub mod RunLaws
-pub mod JudgementLaws
-pub mod ThreadLaws
-pub mod ShippedLaws

@@ -1,8 +1,0 @@
--- The proofs of snap_loan_laws, by their modules.
-pub mod Named
-pub mod Went
-pub mod Lines
-pub mod Turns
-pub mod Items
-pub mod Scans
-pub mod Followed

@@ -1,0 +1,257 @@
+-- The lender of a view is a whole scan of an update of the process that wrote the view (`FinishedScan`).
+use Rattle.std.proofs.Common.{◌≡◌, ◌⊎◌, inl, inr, ℕ, zero, suc, ◌+◌, ◌<◌, ◌≤◌, Bool, true, false, ◌&&◌, nat_eq}
+use Rattle.std.proofs.Common.{List, [], Option, Some, None, length, if◌then◌else◌, refl, sym, subst, ap, ◌∙◌, arith}
+use Rattle.std.proofs.lemmas.Bool.{cases_lt, eq-eqb, eqb-true}
+use Rattle.snap_words.specs.Shape.{IsOneOf}
+use Rattle.snap_semantics.specs.IsListing.{IsListing}
+use Rattle.snap_semantics.specs.Source.{Name, Source}
+use Rattle.snap_semantics.specs.State.{Locals, Process, process_at, value_at}
+use Rattle.snap_semantics.specs.Table.{who}
+use Rattle.snap_semantics.specs.declared.instr.Instr.{Instr}
+use Rattle.snap_semantics.specs.declared.instr.Instr.TheVariants.{Let, LetPlace, Get, Bit, Look, Put, PutBit, PutView}
+use Rattle.snap_semantics.specs.declared.instr.Instr.TheVariants.{ViewData, ViewOf, Each, First, Next, If, IfAll}
+use Rattle.snap_semantics.specs.declared.instr.Instr.TheVariants.{Goto, Call, Return, Finish}
+use Rattle.snap_semantics.specs.declared.process.Item.TheVariants as item
+use Rattle.snap_semantics.specs.declared.process.Status.{Status}
+use Rattle.snap_semantics.specs.declared.process.Status.TheVariants.{Idle, Busy, Trapped, Crashed}
+use Rattle.snap_runs.specs.Run.{IsValidRun, Run, state, item as item_at, outcome as outcome_at}
+use Rattle.snap_runs.specs.Scan.{Ends, FinishedScan, ReturnsView, line_in, link_in}
+use Rattle.snap_acts.specs.Trace.{trace_of}
+use Rattle.snap_acts.specs.Loans.{handed_on, step_at}
+use Rattle.snap_acts.specs.Searches.{first_within, is_enter, is_leave, last_before, meets}
+use Rattle.snap_acts.specs.declared.act.Act.{Act}
+use Rattle.snap_acts.specs.declared.act.Act.TheVariants as act
+use Rattle.snap_acts.specs.declared.act.Step.{Step}
+use Rattle.snap_acts.specs.declared.wanted.Wanted.{Wanted}
+use Rattle.snap_acts.specs.declared.wanted.Wanted.TheVariants as wanted
+use Rattle.snap_reading_laws.specs.loans.Held.{handed_view, held, held_if_named}
+use Rattle.snap_reading_laws.proofs.loans.Items.{told, turn}
+use Rattle.snap_reading_laws.proofs.loans.Named.{both_true, numbers_differ}
+use Rattle.snap_reading_laws.proofs.loans.Turns.{Begins, IsStuck, Returns}
+
+-- what is found is there
+pub found : (w : Wanted) (ss : List Step) (k g : ℕ) → last_before w ss k ≡ Some g →
+    (g < k) × (meets w (step_at ss g) ≡ true)
+found w ss zero g e = absurd cc
+found w ss (suc k) g e = by_last (meets w (step_at ss k)) refl (found w ss k g) e
+  where
+    by_last : (b : Bool) → meets w (step_at ss k) ≡ b →
+        (last_before w ss k ≡ Some g → (g < k) × (meets w (step_at ss g) ≡ true)) →
+        (if b then Some k else last_before w ss k) ≡ Some g → (g < suc k) × (meets w (step_at ss g) ≡ true)
+    by_last true is more e =
+        let same : k ≡ g = cc in (omega (arith, same), subst (λ j. meets w (step_at ss j) ≡ true) same is)
+    by_last false is more e = let there = more e in let less = there.0 in (omega (arith, less), there.1)
+
+-- the first place at which there is what is wanted
+pub record IsFirst (w : Wanted) (ss : List Step) (k e : ℕ) : Type 0 where
+  pub there : meets w (step_at ss e) ≡ true
+  pub after : k ≤ e
+  pub first : (t : ℕ) → k ≤ t → t < e → meets w (step_at ss t) ≡ false
+
+pub is_first : (w : Wanted) (ss : List Step) (k count e : ℕ) → first_within w ss k count ≡ Some e → IsFirst w ss k e
+is_first w ss k zero e is = absurd cc
+is_first w ss k (suc count) e is =
+    by_first (meets w (step_at ss k)) refl (is_first w ss (k + 1) count e) is
+  where
+    by_first : (b : Bool) → meets w (step_at ss k) ≡ b →
+        (first_within w ss (k + 1) count ≡ Some e → IsFirst w ss (k + 1) e) →
+        (if b then Some k else first_within w ss (k + 1) count) ≡ Some e → IsFirst w ss k e
+    by_first true here more is =
+        let same : k ≡ e = cc in record {
+          there = subst (λ j. meets w (step_at ss j) ≡ true) same here;
+          after = omega (arith, same);
+          first = λ t from to. absurd (omega (arith, same, from, to));
+        }
+    by_first false here more is =
+        let later = more is in
+        let after = later.after in record {
+          there = later.there;
+          after = omega (arith, after);
+          first = λ t from to. elim (cases_lt k t) [
+            | inl above ↦ later.first t (omega (arith, above)) to
+            | inr same ↦ subst (λ j. meets w (step_at ss j) ≡ false)
+                (let is : k ≡ t = omega (arith, from, same) in is) here
+          ];
+        }
+
+is_entered : (a : Act) → is_enter a ≡ true → a ≡ act.Enter
+is_entered (act.Call o) e = absurd cc
+is_entered (act.Answer view x) e = absurd cc
+is_entered act.Done e = absurd cc
+is_entered act.Crash e = absurd cc
+is_entered act.Trap e = absurd cc
+is_entered act.Skip e = absurd cc
+is_entered (act.Write word values x) e = absurd cc
+is_entered (act.Publish j x) e = absurd cc
+is_entered (act.Read word into) e = absurd cc
+is_entered (act.Look j x) e = absurd cc
+is_entered (act.Borrow into x) e = absurd cc
+is_entered (act.Collect x) e = absurd cc
+is_entered (act.Test passed) e = absurd cc
+is_entered act.Enter e = refl
+is_entered (act.Leave x) e = absurd cc
+is_entered act.Other e = absurd cc
+
+is_left : (a : Act) → is_leave a ≡ true → (y : Name) × (a ≡ act.Leave y)
+is_left (act.Call o) e = absurd cc
+is_left (act.Answer view x) e = absurd cc
+is_left act.Done e = absurd cc
+is_left act.Crash e = absurd cc
+is_left act.Trap e = absurd cc
+is_left act.Skip e = absurd cc
+is_left (act.Write word values x) e = absurd cc
+is_left (act.Publish j x) e = absurd cc
+is_left (act.Read word into) e = absurd cc
+is_left (act.Look j x) e = absurd cc
+is_left (act.Borrow into x) e = absurd cc
+is_left (act.Collect x) e = absurd cc
+is_left (act.Test passed) e = absurd cc
+is_left act.Enter e = absurd cc
+is_left (act.Leave x) e = (x, refl)
+is_left act.Other e = absurd cc
+
+-- a line that returns a view
+line_returned : (f : Option Instr) (l : Locals) (view : List ℕ) → ReturnsView f l view →
+    (y : Name) × (f ≡ Some (Return y))
+line_returned None l view h = absurd h
+line_returned (Some (Let x e)) l view h = absurd h
+line_returned (Some (LetPlace x i e)) l view h = absurd h
+line_returned (Some (Get x i k)) l view h = absurd h
+line_returned (Some (Bit x b i k)) l view h = absurd h
+line_returned (Some (Look x i)) l view h = absurd h
+line_returned (Some (Put i t)) l view h = absurd h
+line_returned (Some (PutBit b i k e)) l view h = absurd h
+line_returned (Some (PutView i x)) l view h = absurd h
+line_returned (Some (ViewData x y)) l view h = absurd h
+line_returned (Some (ViewOf x y i)) l view h = absurd h
+line_returned (Some (Each g x e k)) l view h = absurd h
+line_returned (Some (First x g k target)) l view h = absurd h
+line_returned (Some (Next x g target)) l view h = absurd h
+line_returned (Some (If k target)) l view h = absurd h
+line_returned (Some (IfAll g k target)) l view h = absurd h
+line_returned (Some (Goto target)) l view h = absurd h
+line_returned (Some (Call target)) l view h = absurd h
+line_returned (Some (Return x)) l view h = (x, refl)
+line_returned (Some Finish) l view h = absurd h
+
+stands_nowhere : (s : Source) (u : Status) (i : Instr) → IsStuck u → line_in s u ≡ Some i → ⊥
+stands_nowhere s Idle i h line = absurd cc
+stands_nowhere s (Busy a) i h line = absurd h
+stands_nowhere s (Trapped c a) i h line = absurd cc
+stands_nowhere s (Crashed was) i h line = absurd cc
+
+module _ (r : Run) (listing : IsListing r.source) (valid : IsValidRun r) (i : ℕ) (one : IsOneOf r.shape.n i) where
+  abbrev ss : List Step
+  ss = trace_of r
+
+  abbrev most : ℕ
+  most = length r.items
+
+  abbrev status : ℕ → Status
+  status t = (process_at (state r t) i).status
+
+  abbrev process : ℕ → ℕ
+  process k = (step_at ss k).process
+
+  abbrev Within : ℕ → ℕ → Type 0
+  Within k t = (link_in (status t) ≡ Some k) ⊎ IsStuck (status t)
+
+  -- within a scan the link stays, or its process stops for good
+  stays : (k t : ℕ) → t < most → meets (wanted.Leave i) (step_at ss t) ≡ false → Within k t → Within k (suc t)
+  stays k t less away h = by_process (nat_eq (process t) i) refl away
+    where
+      by_process : (b : Bool) → nat_eq (process t) i ≡ b → (b && is_leave (step_at ss t).act) ≡ false →
+          Within k (suc t)
+      by_process true is away =
+          let own = subst (λ (j : ℕ). ((m : ℕ) → is_leave (step_at ss t).act ≡ false →
+          link_in (process_at (state r t) j).status ≡ Some m →
+          (link_in (process_at (state r (suc t)) j).status ≡ Some m) ⊎ IsStuck (process_at (state r (suc t)) j).status)
+          × (IsStuck (process_at (state r t) j).status → IsStuck (process_at (state r (suc t)) j).status))
+          (eqb-true (process t) i is)
+          ((turn r t listing valid less).0.stays, (turn r t listing valid less).0.stuck) in
+          elim h [
+            | inl has ↦ own.0 k away has
+            | inr stuck ↦ inr (own.1 stuck)
+          ]
+      by_process false is away =
+          let same = (told r t listing valid less).others i one
+          (λ equal. numbers_differ (process t) i is (sym equal)) in
+          subst (λ (p : Process). (link_in p.status ≡ Some k) ⊎ IsStuck p.status) (sym same) h
+
+  all_along : (k a e : ℕ) → e < most → ((t : ℕ) → a ≤ t → t < e → meets (wanted.Leave i) (step_at ss t) ≡ false) →
+      Within k (suc a) → (t : ℕ) → a < t → t ≤ e → Within k t
+  all_along k a e less away start zero from to = absurd (omega (arith, from))
+  all_along k a e less away start (suc t) from to =
+      elim (cases_lt a t) [
+        | inl later ↦
+            stays k t (omega (arith, to, less)) (away t (omega (arith, later)) (omega (arith, to)))
+            (all_along k a e less away start t later (omega (arith, to)))
+        | inr first ↦ subst (Within k) (let same : suc a ≡ suc t = omega (arith, from, first) in same) start
+      ]
+
+  -- what ends a scan with a link leaves it
+  ends_leaves : (k t : ℕ) (view : List ℕ) → t < most → Ends r i (suc t) (Some k) view →
+      meets (wanted.Leave i) (step_at ss t) ≡ true
+  ends_leaves k t view less ends =
+      let is_his : process t ≡ i =
+      (turn r t listing valid less).1 ∙ ap who ends.0 in
+      let line = line_returned (line_in r.source (status t)) (process_at (state r t) i).locals view ends.1 in
+      let leaves = subst (λ (j : ℕ). (y : Name) (m : ℕ) → item_at r (suc t) ≡ item.Step j →
+      line_in r.source (process_at (state r t) j).status ≡ Some (Return y) →
+      link_in (process_at (state r t) j).status ≡ Some m → is_leave (step_at ss t).act ≡ true) is_his
+      (turn r t listing valid less).0.returns line.0 k ends.0 line.1 ends.2 in
+      ap (λ b. b && is_leave (step_at ss t).act) (eq-eqb (process t) i is_his) ∙ leaves
+
+  -- the scan that begins at place a and whose first end is at place e
+  pub scan_is : (d a e count : ℕ) → last_before (wanted.Enter i) ss d ≡ Some a →
+      first_within (wanted.Leave i) ss a count ≡ Some e → d < e → e < most →
+      (link : ℕ) × FinishedScan r i (Some link) (suc a) (suc e) (handed_view r e)
+  scan_is d a e count enter leave after less =
+      let entered = found (wanted.Enter i) ss d a enter in
+      let before = entered.0 in
+      let last = is_first (wanted.Leave i) ss a count e leave in
+      let his = both_true (nat_eq (process a) i) (is_enter (step_at ss a).act) entered.1 in
+      let its = both_true (nat_eq (process e) i) (is_leave (step_at ss e).act) last.there in
+      let start : a < most = omega (arith, before, after, less) in
+      let begins = subst (λ (j : ℕ). Begins r.source j (item_at r (suc a)) (process_at (state r a) j).status
+      (outcome_at r (suc a)) (process_at (state r (suc a)) j).status) (eqb-true (process a) i his.0)
+      ((turn r a listing valid start).0.enters (is_entered (step_at ss a).act his.1)) in
+      let left = is_left (step_at ss e).act its.1 in
+      let same : process e ≡ i = eqb-true (process e) i its.0 in
+      let ends = subst (λ (j : ℕ). Returns r.source j (item_at r (suc e)) (process_at (state r e) j).status left.0)
+      same ((turn r e listing valid less).0.leaves left.0 left.1) in
+      let link : link_in (status e) ≡ Some begins.link =
+      elim (all_along begins.link a e less last.first (inl begins.has) e (omega (arith, before, after)) (omega arith)) [
+        | inl has ↦ has
+        | inr stuck ↦ absurd (stands_nowhere r.source (status e) (Return left.0) stuck ends.line)
+      ] in
+      let view : value_at left.0 (process_at (state r e) i).locals.views [] ≡ handed_view r e =
+      ap (λ (j : ℕ). held r j left.0 e) (sym same)
+      ∙ ap (λ (t : Act). held_if_named r (process e) (handed_on t) e) (sym left.1) in (
+        begins.link,
+        record {
+          scan = record {
+            process = one;
+            starts = (begins.item, begins.line, begins.goes, begins.has);
+            first = omega arith;
+            order = omega (arith, before, after);
+            last = omega (arith, less);
+            goes_on = λ t view from to is. not_yet last.first less begins.link t view from to is;
+          };
+          order = omega (arith, before, after);
+          ends = (
+            ends.item,
+            subst (λ (f : Option Instr). ReturnsView f (process_at (state r e) i).locals (handed_view r e))
+                (sym ends.line) view,
+            link,
+          );
+        },
+      )
+    where
+      not_yet : ((t : ℕ) → a ≤ t → t < e → meets (wanted.Leave i) (step_at ss t) ≡ false) → e < most → (k t : ℕ)
+          (view : List ℕ) → suc a < t → t < suc e → Ends r i t (Some k) view → ⊥
+      not_yet away less k zero view from to is = absurd (omega (arith, from))
+      not_yet away less k (suc t) view from to is =
+          let one_way = away t (omega (arith, from)) (omega (arith, to)) in
+          let other_way = ends_leaves k t view (omega (arith, to, less)) is in
+          (let wrong : false ≡ true = sym one_way ∙ other_way in absurd cc)

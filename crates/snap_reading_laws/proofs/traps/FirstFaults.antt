@@ -1,0 +1,317 @@
+-- What is told of a line is the first of its operands that the process cannot take: `IsFirstFault`.
+use Rattle.std.proofs.Common.{◌≡◌, ℕ, zero, suc, ◌+◌, ◌-◌, ◌^◌, ◌<◌, List, [], ◌∷◌, ◌++◌, Option, Some, None, Result}
+use Rattle.std.proofs.Common.{Ok, Err, Bool, true, false, if◌then◌else◌, map, take, nat_lt, refl, sym, ap, ◌∙◌, arith}
+use Rattle.std.specs.List.{range_with_len}
+use Rattle.snap_words.specs.Kind.{is_bit, may_write}
+use Rattle.snap_words.specs.Shape.{Counts, is_place, places}
+use Rattle.snap_words.specs.declared.address.Bank.{Bank}
+use Rattle.snap_words.specs.declared.address.Bank.TheVariants as bank
+use Rattle.snap_words.specs.declared.kind.KindTag.{KindTag}
+use Rattle.snap_semantics.specs.Readers.{local_value}
+use Rattle.snap_semantics.specs.Rules.{or_else}
+use Rattle.snap_semantics.specs.State.{State, process_at, value_at}
+use Rattle.snap_semantics.specs.Table.{bank_of, bit_value, range_end}
+use Rattle.snap_semantics.specs.Value.{Context, at_place, checked_sum, expr_value, index_value, term_value}
+use Rattle.snap_semantics.specs.declared.instr.Comparison.{Comparison}
+use Rattle.snap_semantics.specs.declared.instr.Condition.{Condition}
+use Rattle.snap_semantics.specs.declared.instr.Condition.TheVariants.{One, Two, Three, Four}
+use Rattle.snap_semantics.specs.declared.instr.Expr.{Expr}
+use Rattle.snap_semantics.specs.declared.instr.Expr.TheVariants as expr
+use Rattle.snap_semantics.specs.declared.instr.Index.{Index}
+use Rattle.snap_semantics.specs.declared.instr.Instr.{Instr}
+use Rattle.snap_semantics.specs.declared.instr.Instr.TheVariants as instr
+use Rattle.snap_semantics.specs.declared.instr.Term.{Term}
+use Rattle.snap_semantics.specs.declared.instr.Term.TheVariants as term
+use Rattle.snap_semantics.specs.declared.instr.Tuple.{Tuple}
+use Rattle.snap_semantics.specs.declared.instr.Tuple.TheVariants as tuple
+use Rattle.snap_semantics.specs.declared.process.Cause.{Cause}
+use Rattle.snap_semantics.specs.declared.process.Cause.TheVariants as cause
+use Rattle.snap_why.specs.Troubles.{bit_trouble, bits_trouble, comparison_trouble, condition_trouble}
+use Rattle.snap_why.specs.Troubles.{conditions_trouble, context_of, expr_number, expr_trouble, line_trouble}
+use Rattle.snap_why.specs.Troubles.{owner_trouble, place_trouble, row_in, sum_trouble}
+use Rattle.snap_why.specs.Troubles.{term_number, term_trouble, tuple_trouble, values_trouble, where_trouble}
+use Rattle.snap_why.specs.declared.taker.Taker.{Taker}
+use Rattle.snap_why.specs.declared.trouble.Trouble.{Trouble}
+use Rattle.snap_why.specs.declared.trouble.Trouble.TheVariants.{NoPlace, LargeSum, NoBit, NotOwn}
+use Rattle.snap_reading_laws.specs.traps.Operands.{IsFirstFault, Operand, Taken, at_each, bit, bit_fault}
+use Rattle.snap_reading_laws.specs.traps.Operands.{comparison_operands, condition_operands, expr_operands, fault_at, fault_of}
+use Rattle.snap_reading_laws.specs.traps.Operands.{handshake, here, operands_of, place, register, sum, sum_fault}
+use Rattle.snap_reading_laws.specs.traps.Operands.{term_operands, told_where_none, tuple_operands, where_operands}
+use Rattle.snap_reading_laws.proofs.traps.Places.{or_none}
+use Rattle.snap_reading_laws.proofs.traps.Values.{Gives, HaveOneSort, expr_gives, term_gives}
+
+-- the first fault among operands
+abbrev pub first_fault : KindTag → List Taken → Option Trouble
+first_fault kind [] = None
+first_fault kind (o ∷ os) = or_else (fault_of kind o.0 o.1) (first_fault kind os)
+
+-- it is the first
+pub is_first : (kind : KindTag) (os : List Taken) → IsFirstFault kind os (first_fault kind os)
+is_first kind [] = λ k. refl
+is_first kind (o ∷ os) = go (fault_of kind o.0 o.1) (first_fault kind os) refl (is_first kind os) where
+  go : (f rest : Option Trouble) → fault_of kind o.0 o.1 ≡ f → IsFirstFault kind os rest →
+      IsFirstFault kind (o ∷ os) (or_else f rest)
+  go (Some t) rest is h = (0, is, λ j lt. absurd (omega (arith, lt)))
+  go None None is h = none
+    where
+      none : (k : ℕ) → fault_at kind (o ∷ os) k ≡ None
+      none zero = is
+      none (suc k) = h k
+  go None (Some t) is h = (suc h.0, h.1, before)
+    where
+      before : (j : ℕ) → j < suc h.0 → fault_at kind (o ∷ os) j ≡ None
+      before zero lt = is
+      before (suc j) lt = h.2 j (omega (arith, lt))
+
+-- chains of troubles
+or_or : {A : Type 0} (a b c : Option A) → or_else (or_else a b) c ≡ or_else a (or_else b c)
+or_or None b c = refl
+or_or (Some x) b c = refl
+
+both : {A : Type 0} (a b c d : Option A) → a ≡ b → c ≡ d → or_else a c ≡ or_else b d
+both a b c d h k = ap (λ x. or_else x c) h ∙ ap (λ y. or_else b y) k
+
+front : (kind : KindTag) (xs ys : List Taken) →
+    first_fault kind (xs ++ ys) ≡ or_else (first_fault kind xs) (first_fault kind ys)
+front kind [] ys = refl
+front kind (x ∷ xs) ys =
+    ap (λ o. or_else (fault_of kind x.0 x.1) o) (front kind xs ys)
+    ∙ sym (or_or (fault_of kind x.0 x.1) (first_fault kind xs) (first_fault kind ys))
+
+here_front : (c : Context) (xs ys : List Operand) → here c (xs ++ ys) ≡ here c xs ++ here c ys
+here_front c [] ys = refl
+here_front c (x ∷ xs) ys = ap (λ zs. (c, x) ∷ zs) (here_front c xs ys)
+
+-- an index, a bit and an owner
+place_is : (kind : KindTag) (c : Context) (i : Index) (count : ℕ) →
+    place_trouble c i count ≡ fault_of kind c (place i count)
+place_is kind c i count = elim (is_place count (index_value c i))
+    as (λ (b : Bool). (if b then None else Some (NoPlace i (index_value c i) count))
+    ≡ told_where_none (if b then Ok (index_value c i - 1) else Err cause.Index) (NoPlace i (index_value c i) count)) [
+      | true ↦ refl
+      | false ↦ refl
+    ]
+
+number_is : (x : ℕ) → bit_trouble x ≡ told_where_none (bit_value x) (NoBit x)
+number_is x = elim (is_bit x)
+    as (λ (b : Bool). (if b then None else Some (NoBit x))
+    ≡ told_where_none (if b then Ok x else Err cause.NotABit) (NoBit x)) [
+      | true ↦ refl
+      | false ↦ refl
+    ]
+
+owner_is : (kind : KindTag) (c : Context) (b : Bank) (i j : ℕ) →
+    owner_trouble kind c b i j ≡ fault_of kind c (register b i j)
+owner_is kind c b i j = elim (may_write kind c.me b i)
+    as (λ (m : Bool). (if m then None else Some (NotOwn b i j))
+    ≡ told_where_none (if m then Ok (tt {0}) else Err cause.Owner) (NotOwn b i j)) [
+      | true ↦ refl
+      | false ↦ refl
+    ]
+
+sum_is : (x y : ℕ) → sum_trouble x y ≡ told_where_none (checked_sum x y) (LargeSum x y)
+sum_is x y = elim (nat_lt (x + y) (2 ^ 64))
+    as (λ (b : Bool). (if b then None else Some (LargeSum x y))
+    ≡ told_where_none (if b then Ok (x + y) else Err cause.Overflow) (LargeSum x y)) [
+      | true ↦ refl
+      | false ↦ refl
+    ]
+
+-- behind operands that can be taken
+sum_behind : (a b : Option Trouble) (x y : ℕ) (r s : Result ℕ Cause) → Gives a x r → Gives b y s →
+    or_else a (or_else b (sum_trouble x y)) ≡ or_else a (or_else b (sum_fault r s))
+sum_behind None None x y r s h k =
+    sum_is x y ∙ ap (λ (u : Result ℕ Cause). sum_fault u (Ok y)) (sym h)
+    ∙ ap (λ (v : Result ℕ Cause). sum_fault r v) (sym k)
+sum_behind None (Some t) x y r s h k = refl
+sum_behind (Some t) b x y r s h k = refl
+
+bit_behind : (a rest : Option Trouble) (x : ℕ) (r : Result ℕ Cause) → Gives a x r →
+    or_else a (or_else (bit_trouble x) rest) ≡ or_else a (or_else (bit_fault r) rest)
+bit_behind None rest x r h =
+    ap (λ o. or_else o rest) (number_is x ∙ ap (λ (u : Result ℕ Cause). bit_fault u) (sym h))
+bit_behind (Some t) rest x r h = refl
+
+module _ (kind : KindTag) (c : Context) where
+  abbrev first_here : List Operand → Option Trouble
+  first_here os = first_fault kind (here c os)
+
+  first_front : (xs ys : List Operand) → first_here (xs ++ ys) ≡ or_else (first_here xs) (first_here ys)
+  first_front xs ys = ap (first_fault kind) (here_front c xs ys) ∙ front kind (here c xs) (here c ys)
+
+  -- one operand, and two
+  one_place : (i : Index) (count : ℕ) → place_trouble c i count ≡ first_here (place i count ∷ [])
+  one_place i count = place_is kind c i count ∙ sym (or_none (fault_of kind c (place i count)))
+
+  then_place : (i : Index) (count : ℕ) (o : Option Trouble) (os : List Operand) → o ≡ first_here os →
+      or_else (place_trouble c i count) o ≡ first_here (place i count ∷ os)
+  then_place i count o os h = both (place_trouble c i count) (fault_of kind c (place i count)) o (first_here os)
+      (place_is kind c i count) h
+
+  one_register : (b : Bank) (i j : ℕ) → owner_trouble kind c b i j ≡ first_here (register b i j ∷ [])
+  one_register b i j = owner_is kind c b i j ∙ sym (or_none (fault_of kind c (register b i j)))
+
+  -- some, and then others
+  then_others : (o p : Option Trouble) (xs ys : List Operand) → o ≡ first_here xs → p ≡ first_here ys →
+      or_else o p ≡ first_here (xs ++ ys)
+  then_others o p xs ys h k = both o (first_here xs) p (first_here ys) h k ∙ sym (first_front xs ys)
+
+  term_first : (t : Term) → term_trouble c t ≡ first_here (term_operands c.shape t)
+  term_first (term.Index i) = refl
+  term_first term.Arg = refl
+  term_first (term.Row x i) = one_place i (places c.shape)
+  term_first (term.Field f x i) = one_place i (places c.shape)
+  term_first (term.Handshake x i j) =
+      then_place i (places c.shape) (place_trouble c j c.shape.n) (place j c.shape.n ∷ []) (one_place j c.shape.n)
+
+  module _ (h : HaveOneSort c.locals) where
+    expr_first : (e : Expr) → expr_trouble c e ≡ first_here (expr_operands c.shape e)
+    expr_first (expr.Term t) = term_first t
+    expr_first (expr.Not t) = term_first t
+    expr_first (expr.Sum t u) =
+        sum_behind (term_trouble c t) (term_trouble c u) (term_number c t) (term_number c u) (term_value c t)
+        (term_value c u) (term_gives c t h) (term_gives c u h)
+        ∙ then_others (term_trouble c t) (or_else (term_trouble c u) (fault_of kind c (sum t u)))
+        (term_operands c.shape t) (term_operands c.shape u ++ sum t u ∷ []) (term_first t)
+        (then_others (term_trouble c u) (fault_of kind c (sum t u)) (term_operands c.shape u) (sum t u ∷ [])
+        (term_first u) (sym (or_none (fault_of kind c (sum t u)))))
+
+    -- an expression that is to be a bit, and what follows
+    bit_first : (e : Expr) (o : Option Trouble) (os : List Operand) → o ≡ first_here os →
+        or_else (expr_trouble c e) (or_else (bit_trouble (expr_number c e)) o)
+        ≡ first_here (expr_operands c.shape e ++ bit e ∷ os)
+    bit_first e o os same =
+        bit_behind (expr_trouble c e) o (expr_number c e) (expr_value c e) (expr_gives c e h)
+        ∙ then_others (expr_trouble c e) (or_else (fault_of kind c (bit e)) o) (expr_operands c.shape e) (bit e ∷ os)
+        (expr_first e) (ap (λ p. or_else (fault_of kind c (bit e)) p) same)
+
+    comparison_first : (k : Comparison) → comparison_trouble c k ≡ first_here (comparison_operands c.shape k)
+    comparison_first k =
+        then_others (term_trouble c k.left) (term_trouble c k.right) (term_operands c.shape k.left)
+        (term_operands c.shape k.right) (term_first k.left) (term_first k.right)
+
+    condition_first : (k : Condition) → condition_trouble c k ≡ first_here (condition_operands c.shape k)
+    condition_first (One k) = comparison_first k
+    condition_first (Two j k l) =
+        then_others (comparison_trouble c k) (comparison_trouble c l) (comparison_operands c.shape k)
+        (comparison_operands c.shape l) (comparison_first k) (comparison_first l)
+    condition_first (Three j k l m) =
+        then_others (comparison_trouble c k) _ (comparison_operands c.shape k)
+        (comparison_operands c.shape l ++ comparison_operands c.shape m) (comparison_first k)
+        (then_others (comparison_trouble c l) (comparison_trouble c m) (comparison_operands c.shape l)
+        (comparison_operands c.shape m) (comparison_first l) (comparison_first m))
+    condition_first (Four j k l m o) =
+        then_others (comparison_trouble c k) _ (comparison_operands c.shape k)
+        (comparison_operands c.shape l ++ (comparison_operands c.shape m ++ comparison_operands c.shape o))
+        (comparison_first k)
+        (then_others (comparison_trouble c l) _ (comparison_operands c.shape l)
+        (comparison_operands c.shape m ++ comparison_operands c.shape o) (comparison_first l)
+        (then_others (comparison_trouble c m) (comparison_trouble c o) (comparison_operands c.shape m)
+        (comparison_operands c.shape o) (comparison_first m) (comparison_first o)))
+
+    where_first : (k : Option Condition) → where_trouble c k ≡ first_here (where_operands c.shape k)
+    where_first None = refl
+    where_first (Some k) = condition_first k
+
+    value_first : (e : Expr) (k : Option Condition) →
+        or_else (expr_trouble c e) (where_trouble c k)
+        ≡ first_here (expr_operands c.shape e ++ where_operands c.shape k)
+    value_first e k =
+        then_others (expr_trouble c e) (where_trouble c k) (expr_operands c.shape e) (where_operands c.shape k)
+        (expr_first e) (where_first k)
+
+    bits_first : (xs : List ℕ) → bits_trouble xs ≡ first_here (map (λ x. handshake x) xs)
+    bits_first [] = refl
+    bits_first (x ∷ xs) = both (bit_trouble x) (fault_of kind c (handshake x)) (bits_trouble xs)
+        (first_here (map (λ y. handshake y) xs)) (number_is x) (bits_first xs)
+
+    tuple_first : (t : Tuple) → tuple_trouble c t ≡ first_here (tuple_operands c t)
+    tuple_first (tuple.Seq d q s) =
+        then_others (expr_trouble c d) (expr_trouble c q) (expr_operands c.shape d) (expr_operands c.shape q)
+        (expr_first d) (expr_first q)
+    tuple_first (tuple.Bits d x t s) =
+        let row = take c.shape.n (value_at x c.locals.rows []) in
+        let bits : bits_trouble (take c.shape.n (row_in (local_value c.locals x)))
+        ≡ first_here (map (λ y. handshake y) row) =
+        ap (λ ys. bits_trouble (take c.shape.n ys)) (h.rows x) ∙ bits_first row in
+        then_others (expr_trouble c d) _ (expr_operands c.shape d)
+        (expr_operands c.shape t ++ bit t ∷ map (λ y. handshake y) row) (expr_first d)
+        (bit_first t _ (map (λ y. handshake y) row) bits)
+    tuple_first (tuple.Multi d i t) =
+        let last : or_else (expr_trouble c t) (bit_trouble (expr_number c t))
+        ≡ first_here (expr_operands c.shape t ++ bit t ∷ []) =
+        ap (λ o. or_else (expr_trouble c t) o) (sym (or_none (bit_trouble (expr_number c t))))
+        ∙ bit_first t None [] refl in
+        then_others (expr_trouble c d) _ (expr_operands c.shape d)
+        (expr_operands c.shape i ++ (expr_operands c.shape t ++ bit t ∷ [])) (expr_first d)
+        (then_others (expr_trouble c i) _ (expr_operands c.shape i) (expr_operands c.shape t ++ bit t ∷ [])
+        (expr_first i) last)
+
+-- the places of a quantifier
+conditions_first : (kind : KindTag) (shape : Counts) (S : State) (t : Taker) (k : Condition) (p more : ℕ) →
+    HaveOneSort (process_at S t.process).locals →
+    conditions_trouble shape S t k p more
+    ≡ first_fault kind (at_each (context_of shape S t) (condition_operands shape k) (range_with_len p more))
+conditions_first kind shape S t k p zero h = refl
+conditions_first kind shape S t k p (suc more) h =
+    let c = context_of shape S t in
+    both _ (first_fault kind (here (at_place c p) (condition_operands shape k))) _ _
+    (condition_first kind (at_place c p) h k) (conditions_first kind shape S t k (p + 1) more h)
+    ∙ sym (front kind (here (at_place c p) (condition_operands shape k))
+    (at_each c (condition_operands shape k) (range_with_len (p + 1) more)))
+
+values_first : (kind : KindTag) (shape : Counts) (S : State) (t : Taker) (e : Expr) (k : Option Condition)
+    (p more : ℕ) → HaveOneSort (process_at S t.process).locals →
+    values_trouble shape S t e k p more
+    ≡ first_fault kind
+    (at_each (context_of shape S t) (expr_operands shape e ++ where_operands shape k) (range_with_len p more))
+values_first kind shape S t e k p zero h = refl
+values_first kind shape S t e k p (suc more) h =
+    let c = context_of shape S t in
+    let os = expr_operands shape e ++ where_operands shape k in
+    both _ (first_fault kind (here (at_place c p) os)) _ _ (value_first kind (at_place c p) h e k)
+    (values_first kind shape S t e k (p + 1) more h)
+    ∙ sym (front kind (here (at_place c p) os) (at_each c os (range_with_len (p + 1) more)))
+
+-- each form of a line
+pub line_first : (kind : KindTag) (shape : Counts) (S : State) (t : Taker) (i : Instr) →
+    HaveOneSort (process_at S t.process).locals →
+    line_trouble kind shape S t i ≡ first_fault kind (operands_of (context_of shape S t) i)
+line_first kind shape S t (instr.Let x e) h = expr_first kind (context_of shape S t) h e
+line_first kind shape S t (instr.LetPlace x i e) h =
+    let c = context_of shape S t in
+    then_place kind c i (places shape) (expr_trouble c e) (expr_operands shape e) (expr_first kind c h e)
+line_first kind shape S t (instr.Get x i j) h =
+    let c = context_of shape S t in
+    then_place kind c i (places shape) (place_trouble c j shape.w) (place j shape.w ∷ []) (one_place kind c j shape.w)
+line_first kind shape S t (instr.Bit x b i j) h =
+    let c = context_of shape S t in
+    then_place kind c i shape.n (place_trouble c j shape.n) (place j shape.n ∷ []) (one_place kind c j shape.n)
+line_first kind shape S t (instr.Look x i) h = one_place kind (context_of shape S t) i shape.n
+line_first kind shape S t (instr.Put i parts) h =
+    let c = context_of shape S t in
+    let own = register bank.R (index_value c i) 0 ∷ [] in
+    then_place kind c i shape.w _ (tuple_operands c parts ++ own)
+    (then_others kind c (tuple_trouble c parts) _ (tuple_operands c parts) own (tuple_first kind c h parts)
+    (one_register kind c bank.R (index_value c i) 0))
+line_first kind shape S t (instr.PutBit b i j e) h =
+    let c = context_of shape S t in
+    let own = register (bank_of b) (index_value c i) (index_value c j) ∷ [] in
+    then_place kind c i shape.n _ (place j shape.n ∷ (expr_operands shape e ++ bit e ∷ own))
+    (then_place kind c j shape.n _ (expr_operands shape e ++ bit e ∷ own)
+    (bit_first kind c h e _ own (one_register kind c (bank_of b) (index_value c i) (index_value c j))))
+line_first kind shape S t (instr.PutView i x) h =
+    let c = context_of shape S t in
+    then_place kind c i shape.n _ (register bank.V (index_value c i) 0 ∷ [])
+    (one_register kind c bank.V (index_value c i) 0)
+line_first kind shape S t (instr.ViewData x y) h = refl
+line_first kind shape S t (instr.ViewOf x y i) h = one_place kind (context_of shape S t) i (places shape)
+line_first kind shape S t (instr.Each g x e k) h = values_first kind shape S t e k 1 (range_end shape g) h
+line_first kind shape S t (instr.First x g k target) h = conditions_first kind shape S t k 1 (range_end shape g) h
+line_first kind shape S t (instr.Next x g target) h = refl
+line_first kind shape S t (instr.If k target) h = condition_first kind (context_of shape S t) h k
+line_first kind shape S t (instr.IfAll g k target) h = conditions_first kind shape S t k 1 (range_end shape g) h
+line_first kind shape S t (instr.Goto target) h = refl
+line_first kind shape S t (instr.Call target) h = refl
+line_first kind shape S t (instr.Return x) h = refl
+line_first kind shape S t instr.Finish h = refl

@@ -1,0 +1,6 @@
+-- The definitions of snap_reading_laws, by their modules.
+pub mod certificates
+pub mod loans
+pub mod stops
+pub mod traps
+pub mod warnings

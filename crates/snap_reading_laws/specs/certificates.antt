@@ -1,0 +1,2 @@
+-- The definitions of snap_reading_laws, by their modules.
+pub mod Shipped

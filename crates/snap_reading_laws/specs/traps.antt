@@ -1,0 +1,3 @@
+-- The definitions of snap_reading_laws, by their modules.
+pub mod Operands
+pub mod Told

@@ -1,0 +1,125 @@
+//! The printed texts of a `WritePlace`, where an item writes: of a register, and of a local.
+ghost use Rattle.std.specs.Prelude.{◌≡◌, ◌++◌, OnOk, Some, map, slice_get};
+ghost use Rattle.snap_words.specs.Shape.{IsOneOf};
+ghost use Rattle.snap_semantics.specs.State.{process_at};
+ghost use Rattle.snap_semantics.specs.declared.text.Sort.TheVariants.{Words};
+ghost use Rattle.snap_machine.specs.SeenContents.{local_at, seen_named};
+ghost use Rattle.snap_report.specs.WrittenLines.{named_lines, place_line, written_local, written_shared, word_there};
+
+use crate::process_text::{local_lines, word_local};
+use crate::register_text::{register_line, values_line};
+use snap_machine::{Local, Machine, Name, Sort, WritePlace};
+use snap_words::{Bank, Kind, KindTag};
+use std::alloc::AllocError;
+
+/// The line of the register that a write place is, behind the values where it is a word.
+#[tactic(auto, using(snap_text::proofs::Texts::joined))]
+pub fn written_shared<K: Kind>(
+    out: &mut Vec<u8>,
+    machine: &Machine<K>,
+    written: WritePlace,
+) -> Result<(), AllocError>
+    ensures { OnOk result (out.new.items ≡ out.old.items
+        ++ written_shared machine.now.source.kind machine.now.state written) }
+{
+    match written {
+        WritePlace::Register(address) => {
+            match address.bank {
+                Bank::R => values_line(out, machine)?,
+                _ => {}
+            }
+            register_line(out, machine, address)
+        }
+        _ => Ok(()),
+    }
+}
+
+/// The lines of local `k` of a sort, where there is one.
+fn named_lines<K: Kind>(
+    out: &mut Vec<u8>,
+    machine: &Machine<K>,
+    i: u32,
+    sort: Sort,
+    k: usize,
+) -> Result<(), AllocError>
+    requires { IsOneOf machine.now.shape.n i }
+    ensures { OnOk result (out.new.items ≡ out.old.items ++ named_lines machine.now.source.kind
+        (local_at (process_at machine.now.state i).locals sort k)) }
+{
+    let kind = machine.program().kind();
+    match machine.local_at(i, sort, k) {
+        Some(local) => local_lines(out, kind, local),
+        None => Ok(()),
+    }
+}
+
+/// The line of a place of words, where there is one. Places are counted from 0.
+fn word_there<K: Kind>(
+    out: &mut Vec<u8>,
+    kind: KindTag,
+    name: &Name,
+    words: &[K::Word],
+    place: usize,
+) -> Result<(), AllocError>
+    ensures { OnOk result (out.new.items ≡ out.old.items
+        ++ word_there kind name.now place (slice_get (map K.as_word words.now) place)) }
+{
+    match words.get(place) {
+        Some(word) => word_local::<K>(out, kind, name, place as u64 + 1, word),
+        None => Ok(()),
+    }
+}
+
+/// The line of a place of a local, where it has words and such a place.
+fn place_line<K: Kind>(
+    out: &mut Vec<u8>,
+    kind: KindTag,
+    local: (Name, Local<'_, K>),
+    place: usize,
+) -> Result<(), AllocError>
+    ensures { OnOk result (out.new.items ≡ out.old.items
+        ++ place_line kind place (Some (seen_named K.as_word local.entry))) }
+{
+    let (name, value) = local;
+    match value {
+        Local::Words(words) => word_there::<K>(out, kind, &name, words, place),
+        _ => Ok(()),
+    }
+}
+
+/// The line of a place of `words` local `k`, where there is one.
+fn place_lines<K: Kind>(
+    out: &mut Vec<u8>,
+    machine: &Machine<K>,
+    i: u32,
+    k: usize,
+    place: usize,
+) -> Result<(), AllocError>
+    requires { IsOneOf machine.now.shape.n i }
+    ensures { OnOk result (out.new.items ≡ out.old.items ++ place_line machine.now.source.kind place
+        (local_at (process_at machine.now.state i).locals Words k)) }
+{
+    let kind = machine.program().kind();
+    match machine.local_at(i, Sort::Words, k) {
+        Some(local) => place_line(out, kind, local, place),
+        None => Ok(()),
+    }
+}
+
+/// The lines of the local of process `i` that a write place is.
+pub fn written_local<K: Kind>(
+    out: &mut Vec<u8>,
+    machine: &Machine<K>,
+    i: u32,
+    written: WritePlace,
+) -> Result<(), AllocError>
+    requires { IsOneOf machine.now.shape.n i }
+    ensures { OnOk result (out.new.items ≡ out.old.items ++ written_local machine.now.source.kind
+        (process_at machine.now.state i).locals written) }
+{
+    match written {
+        WritePlace::Local(sort, k) => named_lines(out, machine, i, sort, k),
+        WritePlace::WordsPlace(k, place) => place_lines(out, machine, i, k, place),
+        _ => Ok(()),
+    }
+}

@@ -1,2 +1,0 @@
--- The definitions of snap_shapes, by their modules.
-pub mod Shapes

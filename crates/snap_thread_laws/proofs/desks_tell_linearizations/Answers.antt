@@ -1,7 +1,0 @@
--- `desks_tell_linearizations` of snap_thread_laws (src/lib.rt): the proof of what its contract says.
--- What the seats of a closed desk were told is linearizable where its record is.
-use Rattle.snap_thread_laws.proofs.Shipped.{desks_tell}
-use Rattle.snap_thread_laws.proofs.desks_tell_linearizations.Goals as goal
-
-pub returns : goal.returns
-returns c = desks_tell

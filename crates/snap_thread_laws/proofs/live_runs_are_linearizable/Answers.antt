@@ -1,7 +1,0 @@
--- `live_runs_are_linearizable` of snap_thread_laws (src/lib.rt): the proof of what its contract says.
--- What the threads of a live run of U, B or M were told is linearizable, whatever its gate answered.
-use Rattle.snap_thread_laws.proofs.Shipped.{live_runs}
-use Rattle.snap_thread_laws.proofs.live_runs_are_linearizable.Goals as goal
-
-pub returns : goal.returns
-returns g c = live_runs _ c.shipped_runs_keep_promises.ensures

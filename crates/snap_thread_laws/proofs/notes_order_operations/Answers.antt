@@ -1,7 +1,0 @@
--- `notes_order_operations` of snap_thread_laws (src/lib.rt): the proof of what its contract says.
--- What a seat had ended when it made a note stands before whatever is called once the note is met.
-use Rattle.snap_thread_laws.proofs.Noting.{notes_order}
-use Rattle.snap_thread_laws.proofs.notes_order_operations.Goals as goal
-
-pub returns : goal.returns
-returns c = notes_order

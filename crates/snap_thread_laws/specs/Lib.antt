@@ -1,5 +1,0 @@
--- The definitions of snap_thread_laws, by their modules.
-pub mod Told
-pub mod RunLaws
-pub mod DeskLaws
-pub mod ShippedLaws

@@ -1,7 +1,0 @@
--- The proofs of snap_trouble_laws, by their modules.
-pub mod Values
-pub mod Places
-pub mod Effects
-pub mod OneSort
-pub mod FirstFaults
-pub mod Traps

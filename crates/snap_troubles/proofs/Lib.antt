@@ -1,2 +1,0 @@
--- The proofs of snap_troubles, by their modules.
-pub mod Places

@@ -1,0 +1,3 @@
+-- The proofs of snap_walk, by their modules.
+pub mod Walks
+pub mod Ways

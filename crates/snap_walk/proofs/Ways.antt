@@ -1,0 +1,79 @@
+-- Laws of a run item by item, for those who go through it: the items so far, the state and the events, each with one
+-- item more, and behind the last item.
+use Rattle.std.proofs.Common.{◌≡◌, ℕ, suc, ◌+◌, ◌<◌, List, [], ◌∷◌, ◌++◌, length, take, sym, ap, ◌∙◌, arith}
+use Rattle.std.proofs.Common.{append_assoc, append-nil, length-take}
+use Rattle.std.proofs.lemmas.List.{take_all}
+use Rattle.std.proofs.Math.Seq.{take-suc}
+use Rattle.snap_words.specs.Shape.{Counts}
+use Rattle.snap_semantics.specs.declared.process.Item.{Item}
+use Rattle.snap_semantics.specs.declared.process.Item.TheVariants.{Step}
+use Rattle.snap_semantics.specs.declared.process.Outcome.{Outcome}
+use Rattle.snap_semantics.specs.Run.{after, event_of, events}
+use Rattle.snap_semantics.specs.Source.{Source}
+use Rattle.snap_semantics.specs.State.{State, initial}
+use Rattle.snap_semantics.specs.Table.{done}
+use Rattle.snap_runs.specs.Run.{Run, events_of, item, outcome, state}
+use Rattle.snap_runs.proofs.Embedding.{next_state}
+use Rattle.snap_walk.specs.Walk.{Passes, Way}
+use Rattle.snap_walk.specs.declared.passed.Passed.{Passed}
+
+-- the items so far, with one more
+pub items_more : (r : Run) (t : ℕ) → t < length r.items → take (suc t) r.items ≡ take t r.items ++ item r (suc t) ∷ []
+items_more r t below = take-suc r.items t (Step 0) below
+
+-- behind the last item they are all
+pub all_items : (r : Run) (t : ℕ) → t ≡ length r.items → take t r.items ≡ r.items
+all_items r t end = take_all t r.items (omega (arith, end))
+
+-- then the state is that after all items
+pub end_state : (r : Run) (t : ℕ) → t ≡ length r.items →
+    state r t ≡ after r.source r.shape (initial r.source r.shape) r.items
+end_state r t end = ap (after r.source r.shape (initial r.source r.shape)) (all_items r t end)
+
+-- and the events are those of all items
+pub end_events : (r : Run) (t : ℕ) → t ≡ length r.items →
+    events_of r t ≡ events r.source r.shape (initial r.source r.shape) 1 r.items
+end_events r t end = ap (events r.source r.shape (initial r.source r.shape) 1) (all_items r t end)
+
+-- events of items, and of one behind them
+events_last : (s : Source) (n : Counts) (S : State) (t : ℕ) (xs : List Item) (x : Item) →
+    events s n S t (xs ++ x ∷ []) ≡ events s n S t xs ++ event_of (t + length xs) x (done s n (after s n S xs) x).1
+events_last s n S t [] x =
+    let place : t ≡ t + 0 = omega arith in
+    append-nil (event_of t x (done s n S x).1) ∙ ap (λ k. event_of k x (done s n S x).1) place
+events_last s n S t (y ∷ xs) x =
+    let rest = events_last s n (done s n S y).0 (t + 1) xs x in
+    let place : t + 1 + length xs ≡ t + suc (length xs) = omega arith in
+    let end = after s n (done s n S y).0 xs in
+    ap (λ es. event_of t y (done s n S y).1 ++ es) (rest
+    ∙ ap (λ k. events s n (done s n S y).0 (t + 1) xs ++ event_of k x (done s n end x).1) place)
+    ∙ sym (append_assoc (event_of t y (done s n S y).1) (events s n (done s n S y).0 (t + 1) xs)
+    (event_of (t + suc (length xs)) x (done s n end x).1))
+
+-- the events so far, with those of one item more
+pub events_more : (r : Run) (t : ℕ) → t < length r.items →
+    events_of r (suc t) ≡ events_of r t ++ event_of (suc t) (item r (suc t)) (outcome r (suc t))
+events_more r t below =
+    let s = r.source in
+    let n = r.shape in
+    let many : length (take t r.items) ≡ t = (let l = length-take t r.items in omega (arith, l, below)) in
+    let number : 1 + length (take t r.items) ≡ suc t = omega (arith, many) in
+    ap (events s n (initial s n) 1) (items_more r t below)
+    ∙ events_last s n (initial s n) 1 (take t r.items) (item r (suc t))
+    ∙ ap (λ k. events_of r t ++ event_of k (item r (suc t)) (outcome r (suc t))) number
+
+-- what is passed leads to the next state
+pub passed_state : (w w' : Way) (p : Passed) → Passes w p w' →
+    state w'.run w'.at ≡ (done w.run.source w.run.shape (state w.run w.at) p.item).0
+passed_state w w' p is =
+    ap (λ (v : Way). state v.run v.at) is.way ∙ next_state w.run w.at is.left
+    ∙ ap (λ (x : Item). (done w.run.source w.run.shape (state w.run w.at) x).0) (sym is.item)
+
+-- and its event is the next
+pub passed_events : (w w' : Way) (p : Passed) → Passes w p w' →
+    events_of w'.run w'.at ≡ events_of w.run w.at ++ event_of p.number p.item p.outcome
+passed_events w w' p is =
+    ap (λ (v : Way). events_of v.run v.at) is.way ∙ events_more w.run w.at is.left
+    ∙ ap (λ k. events_of w.run w.at ++ event_of k (item w.run (suc w.at)) (outcome w.run (suc w.at))) (sym is.number)
+    ∙ ap (λ (x : Item). events_of w.run w.at ++ event_of p.number x (outcome w.run (suc w.at))) (sym is.item)
+    ∙ ap (λ (o : Outcome). events_of w.run w.at ++ event_of p.number p.item o) (sym is.outcome)

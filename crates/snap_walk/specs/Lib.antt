@@ -1,0 +1,3 @@
+-- The definitions of snap_walk, by their modules.
+pub mod Walk
+pub mod Walking

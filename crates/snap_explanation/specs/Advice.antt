@@ -11,11 +11,14 @@ use Rattle.snap_expected.specs.declared.wanted.Wanted.TheVariants as wanted
 use Rattle.snap_expected.specs.After.{may_pass}
 use Rattle.snap_expected.specs.Pieces.{PlacedToken}
 use Rattle.snap_expected.specs.Tests.{is_symbol, is_identifier, is_name, is_line}
-use Rattle.snap_explanation.specs.declared.wording.TheConstants.{END_HINTS, INDEX_HINTS, SUM_HINTS, JOIN_HINTS, NAME_HINTS}
+use Rattle.snap_explanation.specs.declared.wording.TheConstants.{END_HINTS, INDEX_HINTS, SUM_HINTS, JOIN_HINTS}
+use Rattle.snap_explanation.specs.declared.wording.TheConstants.{NAME_HINTS}
 use Rattle.snap_explanation.specs.declared.wording.TheConstants.{VALUE_HINTS, INSTRUCTION_HINTS, HEADERS, RESERVED}
-use Rattle.snap_explanation.specs.declared.wording.TheConstants.{VALUES, LOCAL, COMMANDS, REGISTERS, NUMBERED, SHAPE, ITEM}
+use Rattle.snap_explanation.specs.declared.wording.TheConstants.{VALUES, LOCAL, COMMANDS, REGISTERS, NUMBERED, SHAPE}
+use Rattle.snap_explanation.specs.declared.wording.TheConstants.{ITEM}
 use Rattle.snap_explanation.specs.declared.wording.TheConstants.{COMPARISON_HINTS, NAMES, TARGET}
-use Rattle.snap_explanation.specs.declared.wording.TheConstants.{SCRIPT, COMMAND_FORMS, INSTRUCTION_FORMS, INSTRUCTIONS}
+use Rattle.snap_explanation.specs.declared.wording.TheConstants.{SCRIPT, COMMAND_FORMS, INSTRUCTION_FORMS}
+use Rattle.snap_explanation.specs.declared.wording.TheConstants.{INSTRUCTIONS}
 use Rattle.snap_explanation.specs.declared.wording.TheConstants.{WRONG_NUMBER, LEXEME_HINTS, BYTE_HINTS}
 use Rattle.snap_explanation.specs.Names.{letters_of}
 use Rattle.snap_explanation.specs.Said.{rows, ranges, by_word, by_byte}

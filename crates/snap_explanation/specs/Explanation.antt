@@ -26,7 +26,8 @@ use Rattle.snap_explanation.specs.declared.layout.Layout.TheVariants as layout
 use Rattle.snap_explanation.specs.declared.names.Numbered.{Numbered}
 use Rattle.snap_explanation.specs.declared.layout.Texts.TheVariants as texts
 use Rattle.snap_explanation.specs.declared.wording.TheConstants.{BYTE, NO_CODE, IMAGE_RULE, RISING}
-use Rattle.snap_explanation.specs.declared.wording.TheConstants.{SECOND_CRASH, QUOTE, NO_TOKEN, WRONG, DECLARED_BEFORE, DECLARED_IN}
+use Rattle.snap_explanation.specs.declared.wording.TheConstants.{SECOND_CRASH, QUOTE, NO_TOKEN, WRONG}
+use Rattle.snap_explanation.specs.declared.wording.TheConstants.{DECLARED_BEFORE, DECLARED_IN}
 use Rattle.snap_explanation.specs.declared.wording.TheConstants.{DECLARED_AS, QUOTE_END, NUMBERS_RISE, COMES_AFTER}
 use Rattle.snap_explanation.specs.declared.wording.TheConstants.{HAS_NUMBER, LINE_END, NO_SUCH_LINE, LONG_LISTING}
 use Rattle.snap_explanation.specs.declared.wording.TheConstants.{TOO_MANY, BAD_NAME, LONG_SCHEDULE, ITEMS, NO_PROCESS}
@@ -34,7 +35,8 @@ use Rattle.snap_explanation.specs.declared.wording.TheConstants.{LONG_COMMANDS, 
 use Rattle.snap_explanation.specs.Advice.{advice, form_advice, stray_advice}
 use Rattle.snap_explanation.specs.Inputs.{parts_explained, order_advice}
 use Rattle.snap_explanation.specs.Misuse.{Misuse, wrong_in_line, misuse_text}
-use Rattle.snap_explanation.specs.Names.{Declared, letters_of, tokens_of_placed, words_before, header_count, first_such, is_bad}
+use Rattle.snap_explanation.specs.Names.{Declared, letters_of, tokens_of_placed, words_before, header_count}
+use Rattle.snap_explanation.specs.Names.{first_such, is_bad}
 use Rattle.snap_explanation.specs.Names.{first_again, declared_at, name_count, one_too_many, last_before, number_of}
 use Rattle.snap_explanation.specs.Names.{leading_line, first_led, nth_token}
 use Rattle.snap_explanation.specs.Part.{Part, part_place}

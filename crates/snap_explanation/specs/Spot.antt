@@ -5,7 +5,8 @@ use Rattle.snap_semantics.specs.Token.{lines_of}
 use Rattle.snap_expected.specs.Pieces.{PlacedToken, piece_len}
 use Rattle.snap_explanation.specs.declared.part.PartName.{PartName}
 use Rattle.snap_explanation.specs.declared.part.PartName.TheVariants as name
-use Rattle.snap_explanation.specs.declared.wording.TheConstants.{LINE, OF_THE_INPUT, OF, COLUMN, PLACE_END, MARGIN, MARK}
+use Rattle.snap_explanation.specs.declared.wording.TheConstants.{LINE, OF_THE_INPUT, OF, COLUMN, PLACE_END, MARGIN}
+use Rattle.snap_explanation.specs.declared.wording.TheConstants.{MARK}
 use Rattle.snap_explanation.specs.declared.wording.TheConstants.{LINE_END, THE_LISTING, THE_SCHEDULE, NTH_SCHEDULE}
 use Rattle.snap_explanation.specs.declared.wording.TheConstants.{THE_SCRIPTS, THE_COMMANDS, THE_HISTORY}
 use Rattle.snap_explanation.specs.Part.{Part}
@@ -49,7 +50,8 @@ line_of_input before line = if nat_le line (2 ^ 64 - 1 - before) then before + l
 -- where a line of a part stands
 unfoldable pub line_place : Part → ℕ → List ℕ
 line_place p line =
-    LINE.now ++ decimal (line_of_input p.before line) ++ OF_THE_INPUT.now ++ decimal line ++ OF.now ++ part_name_text p.name
+    LINE.now ++ decimal (line_of_input p.before line) ++ OF_THE_INPUT.now ++ decimal line ++ OF.now
+    ++ part_name_text p.name
 
 -- how many bytes of a line are left out before a column
 abbrev pub left_out : ℕ → ℕ

@@ -4,7 +4,8 @@ ghost use Rattle.std.specs.Prelude.{◌≡◌, ◌≤◌, ◌<◌, ◌^◌, ◌+
 ghost use Rattle.snap_input.specs.Input.{texts_for};
 ghost use Rattle.snap_input.specs.Parts.{part};
 ghost use Rattle.snap_semantics.specs.Schedule.{schedule_of};
-ghost use Rattle.snap_explanation.specs.Part.{whole_part, part_place, part_place_in, first_text, text_index};
+ghost use Rattle.snap_explanation.specs.Part.{whole_part, part_place, part_place_in, first_text};
+ghost use Rattle.snap_explanation.specs.Part.{text_index};
 ghost use Rattle.snap_explanation.specs.Part.{text_name, lines_through, lines_before};
 ghost use Rattle.snap_explanation.specs.Part.{refused_schedule, is_taken};
 ghost use Rattle.snap_explanation.specs.Views.{view_part};

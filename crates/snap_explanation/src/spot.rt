@@ -4,7 +4,8 @@ ghost use Rattle.std.specs.Prelude.{◌≡◌, ◌≤◌, ◌<◌, length, optio
 ghost use Rattle.snap_semantics.specs.Token.{lines_of};
 ghost use Rattle.snap_draft.specs.Drafted.{Adds};
 ghost use Rattle.snap_expected.specs.Steps.{view_placed_token};
-ghost use Rattle.snap_explanation.specs.Spot.{nth_line, text_of, comment_start, piece_at, column_of};
+ghost use Rattle.snap_explanation.specs.Spot.{nth_line, text_of, comment_start, piece_at};
+ghost use Rattle.snap_explanation.specs.Spot.{column_of};
 ghost use Rattle.snap_explanation.specs.Spot.{part_name_text, line_of_input, line_place, window};
 ghost use Rattle.snap_explanation.specs.Spot.{column_words, mark, marked, spot, line_spot};
 ghost use Rattle.snap_explanation.specs.Views.{view_part};

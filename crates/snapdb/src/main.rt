@@ -9,7 +9,7 @@ mod fault_line;
 use answers::answer;
 use snap_dialog::Terminal;
 use snap_files::Disk;
-use snap_pipe::{PipeReader, Piped, Quiet};
+use snap_pipe::{Messages, Piped, end};
 use snap_streams::Std;
 use snapdb_command_line::{CommandLine, read_arguments};
 use std::alloc::AllocError;
@@ -48,10 +48,9 @@ fn main(rt: HostRuntime) -> ExitCode {
         Err(_) => Err(AllocError),
     };
     let shows = rt.stdin().is_terminal();
-    let reader = PipeReader::new();
-    let writer = Piped::new(io::writer(&rt), &reader);
+    let writer = Piped::new(io::writer(&rt));
     let mut console = Terminal::new(Std::new(rt.reader()), writer);
-    let mut errors = Quiet::new(rt.stderr(), &reader);
+    let mut errors = Messages::new(rt.alloc());
     let status = answer(
         rt.alloc(),
         &line,
@@ -60,5 +59,6 @@ fn main(rt: HostRuntime) -> ExitCode {
         &mut console,
         &mut errors,
     );
-    ExitCode::from(reader.status(status))
+    let mut device = Std::new(rt.stderr());
+    ExitCode::from(end(status, console.writer(), &errors, &mut device))
 }

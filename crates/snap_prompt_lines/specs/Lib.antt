@@ -1,2 +1,3 @@
 -- The definitions of snap_prompt_lines, by their modules.
 pub mod Ask
+pub mod SaveForm

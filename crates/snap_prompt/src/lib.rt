@@ -4,11 +4,18 @@
 mod changed;
 mod conversation;
 mod explained;
+mod greeting;
+mod help;
 mod hints;
 mod last_item;
 mod listed;
 mod meant;
 mod prompt;
+mod question;
+mod saved;
+mod shows;
 
 pub use conversation::converse;
 pub use prompt::Prompt;
+pub use question::Question;
+pub use shows::Shows;

@@ -10,6 +10,7 @@ use Rattle.snap_named_files.specs.Named.{Names, view_named}
 use Rattle.snap_named_files.specs.Texts.{AreTexts, Read}
 use Rattle.snap_named_files.specs.declared.texts.TextFault.{TextFault}
 use Rattle.snap_named_files.specs.declared.texts.Texts.{Texts}
+use Rattle.snap_prompt.specs.declared.shows.Shows.{Shows}
 use Rattle.snap_semantics.specs.declared.refusal.Refusal.TheVariants as refusal
 use Rattle.snap_streams.specs.Sent.{Says}
 use Rattle.snapdb.specs.FaultLine.{fault_line}
@@ -51,7 +52,7 @@ SaysWhy explains named texts (Err f) said said_after failed stalled =
     ⊎ Tells named f said said_after failed stalled
 
 -- What the program does about a session. Where a text is refused, it is the one that is explained.
-abbrev pub AnswersSession : (files : List ℕ → Option (Result (List ℕ) ErrorKind)) → Session → (shows : Bool) →
+abbrev pub AnswersSession : (files : List ℕ → Option (Result (List ℕ) ErrorKind)) → Session → (shows : Shows) →
     (status : ℕ) → (left shown shown_after : Option (List ℕ)) → (failure : Option DialogFault) →
     (said said_after : Option (List ℕ)) → (failed stalled : Bool) → Type 0
 AnswersSession files session shows status left shown shown_after failure said said_after failed stalled =
@@ -82,7 +83,7 @@ Helps text status shown shown_after said said_after failed stalled =
 -- What the program does about a command line, or where there was no memory to read it: what it shows where these bytes
 -- are left to be typed, what it says, and its status.
 abbrev pub AnswersLine : {E : Type 0} → (files : List ℕ → Option (Result (List ℕ) ErrorKind)) → Result CommandLine E →
-    (shows : Bool) → (status : ℕ) → (left shown shown_after : Option (List ℕ)) → (failure : Option DialogFault) →
+    (shows : Shows) → (status : ℕ) → (left shown shown_after : Option (List ℕ)) → (failure : Option DialogFault) →
     (said said_after : Option (List ℕ)) → (failed stalled : Bool) → Type 0
 AnswersLine files (Ok (Asks session)) shows status left shown shown_after failure said said_after failed stalled =
     AnswersSession files session shows status left shown shown_after failure said said_after failed stalled

@@ -13,8 +13,8 @@ ghost use Rattle.snapdb.specs.declared.fault.StartFault.TheVariants.{Refused};
 
 use crate::fault::StartFault;
 use snap_asm_program::Program;
-use snap_dialog::Console;
-use snap_prompt::converse;
+use snap_dialog::{Console, Folder};
+use snap_prompt::{Shows, converse};
 use snap_sched::Schedule;
 use snap_semantics::{Fault, Refusal};
 use snap_words::{Bits, KindTag, Multi, Seq};
@@ -34,12 +34,14 @@ fn schedule_for(alloc: Global, program: &Program, text: &[u8]) -> Result<Schedul
 /// Talks at a console about a program under a schedule. What is shown is a transcript of what is
 /// typed; where the schedule is refused, nothing is; and where the dialog is broken off, which only
 /// a device that fails, memory that ran out or an input without an end does, a beginning of it is.
-pub fn talk_about<C: Console>(
+/// Schedules are saved in the folder.
+pub fn talk_about<C: Console, S: Folder + Copy>(
     alloc: Global,
     program: &Program,
     schedule: &[u8],
-    shows: bool,
+    shows: Shows,
     console: &mut C,
+    folder: S,
 ) -> Result<(), StartFault>
     requires { C.failure console.old ≡ None }
     ensures shown { OnOk result ((s : Schedule) × (schedule_for program.now schedule.now ≡ Ok s)
@@ -59,6 +61,6 @@ pub fn talk_about<C: Console>(
         (C.shown console.old) (C.shown console.new))) }
 {
     let schedule = schedule_for(alloc, program, schedule)?;
-    converse(alloc, program, schedule, shows, console)?;
+    converse(alloc, program, schedule, shows, console, folder)?;
     Ok(())
 }

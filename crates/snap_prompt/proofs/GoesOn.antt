@@ -1,5 +1,5 @@
 -- The dialog at the debugger's prompt goes on after each line that adds items to the schedule, or asks to.
-use Rattle.std.proofs.Common.{◌≡◌, ℕ, Bool, true, false, if◌then◌else◌, List, Some, None, Result, Ok, Err, refl}
+use Rattle.std.proofs.Common.{◌≡◌, ℕ, Bool, true, false, if◌then◌else◌, List, Result, Ok, Err, refl}
 use Rattle.std.specs.Prelude.{nat_eq}
 use Rattle.snap_semantics.specs.Schedule.{Schedule}
 use Rattle.snap_semantics.specs.declared.refusal.ScheduleRefusal.{ScheduleRefusal}
@@ -11,18 +11,17 @@ use Rattle.snap_prompt.specs.Reach.{steps_to}
 use Rattle.snap_prompt.specs.declared.goal.Goal.{Goal}
 use Rattle.snap_prompt.specs.declared.goal.Goal.TheVariants as goal
 use Rattle.snap_prompt.specs.declared.goal.NoSteps.{NoSteps}
-use Rattle.snap_prompt_lines.specs.Ask.{is_yes}
 use Rattle.snap_prompt_lines.specs.declared.ask.Ask.{Ask}
 use Rattle.snap_prompt_lines.specs.declared.ask.Ask.TheVariants as ask
-use Rattle.snap_prompt.specs.Prompt.{Answer, Prompt, added, added_to, answer_line, counted, decided, done, led, led_by}
-use Rattle.snap_prompt.specs.Prompt.{schedule_of_run, wanted, with_question}
+use Rattle.snap_prompt.specs.Prompt.{Answer, Prompt, added, added_to, done, led, led_by}
+use Rattle.snap_prompt.specs.Prompt.{schedule_of_run, wanted}
 
 -- whether they fit or are refused
 added_to_goes_on : (p : Prompt) (r : Result Schedule ScheduleRefusal) → true ≡ (added_to p r).goes_on
 added_to_goes_on p (Ok d) = refl
 added_to_goes_on p (Err r) = refl
 
-added_goes_on : (p : Prompt) (a : Addition) → true ≡ (added p a).goes_on
+pub added_goes_on : (p : Prompt) (a : Addition) → true ≡ (added p a).goes_on
 unfolding added
 added_goes_on p a = added_to_goes_on p (edited p.lines p.session.position (form_of a) (schedule_of_run p.session.run))
 
@@ -35,10 +34,6 @@ either false x y e f = f
 wanted_goes_on : (p : Prompt) (a : Addition) → true ≡ (wanted p a).goes_on
 unfolding wanted
 wanted_goes_on p a = either (nat_eq p.session.position (total p.session)) (added p a) _ (added_goes_on p a) refl
-
-decided_goes_on : (p : Prompt) (a : Addition) (agreed : Bool) → true ≡ (decided p a agreed).goes_on
-decided_goes_on p a agreed =
-    either agreed (added (with_question None p) a) _ (added_goes_on (with_question None p) a) refl
 
 -- where a line asks for them
 pub adding_goes_on : (p : Prompt) (x : Ask) (a : Addition) → x ≡ ask.Add a → true ≡ (done p x).goes_on
@@ -61,9 +56,3 @@ until_goes_on p x i line e = rw e (led_goes_on p i (goal.Line line))
 pub end_goes_on : (p : Prompt) (x : Ask) (i : ℕ) → x ≡ ask.End i → true ≡ (done p x).goes_on
 unfolding done
 end_goes_on p x i e = rw e (led_goes_on p i goal.End)
-
--- where a line says whether the schedule is cut
-pub deciding_goes_on : (p : Prompt) (line : List ℕ) (a : Addition) → p.question ≡ Some a →
-    true ≡ (answer_line p line).goes_on
-unfolding answer_line
-deciding_goes_on p line a e = rw e (decided_goes_on (counted p) a (is_yes line))

@@ -58,7 +58,7 @@ fn push_denied(out: &mut Vec<u8>, question: Question) -> Result<(), AllocError>
 }
 
 /// A session that is talked to, line by line.
-pub struct Prompt<K: Kind, S> {
+pub struct Prompt<K: Kind, S: Copy> {
     alloc: Global,
     /// Where schedules are saved.
     folder: S,
@@ -74,7 +74,7 @@ pub struct Prompt<K: Kind, S> {
     shows: Shows,
 }
 
-impl<K: Kind, S> Model for Prompt<K, S> {
+impl<K: Kind, S: Copy> Model for Prompt<K, S> {
     ghost use Rattle.std.specs.Prelude.{◌≡◌, map};
     ghost use Rattle.snap_listing_printer.specs.LineTexts.{written};
     ghost use Rattle.snap_prompt.specs.Prompt.{Prompt, schedule_of_run};

@@ -4,7 +4,7 @@ import {MEMORY, OUTPUT, STOPPED, TRAPPED} from './text.js';
 import {$, say} from './elements.js';
 
 const SLOW = 100;
-const DOING = {start: 'starting', audit: 'auditing', judge: 'judging', draw: 'drawing'};
+const DOING = {start: 'starting', audit: 'auditing', judge: 'judging', draw: 'drawing', compare: 'comparing'};
 const workerCode = new Blob([$('worker').textContent], {type: 'text/javascript'});
 export const failure = {text: ''};
 

@@ -89,7 +89,7 @@ function editedLines() {
 }
 
 // The lines of a text that are not among those of another one, in order.
-function newLines(older, newer) {
+export function newLines(older, newer) {
     const [before, after] = [older, newer].map(text => text.split('\n'));
     if (before.length * after.length > MOST_COMPARED * MOST_COMPARED) return [];
     const rows = before.map(() => new Uint16Array(after.length + 1));

@@ -3,6 +3,7 @@ import {$, data, say} from './elements.js';
 import {asker, aside, failure, readRefusal, stopAsking} from './asker.js';
 import {timelineFocus} from './editor.js';
 import {change, goOn, goTo, parted, press, refresh, state, toggle, undo} from './state.js';
+import {compare} from './compare.js';
 import {takeDraft, watchDrafts} from './drafts.js';
 import {asHash, asInput, copyFrame, copyLink, copyText, openFile, save, showPicture, takeHash} from './files.js';
 import {lastProcess, listingEditor, showTexts, toggleBreak} from './listing.js';
@@ -19,17 +20,18 @@ const BUTTONS = {
     open: () => $('file').click(), save: () => save(asInput(), 'snaplab-input.txt', 'the input of snaplab debug'),
     copy: () => copyText(asInput(), 'the input of snaplab debug'), link: copyLink, frame: copyFrame,
     picture: showPicture, make: makeExercise, keys: () => $('help').showModal(), words: () => $('glossary').showModal(),
-    trust: () => $('proved').showModal(), present, home: () => goTo(0), end: () => goTo(Infinity),
+    trust: () => $('proved').showModal(), compare, present, home: () => goTo(0), end: () => goTo(Infinity),
     back: () => goTo(state.at - 1), on: () => goTo(state.at + 1), run: () => refresh('run'),
     rrun: () => refresh('rrun'), closer: () => zoom(.5), wider: () => zoom(2), fit: () => zoom(0), stop: stopAsking,
-    cut: cutHere, play, next: () => nextCaption(1), previous: () => nextCaption(-1), 'hello-close': closeHello, more,
+    cut: cutHere, play, next: () => nextCaption(1), previous: () => nextCaption(-1), more,
+    'hello-close': closeHello,
 };
 
 // Keys of their own, beside those that page.html writes at buttons; it lists them all.
 const KEYS = {
     PageUp: () => goTo(state.at - 10), PageDown: () => goTo(state.at + 10), b: () => toggleBreak(breakLine()),
     w: watchFocused, u: goToLine, e: goToEnd, l: () => listingEditor.gutter.focus(),
-    m: () => $('memory').querySelector('button').focus(),
+    m: () => $('memory').querySelector('[data-register]').focus(),
     p: () => $('processes').querySelector('button:not(:disabled)').focus(), t: () => $('timeline').focus(),
 };
 

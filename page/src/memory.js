@@ -1,5 +1,7 @@
 // The registers, each old content beside the new one, and the marks. A value leads to the item that wrote it.
+import {OUTPUT} from './text.js';
 import {$, compared, fill, make, say} from './elements.js';
+import {aside} from './asker.js';
 import {goTo, state, toggle} from './state.js';
 
 const MATRIX = 8;       // up to so many processes the bits are shown as a matrix
@@ -18,8 +20,7 @@ export function showMemory() {
             return {name, text, was: of(was), once: of(once)};
         });
         const banks = Object.entries(Object.groupBy(registers, ({name}) => name[0]));
-        const values = compared(was?.values, report.values, once?.values, since?.at);
-        return [make('div', {className: 'values'}, 'values ', ...values),
+        return [make('div', {className: 'values'}, 'values ', ...valuesOf(was, once)),
             ...banks.map(([bank, all]) => 'qp'.includes(bank) ? bits(bank, all) : fields(bank, all, touched))];
     });
 }
@@ -48,28 +49,40 @@ function table(bank, corner, head, rows) {
 function fields(bank, all, touched) {
     const rows = all.map(({name, text, was, once}) => {
         const old = was === undefined ? [] : columns(was, bank), far = once === undefined ? [] : columns(once, bank);
-        const cells = columns(text, bank).map(([, cell], k) =>
-            compared(old[k]?.[1], cell, far[k]?.[1], state.since?.at));
-        if (bank === 'r') cells[0] = [writerButton(name, cells[0])];
+        const cells = columns(text, bank).map(([of, cell], k) =>
+            [writerButton(name, of, compared(old[k]?.[1], cell, far[k]?.[1], state.since?.at), k ? -1 : 0)]);
         return [watchButton(name), cells, bank === 'r' && name === `r ${touched}` ? 'touched' : ''];
     });
     return table(bank, '', columns(all[0].text, bank).map(([name]) => name), rows);
 }
 
-// The write of a register that its value comes from, as far as the module has drawn it.
-const writeOf = name =>
-    state.shapes?.write.findLast(({register, item}) => `r ${register}` === name && item <= state.at);
+// The values of the words, each of which leads to the item that wrote it.
+function valuesOf(was, once) {
+    const words = one => one?.values.split(' ') ?? [], [old, far] = [words(was), words(once)], {since} = state;
+    return words(state.report).flatMap((value, k) => [k ? ' ' : '',
+        writerButton(`r ${k + 1}`, 'value', compared(old[k], value, far[k], since?.at), -1)]);
+}
 
-function writerButton(name, content) {
-    const button = make('button', {className: 'writer', title: 'To the item that wrote this value'}, ...content);
-    button.ariaLabel = `data of ${name}: ${button.textContent}; to the item that wrote it`;
-    button.onclick = () => {
-        const write = writeOf(name);
-        if (write) return goTo(write.item);
-        const all = state.shapes?.from === 0;
-        return say(all ? `Nobody has written ${name} yet.` : `The write of ${name} is too far away to be drawn.`);
-    };
+// The Tab key leads to one of those of a register, which all do the same.
+function writerButton(name, part, content, tabIndex) {
+    const title = `To the item that wrote ${name}`;
+    const button = make('button', {className: 'writer', title, tabIndex}, ...content);
+    button.ariaLabel = `${part} of ${name}: ${button.textContent}; to the item that wrote it`;
+    button.onclick = () => goToWriter(name);
     return button;
+}
+
+// To the item that made a register what it is: the last write of it, where the module's picture has that, and else the
+// last item that changed it, to which the module runs back.
+async function goToWriter(name) {
+    const {shapes, listing, schedule, at, report, before, run} = state;
+    const drawn = shapes?.write.findLast(({register, item}) => `r ${register}` === name && item <= at);
+    if (drawn) return goTo(drawn.item);
+    const lineOf = one => one?.registers.find(line => line.startsWith(`${name} = `));
+    if (before && lineOf(before) !== lineOf(report)) return say(`Item ${at} wrote ${name}.`);
+    const answer = await aside.ask('writer', {listing, schedule, at, name});
+    if (answer?.code !== OUTPUT || run !== state.run) return null;
+    return answer.item ? goTo(answer.item) : say(`Nobody has written ${name} yet.`);
 }
 
 // Bits q[i,j] and p[i,j]: a row for each i. Many of them are written as lines.

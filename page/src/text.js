@@ -178,6 +178,25 @@ export function readLines(listing) {
     return found;
 }
 
+// The items of a trace: the words of each, what it did in one text, and what it changed, old beside new. The text of
+// the line that was executed is none of what it did.
+export function readTrace(text) {
+    const items = [];
+    for (const line of text.split('\n')) {
+        const [, item, who, words] = /^item (\d+) (\d+) (.*)$/.exec(line) ?? [];
+        if (item) items.push({item: Number(item), who: Number(who), words, did: `${who} ${words.split(': ')[0]}`,
+            changes: []});
+        else if (line) {
+            const {changes} = items.at(-1), is = line.slice(2), last = changes.at(-1);
+            if (line[0] === '-') changes.push([is, '']);
+            else if (last && !last[1]) last[1] = is;
+            else changes.push(['', is]);
+            items.at(-1).did += `\n${line}`;
+        }
+    }
+    return items;
+}
+
 // What the module's picture of some items tells of them: the title of each shape that it draws, in its words.
 const SHAPES =
     /<(?:g|path|svg) class="(loan|trap|crash|write|read|pass|fail|values|inner|point|none)"[^>]*><title>([^<]+)/g;

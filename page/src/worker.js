@@ -1,10 +1,12 @@
 // The worker: asks the module, and reads its answers, so that the page is never held up.
 import {OUTPUT, TRAPPED, ended, inputOf, readHead, readItems, readJudgement, readOperations, readSession, readShapes,
-    readVerdicts, verdictAt, viewAt} from './text.js';
+    readTrace, readVerdicts, verdictAt, viewAt} from './text.js';
 import {Glue} from './glue.js';
 
 const NEAR = 60;        // so many scans, the last ones, are told of in words, and as many without a point
 const MOST_MARKS = 64;  // of one session; more of them are asked for in several
+const MOST_PICTURED = 300, SHOWN_BEFORE = 3, SHOWN_AFTER = 4;   // of two runs that are compared
+const NOT_JUDGED = {verdict: '', item: 0, who: 0, reasons: []};
 let glue = null, told = '', operations = null;     // the texts whose operations the page has been told, and these
 
 const asText = ({code, bytes}) => ({code, text: new TextDecoder().decode(bytes)});
@@ -97,6 +99,12 @@ function reach({listing, schedule, at, most, who, line}) {
     return {code: OUTPUT, steps: end ? Number(end[1]) - at : 0};
 }
 
+// The last item up to a position that changed a register; 0 where none did.
+function writer({listing, schedule, at, name}) {
+    const answer = askOf('debug', listing, schedule, `watch ${name}\ngoto ${at}\nrrun`);
+    return answer.code === OUTPUT ? {code: OUTPUT, item: readSession(answer.text).report.at} : answer;
+}
+
 // What one item more would do: the report after it, and its outcome.
 function peek({listing, schedule, at}) {
     const answer = askOf('debug', listing, schedule, `goto ${at}\nwhere`);
@@ -130,6 +138,34 @@ function judge({listing, schedule}) {
     return answer.code === OUTPUT ? {code: OUTPUT, judgement: readJudgement(answer.text)} : answer;
 }
 
+// What is judged and drawn of one of two runs, and what its items did.
+/** @returns {any} */
+function runOf({listing, schedule}) {
+    const traced = askOf('trace', listing, schedule);
+    if (traced.code !== OUTPUT) return traced;
+    const items = readTrace(traced.text), total = items.length;
+    const verdicts = audit({listing, schedule}).verdicts?.near ?? [];
+    const judgement = verdicts.length ? judge({listing, schedule}).judgement : null;
+    const drawn = total && total <= MOST_PICTURED ? draw({listing, schedule, from: 1, to: total, seen: true}) : null;
+    return {code: OUTPUT, total, items, verdicts, judgement: judgement ?? NOT_JUDGED, picture: drawn?.text ?? ''};
+}
+
+// Two runs: the first item that did something else in one of them, 0 where there is none, and the items around it.
+function compare({runs}) {
+    /** @type {any[]} */
+    const found = [];
+    for (const [which, run] of runs.entries()) {
+        const one = runOf(run);
+        if (one.code !== OUTPUT) return {...one, which};
+        found.push(one);
+    }
+    const most = Math.min(...found.map(({total}) => total)), [one, other] = found.map(({items}) => items);
+    let k = 0;
+    while (k < most && one[k].did === other[k].did) k++;
+    const near = ({items}) => items.slice(Math.max(k - SHOWN_BEFORE, 0), k + SHOWN_AFTER);
+    return {code: OUTPUT, parted: k < most ? k + 1 : 0, runs: found.map(run => ({...run, items: near(run)}))};
+}
+
 // What an input of 'snaplab debug' leads to, whatever it is.
 const tryInput = ({text}) => asText(glue.answer('page_output', ['debug', '', ended(text)]));
 
@@ -140,7 +176,7 @@ async function start(letters) {
     return {code: OUTPUT};
 }
 
-const TASKS = {start, look, audit, judge, draw, peek, reach, tryInput,
+const TASKS = {start, look, audit, judge, draw, peek, reach, writer, compare, tryInput,
     answer: ({name, texts, numbers}) => glue.answer(name, texts, numbers)};
 
 onmessage = async ({data: {kind, request}}) => {

@@ -499,7 +499,7 @@ def try_trap(page, count):
     count.check("after a trap the instance is given up, and a new one made", told[:2] == [True, 3], told)
     count.check("room that is too small is made larger once", told[2:6] == [0, 100000, 65, "65536,65536,100000,100000"], told)
     count.check("want of memory is told", told[6], told)
-    page.run("state.refusal = readRefusal({code: 5, text: 'RuntimeError: unreachable'}), showState()")
+    page.run("state.refusal = readRefusal({code: TRAPPED, text: 'RuntimeError: unreachable'}), showState()")
     count.check("and the page says so", "was started anew" in page.text("#note"), page.text("#note"))
     lives_on(page, count, "a trap")
 
@@ -526,7 +526,7 @@ def try_readers(page, count):
         reached.add(page.run("document.activeElement.id || document.activeElement.className || document.activeElement.dataset.register || "
                              "document.activeElement.parentElement?.parentElement?.id || document.activeElement.tagName"))
     wanted = {"menu", "undo", "open", "save", "copy", "link", "picture", "make", "keys", "gutter", "word", "value", "step", "scan", "update", "crash",
-              "cut", "run", "rrun", "home", "end", "at", "timeline", "play", "next", "previous", "words", "present", "trust", "frame",
+              "cut", "run", "rrun", "home", "end", "at", "timeline", "play", "next", "previous", "compare", "words", "present", "trust", "frame",
               "edge-left", "edge-right", "edge-middle", "edge-lesson"}
     count.check("the Tab key reaches every control", wanted <= reached, wanted - reached)
     page.leave()

@@ -8,7 +8,7 @@ from controls import FIRST_IDEA, Page, attempt  # noqa: E402
 
 SIZES = {"a phone": {"width": 390, "height": 844, "scale": 2, "mobile": True}, "1280 x 720 at 200 %": {"width": 640, "height": 360, "scale": 2},
          "1440 x 900 at 200 %": {"width": 720, "height": 450, "scale": 2}}
-HEADER = ["menu", "more", "open", "save", "copy", "link", "frame", "picture", "make", "present", "words", "trust", "keys"]
+HEADER = ["menu", "more", "open", "save", "copy", "link", "frame", "picture", "make", "compare", "present", "words", "trust", "keys"]
 CONTROLS = ["home", "rrun", "back", "on", "run", "end", "play", "speed", "at", "closer", "wider", "fit", "timeline"]
 # What is beyond an edge of the window, or scrolls sideways; a picture alone may be wider.
 BEYOND = """[...document.querySelectorAll('body *')].filter(e => e.checkVisibility() && !e.closest('canvas, figure, .back, #cursor, #future'))
@@ -135,6 +135,29 @@ def try_lanes(page, count):
             seen.append(page.tab.when(f"(() => {{ const b = document.getElementById('timeline'), top = 18 + ({item} - 1) * line.high; return"
                                       " b.scrollTop <= top && top + line.high <= b.scrollTop + b.clientHeight; })()"))
         count.check(f"{name}: the lane of the process that moved is in sight", seen == [True] * 3, seen)
+        tall = page.run("['#cursor', 'canvas'].map(s => document.querySelector(`#timeline ${s}`).getBoundingClientRect().height)")
+        count.check(f"{name}: the position goes through all lanes", tall[0] == tall[1] > 12 * 12, tall)
+
+
+def try_many(page, count):
+    """The registers of twelve processes leave the verdicts in sight."""
+    page.choose(0)
+    page.write("schedule", "shape 12 12\n" + "".join(f"{k} scan\n" for k in range(1, 13)) + "".join(f"{k}*60\n" for k in range(1, 13)))
+    page.leave()
+    page.key("End")
+    inside = ("(() => { const edge = document.querySelector('footer').getBoundingClientRect().top, box = id => document.querySelector(id)"
+              ".getBoundingClientRect(); return [box('#run-verdict').bottom <= edge, box('#verdicts button').bottom <= edge, box('#memory').height >"
+              " 80, document.getElementById('memory').scrollHeight > document.getElementById('memory').clientHeight]; })()")
+    for name, how in (("1280 x 720", {"width": 1280, "height": 720}), ("1440 x 900", {"width": 1440, "height": 900})):
+        page.tab.look(**how)
+        count.check(f"{name}: the verdicts of twelve processes are in sight", page.tab.when(f"{inside}.slice(0, 3).every(Boolean)"), page.run(inside))
+    for name, how in SIZES.items():
+        shown_in(page, how)
+        share = "document.getElementById('memory').getBoundingClientRect().height / innerHeight"
+        count.check(f"{name}: their registers take less than half of the window", page.tab.when(f"{share} < .5"), page.run(share))
+    page.tab.look(1280, 720)
+    lines = "document.querySelector('header').getBoundingClientRect().height"
+    count.check("at 1280 x 720 the buttons are in one line", page.run(lines) < 50, page.run(lines))
 
 
 def try_values(page, count):
@@ -156,7 +179,7 @@ def main():
     with browser.Browser() as running:
         page = Page(running.tab())
         page.run("document.getElementById('hello-close').click()")
-        for trial in (try_edges, try_words, try_keys, try_names, try_lanes, try_values, try_lower):
+        for trial in (try_edges, try_words, try_keys, try_names, try_lanes, try_many, try_values, try_lower):
             attempt(trial, count, page)
         attempt(try_deaf, count, page, running)
         wrong = [str(one["params"])[:300] for one in list(running.events.queue) if one["method"] == "Runtime.exceptionThrown"]

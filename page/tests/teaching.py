@@ -424,6 +424,82 @@ def try_movers(page, count):
     count.check("a value leads to its write", page.at() == "Item 54 of 64", page.at())
 
 
+def written_at(page, register):
+    """The last item of the run that changed a register, by the module's trace."""
+    text = page.tab.answer("trace", "", page.run("state.listing + '%\\n' + state.schedule").encode())[1].decode()
+    items = [one for one in ("\n" + text).split("\nitem ")[1:] if f"\n+ {register} = " in one]
+    return int(items[-1].split()[0]) if items else 0
+
+
+def try_writers(page, count):
+    """A click on a value leads to the item that wrote it, whichever register has it, and however far it is."""
+    for idea, names in ((3, ("r 1", "r 2")), (6, ("r 1", "r 3")), (7, ("r 1", "r 2", "v 1", "v 2"))):
+        page.choose(FIRST_IDEA + idea - 1)
+        for name in names:
+            page.click("#end")
+            wanted = written_at(page, name)
+            place = page.run(f"[...document.querySelectorAll('#memory .writer')].findLastIndex(b => b.ariaLabel.includes('of {name}:'))")
+            page.click("#memory .writer", place)
+            found = page.at().split()[1]
+            told = "Nobody has written" in page.text("#note")
+            count.check(f"idea {idea}, {name}: its writer", found == str(wanted) if wanted else told, [found, wanted, page.text("#note")])
+    page.choose(FIRST_IDEA + 2)
+    page.click("#end")
+    page.click("#memory .values .writer", 1)
+    count.check("the values lead to their writers", page.at() == "Item 54 of 64", page.at())
+    page.choose(0)
+    page.write("schedule", "shape 3 3\n2 update 2 5\n2*40\n" + "1 scan\n1*20000\n" * 3)
+    page.leave()
+    page.key("End")
+    page.click("#memory .values .writer", 1)
+    count.check("the writer of a value that is far away", "0\u21925" in page.text("#memory") and int(page.at().split()[1]) < 42, page.at())
+    page.click("#end")
+    page.click("#memory .values .writer", 0)
+    count.check("and that there is none", "Nobody has written r 1" in page.text("#note") and page.at() == "Item 60044 of 60044", page.text("#note"))
+
+
+def try_compare(page, count):
+    """The run of a lesson beside that of its change: what differs, and the first item that did something else."""
+    page.choose(FIRST_IDEA + 3)
+    page.key("c")
+    told = page.text("#compared")
+    edited = page.run("[...document.querySelectorAll('#compared .edited')].map(e => e.textContent)")
+    count.check("two runs: the changed line of each is marked", edited == [f"16 18: first j n: moved[@] = {k} goto 23" for k in (2, 1)], edited)
+    parted = page.run("[...document.querySelectorAll('#compared li.parted button')].map(e => e.textContent)")
+    count.check("and the first item at which they part", "part at item 50" in told and parted == [
+        f"item 50, process 1: stepped at 18: first j n: moved[@] = {k} goto 23" for k in (2, 1)], parted)
+    traced = [page.tab.answer("trace", "", "%\n".join(page.run(f"[data.choices[{FIRST_IDEA + 3}]{part}].map(c => [c.listing, c.schedule])[0]")).encode()
+                              )[1].decode().split("\nitem ") for part in ("", ".change")]
+    effects = [[re.sub(r"^(\d+ \d+ [^:\n]*):.*", r"\1", one, flags=re.M) for one in run] for run in traced]
+    first = next(k + 1 for k, (a, b) in enumerate(zip(*effects)) if a != b)
+    count.check("which is so in the module's traces", first == 50, first)
+    columns = page.run("[...document.querySelectorAll('#compared section')].map(e => e.innerText)")
+    count.check("and what is judged of each", "answers 3 5: point 42" in columns[0] and "Linearizable." in columns[0] and
+                "answers 0 0: no point" in columns[1] and "Not linearizable: item 52, process 1." in columns[1], columns)
+    page.click("#compared section:nth-child(2) li.parted button")
+    count.check("a click leads to the item, in its run", page.at() == "Item 50 of 62" and not page.shown("#compared") and
+                page.text("#change") == "Back to how it was", page.at())
+    page.click("#undo")
+    count.check("and undo leads back", page.text("#change") == "Make the change", page.text("#change"))
+    page.choose(FIRST_IDEA + 2)
+    page.click("#compare")
+    count.check("a change of the schedule alone is compared, too", "schedule" in page.text("#compared") and "Here the runs part" in page.text(
+        "#compared"), page.text("#compared")[:300])
+    page.tab.key("Escape")
+    page.run("change({idea: null, listing: state.listing, schedule: 'shape 2 2\\n1 scan\\n1*13\\n', at: 0})")
+    page.tab.settled()
+    page.write("schedule", "shape 2 2\n1 scan\n1*12\n2 scan\n")
+    page.leave()
+    page.click("#compare")
+    count.check("without a lesson it is what stood there before", "Before the last change" in page.text("#compared") and "part at item 14" in page.text(
+        "#compared-first"), page.text("#compared-first"))
+    page.tab.key("Escape")
+    page.write("listing", page.value("#listing textarea").replace("33: finish", "33: finnish"))
+    page.leave()
+    page.click("#compare")
+    count.check("what is refused is told", not page.shown("#compared") and "Now: refused: L3" in page.text("#note"), page.text("#note"))
+
+
 CONTRAST = """(() => {
     const parts = c => (c.match(/[\\d.]+/g) ?? []).map(Number), light = ([r, g, b]) => [r, g, b].map(v => v / 255).map(v =>
         v <= .03928 ? v / 12.92 : ((v + .055) / 1.055) ** 2.4).reduce((sum, v, k) => sum + v * [.2126, .7152, .0722][k], 0);
@@ -586,7 +662,7 @@ def main():
     with browser.Browser() as running:
         page = fresh(running.tab(**PROJECTOR))
         for trial in (try_first_seconds, try_position, try_keys_after_a_choice, try_loans, try_keeping, try_changes, try_texts, try_zoomed,
-                      try_exercises, try_refusals, try_opening, try_notes, try_traps, try_untold, try_margin, try_movers, try_lessons, try_contrast, try_play,
+                      try_exercises, try_refusals, try_opening, try_notes, try_traps, try_untold, try_margin, try_movers, try_writers, try_compare, try_lessons, try_contrast, try_play,
                       try_png):
             attempt(trial, count, page)
         attempt(try_without_module, count, page, running)

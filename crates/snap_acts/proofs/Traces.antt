@@ -1,60 +1,80 @@
--- `Tracer`: a machine does the items of a run, and notes of each what it did (`step_of`).
-use Rattle.std.proofs.Common.{◌≡◌, ◌+◌, ◌≤◌, List, [], ◌∷◌, ◌++◌, length, sym, subst, ◌∙◌, append_assoc, arith}
-use Rattle.std.specs.List.{AllByRecursion}
-use Rattle.snap_words.specs.Shape.{Counts, IsOneOf}
+-- What the items of a run did (`steps_of`), item by item.
+use Rattle.std.proofs.Common.{◌≡◌, ℕ, suc, ◌+◌, ◌<◌, ◌≤◌, List, [], ◌∷◌, ◌++◌, length, take, refl, ap, ◌∙◌, arith}
+use Rattle.std.proofs.Common.{length-take, subst, sym}
+use Rattle.snap_words.specs.Shape.{Counts}
 use Rattle.snap_semantics.specs.declared.process.Item.{Item}
+use Rattle.snap_semantics.specs.Readers.{line_of}
+use Rattle.snap_semantics.specs.Run.{after}
 use Rattle.snap_semantics.specs.Source.{Source}
-use Rattle.snap_semantics.specs.State.{initial}
+use Rattle.snap_semantics.specs.State.{State, initial, process_at}
 use Rattle.snap_semantics.specs.Table.{done, who}
-use Rattle.snap_acts.specs.Trace.{step_of, steps_of}
-use Rattle.snap_acts.specs.declared.tracer.Tracer.{Tracer}
+use Rattle.snap_runs.specs.Run.{Run, item, state}
+use Rattle.snap_runs.proofs.Embedding.{next_state}
+use Rattle.snap_machine.specs.Configuration.{Configuration}
+use Rattle.snap_walk.specs.Walk.{Passes, Way}
+use Rattle.snap_walk.proofs.Ways.{all_items, items_more}
+use Rattle.snap_walk.specs.declared.passed.Passed.{Passed}
+use Rattle.snap_acts.specs.Tells.{Tells}
+use Rattle.snap_acts.specs.Trace.{act_of, line_number, plan_of, step_of, steps_of, trace_of}
+use Rattle.snap_acts.specs.declared.act.Act.{Act}
+use Rattle.snap_acts.specs.declared.act.Step.{Step}
+use Rattle.snap_acts.specs.declared.plan.Plan.{Plan}
 
--- of these items some are done, and the others are left
-pub record Going {K W : Type 0} (s : Source) (n : Counts) (all : List Item) (c : Tracer K W)
-    (left : List Item) : Type 0 where
-  pub fits : AllByRecursion (λ x. IsOneOf n.n (who x)) left
-  pub source : c.machine.source ≡ s
-  pub shape : c.machine.shape ≡ n
-  pub steps : steps_of s n (initial s n) 1 all ≡ c.steps.items ++ steps_of s n c.machine.state (c.done + 1) left
-  pub number : length all ≡ c.done + length left
-  pub few : length all ≤ 1000000
+-- what the first t items did
+abbrev pub steps_to : Run → ℕ → List Step
+steps_to r t = steps_of r.source r.shape (initial r.source r.shape) 1 (take t r.items)
 
--- one of them has been done
-pub record OneDone {K W : Type 0} (c : Tracer K W) (x : Item) (c' : Tracer K W) : Type 0 where
-  pub source : c'.machine.source ≡ c.machine.source
-  pub shape : c'.machine.shape ≡ c.machine.shape
-  pub state : c'.machine.state ≡ (done c.machine.source c.machine.shape c.machine.state x).0
-  pub steps : c'.steps.items
-      ≡ c.steps.items ++ step_of c.machine.source c.machine.shape c.machine.state (c.done + 1) x ∷ []
-  pub number : c'.done ≡ c.done + 1
+-- what items did, and what one behind them did
+steps_last : (s : Source) (n : Counts) (S : State) (t : ℕ) (xs : List Item) (x : Item) →
+    steps_of s n S t (xs ++ x ∷ []) ≡ steps_of s n S t xs ++ step_of s n (after s n S xs) (t + length xs) x ∷ []
+steps_last s n S t [] x = let place : t ≡ t + 0 = omega arith in ap (λ k. step_of s n S k x ∷ []) place
+steps_last s n S t (y ∷ xs) x =
+    let place : t + 1 + length xs ≡ t + suc (length xs) = omega arith in
+    let next = (done s n S y).0 in
+    ap (λ zs. step_of s n S t y ∷ zs) (steps_last s n next (t + 1) xs x
+    ∙ ap (λ k. steps_of s n next (t + 1) xs ++ step_of s n (after s n next xs) k x ∷ []) place)
 
--- the next one may be done
-pub next_fits : {K W : Type 0} (s : Source) (n : Counts) (all left left' : List Item) (c : Tracer K W) (x : Item) →
-    Going s n all c left → left ≡ x ∷ left' → IsOneOf c.machine.shape.n (who x)
-next_fits s n all left left' c x h next =
-    subst (λ (m : Counts). IsOneOf m.n (who x)) (sym h.shape)
-    (subst (λ xs. AllByRecursion (λ x. IsOneOf n.n (who x)) xs) next h.fits).0
+-- what they did with one item more
+pub steps_more : (r : Run) (t : ℕ) → t < length r.items →
+    steps_to r (suc t) ≡ steps_to r t ++ step_of r.source r.shape (state r t) (suc t) (item r (suc t)) ∷ []
+steps_more r t below =
+    let s = r.source in
+    let n = r.shape in
+    let many : length (take t r.items) ≡ t = (let l = length-take t r.items in omega (arith, l, below)) in
+    let number : 1 + length (take t r.items) ≡ suc t = omega (arith, many) in
+    ap (steps_of s n (initial s n) 1) (items_more r t below)
+    ∙ steps_last s n (initial s n) 1 (take t r.items) (item r (suc t))
+    ∙ ap (λ k. steps_to r t ++ step_of s n (state r t) k (item r (suc t)) ∷ []) number
 
--- and there is a number for it
-pub next_few : {K W : Type 0} (s : Source) (n : Counts) (all left : List Item) (c : Tracer K W) →
-    Going s n all c left → c.done ≤ 1000000
-next_few s n all left c h = let e = h.number in let f = h.few in omega (arith, e, f)
+-- what all of them did
+pub all_steps : (r : Run) (t : ℕ) → t ≡ length r.items → steps_to r t ≡ trace_of r
+all_steps r t end = ap (steps_of r.source r.shape (initial r.source r.shape) 1) (all_items r t end)
 
--- when it is done, the others are left
-pub one_more : {K W : Type 0} (s : Source) (n : Counts) (all left left' : List Item) (c c' : Tracer K W) (x : Item) →
-    Going s n all c left → left ≡ x ∷ left' → OneDone c x c' → Going s n all c' left'
-one_more s n all left left' c c' x h next is =
-    let m : length left ≡ length left' + 1 = rw next (omega arith) in
-    let e = h.number in
-    let f = is.number in
-    record {
-      fits = (subst (λ xs. AllByRecursion (λ x. IsOneOf n.n (who x)) xs) next h.fits).1;
-      source = is.source ∙ h.source;
-      shape = is.shape ∙ h.shape;
-      steps =
-          h.steps ∙ rw (next, is.steps, is.state, is.number, h.source, h.shape)
-          (sym (append_assoc c.steps.items (step_of s n c.machine.state (c.done + 1) x ∷ [])
-          (steps_of s n (done s n c.machine.state x).0 (c.done + 1 + 1) left')));
-      number = omega (arith, m, e, f);
-      few = h.few;
-    }
+-- What is told of the item that was passed is what it did, from the state before it and the state after it.
+pub passed_is : (w w' : Way) (p : Passed) (x : Item) (i line : ℕ) (S S' : State) (m : Configuration) (plan : Plan)
+    (a : Act) → Passes w p w' → x ≡ item w.run (suc w.at) → i ≡ who x → S ≡ state w.run w.at →
+    S' ≡ state w'.run w'.at → m.source ≡ w.run.source → m.shape ≡ w.run.shape → m.state ≡ state w.run w.at →
+    line ≡ line_number (line_of (process_at S i).status) → plan ≡ plan_of m.source m.shape m.state x →
+    a ≡ act_of plan S' (who x) x p.outcome →
+    ◌≡◌ {A = Step} (record { process = i; item = p.number; line = line; act = a })
+    (step_of w.run.source w.run.shape (state w.run w.at) (suc w.at) (item w.run (suc w.at)))
+unfolding step_of
+passed_is w w' p x i line S S' m plan a is x_is i_is S_is S'_is source shape state_is line_is plan_is a_is =
+    let after_is : S' ≡ (done w.run.source w.run.shape (state w.run w.at) (item w.run (suc w.at))).0 =
+    S'_is ∙ ap (λ (v : Way). state v.run v.at) is.way ∙ next_state w.run w.at is.left in
+    let number = is.number in
+    let outcome_is = is.outcome in
+    rw (a_is, plan_is, line_is, i_is, source, shape, state_is, S_is, after_is, number, outcome_is, x_is) refl
+
+-- a step more is told of this run
+pub one_more : (r : Run) (w w' : Way) (steps steps' : List Step) (s : Step) → w.run ≡ r → steps ≡ steps_to w.run w.at →
+    Tells w s w' → steps' ≡ steps ++ s ∷ [] →
+    (w'.run ≡ r) × (w'.at ≤ length w'.run.items) × (steps' ≡ steps_to w'.run w'.at)
+one_more r w w' steps steps' s run so_far is more =
+    let left = is.left in
+    subst (λ (v : Way). (v.run ≡ r) × (v.at ≤ length v.run.items) × (steps' ≡ steps_to v.run v.at)) (sym is.way) (
+      run,
+      omega (arith, left),
+      more ∙ ap (λ xs. xs ++ s ∷ []) so_far ∙ ap (λ x. steps_to w.run w.at ++ x ∷ []) is.step
+          ∙ sym (steps_more w.run w.at is.left),
+    )

@@ -1,12 +1,13 @@
-//! `Tracer`: a machine that does the items of a run and notes of each what it did, as a `Step`.
-ghost use Rattle.std.specs.Prelude.{◌≡◌, ◌∷◌, ◌++◌, [], ◌+◌, ◌<◌, ◌^◌, IfOk, OnOk};
+//! `trace`: what each item of a run did, as a `Step`.
+ghost use Rattle.std.specs.Prelude.{◌≡◌, length, IfOk, MatchOption};
 ghost use Rattle.snap_words.specs.Shape.{IsOneOf};
 ghost use Rattle.snap_semantics.specs.Readers.{line_of};
 ghost use Rattle.snap_semantics.specs.State.{process_at};
-ghost use Rattle.snap_semantics.specs.Table.{done, who};
+ghost use Rattle.snap_semantics.specs.Table.{who};
 ghost use Rattle.snap_runs.specs.Run.{run_over};
+ghost use Rattle.snap_acts.specs.Tells.{Tells};
 ghost use Rattle.snap_acts.specs.Trace.{act_of, call_act, line_number, returned};
-ghost use Rattle.snap_acts.specs.Trace.{stands_at, step_of, stepped, trace_of};
+ghost use Rattle.snap_acts.specs.Trace.{stands_at, stepped, trace_of};
 
 use crate::act::{Act, Step};
 use crate::plan::{Plan, plan_of};
@@ -14,16 +15,9 @@ use snap_asm_program::Program;
 use snap_machine::Machine;
 use snap_sched::Schedule;
 use snap_semantics::{Item, Name, Outcome, who};
+use snap_walk::{Passed, Walk};
 use snap_words::Kind;
 use std::alloc::{AllocError, Global};
-
-/// A machine, and what the items did that it has done.
-#[derive(Drop)]
-pub(crate) struct Tracer<K: Kind> {
-    machine: Machine<K>,
-    steps: Vec<Step>,
-    done: u64,
-}
 
 /// Whether a process stands at this line.
 fn stands_at(line: Option<u64>, target: u64) -> bool
@@ -106,35 +100,34 @@ fn line_number(line: Option<u64>) -> u64
     }
 }
 
-impl<K: Kind> Tracer<K> {
-    /// Does one item more.
-    #[tactic(auto, unfolding(crate::specs::Trace::step_of))]
-    fn take(&mut self, item: Item) -> Result<(), AllocError>
-        requires process { IsOneOf self.old.machine.shape.n (who item) }
-        requires few { self.old.done < 2 ^ 63 }
-        ensures state { OnOk result (self.new.machine.state
-            ≡ (done self.old.machine.source self.old.machine.shape self.old.machine.state item).0) }
-        ensures steps { OnOk result (self.new.steps.items ≡ self.old.steps.items
-            ++ step_of self.old.machine.source self.old.machine.shape self.old.machine.state
-            (self.old.done + 1) item ∷ []) }
-        ensures source { OnOk result (self.new.machine.source ≡ self.old.machine.source) }
-        ensures shape { OnOk result (self.new.machine.shape ≡ self.old.machine.shape) }
-        ensures number { OnOk result (self.new.done ≡ self.old.done + 1) }
-    {
-        let process = who(item);
-        let line = line_number(self.machine.line(process));
-        let plan = plan_of(&self.machine, item);
-        let outcome = self.machine.apply(item)?;
-        let act = act_of(&self.machine, plan, item, outcome)?;
-        self.done += 1;
-        self.steps.push(Step {
-            process,
-            item: self.done,
-            line,
-            act,
-        })?;
-        Ok(())
-    }
+/// Does the next item of a run, if there is one: what it did.
+fn next_step<K: Kind>(walk: &mut Walk<'_, K>) -> Result<Option<Step>, AllocError>
+    ensures { IfOk result (λ o. MatchOption o (walk.old.at ≡ length walk.old.run.items)
+        (λ step. Tells walk.old step walk.new)) }
+{
+    let Some(item) = walk.upcoming() else {
+        return Ok(None);
+    };
+    let process = who(item);
+    let line = line_number(walk.machine().line(process));
+    let plan = plan_of(walk.machine(), item);
+    let Some(
+        Passed {
+            number,
+            outcome,
+            ..
+        },
+    ) = walk.next()?
+    else {
+        return Ok(None);
+    };
+    let act = act_of(walk.machine(), plan, item, outcome)?;
+    Ok(Some(Step {
+        process,
+        item: number,
+        line,
+        act,
+    }))
 }
 
 /// What each item of a program's run over a schedule did.
@@ -146,14 +139,10 @@ pub fn trace<K: Kind>(
     requires { program.now.kind ≡ K.TAG }
     ensures { IfOk result (λ v. v.items ≡ trace_of (run_over program.now schedule.now)) }
 {
-    let mut tracer = Tracer {
-        machine: Machine::<K>::new(alloc, program, schedule.shape())?,
-        steps: Vec::new(alloc),
-        done: 0,
-    };
-    let mut left = schedule.items().iter();
-    while let Some(item) = left.next() {
-        tracer.take(item)?;
+    let mut walk = Walk::<K>::over(alloc, program, schedule)?;
+    let mut steps = Vec::new(alloc);
+    while let Some(step) = next_step(&mut walk)? {
+        steps.push(step)?;
     }
-    Ok(tracer.steps)
+    Ok(steps)
 }

@@ -1,15 +1,12 @@
--- Laws of a `Watch`, a machine with what an audit has to know of its items: it goes on to tell of the longer run,
--- item by item, through all segments of a schedule.
-use Rattle.std.proofs.Common.{◌≡◌, ℕ, zero, suc, ◌+◌, ◌-◌, ◌<◌, ◌≤◌, false, ◌&&◌, List, [], ◌∷◌, ◌++◌, length, map}
-use Rattle.std.proofs.Common.{Option, Some, None, replicate, slice_index, slice_set, refl, sym, ap, subst, ◌∙◌, append_assoc}
-use Rattle.std.proofs.Common.{append-nil, length-append, if◌then◌else◌, arith}
-use Rattle.std.specs.List.{AllByRecursion, flat_map}
-use Rattle.std.proofs.lemmas.List.{length-replicate, replicate_more}
-use Rattle.snap_words.specs.Shape.{Counts, IsOneOf, max_items}
-use Rattle.snap_words.specs.declared.kind.KindTag.{KindTag}
+-- Laws of a `Watch`, what an audit has to know of the items that a machine has done: it goes on to tell of what comes
+-- next on the way, item by item.
+use Rattle.std.proofs.Common.{◌≡◌, ℕ, suc, ◌+◌, ◌-◌, ◌<◌, ◌≤◌, Bool, true, false, ◌&&◌, List, [], ◌∷◌, ◌++◌, length, map, take}
+use Rattle.std.proofs.Common.{Option, Some, None, slice_index, slice_set, refl, sym, ap, subst, ◌∙◌}
+use Rattle.std.proofs.Common.{append-nil, length-set, length-take, if◌then◌else◌, arith}
+use Rattle.snap_words.specs.Shape.{max_items}
 use Rattle.snap_semantics.specs.Run.{event_of}
 use Rattle.snap_semantics.specs.Source.{Source, instr_at}
-use Rattle.snap_semantics.specs.State.{Locals, State, values}
+use Rattle.snap_semantics.specs.State.{Locals, State, process_at, values}
 use Rattle.snap_semantics.specs.Table.{done, who}
 use Rattle.snap_semantics.specs.declared.event.Event.{Event}
 use Rattle.snap_semantics.specs.declared.instr.Instr.{Instr}
@@ -17,25 +14,28 @@ use Rattle.snap_semantics.specs.declared.instr.Instr.TheVariants.{Let, LetPlace,
 use Rattle.snap_semantics.specs.declared.instr.Instr.TheVariants.{ViewData, ViewOf, Each, First, Next, If, IfAll}
 use Rattle.snap_semantics.specs.declared.instr.Instr.TheVariants.{Goto, Call, Return, Finish}
 use Rattle.snap_semantics.specs.declared.process.Activity.{Activity}
+use Rattle.snap_semantics.specs.declared.process.Cause.{Cause}
 use Rattle.snap_semantics.specs.declared.process.Item.{Item}
+use Rattle.snap_semantics.specs.declared.process.Item.TheVariants.{Step}
 use Rattle.snap_semantics.specs.declared.process.Op.{Op}
 use Rattle.snap_semantics.specs.declared.process.Op.TheVariants.{Scan, Update}
 use Rattle.snap_semantics.specs.declared.process.Outcome.{Outcome}
 use Rattle.snap_semantics.specs.declared.process.Outcome.TheVariants.{Stepped}
-use Rattle.snap_semantics.specs.declared.process.Status.{Status}
-use Rattle.snap_semantics.specs.declared.process.Status.TheVariants.{Busy}
-use Rattle.snap_runs.specs.Run.{Run}
+use Rattle.snap_semantics.specs.declared.process.Status.TheVariants.{Idle, Busy, Trapped, Crashed}
+use Rattle.snap_runs.specs.Run.{Run, run_of_items, state}
 use Rattle.snap_runs.specs.Scan.{is_stepped}
-use Rattle.snap_runs.specs.StepRoles.{is_test, is_write, line_step_role, returned, step_role_at, step_role_in}
+use Rattle.snap_runs.specs.StepRoles.{StepRole, is_test, is_write, line_step_role, returned, step_role_at, step_role_in}
 use Rattle.snap_runs.specs.StepRoles.{step_role_of}
-use Rattle.snap_record.specs.History.{changes_to, counted}
-use Rattle.snap_history.specs.Longer.{with_item, with_items}
+use Rattle.snap_history.specs.Longer.{with_item}
+use Rattle.snap_record.specs.History.{IsRecord, changes_to, counted}
 use Rattle.snap_record.specs.Roles.{AreRoles, instr_role, role_of}
 use Rattle.snap_record.specs.declared.roles.LineRole.{LineRole}
+use Rattle.snap_record.specs.declared.roles.LineRole.TheVariants as role
 use Rattle.snap_record.proofs.Recording.{none_changed, recorded, stay_when}
-use Rattle.snap_sched.specs.Segments.{segment_items}
-use Rattle.snap_sched.specs.declared.segments.Segment.{Segment}
-use Rattle.snap_audit.specs.Watch.{Watches, is_test_line, is_write_line}
+use Rattle.snap_walk.specs.Walk.{Passes, Way}
+use Rattle.snap_walk.specs.declared.passed.Passed.{Passed}
+use Rattle.snap_walk.proofs.Ways.{all_items, items_more, passed_state}
+use Rattle.snap_audit.specs.Watch.{Watches, is_test_line, is_write_line, so_far}
 use Rattle.snap_audit.specs.declared.watch.Watch.{Watch}
 
 -- a line `return` writes no word
@@ -79,159 +79,140 @@ line_told : (a : Activity) (l : Locals) (i : Option Instr) → (is_write (step_r
 line_told a l None = (refl, refl)
 line_told a l (Some i) = instr_told a l i
 
--- a process at a line that is so: whether its step writes a word
-pub writes_told : (s : Source) (l : Locals) (t : Status) (a : Activity) (m : LineRole) → t ≡ Busy a →
-    m ≡ role_of (instr_at s.lines a.line) → is_write (step_role_in s l t) ≡ is_write_line m
-writes_told s l t a m at is =
-    ap (λ y. is_write (step_role_in s l y)) at ∙ (line_told a l (instr_at s.lines a.line)).0 ∙ ap is_write_line (sym is)
+-- what is told of a step of a process that stands so
+abbrev pub Told : Source → State → Item → LineRole → Type 0
+Told s S x m =
+    (is_write (step_role_of s S x) ≡ is_write_line m) × (is_test (step_role_of s S x) ≡ is_test_line m)
 
--- and whether it tests for all
-pub tests_told : (s : Source) (l : Locals) (t : Status) (a : Activity) (m : LineRole) → t ≡ Busy a →
-    m ≡ role_of (instr_at s.lines a.line) → is_test (step_role_in s l t) ≡ is_test_line m
-tests_told s l t a m at is =
-    ap (λ y. is_test (step_role_in s l y)) at ∙ (line_told a l (instr_at s.lines a.line)).1 ∙ ap is_test_line (sym is)
+-- of one that is at a line, which is so
+pub busy_told : (s : Source) (S : State) (i : ℕ) (a : Activity) (m : LineRole) → (process_at S i).status ≡ Busy a →
+    m ≡ role_of (instr_at s.lines a.line) → Told s S (Step i) m
+busy_told s S i a m at is =
+    let l = (process_at S i).locals in
+    let told = line_told a l (instr_at s.lines a.line) in (
+      ap (λ y. is_write (step_role_in s l y)) at ∙ told.0 ∙ ap is_write_line (sym is),
+      ap (λ y. is_test (step_role_in s l y)) at ∙ told.1 ∙ ap is_test_line (sym is),
+    )
 
--- the state, the values and what else was noted before an item, and after it
-pub noted : {K W : Type 0} (k : KindTag) (r : Run) (x y : Watch K W) (i : Item) (o : Outcome) → Watches k r x →
-    IsOneOf x.machine.shape.n (who i) → x.done < max_items →
-    done x.machine.source x.machine.shape x.machine.state i ≡ (y.machine.state, o) →
-    y.machine.source ≡ x.machine.source → y.machine.shape ≡ x.machine.shape → y.roles ≡ x.roles →
-    y.done ≡ x.done + 1 → y.values ≡ values y.machine.state → length y.values ≡ x.machine.shape.w →
-    y.changes.items ≡ x.changes.items ++ changes_to y.done 0 x.values (values y.machine.state) →
-    y.events.items ≡ x.events.items ++ event_of y.done i o →
-    y.collects.items ≡ counted (step_role_of x.machine.source x.machine.state i) o (who i) x.collects.items →
-    y.at_events.items ≡ x.at_events.items
-    ++ map (λ (e : Event). slice_index y.collects.items (who i - 1)) (event_of y.done i o) →
-    Watches k (with_item r i) y
-noted k r x y i o h one few did source shape roles number now count changes events collects at =
-    let one' = subst (λ (n : Counts). IsOneOf n.n (who i)) h.shape one in
-    let same = h.number in
-    let did' =
-    ap (λ (s : Source). done s r.shape x.machine.state i) (sym h.source)
-    ∙ ap (λ (n : Counts). done x.machine.source n x.machine.state i) (sym h.shape) ∙ did in
-    let longer = length-append r.items (i ∷ []) in
-    record {
-      source = source ∙ h.source;
-      shape = shape ∙ h.shape;
-      number = omega (arith, number, same, longer);
-      roles = subst (λ v. AreRoles r.source v.items) (sym roles) h.roles;
-      notes =
-          recorded r k x.machine.state y.machine.state i o x.values y.values x.changes.items y.changes.items
-          x.events.items y.events.items x.collects.items y.collects.items x.at_events.items y.at_events.items y.done
-          h.notes one' (omega (arith, few, same)) (omega (arith, number, same)) did' now
-          (count ∙ ap (λ (n : Counts). n.w) h.shape)
-          (changes ∙ ap (λ l. x.changes.items ++ changes_to y.done 0 x.values l) (sym now)) events
-          (collects ∙ ap (λ (s : Source). counted (step_role_of s x.machine.state i) o (who i) x.collects.items) h.source)
-          at;
-    }
+-- of one that does no line
+pub idle_told : (s : Source) (S : State) (i : ℕ) → (process_at S i).status ≡ Idle → Told s S (Step i) role.Nothing
+idle_told s S i at =
+    let l = (process_at S i).locals in
+    (ap (λ y. is_write (step_role_in s l y)) at, ap (λ y. is_test (step_role_in s l y)) at)
 
--- an item of which nothing is to be noted
-pub quiet : {K W : Type 0} (k : KindTag) (r : Run) (x y : Watch K W) (i : Item) (o : Outcome) → Watches k r x →
-    IsOneOf x.machine.shape.n (who i) → x.done < max_items →
-    done x.machine.source x.machine.shape x.machine.state i ≡ (y.machine.state, o) →
-    y.machine.source ≡ x.machine.source → y.machine.shape ≡ x.machine.shape → y.roles ≡ x.roles →
-    y.done ≡ x.done + 1 → y.values ≡ x.values → y.changes ≡ x.changes → y.events ≡ x.events →
-    y.collects ≡ x.collects → y.at_events ≡ x.at_events →
-    is_write (step_role_of x.machine.source x.machine.state i) ≡ false →
-    is_test (step_role_of x.machine.source x.machine.state i) ≡ false → o ≡ Stepped → Watches k (with_item r i) y
-quiet k r x y i o h one few did source shape roles number now changes events collects at dry untested stepped =
-    let s = x.machine.source in
-    let n = x.machine.shape in
-    let S = x.machine.state in
-    let stay : values y.machine.state ≡ x.values =
-    sym (ap (λ (p : State × Outcome). values p.0) did) ∙ stay_when s n S i dry
-    ∙ ap values h.notes.state_is ∙ sym h.notes.tells.now_is in
-    let unseen : event_of y.done i o ≡ [] = ap (event_of y.done i) stepped in
-    noted k r x y i o h one few did source shape roles number (now ∙ sym stay)
-    (ap length now ∙ h.notes.tells.value_count ∙ ap (λ (m : Counts). m.w) (sym h.shape))
-    (ap (λ v. v.items) changes ∙ sym (append-nil x.changes.items) ∙ ap (λ l. x.changes.items ++ l)
-    (sym (none_changed y.done 0 x.values) ∙ ap (changes_to y.done 0 x.values) (sym stay)))
-    (ap (λ v. v.items) events ∙ sym (append-nil x.events.items) ∙ ap (λ l. x.events.items ++ l) (sym unseen))
-    (ap (λ v. v.items) collects ∙ ap (λ b. if b && is_stepped o
-    then slice_set x.collects.items (who i - 1) (suc (slice_index x.collects.items (who i - 1))) else x.collects.items)
-    (sym untested))
-    (ap (λ v. v.items) at ∙ sym (append-nil x.at_events.items)
-    ∙ ap (λ l. x.at_events.items ++ map (λ (e : Event). slice_index y.collects.items (who i - 1)) l) (sym unseen))
+pub trapped_told : (s : Source) (S : State) (i : ℕ) (e : Cause) (a : Activity) →
+    (process_at S i).status ≡ Trapped e a → Told s S (Step i) role.Nothing
+trapped_told s S i e a at =
+    let l = (process_at S i).locals in
+    (ap (λ y. is_write (step_role_in s l y)) at, ap (λ y. is_test (step_role_in s l y)) at)
 
--- an item once more
-pub once_more : {K W : Type 0} (k : KindTag) (r : Run) (x : Watch K W) (j m : ℕ) (i : Item) → m ≡ j + 1 →
-    Watches k (with_item (with_items r (replicate j i)) i) x → Watches k (with_items r (replicate m i)) x
-once_more k r x j m i is h =
-    subst (λ (l : List Item). Watches k (record { source = r.source; shape = r.shape; items = l }) x)
-    (append_assoc r.items (replicate j i) (i ∷ [])
-    ∙ ap (λ l. r.items ++ l) (replicate_more j i ∙ ap (λ n. replicate n i) (sym is))) h
+pub crashed_told : (s : Source) (S : State) (i : ℕ) (was : Option Activity) →
+    (process_at S i).status ≡ Crashed was → Told s S (Step i) role.Nothing
+crashed_told s S i was at =
+    let l = (process_at S i).locals in
+    (ap (λ y. is_write (step_role_in s l y)) at, ap (λ y. is_test (step_role_in s l y)) at)
 
--- no item
-pub none_yet : {K W : Type 0} (k : KindTag) (r : Run) (x : Watch K W) (j : ℕ) (i : Item) → j ≡ 0 →
-    Watches k r x → Watches k (with_items r (replicate j i)) x
-none_yet k r x j i none h =
-    subst (λ (l : List Item). Watches k (record { source = r.source; shape = r.shape; items = l }) x)
-    (sym (append-nil r.items) ∙ ap (λ n. r.items ++ replicate n i) (sym none)) h
+-- so many items were passed
+so_many : (w : Way) → w.at ≤ length w.run.items → length (so_far w).items ≡ w.at
+so_many w within = let l = length-take w.at w.run.items in omega (arith, l, within)
 
--- of these items some are done, and the others are left
-pub record Going {K W : Type 0} (k : KindTag) (s : Source) (n : Counts) (all : List Item) (x : Watch K W)
-    (left : List Item) : Type 0 where
-  pub taken : List Item
-  pub watches : Watches k (record { source = s; shape = n; items = taken }) x
-  pub all_are : all ≡ taken ++ left
-  pub fits : AllByRecursion (λ y. IsOneOf n.n (who y)) left
-  pub few : length all ≤ max_items
+-- the run of the items that were passed, with one more
+longer_way : (w w' : Way) (p : Passed) → Passes w p w' → with_item (so_far w) p.item ≡ so_far w'
+longer_way w w' p d =
+    ap (λ (x : Item). with_item (so_far w) x) d.item
+    ∙ ap (run_of_items w.run.source w.run.shape) (sym (items_more w.run w.at d.left))
+    ∙ ap so_far (sym d.way)
 
--- what holds of all items of two lists, holds of those of the second
-all_right : (P : Item → Type 0) (xs ys : List Item) → AllByRecursion P (xs ++ ys) → AllByRecursion P ys
-all_right P [] ys h = h
-all_right P (x ∷ xs) ys h = all_right P xs ys h.1
+-- behind the last item it is the whole run
+pub whole_way : (w : Way) → w.at ≡ length w.run.items → so_far w ≡ w.run
+whole_way w end = ap (run_of_items w.run.source w.run.shape) (all_items w.run w.at end)
 
--- an item that stands at the front may be done
-first_fits : (P : Item → Type 0) (k : ℕ) (x : Item) (ys : List Item) → 0 < k →
-    AllByRecursion P (replicate k x ++ ys) → P x
-first_fits P zero x ys some h = absurd (omega (arith, some))
-first_fits P (suc k) x ys some h = h.0
+-- fewer items are left
+pub less_left : (w w' : Way) (p : Passed) → Passes w p w' →
+    length w'.run.items - w'.at < length w.run.items - w.at
+less_left w w' p d =
+    let left = d.left in
+    let less : length w.run.items - suc w.at < length w.run.items - w.at = omega (arith, left) in
+    subst (λ (v : Way). length v.run.items - v.at < length w.run.items - w.at) (sym d.way) less
 
-module _ {K W : Type 0} (k : KindTag) (s : Source) (n : Counts) (all : List Item) (left left' : List Segment)
-    (g : Segment) (x : Watch K W) (i : Item) (m : ℕ) (h : Going k s n all x (flat_map segment_items left))
-    (next : left ≡ g ∷ left') (is : replicate m i ≡ segment_items g) where
-  -- the items of the segment stand before those of the segments behind it
-  in_front : flat_map segment_items left ≡ replicate m i ++ flat_map segment_items left'
-  in_front = ap (flat_map segment_items) next ∙ ap (λ xs. xs ++ flat_map segment_items left') (sym is)
+-- as many counts as before
+pub counted_length : (d : StepRole) (o : Outcome) (i : ℕ) (counts : List ℕ) →
+    length (counted d o i counts) ≡ length counts
+counted_length d o i counts = by_test (is_test d && is_stepped o) where
+  by_test : (b : Bool) → length (if b then slice_set counts (i - 1) (suc (slice_index counts (i - 1))) else counts)
+      ≡ length counts
+  by_test true = length-set counts (i - 1) (suc (slice_index counts (i - 1)))
+  by_test false = refl
 
-  -- the item that comes next may be done
-  pub next_fits : 0 < m → IsOneOf x.machine.shape.n (who i)
-  next_fits some =
-      subst (λ (c : Counts). IsOneOf c.n (who i)) (sym h.watches.shape)
-      (first_fits (λ y. IsOneOf n.n (who y)) m i (flat_map segment_items left') some
-      (subst (λ xs. AllByRecursion (λ y. IsOneOf n.n (who y)) xs) in_front h.fits))
+-- what the next item did
+done_next : (w w' : Way) (p : Passed) → Passes w p w' →
+    done w.run.source w.run.shape (state w.run w.at) p.item ≡ (state w'.run w'.at, p.outcome)
+done_next w w' p d =
+    let S' = state w'.run w'.at in
+    ap (λ (S : State). (S, (done w.run.source w.run.shape (state w.run w.at) p.item).1)) (sym (passed_state w w' p d))
+    ∙ ap (λ (i : Item). (S', (done w.run.source w.run.shape (state w.run w.at) i).1)) d.item
+    ∙ ap (λ (o : Outcome). (S', o)) (sym d.outcome)
 
-  -- and there is a number for it, as often as it comes
-  pub next_few : x.done + m ≤ max_items
-  next_few =
-      (let e = h.watches.number in
-      let a = ap length h.all_are ∙ length-append h.taken (flat_map segment_items left) in
-      let b = ap length in_front ∙ length-append (replicate m i) (flat_map segment_items left') in
-      let l = length-replicate m i in
-      let f = h.few in
-      omega (arith, e, a, b, l, f))
+-- the values are those that were noted, where it writes none
+pub values_stay : (w w' : Way) (p : Passed) (x : Watch) → Watches w x → Passes w p w' →
+    is_write (step_role_of w.run.source (state w.run w.at) p.item) ≡ false → values (state w'.run w'.at) ≡ x.values
+values_stay w w' p x h d dry =
+    ap values (passed_state w w' p d) ∙ stay_when w.run.source w.run.shape (state w.run w.at) p.item dry
+    ∙ ap values h.notes.state_is ∙ sym h.notes.tells.now_is
 
-  -- when they are done, the others are left
-  pub goes_on : (y : Watch K W) →
-      Watches k (with_items (record { source = s; shape = n; items = h.taken }) (replicate m i)) y →
-      Going k s n all y (flat_map segment_items left')
-  goes_on y took = record {
-    taken = h.taken ++ replicate m i;
-    watches = took;
-    all_are =
-        h.all_are ∙ ap (λ l. h.taken ++ l) in_front
-        ∙ sym (append_assoc h.taken (replicate m i) (flat_map segment_items left'));
-    fits =
-        all_right (λ y. IsOneOf n.n (who y)) (replicate m i) (flat_map segment_items left')
-        (subst (λ xs. AllByRecursion (λ y. IsOneOf n.n (who y)) xs) in_front h.fits);
-    few = h.few;
-  }
+module _ (w w' : Way) (p : Passed) (x y : Watch) (h : Watches w x) (d : Passes w p w') (shape : y.shape ≡ x.shape)
+    (roles : y.roles ≡ x.roles) where
+  -- what was noted before an item, and after it
+  pub noted : y.values ≡ values (state w'.run w'.at) → length y.values ≡ w.run.shape.w →
+      y.changes.items ≡ x.changes.items ++ changes_to p.number 0 x.values (values (state w'.run w'.at)) →
+      y.events.items ≡ x.events.items ++ event_of p.number p.item p.outcome →
+      y.collects.items
+      ≡ counted (step_role_of w.run.source (state w.run w.at) p.item) p.outcome (who p.item) x.collects.items →
+      y.at_events.items ≡ x.at_events.items
+      ++ map (λ (e : Event). slice_index y.collects.items (who p.item - 1)) (event_of p.number p.item p.outcome) →
+      Watches w' y
+  noted now count changes events collects at =
+      let left = d.left in
+      let most = h.few in
+      let many = so_many w (omega (arith, left)) in
+      let number = d.number in
+      let S' = state w'.run w'.at in
+      let kept : IsRecord (with_item (so_far w) p.item) w.run.source.kind S' y.values y.changes.items y.events.items
+      y.collects.items y.at_events.items =
+      recorded (so_far w) w.run.source.kind (state w.run w.at) S' p.item p.outcome x.values y.values x.changes.items
+      y.changes.items x.events.items y.events.items x.collects.items y.collects.items x.at_events.items
+      y.at_events.items p.number h.notes d.process (omega (arith, left, most, many)) (omega (arith, number, many))
+      (done_next w w' p d) now count (changes ∙ ap (λ l. x.changes.items ++ changes_to p.number 0 x.values l) (sym now)) events
+      collects at in
+      record {
+        shape = shape ∙ h.shape ∙ ap (λ (v : Way). v.run.shape) (sym d.way);
+        roles =
+            subst (λ (v : Way). AreRoles v.run.source y.roles.items) (sym d.way)
+            (subst (λ v. AreRoles w.run.source v.items) (sym roles) h.roles);
+        notes =
+            subst (λ (v : Way). IsRecord (so_far w') v.run.source.kind S' y.values y.changes.items y.events.items
+            y.collects.items y.at_events.items) (sym d.way)
+            (subst (λ (r : Run). IsRecord r w.run.source.kind S' y.values y.changes.items y.events.items
+            y.collects.items y.at_events.items) (longer_way w w' p d) kept);
+        few = subst (λ (v : Way). length v.run.items ≤ max_items) (sym d.way) h.few;
+      }
 
--- where none is left, the run is the whole one
-pub all_gone : {K W : Type 0} (k : KindTag) (s : Source) (n : Counts) (all : List Item) (x : Watch K W)
-    (left : List Segment) → Going k s n all x (flat_map segment_items left) → left ≡ [] →
-    Watches k (record { source = s; shape = n; items = all }) x
-all_gone k s n all x left h none =
-    subst (λ (l : List Item). Watches k (record { source = s; shape = n; items = l }) x)
-    (sym (h.all_are ∙ ap (λ l. h.taken ++ flat_map segment_items l) none ∙ append-nil h.taken)) h.watches
+  -- an item of which nothing is to be noted
+  pub quiet : y.values ≡ x.values → y.changes ≡ x.changes → y.events ≡ x.events →
+      y.collects ≡ x.collects → y.at_events ≡ x.at_events →
+      is_write (step_role_of w.run.source (state w.run w.at) p.item) ≡ false →
+      is_test (step_role_of w.run.source (state w.run w.at) p.item) ≡ false → p.outcome ≡ Stepped → Watches w' y
+  quiet now changes events collects at dry untested stepped =
+      let i = p.item in
+      let stay = values_stay w w' p x h d dry in
+      let unseen : event_of p.number i p.outcome ≡ [] = ap (event_of p.number i) stepped in
+      noted (now ∙ sym stay) (ap length now ∙ h.notes.tells.value_count)
+      (ap (λ v. v.items) changes ∙ sym (append-nil x.changes.items) ∙ ap (λ l. x.changes.items ++ l)
+      (sym (none_changed p.number 0 x.values) ∙ ap (changes_to p.number 0 x.values) (sym stay)))
+      (ap (λ v. v.items) events ∙ sym (append-nil x.events.items) ∙ ap (λ l. x.events.items ++ l) (sym unseen))
+      (ap (λ v. v.items) collects ∙ ap (λ b. if b && is_stepped p.outcome
+      then slice_set x.collects.items (who i - 1) (suc (slice_index x.collects.items (who i - 1)))
+      else x.collects.items)
+      (sym untested))
+      (ap (λ v. v.items) at ∙ sym (append-nil x.at_events.items)
+      ∙ ap (λ l. x.at_events.items ++ map (λ (e : Event). slice_index y.collects.items (who i - 1)) l) (sym unseen))

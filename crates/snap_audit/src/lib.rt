@@ -14,6 +14,7 @@ mod watch;
 pub use snap_runs::Verdict;
 pub use sweep::{audit, audit_over};
 pub use text::{audit_text, audit_text_over, push_verdict_line, verdict_line};
+pub use watch::Watch;
 
 /// A verdict is of a finished scan: its point is the least that the scan has, none where it has
 /// none, and its count is that of the scan's double collects.

@@ -16,6 +16,7 @@ use snap_record::{Change, Record};
 use snap_runs::Verdict;
 use snap_sched::Schedule;
 use snap_semantics::{Event, Happening};
+use snap_walk::Walk;
 use snap_words::{Kind, Shape};
 use std::alloc::{AllocError, Global};
 
@@ -128,6 +129,10 @@ pub fn audit_over<K: Kind>(
     requires { program.now.kind ≡ K.TAG }
     ensures { IfOk result (λ v. v.items ≡ audit (run_over program.now schedule.now)) }
 {
-    let watch = Watch::<K>::over(alloc, program, schedule)?;
+    let mut walk = Walk::<K>::over(alloc, program, schedule)?;
+    let mut watch = Watch::new(alloc, program, schedule)?;
+    while let Some(passed) = walk.next()? {
+        watch.note(&walk, passed)?;
+    }
     watch.verdicts(alloc)
 }

@@ -1,19 +1,20 @@
-//! `Watch`: a machine that goes through the run of a schedule, with what an audit has to know of
-//! it. The items are not kept, as a record keeps them.
-ghost use Rattle.std.specs.Prelude.{◌≡◌, ◌≤◌, ◌<◌, ◌+◌, ◌++◌, ◌∷◌, [], ℕ, IfOk, IsTrue, OnOk};
+//! `Watch`: what an audit has to know of the items that a machine has done on its way through a run.
+//! The items are not kept, as a record keeps them.
+ghost use Rattle.std.specs.Prelude.{◌≡◌, ◌<◌, ◌+◌, ◌++◌, ◌∷◌, IfOk, IsTrue, OnOk};
 ghost use Rattle.std.specs.Prelude.{◌-◌, false, length, map, option_to_list, replicate, slice_index, ◌^◌};
-ghost use Rattle.snap_words.specs.Shape.{IsOneOf, max_items};
-ghost use Rattle.snap_semantics.specs.State.{values};
+ghost use Rattle.snap_words.specs.Shape.{IsOneOf};
+ghost use Rattle.snap_semantics.specs.State.{State, process_at, values};
+ghost use Rattle.snap_semantics.specs.Source.{Source};
 ghost use Rattle.snap_semantics.specs.Table.{who};
 ghost use Rattle.snap_semantics.specs.declared.event.Event.{Event};
 ghost use Rattle.snap_semantics.specs.declared.process.Outcome.TheVariants.{Stepped};
 ghost use Rattle.snap_runs.specs.Audit.{audit};
-ghost use Rattle.snap_runs.specs.Run.{Run, run_over};
+ghost use Rattle.snap_runs.specs.Run.{events_of, run_over};
 ghost use Rattle.snap_runs.specs.StepRoles.{StepRole, is_test, is_write, step_role_of};
 ghost use Rattle.snap_record.specs.History.{changes_to, counted};
-ghost use Rattle.snap_history.specs.Longer.{with_item, with_items};
 ghost use Rattle.snap_record.specs.Roles.{AreRoles};
-ghost use Rattle.snap_audit.specs.Watch.{Watches, is_test_line, is_write_line};
+ghost use Rattle.snap_walk.specs.Walk.{Passes, Way};
+ghost use Rattle.snap_audit.specs.Watch.{Watches, is_test_line, is_write_line, so_far};
 
 use crate::sweep::sweep;
 use snap_asm_program::Program;
@@ -23,16 +24,16 @@ use snap_record::{Change, LineRole, Row, new_roles, note_values, role_in};
 use snap_runs::Verdict;
 use snap_sched::Schedule;
 use snap_semantics::{Event, Item, Outcome, Status, who};
+use snap_walk::{Passed, Walk};
 use snap_words::{Kind, Shape};
 use std::alloc::{AllocError, Global};
 
-/// A machine, and what an audit has to know of the items that it has done.
-pub(crate) struct Watch<K: Kind> {
-    machine: Machine<K>,
+/// What an audit has to know of the items that a machine has done.
+#[derive(Drop)]
+pub struct Watch {
+    shape: Shape,
     /// What the lines are, by their numbers.
     roles: Vec<LineRole>,
-    /// How many items it has done.
-    done: u64,
     values: Row,
     /// The changes of values, in order.
     changes: Vec<Change>,
@@ -43,38 +44,20 @@ pub(crate) struct Watch<K: Kind> {
     at_events: Vec<u64>,
 }
 
-impl<K: Kind> Drop for Watch<K> {
-    // Written out, so that it is proved here and not once more wherever one is dropped.
-    fn drop(self) {
-        let Watch {
-            machine: _,
-            roles: _,
-            done: _,
-            values: _,
-            changes: _,
-            events: _,
-            collects: _,
-            at_events: _,
-        } = self;
-    }
-}
-
-/// What the line is that an item does. An item that does none writes no word, and tests nothing for
-/// all.
+/// What the line is that an item does of a process that stands so. An item that does none writes no
+/// word, and tests nothing for all.
 #[inline(always)]
-#[tactic(auto, using(crate::proofs::Watches::writes_told, crate::proofs::Watches::tests_told))]
-fn item_role<K: Kind>(machine: &Machine<K>, roles: &[LineRole], item: Item) -> LineRole
-    requires process { IsOneOf machine.now.shape.n (who item) }
-    requires roles { AreRoles machine.now.source roles.now }
-    ensures write { is_write (step_role_of machine.now.source machine.now.state item)
-        ≡ is_write_line result }
-    ensures test { is_test (step_role_of machine.now.source machine.now.state item)
-        ≡ is_test_line result }
+#[tactic(auto, using(crate::proofs::Watches::busy_told, crate::proofs::Watches::idle_told, crate::proofs::Watches::trapped_told, crate::proofs::Watches::crashed_told))]
+fn item_role(roles: &[LineRole], item: Item, before: Status) -> LineRole
+    ensures { (s : Source) (S : State) → AreRoles s roles.now →
+        before ≡ (process_at S (who item)).status →
+        (is_write (step_role_of s S item) ≡ is_write_line result)
+        × (is_test (step_role_of s S item) ≡ is_test_line result) }
 {
-    let Item::Step(i) = item else {
+    let Item::Step(_) = item else {
         return LineRole::Nothing;
     };
-    match machine.status(i) {
+    match before {
         Status::Busy(activity) => role_in(roles, activity.line),
         Status::Idle => LineRole::Nothing,
         Status::Trapped(_, _) => LineRole::Nothing,
@@ -176,17 +159,17 @@ fn zeros(alloc: Global, count: u64) -> Result<Vec<u64>, AllocError>
     Ok(vec![in alloc; 0; count as usize]?)
 }
 
-impl<K: Kind> Watch<K> {
-    /// Before the first item.
-    fn new(alloc: Global, program: &Program, shape: Shape) -> Result<Watch<K>, AllocError>
-        requires { program.now.kind ≡ K.TAG }
-        ensures { IfOk result (Watches K.TAG
-            (record { source = program.now; shape = shape; items = [] })) }
+impl Watch {
+    /// Before the first item of a program's run over a schedule.
+    pub fn new(alloc: Global, program: &Program, schedule: &Schedule) -> Result<Watch, AllocError>
+        ensures { IfOk result
+            (Watches (record { run = run_over program.now schedule.now; at = 0 })) }
     {
+        let _items = schedule.items();
+        let shape = schedule.shape();
         Ok(Watch {
-            machine: Machine::new(alloc, program, shape)?,
+            shape,
             roles: new_roles(alloc, program)?,
-            done: 0,
             values: Row::zeros(alloc, shape.w())?,
             changes: Vec::new(alloc),
             events: Vec::new(alloc),
@@ -195,32 +178,37 @@ impl<K: Kind> Watch<K> {
         })
     }
 
-    /// Does one item more.
+    /// Notes the item that was passed last on the way.
+    ///
+    /// # Errors
+    ///
+    /// There is no memory for it.
     #[inline(always)]
-    fn take(&mut self, item: Item) -> Result<(), AllocError>
-        requires process { IsOneOf self.old.machine.shape.n (who item) }
-        requires few { self.old.done < max_items }
-        requires watches { (r : Run) × Watches K.TAG r self.old }
-        ensures watches { OnOk result ((r : Run) → Watches K.TAG r self.old →
-            Watches K.TAG (with_item r item) self.new) }
-        ensures number { OnOk result (self.new.done ≡ self.old.done + 1) }
+    pub fn note<K: Kind>(&mut self, walk: &Walk<'_, K>, passed: Passed) -> Result<(), AllocError>
+        requires passed { (w : Way) × Watches w self.old × Passes w passed walk.now }
+        ensures { OnOk result ((w : Way) → Watches w self.old → Passes w passed walk.now →
+            Watches walk.now self.new) }
     {
-        let role = item_role(&self.machine, self.roles.as_slice(), item);
-        let outcome = self.machine.apply(item)?;
-        self.done += 1;
+        let Passed {
+            number,
+            item,
+            before,
+            outcome,
+        } = passed;
+        let role = item_role(self.roles.as_slice(), item, before);
         if is_quiet(role, &outcome) {
             return Ok(());
         }
         note_changes(
             &mut self.values,
             &mut self.changes,
-            self.done,
+            number,
             role,
-            &self.machine,
+            walk.machine(),
         )?;
         let i = who(item);
         note_test(&mut self.collects, i, role, &outcome);
-        let event = event_of(self.done, item, outcome);
+        let event = event_of(number, item, outcome);
         note_event(
             &mut self.events,
             &mut self.at_events,
@@ -231,48 +219,26 @@ impl<K: Kind> Watch<K> {
         Ok(())
     }
 
-    /// Does an item more, so many times.
-    #[inline(always)]
-    fn take_times(&mut self, item: Item, count: u64) -> Result<(), AllocError>
-        requires process { 0 < count → IsOneOf self.old.machine.shape.n (who item) }
-        requires few { self.old.done + count ≤ max_items }
-        requires watches { (r : Run) × Watches K.TAG r self.old }
-        ensures { OnOk result ((r : Run) → Watches K.TAG r self.old →
-            Watches K.TAG (with_items r (replicate count item)) self.new) }
+    /// Returns what callers saw, in order.
+    pub fn into_events(self) -> Vec<Event>
+        ensures { (w : Way) → Watches w self → result.items ≡ events_of w.run w.at }
     {
-        let end = self.done + count;
-        while self.done < end {
-            self.take(item)?;
-        }
-        Ok(())
+        let Watch { events, .. } = self;
+        events
     }
 
-    /// Over a whole schedule.
-    pub(crate) fn over(
-        alloc: Global,
-        program: &Program,
-        schedule: &Schedule,
-    ) -> Result<Watch<K>, AllocError>
-        requires { program.now.kind ≡ K.TAG }
-        ensures { IfOk result (Watches K.TAG (run_over program.now schedule.now)) }
-    {
-        let mut watch = Watch::new(alloc, program, schedule.shape())?;
-        let mut left = schedule.items().segments();
-        while let Some(segment) = left.next() {
-            let (item, count) = segment.repeated();
-            watch.take_times(item, count)?;
-        }
-        Ok(watch)
-    }
-
-    /// The verdicts on the scans of the run.
-    pub(crate) fn verdicts(&self, alloc: Global) -> Result<Vec<Verdict>, AllocError>
-        requires { (r : Run) × Watches K.TAG r self.now }
-        ensures { IfOk result (λ v. (r : Run) → Watches K.TAG r self.now → v.items ≡ audit r) }
+    /// Returns the verdicts on the scans of the run so far.
+    ///
+    /// # Errors
+    ///
+    /// There is no memory for them.
+    pub fn verdicts(&self, alloc: Global) -> Result<Vec<Verdict>, AllocError>
+        requires { (w : Way) × Watches w self.now }
+        ensures { IfOk result (λ v. (w : Way) → Watches w self.now → v.items ≡ audit (so_far w)) }
     {
         sweep(
             alloc,
-            self.machine.shape(),
+            self.shape,
             self.changes.as_slice(),
             self.events.as_slice(),
             self.at_events.as_slice(),

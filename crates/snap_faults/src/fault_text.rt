@@ -72,7 +72,7 @@ fn file_of<'a>(names: &Names<'a>, which: Which) -> Option<&'a str>
 #[tactic(auto, using(snap_text::proofs::Texts::joined))]
 fn push_front(out: &mut Vec<u8>, program: &str, file: Option<&str>) -> Result<(), AllocError>
     ensures { OnOk result (out.new.items
-        ≡ out.old.items ++ front program.now (option_map (λ name. name.now) file)) }
+        ≡ out.old.items ++ front program.now (option_map (λ name. name.now) file.entry)) }
 {
     match file {
         Some(file) => {

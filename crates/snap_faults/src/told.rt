@@ -73,6 +73,24 @@ fn longer_line(
     Ok(line)
 }
 
+/// Says a fault, with more behind its line where there is memory for that.
+fn say_more<E: ByteSink>(
+    alloc: Global,
+    names: &Names<'_>,
+    fault: &ProgramFault,
+    more: &[u8],
+    errors: &mut E,
+)
+    requires { (E.state errors.old).failed ≡ false }
+    ensures { TellsMore (view_names names.now) fault.now more.now (E.state errors.old)
+        (E.state errors.new) }
+{
+    match longer_line(alloc, names, fault, more) {
+        Ok(longer) => say(longer.as_slice(), errors),
+        Err(_) => complain(alloc, names, fault, errors),
+    }
+}
+
 /// Says a fault, with more behind its line where there is memory for that, and returns the status
 /// for it.
 pub fn tell<E: ByteSink>(
@@ -87,10 +105,7 @@ pub fn tell<E: ByteSink>(
     ensures says { TellsMore (view_names names.now) fault.now more.now (E.state errors.old)
         (E.state errors.new) }
 {
-    match longer_line(alloc, names, fault, more) {
-        Ok(longer) => say(longer.as_slice(), errors),
-        Err(_) => complain(alloc, names, fault, errors),
-    }
+    say_more(alloc, names, fault, more, errors);
     fault_status(fault)
 }
 

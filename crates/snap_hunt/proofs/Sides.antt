@@ -1,7 +1,7 @@
 -- What is found in the runs of a block stands at their places, whichever thread found it and when; and the first of them
 -- in which something is found.
 use Rattle.std.proofs.Common.{◌≡◌, ◌⊎◌, inl, inr, ℕ, zero, suc, ◌+◌, ◌-◌, ◌<◌, ◌≤◌, Bool, true, false, List, [], ◌∷◌}
-use Rattle.std.proofs.Common.{Option, Some, None, is_some, length, map, nat_lt, Vec, Result, Ok, Err, Bor, refl, sym, ap, subst, arith}
+use Rattle.std.proofs.Common.{Option, Some, None, option_map, is_some, length, map, nat_lt, Vec, Result, Ok, Err, Bor, refl, sym, ap, subst, arith}
 use Rattle.std.specs.Prelude.{IfOk, MatchResult, slice_index_or}
 use Rattle.std.specs.List.{AllZip, Contains, range_with_len}
 use Rattle.std.specs.Global.{Global}
@@ -135,6 +135,15 @@ found_first l p w seed from to end (Some x) inside none first some =
       decide : (j : ℕ) → j < x.run → (j < from) ⊎ (from ≤ j) → Finds w (run_of l p seed j) None
       decide j below (inl before) = none j (omega arith) before
       decide j below (inr after) = first.2 j after below
+
+-- one run alone, in which something is found or nothing
+pub alone : (l : Source) (p : Plan) (w : Wanted) (seed k : ℕ) (found : Option Failure) →
+    Finds w (run_of l p seed k) found →
+    IsFirst l p w seed k (k + 1) (option_map (λ f. record { run = k; failure = f }) found)
+alone l p w seed k None h = λ j le lt.
+    let same : k ≡ j = omega (arith, le, lt) in
+    subst (λ (i : ℕ). Finds w (run_of l p seed i) None) same h
+alone l p w seed k (Some f) h = (omega arith, omega arith, λ j le lt. absurd (omega (arith, le, lt)), h)
 
 -- none so far, and none at the next place
 pub none_further : (found : List (Option Failure)) (k : ℕ) → ((j : ℕ) → j < k → slice_index_or found j None ≡ None)

@@ -19,7 +19,7 @@ const FEW: usize = 64;
 
 /// What fails in the run of this number.
 #[tactic(auto, using(crate::proofs::Runs::found_over))]
-fn find(
+pub(crate) fn find(
     alloc: Global,
     program: &Program,
     plan: &Plan,

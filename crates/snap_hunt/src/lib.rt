@@ -1,6 +1,7 @@
 //! The first run that fails, of those that a seed gives, and schedules whose runs fail, made small.
 #![tactic(auto)]
 
+mod alone;
 mod blocks;
 mod cuts;
 mod draft;
@@ -16,6 +17,7 @@ mod shrink;
 mod trials;
 mod values;
 
+pub use alone::first_failing_alone;
 pub use found::Found;
 pub use hunt::{Watcher, first_failing};
 pub use shrink::shrunk;

@@ -19,7 +19,7 @@ use snap_lint::{check_of, lint_of};
 use snap_run_output::{PlannedRun, audit, batch, batch_in_threads};
 use snap_run_trace::trace_input;
 use snap_semantics::{Fault, Refusal};
-use snap_survey::{SurveyOutput, survey_input};
+use snap_survey::{SurveyOutput, survey_in_threads, survey_input};
 use snap_tasks::{Subject, Task};
 use std::alloc::Global;
 use std::thread::Threads;
@@ -47,9 +47,10 @@ fn plan(alloc: Global, subject: Subject, input: &[u8]) -> Result<PlannedRun, Fau
 }
 
 /// What is written for an input that is surveyed, and whether each of its runs is clean; or why
-/// there is no output.
+/// there is no output. The schedules are read and run side by side.
 #[tactic(auto, using(crate::proofs::AtOnce::of_why), unfolding(crate::specs::Output::output_of, crate::specs::Output::clean_of))]
 pub fn survey_output(
+    rt: &(impl Threads + Sync),
     alloc: Global,
     subject: Subject,
     input: &[u8],
@@ -63,7 +64,7 @@ pub fn survey_output(
     if input.len() > MAX_INPUT {
         return Err(Fault::Refused(Refusal::InputTooLong));
     }
-    survey_input(alloc, subject, input)
+    survey_in_threads(rt, alloc, subject, input)
 }
 
 /// The program and the schedule that an input asks to run, or why it is refused. Of these
@@ -113,8 +114,8 @@ pub fn output_alone(alloc: Global, task: &Task, input: &[u8]) -> Result<Vec<u8>,
     }
 }
 
-/// The same, with the schedules of a batch read and run side by side. What is a fault there is made
-/// once more in one thread: it finds the first fault, and takes less memory.
+/// The same, with the schedules of a batch or a survey read and run side by side. What is a fault in
+/// a batch there is made once more in one thread: it finds the first fault, and takes less memory.
 #[tactic(auto, using(crate::proofs::AtOnce::of_why), unfolding(crate::specs::Output::output_of))]
 pub fn output(
     rt: &(impl Threads + Sync),
@@ -134,6 +135,7 @@ pub fn output(
                 Err(_) => output_alone(alloc, task, input),
             }
         }
+        Task::Survey(subject) => Ok(survey_output(rt, alloc, subject, input)?.text),
         _ => output_alone(alloc, task, input),
     }
 }

@@ -262,6 +262,7 @@ fn strict_subject(asked: &Invocation) -> Option<Subject>
 /// Surveys, says why where it is not done, and answers the status of it, which tells whether all
 /// runs are clean.
 fn survey_strictly<R: ByteSource, W: ByteSink, E: ByteSink>(
+    rt: &(impl Threads + Sync),
     alloc: Global,
     asked: &Invocation,
     subject: Subject,
@@ -278,7 +279,7 @@ fn survey_strictly<R: ByteSource, W: ByteSink, E: ByteSink>(
         (E.state errors.old) (E.state errors.new) }
 {
     let mut input = Vec::new(alloc);
-    match conduct_survey(alloc, subject, source, sink, &mut input) {
+    match conduct_survey(rt, alloc, subject, source, sink, &mut input) {
         Ok(true) => 0,
         Ok(false) => NOT_CLEAN,
         Err(fault) => explain(alloc, asked, input.as_slice(), &fault, errors),
@@ -317,7 +318,7 @@ pub fn answer<R: ByteSource, W: ByteSink, E: ByteSink>(
 {
     match line {
         Ok(CommandLine::Asks(asked)) => match strict_subject(asked) {
-            Some(subject) => survey_strictly(alloc, asked, subject, source, sink, errors),
+            Some(subject) => survey_strictly(rt, alloc, asked, subject, source, sink, errors),
             None => do_asked(rt, alloc, asked, source, sink, errors),
         },
         Ok(CommandLine::Help(text)) => help(alloc, &names(), text.as_bytes(), sink, errors),

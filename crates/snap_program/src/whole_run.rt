@@ -90,6 +90,7 @@ pub fn conduct_keeping<R: ByteSource, W: ByteSink>(
 /// Reads the input, writes its survey and nothing else, and answers whether all of its runs are
 /// clean. The input is kept: where it is refused, it was kept.
 pub fn conduct_survey<R: ByteSource, W: ByteSink>(
+    rt: &(impl Threads + Sync),
     alloc: Global,
     subject: Subject,
     source: &mut R,
@@ -104,7 +105,7 @@ pub fn conduct_survey<R: ByteSource, W: ByteSink>(
 {
     let input = read_all(alloc, source)?;
     *kept = input;
-    let found = survey_output(alloc, subject, kept.as_slice())?;
+    let found = survey_output(rt, alloc, subject, kept.as_slice())?;
     write_all(sink, found.text.as_slice())?;
     Ok(found.clean)
 }

@@ -2,3 +2,4 @@
 pub mod Sizes
 pub mod Histories
 pub mod Words
+pub mod Shown

@@ -2,13 +2,15 @@
 ghost use Rattle.std.specs.Prelude.{◌≡◌, IfOk};
 ghost use Rattle.snap_judge.specs.History.{IsHistory};
 ghost use Rattle.snap_judge_output.specs.JudgementText.{NamesEvent};
-ghost use Rattle.snap_run_judge.specs.RunHistory.{history_of};
+ghost use Rattle.snap_runs.specs.Run.{Run};
+ghost use Rattle.snap_run_judge.specs.RunHistory.{IsHistoryOf, history_of};
 ghost use Rattle.snap_run_judge.specs.RunJudgement.{IsLinearizabilityOf, IsRunJudgement, word_of};
 
 use crate::history::history_of;
 use crate::linearizability::Linearizability;
 use crate::runs_have_histories;
-use snap_judge::{Judgement, judge, linearizable_from_the_beginning};
+use snap_asm_program::Program;
+use snap_judge::{History, Judgement, judge, linearizable_from_the_beginning};
 use snap_record::Record;
 use snap_words::Kind;
 use std::alloc::{AllocError, Global};
@@ -43,6 +45,29 @@ pub fn judge_record<K: Kind>(
     has_history(history);
     let events = history_of(alloc, history)?;
     judge(alloc, &events, most)
+}
+
+/// Judges whether the run of a program is linearizable of which this is the history, and where it is
+/// not, at which event it fails.
+///
+/// # Errors
+///
+/// There is no memory for it.
+#[tactic(auto, using(crate::proofs::Words::event_named))]
+pub fn judge_history(
+    alloc: Global,
+    program: &Program,
+    history: &History,
+    most: usize,
+) -> Result<Judgement, AllocError>
+    requires { (r : Run) × IsHistoryOf r program.now history.now }
+    ensures judgement { IfOk result (λ j. (r : Run) → IsHistoryOf r program.now history.now →
+        IsRunJudgement most r j) }
+    ensures names { IfOk result (NamesEvent history.now) }
+{
+    let _lines = program.listing().lines();
+    runs_have_histories();
+    judge(alloc, history, most)
 }
 
 /// Returns the word for a judgement.

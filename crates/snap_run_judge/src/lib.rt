@@ -10,7 +10,8 @@ mod verdict;
 
 pub use history::history_of;
 pub use judging::{
-    MOST_CONFIGURATIONS, has_history, judge_record, linearizability_of, word_for, word_of,
+    MOST_CONFIGURATIONS, has_history, judge_history, judge_record, linearizability_of, word_for,
+    word_of,
 };
 pub use linearizability::Linearizability;
 pub use snap_judge::{History, Judgement};

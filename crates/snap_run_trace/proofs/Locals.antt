@@ -1,6 +1,6 @@
 -- The lines of the locals of a process, where a place was put back (`put_local`): those of its local differ, and the
 -- others stay.
-use Rattle.std.proofs.Common.{◌≡◌, ℕ, zero, suc, ◌+◌, Bool, true, false, List, [], ◌∷◌, ◌++◌, Option, Some, None}
+use Rattle.std.proofs.Common.{◌≡◌, ℕ, zero, suc, ◌+◌, List, [], ◌∷◌, ◌++◌, Option, Some, None}
 use Rattle.std.proofs.Common.{if◌then◌else◌, option_map, slice_get, slice_index_or, slice_set, refl, sym, ap, ◌∙◌}
 use Rattle.std.proofs.Common.{arith, length, length-set, subst}
 use Rattle.std.proofs.lemmas.List.{set-get_or}

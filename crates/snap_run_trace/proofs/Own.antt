@@ -1,6 +1,6 @@
 -- The lines that an item can change, each with its owner (`owned`): those of registers, of a process and of events
 -- speak of themselves, and the line of a local gets its process in front.
-use Rattle.std.proofs.Common.{◌≡◌, ℕ, zero, suc, ◌+◌, ◌/◌, ◌%◌, ◌≤◌, Bool, true, false, List, [], ◌∷◌, ◌++◌, length}
+use Rattle.std.proofs.Common.{◌≡◌, ℕ, zero, suc, ◌+◌, ◌/◌, ◌%◌, Bool, true, false, List, [], ◌∷◌, ◌++◌, length}
 use Rattle.std.proofs.Common.{Option, Some, None, codes, decimal, nat_lt, if◌then◌else◌, option_map, slice_get, take}
 use Rattle.std.proofs.Common.{refl, sym, ap, ◌∙◌, append_assoc, append-nil, arith}
 use Rattle.std.proofs.lemmas.Bool.{ne_eqb}
@@ -37,7 +37,7 @@ use Rattle.snap_run_trace.proofs.Wholes.{IsWhole, before, feeds, feeds_append, j
 use Rattle.snap_run_trace.proofs.Feeds.{bit_feeds, decimal_plain, head_feeds, list_feeds, number_feeds, numbers_plain}
 use Rattle.snap_run_trace.proofs.Feeds.{op_plain, place_feeds, values_feeds, view_feeds, word_feeds}
 use Rattle.snap_run_trace.proofs.Owned.{IsPlain}
-use Rattle.snap_run_trace.proofs.Indented.{IsIndented, front_of, head_owner, head_whole, one_line, owned_apart}
+use Rattle.snap_run_trace.proofs.Indented.{front_of, head_owner, head_whole, one_line, owned_apart}
 use Rattle.snap_run_trace.proofs.Indented.{owner_after, owner_of, plain_before, take_front}
 use Rattle.snap_run_trace.proofs.Named.{IsSorted, entries_plain}
 use Rattle.snap_run_trace.proofs.Locals.{local_differs}

@@ -1,15 +1,13 @@
 -- The lines of the registers, where a place was put back (`put_register`): those of its register differ, and the
 -- others stay.
-use Rattle.std.proofs.Common.{◌≡◌, ℕ, zero, suc, ◌+◌, ◌-◌, ◌<◌, Bool, true, false, ◌&&◌, List, [], ◌∷◌, ◌++◌, Option}
-use Rattle.std.proofs.Common.{Some, None, codes, decimal, nat_eq, nat_le, nat_lt, if◌then◌else◌, option_map, slice_get}
-use Rattle.std.proofs.Common.{slice_index_or, slice_set, length, refl, sym, ap, ◌∙◌, subst, arith, length-set}
+use Rattle.std.proofs.Common.{◌≡◌, ℕ, ◌+◌, ◌-◌, Bool, true, false, ◌&&◌, List, [], ◌∷◌, ◌++◌, Option}
+use Rattle.std.proofs.Common.{Some, None, codes, decimal, nat_le, nat_lt, if◌then◌else◌, option_map, slice_get}
+use Rattle.std.proofs.Common.{slice_index_or, slice_set, refl, sym, ap, ◌∙◌, subst, arith, length-set}
 use Rattle.std.proofs.lemmas.Bool.Decides.{Decides-ltb}
 use Rattle.std.proofs.lemmas.List.{set-get_or}
-use Rattle.std.specs.List.{AllByRecursion}
 use Rattle.snap_words.specs.Kind.{has_bank}
 use Rattle.snap_words.specs.Shape.{Counts, is_place}
 use Rattle.snap_words.specs.Word.{Word, no_word}
-use Rattle.snap_words.specs.declared.address.Bank.{Bank}
 use Rattle.snap_words.specs.declared.address.Bank.TheVariants as bank
 use Rattle.snap_words.specs.declared.kind.KindTag.{KindTag}
 use Rattle.snap_semantics.specs.declared.instr.BitBank.{BitBank}
@@ -20,7 +18,6 @@ use Rattle.snap_semantics.specs.Report.{numbers_text, word_line, word_lines, wor
 use Rattle.snap_semantics.specs.Source.{Source}
 use Rattle.snap_semantics.specs.State.{Memory, with_memory_words}
 use Rattle.snap_semantics.specs.Table.{bank_of, bits_of, with_bit_at, with_memory_bits, with_memory_views}
-use Rattle.snap_regs.specs.Access.{is_bit_place, is_view_place}
 use Rattle.snap_undo.specs.WritePlace.{write_place_of}
 use Rattle.snap_undo.specs.Undo.{FitsPlace, Place, Nowhere, WordRegister, BitRegister, ViewRegister, Scalar, Number}
 use Rattle.snap_undo.specs.Undo.{Row, LocalWord, LocalView, put_register}

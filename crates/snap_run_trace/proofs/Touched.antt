@@ -4,7 +4,6 @@ use Rattle.std.proofs.Common.{◌≡◌, ℕ, ◌+◌, ◌-◌, ◌<◌, List, [
 use Rattle.std.proofs.Common.{◌∙◌, arith, codes, decimal, subst, append_assoc, append-nil, length-set}
 use Rattle.std.proofs.lemmas.List.{get_or-set_same}
 use Rattle.snap_words.specs.Shape.{Counts}
-use Rattle.snap_words.specs.declared.address.Bank.TheVariants as bank
 use Rattle.snap_words.specs.declared.kind.KindTag.{KindTag}
 use Rattle.snap_semantics.specs.declared.event.Event.{Event}
 use Rattle.snap_semantics.specs.declared.instr.BitBank.TheVariants as bits

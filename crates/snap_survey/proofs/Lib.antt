@@ -3,3 +3,4 @@ pub mod Summaries
 pub mod Tallies
 pub mod Surveying
 pub mod Judging
+pub mod Sides

@@ -1,10 +1,12 @@
 -- `tally_of`: what the first items of a run came to, in counts of calls, ends, traps, crashes and skips; and with one
 -- item more.
-use Rattle.std.specs.Prelude.{ℕ, suc, ◌<◌, ◌&&◌, None, if◌then◌else◌}
+use Rattle.std.specs.Prelude.{ℕ, suc, ◌<◌, Bool, ◌&&◌, None, is_some, if◌then◌else◌}
 use Rattle.snap_semantics.specs.declared.process.Item.{Item}
 use Rattle.snap_semantics.specs.declared.process.Outcome.{Outcome}
 use Rattle.snap_semantics.specs.declared.process.Status.{Status}
+use Rattle.snap_semantics.specs.Readers.{operation_of}
 use Rattle.snap_semantics.specs.Rules.{or_else}
+use Rattle.snap_semantics.specs.State.{State, process_at}
 use Rattle.snap_semantics.specs.Table.{who}
 use Rattle.snap_runs.specs.Audit.{is_called}
 use Rattle.snap_runs.specs.Run.{Run}
@@ -61,3 +63,7 @@ pub record IsWithin (a : Tally) (t : ℕ) : Type 0 where
   pub traps : a.traps < t
   pub crashes : a.crashes < t
   pub skips : a.skips < t
+
+-- whether process i is at an operation, or was at one when it trapped or crashed
+abbrev pub is_open_in : State → ℕ → Bool
+is_open_in S i = is_some (operation_of (process_at S i).status)

@@ -4,18 +4,21 @@
 #![tactic(auto)]
 
 mod findings;
+mod in_threads;
 mod scans;
 mod summary;
 mod survey_output;
-mod tallied;
+mod surveyed;
+mod surveys;
 mod tally;
 mod task;
 mod text;
 mod words;
 
 pub use findings::{JudgedSurvey, Skip, Survey, Trap};
+pub use in_threads::survey_in_threads;
 pub use summary::{Summary, summary_of};
-pub use survey_output::{SurveyOutput, survey_runs};
-pub use tallied::survey;
+pub use survey_output::{SurveyOutput, survey_runs, survey_runs_in_threads};
+pub use surveyed::survey;
 pub use task::survey_input;
 pub use text::{summary_line, survey_line};

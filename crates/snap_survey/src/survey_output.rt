@@ -3,33 +3,17 @@
 ghost use Rattle.std.specs.Prelude.{◌≡◌, ◌++◌, IfOk, OnOk, map};
 ghost use Rattle.std.specs.List.{list_all};
 ghost use Rattle.snap_survey.specs.SurveyText.{survey_lines, surveys_text};
-ghost use Rattle.snap_survey.specs.Surveys.{AnswersSurvey, AreSurveysOf, WereJudgedOver};
+ghost use Rattle.snap_survey.specs.Surveys.{AnswersSurvey, WereJudgedOver};
 ghost use Rattle.snap_survey.specs.Surveys.{are_clean, is_clean, survey_text};
 
+use crate::surveys::{read_in_threads, surveys_alone, surveys_in_threads};
 use crate::words::is_not_linearizable;
-use crate::{JudgedSurvey, summary_line, summary_of, survey, survey_line};
+use crate::{JudgedSurvey, summary_line, summary_of, survey_line};
 use snap_asm_program::Program;
-use snap_input::schedules_for;
-use snap_sched::Schedule;
+use snap_input::read_schedules;
 use snap_semantics::{Fault, Refusal};
-use snap_words::{Bits, Kind, KindTag, Multi, Seq};
 use std::alloc::{AllocError, Global};
-
-/// What the run over each of these schedules came to, in the order of the schedules.
-fn surveys<K: Kind>(
-    alloc: Global,
-    program: &Program,
-    schedules: &[Schedule],
-) -> Result<Vec<JudgedSurvey>, AllocError>
-    requires { program.now.kind ≡ K.TAG }
-    ensures { IfOk result (λ surveys. AreSurveysOf program.now schedules.now surveys.items) }
-{
-    let mut surveys = Vec::new(alloc);
-    for schedule in schedules {
-        surveys.push(survey::<K>(alloc, program, schedule)?)?;
-    }
-    Ok(surveys)
-}
+use std::thread::Threads;
 
 /// Adds the lines of surveys, each with the number of its schedule.
 fn push_survey_lines(out: &mut Vec<u8>, surveys: &[JudgedSurvey]) -> Result<(), AllocError>
@@ -72,28 +56,20 @@ pub struct SurveyOutput {
     pub clean: bool,
 }
 
-/// What a program of a kind came to under many schedules.
-#[tactic(auto, unfolding(crate::specs::Surveys::survey_text, crate::specs::Surveys::are_clean))]
-fn survey_kind<K: Kind>(
-    alloc: Global,
-    program: &Program,
-    texts: &[&[u8]],
-) -> Result<SurveyOutput, Fault<Refusal>>
-    requires { program.now.kind ≡ K.TAG }
-    ensures { let given = map (λ text. text.now) texts.now in
-        AnswersSurvey (WereJudgedOver program.now given) result
-        (λ judged. survey_text judged program.now given)
-        (λ judged. are_clean judged program.now given) }
+/// What is written of these surveys, and whether each of them is clean.
+fn output_of(alloc: Global, surveys: &[JudgedSurvey]) -> Result<SurveyOutput, AllocError>
+    ensures text { IfOk result (λ out. out.text.items ≡ surveys_text surveys.now) }
+    ensures clean { IfOk result (λ out. out.clean ≡ list_all is_clean surveys.now) }
 {
-    let schedules = schedules_for::<K>(alloc, program, texts)?;
-    let surveys = surveys::<K>(alloc, program, schedules.as_slice())?;
-    let text = surveys_text(alloc, surveys.as_slice())?;
-    let clean = are_clean(surveys.as_slice());
-    Ok(SurveyOutput { text, clean })
+    Ok(SurveyOutput {
+        text: surveys_text(alloc, surveys)?,
+        clean: are_clean(surveys),
+    })
 }
 
 /// What the run of a program over each of many schedules came to, a line for each, and one for all
 /// of them; and whether each of the runs is clean.
+#[tactic(auto, unfolding(crate::specs::Surveys::survey_text, crate::specs::Surveys::are_clean))]
 pub fn survey_runs(
     alloc: Global,
     program: &Program,
@@ -104,9 +80,25 @@ pub fn survey_runs(
         (λ judged. survey_text judged program.now given)
         (λ judged. are_clean judged program.now given) }
 {
-    match program.kind() {
-        KindTag::Seq => survey_kind::<Seq>(alloc, program, texts),
-        KindTag::Bits => survey_kind::<Bits>(alloc, program, texts),
-        KindTag::Multi => survey_kind::<Multi>(alloc, program, texts),
-    }
+    let schedules = read_schedules(alloc, program, texts)?;
+    let surveys = surveys_alone(alloc, program, schedules.as_slice())?;
+    Ok(output_of(alloc, surveys.as_slice())?)
+}
+
+/// The same, with the schedules read and run side by side.
+#[tactic(auto, unfolding(crate::specs::Surveys::survey_text, crate::specs::Surveys::are_clean))]
+pub fn survey_runs_in_threads(
+    rt: &(impl Threads + Sync),
+    alloc: Global,
+    program: &Program,
+    texts: &[&[u8]],
+) -> Result<SurveyOutput, Fault<Refusal>>
+    ensures { let given = map (λ text. text.now) texts.now in
+        AnswersSurvey (WereJudgedOver program.now given) result
+        (λ judged. survey_text judged program.now given)
+        (λ judged. are_clean judged program.now given) }
+{
+    let schedules = read_in_threads(rt, alloc, program, texts)?;
+    let surveys = surveys_in_threads(rt, alloc, program, schedules.as_slice())?;
+    Ok(output_of(alloc, surveys.as_slice())?)
 }

@@ -1,10 +1,15 @@
 -- `trace` of snap_acts (src/tracer.rt): what holds at the head of each of its loops.
 -- What each item of a program's run over a schedule did.
-use Rattle.snap_acts.proofs.Traces.{Going}
+use Rattle.std.proofs.Common.{◌≡◌, ◌≤◌, ◌-◌, length}
+use Rattle.snap_runs.specs.Run.{run_over}
+use Rattle.snap_acts.proofs.Traces.{steps_to}
 use Rattle.snap_acts.proofs.tracer.trace.Given as goal
 
--- the first items are done, and the others are left
-abbrev pub invariant-loop-item : goal.invariant-loop-item
-invariant-loop-item g l =
-    Going l.program l.schedule.shape l.schedule.items l.tracer l.left
-    × (goal.iterator-loop-item g).can_next l.left × (goal.iterator-loop-item g).is_finite l.left
+-- the walk is in this run, and the steps are those of the items that it has done
+abbrev pub invariant-loop-steps : goal.invariant-loop-steps
+invariant-loop-steps g l =
+    (l.walk.run ≡ run_over l.program l.schedule) × (l.walk.at ≤ length l.walk.run.items)
+    × (l.steps.items ≡ steps_to l.walk.run l.walk.at)
+
+abbrev pub decreases-loop-steps : goal.decreases-loop-steps
+decreases-loop-steps g l = length l.walk.run.items - l.walk.at

@@ -1,0 +1,14 @@
+-- `judge_history` of snap_run_judge (src/judging.rt): the proof of what its contract says.
+-- Judges whether the run of a program is linearizable of which this is the history.
+use Rattle.std.proofs.Common.{ℕ, ◌∙◌, subst, sym}
+use Rattle.snap_semantics.specs.IsListing.{IsListing}
+use Rattle.snap_judge.specs.History.{History, IsHistory}
+use Rattle.snap_judge.specs.Judgement.{IsJudgement}
+use Rattle.snap_run_judge.proofs.judging.judge_history.Goals as goal
+
+pub judge-requires : goal.judge-requires
+judge-requires c =
+    let h = c.requires.1 in
+    subst IsHistory (sym h.history)
+    (c.runs_have_histories.ensures c.requires.0
+    (subst IsListing (c.listing.ensures ∙ h.source) c.lines-lines.ensures.rules) h.fits)

@@ -1,0 +1,14 @@
+-- `survey_in_threads` of snap_survey (src/in_threads.rt): the proof of what its contract says.
+-- The same, with the schedules read and run side by side.
+use Rattle.std.proofs.Common.{map, sym}
+use Rattle.snap_input.specs.Parts.{parts_of}
+use Rattle.snap_survey.proofs.Judging.{of_input}
+use Rattle.snap_survey.proofs.in_threads.survey_in_threads.Goals as goal
+
+pub returns-clause-output : goal.returns-clause-output
+returns-clause-output g c =
+    of_input c.args.subject (parts_of c.args.input.now) (map (λ part. part.now) c.in_ok-parts.parts.items)
+    (map (λ text. text.now) c.texts_for-texts.result.now) c.in_ok-program.program
+    (sym c.in_ok-check_schedules.ensures) c.in_ok-parts.ensures
+    (rw (sym c.as_slice.ensures.value) c.in_ok-program.ensures)
+    (rw (sym c.as_slice-2.ensures.value) c.texts_for-texts.ensures) c.survey_runs_in_threads.result c.survey_runs_in_threads.ensures

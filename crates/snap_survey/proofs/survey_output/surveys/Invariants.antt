@@ -1,9 +1,0 @@
--- `surveys` of snap_survey (src/survey_output.rt): what holds at the head of each of its loops.
--- What the run over each of these schedules came to, in the order of the schedules.
-use Rattle.std.proofs.Common.{take}
-use Rattle.snap_survey.specs.Surveys.{AreSurveysOf}
-use Rattle.snap_survey.proofs.survey_output.surveys.Given as goal
-
--- the surveys so far are those of the first schedules
-abbrev pub invariant-loop-schedule : goal.invariant-loop-schedule
-invariant-loop-schedule g l = AreSurveysOf l.program (take l.schedule-index l.schedules) l.surveys.items

@@ -1,0 +1,18 @@
+-- `survey` of snap_survey (src/surveyed.rt): what holds at the head of each of its loops.
+-- What the run of a program over a schedule came to, and whether it is linearizable.
+use Rattle.std.proofs.Common.{◌≡◌, ◌-◌, length}
+use Rattle.snap_runs.specs.Run.{run_over}
+use Rattle.snap_audit.specs.Watch.{Watches}
+use Rattle.snap_survey.specs.Tally.{tally_of}
+use Rattle.snap_survey.proofs.surveyed.survey.Given as goal
+
+-- the items that were passed are noted
+abbrev pub invariant-loop-watch : goal.invariant-loop-watch
+invariant-loop-watch g l = record {
+  run : l.walk.run ≡ run_over l.program l.schedule;
+  watches : Watches l.walk l.watch;
+  tally : l.tally ≡ tally_of l.walk.run l.walk.at;
+}
+
+abbrev pub decreases-loop-watch : goal.decreases-loop-watch
+decreases-loop-watch g l = length l.walk.run.items - l.walk.at

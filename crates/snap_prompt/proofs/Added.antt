@@ -1,6 +1,6 @@
 -- What the prompt has added is said: what a line asks for, where no question was asked.
 use Rattle.std.proofs.Common.{◌≡◌, ◌+◌, ◌-◌, ◌^◌, ◌++◌, ◌∙◌, ℕ, Bool, min, List, Option, None, Result, Ok, Err}
-use Rattle.std.proofs.Common.{OnOk, ap, refl, subst, sym}
+use Rattle.std.proofs.Common.{OnOk, ap, option_map, refl, subst, sym}
 use Rattle.snap_dialog.specs.Folder.{Kept}
 use Rattle.snap_semantics.specs.declared.refusal.CommandRefusal.{CommandRefusal}
 use Rattle.snap_prompt_lines.specs.Ask.{ask_of}
@@ -27,9 +27,14 @@ it_is_said (why r t) old new adds = adds
 it_is_said (saved name) old new adds = adds
 
 -- what is said of a file that was to be saved
-pub saved_is_added : (name text : List ℕ) (before after : Option (List Kept)) (old new : List ℕ) →
-    Saves name text before after old new → IsAdded (saved name) old new
-saved_is_added name text before after old new saves = (outcome_line name saves.0, (saves.0, refl), saves.2)
+pub saved_is_added : (name kept : List ℕ) (before after : Option (List Kept)) (old new : List ℕ) →
+    Saves name kept before after old new → IsAdded (saved name) old new
+saved_is_added name kept before after old new saves = (outcome_line name saves.0, (saves.0, refl), saves.2)
+
+-- where nothing was found, a line names no file
+pub none_named : {A : Type 0} (view : A → List ℕ × Bool) (found : Option A) (wanted : Option (List ℕ × Bool)) →
+    option_map view found ≡ wanted → found ≡ None → wanted ≡ None
+none_named view found wanted e is = sym e ∙ ap (option_map view) is
 
 -- so many lines were read
 abbrev pub with_lines : ℕ → Prompt → Prompt

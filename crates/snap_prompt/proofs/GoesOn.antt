@@ -13,15 +13,17 @@ use Rattle.snap_prompt.specs.declared.goal.Goal.TheVariants as goal
 use Rattle.snap_prompt.specs.declared.goal.NoSteps.{NoSteps}
 use Rattle.snap_prompt_lines.specs.declared.ask.Ask.{Ask}
 use Rattle.snap_prompt_lines.specs.declared.ask.Ask.TheVariants as ask
-use Rattle.snap_prompt.specs.Prompt.{Answer, Prompt, added, added_to, done, led, led_by}
+use Rattle.snap_prompt.specs.Prompt.{Answer, Prompt, added, added_to, agreed_to, done, led, led_by}
 use Rattle.snap_prompt.specs.Prompt.{schedule_of_run, wanted}
+use Rattle.snap_prompt.specs.declared.question.Question.{Question}
+use Rattle.snap_prompt.specs.declared.question.Question.TheVariants as question
 
 -- whether they fit or are refused
 added_to_goes_on : (p : Prompt) (r : Result Schedule ScheduleRefusal) → true ≡ (added_to p r).goes_on
 added_to_goes_on p (Ok d) = refl
 added_to_goes_on p (Err r) = refl
 
-pub added_goes_on : (p : Prompt) (a : Addition) → true ≡ (added p a).goes_on
+added_goes_on : (p : Prompt) (a : Addition) → true ≡ (added p a).goes_on
 unfolding added
 added_goes_on p a = added_to_goes_on p (edited p.lines p.session.position (form_of a) (schedule_of_run p.session.run))
 
@@ -56,3 +58,7 @@ until_goes_on p x i line e = rw e (led_goes_on p i (goal.Line line))
 pub end_goes_on : (p : Prompt) (x : Ask) (i : ℕ) → x ≡ ask.End i → true ≡ (done p x).goes_on
 unfolding done
 end_goes_on p x i e = rw e (led_goes_on p i goal.End)
+
+-- where the schedule is cut
+pub agreeing_goes_on : (p : Prompt) (q : Question) (a : Addition) → q ≡ question.Cut a → true ≡ (agreed_to p q).goes_on
+agreeing_goes_on p q a e = rw e (added_goes_on p a)

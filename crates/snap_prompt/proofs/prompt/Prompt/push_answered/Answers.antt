@@ -14,7 +14,7 @@ returns-in-Ok-clause-text g c =
     on_ok c.push_asked.result c.push_asked.ensures.text
     (asked_is_said c.args.self.now _ c.args.line.now _ _ _ _ c.self.view_is
     c.saturating_add-self-inside.ensures c.in_default.is
-    (none_named _ c.saving_of.result _ c.saving_of.ensures c.in_default-2.is) c.in-Ok.ensures)
+    (none_named _ c.saving_of.result _ c.saving_of.ensures c.in_default-saving_of.is) c.in-Ok.ensures)
 
 -- what is answered with a refusal is refused
 refused : (n : ℕ) (line : List ℕ) (f : Fault CommandRefusal) (r : CommandRefusal) → f ≡ Refused r →
@@ -26,5 +26,5 @@ returns-in-Err-Refused-clause-text g c =
     on_ok c.push_asked-in-Err-Refused.result c.push_asked-in-Err-Refused.ensures.text
     (asked_is_said c.args.self.now _ c.args.line.now _ _ _ _ c.self.view_is
     c.saturating_add-self-inside.ensures c.in_default.is
-    (none_named _ c.saving_of.result _ c.saving_of.ensures c.in_default-2.is)
+    (none_named _ c.saving_of.result _ c.saving_of.ensures c.in_default-saving_of.is)
     (refused _ c.args.line.now c.in-Err-Refused.field-0 _ c.in-Err-Refused.field-0-is c.in-Err-Refused.ensures))

@@ -18,6 +18,7 @@ TOP = os.path.abspath(os.path.join(os.path.dirname(__file__), "..", ".."))
 PAGE = os.path.join(TOP, "page", "snaplab.html")
 NAMES = ("chromium", "chromium-browser", "google-chrome", "chrome")
 NOT_HERE = 77
+USUAL_LOOP = 25      # milliseconds of the loop by which the speed of a processor is told
 
 
 class Failed(Exception):
@@ -238,6 +239,17 @@ class Tab:
     def answer(self, sub, shipped, given):
         """What the module answers to a subcommand, the kind of a shipped listing and an input."""
         return self.ask_module("page_output", (sub.encode(), shipped.encode(), given))
+
+    def slowness(self):
+        """How many times as long as usual a processor of this machine takes for what it is given; 1 where it is as fast, or faster."""
+        best = self.run("""(() => { let best = Infinity, x = 0;
+            for (let k = 0; k < 9; k++) {
+                const begun = performance.now();
+                for (let j = 0; j < 1e7; j++) x = (x * 31 + j) | 0;
+                best = Math.min(best, performance.now() - begun + x * 0);
+            }
+            return best; })()""")
+        return max(1, best / USUAL_LOOP)
 
     def watch_tasks(self):
         """Begins to note what the page's thread does."""

@@ -1,3 +1,6 @@
 -- The proofs of snap_certify, by their modules.
-pub mod Replaying
+pub mod Worth
+pub mod Lines
+pub mod Finding
+pub mod Passing
 pub mod Judging

@@ -1,4 +1,4 @@
 -- The definitions of snap_certify, by their modules.
-pub mod Replay
+pub mod Finding
 pub mod CertificationText
 pub mod Output

@@ -2,6 +2,8 @@
 //! missing.
 ghost use Rattle.std.specs.Prelude.{◌≡◌, IfOk, IsOk, Ok};
 ghost use Rattle.snap_runs.specs.Linearization.{IsLinearizable};
+ghost use Rattle.snap_runs.specs.Audit.{audit};
+ghost use Rattle.snap_runs.specs.Run.{Run, run_over};
 ghost use Rattle.snap_certification.specs.Certificate.{IsCertificate};
 ghost use Rattle.snap_certification.specs.Certification.{
   Evidence,
@@ -12,13 +14,18 @@ ghost use Rattle.snap_certification.specs.Certification.{
   seen_certification,
   write_line,
 };
+ghost use Rattle.snap_certify.specs.Finding.{pointed};
 
 use crate::line::write_line;
-use crate::writes::writes;
-use snap_audit::audit;
-use snap_certification::{Certification, Certified, Lack, Missing, certified_has_certificate};
+use crate::pass::find;
+use snap_asm_program::Program;
+use snap_audit::audit_over;
+use snap_certification::{
+    Certification, Certified, Lack, Missing, UpdateWrite, certified_has_certificate,
+};
 use snap_record::Record;
 use snap_runs::Verdict;
+use snap_sched::Schedule;
 use snap_words::Kind;
 use std::alloc::{AllocError, Global};
 
@@ -47,24 +54,48 @@ fn points(verdicts: &[Verdict]) -> Result<(), Missing>
     Ok(())
 }
 
+/// What a run is certified by whose updates write so, where each scan has its point.
+fn pointed(line: u64, writes: Vec<UpdateWrite>, verdicts: Vec<Verdict>) -> Certification
+    ensures { (r : Run) → verdicts.items ≡ audit r →
+        seen_certification result ≡ pointed r line writes.items }
+{
+    match points(verdicts.as_slice()) {
+        Ok(()) => Certification::Certified(Certified {
+            line,
+            writes,
+            points: verdicts,
+        }),
+        Err(missing) => Certification::Missing(missing),
+    }
+}
+
+/// The certification of the run of a program over a schedule.
+pub(crate) fn certification_over<K: Kind>(
+    alloc: Global,
+    program: &Program,
+    schedule: &Schedule,
+) -> Result<Certification, AllocError>
+    requires { program.now.kind ≡ K.TAG }
+    ensures { IfOk result (λ c. seen_certification c
+        ≡ certification_of (run_over program.now schedule.now)) }
+{
+    let line = write_line::<K>(alloc, program, schedule)?;
+    let (writes, missing) = find::<K>(alloc, program, schedule, line)?.found();
+    match missing {
+        Some(missing) => Ok(Certification::Missing(missing)),
+        None => {
+            let verdicts = audit_over::<K>(alloc, program, schedule)?;
+            Ok(pointed(line, writes, verdicts))
+        }
+    }
+}
+
 /// The certification of a record.
 fn conclude<K: Kind>(alloc: Global, history: &Record<K>) -> Result<Certification, AllocError>
     ensures { IfOk result (λ c. seen_certification c ≡ certification_of history.now) }
 {
-    let line = write_line(alloc, history)?;
-    let writes = match writes(alloc, history, line)? {
-        Ok(writes) => writes,
-        Err(missing) => return Ok(Certification::Missing(missing)),
-    };
-    let verdicts = audit(alloc, history)?;
-    match points(verdicts.as_slice()) {
-        Ok(()) => Ok(Certification::Certified(Certified {
-            line,
-            writes,
-            points: verdicts,
-        })),
-        Err(missing) => Ok(Certification::Missing(missing)),
-    }
+    let schedule = history.schedule()?;
+    certification_over::<K>(alloc, history.machine().program(), &schedule)
 }
 
 /// What a record is certified by, or the first thing that is missing: of the writes, in the order

@@ -3,13 +3,14 @@
 #![tactic(auto)]
 
 mod certification;
+mod finder;
 mod line;
 mod order;
+mod pass;
 mod program;
-mod replay;
+mod sight;
 mod task;
 mod text;
-mod writes;
 
 pub use certification::certify;
 pub use program::certify_program;

@@ -1,72 +1,78 @@
-//! The line at which updates write, as the certification of a record chooses it: that of the first
+//! The line at which updates write, as the certification of a run chooses it: that of the first
 //! item which changes the values.
-ghost use Rattle.std.specs.Prelude.{◌≡◌, IfOk, length, option_map};
+ghost use Rattle.std.specs.Prelude.{◌≡◌, IfOk, length, suc};
+ghost use Rattle.snap_semantics.specs.State.{values};
+ghost use Rattle.snap_runs.specs.Run.{run_over, state};
+ghost use Rattle.snap_record.specs.Roles.{AreRoles};
+ghost use Rattle.snap_walk.specs.Walk.{Passes, Way};
 ghost use Rattle.snap_certification.specs.Certification.{
-  changes,
   changing_line,
-  executed,
   is_put,
   putting_line,
+  seen_item,
   write_line,
 };
-ghost use Rattle.snap_certify.specs.Replay.{machine_at};
+ghost use Rattle.snap_certify.specs.Finding.{WritesWord, changed_line};
 
-use crate::replay::{first_machine, see_next};
-use snap_certification::SeenItem;
-use snap_machine::Machine;
-use snap_record::Record;
-use snap_semantics::{Activity, Instr, Line, Outcome};
+use crate::sight::{Sight, changes, executed_line, writing};
+use snap_asm_program::Program;
+use snap_record::{LineRole, new_roles};
+use snap_sched::Schedule;
+use snap_semantics::{Instr, Line, who};
+use snap_walk::{Passed, Walk};
 use snap_words::Kind;
 use std::alloc::{AllocError, Global};
 
-/// Whether an item changes the values.
-pub(crate) fn changes(item: &SeenItem) -> bool
-    ensures { result ≡ changes item.now }
+/// The line that the item executes which was passed last on the way, where it changes the values,
+/// which were these before it.
+fn changed_line<K: Kind>(
+    walk: &Walk<'_, K>,
+    roles: &[LineRole],
+    past: &[u64],
+    passed: &Passed,
+) -> Result<Option<Option<u64>>, AllocError>
+    ensures { IfOk result (λ o. (w : Way) → Passes w passed.now walk.now →
+        AreRoles w.run.source roles.now → past.now ≡ values (state w.run w.at) →
+        o ≡ changed_line (seen_item w.run (suc w.at))) }
 {
-    item.values_before.as_slice() != item.values_after.as_slice()
-}
-
-/// What an item executes: what its step finds the process at, where that goes on.
-pub(crate) fn executed(item: &SeenItem) -> Option<Activity>
-    ensures { result ≡ executed item.now }
-{
-    match item.outcome {
-        Outcome::Trapped(_) => None,
-        _ => item.activity,
+    let Some(activity) = writing(roles, passed.item, passed.before) else {
+        return Ok(None);
+    };
+    let after = walk.machine().values()?;
+    let sight = Sight {
+        process: who(passed.item),
+        activity: Some(activity),
+        outcome: &passed.outcome,
+        values_before: past,
+        values_after: after.as_slice(),
+    };
+    if changes(&sight) {
+        Ok(Some(executed_line(&sight)))
+    } else {
+        Ok(None)
     }
 }
 
-/// The line that an item executes.
-fn executed_line(item: &SeenItem) -> Option<u64>
-    ensures { result ≡ option_map (λ a. a.line) (executed item.now) }
-{
-    Some(executed(item)?.line)
-}
-
-/// The line of the first item that changes the values, which a machine finds that does the items.
-fn found_line<K: Kind>(
-    machine: &mut Machine<K>,
-    history: &Record<K>,
+/// The line of the first item that changes the values, which a walk finds that goes up to there.
+fn changing_line<K: Kind>(
+    alloc: Global,
+    program: &Program,
+    schedule: &Schedule,
 ) -> Result<Option<u64>, AllocError>
-    requires { machine.old ≡ machine_at history.now 0 }
-    ensures { IfOk result (λ l. l ≡ changing_line history.now 0 (length history.now.items)) }
+    requires { program.now.kind ≡ K.TAG }
+    ensures { IfOk result (λ l. l
+        ≡ changing_line (run_over program.now schedule.now) 0 (length schedule.now.items)) }
 {
-    let count = history.items().len();
-    for t in 0..count {
-        let item = see_next(machine, history, t)?;
-        if changes(&item) {
-            return Ok(executed_line(&item));
+    let mut walk = Walk::<K>::over(alloc, program, schedule)?;
+    let roles = new_roles(alloc, program)?;
+    let values = walk.machine().values()?;
+    while let Some(passed) = walk.next()? {
+        let changed = changed_line(&walk, roles.as_slice(), values.as_slice(), &passed)?;
+        if let Some(line) = changed {
+            return Ok(line);
         }
     }
     Ok(None)
-}
-
-/// The line of the first item that changes the values.
-fn changing_line<K: Kind>(alloc: Global, history: &Record<K>) -> Result<Option<u64>, AllocError>
-    ensures { IfOk result (λ l. l ≡ changing_line history.now 0 (length history.now.items)) }
-{
-    let mut machine = first_machine(alloc, history)?;
-    found_line(&mut machine, history)
 }
 
 /// Whether a line writes a word.
@@ -91,13 +97,21 @@ fn putting_line(lines: &[Line]) -> u64
     0
 }
 
-/// The line at which updates write: that of the first item that changes the values, and where none
-/// does, the first line that writes a word.
-pub(crate) fn write_line<K: Kind>(alloc: Global, history: &Record<K>) -> Result<u64, AllocError>
-    ensures { IfOk result (λ l. l ≡ write_line history.now) }
+/// The line at which updates write in the run of a program over a schedule: that of the first item
+/// that changes the values, and where none does, the first line that writes a word.
+#[tactic(auto, using(crate::proofs::Lines::chosen, crate::proofs::Lines::putting_writes))]
+pub(crate) fn write_line<K: Kind>(
+    alloc: Global,
+    program: &Program,
+    schedule: &Schedule,
+) -> Result<u64, AllocError>
+    requires { program.now.kind ≡ K.TAG }
+    ensures line { IfOk result (λ l. l ≡ write_line (run_over program.now schedule.now)) }
+    ensures word { IfOk result (λ l. WritesWord program.now l) }
 {
-    match changing_line(alloc, history)? {
+    let lines = program.listing().lines();
+    match changing_line::<K>(alloc, program, schedule)? {
         Some(line) => Ok(line),
-        None => Ok(putting_line(history.machine().program().listing().lines())),
+        None => Ok(putting_line(lines)),
     }
 }

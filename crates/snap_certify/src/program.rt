@@ -5,8 +5,10 @@ ghost use Rattle.snap_run_judge.specs.Judged.{AnswersJudged};
 ghost use Rattle.snap_certify.specs.CertificationText.{IsCertificateText};
 ghost use Rattle.snap_certify.specs.Output.{WasJudgedOver, certify_listing};
 
-use crate::text::certification_text;
+use crate::certification::certification_over;
+use crate::text::{text_of, with_verdict};
 use snap_asm_program::Program;
+use snap_certification::Certification;
 use snap_input::schedule_for;
 use snap_record::record_over;
 use snap_sched::Schedule;
@@ -24,8 +26,15 @@ fn certify_run<K: Kind>(
     ensures { IfOk result
         (λ out. IsCertificateText (run_over program.now schedule.now) out.items) }
 {
-    let record = record_over::<K>(alloc, program, schedule)?;
-    certification_text(alloc, &record)
+    let certification = certification_over::<K>(alloc, program, schedule)?;
+    let text = text_of(alloc, &certification)?;
+    match certification {
+        Certification::Certified(_) => Ok(text),
+        Certification::Missing(_) => {
+            let record = record_over::<K>(alloc, program, schedule)?;
+            with_verdict(alloc, &record, text)
+        }
+    }
 }
 
 /// What the run of a program of a kind is certified by.

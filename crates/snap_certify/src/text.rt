@@ -167,7 +167,7 @@ fn missing_text(alloc: Global, missing: &Missing) -> Result<Vec<u8>, AllocError>
 }
 
 /// The text of a certification.
-fn text_of(alloc: Global, certification: &Certification) -> Result<Vec<u8>, AllocError>
+pub(crate) fn text_of(alloc: Global, certification: &Certification) -> Result<Vec<u8>, AllocError>
     ensures { IfOk result (λ out. out.items ≡ text_of (seen_certification certification.now)) }
 {
     match certification {
@@ -181,7 +181,7 @@ fn text_of(alloc: Global, certification: &Certification) -> Result<Vec<u8>, Allo
 
 /// A text, and behind it the verdict on the run of a record.
 #[tactic(auto, using(snap_text::proofs::Texts::joined))]
-fn with_verdict<K: Kind>(
+pub(crate) fn with_verdict<K: Kind>(
     alloc: Global,
     history: &Record<K>,
     text: Vec<u8>,

@@ -1,37 +1,39 @@
 -- What is said of the parts of an input: of their number, and of one that stands in another one's place.
 use Rattle.std.specs.Prelude.{ℕ, ◌-◌, Bool, false, ◌||◌, List, [], ◌∷◌, ◌++◌, length, take, Option, Some, None}
-use Rattle.std.specs.Prelude.{nat_eq, codes, if◌then◌else◌}
+use Rattle.std.specs.Prelude.{◌+◌, ◌&&◌, not, nat_eq, nat_lt, decimal, codes, if◌then◌else◌}
 use Rattle.snap_semantics.specs.Report.{numbers_text}
 use Rattle.snap_semantics.specs.declared.refusal.ListingRefusal.{ListingRefusal}
 use Rattle.snap_semantics.specs.declared.refusal.ListingRefusal.TheVariants as listing
 use Rattle.snap_semantics.specs.declared.refusal.Refusal.{Refusal}
 use Rattle.snap_semantics.specs.declared.refusal.Refusal.TheVariants as refusal
 use Rattle.snap_semantics.specs.Token.{Token, TextLine, begins_with, lines_of, text_lines}
-use Rattle.snap_input.specs.Parts.{part, parts_of}
+use Rattle.snap_input.specs.Parts.{ends_part, part, parts_of}
 use Rattle.snap_tasks.specs.declared.subject.Subject.TheVariants as subject
 use Rattle.snap_expected.specs.Tests.{is_word}
 use Rattle.snap_explanation.specs.declared.layout.Layout.{Layout}
 use Rattle.snap_explanation.specs.declared.layout.Layout.TheVariants as layout
 use Rattle.snap_explanation.specs.declared.layout.Texts.TheVariants as texts
+use Rattle.snap_explanation.specs.declared.wording.TheConstants.{FILES_SWAPPED}
+use Rattle.snap_explanation.specs.declared.wording.TheConstants.{LINE, NEAR}
+use Rattle.snap_explanation.specs.declared.wording.TheConstants.{LISTING_AND_SCHEDULE, LISTING_AND_COMMANDS}
+use Rattle.snap_explanation.specs.declared.wording.TheConstants.{LISTING_AND_SCHEDULES, LISTING_AND_SCRIPTS}
+use Rattle.snap_explanation.specs.declared.wording.TheConstants.{SCHEDULE_ALONE, COMMANDS_ALONE, SCHEDULES_ALONE}
+use Rattle.snap_explanation.specs.declared.wording.TheConstants.{SCRIPTS_ALONE, WHOLE_INPUT, NO_SEPARATOR, SEPARATORS}
+use Rattle.snap_explanation.specs.declared.wording.TheConstants.{LINE_END, ALONE, SWAPPED, SHIPPED, NO_LISTING}
 use Rattle.snap_explanation.specs.Part.{lines_through}
 use Rattle.snap_explanation.specs.Spot.{nth_line}
 
 -- the parts that an input has
 abbrev pub parts_words : Layout → List ℕ
-parts_words (layout.Parts subject.FirstPart texts.Schedule) = codes "2 parts are taken: a listing and a schedule"
-parts_words (layout.Parts subject.FirstPart texts.ScheduleAndCommands) =
-    codes "3 parts are taken: a listing, a schedule and commands"
-parts_words (layout.Parts subject.FirstPart texts.Schedules) =
-    codes "2 to 4097 parts are taken: a listing and schedules"
-parts_words (layout.Parts subject.FirstPart texts.Scripts) = codes "2 parts are taken: a listing and scripts"
-parts_words (layout.Parts (subject.Shipped g) texts.Schedule) =
-    codes "1 part is taken: a schedule; the listing is shipped"
-parts_words (layout.Parts (subject.Shipped g) texts.ScheduleAndCommands) =
-    codes "2 parts are taken: a schedule and commands; the listing is shipped"
-parts_words (layout.Parts (subject.Shipped g) texts.Schedules) =
-    codes "1 to 4096 parts are taken, which are schedules; the listing is shipped"
-parts_words (layout.Parts (subject.Shipped g) texts.Scripts) = codes "1 part is taken: scripts; the listing is shipped"
-parts_words _ = codes "the whole input is taken"
+parts_words (layout.Parts subject.FirstPart texts.Schedule) = LISTING_AND_SCHEDULE.now
+parts_words (layout.Parts subject.FirstPart texts.ScheduleAndCommands) = LISTING_AND_COMMANDS.now
+parts_words (layout.Parts subject.FirstPart texts.Schedules) = LISTING_AND_SCHEDULES.now
+parts_words (layout.Parts subject.FirstPart texts.Scripts) = LISTING_AND_SCRIPTS.now
+parts_words (layout.Parts (subject.Shipped g) texts.Schedule) = SCHEDULE_ALONE.now
+parts_words (layout.Parts (subject.Shipped g) texts.ScheduleAndCommands) = COMMANDS_ALONE.now
+parts_words (layout.Parts (subject.Shipped g) texts.Schedules) = SCHEDULES_ALONE.now
+parts_words (layout.Parts (subject.Shipped g) texts.Scripts) = SCRIPTS_ALONE.now
+parts_words _ = WHOLE_INPUT.now
 
 -- the lines behind parts, which are the lines `%` of an input but for the last one
 abbrev pub lines_behind : (before : ℕ) → List (List ℕ) → List ℕ
@@ -42,14 +44,19 @@ lines_behind before (p ∷ ps) = lines_through before p ∷ lines_behind (lines_
 abbrev pub separators : List (List ℕ) → List ℕ
 separators parts = take (length (lines_behind 0 parts) - 1) (lines_behind 0 parts)
 
-unfoldable pub separators_front : List ℕ
-separators_front = codes "\nthe lines `%` of the input, the first eight:"
-
-unfoldable pub some_separators : List ℕ → List ℕ
-some_separators ks = separators_front ++ numbers_text (take 8 ks) ++ codes "\n"
-
+-- where they are: the first eight
 unfoldable pub separator_words : List ℕ → List ℕ
-separator_words ks = if nat_eq (length ks) 0 then codes "\nno line of the input is `%` alone\n" else some_separators ks
+separator_words ks =
+    if nat_eq (length ks) 0 then NO_SEPARATOR.now else SEPARATORS.now ++ numbers_text (take 8 ks) ++ LINE_END.now
+
+-- the number of the first line that begins with `%` and has more, where the first one has number k; 0 where there is
+-- none
+abbrev pub near_separator : (k : ℕ) → List (List ℕ) → ℕ
+near_separator k [] = 0
+near_separator k (l ∷ ls) = if begins_with 37 l && not (ends_part l) then k else near_separator (k + 1) ls
+
+abbrev pub near_words : ℕ → List ℕ
+near_words k = if nat_lt 0 k then LINE.now ++ decimal k ++ NEAR.now else []
 
 abbrev pub first_is : List ℕ → Option (List Token) → Bool
 first_is w None = false
@@ -67,27 +74,14 @@ is_listing text = is_front (codes "kind") (text_lines text)
 abbrev pub is_schedule : List ℕ → Bool
 is_schedule text = is_front (codes "shape") (text_lines text)
 
--- what takes a listing alone, and what takes a schedule too
-abbrev pub alone_advice : List ℕ
-alone_advice = codes "check, lint and assemble take a listing alone; run, trace, debug, audit, certify, batch and survey take a schedule behind it, after a line `%`\n"
-
-abbrev pub swapped_advice : List ℕ
-swapped_advice = codes "the parts are swapped: the listing comes first, and the schedule behind it\n"
-
--- where the input has no listing
-abbrev pub shipped_advice : List ℕ
-shipped_advice = codes "this is the front of a schedule: with `--shipped KIND` the input has no listing\n"
-
 -- what is said where the first part is to be a listing
 abbrev pub first_part_advice : List (List ℕ) → List ℕ
 first_part_advice parts =
-    if is_schedule (part 0 parts) then (if is_listing (part 1 parts) then swapped_advice else shipped_advice) else []
+    if is_schedule (part 0 parts) then (if is_listing (part 1 parts) then SWAPPED.now else SHIPPED.now) else []
 
 -- what is said where the first part is to be none
 abbrev pub no_listing_advice : List (List ℕ) → List ℕ
-no_listing_advice parts =
-    if is_listing (part 0 parts)
-    then codes "this is the front of a listing: with `--shipped KIND` the input has none\n" else []
+no_listing_advice parts = if is_listing (part 0 parts) then NO_LISTING.now else []
 
 -- the text line that has not its form
 abbrev pub formless_line : ListingRefusal → List (List ℕ) → List ℕ
@@ -98,15 +92,22 @@ formless_line _ lines = []
 -- what is said where the whole input is to be a listing
 abbrev pub whole_advice : List ℕ → ListingRefusal → List ℕ
 whole_advice input r =
-    if is_schedule input || begins_with 37 (formless_line r (lines_of input)) then alone_advice else []
+    if is_schedule input || begins_with 37 (formless_line r (lines_of input)) then ALONE.now else []
+
+-- what is said of a named file with the front of another part
+abbrev pub swapped_advice : Bool → List ℕ
+swapped_advice swapped = if swapped then FILES_SWAPPED.now else []
 
 -- what is said of a part that stands in another one's place
 unfoldable pub order_advice : Layout → List ℕ → Refusal → List ℕ
 order_advice layout.Listing input (refusal.Listing r) = whole_advice input r
+order_advice layout.NamedListing input (refusal.Listing r) = swapped_advice (is_schedule input)
+order_advice layout.NamedSchedule input (refusal.Schedule r) = swapped_advice (is_listing input)
 order_advice (layout.Parts subject.FirstPart t) input (refusal.Listing r) = first_part_advice (parts_of input)
 order_advice (layout.Parts subject.FirstPart t) input (refusal.WrongParts k) = first_part_advice (parts_of input)
 order_advice (layout.Parts (subject.Shipped g) t) input (refusal.Schedule r) = no_listing_advice (parts_of input)
 order_advice _ input _ = []
 
 unfoldable pub parts_explained : Layout → List ℕ → List ℕ
-parts_explained l input = parts_words l ++ separator_words (separators (parts_of input))
+parts_explained l input =
+    parts_words l ++ separator_words (separators (parts_of input)) ++ near_words (near_separator 1 (lines_of input))

@@ -11,4 +11,5 @@ pub mod Misuse
 pub mod Inputs
 pub mod Explanation
 pub mod HistoryExplanation
+pub mod LiveExplanation
 pub mod Views

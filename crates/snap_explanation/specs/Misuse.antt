@@ -1,6 +1,6 @@
 -- The first token of a numbered line that is not as the kind and the declared names of the listing have it, and what is
 -- said of it.
-use Rattle.std.specs.Prelude.{ℕ, Bool, List, [], ◌∷◌, ◌++◌, Option, Some, None, Result, Ok, Err, codes, if◌then◌else◌}
+use Rattle.std.specs.Prelude.{ℕ, Bool, List, [], ◌∷◌, ◌++◌, Option, Some, None, Result, Ok, Err, if◌then◌else◌}
 use Rattle.snap_words.specs.declared.kind.KindTag.{KindTag}
 use Rattle.snap_words.specs.declared.kind.KindTag.TheVariants as kind
 use Rattle.snap_semantics.specs.declared.instr.Instr.{Instr}
@@ -11,14 +11,17 @@ use Rattle.snap_semantics.specs.ListingForms.{line_form}
 use Rattle.snap_semantics.specs.Rules.{or_else}
 use Rattle.snap_semantics.specs.Source.{Source}
 use Rattle.snap_semantics.specs.Spelling.{kind_keyword}
-use Rattle.snap_semantics.specs.Token.{Token, Identifier, Number, Sign}
 use Rattle.snap_semantics.specs.Uses.{Use, Named, BankUse, TupleUse, kind_has, sort_of}
 use Rattle.snap_expected.specs.Pieces.{PlacedToken}
-use Rattle.snap_explanation.specs.Advice.{advice_line}
-use Rattle.snap_explanation.specs.Names.{nearest, tokens_of_placed}
-use Rattle.snap_explanation.specs.Said.{said}
+use Rattle.snap_explanation.specs.Names.{letters_of, nearest, tokens_of_placed}
 use Rattle.snap_explanation.specs.Sorts.{is_sort, of_sort}
 use Rattle.snap_explanation.specs.TokenUses.{use_at, slot_after}
+use Rattle.snap_explanation.specs.declared.wording.TheConstants.{A_SCALAR, A_ROW, A_LIST, A_VIEW, NOT_DECLARED}
+use Rattle.snap_explanation.specs.declared.wording.TheConstants.{ROW_USE, WORDS_USE, VIEW_USE, NONE_DECLARED, BELONGS}
+use Rattle.snap_explanation.specs.declared.wording.TheConstants.{IS_ONE, QUOTE, IS, WHILE, SEQ_BANKS, BIT_BANKS}
+use Rattle.snap_explanation.specs.declared.wording.TheConstants.{MULTI_BANKS, SEQ_FIELDS, BIT_FIELDS, MULTI_FIELDS}
+use Rattle.snap_explanation.specs.declared.wording.TheConstants.{SEQ_TUPLE, BIT_TUPLE, MULTI_TUPLE, QUOTE_END}
+use Rattle.snap_explanation.specs.declared.wording.TheConstants.{REGISTERS_OF, ARE, TUPLE_OF, IS_A, WORDS_OF, HAVE}
 use Rattle.snap_explanation.specs.declared.token_uses.Slot.{Slot}
 use Rattle.snap_explanation.specs.declared.token_uses.Slot.TheVariants as slot
 
@@ -58,26 +61,21 @@ wrong_in_form s ts (Some line) = first_wrong s line.instr slot.Value ts
 abbrev pub wrong_in_line : Source → List PlacedToken → Option Misuse
 wrong_in_line s ts = wrong_in_form s ts (line_form s.kind (tokens_of_placed ts))
 
-abbrev pub letters_of : Token → List ℕ
-letters_of (Identifier w) = w
-letters_of (Number k) = []
-letters_of (Sign m) = []
-
 abbrev pub sort_words : Sort → List ℕ
-sort_words sort.Scalar = codes "a scalar"
-sort_words sort.Row = codes "a row"
-sort_words sort.Words = codes "a list of words"
-sort_words sort.View = codes "a view"
+sort_words sort.Scalar = A_SCALAR.now
+sort_words sort.Row = A_ROW.now
+sort_words sort.Words = A_LIST.now
+sort_words sort.View = A_VIEW.now
 
 abbrev pub declared_words : Option Sort → List ℕ
-declared_words None = codes "not declared"
+declared_words None = NOT_DECLARED.now
 declared_words (Some found) = sort_words found
 
 -- how names of a sort are used; nothing of a number
 abbrev pub usage : Option Sort → List ℕ
-usage (Some sort.Row) = codes "a number of a row is `R[I]`"
-usage (Some sort.Words) = codes "a field of a word is `data(W[I])`; `get W[I] = r[J]` reads a word"
-usage (Some sort.View) = codes "a view is set by `view S = ..` or `look S = ..`"
+usage (Some sort.Row) = ROW_USE.now
+usage (Some sort.Words) = WORDS_USE.now
+usage (Some sort.View) = VIEW_USE.now
 usage _ = []
 
 abbrev pub first_name : List (List ℕ) → Option (List ℕ)
@@ -89,52 +87,42 @@ abbrev pub some_name : List ℕ → List (List ℕ) → Option (List ℕ)
 some_name w names = or_else (nearest w names) (first_name names)
 
 abbrev pub some_words : Option (List ℕ) → List ℕ
-some_words None = codes " belongs here: none is declared\n"
-some_words (Some x) = said (codes " belongs here: `") x (codes "` is one\n")
+some_words None = NONE_DECLARED.now
+some_words (Some x) = BELONGS.now ++ x ++ IS_ONE.now
 
 -- a name that is of another sort, or of none
 unfoldable pub name_text : Source → List ℕ → Sort → Option Sort → List ℕ
 name_text s w wanted found =
-    said (codes "`") w (codes "` is ") ++ said (declared_words found) (codes "; ") (sort_words wanted)
-    ++ some_words (some_name w (of_sort s wanted)) ++ advice_line (usage found)
+    (QUOTE.now ++ w ++ IS.now ++ declared_words found ++ WHILE.now ++ sort_words wanted)
+    ++ some_words (some_name w (of_sort s wanted)) ++ usage found
 
 -- the registers of a kind, and that there is no other
 abbrev pub banks_words : KindTag → List ℕ
-banks_words kind.Seq = codes "`r[I]`, written as in `put r[I] = (value, number, view)`; there is no `"
-banks_words kind.Bits = codes "`r[I]` and `q[I,J]`; there is no `"
-banks_words kind.Multi = codes "`r[I]`, `q[I,J]`, `p[I,J]` and `v[I]`; there is no `"
+banks_words kind.Seq = SEQ_BANKS.now
+banks_words kind.Bits = BIT_BANKS.now
+banks_words kind.Multi = MULTI_BANKS.now
 
 -- the fields of the words of a kind, and that they have no other
 abbrev pub fields_words : KindTag → List ℕ
-fields_words kind.Seq = codes "`data`, `seq` and `view`, and no `"
-fields_words kind.Bits = codes "`data`, `hand`, `toggle` and `view`, and no `"
-fields_words kind.Multi = codes "`data`, `id` and `toggle`, and no `"
+fields_words kind.Seq = SEQ_FIELDS.now
+fields_words kind.Bits = BIT_FIELDS.now
+fields_words kind.Multi = MULTI_FIELDS.now
 
 abbrev pub tuple_words : KindTag → List ℕ
-tuple_words kind.Seq = codes "`(value, number, view)`, where the view is a name alone\n"
-tuple_words kind.Bits = codes "`(value, row, toggle, view)`, where the row and the view are names alone\n"
-tuple_words kind.Multi = codes "`(value, id, toggle)`\n"
+tuple_words kind.Seq = SEQ_TUPLE.now
+tuple_words kind.Bits = BIT_TUPLE.now
+tuple_words kind.Multi = MULTI_TUPLE.now
 
 -- what registers or words of a kind are or have, and that they have not what a word says
-unfoldable pub lack_text : (front name middle have w : List ℕ) → List ℕ
-lack_text front name middle have w = said front name middle ++ said have w (codes "`\n")
-
-abbrev pub bank_text : KindTag → List ℕ → List ℕ
-bank_text k w = lack_text (codes "registers of kind ") (kind_keyword k) (codes " are ") (banks_words k) w
-
-abbrev pub field_text : KindTag → List ℕ → List ℕ
-field_text k w = lack_text (codes "words of kind ") (kind_keyword k) (codes " have ") (fields_words k) w
-
--- the tuple of a kind
-unfoldable pub tuple_text : KindTag → List ℕ
-tuple_text k = said (codes "a tuple of kind ") (kind_keyword k) (codes " is ") ++ tuple_words k
+abbrev pub lack_text : (front name middle have w : List ℕ) → List ℕ
+lack_text front name middle have w = front ++ name ++ middle ++ have ++ w ++ QUOTE_END.now
 
 -- what is said of a word that speaks of what is not right
 abbrev pub use_text : Source → List ℕ → Use → List ℕ
 use_text s w (Named wanted x) = name_text s w wanted (sort_of s x)
-use_text s w (BankUse b) = bank_text s.kind w
-use_text s w (TupleUse k) = tuple_text s.kind
-use_text s w _ = field_text s.kind w
+use_text s w (BankUse b) = lack_text REGISTERS_OF.now (kind_keyword s.kind) ARE.now (banks_words s.kind) w
+use_text s w (TupleUse k) = TUPLE_OF.now ++ kind_keyword s.kind ++ IS_A.now ++ tuple_words s.kind
+use_text s w _ = lack_text WORDS_OF.now (kind_keyword s.kind) HAVE.now (fields_words s.kind) w
 
 abbrev pub misuse_text : Source → Misuse → List ℕ
 misuse_text s m = use_text s (letters_of m.token.token) m.spoken

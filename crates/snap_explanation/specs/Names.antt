@@ -8,12 +8,17 @@ use Rattle.snap_semantics.specs.ListingForms.{is_reserved}
 use Rattle.snap_semantics.specs.Token.{Token, Identifier, Number, Sign, TextLine}
 use Rattle.snap_expected.specs.Pieces.{PlacedToken}
 use Rattle.snap_semantics.specs.Rules.{or_else}
-use Rattle.snap_expected.specs.Tests.{is_word}
+use Rattle.snap_expected.specs.Tests.{is_identifier, is_word}
 use Rattle.snap_explanation.specs.declared.names.Numbered.{Numbered}
 
 -- tokens without their columns
 abbrev pub tokens_of_placed : List PlacedToken → List Token
 tokens_of_placed ts = map (λ (t : PlacedToken). t.token) ts
+
+abbrev pub letters_of : Token → List ℕ
+letters_of (Identifier w) = w
+letters_of (Number k) = []
+letters_of (Sign m) = []
 
 -- the identifiers among tokens
 abbrev pub words_of : List Token → List (List ℕ)
@@ -66,6 +71,16 @@ again_at known later t (Sign m) = later known
 abbrev pub first_again : List (List ℕ) → List PlacedToken → Option PlacedToken
 first_again known [] = None
 first_again known (t ∷ ts) = again_at known (λ more. first_again more ts) t t.token
+
+-- how many of the words of header lines are names
+abbrev pub name_count : List (List ℕ) → ℕ
+name_count [] = 0
+name_count (w ∷ ws) = if is_reserved w then name_count ws else name_count ws + 1
+
+-- the first name too many of a header line, with so many names before the line; the number of another line
+abbrev pub one_too_many : (count : ℕ) → List PlacedToken → Option PlacedToken
+one_too_many count [] = None
+one_too_many count (t ∷ ts) = if is_identifier t.token then nth_token (33 - count) (t ∷ ts) else Some t
 
 -- a line with a name, and the word that begins the line
 pub record Declared : Type 0 where

@@ -111,7 +111,12 @@ part_place_in s t r parts =
       text = part (part_index s t r parts) parts;
     }
 
+-- an input without parts
+abbrev pub whole_part : PartName → List ℕ → Part
+whole_part n input = record { name = n; before = 0; text = input }
+
 -- the part that is refused
 abbrev pub part_place : Layout → List ℕ → Refusal → Part
 part_place (layout.Parts s t) input r = part_place_in s t r (parts_of input)
-part_place _ input r = record { name = name.Listing; before = 0; text = input }
+part_place layout.NamedSchedule input r = whole_part name.Schedule input
+part_place _ input r = whole_part name.Listing input

@@ -1,72 +1,81 @@
 //! `explanation`: what is said of a refused input after the line that refuses it, for each kind of
 //! refusal.
 ghost use Rattle.std.specs.Prelude.{◌≡◌, IfOk, OnOk, drop, map, option_map};
-ghost use Rattle.snap_semantics.specs.Token.{lines_of, text_lines};
+ghost use Rattle.snap_semantics.specs.Token.{text_lines};
 ghost use Rattle.snap_draft.specs.Drafted.{Adds};
-ghost use Rattle.snap_expected.specs.Pieces.{placed_of};
 ghost use Rattle.snap_expected.specs.Steps.{view_placed, view_placed_token, view_lost};
-ghost use Rattle.snap_explanation.specs.Explanation.{token_advice, sort_advice, piece_of};
-ghost use Rattle.snap_explanation.specs.Explanation.{stray_words, stray_text, lost_text};
-ghost use Rattle.snap_explanation.specs.Explanation.{lost_or_line};
-ghost use Rattle.snap_explanation.specs.Explanation.{stray_or_lost, form_text_of, form_text};
-ghost use Rattle.snap_explanation.specs.Explanation.{token_spot, placed_line, next_header};
-ghost use Rattle.snap_explanation.specs.Explanation.{header_at};
-ghost use Rattle.snap_explanation.specs.Explanation.{first_number};
-ghost use Rattle.snap_explanation.specs.Explanation.{misuse_spot, names_spot, words_spot};
-ghost use Rattle.snap_explanation.specs.Explanation.{uses_spot, place_text, declared_text};
-ghost use Rattle.snap_explanation.specs.Explanation.{again_text};
-ghost use Rattle.snap_explanation.specs.Explanation.{again_spot, rising_text, number_at_token};
-ghost use Rattle.snap_explanation.specs.Explanation.{rising_spot};
-ghost use Rattle.snap_explanation.specs.Explanation.{listing_explained, item_sort};
-ghost use Rattle.snap_explanation.specs.Explanation.{schedule_explained};
-ghost use Rattle.snap_explanation.specs.Explanation.{commands_explained};
-ghost use Rattle.snap_explanation.specs.Explanation.{leading_spot, part_explained, explanation};
-ghost use Rattle.snap_explanation.specs.Spot.{nth_line, piece_at};
+ghost use Rattle.snap_explanation.specs.Explanation.{token_advice, piece_of, stray_words};
+ghost use Rattle.snap_explanation.specs.Explanation.{stray_text};
+ghost use Rattle.snap_explanation.specs.Explanation.{lost_text};
+ghost use Rattle.snap_explanation.specs.Explanation.{form_text_of, form_text, token_spot};
+ghost use Rattle.snap_explanation.specs.Explanation.{unlost_advice};
+ghost use Rattle.snap_explanation.specs.Explanation.{placed_line, next_header, header_at};
+ghost use Rattle.snap_explanation.specs.Explanation.{first_number, misuse_spot, names_spot};
+ghost use Rattle.snap_explanation.specs.Explanation.{words_spot, uses_spot, declared_text};
+ghost use Rattle.snap_explanation.specs.Explanation.{again_text, again_spot, number_at_token};
+ghost use Rattle.snap_explanation.specs.Explanation.{rising_text, rising_spot, listing_explained};
+ghost use Rattle.snap_explanation.specs.Explanation.{item_sort};
+ghost use Rattle.snap_explanation.specs.Explanation.{schedule_explained, commands_explained, rule};
+ghost use Rattle.snap_explanation.specs.Explanation.{image_explained};
+ghost use Rattle.snap_explanation.specs.Explanation.{too_many_spot, leading_spot, part_explained};
+ghost use Rattle.snap_explanation.specs.Explanation.{explanation};
 ghost use Rattle.snap_expected.specs.declared.sorts.Header.TheVariants.{Kind};
 ghost use Rattle.snap_semantics.specs.declared.refusal.ListingRefusal.TheVariants.{BadHeader};
 ghost use Rattle.snap_explanation.specs.Names.{first_such, is_bad, leading_line, nth_token};
 ghost use Rattle.snap_explanation.specs.Sorts.{kind_in};
 ghost use Rattle.snap_explanation.specs.Views.{view_declared, view_misuse, view_names, view_part};
 
-use crate::advice::{advice, form_advice, push_advice, stray_advice};
+use crate::advice::{advice, form_advice, stray_advice};
 use crate::inputs::{push_order_advice, push_parts};
 use crate::layout::{Layout, Texts};
-use crate::misuse::{Misuse, letters_of, push_misuse, wrong_in_line};
+use crate::misuse::{Misuse, push_misuse, wrong_in_line};
 use crate::names::{
     Declared, Numbered, declared_at, first_again, first_bad, first_led, last_before, leading_line,
-    nth_token, words_before,
+    letters_of, name_count, nth_token, one_too_many, words_before,
 };
 use crate::part::{Part, part_place};
-use crate::said::{push_said, push_said_number};
+use crate::said::{Said, push_said};
 use crate::sorts::{Names, kind_in, names_in};
-use crate::spot::{column_of, line_of, piece_at, push_line_spot, push_shown, push_spot};
+use crate::spot::{column_of, piece_at, push_line_spot, push_spot, text_of};
 use crate::texts::push_expected_line;
+use crate::wording::{
+    AN_IMAGE, BAD_NAME, BYTE, COMES_AFTER, DECLARED_AS, DECLARED_BEFORE, DECLARED_IN, HAS_NUMBER,
+    IMAGE_RULE, ITEMS, LINE_END, LONG_COMMANDS, LONG_INPUT, LONG_LISTING, LONG_SCHEDULE, NO_CODE,
+    NO_FIT, NO_PROCESS, NO_SUCH_LINE, NO_TOKEN, NUMBERS_RISE, QUOTE, QUOTE_END, RISING,
+    SECOND_CRASH, TOO_MANY, WRONG,
+};
 use snap_draft::Draft;
 use snap_expected::{
     Header, LineSort, LostPlace, PlacedToken, PlacedTokens, lost_in, placed_tokens,
 };
-use snap_semantics::{CommandRefusal, ListingRefusal, Refusal, ScheduleRefusal};
+use snap_semantics::{CommandRefusal, ImageRefusal, ListingRefusal, Refusal, ScheduleRefusal};
 use snap_text::{TextLines, Token};
 use std::alloc::{AllocError, Global};
 
-/// Adds what is no token.
-fn push_stray_words(out: &mut Draft, piece: &[u8])
-    ensures { Adds out.old out.new (stray_words piece.now) }
+/// Adds what is no token, and what is advised of it.
+#[tactic(auto, unfolding(crate::specs::Explanation::stray_words))]
+fn push_stray_words<'a>(out: &mut Draft, piece: &'a [u8], advice: &'a [u8])
+    ensures { Adds out.old out.new (stray_words piece.now advice.now) }
 {
-    out.push(b"`");
-    push_shown(out, piece);
-    out.push(b"` is no token\n");
+    push_said(
+        out,
+        &[
+            Said::Text(QUOTE),
+            Said::Piece(piece),
+            Said::Text(NO_TOKEN),
+            Said::Text(advice),
+        ],
+    );
 }
 
 /// Adds what is said of a byte that begins no token.
 #[tactic(auto, unfolding(crate::specs::Explanation::stray_text))]
-fn push_stray(out: &mut Draft, part: &Part<'_>, line: u64, text: &[u8], column: usize)
-    ensures { Adds out.old out.new (stray_text (view_part part.now) line text.now column) }
+fn push_stray(out: &mut Draft, part: &Part<'_>, line: u64, column: usize)
+    ensures { Adds out.old out.new (stray_text (view_part part.now) line column) }
 {
-    let piece = piece_at(column, text);
-    push_spot(out, part, line, text, column);
-    push_stray_words(out, piece);
-    push_advice(out, stray_advice(piece));
+    let piece = piece_at(column, text_of(part, line));
+    push_spot(out, part, line, column);
+    push_stray_words(out, piece, stray_advice(piece));
 }
 
 /// What stands at a token, which may be the end of the line.
@@ -79,14 +88,14 @@ fn piece_of<'a>(text: &'a [u8], token: Option<PlacedToken<'_>>) -> &'a [u8]
     }
 }
 
-/// Adds what is advised at a token.
-fn push_token_advice(out: &mut Draft, place: &LostPlace, token: Option<PlacedToken<'_>>)
-    ensures { Adds out.old out.new
-        (token_advice (view_lost place.now) (option_map view_placed_token token.entry)) }
+/// What is advised at a token, which is this piece.
+fn token_advice(place: &LostPlace, token: Option<PlacedToken<'_>>, piece: &[u8]) -> &'static [u8]
+    ensures { result.now ≡ token_advice (view_lost place.now)
+        (option_map view_placed_token token.entry) piece.now }
 {
     match token {
-        Some(token) => push_advice(out, advice(place.wanted.as_slice(), &token.token)),
-        None => {}
+        Some(token) => advice(place.wanted.as_slice(), &token.token, piece),
+        None => b"",
     }
 }
 
@@ -95,49 +104,22 @@ fn push_token_advice(out: &mut Draft, place: &LostPlace, token: Option<PlacedTok
 fn push_lost(
     out: &mut Draft,
     part: &Part<'_>,
+    sort: LineSort,
     line: u64,
-    text: &[u8],
     tokens: &[PlacedToken<'_>],
     place: &LostPlace,
 )
     ensures { Adds out.old out.new
-        (lost_text (view_part part.now) line text.now (map view_placed_token tokens.now)
+        (lost_text (view_part part.now) sort line (map view_placed_token tokens.now)
         (view_lost place.now)) }
 {
+    let text = text_of(part, line);
     let token = nth_token(place.before, tokens);
-    push_spot(out, part, line, text, column_of(text, token));
-    push_expected_line(out, place.wanted.as_slice(), piece_of(text, token));
-    push_token_advice(out, place, token);
-}
-
-/// Adds what is advised of a line of a sort by its tokens.
-fn push_sort_advice(out: &mut Draft, sort: LineSort, tokens: &[PlacedToken<'_>])
-    ensures { Adds out.old out.new (sort_advice sort (map view_placed_token tokens.now)) }
-{
-    push_advice(out, form_advice(sort, tokens));
-}
-
-/// Adds what is said of a line that is lost, or of one that has no place at which it is.
-fn push_lost_or_line(
-    out: &mut Draft,
-    part: &Part<'_>,
-    sort: LineSort,
-    line: u64,
-    text: &[u8],
-    tokens: &[PlacedToken<'_>],
-    place: &Option<LostPlace>,
-)
-    ensures { Adds out.old out.new
-        (lost_or_line (view_part part.now) sort line text.now (map view_placed_token tokens.now)
-        (option_map view_lost place.now)) }
-{
-    match place {
-        Some(place) => {
-            push_lost(out, part, line, text, tokens, place);
-            push_sort_advice(out, sort, tokens);
-        }
-        None => push_line_spot(out, part, line, text),
-    }
+    let piece = piece_of(text, token);
+    push_spot(out, part, line, column_of(text, token));
+    push_expected_line(out, place.wanted.as_slice(), piece);
+    out.push(token_advice(place, token, piece));
+    out.push(form_advice(sort, tokens));
 }
 
 /// Adds what is said of a line with a byte that begins no token, or else of one that is lost.
@@ -148,23 +130,30 @@ fn push_placed_form(
     part: &Part<'_>,
     sort: LineSort,
     line: u64,
-    text: &[u8],
     placed: &PlacedTokens<'_>,
 ) -> Result<(), AllocError>
     ensures { OnOk result (Adds out.old out.new
-        (form_text_of (view_part part.now) sort line text.now (view_placed placed.now))) }
+        (form_text_of (view_part part.now) sort line (view_placed placed.now))) }
 {
-    match placed.stray {
-        Some(column) => {
-            push_stray(out, part, line, text, column);
-            Ok(())
-        }
-        None => {
-            let tokens = placed.tokens.as_slice();
-            let place = lost_in(alloc, sort, tokens)?;
-            push_lost_or_line(out, part, sort, line, text, tokens, &place);
-            Ok(())
-        }
+    if let Some(column) = placed.stray {
+        push_stray(out, part, line, column);
+        return Ok(());
+    }
+    let tokens = placed.tokens.as_slice();
+    match lost_in(alloc, sort, tokens)? {
+        Some(place) => push_lost(out, part, sort, line, tokens, &place),
+        None => push_token_spot(out, part, line, None, unlost_advice(sort)),
+    }
+    Ok(())
+}
+
+/// What is advised of a refused line of which each token is as expected.
+fn unlost_advice(sort: LineSort) -> &'static [u8]
+    ensures { result.now ≡ unlost_advice sort }
+{
+    match sort {
+        LineSort::Script => SECOND_CRASH,
+        _ => b"",
     }
 }
 
@@ -179,13 +168,11 @@ pub(crate) fn push_form(
 ) -> Result<(), AllocError>
     ensures { OnOk result (Adds out.old out.new (form_text (view_part part.now) sort line)) }
 {
-    let text = line_of(part.text, line);
-    let placed = placed_tokens(alloc, text)?;
-    push_placed_form(alloc, out, part, sort, line, text, &placed)
+    let placed = placed_tokens(alloc, text_of(part, line))?;
+    push_placed_form(alloc, out, part, sort, line, &placed)
 }
 
 /// Adds a place at a token, where there is one, and what is said of it.
-#[tactic(auto, unfolding(crate::specs::Explanation::token_spot))]
 fn push_token_spot(
     out: &mut Draft,
     part: &Part<'_>,
@@ -196,10 +183,9 @@ fn push_token_spot(
     ensures { Adds out.old out.new
         (token_spot (view_part part.now) line (option_map view_placed_token token.entry) said.now) }
 {
-    let text = line_of(part.text, line);
     match token {
-        Some(token) => push_spot(out, part, line, text, token.column),
-        None => push_line_spot(out, part, line, text),
+        Some(token) => push_spot(out, part, line, token.column),
+        None => push_line_spot(out, part, line),
     }
     out.push(said);
 }
@@ -214,7 +200,7 @@ fn placed_line<'a>(
     ensures { IfOk result (λ tokens. map view_placed_token tokens.items
         ≡ placed_line (view_part part.now) line) }
 {
-    let PlacedTokens { tokens, stray: _ } = placed_tokens(alloc, line_of(part.text, line))?;
+    let PlacedTokens { tokens, stray: _ } = placed_tokens(alloc, text_of(part, line))?;
     Ok(tokens)
 }
 
@@ -272,10 +258,6 @@ pub(crate) fn first_number(alloc: Global, text: &[u8]) -> Result<u64, AllocError
     }
 }
 
-/// What is said where no token of a refused line is found.
-const WRONG: &[u8] =
-    b"a name of another sort stands here, or one that is not declared, or a register, a field or a tuple that this kind of registers has not\n";
-
 /// Adds what is said of a token that is not right.
 fn push_misuse_spot(
     out: &mut Draft,
@@ -290,7 +272,7 @@ fn push_misuse_spot(
 {
     match misuse {
         Some(misuse) => {
-            push_token_spot(out, part, line, Some(misuse.token), b"");
+            push_spot(out, part, line, misuse.token.column);
             push_misuse(out, names, &misuse);
         }
         None => push_token_spot(out, part, line, None, WRONG),
@@ -353,23 +335,24 @@ fn push_uses_spot(
     push_words_spot(alloc, out, part, line, words.as_slice())
 }
 
-/// Adds the place where a name is declared.
-#[tactic(auto, unfolding(crate::specs::Explanation::place_text))]
-fn push_place(out: &mut Draft, name: &[u8], found: Declared<'_>)
-    ensures { Adds out.old out.new (place_text name.now (view_declared found.entry)) }
-{
-    push_said(out, b"`", name, b"`");
-    push_said_number(out, b" is declared in line ", found.line);
-    push_said(out, b" of the listing, as `", found.keyword, b"`\n");
-}
-
 /// Adds where a name is declared.
-fn push_declared(out: &mut Draft, name: &[u8], found: Option<Declared<'_>>)
+fn push_declared<'a>(out: &mut Draft, name: &'a [u8], found: Option<Declared<'a>>)
     ensures { Adds out.old out.new (declared_text name.now (option_map view_declared found.entry)) }
 {
     match found {
-        Some(found) => push_place(out, name, found),
-        None => out.push(b"this name is declared before\n"),
+        Some(found) => push_said(
+            out,
+            &[
+                Said::Text(QUOTE),
+                Said::Text(name),
+                Said::Text(DECLARED_IN),
+                Said::Number(found.line),
+                Said::Text(DECLARED_AS),
+                Said::Text(found.keyword),
+                Said::Text(QUOTE_END),
+            ],
+        ),
+        None => out.push(DECLARED_BEFORE),
     }
 }
 
@@ -409,17 +392,6 @@ fn push_again_spot(
     push_again(alloc, out, part, token)
 }
 
-/// Adds that a number is not above the one before.
-#[tactic(auto, unfolding(crate::specs::Explanation::rising_text))]
-fn push_rising(out: &mut Draft, number: u64, last: Numbered)
-    ensures { Adds out.old out.new (rising_text number last) }
-{
-    push_said_number(out, b"the numbers of lines rise: number ", number);
-    push_said_number(out, b" comes after line ", last.line);
-    push_said_number(out, b" of the listing, which has number ", last.number);
-    out.push(b"\n");
-}
-
 /// The number at a token.
 fn number_at_token(token: Option<PlacedToken<'_>>) -> u64
     ensures { result ≡ number_at_token (option_map view_placed_token token.entry) }
@@ -433,6 +405,25 @@ fn number_at_token(token: Option<PlacedToken<'_>>) -> u64
         ) => number,
         _ => 0,
     }
+}
+
+/// Adds that a number is not above the one before.
+#[tactic(auto, unfolding(crate::specs::Explanation::rising_text))]
+fn push_rising(out: &mut Draft, number: u64, last: Numbered)
+    ensures { Adds out.old out.new (rising_text number last) }
+{
+    push_said(
+        out,
+        &[
+            Said::Text(NUMBERS_RISE),
+            Said::Number(number),
+            Said::Text(COMES_AFTER),
+            Said::Number(last.line),
+            Said::Text(HAS_NUMBER),
+            Said::Number(last.number),
+            Said::Text(LINE_END),
+        ],
+    );
 }
 
 /// Adds what is said of a number that is not above the one before.
@@ -466,7 +457,7 @@ fn push_leading_spot(
     let line = leading_line(alloc, number, part.text)?;
     let tokens = placed_line(alloc, part, line)?;
     let token = first_led(number, tokens.as_slice());
-    push_token_spot(out, part, line, token, b"no line has this number\n");
+    push_token_spot(out, part, line, token, NO_SUCH_LINE);
     Ok(())
 }
 
@@ -498,22 +489,36 @@ fn push_bad_spot(
     Ok(())
 }
 
-/// What is said of a name that may not be declared.
-const BAD_NAME: &[u8] = b"a name has at most eight letters, and is no reserved word\n";
-
-/// Adds what is said of a line that is refused at its first token.
-fn push_first_spot(
+/// Adds what is said of a line that has a name too many, or is one too many.
+fn push_too_many(
     alloc: Global,
     out: &mut Draft,
     part: &Part<'_>,
     line: u64,
+) -> Result<(), AllocError>
+    ensures { OnOk result (Adds out.old out.new (too_many_spot (view_part part.now) line)) }
+{
+    let words = words_before(alloc, line, part.text)?;
+    let tokens = placed_line(alloc, part, line)?;
+    let token = one_too_many(name_count(words.as_slice()), tokens.as_slice());
+    push_token_spot(out, part, line, token, TOO_MANY);
+    Ok(())
+}
+
+/// Adds what is said of a line that is refused at token `index`, from 0.
+fn push_token(
+    alloc: Global,
+    out: &mut Draft,
+    part: &Part<'_>,
+    line: u64,
+    index: usize,
     said: &[u8],
 ) -> Result<(), AllocError>
     ensures { OnOk result (Adds out.old out.new
-        (token_spot (view_part part.now) line (nth_token 0 (placed_line
+        (token_spot (view_part part.now) line (nth_token index (placed_line
         (view_part part.now) line)) said.now)) }
 {
-    let token = token_at(alloc, part, line, 0)?;
+    let token = token_at(alloc, part, line, index)?;
     push_token_spot(out, part, line, token, said);
     Ok(())
 }
@@ -528,9 +533,6 @@ fn push_header(alloc: Global, out: &mut Draft, part: &Part<'_>, line: u64) -> Re
     push_form(alloc, out, part, LineSort::Header(header), line)
 }
 
-/// What is said of a listing with too many names or lines.
-const TOO_MANY: &[u8] = b"a listing has at most 32 names and 200 lines\n";
-
 /// Adds what is said of a refused listing.
 #[tactic(auto, unfolding(crate::specs::Explanation::listing_explained))]
 fn push_listing(
@@ -543,24 +545,19 @@ fn push_listing(
         (listing_explained (view_part part.now) refusal.now)) }
 {
     match refusal {
-        ListingRefusal::TooLong => {
-            out.push(b"the text of a listing has at most 65536 bytes\n");
-            Ok(())
-        }
-        ListingRefusal::BadHeader(line) => push_header(alloc, out, part, *line),
-        ListingRefusal::BadLine(line) => push_form(alloc, out, part, LineSort::Numbered, *line),
-        ListingRefusal::NumberNotRising(line) => push_rising_spot(alloc, out, part, *line),
+        ListingRefusal::TooLong => out.push(LONG_LISTING),
+        ListingRefusal::BadHeader(line) => push_header(alloc, out, part, *line)?,
+        ListingRefusal::BadLine(line) => push_form(alloc, out, part, LineSort::Numbered, *line)?,
+        ListingRefusal::NumberNotRising(line) => push_rising_spot(alloc, out, part, *line)?,
         ListingRefusal::UnknownName(line) | ListingRefusal::WrongKind(line) => {
-            push_uses_spot(alloc, out, part, *line)
+            push_uses_spot(alloc, out, part, *line)?
         }
-        ListingRefusal::NameTwice(line) => push_again_spot(alloc, out, part, *line),
-        ListingRefusal::NoSuchLine(target) => push_leading_spot(alloc, out, part, *target),
-        ListingRefusal::TooMany(line) => {
-            push_token_spot(out, part, *line, None, TOO_MANY);
-            Ok(())
-        }
-        ListingRefusal::BadName(line) => push_bad_spot(alloc, out, part, *line),
+        ListingRefusal::NameTwice(line) => push_again_spot(alloc, out, part, *line)?,
+        ListingRefusal::NoSuchLine(target) => push_leading_spot(alloc, out, part, *target)?,
+        ListingRefusal::TooMany(line) => push_too_many(alloc, out, part, *line)?,
+        ListingRefusal::BadName(line) => push_bad_spot(alloc, out, part, *line)?,
     }
+    Ok(())
 }
 
 /// The sort of the lines behind the shape.
@@ -572,13 +569,6 @@ fn item_sort(layout: Layout) -> LineSort
         _ => LineSort::Item,
     }
 }
-
-/// What is said of a process that is not there.
-const NO_PROCESS: &[u8] = b"the shape has no such process: `shape N W` has processes 1 to N\n";
-
-/// What is said of a shape that does not fit the kind.
-const NO_FIT: &[u8] =
-    b"registers of kind seq and bit have one word for each process: `shape N N`\n";
 
 /// Adds what is said of a refused schedule.
 #[tactic(auto, unfolding(crate::specs::Explanation::schedule_explained))]
@@ -593,64 +583,22 @@ fn push_schedule(
         (schedule_explained layout (view_part part.now) refusal.now)) }
 {
     match refusal {
-        ScheduleRefusal::TooLong => {
-            out.push(b"a schedule has at most 4194304 bytes\n");
-            Ok(())
-        }
+        ScheduleRefusal::TooLong => out.push(LONG_SCHEDULE),
         ScheduleRefusal::BadShape => {
             let line = first_number(alloc, part.text)?;
-            push_form(alloc, out, part, LineSort::Shape, line)
+            push_form(alloc, out, part, LineSort::Shape, line)?
         }
-        ScheduleRefusal::BadItem(line) => push_form(alloc, out, part, item_sort(layout), *line),
-        ScheduleRefusal::TooManyItems(line) => push_first_spot(
-            alloc,
-            out,
-            part,
-            *line,
-            b"a schedule has at most 1000000 items\n",
-        ),
+        ScheduleRefusal::BadItem(line) => push_form(alloc, out, part, item_sort(layout), *line)?,
+        ScheduleRefusal::TooManyItems(line) => push_token(alloc, out, part, *line, 0, ITEMS)?,
         ScheduleRefusal::NoSuchProcess(line) => {
-            push_first_spot(alloc, out, part, *line, NO_PROCESS)
+            push_token(alloc, out, part, *line, 0, NO_PROCESS)?
         }
     }
-}
-
-/// Adds what is said of a shape that does not fit the kind.
-fn push_shape(alloc: Global, out: &mut Draft, part: &Part<'_>) -> Result<(), AllocError>
-    ensures { OnOk result (Adds out.old out.new
-        (token_spot (view_part part.now) (first_number (text_lines part.now.text.now))
-        (nth_token 2 (placed_line (view_part part.now)
-        (first_number (text_lines part.now.text.now)))) NO_FIT.now)) }
-{
-    let line = first_number(alloc, part.text)?;
-    let token = token_at(alloc, part, line, 2)?;
-    push_token_spot(out, part, line, token, NO_FIT);
     Ok(())
 }
 
-/// Adds what is said of refused commands.
-#[tactic(auto, unfolding(crate::specs::Explanation::commands_explained))]
-fn push_commands(
-    alloc: Global,
-    out: &mut Draft,
-    part: &Part<'_>,
-    refusal: &CommandRefusal,
-) -> Result<(), AllocError>
-    ensures { OnOk result (Adds out.old out.new
-        (commands_explained (view_part part.now) refusal.now)) }
-{
-    match refusal {
-        CommandRefusal::BadCommand(line) => push_form(alloc, out, part, LineSort::Command, *line),
-        CommandRefusal::TooLong => {
-            out.push(b"there are at most 10000 commands, in 1048576 bytes\n");
-            Ok(())
-        }
-        _ => Ok(()),
-    }
-}
-
 /// Adds what is said of a refused part.
-#[tactic(auto, unfolding(crate::specs::Explanation::part_explained, crate::specs::Explanation::shape_explained))]
+#[tactic(auto, unfolding(crate::specs::Explanation::part_explained))]
 fn push_part(
     alloc: Global,
     out: &mut Draft,
@@ -664,9 +612,58 @@ fn push_part(
     match refusal {
         Refusal::Listing(refusal) => push_listing(alloc, out, part, refusal),
         Refusal::Schedule(refusal) => push_schedule(alloc, out, layout, part, refusal),
-        Refusal::Words(_) => push_shape(alloc, out, part),
-        Refusal::Commands(refusal) => push_commands(alloc, out, part, refusal),
+        Refusal::Words(_) => {
+            let line = first_number(alloc, part.text)?;
+            push_token(alloc, out, part, line, 2, NO_FIT)
+        }
+        Refusal::Commands(CommandRefusal::BadCommand(line)) => {
+            push_form(alloc, out, part, LineSort::Command, *line)
+        }
+        Refusal::Commands(CommandRefusal::TooLong) => {
+            out.push(LONG_COMMANDS);
+            Ok(())
+        }
         _ => Ok(()),
+    }
+}
+
+/// The rule of listings that is broken.
+fn rule(refusal: &ListingRefusal) -> &'static [u8]
+    ensures { result.now ≡ rule refusal.now }
+{
+    match refusal {
+        ListingRefusal::TooLong => LONG_LISTING,
+        ListingRefusal::BadHeader(_) | ListingRefusal::BadLine(_) => b"",
+        ListingRefusal::NumberNotRising(_) => RISING,
+        ListingRefusal::UnknownName(_) | ListingRefusal::WrongKind(_) => WRONG,
+        ListingRefusal::NameTwice(_) => DECLARED_BEFORE,
+        ListingRefusal::NoSuchLine(_) => NO_SUCH_LINE,
+        ListingRefusal::TooMany(_) => TOO_MANY,
+        ListingRefusal::BadName(_) => BAD_NAME,
+    }
+}
+
+/// Adds what is said of bytes that are no image of a listing.
+fn push_image(out: &mut Draft, refusal: &ImageRefusal)
+    ensures { Adds out.old out.new (image_explained refusal.now) }
+{
+    match refusal {
+        ImageRefusal::BadCode(place) => push_said(
+            out,
+            &[
+                Said::Text(BYTE),
+                Said::Number(*place),
+                Said::Text(NO_CODE),
+                Said::Text(AN_IMAGE),
+            ],
+        ),
+        ImageRefusal::Invalid(broken) => {
+            push_said(out, &[Said::Text(IMAGE_RULE), Said::Text(rule(broken))])
+        }
+        ImageRefusal::NotAnImage
+        | ImageRefusal::Version
+        | ImageRefusal::Truncated
+        | ImageRefusal::Extra => out.push(AN_IMAGE),
     }
 }
 
@@ -683,23 +680,20 @@ fn push_explanation(
 {
     match refusal {
         Refusal::InputTooLong => {
-            out.push(b"an input has at most 16777216 bytes\n");
-            Ok(())
+            out.push(LONG_INPUT);
+            return Ok(());
         }
-        Refusal::WrongParts(_) => {
-            push_parts(alloc, out, layout, input)?;
-            push_order_advice(alloc, out, layout, input, refusal)
+        Refusal::Image(refusal) => {
+            push_image(out, refusal);
+            return Ok(());
         }
-        Refusal::Image(_) => {
-            out.push(b"an image is taken, as `snaplab assemble` writes it\n");
-            Ok(())
-        }
+        Refusal::WrongParts(_) => push_parts(alloc, out, layout, input)?,
         _ => {
             let part = part_place(alloc, layout, input, refusal)?;
-            push_part(alloc, out, layout, &part, refusal)?;
-            push_order_advice(alloc, out, layout, input, refusal)
+            push_part(alloc, out, layout, &part, refusal)?
         }
     }
+    push_order_advice(alloc, out, layout, input, refusal)
 }
 
 /// What is said of a refused input behind the line that refuses it.

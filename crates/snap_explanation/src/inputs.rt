@@ -3,19 +3,27 @@
 ghost use Rattle.std.specs.Prelude.{◌≡◌, IfOk, OnOk, map, option_map, take};
 ghost use Rattle.snap_semantics.specs.Token.{begins_with, lines_of, text_lines};
 ghost use Rattle.snap_draft.specs.Drafted.{Adds};
-ghost use Rattle.snap_input.specs.Parts.{parts_of};
+ghost use Rattle.snap_input.specs.Parts.{ends_part, parts_of};
 ghost use Rattle.snap_text.specs.Tokens.{view_tokens};
 ghost use Rattle.snap_explanation.specs.Inputs.{parts_words, lines_behind, separators};
-ghost use Rattle.snap_explanation.specs.Inputs.{separators_front, some_separators, separator_words};
+ghost use Rattle.snap_explanation.specs.Inputs.{near_separator, near_words, separator_words};
 ghost use Rattle.snap_explanation.specs.Inputs.{parts_explained};
 ghost use Rattle.snap_explanation.specs.Inputs.{first_is, is_front, is_listing, is_schedule};
-ghost use Rattle.snap_explanation.specs.Inputs.{alone_advice, swapped_advice, shipped_advice};
 ghost use Rattle.snap_explanation.specs.Inputs.{first_part_advice, no_listing_advice};
-ghost use Rattle.snap_explanation.specs.Inputs.{formless_line, whole_advice, order_advice};
+ghost use Rattle.snap_explanation.specs.Inputs.{formless_line, whole_advice, swapped_advice};
+ghost use Rattle.snap_explanation.specs.Inputs.{order_advice};
 
 use crate::layout::{Layout, Texts};
+use crate::names::same_word;
 use crate::part::{lines_through, part_at};
-use crate::spot::line_of;
+use crate::said::{Said, push_said};
+use crate::spot::{line_of, split_line};
+use crate::wording::{
+    ALONE, COMMANDS_ALONE, FILES_SWAPPED, LINE, LINE_END, LISTING_AND_COMMANDS,
+    LISTING_AND_SCHEDULE, LISTING_AND_SCHEDULES, LISTING_AND_SCRIPTS, NEAR, NO_LISTING,
+    NO_SEPARATOR, SCHEDULE_ALONE, SCHEDULES_ALONE, SCRIPTS_ALONE, SEPARATORS, SHIPPED, SWAPPED,
+    WHOLE_INPUT,
+};
 use snap_draft::Draft;
 use snap_expected::is_word;
 use snap_input::split_parts;
@@ -25,7 +33,7 @@ use snap_text::{TextLines, Token};
 use std::alloc::{AllocError, Global};
 
 /// The most lines `%` that are told.
-const SEPARATORS: usize = 8;
+const MOST: usize = 8;
 
 /// The parts that an input has, in words.
 fn parts_words(layout: Layout) -> &'static [u8]
@@ -33,24 +41,18 @@ fn parts_words(layout: Layout) -> &'static [u8]
 {
     match layout {
         Layout::Parts(Subject::FirstPart, texts) => match texts {
-            Texts::Schedule => b"2 parts are taken: a listing and a schedule",
-            Texts::ScheduleAndCommands => {
-                b"3 parts are taken: a listing, a schedule and commands"
-            }
-            Texts::Schedules => b"2 to 4097 parts are taken: a listing and schedules",
-            Texts::Scripts => b"2 parts are taken: a listing and scripts",
+            Texts::Schedule => LISTING_AND_SCHEDULE,
+            Texts::ScheduleAndCommands => LISTING_AND_COMMANDS,
+            Texts::Schedules => LISTING_AND_SCHEDULES,
+            Texts::Scripts => LISTING_AND_SCRIPTS,
         },
         Layout::Parts(Subject::Shipped(_), texts) => match texts {
-            Texts::Schedule => b"1 part is taken: a schedule; the listing is shipped",
-            Texts::ScheduleAndCommands => {
-                b"2 parts are taken: a schedule and commands; the listing is shipped"
-            }
-            Texts::Schedules => {
-                b"1 to 4096 parts are taken, which are schedules; the listing is shipped"
-            }
-            Texts::Scripts => b"1 part is taken: scripts; the listing is shipped",
+            Texts::Schedule => SCHEDULE_ALONE,
+            Texts::ScheduleAndCommands => COMMANDS_ALONE,
+            Texts::Schedules => SCHEDULES_ALONE,
+            Texts::Scripts => SCRIPTS_ALONE,
         },
-        _ => b"the whole input is taken",
+        _ => WHOLE_INPUT,
     }
 }
 
@@ -72,36 +74,59 @@ fn lines_behind(alloc: Global, parts: &[&[u8]]) -> Result<Vec<u64>, AllocError>
 fn first_lines(lines: &[u64]) -> &[u64]
     ensures { result.now ≡ take 8 lines.now }
 {
-    &lines[..SEPARATORS.min(lines.len())]
+    &lines[..MOST.min(lines.len())]
 }
 
-/// Adds what stands before the lines `%`.
-#[tactic(auto, unfolding(crate::specs::Inputs::separators_front))]
-fn push_separators_front(out: &mut Draft)
-    ensures { Adds out.old out.new (separators_front) }
-{
-    out.push(b"\nthe lines `%` of the input, the first eight:");
-}
-
-/// Adds the lines `%` of an input, the first ones of them.
-#[tactic(auto, unfolding(crate::specs::Inputs::some_separators))]
-fn push_some_separators(out: &mut Draft, lines: &[u64])
-    ensures { Adds out.old out.new (some_separators lines.now) }
-{
-    push_separators_front(out);
-    out.push_numbers(first_lines(lines));
-    out.push(b"\n");
-}
-
-/// Adds where the lines `%` of an input are.
+/// Adds where the lines `%` of an input are, the first ones of them.
 #[tactic(auto, unfolding(crate::specs::Inputs::separator_words))]
 fn push_separators(out: &mut Draft, lines: &[u64])
     ensures { Adds out.old out.new (separator_words lines.now) }
 {
     if lines.len() == 0 {
-        out.push(b"\nno line of the input is `%` alone\n")
+        out.push(NO_SEPARATOR);
     } else {
-        push_some_separators(out, lines)
+        out.push(SEPARATORS);
+        out.push_numbers(first_lines(lines));
+        out.push(LINE_END);
+    }
+}
+
+/// Whether a line parts an input.
+fn ends_part(line: &[u8]) -> bool
+    ensures { result ≡ ends_part line.now }
+{
+    same_word(line, b"%\n")
+        || same_word(line, b"%\r\n")
+        || same_word(line, b"%")
+        || same_word(line, b"%\r")
+}
+
+/// The number of the first line that begins with `%` and has more; 0 where there is none.
+fn near_separator(input: &[u8]) -> u64
+    ensures { result ≡ near_separator 1 (lines_of input.now) }
+{
+    let mut number = 1;
+    let mut rest = input;
+    while !rest.is_empty() {
+        let (line, after) = split_line(rest);
+        if begins_with(b'%', line) && !ends_part(line) {
+            return number;
+        }
+        number += 1;
+        rest = after;
+    }
+    0
+}
+
+/// Adds which line is nearly `%` alone, where one is.
+fn push_near(out: &mut Draft, number: u64)
+    ensures { Adds out.old out.new (near_words number) }
+{
+    if number > 0 {
+        push_said(
+            out,
+            &[Said::Text(LINE), Said::Number(number), Said::Text(NEAR)],
+        );
     }
 }
 
@@ -127,6 +152,7 @@ pub fn push_parts(
     let lines = lines.as_slice();
     out.push(parts_words(layout));
     push_separators(out, &lines[..lines.len().saturating_sub(1)]);
+    push_near(out, near_separator(input));
     Ok(())
 }
 
@@ -164,22 +190,6 @@ fn is_schedule(alloc: Global, text: &[u8]) -> Result<bool, AllocError>
 {
     is_front(alloc, b"shape", text)
 }
-
-/// What takes a listing alone, and what takes a schedule too.
-const ALONE: &[u8] =
-    b"check, lint and assemble take a listing alone; run, trace, debug, audit, certify, batch and survey take a schedule behind it, after a line `%`\n";
-
-/// What is said of parts that are swapped.
-const SWAPPED: &[u8] =
-    b"the parts are swapped: the listing comes first, and the schedule behind it\n";
-
-/// How a schedule stands alone.
-const SHIPPED: &[u8] =
-    b"this is the front of a schedule: with `--shipped KIND` the input has no listing\n";
-
-/// What is said of a listing where one is shipped.
-const NO_LISTING: &[u8] =
-    b"this is the front of a listing: with `--shipped KIND` the input has none\n";
 
 /// What is said where the first part is to be a listing.
 fn first_part_advice(alloc: Global, parts: &[&[u8]]) -> Result<&'static [u8], AllocError>
@@ -241,6 +251,13 @@ fn whole_advice(
     }
 }
 
+/// What is said of a named file with the front of another part.
+fn swapped_advice(swapped: bool) -> &'static [u8]
+    ensures { result.now ≡ swapped_advice swapped }
+{
+    if swapped { FILES_SWAPPED } else { b"" }
+}
+
 /// What is said of a part that stands in another one's place.
 #[tactic(auto, unfolding(crate::specs::Inputs::order_advice))]
 fn order_advice(
@@ -253,6 +270,12 @@ fn order_advice(
 {
     match (layout, refusal) {
         (Layout::Listing, Refusal::Listing(refusal)) => whole_advice(alloc, input, refusal),
+        (Layout::NamedListing, Refusal::Listing(_)) => {
+            Ok(swapped_advice(is_schedule(alloc, input)?))
+        }
+        (Layout::NamedSchedule, Refusal::Schedule(_)) => {
+            Ok(swapped_advice(is_listing(alloc, input)?))
+        }
         (Layout::Parts(Subject::FirstPart, _), Refusal::Listing(_) | Refusal::WrongParts(_)) => {
             let parts = split_parts(alloc, input)?;
             first_part_advice(alloc, parts.as_slice())

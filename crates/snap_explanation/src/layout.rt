@@ -20,6 +20,10 @@ pub enum Texts {
 pub enum Layout {
     /// The text of a listing.
     Listing,
+    /// The text of a listing in a file that is named before that of a schedule.
+    NamedListing,
+    /// A schedule in a file that is named behind that of a listing.
+    NamedSchedule,
     /// An image.
     Image,
     /// A history.

@@ -6,19 +6,23 @@ ghost use Rattle.snap_text.specs.Tokens.{view_token};
 ghost use Rattle.snap_draft.specs.Drafted.{Adds};
 ghost use Rattle.snap_expected.specs.Steps.{view_placed_token};
 ghost use Rattle.snap_explanation.specs.Misuse.{is_right, step_at, first_wrong, wrong_in_line};
-ghost use Rattle.snap_explanation.specs.Misuse.{letters_of, sort_words, declared_words, usage};
-ghost use Rattle.snap_explanation.specs.Misuse.{some_name, some_words, name_text};
-ghost use Rattle.snap_explanation.specs.Misuse.{banks_words, fields_words, tuple_words, lack_text};
-ghost use Rattle.snap_explanation.specs.Misuse.{bank_text, field_text, tuple_text, misuse_text};
+ghost use Rattle.snap_explanation.specs.Misuse.{sort_words, declared_words, usage, some_name};
+ghost use Rattle.snap_explanation.specs.Misuse.{some_words, name_text, banks_words, fields_words};
+ghost use Rattle.snap_explanation.specs.Misuse.{tuple_words, lack_text, misuse_text};
 ghost use Rattle.snap_explanation.specs.Names.{tokens_of_placed};
 ghost use Rattle.snap_explanation.specs.Views.{view_names, view_use, view_misuse};
 ghost use Rattle.snap_explanation.specs.declared.token_uses.Slot.TheVariants.{Value};
 
-use crate::advice::push_advice;
-use crate::names::nearest;
-use crate::said::push_said;
+use crate::names::{letters_of, nearest};
+use crate::said::{Said, push_said};
 use crate::sorts::{Names, is_sort, of_sort, sort_of};
 use crate::token_uses::{Slot, Use, slot_after, use_at};
+use crate::wording::{
+    A_LIST, A_ROW, A_SCALAR, A_VIEW, ARE, BELONGS, BIT_BANKS, BIT_FIELDS, BIT_TUPLE, HAVE, IS,
+    IS_A, IS_ONE, MULTI_BANKS, MULTI_FIELDS, MULTI_TUPLE, NONE_DECLARED, NOT_DECLARED, QUOTE,
+    QUOTE_END, REGISTERS_OF, ROW_USE, SEQ_BANKS, SEQ_FIELDS, SEQ_TUPLE, TUPLE_OF, VIEW_USE, WHILE,
+    WORDS_OF, WORDS_USE,
+};
 use snap_draft::Draft;
 use snap_expected::PlacedToken;
 use snap_listing_forms::line_form;
@@ -126,25 +130,15 @@ pub fn wrong_in_line<'a>(
     }
 }
 
-/// The letters of a word.
-pub fn letters_of<'a>(token: &Token<'a>) -> &'a [u8]
-    ensures { result.now ≡ letters_of (view_token token.now) }
-{
-    match *token {
-        Token::Identifier(word) => word,
-        _ => b"",
-    }
-}
-
 /// What a name of a sort is.
 fn sort_words(sort: Sort) -> &'static [u8]
     ensures { result.now ≡ sort_words sort }
 {
     match sort {
-        Sort::Scalar => b"a scalar",
-        Sort::Row => b"a row",
-        Sort::Words => b"a list of words",
-        Sort::View => b"a view",
+        Sort::Scalar => A_SCALAR,
+        Sort::Row => A_ROW,
+        Sort::Words => A_LIST,
+        Sort::View => A_VIEW,
     }
 }
 
@@ -154,7 +148,7 @@ fn declared_words(found: Option<Sort>) -> &'static [u8]
 {
     match found {
         Some(sort) => sort_words(sort),
-        None => b"not declared",
+        None => NOT_DECLARED,
     }
 }
 
@@ -163,11 +157,9 @@ fn usage(found: Option<Sort>) -> &'static [u8]
     ensures { result.now ≡ usage found }
 {
     match found {
-        Some(Sort::Row) => b"a number of a row is `R[I]`",
-        Some(Sort::Words) => {
-            b"a field of a word is `data(W[I])`; `get W[I] = r[J]` reads a word"
-        }
-        Some(Sort::View) => b"a view is set by `view S = ..` or `look S = ..`",
+        Some(Sort::Row) => ROW_USE,
+        Some(Sort::Words) => WORDS_USE,
+        Some(Sort::View) => VIEW_USE,
         _ => b"",
     }
 }
@@ -188,8 +180,11 @@ fn push_some(out: &mut Draft, name: Option<&[u8]>)
     ensures { Adds out.old out.new (some_words (option_map (λ w. w.now) name.entry)) }
 {
     match name {
-        Some(name) => push_said(out, b" belongs here: `", name, b"` is one\n"),
-        None => out.push(b" belongs here: none is declared\n"),
+        Some(name) => push_said(
+            out,
+            &[Said::Text(BELONGS), Said::Text(name), Said::Text(IS_ONE)],
+        ),
+        None => out.push(NONE_DECLARED),
     }
 }
 
@@ -204,10 +199,19 @@ fn push_name_text(
 )
     ensures { Adds out.old out.new (name_text (view_names names.now) word.now wanted found) }
 {
-    push_said(out, b"`", word, b"` is ");
-    push_said(out, declared_words(found), b"; ", sort_words(wanted));
+    push_said(
+        out,
+        &[
+            Said::Text(QUOTE),
+            Said::Text(word),
+            Said::Text(IS),
+            Said::Text(declared_words(found)),
+            Said::Text(WHILE),
+            Said::Text(sort_words(wanted)),
+        ],
+    );
     push_some(out, some_name(word, of_sort(names, wanted)));
-    push_advice(out, usage(found));
+    out.push(usage(found));
 }
 
 /// The name of a kind.
@@ -226,9 +230,9 @@ fn banks_words(kind: KindTag) -> &'static [u8]
     ensures { result.now ≡ banks_words kind }
 {
     match kind {
-        KindTag::Seq => b"`r[I]`, written as in `put r[I] = (value, number, view)`; there is no `",
-        KindTag::Bits => b"`r[I]` and `q[I,J]`; there is no `",
-        KindTag::Multi => b"`r[I]`, `q[I,J]`, `p[I,J]` and `v[I]`; there is no `",
+        KindTag::Seq => SEQ_BANKS,
+        KindTag::Bits => BIT_BANKS,
+        KindTag::Multi => MULTI_BANKS,
     }
 }
 
@@ -237,9 +241,9 @@ fn fields_words(kind: KindTag) -> &'static [u8]
     ensures { result.now ≡ fields_words kind }
 {
     match kind {
-        KindTag::Seq => b"`data`, `seq` and `view`, and no `",
-        KindTag::Bits => b"`data`, `hand`, `toggle` and `view`, and no `",
-        KindTag::Multi => b"`data`, `id` and `toggle`, and no `",
+        KindTag::Seq => SEQ_FIELDS,
+        KindTag::Bits => BIT_FIELDS,
+        KindTag::Multi => MULTI_FIELDS,
     }
 }
 
@@ -248,48 +252,34 @@ fn tuple_words(kind: KindTag) -> &'static [u8]
     ensures { result.now ≡ tuple_words kind }
 {
     match kind {
-        KindTag::Seq => b"`(value, number, view)`, where the view is a name alone\n",
-        KindTag::Bits => {
-            b"`(value, row, toggle, view)`, where the row and the view are names alone\n"
-        }
-        KindTag::Multi => b"`(value, id, toggle)`\n",
+        KindTag::Seq => SEQ_TUPLE,
+        KindTag::Bits => BIT_TUPLE,
+        KindTag::Multi => MULTI_TUPLE,
     }
 }
 
 /// Adds what registers or words of a kind are or have, and that they have not what a word says.
-#[tactic(auto, unfolding(crate::specs::Misuse::lack_text))]
-fn push_lack(out: &mut Draft, front: &[u8], name: &[u8], middle: &[u8], have: &[u8], word: &[u8])
+fn push_lack<'a>(
+    out: &mut Draft,
+    front: &'a [u8],
+    name: &'a [u8],
+    middle: &'a [u8],
+    have: &'a [u8],
+    word: &'a [u8],
+)
     ensures { Adds out.old out.new (lack_text front.now name.now middle.now have.now word.now) }
 {
-    push_said(out, front, name, middle);
-    push_said(out, have, word, b"`\n");
-}
-
-/// Adds that registers of a kind have no such bank.
-fn push_bank_text(out: &mut Draft, kind: KindTag, word: &[u8])
-    ensures { Adds out.old out.new (bank_text kind word.now) }
-{
-    let name = kind_keyword(kind);
-    let have = banks_words(kind);
-    push_lack(out, b"registers of kind ", name, b" are ", have, word);
-}
-
-/// Adds that words of a kind have no such field.
-fn push_field_text(out: &mut Draft, kind: KindTag, word: &[u8])
-    ensures { Adds out.old out.new (field_text kind word.now) }
-{
-    let name = kind_keyword(kind);
-    let have = fields_words(kind);
-    push_lack(out, b"words of kind ", name, b" have ", have, word);
-}
-
-/// Adds what the tuple of a kind is.
-#[tactic(auto, unfolding(crate::specs::Misuse::tuple_text))]
-fn push_tuple_text(out: &mut Draft, kind: KindTag)
-    ensures { Adds out.old out.new (tuple_text kind) }
-{
-    push_said(out, b"a tuple of kind ", kind_keyword(kind), b" is ");
-    out.push(tuple_words(kind));
+    push_said(
+        out,
+        &[
+            Said::Text(front),
+            Said::Text(name),
+            Said::Text(middle),
+            Said::Text(have),
+            Said::Text(word),
+            Said::Text(QUOTE_END),
+        ],
+    );
 }
 
 /// Adds what is said of a token that is not right.
@@ -297,12 +287,23 @@ pub fn push_misuse(out: &mut Draft, names: &Names<'_>, misuse: &Misuse<'_>)
     ensures { Adds out.old out.new (misuse_text (view_names names.now) (view_misuse misuse.now)) }
 {
     let word = letters_of(&misuse.token.token);
+    let kind = kind_keyword(names.kind);
     match misuse.spoken {
         Use::Named(wanted, name) => {
             push_name_text(out, names, word, wanted, sort_of(names, name))
         }
-        Use::Bank(_) => push_bank_text(out, names.kind, word),
-        Use::Tuple(_) => push_tuple_text(out, names.kind),
-        Use::Field(_) | Use::Handshake | Use::View => push_field_text(out, names.kind, word),
+        Use::Bank(_) => push_lack(out, REGISTERS_OF, kind, ARE, banks_words(names.kind), word),
+        Use::Tuple(_) => push_said(
+            out,
+            &[
+                Said::Text(TUPLE_OF),
+                Said::Text(kind),
+                Said::Text(IS_A),
+                Said::Text(tuple_words(names.kind)),
+            ],
+        ),
+        Use::Field(_) | Use::Handshake | Use::View => {
+            push_lack(out, WORDS_OF, kind, HAVE, fields_words(names.kind), word)
+        }
     }
 }

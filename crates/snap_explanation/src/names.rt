@@ -6,21 +6,26 @@ ghost use Rattle.snap_semantics.specs.Token.{text_lines};
 ghost use Rattle.snap_text.specs.Tokens.{view_token, view_tokens};
 ghost use Rattle.snap_expected.specs.Steps.{view_placed_token};
 ghost use Rattle.snap_explanation.specs.Names.{words_of, words_of_line, words_before, is_among};
-ghost use Rattle.snap_explanation.specs.Names.{nth_token, first_such, is_bad, first_again};
-ghost use Rattle.snap_explanation.specs.Names.{declared_in, declared_at, front_number, last_before};
+ghost use Rattle.snap_explanation.specs.Names.{letters_of, nth_token, first_such, is_bad};
+ghost use Rattle.snap_explanation.specs.Names.{first_again};
+ghost use Rattle.snap_explanation.specs.Names.{name_count, one_too_many, declared_in, declared_at};
+ghost use Rattle.snap_explanation.specs.Names.{front_number, last_before};
 ghost use Rattle.snap_explanation.specs.Names.{common_len, is_same_later, is_near, nearest};
 ghost use Rattle.snap_explanation.specs.Names.{is_leading, is_number, number_there, first_led};
 ghost use Rattle.snap_explanation.specs.Names.{begins_with_number, leads_to, line_leads_to};
 ghost use Rattle.snap_explanation.specs.Names.{leading_line};
 ghost use Rattle.snap_explanation.specs.Views.{view_declared};
 
-use snap_expected::{PlacedToken, is_word};
+use snap_expected::{PlacedToken, is_identifier, is_word};
 use snap_listing_rules::is_reserved;
 use snap_text::{TextLines, Token};
 use std::alloc::{AllocError, Global};
 
 /// How many header lines a listing has.
 const HEADER_LINES: usize = 7;
+
+/// The least number of names that is too many.
+const TOO_MANY: usize = 33;
 
 /// The most letters of a name.
 const NAME_LETTERS: usize = 8;
@@ -60,6 +65,16 @@ fn push_words<'a>(words: &mut Vec<&'a [u8]>, tokens: &[Token<'a>]) -> Result<(),
         rest = behind;
     }
     Ok(())
+}
+
+/// The letters of a word.
+pub fn letters_of<'a>(token: &Token<'a>) -> &'a [u8]
+    ensures { result.now ≡ letters_of (view_token token.now) }
+{
+    match *token {
+        Token::Identifier(word) => word,
+        _ => b"",
+    }
 }
 
 /// Token `index`, from 0.
@@ -145,6 +160,40 @@ pub fn first_again<'a>(
         rest = behind;
     }
     Ok(None)
+}
+
+/// How many of the words of header lines are names.
+pub fn name_count(words: &[&[u8]]) -> usize
+    ensures value { result ≡ name_count (map (λ w. w.now) words.now) }
+    ensures within { result ≤ length words.now }
+{
+    let mut count = 0;
+    let mut rest = words;
+    while let [first, behind @ ..] = rest {
+        if !is_reserved(first) {
+            count += 1;
+        }
+        rest = behind;
+    }
+    count
+}
+
+/// The first name too many of a header line, with so many names before the line; the number of
+/// another line.
+pub fn one_too_many<'a>(count: usize, tokens: &[PlacedToken<'a>]) -> Option<PlacedToken<'a>>
+    ensures { option_map view_placed_token result
+        ≡ one_too_many count (map view_placed_token tokens.now) }
+{
+    match tokens {
+        [] => None,
+        [first, ..] => {
+            if is_identifier(&first.token) {
+                nth_token(TOO_MANY.saturating_sub(count), tokens)
+            } else {
+                Some(*first)
+            }
+        }
+    }
 }
 
 /// A line with a name, and the word that begins the line.

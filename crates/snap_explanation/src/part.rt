@@ -4,7 +4,8 @@ ghost use Rattle.std.specs.Prelude.{◌≡◌, ◌≤◌, ◌<◌, ◌^◌, ◌+
 ghost use Rattle.snap_input.specs.Input.{texts_for};
 ghost use Rattle.snap_input.specs.Parts.{part};
 ghost use Rattle.snap_semantics.specs.Schedule.{schedule_of};
-ghost use Rattle.snap_explanation.specs.Part.{part_place, part_place_in, first_text, text_index};
+ghost use Rattle.snap_explanation.specs.Part.{whole_part, part_place, part_place_in, first_text};
+ghost use Rattle.snap_explanation.specs.Part.{text_index};
 ghost use Rattle.snap_explanation.specs.Part.{text_name, lines_through, lines_before};
 ghost use Rattle.snap_explanation.specs.Part.{refused_schedule, is_taken};
 ghost use Rattle.snap_explanation.specs.Views.{view_part};
@@ -180,6 +181,17 @@ fn part_place_in<'a>(
     })
 }
 
+/// An input without parts.
+fn whole_part(name: PartName, input: &[u8]) -> Part<'_>
+    ensures { view_part result ≡ whole_part name input.now }
+{
+    Part {
+        name,
+        before: 0,
+        text: input,
+    }
+}
+
 /// The part of an input that is refused.
 pub fn part_place<'a>(
     alloc: Global,
@@ -194,10 +206,7 @@ pub fn part_place<'a>(
             let parts = split_parts(alloc, input)?;
             part_place_in(alloc, subject, texts, refusal, parts.as_slice())
         }
-        _ => Ok(Part {
-            name: PartName::Listing,
-            before: 0,
-            text: input,
-        }),
+        Layout::NamedSchedule => Ok(whole_part(PartName::Schedule, input)),
+        _ => Ok(whole_part(PartName::Listing, input)),
     }
 }

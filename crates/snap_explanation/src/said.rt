@@ -1,24 +1,90 @@
-//! Texts put together.
+//! `Said`: a piece of an explanation.
 ghost use Rattle.snap_draft.specs.Drafted.{Adds};
-ghost use Rattle.snap_explanation.specs.Said.{said, said_number};
+ghost use Rattle.snap_explanation.specs.Said.{shown_byte, shown, said_cut, said_text, said};
+ghost use Rattle.std.specs.Prelude.{◌≡◌, replicate};
 
+use crate::spot::front;
+use crate::wording::CUT;
 use snap_draft::Draft;
 
-/// Adds three pieces, one behind the other.
-#[tactic(auto, unfolding(crate::specs::Said::said))]
-pub fn push_said(out: &mut Draft, one: &[u8], two: &[u8], three: &[u8])
-    ensures { Adds out.old out.new (said one.now two.now three.now) }
-{
-    out.push(one);
-    out.push(two);
-    out.push(three);
+/// The most bytes of a piece that are shown.
+const PIECE: usize = 40;
+
+/// A piece of an explanation.
+#[derive(Clone, Copy)]
+pub enum Said<'a> {
+    /// Words of `wording`, or a name.
+    Text(&'a [u8]),
+    /// Bytes of the input, as they are shown.
+    Shown(&'a [u8]),
+    /// A piece of a line, as it is shown: its first bytes, and a sign where there are more.
+    Piece(&'a [u8]),
+    Number(u64),
+    /// So many spaces.
+    Spaces(usize),
 }
 
-/// Adds a number behind a piece.
-#[tactic(auto, unfolding(crate::specs::Said::said_number))]
-pub fn push_said_number(out: &mut Draft, piece: &[u8], number: u64)
-    ensures { Adds out.old out.new (said_number piece.now number) }
+/// A byte as it is shown.
+fn shown_byte(byte: u8) -> u8
+    ensures { result ≡ shown_byte byte }
 {
-    out.push(piece);
-    out.push_number(number);
+    if b' ' <= byte && byte <= b'~' {
+        byte
+    } else if byte == b'\t' || byte == b'\r' {
+        b' '
+    } else {
+        b'?'
+    }
+}
+
+/// Adds bytes as they are shown.
+fn push_shown(out: &mut Draft, bytes: &[u8])
+    ensures { Adds out.old out.new (shown bytes.now) }
+{
+    for byte in bytes {
+        out.push(&[shown_byte(*byte)]);
+    }
+}
+
+/// Adds spaces.
+fn push_spaces(out: &mut Draft, count: usize)
+    ensures { Adds out.old out.new (replicate count 32) }
+{
+    let mut left = count;
+    while left > 0 {
+        out.push(b" ");
+        left -= 1;
+    }
+}
+
+/// Adds a piece of a line as it is shown.
+fn push_cut(out: &mut Draft, bytes: &[u8])
+    ensures { Adds out.old out.new (said_cut bytes.now) }
+{
+    push_shown(out, front(bytes, PIECE));
+    if bytes.len() > PIECE {
+        out.push(CUT);
+    }
+}
+
+/// Adds a piece.
+fn push_piece(out: &mut Draft, piece: Said<'_>)
+    ensures { Adds out.old out.new (said_text piece.entry) }
+{
+    match piece {
+        Said::Text(text) => out.push(text),
+        Said::Shown(bytes) => push_shown(out, bytes),
+        Said::Piece(bytes) => push_cut(out, bytes),
+        Said::Number(number) => out.push_number(number),
+        Said::Spaces(count) => push_spaces(out, count),
+    }
+}
+
+/// Adds pieces, one behind the other.
+pub fn push_said(out: &mut Draft, pieces: &[Said<'_>])
+    ensures { Adds out.old out.new (said pieces.now) }
+{
+    for piece in pieces {
+        push_piece(out, *piece);
+    }
 }

@@ -4,7 +4,13 @@ ghost use Rattle.snap_draft.specs.Drafted.{Adds};
 ghost use Rattle.snap_explanation.specs.Texts.{symbol_words, keyword_words, wanted_words};
 ghost use Rattle.snap_explanation.specs.Texts.{expected_words, found_words, expected_line};
 
-use crate::spot::push_shown;
+use crate::said::{Said, push_said};
+use crate::wording::{
+    ACT, AND_ALONE, AND_OR, BEHIND_NAME, BEHIND_THIRD, BIT, COMMAND, COMPARISON, COUNT,
+    END_OF_LINE, EXPECTED, FOUND, INDEX, INDEX_OR_PLACE, INSTRUCTION, KIND_NAME, LINE_END,
+    LINE_NUMBER, NAME, NUMBER, OPEN_BRACKET, OR, OR_ALONE, PLUS, POSITIVE, QUOTE, QUOTE_END, RANGE,
+    REGISTER, RELATION, SCRIPT_ACT, SHOWN, TEST, TUPLE, TURN, VALUE, VIEW_SOURCE, WHERE,
+};
 use snap_draft::Draft;
 use snap_expected::{Keyword, Wanted, may_pass};
 use snap_semantics::{Join, Symbol};
@@ -53,36 +59,37 @@ fn wanted_words(wanted: Wanted) -> &'static [u8]
     match wanted {
         Wanted::Symbol(symbol) => symbol_words(symbol),
         Wanted::Keyword(keyword) => keyword_words(keyword),
-        Wanted::Number => b"a number",
-        Wanted::LineNumber => b"a line number, 1 to 9999",
-        Wanted::Count => b"a number, 1 to 64",
-        Wanted::Positive => b"a number, at least 1",
-        Wanted::Turn => b"a number of turns, 1 to 1000000",
-        Wanted::Name | Wanted::Names => b"a name",
-        Wanted::Index(_) => b"an index: a number, a name, `n`, `w`, `me` or `word`",
-        Wanted::Range => b"`n` or `w`",
-        Wanted::Relation => b"`=`, `!=` or `<`",
-        Wanted::KindName => b"`seq`, `bit` or `multi`",
-        Wanted::Instruction => b"an instruction",
-        Wanted::Term(_) | Wanted::Expr(_) | Wanted::SecondPart => b"a value",
-        Wanted::PlaceOption(_) => b"`[`",
-        Wanted::SumOption(_) => b"`+`",
-        Wanted::Condition(_) => b"a comparison",
-        Wanted::FirstJoin(_) => b"`and` or `or`",
-        Wanted::SecondJoin(Join::And, _) | Wanted::ThirdJoin(Join::And, _) => b"`and`",
-        Wanted::SecondJoin(Join::Or, _) | Wanted::ThirdJoin(Join::Or, _) => b"`or`",
-        Wanted::WhereOption => b"`where`",
-        Wanted::Target | Wanted::Register => b"`r`, `q`, `p` or `v`",
-        Wanted::Bit => b"`q` or `p`",
-        Wanted::Tuple => b"`(`",
-        Wanted::BehindName => b"`,`, `+` or `[`",
-        Wanted::BehindThird => b"`,` or `)`",
-        Wanted::ViewSource => b"`data` or `view`",
-        Wanted::Test => b"a comparison or `all`",
-        Wanted::Act => b"`*`, `scan`, `update` or `crash`",
-        Wanted::ScriptAct => b"`scan`, `update` or `crash`",
-        Wanted::Command => b"a command",
-        Wanted::Shown => b"`r`, `q`, `p`, `v` or a process",
+        Wanted::Number => NUMBER,
+        Wanted::LineNumber => LINE_NUMBER,
+        Wanted::Count => COUNT,
+        Wanted::Positive => POSITIVE,
+        Wanted::Turn => TURN,
+        Wanted::Name | Wanted::Names => NAME,
+        Wanted::Index(false) => INDEX,
+        Wanted::Index(true) => INDEX_OR_PLACE,
+        Wanted::Range => RANGE,
+        Wanted::Relation => RELATION,
+        Wanted::KindName => KIND_NAME,
+        Wanted::Instruction => INSTRUCTION,
+        Wanted::Term(_) | Wanted::Expr(_) | Wanted::SecondPart => VALUE,
+        Wanted::PlaceOption(_) => OPEN_BRACKET,
+        Wanted::SumOption(_) => PLUS,
+        Wanted::Condition(_) => COMPARISON,
+        Wanted::FirstJoin(_) => AND_OR,
+        Wanted::SecondJoin(Join::And, _) | Wanted::ThirdJoin(Join::And, _) => AND_ALONE,
+        Wanted::SecondJoin(Join::Or, _) | Wanted::ThirdJoin(Join::Or, _) => OR_ALONE,
+        Wanted::WhereOption => WHERE,
+        Wanted::Target | Wanted::Register => REGISTER,
+        Wanted::Bit => BIT,
+        Wanted::Tuple => TUPLE,
+        Wanted::BehindName => BEHIND_NAME,
+        Wanted::BehindThird => BEHIND_THIRD,
+        Wanted::ViewSource => VIEW_SOURCE,
+        Wanted::Test => TEST,
+        Wanted::Act => ACT,
+        Wanted::ScriptAct => SCRIPT_ACT,
+        Wanted::Command => COMMAND,
+        Wanted::Shown => SHOWN,
     }
 }
 
@@ -96,10 +103,10 @@ fn push_expected(out: &mut Draft, wanted: &[Wanted])
         if !may_pass(*first) {
             return;
         }
-        out.push(b", or ");
+        out.push(OR);
         rest = behind;
     }
-    out.push(b"the end of the line");
+    out.push(END_OF_LINE);
 }
 
 /// Adds what stands at a place.
@@ -107,12 +114,25 @@ fn push_found(out: &mut Draft, piece: &[u8])
     ensures { Adds out.old out.new (found_words piece.now) }
 {
     if piece.is_empty() {
-        out.push(b"the end of the line");
-        return;
+        push_said(
+            out,
+            &[
+                Said::Text(FOUND),
+                Said::Text(END_OF_LINE),
+                Said::Text(LINE_END),
+            ],
+        );
+    } else {
+        push_said(
+            out,
+            &[
+                Said::Text(FOUND),
+                Said::Text(QUOTE),
+                Said::Piece(piece),
+                Said::Text(QUOTE_END),
+            ],
+        );
     }
-    out.push(b"`");
-    push_shown(out, piece);
-    out.push(b"`");
 }
 
 /// Adds what was expected at a place, and what stands there.
@@ -120,9 +140,7 @@ fn push_found(out: &mut Draft, piece: &[u8])
 pub fn push_expected_line(out: &mut Draft, wanted: &[Wanted], piece: &[u8])
     ensures { Adds out.old out.new (expected_line wanted.now piece.now) }
 {
-    out.push(b"expected ");
+    out.push(EXPECTED);
     push_expected(out, wanted);
-    out.push(b"; found ");
     push_found(out, piece);
-    out.push(b"\n");
 }

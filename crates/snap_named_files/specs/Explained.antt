@@ -14,10 +14,9 @@ use Rattle.snap_named_files.specs.Texts.{Read, OfFiles, OfShipped}
 abbrev pub schedule_alone : Layout
 schedule_alone = layout.Parts (subject.Shipped Seq) parts.Schedule
 
--- what explains a refusal: of a listing what `snaplab check` says, and else what `snaplab run` says of the schedule for
--- a shipped listing; of a file that is too long no text was read
+-- what explains a refusal: of a listing, or else of the schedule; of a file that is too long no text was read
 abbrev pub explanation_in : Option Read → Refusal → List ℕ
 explanation_in None r = explanation schedule_alone [] r
-explanation_in (Some (OfFiles l s)) (refusal.Listing r) = explanation layout.Listing l (refusal.Listing r)
-explanation_in (Some (OfFiles l s)) r = explanation schedule_alone s r
+explanation_in (Some (OfFiles l s)) (refusal.Listing r) = explanation layout.NamedListing l (refusal.Listing r)
+explanation_in (Some (OfFiles l s)) r = explanation layout.NamedSchedule s r
 explanation_in (Some (OfShipped kind s)) r = explanation schedule_alone s r

@@ -20,9 +20,9 @@ fn schedule_alone() -> Layout
     )
 }
 
-/// Returns what explains why one of these texts is refused, or why none was read: of a listing what
-/// `snaplab check --explain` says, and else what `snaplab run --shipped KIND --explain` says of the
-/// schedule.
+/// Returns what explains why one of these texts is refused, or why none was read: of the listing, or
+/// else of the schedule. Of a shipped listing's schedule it is what `snaplab run --shipped KIND
+/// --explain` says.
 ///
 /// # Errors
 ///
@@ -38,10 +38,10 @@ pub fn explanation_in(
     match (texts, refusal) {
         (None, _) => explanation(alloc, schedule_alone(), b"", refusal),
         (Some(Texts::Files(listing, _)), Refusal::Listing(_)) => {
-            explanation(alloc, Layout::Listing, listing.as_slice(), refusal)
+            explanation(alloc, Layout::NamedListing, listing.as_slice(), refusal)
         }
         (Some(Texts::Files(_, schedule)), _) => {
-            explanation(alloc, schedule_alone(), schedule.as_slice(), refusal)
+            explanation(alloc, Layout::NamedSchedule, schedule.as_slice(), refusal)
         }
         (Some(Texts::Shipped(_, schedule)), _) => {
             explanation(alloc, schedule_alone(), schedule.as_slice(), refusal)

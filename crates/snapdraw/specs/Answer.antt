@@ -33,7 +33,7 @@ Writes (Ok done) wanted sink sink_after =
 Writes (Err fault.Memory) wanted sink sink_after = sink ≡ sink_after
 Writes (Err (fault.Write n)) wanted sink sink_after =
     (text : List ℕ) × (wanted ≡ Ok text)
-    × ((u : Unsent) × (n ≡ u.count) × Sends {E = Unsent} unsent (Err u) text sink sink_after)
+    × ((u : Unsent) × Sends {E = Unsent} unsent (Err u) text sink sink_after × (n ≡ u.count))
 Writes (Err f) wanted sink sink_after = (wanted ≡ Err f) × (sink ≡ sink_after)
 
 -- What is said behind the line of a refusal, where refusals are explained. Of a fault that is no refusal of a text,

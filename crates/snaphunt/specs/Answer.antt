@@ -39,7 +39,7 @@ Prints a came (Ok h) sink sink_after =
     (came ≡ Ok h) × ((u : Result (Unit {0}) Unsent) × (u ≡ Ok tt) × Sends unsent u (hunted_text a h) sink sink_after)
 Prints a came (Err (fault.Write n)) sink sink_after =
     (h : Hunted) × (came ≡ Ok h)
-    × ((u : Unsent) × (n ≡ u.count) × Sends {E = Unsent} unsent (Err u) (hunted_text a h) sink sink_after)
+    × ((u : Unsent) × Sends {E = Unsent} unsent (Err u) (hunted_text a h) sink sink_after × (n ≡ u.count))
 Prints a came (Err fault.Memory) sink sink_after = sink ≡ sink_after
 Prints a came (Err f) sink sink_after = (came ≡ Err f) × (sink ≡ sink_after)
 

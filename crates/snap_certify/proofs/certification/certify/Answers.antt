@@ -7,7 +7,7 @@ use Rattle.snap_runs.specs.Linearization.{IsLinearizable}
 use Rattle.snap_certification.specs.Certificate.{IsCertificate}
 use Rattle.snap_certification.specs.Certification.{Evidence, certificate_of, certification_of}
 use Rattle.snap_certification.specs.Certification.{seen_certification, write_line}
-use Rattle.snap_certify.proofs.Replaying.{has_certificate, has_order, ok_then}
+use Rattle.snap_certify.proofs.Worth.{has_certificate, has_order, ok_then}
 use Rattle.snap_certify.proofs.certification.certify.Goals as goal
 
 pub returns-clause-certificate : goal.returns-clause-certificate

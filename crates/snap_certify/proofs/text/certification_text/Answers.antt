@@ -7,7 +7,7 @@ use Rattle.snap_run_judge.specs.RunJudgement.{IsRunJudgement, most_configuration
 use Rattle.snap_run_judge.specs.VerdictText.{verdict_text}
 use Rattle.snap_certify.specs.CertificationText.{IsCertificateText}
 use Rattle.snap_certify.proofs.Judging.{when_certified, when_missing}
-use Rattle.snap_certify.proofs.Replaying.{ok_then}
+use Rattle.snap_certify.proofs.Worth.{ok_then}
 use Rattle.snap_certify.proofs.text.certification_text.Goals as goal
 
 pub returns-in-Certified : goal.returns-in-Certified

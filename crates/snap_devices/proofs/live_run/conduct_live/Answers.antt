@@ -13,16 +13,23 @@ returns g c =
       h.0,
       also (IsLiveOf (Ok c.in_ok-conduct_live_keeping.field-0) may c.args.subject c.args.limit)
           (MayWrite may c.args.subject c.args.limit) (RefusesLive may c.args.subject c.args.limit)
-          (λ input text live. live.0) (Ok tt) h.0 _ _ _ _ h.2,
+          (λ input text live. live.0) (Ok tt) h.0
+          (g.R.ByteSource.state c.args.source.now) (g.R.ByteSource.state c.conduct_live_keeping.new.source)
+          (g.W.ByteSink.state c.args.sink.now) (g.W.ByteSink.state c.conduct_live_keeping.new.sink) h.2,
     )
 
 pub returns-in_err-conduct_live_keeping : goal.returns-in_err-conduct_live_keeping
 returns-in_err-conduct_live_keeping g c =
     let may = g.G.Gate.may_answer c.args.gate.now in let h = c.in_err-conduct_live_keeping.ensures in
-    let fault = c.in_err-conduct_live_keeping.field-0.0 in (
+    let fault = c.in_err-conduct_live_keeping.field-0.0 in
+    let source = g.R.ByteSource.state c.args.source.now in
+    let source_after = g.R.ByteSource.state c.conduct_live_keeping.new.source in
+    let sink = g.W.ByteSink.state c.args.sink.now in
+    let sink_after = g.W.ByteSink.state c.conduct_live_keeping.new.sink in (
       h.0,
       passed_whole (MayWrite may c.args.subject c.args.limit) (RefusesLive may c.args.subject c.args.limit)
-          c.from_residual.result fault h.0 _ _ _ _ _ _ _ c.from_residual.ensures
+          c.from_residual.result fault h.0 source source_after sink sink_after c.from_residual.ensures
           (also (IsLiveOf (Err fault) may c.args.subject c.args.limit) (MayWrite may c.args.subject c.args.limit)
-          (RefusesLive may c.args.subject c.args.limit) (λ input text live. live.0) (Err fault) h.0 _ _ _ _ _ _ _ h.2),
+          (RefusesLive may c.args.subject c.args.limit) (λ input text live. live.0) (Err fault) h.0
+          source source_after sink sink_after h.2),
     )

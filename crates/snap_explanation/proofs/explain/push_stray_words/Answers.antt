@@ -1,12 +1,10 @@
--- `push_stray_words` writes what is said of what is no token, piece after piece, as its definition has it.
-use Rattle.std.proofs.Common.{append_assoc}
+-- `push_stray_words` of snap_explanation (src/explain.rt): the proof of what its contract says.
+-- Adds what is no token, and what is advised of it.
+use Rattle.std.proofs.Common.{append_assoc, append-nil}
 use Rattle.snap_explanation.specs.Explanation.{stray_words}
 use Rattle.snap_explanation.proofs.explain.push_stray_words.Goals as goal
 
 pub returns : goal.returns
 unfolding stray_words
 returns c = λ well.
-    let e3 = c.push-2.ensures well in
-    let e2 = c.push_shown.ensures e3.0 in
-    let e1 = c.push.ensures e2.0 in
-    (e1.0, rw (e3.1, e2.1, e1.1) (simp append_assoc))
+    let e = c.push_said.ensures well in (e.0, rw e.1 (simp (append_assoc, append-nil)))

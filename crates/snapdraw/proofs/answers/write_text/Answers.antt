@@ -6,4 +6,4 @@ pub returns-in-Ok : goal.returns-in-Ok
 returns-in-Ok g c = (c.args.text.now, refl, c.in-Ok.ensures.sends)
 
 pub returns-in-Err : goal.returns-in-Err
-returns-in-Err g c = (c.args.text.now, refl, (c.in-Err.unsent, refl, c.in-Err.ensures.sends))
+returns-in-Err g c = (c.args.text.now, refl, (c.in-Err.unsent, c.in-Err.ensures.sends, refl))

@@ -1,0 +1,57 @@
+//! One pass over the items of a run, which finds its writes, or the first thing that is missing.
+ghost use Rattle.std.specs.Prelude.{◌≡◌, IfOk, OnOk, length};
+ghost use Rattle.snap_runs.specs.Run.{run_over};
+ghost use Rattle.snap_walk.specs.Walk.{Passes, Way};
+ghost use Rattle.snap_certify.specs.Finding.{Finds, WritesWord};
+
+use crate::finder::Finder;
+use crate::sight::writing;
+use snap_asm_program::Program;
+use snap_sched::Schedule;
+use snap_semantics::who;
+use snap_walk::{Passed, Walk};
+use snap_words::Kind;
+use std::alloc::{AllocError, Global};
+
+/// Notes the item that was passed last on the way.
+#[inline(always)]
+fn note<K: Kind>(finder: &mut Finder, walk: &Walk<'_, K>, passed: &Passed) -> Result<(), AllocError>
+    requires passed { (w : Way) × Finds w.run w.at finder.old × Passes w passed.now walk.now }
+    ensures line { OnOk result (finder.new.line ≡ finder.old.line) }
+    ensures finds { OnOk result ((w : Way) → Finds w.run w.at finder.old →
+        Passes w passed.now walk.now → Finds walk.now.run walk.now.at finder.new) }
+{
+    let process = who(passed.item);
+    let outcome = &passed.outcome;
+    match writing(finder.roles.as_slice(), passed.item, passed.before) {
+        Some(activity) => {
+            finder.note_write(walk.machine(), passed.number, process, activity, outcome)
+        }
+        None => {
+            finder.note_other(passed.number, process, outcome);
+            Ok(())
+        }
+    }
+}
+
+/// What is found of the items of a program's run over a schedule, where updates write at a line.
+pub(crate) fn find<K: Kind>(
+    alloc: Global,
+    program: &Program,
+    schedule: &Schedule,
+    line: u64,
+) -> Result<Finder, AllocError>
+    requires kind { program.now.kind ≡ K.TAG }
+    requires line { WritesWord program.now line }
+    ensures line { IfOk result (λ f. f.line ≡ line) }
+    ensures finds { IfOk result (λ f. Finds (run_over program.now schedule.now)
+        (length schedule.now.items) f) }
+{
+    let mut walk = Walk::<K>::over(alloc, program, schedule)?;
+    let values = walk.machine().values()?;
+    let mut finder = Finder::new(alloc, program, schedule, line, values)?;
+    while let Some(passed) = walk.next()? {
+        note(&mut finder, &walk, &passed)?;
+    }
+    Ok(finder)
+}

@@ -1,0 +1,72 @@
+//! `Sight`: an item as a certification sees it, with the values before and after it; and which
+//! items are seen so.
+ghost use Rattle.std.specs.Prelude.{◌≡◌, false, IfSome, None, option_map, Some};
+ghost use Rattle.snap_semantics.specs.Source.{Source};
+ghost use Rattle.snap_semantics.specs.State.{State, process_at};
+ghost use Rattle.snap_semantics.specs.Table.{who};
+ghost use Rattle.snap_runs.specs.StepRoles.{is_write, step_role_of};
+ghost use Rattle.snap_record.specs.Roles.{AreRoles};
+ghost use Rattle.snap_certification.specs.Certification.{changes, executed, stepping};
+ghost use Rattle.snap_certify.specs.Finding.{seen_sight};
+
+use snap_record::{LineRole, role_in};
+use snap_semantics::{Activity, Item, Outcome, Status};
+
+/// An item as a certification sees it (`SeenItem`), of which a machine and a walk have the parts.
+#[derive(Drop)]
+pub(crate) struct Sight<'a> {
+    pub(crate) process: u32,
+    /// What the process is at before the item, where it is busy and the item is a step.
+    pub(crate) activity: Option<Activity>,
+    pub(crate) outcome: &'a Outcome,
+    /// The values before the item.
+    pub(crate) values_before: &'a [u64],
+    /// The values after it.
+    pub(crate) values_after: &'a [u64],
+}
+
+/// Whether an item changes the values.
+pub(crate) fn changes(item: &Sight<'_>) -> bool
+    ensures { result ≡ changes (seen_sight item.now) }
+{
+    item.values_before != item.values_after
+}
+
+/// What an item executes: what its step finds the process at, where that goes on.
+pub(crate) fn executed(item: &Sight<'_>) -> Option<Activity>
+    ensures { result ≡ executed (seen_sight item.now) }
+{
+    match item.outcome {
+        Outcome::Trapped(_) => None,
+        _ => item.activity,
+    }
+}
+
+/// The line that an item executes.
+pub(crate) fn executed_line(item: &Sight<'_>) -> Option<u64>
+    ensures { result ≡ option_map (λ a. a.line) (executed (seen_sight item.now)) }
+{
+    Some(executed(item)?.line)
+}
+
+/// What an item finds its process at, which stands so, where it is a step at a line that writes a
+/// word. Another item writes none.
+#[inline(always)]
+pub(crate) fn writing(roles: &[LineRole], item: Item, before: Status) -> Option<Activity>
+    ensures some { IfSome result (λ a. stepping item before ≡ Some a) }
+    ensures none { result ≡ None → (s : Source) (S : State) → AreRoles s roles.now →
+        before ≡ (process_at S (who item)).status → is_write (step_role_of s S item) ≡ false }
+{
+    let Item::Step(_) = item else {
+        return None;
+    };
+    let Status::Busy(activity) = before else {
+        return None;
+    };
+    match role_in(roles, activity.line) {
+        LineRole::Write => Some(activity),
+        LineRole::Test => None,
+        LineRole::Return => None,
+        LineRole::Nothing => None,
+    }
+}

@@ -1,0 +1,30 @@
+//! `turn_limit_explanation`: what is said of a live run in which a process was not done within its
+//! turns.
+ghost use Rattle.std.specs.Prelude.{◌≡◌, IfOk};
+ghost use Rattle.snap_explanation.specs.LiveExplanation.{turn_limit_explanation};
+
+use crate::said::{Said, push_said};
+use crate::wording::{NOT_DONE, SCRIPT_OF};
+use snap_draft::Draft;
+use std::alloc::{AllocError, Global};
+
+/// Returns what is said behind the line that refuses a live run, where the script of this process
+/// was not done within its turns.
+///
+/// # Errors
+///
+/// There is no memory for it.
+pub fn turn_limit_explanation(alloc: Global, process: u32) -> Result<Vec<u8>, AllocError>
+    ensures { IfOk result (λ text. text.items ≡ turn_limit_explanation process) }
+{
+    let mut out = Draft::new(alloc);
+    push_said(
+        &mut out,
+        &[
+            Said::Text(SCRIPT_OF),
+            Said::Number(u64::from(process)),
+            Said::Text(NOT_DONE),
+        ],
+    );
+    out.finish()
+}

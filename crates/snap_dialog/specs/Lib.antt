@@ -4,3 +4,4 @@ pub mod Failures
 pub mod TypedLines
 pub mod Dialog
 pub mod Talks
+pub mod Folder

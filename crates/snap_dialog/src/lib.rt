@@ -3,6 +3,7 @@
 
 mod console;
 mod fault;
+mod folder;
 mod respondent;
 mod terminal;
 mod turns;
@@ -10,6 +11,7 @@ mod typed_line;
 
 pub use console::Console;
 pub use fault::DialogFault;
+pub use folder::Folder;
 pub use respondent::Respondent;
 pub use terminal::Terminal;
 pub use turns::talk;

@@ -23,6 +23,13 @@ impl<R, W> Terminal<R, W> {
     {
         Terminal { reader, writer }
     }
+
+    /// Returns the sink of what is shown.
+    pub fn writer(&self) -> &W
+        ensures { result.now ≡ self.now.writer }
+    {
+        &self.writer
+    }
 }
 
 impl<R: ByteSource, W: ByteSink> Console for Terminal<R, W> {

@@ -6,7 +6,7 @@ use Rattle.snap_lint.specs.declared.edges.Edge.{Edge}
 use Rattle.snap_lint.specs.declared.mode.Mode.{Mode}
 use Rattle.snap_lint.specs.declared.mode.Mode.TheVariants as mode
 use Rattle.snap_lint.specs.declared.mode.Way.{Way}
-use Rattle.snap_lint.specs.declared.mode.Way.TheVariants.{Outside, Within, Unwritten}
+use Rattle.snap_lint.specs.declared.mode.Way.TheVariants.{Outside, Within, Unwritten, UnwrittenWithin}
 use Rattle.snap_semantics.specs.declared.instr.Instr.{Instr}
 use Rattle.snap_semantics.specs.declared.instr.Instr.TheVariants.{Put, First, Next, If, IfAll, Goto}
 use Rattle.snap_semantics.specs.declared.instr.Instr.TheVariants.{Call, Return, Finish}
@@ -18,11 +18,13 @@ abbrev pub is_within : Way → Bool
 is_within Outside = false
 is_within Within = true
 is_within Unwritten = false
+is_within UnwrittenWithin = true
 
 abbrev pub is_unwritten : Way → Bool
 is_unwritten Outside = false
 is_unwritten Within = false
 is_unwritten Unwritten = true
+is_unwritten UnwrittenWithin = true
 
 abbrev pub way_of : Mode → Way
 way_of mode.Scan = Outside
@@ -30,7 +32,7 @@ way_of mode.ScanCall = Within
 way_of mode.Update = Outside
 way_of mode.UpdateCall = Within
 
--- The line behind a line may come next. Outside calls a `call` comes back to it; within one another call traps. The way
+-- The line behind a line may come next. Outside calls a `call` comes back to it; within one another call traps. A way
 -- without writes ends at a `put` of a word.
 abbrev pub may_go_on : Way → Instr → Bool
 may_go_on way (Goto target) = false
@@ -70,6 +72,18 @@ line_edges lines way line = edge_to line.number (line_after lines way line) ++ e
 abbrev pub edges : List Line → Way → List Edge
 edges lines way = flat_map (line_edges lines way) lines
 
+-- Whether a call comes back without a write of a word, where an instruction is one: it is to one of these lines.
+abbrev pub comes_back : List ℕ → Instr → Bool
+comes_back silent (Call target) = is_in silent target
+comes_back silent _ = true
+
+abbrev pub unwritten_line_edges : List Line → List ℕ → Line → List Edge
+unwritten_line_edges lines silent line = if comes_back silent line.instr then line_edges lines Unwritten line else []
+
+-- Which line leads to which in an update that has written no word. Calls to these lines come back without a write.
+abbrev pub unwritten_edges : List Line → List ℕ → List Edge
+unwritten_edges lines silent = flat_map (unwritten_line_edges lines silent) lines
+
 -- an edge the other way round
 abbrev pub turned_edge : Edge → Edge
 turned_edge e = record { from = e.to; to = e.from }
@@ -96,6 +110,21 @@ is_end lines way line = may_run_off lines way line || (not (may_go_on way line.i
 abbrev pub leading_out : List Line → Way → List ℕ
 leading_out lines way = reached lines (turned (edges lines way)) (numbers_where (is_end lines way) lines)
 
+abbrev pub is_return_instr : Instr → Bool
+is_return_instr (Return x) = true
+is_return_instr _ = false
+
+abbrev pub is_return : Line → Bool
+is_return line = is_return_instr line.instr
+
+-- the lines from which a way within a call, without a write of a word, leads to its return
+abbrev pub silent_calls : List Line → List ℕ
+silent_calls lines = reached lines (turned (edges lines UnwrittenWithin)) (numbers_where is_return lines)
+
+-- the lines to which an update may come before it has written a word, outside its calls
+abbrev pub reached_unwritten : List Line → ℕ → List ℕ
+reached_unwritten lines entry = reached lines (unwritten_edges lines (silent_calls lines)) (entry ∷ [])
+
 -- the numbers of the lines to which control may come
 pub record Reach : Type 0 where
   -- in a scan, and in calls within scans
@@ -107,7 +136,7 @@ pub record Reach : Type 0 where
   -- the lines from which a way leads to an end, outside calls and within them
   pub out : List ℕ
   pub call_out : List ℕ
-  -- in an update that has written no word yet; its calls write none
+  -- in an update that has written no word yet, in a call neither
   pub unwritten : List ℕ
 
 -- the reach of control, where scans and updates come to these lines outside their calls
@@ -119,7 +148,7 @@ reach_from lines entry scan update = record {
   update_call = reached lines (edges lines Within) (callees lines update);
   out = leading_out lines Outside;
   call_out = leading_out lines Within;
-  unwritten = reached lines (edges lines Unwritten) (entry ∷ []);
+  unwritten = reached_unwritten lines entry;
 }
 
 -- the reach of control in a listing

@@ -2,6 +2,7 @@
 //! line or by a jump.
 ghost use Rattle.std.specs.Prelude.{◌≡◌, ◌++◌, IfOk, OnOk};
 ghost use Rattle.snap_lint.specs.Flow.{
+  comes_back,
   edge_to,
   edges,
   jump,
@@ -9,8 +10,10 @@ ghost use Rattle.snap_lint.specs.Flow.{
   line_edges,
   may_go_on,
   turned,
+  unwritten_edges,
 };
 
+use crate::marks::is_in;
 use crate::mode::Way;
 use snap_listing_core::Listing;
 use snap_semantics::{Instr, Line};
@@ -29,8 +32,8 @@ pub fn may_go_on(way: Way, instr: &Instr) -> bool
 {
     match instr {
         Instr::Goto(_) => false,
-        Instr::Call(_) => way != Way::Within,
-        Instr::Put(_, _) => way != Way::Unwritten,
+        Instr::Call(_) => !way.is_within(),
+        Instr::Put(_, _) => !way.is_unwritten(),
         Instr::Return(_) => false,
         Instr::Finish => false,
         _ => true,
@@ -81,6 +84,38 @@ pub fn edges(alloc: Global, listing: &Listing, way: Way) -> Result<Vec<Edge>, Al
     for line in lines {
         push_edge(&mut edges, line.number, line_after(listing, way, line))?;
         push_edge(&mut edges, line.number, jump(&line.instr))?;
+    }
+    Ok(edges)
+}
+
+/// Returns whether a call comes back without a write, where an instruction is one: it is to one of
+/// these lines.
+fn comes_back(silent: &[u64], instr: &Instr) -> bool
+    ensures { result ≡ comes_back silent.now instr.now }
+{
+    match instr {
+        Instr::Call(target) => is_in(silent, *target),
+        _ => true,
+    }
+}
+
+/// Returns which line leads to which in an update that has written no word, where a call to one of
+/// these lines comes back without a write.
+pub fn unwritten_edges(
+    alloc: Global,
+    listing: &Listing,
+    silent: &[u64],
+) -> Result<Vec<Edge>, AllocError>
+    ensures { IfOk result (λ v. v.items ≡ unwritten_edges listing.now.lines silent.now) }
+{
+    let mut edges = Vec::new(alloc);
+    let lines = listing.lines();
+    for line in lines {
+        if comes_back(silent, &line.instr) {
+            let after = line_after(listing, Way::Unwritten, line);
+            push_edge(&mut edges, line.number, after)?;
+            push_edge(&mut edges, line.number, jump(&line.instr))?;
+        }
     }
     Ok(edges)
 }

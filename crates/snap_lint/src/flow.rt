@@ -1,21 +1,24 @@
 //! `Flow`: the lines of a listing to which control may come in each `Mode`, and those from which it
 //! may come to an end.
 ghost use Rattle.std.specs.Prelude.{◌≡◌, ◌++◌, [], ◌∷◌, IfOk};
-ghost use Rattle.snap_lint.specs.declared.mode.Way.TheVariants.{Outside, Unwritten, Within};
+ghost use Rattle.snap_lint.specs.declared.mode.Way.TheVariants.{Outside, Within};
 ghost use Rattle.snap_lint.specs.Flow.{
   callee,
   callees,
   edges,
   is_end,
+  is_return,
   leading_out,
   lines_in,
   may_run_off,
   out_in,
   reach_of,
+  reached_unwritten,
+  silent_calls,
 };
 ghost use Rattle.snap_lint.specs.Marks.{is_in, numbers_where, reached};
 
-use crate::edges::{edges, jump, may_go_on, turned};
+use crate::edges::{edges, jump, may_go_on, turned, unwritten_edges};
 use crate::marks::{is_in, reached};
 use crate::mode::{Mode, Way};
 use snap_listing_core::Listing;
@@ -72,7 +75,7 @@ impl Flow {
             update,
             out: leading_out(alloc, listing, Way::Outside)?,
             call_out: leading_out(alloc, listing, Way::Within)?,
-            unwritten: reached_from(alloc, listing, Way::Unwritten, listing.update())?,
+            unwritten: reached_unwritten(alloc, listing)?,
         })
     }
 
@@ -143,6 +146,50 @@ fn reached_by_calls(alloc: Global, listing: &Listing, marks: &[u64]) -> Result<V
     let edges = edges(alloc, listing, Way::Within)?;
     let starts = callees(alloc, listing.lines(), marks)?;
     reached(alloc, listing.lines(), edges.as_slice(), starts.as_slice())
+}
+
+/// Returns the lines at which a call may return.
+fn return_lines(alloc: Global, listing: &Listing) -> Result<Vec<u64>, AllocError>
+    ensures { IfOk result (λ v. v.items ≡ numbers_where is_return listing.now.lines) }
+{
+    let mut returns = Vec::new(alloc);
+    let lines = listing.lines();
+    for line in lines {
+        if matches!(line.instr, Instr::Return(_)) {
+            returns.push(line.number)?;
+        }
+    }
+    Ok(returns)
+}
+
+/// Returns the lines from which a call comes back without a write of a word.
+fn silent_calls(alloc: Global, listing: &Listing) -> Result<Vec<u64>, AllocError>
+    ensures { IfOk result (λ v. v.items ≡ silent_calls listing.now.lines) }
+{
+    let edges = edges(alloc, listing, Way::UnwrittenWithin)?;
+    let turned = turned(alloc, edges.as_slice())?;
+    let returns = return_lines(alloc, listing)?;
+    reached(
+        alloc,
+        listing.lines(),
+        turned.as_slice(),
+        returns.as_slice(),
+    )
+}
+
+/// Returns the lines to which an update may come before it has written a word.
+fn reached_unwritten(alloc: Global, listing: &Listing) -> Result<Vec<u64>, AllocError>
+    ensures { IfOk result (λ v. v.items
+        ≡ reached_unwritten listing.now.lines listing.now.update) }
+{
+    let silent = silent_calls(alloc, listing)?;
+    let edges = unwritten_edges(alloc, listing, silent.as_slice())?;
+    reached(
+        alloc,
+        listing.lines(),
+        edges.as_slice(),
+        &[listing.update()],
+    )
 }
 
 /// Whether a line may have no line behind it where one is to come next.

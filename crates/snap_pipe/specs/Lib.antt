@@ -1,2 +1,2 @@
 -- The definitions of snap_pipe, by their modules.
-pub mod Status
+pub mod Ended

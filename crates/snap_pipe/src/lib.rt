@@ -1,11 +1,12 @@
-//! Standard output whose reader may go away, as that of a pipe does: `Piped`, a sink that notes it, and `Quiet`, a
-//! device for messages to which nothing more is said then.
+//! Standard output whose reader may go away, as that of a pipe does: `Piped`, a sink that keeps why
+//! it failed; `Messages`, what is to be said; and `end`, which says it unless the reader has gone
+//! away.
 #![tactic(auto)]
 
-mod pipe_reader;
+mod ending;
+mod messages;
 mod piped;
-mod quiet;
 
-pub use pipe_reader::PipeReader;
+pub use ending::end;
+pub use messages::Messages;
 pub use piped::Piped;
-pub use quiet::Quiet;

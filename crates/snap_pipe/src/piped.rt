@@ -1,57 +1,75 @@
-//! `Piped`: a writer of the standard library as a `ByteSink` that notes whether its reader has
-//! gone away.
-ghost use Rattle.std.specs.Prelude.{◌≡◌, false};
+//! `Piped`: a writer of the standard library as a `ByteSink` that keeps why it failed.
+ghost use Rattle.std.specs.Prelude.{◌≡◌, None, Ok, false, true, is_err, is_some, IfErr, IfOk, ◌==◌};
+ghost use Rattle.snap_pipe.specs.Ended.{failure_of, is_gone};
 
-use crate::pipe_reader::PipeReader;
 use snap_streams::{ByteSink, Failed};
+use std::io;
 use std::io::{ErrorKind, Write};
 
-/// A writer of the standard library. It tells what that one tells, and notes whether its reader has
-/// gone away.
+/// A writer of the standard library. It tells what that one tells, and keeps the kind of the error
+/// with which it failed.
 #[derive(Drop)]
-pub struct Piped<'r, D> {
+pub struct Piped<D> {
     device: D,
-    reader: &'r PipeReader,
-    failed: bool,
+    failure: Option<ErrorKind>,
     stalled: bool,
 }
 
-impl<'r, D> Piped<'r, D> {
-    /// A writer that this one reads.
-    pub fn new(device: D, reader: &'r PipeReader) -> Piped<'r, D>
+impl<D> Piped<D> {
+    /// A sink of what this writer takes.
+    pub fn new(device: D) -> Piped<D>
         ensures device { result.device ≡ device }
-        ensures well { result.failed ≡ false }
+        ensures well { result.failure ≡ None }
         ensures goes_on { result.stalled ≡ false }
     {
         Piped {
             device,
-            reader,
-            failed: false,
+            failure: None,
             stalled: false,
         }
     }
-}
 
-impl<W: Write> ByteSink for Piped<'_, W> {
-    ghost state = { λ s. record {
-      taken = W.contents s.device;
-      failed = s.failed;
-      stalled = s.stalled;
-    } };
+    /// Returns whether its reader has gone away.
+    pub fn has_lost_reader(&self) -> bool
+        ensures { result ≡ is_gone self.now.failure }
+    {
+        match self.failure {
+            Some(kind) => kind == ErrorKind::BrokenPipe,
+            None => false,
+        }
+    }
 
-    fn write(&mut self, bytes: &[u8]) -> Result<usize, Failed> {
-        match self.device.write(bytes) {
+    /// Keeps what came of a write.
+    fn note(&mut self, written: io::Result<usize>) -> Result<usize, Failed>
+        ensures count { IfOk result (λ count. written ≡ Ok count) }
+        ensures fails { IfErr result (λ _. is_err written ≡ true) }
+        ensures failure { self.new.failure ≡ failure_of written }
+        ensures stalls { IfOk result (λ count. self.new.stalled ≡ (count == 0)) }
+        ensures device { self.new.device ≡ self.old.device }
+    {
+        match written {
             Ok(count) => {
+                self.failure = None;
                 self.stalled = count == 0;
                 Ok(count)
             }
             Err(error) => {
-                if error.kind() == ErrorKind::BrokenPipe {
-                    self.reader.go();
-                }
-                self.failed = true;
+                self.failure = Some(error.kind());
                 Err(Failed)
             }
         }
+    }
+}
+
+impl<W: Write> ByteSink for Piped<W> {
+    ghost state = { λ s. record {
+      taken = W.contents s.device;
+      failed = is_some s.failure;
+      stalled = s.stalled;
+    } };
+
+    fn write(&mut self, bytes: &[u8]) -> Result<usize, Failed> {
+        let written = self.device.write(bytes);
+        self.note(written)
     }
 }

@@ -1,5 +1,5 @@
 -- The dialog at the debugger's prompt goes on after each line that adds items to the schedule, or asks to.
-use Rattle.std.proofs.Common.{◌≡◌, ℕ, Bool, true, false, if◌then◌else◌, List, Some, None, Result, Ok, Err, refl}
+use Rattle.std.proofs.Common.{◌≡◌, ℕ, Bool, true, false, if◌then◌else◌, List, Result, Ok, Err, refl}
 use Rattle.std.specs.Prelude.{nat_eq}
 use Rattle.snap_semantics.specs.Schedule.{Schedule}
 use Rattle.snap_semantics.specs.declared.refusal.ScheduleRefusal.{ScheduleRefusal}
@@ -11,11 +11,12 @@ use Rattle.snap_prompt.specs.Reach.{steps_to}
 use Rattle.snap_prompt.specs.declared.goal.Goal.{Goal}
 use Rattle.snap_prompt.specs.declared.goal.Goal.TheVariants as goal
 use Rattle.snap_prompt.specs.declared.goal.NoSteps.{NoSteps}
-use Rattle.snap_prompt_lines.specs.Ask.{is_yes}
 use Rattle.snap_prompt_lines.specs.declared.ask.Ask.{Ask}
 use Rattle.snap_prompt_lines.specs.declared.ask.Ask.TheVariants as ask
-use Rattle.snap_prompt.specs.Prompt.{Answer, Prompt, added, added_to, answer_line, counted, decided, done, led, led_by}
-use Rattle.snap_prompt.specs.Prompt.{schedule_of_run, wanted, with_question}
+use Rattle.snap_prompt.specs.Prompt.{Answer, Prompt, added, added_to, agreed_to, done, led, led_by}
+use Rattle.snap_prompt.specs.Prompt.{schedule_of_run, wanted}
+use Rattle.snap_prompt.specs.declared.question.Question.{Question}
+use Rattle.snap_prompt.specs.declared.question.Question.TheVariants as question
 
 -- whether they fit or are refused
 added_to_goes_on : (p : Prompt) (r : Result Schedule ScheduleRefusal) → true ≡ (added_to p r).goes_on
@@ -35,10 +36,6 @@ either false x y e f = f
 wanted_goes_on : (p : Prompt) (a : Addition) → true ≡ (wanted p a).goes_on
 unfolding wanted
 wanted_goes_on p a = either (nat_eq p.session.position (total p.session)) (added p a) _ (added_goes_on p a) refl
-
-decided_goes_on : (p : Prompt) (a : Addition) (agreed : Bool) → true ≡ (decided p a agreed).goes_on
-decided_goes_on p a agreed =
-    either agreed (added (with_question None p) a) _ (added_goes_on (with_question None p) a) refl
 
 -- where a line asks for them
 pub adding_goes_on : (p : Prompt) (x : Ask) (a : Addition) → x ≡ ask.Add a → true ≡ (done p x).goes_on
@@ -62,8 +59,6 @@ pub end_goes_on : (p : Prompt) (x : Ask) (i : ℕ) → x ≡ ask.End i → true 
 unfolding done
 end_goes_on p x i e = rw e (led_goes_on p i goal.End)
 
--- where a line says whether the schedule is cut
-pub deciding_goes_on : (p : Prompt) (line : List ℕ) (a : Addition) → p.question ≡ Some a →
-    true ≡ (answer_line p line).goes_on
-unfolding answer_line
-deciding_goes_on p line a e = rw e (decided_goes_on (counted p) a (is_yes line))
+-- where the schedule is cut
+pub agreeing_goes_on : (p : Prompt) (q : Question) (a : Addition) → q ≡ question.Cut a → true ≡ (agreed_to p q).goes_on
+agreeing_goes_on p q a e = rw e (added_goes_on p a)

@@ -1,8 +1,12 @@
 -- The definitions of snap_prompt, by their modules.
 pub mod Changed
 pub mod Explained
+pub mod Greeting
+pub mod Help
 pub mod Hints
 pub mod Listed
 pub mod Prompt
 pub mod Said
 pub mod Reach
+pub mod Saved
+pub mod Shows

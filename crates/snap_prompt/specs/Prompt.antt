@@ -1,6 +1,6 @@
 -- A prompt over a debugger's session: what is shown before a line, and what is answered to it.
-use Rattle.std.specs.Prelude.{ℕ, ◌+◌, ◌-◌, ◌^◌, List, [], ◌++◌, length, min, Bool, true, false, Option, Some, None}
-use Rattle.std.specs.Prelude.{Result, Ok, Err, codes, decimal, nat_eq, if◌then◌else◌}
+use Rattle.std.specs.Prelude.{ℕ, ◌+◌, ◌-◌, ◌^◌, List, [], ◌++◌, length, min, Bool, ◌&&◌, true, false, Option, Some}
+use Rattle.std.specs.Prelude.{None, Result, Ok, Err, codes, decimal, nat_eq, if◌then◌else◌}
 use Rattle.snap_dialog.specs.Dialog.{Next}
 use Rattle.snap_semantics.specs.Report.{position_line}
 use Rattle.snap_semantics.specs.Schedule.{Schedule}
@@ -22,31 +22,54 @@ use Rattle.snap_prompt.specs.declared.goal.Goal.{Goal}
 use Rattle.snap_prompt.specs.declared.goal.Goal.TheVariants as goal
 use Rattle.snap_prompt.specs.declared.goal.NoSteps.{NoSteps}
 use Rattle.snap_prompt_lines.specs.Ask.{ask_of, is_yes}
+use Rattle.snap_prompt_lines.specs.SaveForm.{saving_of}
 use Rattle.snap_prompt_lines.specs.declared.ask.Ask.{Ask}
 use Rattle.snap_prompt_lines.specs.declared.ask.Ask.TheVariants as ask
 use Rattle.snap_prompt.specs.Changed.{moved_text}
 use Rattle.snap_prompt.specs.Explained.{explained, item_or_position}
+use Rattle.snap_prompt.specs.Greeting.{greeting_text}
+use Rattle.snap_prompt.specs.Help.{help_text}
 use Rattle.snap_prompt.specs.Hints.{refused_addition, refused_line, refused_steps}
 use Rattle.snap_prompt.specs.Listed.{list_text, process_of}
-use Rattle.snap_prompt.specs.Said.{IsSaid, Said, text}
+use Rattle.snap_prompt.specs.Said.{IsSaid, Said, saved, text}
+use Rattle.snap_prompt.specs.Shows.{greets, places}
+use Rattle.snap_prompt.specs.declared.question.Question.{Question}
+use Rattle.snap_prompt.specs.declared.question.Question.TheVariants as question
+use Rattle.snap_prompt.specs.declared.shows.Shows.{Shows}
 
--- A session, what was asked for last, what is to be added where the next line says yes, how many lines were read, and
--- whether the position stands before each line.
+-- A session, what was asked for last, what the next line answers where something was asked, how many lines were read,
+-- whether items were added, and what is shown beside the answers.
 pub record Prompt : Type 0 where
   pub session : Session
   pub last : Option Ask
-  pub question : Option Addition
+  pub question : Option Question
   pub lines : ℕ
-  pub shows : Bool
+  pub has_added : Bool
+  pub shows : Shows
 
 -- a run at its beginning, with no marks and no line read
-abbrev pub opened_prompt : Run → Bool → Prompt
-opened_prompt r shows = record { session = opened r; last = None; question = None; lines = 0; shows = shows }
+abbrev pub opened_prompt : Run → Shows → Prompt
+opened_prompt r shows = record {
+  session = opened r;
+  last = None;
+  question = None;
+  lines = 0;
+  has_added = false;
+  shows = shows;
+}
+
+-- what stands before the first line
+unfoldable pub greeting_or_none : Prompt → List ℕ
+greeting_or_none p = if greets p.shows && nat_eq p.lines 0 then greeting_text p.session else []
 
 -- `9/64> `
-unfoldable pub prompt_text : Prompt → List ℕ
-prompt_text p =
-    if p.shows then decimal p.session.position ++ codes "/" ++ decimal (total p.session) ++ codes "> " else []
+unfoldable pub position_or_none : Prompt → List ℕ
+position_or_none p =
+    if places p.shows then decimal p.session.position ++ codes "/" ++ decimal (total p.session) ++ codes "> " else []
+
+-- what stands before a line
+abbrev pub prompt_text : Prompt → List ℕ
+prompt_text p = greeting_or_none p ++ position_or_none p
 
 -- with one line more; they are counted up to 2^64 - 1
 abbrev pub counted : Prompt → Prompt
@@ -55,17 +78,50 @@ counted p = record {
   last = p.last;
   question = p.question;
   lines = min (p.lines + 1) (2 ^ 64 - 1);
+  has_added = p.has_added;
   shows = p.shows;
 }
 
 abbrev pub with_session : Session → Prompt → Prompt
-with_session s p = record { session = s; last = p.last; question = p.question; lines = p.lines; shows = p.shows }
+with_session s p = record {
+  session = s;
+  last = p.last;
+  question = p.question;
+  lines = p.lines;
+  has_added = p.has_added;
+  shows = p.shows;
+}
 
-abbrev pub with_question : Option Addition → Prompt → Prompt
-with_question q p = record { session = p.session; last = p.last; question = q; lines = p.lines; shows = p.shows }
+abbrev pub with_question : Option Question → Prompt → Prompt
+with_question q p = record {
+  session = p.session;
+  last = p.last;
+  question = q;
+  lines = p.lines;
+  has_added = p.has_added;
+  shows = p.shows;
+}
 
 abbrev pub with_last : Ask → Prompt → Prompt
-with_last a p = record { session = p.session; last = Some a; question = p.question; lines = p.lines; shows = p.shows }
+with_last a p = record {
+  session = p.session;
+  last = Some a;
+  question = p.question;
+  lines = p.lines;
+  has_added = p.has_added;
+  shows = p.shows;
+}
+
+-- with a longer schedule, over which there is this session
+abbrev pub with_addition : Session → Prompt → Prompt
+with_addition s p = record {
+  session = s;
+  last = p.last;
+  question = p.question;
+  lines = p.lines;
+  has_added = true;
+  shows = p.shows;
+}
 
 -- what the prompt is after a line, what is answered, and whether the dialog goes on
 pub record Answer (T : Type 0) : Type 0 where
@@ -126,7 +182,7 @@ at_end_of d s = at_position (length d.items) (reopened (run_over s.run.source d)
 abbrev pub added_to : Prompt → Result Schedule ScheduleRefusal → Answer (List ℕ)
 added_to p (Err r) = says p (refused_addition p.session r)
 added_to p (Ok d) = record {
-  state = with_session (at_end_of d p.session) p;
+  state = with_addition (at_end_of d p.session) p;
   said = position_line (length d.items) (length d.items) ++ moved_text p.session (at_end_of d p.session);
   goes_on = true;
 }
@@ -139,11 +195,15 @@ added p a = added_to p (edited p.lines p.session.position (form_of a) (schedule_
 abbrev pub question_text : Session → List ℕ
 question_text s = codes "cut here? " ++ decimal (total s - s.position) ++ codes " items go (y)\n"
 
+-- what is asked before the dialog ends
+abbrev pub end_question : List ℕ
+end_question = codes "quit? what was added is lost unless it was saved (y)\n"
+
 -- at the end of the schedule items are added at once, and before it the next line has to say yes
 unfoldable pub wanted : Prompt → Addition → Answer (List ℕ)
 wanted p a =
     if nat_eq p.session.position (total p.session) then added p a
-    else record { state = with_question (Some a) p; said = question_text p.session; goes_on = true }
+    else record { state = with_question (Some (question.Cut a)) p; said = question_text p.session; goes_on = true }
 
 -- what comes of the steps that lead a process to a goal, or why there are none
 abbrev pub led_by : Prompt → ℕ → Result ℕ NoSteps → Answer (List ℕ)
@@ -155,15 +215,21 @@ led_by p i (Ok count) = wanted p (addition.Steps i count)
 unfoldable pub led : Prompt → ℕ → Goal → Answer (List ℕ)
 led p i g = led_by p i (steps_to p.session i g)
 
--- what lines can ask for
-unfoldable pub help_text : List ℕ
-help_text = codes "step K, back K, goto T, run, rrun\nbreak I N, clear I N, watch A, unwatch A\nshow I, show A, values, events, where\nall, list, list I, why, why T, report, save, help, quit\nto add items: step I K, until I N, end I, call I scan, call I update K X, crash I\nA is a register: r K, q I J, p I J or v I\ns, b: step 1, back 1; s, b, r, g, p before numbers: step, back, run, goto, show; b I N: break I N\nan empty line: the last line again\n"
+-- the dialog ends, and nothing is said
+abbrev pub ended : Prompt → Answer (List ℕ)
+ended p = record { state = p; said = []; goes_on = false }
+
+-- where a person has added items, the next line has to say yes before the dialog ends
+abbrev pub quitted : Prompt → Answer (List ℕ)
+quitted p =
+    if greets p.shows && p.has_added
+    then record { state = with_question (Some question.End) p; said = end_question; goes_on = true } else ended p
 
 -- what is done, where that is no last thing again
 unfoldable pub done : Prompt → Ask → Answer Said
 done p ask.Nothing = says p (text [])
 done p ask.Again = says p (text [])
-done p ask.Quit = record { state = p; said = text []; goes_on = false }
+done p ask.Quit = in_words (quitted p)
 done p ask.Help = says p (text help_text)
 done p ask.All = says p (text (head_lines 1 (state_of p.session).processes))
 done p ask.Report = says p (text (session_report p.session))
@@ -203,14 +269,28 @@ unfoldable pub asked : Prompt → Result Ask CommandRefusal → Answer Said
 asked p (Err r) = says p (text (refused_line p.session r))
 asked p (Ok a) = done_meant p (meant p.last a)
 
--- the answer to a question
-abbrev pub decided : Prompt → Addition → Bool → Answer (List ℕ)
-decided p a agreed =
-    if agreed then added (with_question None p) a else says (with_question None p) (codes "nothing is cut\n")
+-- what is done where a line says yes to a question
+abbrev pub agreed_to : Prompt → Question → Answer (List ℕ)
+agreed_to p (question.Cut a) = added p a
+agreed_to p question.End = ended p
 
-abbrev pub answered_to : Prompt → Option Addition → List ℕ → Answer Said
-answered_to p None line = asked p (ask_of p.lines line)
-answered_to p (Some a) line = in_words (decided p a (is_yes line))
+-- what is said where it does not
+abbrev pub denied_text : Question → List ℕ
+denied_text (question.Cut a) = codes "nothing is cut\n"
+denied_text question.End = codes "the dialog goes on\n"
+
+-- the answer to a question
+abbrev pub decided : Prompt → Question → Bool → Answer (List ℕ)
+decided p q agreed = if agreed then agreed_to (with_question None p) q else says (with_question None p) (denied_text q)
+
+-- what comes of a line that names a file in which the schedule is to be saved, or of another one
+abbrev pub saved_or_asked : Prompt → Option (List ℕ × Bool) → List ℕ → Answer Said
+saved_or_asked p None line = asked p (ask_of p.lines line)
+saved_or_asked p (Some file) line = says p (saved file.0)
+
+abbrev pub answered_to : Prompt → Option Question → List ℕ → Answer Said
+answered_to p None line = saved_or_asked p (saving_of line) line
+answered_to p (Some q) line = in_words (decided p q (is_yes line))
 
 -- what is answered to a line
 unfoldable pub answer_line : Prompt → List ℕ → Answer Said

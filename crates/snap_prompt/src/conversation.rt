@@ -9,8 +9,9 @@ ghost use Rattle.snap_runs.specs.Run.{run_over};
 ghost use Rattle.snap_prompt.specs.Prompt.{Says, next_line, opened_prompt, prompt_text};
 
 use crate::prompt::Prompt;
+use crate::shows::Shows;
 use snap_asm_program::Program;
-use snap_dialog::{Console, DialogFault, talk};
+use snap_dialog::{Console, DialogFault, Folder, talk};
 use snap_sched::Schedule;
 use snap_words::{Bits, KindTag, Multi, Seq};
 use std::alloc::Global;
@@ -18,12 +19,13 @@ use std::alloc::Global;
 /// Talks at a console about a program under a schedule, from the position before its first item, to
 /// `quit` or the end of the input: each line is answered before the next prompt, and what is shown
 /// is a transcript of the lines. It is broken off as `talk` is, after a beginning of that.
-pub fn converse<C: Console>(
+pub fn converse<C: Console, S: Folder + Copy>(
     alloc: Global,
     program: &Program,
     schedule: Schedule,
-    shows: bool,
+    shows: Shows,
     console: &mut C,
+    folder: S,
 ) -> Result<(), DialogFault>
     requires { C.failure console.old ≡ None }
     ensures passes { OnOk result (IsDialog prompt_text Says next_line
@@ -45,15 +47,15 @@ pub fn converse<C: Console>(
 {
     match program.kind() {
         KindTag::Seq => {
-            let mut prompt = Prompt::<Seq>::over(alloc, program, schedule, shows)?;
+            let mut prompt = Prompt::<Seq, S>::over(alloc, program, schedule, shows, folder)?;
             talk(alloc, console, &mut prompt)
         }
         KindTag::Bits => {
-            let mut prompt = Prompt::<Bits>::over(alloc, program, schedule, shows)?;
+            let mut prompt = Prompt::<Bits, S>::over(alloc, program, schedule, shows, folder)?;
             talk(alloc, console, &mut prompt)
         }
         KindTag::Multi => {
-            let mut prompt = Prompt::<Multi>::over(alloc, program, schedule, shows)?;
+            let mut prompt = Prompt::<Multi, S>::over(alloc, program, schedule, shows, folder)?;
             talk(alloc, console, &mut prompt)
         }
     }

@@ -46,6 +46,19 @@ fn push_range(out: &mut Vec<u8>, what: &[u8], from: u64, to: u64) -> Result<(), 
     push_number(out, to)
 }
 
+/// Adds the range of the lines of the listing.
+pub(crate) fn push_lines_range<K: Kind>(
+    out: &mut Vec<u8>,
+    session: &Session<K>,
+    what: &[u8],
+) -> Result<(), AllocError>
+    ensures { let lines = session.now.run.source.lines in OnOk result (out.new.items
+        ≡ out.old.items ++ range_text what.now (first_number lines) (last_number 0 lines)) }
+{
+    let lines = session.program().listing().lines();
+    push_range(out, what, first_number(lines), last_number(lines))
+}
+
 /// Adds which registers there are.
 fn push_registers(out: &mut Vec<u8>, kind: KindTag, shape: Shape) -> Result<(), AllocError>
     ensures { OnOk result (out.new.items ≡ out.old.items ++ registers_text kind shape) }
@@ -79,15 +92,7 @@ fn push_hint<K: Kind>(
 {
     match refusal {
         CommandRefusal::BadCommand(_) => push_text(out, b": `help` says what can be typed"),
-        CommandRefusal::NoSuchLine => {
-            let lines = session.program().listing().lines();
-            push_range(
-                out,
-                b"the lines are",
-                first_number(lines),
-                last_number(lines),
-            )
-        }
+        CommandRefusal::NoSuchLine => push_lines_range(out, session, b"the lines are"),
         CommandRefusal::NoSuchProcess => {
             push_range(out, b"the processes are", 1, session.machine().shape().n())
         }

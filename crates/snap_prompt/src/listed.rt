@@ -1,5 +1,5 @@
 //! What the prompt answers to `list`: the lines of the listing around the one at which a process
-//! is.
+//! is, or all of them.
 ghost use Rattle.std.specs.Prelude.{◌≡◌, ◌++◌, OnOk, map};
 ghost use Rattle.snap_words.specs.Shape.{IsOneOf};
 ghost use Rattle.snap_listing_printer.specs.LineTexts.{text_with, written};
@@ -15,21 +15,24 @@ use snap_text::push_text;
 use snap_words::Kind;
 use std::alloc::AllocError;
 
-/// Whether a number is at most eight from another.
-fn is_near(line: u64, number: u64) -> bool
+/// Whether a number is at most eight from the line at which a process stands. Where it stands at
+/// none, each is near.
+fn is_near(line: Option<u64>, number: u64) -> bool
     ensures { result ≡ is_near line number }
 {
-    line.saturating_sub(8) <= number && number.saturating_sub(8) <= line
+    match line {
+        Some(line) => line.saturating_sub(8) <= number && number.saturating_sub(8) <= line,
+        None => true,
+    }
 }
 
 /// Adds the mark of the line at which a process stands, or the space of another one.
-fn push_mark(out: &mut Vec<u8>, line: u64, number: u64) -> Result<(), AllocError>
+fn push_mark(out: &mut Vec<u8>, line: Option<u64>, number: u64) -> Result<(), AllocError>
     ensures { OnOk result (out.new.items ≡ out.old.items ++ pointer_text line number) }
 {
-    if line == number {
-        push_text(out, b"> ")
-    } else {
-        push_text(out, b"  ")
+    match line {
+        Some(line) if line == number => push_text(out, b"> "),
+        _ => push_text(out, b"  "),
     }
 }
 
@@ -49,7 +52,7 @@ fn push_line_text(out: &mut Vec<u8>, texts: &LineTexts, number: u64) -> Result<(
 fn push_marked_line(
     out: &mut Vec<u8>,
     texts: &LineTexts,
-    line: u64,
+    line: Option<u64>,
     number: u64,
 ) -> Result<(), AllocError>
     ensures { OnOk result (out.new.items ≡ out.old.items ++ marked_line texts.now line number) }
@@ -63,7 +66,7 @@ fn push_marked_line(
 fn push_near_line(
     out: &mut Vec<u8>,
     texts: &LineTexts,
-    line: u64,
+    line: Option<u64>,
     number: u64,
 ) -> Result<(), AllocError>
     ensures { OnOk result (out.new.items ≡ out.old.items ++ near_line texts.now line number) }
@@ -79,7 +82,7 @@ fn push_near_line(
 fn push_near_lines(
     out: &mut Vec<u8>,
     texts: &LineTexts,
-    line: u64,
+    line: Option<u64>,
     lines: &[Line],
 ) -> Result<(), AllocError>
     ensures { OnOk result (out.new.items ≡ out.old.items ++ near_lines texts.now line lines.now) }
@@ -90,7 +93,7 @@ fn push_near_lines(
     Ok(())
 }
 
-/// Adds where a process stands, and the lines around.
+/// Adds where a process stands, and the lines around; all lines where it stands at none.
 #[tactic(auto, using(snap_text::proofs::Texts::joined), unfolding(crate::specs::Listed::stand_text))]
 fn push_stand<K: Kind>(
     out: &mut Vec<u8>,
@@ -103,10 +106,8 @@ fn push_stand<K: Kind>(
     ensures { OnOk result (out.new.items ≡ out.old.items ++ stand_text session.now process) }
 {
     head_line(out, session.machine(), process)?;
-    match session.machine().line(process) {
-        Some(line) => push_near_lines(out, texts, line, session.program().listing().lines()),
-        None => Ok(()),
-    }
+    let line = session.machine().line(process);
+    push_near_lines(out, texts, line, session.program().listing().lines())
 }
 
 /// Adds where process `i` stands, and the lines around; or that there is no such process.

@@ -9,26 +9,33 @@ ghost use Rattle.snap_semantics.specs.ScheduleText.{schedule_text};
 ghost use Rattle.snap_semantics.specs.Token.{lines_of};
 ghost use Rattle.snap_prompt.specs.Explained.{explained, item_or_position};
 ghost use Rattle.snap_prompt.specs.Listed.{list_text, process_of};
-ghost use Rattle.snap_prompt.specs.Prompt.{Says, added, answer_line, asked, at_end_of, decided};
-ghost use Rattle.snap_prompt.specs.Prompt.{did_text, done, led, move_or_refusal, next_line};
-ghost use Rattle.snap_prompt.specs.Prompt.{opened_prompt, prompt_text, question_text};
+ghost use Rattle.snap_prompt.specs.Prompt.{Says, added, agreed_to, answer_line, asked, at_end_of};
+ghost use Rattle.snap_prompt.specs.Prompt.{decided, denied_text, did_text, done, greeting_or_none};
+ghost use Rattle.snap_prompt.specs.Prompt.{led, move_or_refusal, next_line};
+ghost use Rattle.snap_prompt.specs.Prompt.{opened_prompt, position_or_none, prompt_text};
+ghost use Rattle.snap_prompt.specs.Prompt.{question_text, quitted};
 ghost use Rattle.snap_prompt.specs.Prompt.{reply_or_refusal, schedule_of_run, wanted};
-ghost use Rattle.snap_prompt.specs.Prompt.{with_session};
-ghost use Rattle.snap_prompt.specs.Said.{IsAdded};
+ghost use Rattle.snap_prompt.specs.Prompt.{with_addition, with_session};
+ghost use Rattle.snap_prompt.specs.Said.{IsAdded, saved};
 ghost use Rattle.snap_prompt.specs.Changed.{item_text, state_text};
 
 use crate::changed::state_text;
 use crate::explained::push_explained;
+use crate::greeting::push_greeting;
+use crate::help::push_help;
 use crate::hints::{push_refused_addition, push_refused_line, push_refused_steps};
 use crate::last_item::{do_command, go_to, push_item};
 use crate::listed::push_list;
-use crate::meant::{meant, moves, push_help};
+use crate::meant::{meant, moves};
+use crate::question::Question;
+use crate::saved::push_saved;
+use crate::shows::Shows;
 use crate::{Goal, steps_to};
 use snap_asm_program::Program;
 use snap_debug::{Command, Session};
-use snap_dialog::Respondent;
+use snap_dialog::{Folder, Respondent};
 use snap_listing_printer::LineTexts;
-use snap_prompt_lines::{Addition, Ask, ask_of, edited, is_yes};
+use snap_prompt_lines::{Addition, Ask, ask_of, edited, is_yes, saving_of};
 use snap_report::{head_lines, position_line};
 use snap_sched::{Schedule, print};
 use snap_semantics::{CommandRefusal, Fault};
@@ -37,21 +44,37 @@ use snap_words::{Bits, Kind, Multi, Seq};
 use std::alloc::{AllocError, Global};
 use std::marker::Model;
 
+/// What is asked before the dialog ends.
+const END_QUESTION: &[u8] = b"quit? what was added is lost unless it was saved (y)\n";
+
+/// Adds what is said where a line does not say yes to a question.
+fn push_denied(out: &mut Vec<u8>, question: Question) -> Result<(), AllocError>
+    ensures { OnOk result (out.new.items ≡ out.old.items ++ denied_text question) }
+{
+    match question {
+        Question::Cut(_) => push_text(out, b"nothing is cut\n"),
+        Question::End => push_text(out, b"the dialog goes on\n"),
+    }
+}
+
 /// A session that is talked to, line by line.
-pub struct Prompt<K: Kind> {
+pub struct Prompt<K: Kind, S: Copy> {
     alloc: Global,
+    /// Where schedules are saved.
+    folder: S,
     session: Session<K>,
     /// The schedule of the session.
     schedule: Schedule,
     /// The lines of its listing.
     texts: LineTexts,
     last: Option<Ask>,
-    question: Option<Addition>,
+    question: Option<Question>,
     lines: u64,
-    shows: bool,
+    has_added: bool,
+    shows: Shows,
 }
 
-impl<K: Kind> Model for Prompt<K> {
+impl<K: Kind, S: Copy> Model for Prompt<K, S> {
     ghost use Rattle.std.specs.Prelude.{◌≡◌, map};
     ghost use Rattle.snap_listing_printer.specs.LineTexts.{written};
     ghost use Rattle.snap_prompt.specs.Prompt.{Prompt, schedule_of_run};
@@ -63,6 +86,7 @@ impl<K: Kind> Model for Prompt<K> {
       last = p.last;
       question = p.question;
       lines = p.lines;
+      has_added = p.has_added;
       shows = p.shows;
     } };
 
@@ -70,30 +94,32 @@ impl<K: Kind> Model for Prompt<K> {
         × (p.texts ≡ map written p.session.run.source.lines) };
 }
 
-impl<K: Kind> Drop for Prompt<K> {
+impl<K: Kind, S: Copy> Drop for Prompt<K, S> {
     fn drop(self) {
         let Prompt {
             alloc: _,
+            folder: _,
             session: _,
             schedule: _,
             texts: _,
             last: _,
             question: _,
             lines: _,
+            has_added: _,
             shows: _,
         } = self;
     }
 }
 
-impl<K: Kind> Prompt<K> {
-    /// Before the first item of a schedule, which it takes. `shows` says whether the position
-    /// stands before each line.
+impl<K: Kind, S: Folder + Copy> Prompt<K, S> {
+    /// Before the first item of a schedule, which it takes. Schedules are saved in the folder.
     pub fn over(
         alloc: Global,
         program: &Program,
         schedule: Schedule,
-        shows: bool,
-    ) -> Result<Prompt<K>, AllocError>
+        shows: Shows,
+        folder: S,
+    ) -> Result<Prompt<K, S>, AllocError>
         requires { program.now.kind ≡ K.TAG }
         ensures { IfOk result (λ p. p ≡ opened_prompt (run_over program.now schedule) shows) }
     {
@@ -101,12 +127,14 @@ impl<K: Kind> Prompt<K> {
         let session = Session::<K>::open(alloc, program, &schedule)?;
         Ok(Prompt {
             alloc,
+            folder,
             session,
             schedule,
             texts,
             last: None,
             question: None,
             lines: 0,
+            has_added: false,
             shows,
         })
     }
@@ -186,10 +214,11 @@ impl<K: Kind> Prompt<K> {
     /// Goes on with another schedule, at its end.
     fn extend(&mut self, schedule: Schedule) -> Result<(), AllocError>
         ensures { OnOk result
-            (self.new ≡ with_session (at_end_of schedule self.old.session) self.old) }
+            (self.new ≡ with_addition (at_end_of schedule self.old.session) self.old) }
     {
         self.session = self.reopened(&schedule)?;
         self.schedule = schedule;
+        self.has_added = true;
         Ok(())
     }
 
@@ -247,7 +276,7 @@ impl<K: Kind> Prompt<K> {
             return self.push_added(out, addition);
         }
         self.push_question(out)?;
-        self.question = Some(addition);
+        self.question = Some(Question::Cut(addition));
         Ok(())
     }
 
@@ -262,6 +291,20 @@ impl<K: Kind> Prompt<K> {
             Ok(count) => self.push_wanted(out, Addition::Steps { process, count }),
             Err(why) => push_refused_steps(out, &self.session, self.lines, process, why),
         }
+    }
+
+    /// Ends the dialog, or asks a person who has added items.
+    fn push_quit(&mut self, out: &mut Vec<u8>) -> Result<bool, AllocError>
+        ensures text { OnOk result (out.new.items ≡ out.old.items ++ (quitted self.old).said) }
+        ensures state { OnOk result (self.new ≡ (quitted self.old).state) }
+        ensures goes_on { IfOk result (λ more. more ≡ (quitted self.old).goes_on) }
+    {
+        if self.shows.greets() && self.has_added {
+            push_text(out, END_QUESTION)?;
+            self.question = Some(Question::End);
+            return Ok(true);
+        }
+        Ok(false)
     }
 
     /// Adds the report of the position.
@@ -279,6 +322,21 @@ impl<K: Kind> Prompt<K> {
     {
         let text = print(self.alloc, &self.schedule)?;
         push_text(out, text.as_slice())
+    }
+
+    /// Saves the schedule under a name, and adds what is said of that.
+    #[tactic(auto, using(crate::proofs::Added::saved_is_added))]
+    fn push_saving(
+        &mut self,
+        out: &mut Vec<u8>,
+        name: &[u8],
+        replaces: bool,
+    ) -> Result<(), AllocError>
+        ensures text { OnOk result (IsAdded (saved name.now) out.old.items out.new.items) }
+        ensures same { OnOk result (self.new ≡ self.old) }
+    {
+        let text = print(self.alloc, &self.schedule)?;
+        push_saved(out, &mut self.folder, name, text.as_slice(), replaces)
     }
 
     /// The process of the last item, and 1 where there is none.
@@ -328,7 +386,7 @@ impl<K: Kind> Prompt<K> {
     {
         match ask {
             Ask::Nothing | Ask::Again => {}
-            Ask::Quit => return Ok(false),
+            Ask::Quit => return self.push_quit(out),
             Ask::Help => push_help(out)?,
             Ask::All => head_lines(out, self.session.machine())?,
             Ask::Report => self.push_report(out)?,
@@ -374,37 +432,75 @@ impl<K: Kind> Prompt<K> {
         }
     }
 
+    /// Does what was asked about.
+    fn push_agreed(&mut self, out: &mut Vec<u8>, question: Question) -> Result<bool, AllocError>
+        ensures text { OnOk result (out.new.items ≡ out.old.items
+            ++ (agreed_to self.old question).said) }
+        ensures state { OnOk result (self.new ≡ (agreed_to self.old question).state) }
+        ensures goes_on { IfOk result (λ more. more ≡ (agreed_to self.old question).goes_on) }
+    {
+        match question {
+            Question::Cut(addition) => {
+                self.push_added(out, addition)?;
+                Ok(true)
+            }
+            Question::End => Ok(false),
+        }
+    }
+
     /// Does what a line says to a question, and adds what is answered.
     fn push_decided(
         &mut self,
         out: &mut Vec<u8>,
-        addition: Addition,
+        question: Question,
         agreed: bool,
-    ) -> Result<(), AllocError>
+    ) -> Result<bool, AllocError>
         ensures text { OnOk result (out.new.items ≡ out.old.items
-            ++ (decided self.old addition agreed).said) }
-        ensures state { OnOk result (self.new ≡ (decided self.old addition agreed).state) }
+            ++ (decided self.old question agreed).said) }
+        ensures state { OnOk result (self.new ≡ (decided self.old question agreed).state) }
+        ensures goes_on { IfOk result (λ more. more ≡ (decided self.old question agreed).goes_on) }
     {
         self.question = None;
         if agreed {
-            self.push_added(out, addition)
+            return self.push_agreed(out, question);
+        }
+        push_denied(out, question)?;
+        Ok(true)
+    }
+
+    /// Adds what stands before the first line, where a person is greeted.
+    #[tactic(auto, unfolding(crate::specs::Prompt::greeting_or_none))]
+    fn push_first(&self, out: &mut Vec<u8>) -> Result<(), AllocError>
+        ensures { OnOk result (out.new.items ≡ out.old.items ++ greeting_or_none self.now) }
+    {
+        if self.shows.greets() && self.lines == 0 {
+            push_greeting(out, &self.session)
         } else {
-            push_text(out, b"nothing is cut\n")
+            Ok(())
         }
     }
 
-    /// Adds what stands before a line.
-    #[tactic(auto, using(snap_text::proofs::Texts::joined), unfolding(crate::specs::Prompt::prompt_text))]
+    /// Adds the position, where it stands before each line.
+    #[tactic(auto, using(snap_text::proofs::Texts::joined), unfolding(crate::specs::Prompt::position_or_none))]
     fn push_position(&self, out: &mut Vec<u8>) -> Result<(), AllocError>
-        ensures { OnOk result (out.new.items ≡ out.old.items ++ prompt_text self.now) }
+        ensures { OnOk result (out.new.items ≡ out.old.items ++ position_or_none self.now) }
     {
-        if !self.shows {
+        if !self.shows.places() {
             return Ok(());
         }
         push_number(out, self.session.position())?;
         push_text(out, b"/")?;
         push_number(out, self.session.total())?;
         push_text(out, b"> ")
+    }
+
+    /// Adds what stands before a line.
+    #[tactic(auto, using(snap_text::proofs::Texts::joined))]
+    fn push_front(&self, out: &mut Vec<u8>) -> Result<(), AllocError>
+        ensures { OnOk result (out.new.items ≡ out.old.items ++ prompt_text self.now) }
+    {
+        self.push_first(out)?;
+        self.push_position(out)
     }
 
     /// Adds an answer to a line, and tells whether the dialog goes on.
@@ -416,9 +512,12 @@ impl<K: Kind> Prompt<K> {
         ensures goes_on { IfOk result (λ more. more ≡ (answer_line self.old line.now).goes_on) }
     {
         self.lines = self.lines.saturating_add(1);
-        if let Some(addition) = self.question {
+        if let Some(question) = self.question {
             let agreed = is_yes(self.alloc, line)?;
-            self.push_decided(out, addition, agreed)?;
+            return self.push_decided(out, question, agreed);
+        }
+        if let Some((name, replaces)) = saving_of(line) {
+            self.push_saving(out, name, replaces)?;
             return Ok(true);
         }
         match ask_of(self.alloc, self.lines, line) {
@@ -429,7 +528,7 @@ impl<K: Kind> Prompt<K> {
     }
 }
 // One for each kind: what a session sends to threads is known of each of them.
-impl Respondent for Prompt<Seq> {
+impl<S: Folder + Copy> Respondent for Prompt<Seq, S> {
     ghost prompt_of = { prompt_text };
 
     ghost says = { Says };
@@ -437,7 +536,7 @@ impl Respondent for Prompt<Seq> {
     ghost next_of = { next_line };
 
     fn push_prompt(&self, out: &mut Vec<u8>) -> Result<(), AllocError> {
-        self.push_position(out)
+        self.push_front(out)
     }
 
     fn push_answer(&mut self, out: &mut Vec<u8>, line: &[u8]) -> Result<bool, AllocError> {
@@ -445,7 +544,7 @@ impl Respondent for Prompt<Seq> {
     }
 }
 
-impl Respondent for Prompt<Bits> {
+impl<S: Folder + Copy> Respondent for Prompt<Bits, S> {
     ghost prompt_of = { prompt_text };
 
     ghost says = { Says };
@@ -453,7 +552,7 @@ impl Respondent for Prompt<Bits> {
     ghost next_of = { next_line };
 
     fn push_prompt(&self, out: &mut Vec<u8>) -> Result<(), AllocError> {
-        self.push_position(out)
+        self.push_front(out)
     }
 
     fn push_answer(&mut self, out: &mut Vec<u8>, line: &[u8]) -> Result<bool, AllocError> {
@@ -461,7 +560,7 @@ impl Respondent for Prompt<Bits> {
     }
 }
 
-impl Respondent for Prompt<Multi> {
+impl<S: Folder + Copy> Respondent for Prompt<Multi, S> {
     ghost prompt_of = { prompt_text };
 
     ghost says = { Says };
@@ -469,7 +568,7 @@ impl Respondent for Prompt<Multi> {
     ghost next_of = { next_line };
 
     fn push_prompt(&self, out: &mut Vec<u8>) -> Result<(), AllocError> {
-        self.push_position(out)
+        self.push_front(out)
     }
 
     fn push_answer(&mut self, out: &mut Vec<u8>, line: &[u8]) -> Result<bool, AllocError> {

@@ -52,7 +52,7 @@ pub enum Ask {
 }
 
 /// The line without the line feed at its end.
-fn body(line: &[u8]) -> &[u8]
+pub(crate) fn body(line: &[u8]) -> &[u8]
     ensures { result.now ≡ strip_last 10 line.now }
 {
     match line {

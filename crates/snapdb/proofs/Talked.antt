@@ -1,11 +1,12 @@
 -- What came of a dialog about the texts of files, by what came of one about a listing.
-use Rattle.std.proofs.Common.{◌≡◌, inl, inr, ℕ, Bool, List, Option, None, Result, Ok, Err, refl}
+use Rattle.std.proofs.Common.{◌≡◌, inl, inr, ℕ, List, Option, None, Result, Ok, Err, refl}
 use Rattle.std.specs.Prelude.{IfErr, OnErr, OnOk}
 use Rattle.snap_dialog.specs.declared.fault.DialogFault.{DialogFault}
 use Rattle.snap_faults.specs.Faults.{of_input_fault}
 use Rattle.snap_faults.specs.declared.fault.ProgramFault.{ProgramFault}
 use Rattle.snap_faults.specs.declared.fault.ProgramFault.TheVariants as fault
 use Rattle.snap_input.specs.Schedules.{schedule_for}
+use Rattle.snap_prompt.specs.declared.shows.Shows.{Shows}
 use Rattle.snap_semantics.specs.Answers.{IsRefusal}
 use Rattle.snap_semantics.specs.Schedule.{Schedule}
 use Rattle.snap_semantics.specs.Source.{Source}
@@ -22,7 +23,7 @@ unlisted given.Memory listing shown h = inr (refl, refl)
 unlisted (given.Refused r) listing shown h = inl (r, h, refl, refl)
 
 -- the clauses of a dialog about a listing, as one
-pub talked : (l : Source) (schedule : List ℕ) (shows : Bool) (done : Result (Unit {0}) ProgramFault)
+pub talked : (l : Source) (schedule : List ℕ) (shows : Shows) (done : Result (Unit {0}) ProgramFault)
     (left shown after : Option (List ℕ)) (failed : Option DialogFault) →
     OnOk done ((s : Schedule) × (schedule_for l schedule ≡ Ok s) × ShowsAll l s shows left shown after) →
     ((r : Refusal) → done ≡ Err (fault.Refused r) →

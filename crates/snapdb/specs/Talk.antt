@@ -1,6 +1,6 @@
 -- `Talks`: what comes of a dialog about a listing under the schedule that a text is; `TalksIn`: the same, of the texts
 -- of files.
-use Rattle.std.specs.Prelude.{◌≡◌, ◌⊎◌, ℕ, Bool, List, Option, Some, None, Result, Ok, Err, IfSome}
+use Rattle.std.specs.Prelude.{◌≡◌, ◌⊎◌, ℕ, List, Option, Some, None, Result, Ok, Err, IfSome}
 use Rattle.snap_dialog.specs.Dialog.{ShowsTranscript, ShowsTranscriptPart}
 use Rattle.snap_dialog.specs.TypedLines.{typed_lines}
 use Rattle.snap_dialog.specs.declared.fault.DialogFault.{DialogFault}
@@ -10,6 +10,7 @@ use Rattle.snap_input.specs.Schedules.{schedule_for}
 use Rattle.snap_named_files.specs.Texts.{Read, OfFiles, OfShipped, view_texts}
 use Rattle.snap_named_files.specs.declared.texts.Texts.{Texts}
 use Rattle.snap_prompt.specs.Prompt.{Says, next_line, opened_prompt, prompt_text}
+use Rattle.snap_prompt.specs.declared.shows.Shows.{Shows}
 use Rattle.snap_runs.specs.Run.{run_over}
 use Rattle.snap_semantics.specs.Answers.{refused_as}
 use Rattle.snap_semantics.specs.Listing.{listing_of}
@@ -21,20 +22,20 @@ use Rattle.snap_shipped.specs.Shipped.{shipped}
 use Rattle.snapdb.specs.Start.{EndsFor}
 
 -- A transcript of what is left to be typed was shown, of a dialog about this listing under this schedule.
-abbrev pub ShowsAll : Source → Schedule → (shows : Bool) → (left shown shown_after : Option (List ℕ)) → Type 0
+abbrev pub ShowsAll : Source → Schedule → (shows : Shows) → (left shown shown_after : Option (List ℕ)) → Type 0
 ShowsAll l s shows left shown shown_after =
     IfSome left (λ input. ShowsTranscript prompt_text Says next_line (opened_prompt (run_over l s) shows)
     (typed_lines input) shown shown_after)
 
 -- A beginning of one was shown.
-abbrev pub ShowsSome : Source → Schedule → (shows : Bool) → (left shown shown_after : Option (List ℕ)) → Type 0
+abbrev pub ShowsSome : Source → Schedule → (shows : Shows) → (left shown shown_after : Option (List ℕ)) → Type 0
 ShowsSome l s shows left shown shown_after =
     IfSome left (λ input. ShowsTranscriptPart prompt_text Says next_line (opened_prompt (run_over l s) shows)
     (typed_lines input) shown shown_after)
 
 -- What comes of a dialog about this listing under the schedule that a text is: all of it is shown; or the schedule is
 -- refused, and nothing is; or it is broken off, after a beginning of it. This has failed of the console then.
-abbrev pub Talks : Source → (schedule : List ℕ) → (shows : Bool) → Result (Unit {0}) ProgramFault →
+abbrev pub Talks : Source → (schedule : List ℕ) → (shows : Shows) → Result (Unit {0}) ProgramFault →
     (left shown shown_after : Option (List ℕ)) → (failed : Option DialogFault) → Type 0
 Talks l schedule shows (Ok done) left shown shown_after failed =
     (s : Schedule) × (schedule_for l schedule ≡ Ok s) × ShowsAll l s shows left shown shown_after × (failed ≡ None)
@@ -56,7 +57,7 @@ IsUnlisted listing done shown shown_after =
     ⊎ ((done ≡ Err fault.Memory) × (shown ≡ shown_after))
 
 -- What comes of a dialog about the texts of files.
-abbrev pub TalksIn : Read → (shows : Bool) → Result (Unit {0}) ProgramFault →
+abbrev pub TalksIn : Read → (shows : Shows) → Result (Unit {0}) ProgramFault →
     (left shown shown_after : Option (List ℕ)) → (failed : Option DialogFault) → Type 0
 TalksIn (OfFiles listing schedule) shows done left shown shown_after failed =
     IsUnlisted (listing_in listing) done shown shown_after
@@ -66,7 +67,7 @@ TalksIn (OfShipped kind schedule) shows done left shown shown_after failed =
     ⊎ Talks (shipped kind) schedule shows done left shown shown_after failed
 
 -- What comes of a dialog about what was read; where nothing was, nothing is shown.
-abbrev pub TalksRead : Result Texts ProgramFault → Option Read → (shows : Bool) → Result (Unit {0}) ProgramFault →
+abbrev pub TalksRead : Result Texts ProgramFault → Option Read → (shows : Shows) → Result (Unit {0}) ProgramFault →
     (left shown shown_after : Option (List ℕ)) → (failed : Option DialogFault) → Type 0
 TalksRead (Ok read) texts shows done left shown shown_after failed =
     (texts ≡ Some (view_texts read)) × TalksIn (view_texts read) shows done left shown shown_after failed

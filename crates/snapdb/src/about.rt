@@ -11,21 +11,23 @@ ghost use Rattle.snapdb.specs.Start.{EndsFor};
 ghost use Rattle.snap_faults.specs.declared.fault.ProgramFault.TheVariants.{Refused};
 
 use snap_asm_program::Program;
-use snap_dialog::Console;
+use snap_dialog::{Console, Folder};
 use snap_faults::ProgramFault;
 use snap_input::read_schedule;
-use snap_prompt::converse;
+use snap_prompt::{Shows, converse};
 use std::alloc::Global;
 
 /// Talks at a console about a program under a schedule. What is shown is a transcript of what is
 /// typed; where the schedule is refused, nothing is; and where the dialog is broken off, which only
 /// a device that fails, memory that ran out or an input without an end does, a beginning of it is.
-pub fn talk_about<C: Console>(
+/// Schedules are saved in the folder.
+pub fn talk_about<C: Console, S: Folder + Copy>(
     alloc: Global,
     program: &Program,
     schedule: &[u8],
-    shows: bool,
+    shows: Shows,
     console: &mut C,
+    folder: S,
 ) -> Result<(), ProgramFault>
     requires { C.failure console.old ≡ None }
     ensures shown { OnOk result ((s : Schedule) × (schedule_for program.now schedule.now ≡ Ok s)
@@ -45,6 +47,6 @@ pub fn talk_about<C: Console>(
         (C.shown console.old) (C.shown console.new))) }
 {
     let schedule = read_schedule(alloc, program, schedule)?;
-    converse(alloc, program, schedule, shows, console)?;
+    converse(alloc, program, schedule, shows, console, folder)?;
     Ok(())
 }

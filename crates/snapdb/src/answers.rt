@@ -9,11 +9,12 @@ ghost use Rattle.snapdb.specs.Answer.{AnswersLine, AnswersSession, Shown, called
 ghost use Rattle.snapdb.specs.Talk.{TalksIn};
 
 use crate::about::talk_about;
-use snap_dialog::Console;
+use snap_dialog::{Console, Folder};
 use snap_faults::{Names, ProgramFault, complain, fault_status, say_no_memory, say_no_text, tell};
 use snap_files::FileSource;
 use snap_input::{program_of, shipped};
 use snap_named_files::{Texts, explanation_in, names_of, read_texts};
+use snap_prompt::Shows;
 use snap_semantics::Refusal;
 use snap_streams::{ByteSink, say};
 use snap_words::KindTag;
@@ -24,47 +25,50 @@ use std::alloc::{AllocError, Global};
 const PROGRAM: &str = "snapdb";
 
 /// Talks about the listing that a text is, under the schedule that another is.
-fn talk_over<C: Console>(
+fn talk_over<C: Console, S: Folder + Copy>(
     alloc: Global,
     listing: &[u8],
     schedule: &[u8],
-    shows: bool,
+    shows: Shows,
     console: &mut C,
+    folder: S,
 ) -> Result<(), ProgramFault>
     requires { C.failure console.old ≡ None }
     ensures { TalksIn (OfFiles listing.now schedule.now) shows result (C.left console.old)
         (C.shown console.old) (C.shown console.new) (C.failure console.new) }
 {
     match program_of(alloc, listing) {
-        Ok(program) => talk_about(alloc, &program, schedule, shows, console),
+        Ok(program) => talk_about(alloc, &program, schedule, shows, console, folder),
         Err(fault) => Err(ProgramFault::from(fault)),
     }
 }
 
 /// Talks about the listing that is shipped for a kind, under the schedule that a text is.
-fn talk_over_shipped<C: Console>(
+fn talk_over_shipped<C: Console, S: Folder + Copy>(
     alloc: Global,
     kind: KindTag,
     schedule: &[u8],
-    shows: bool,
+    shows: Shows,
     console: &mut C,
+    folder: S,
 ) -> Result<(), ProgramFault>
     requires { C.failure console.old ≡ None }
     ensures { TalksIn (OfShipped kind schedule.now) shows result (C.left console.old)
         (C.shown console.old) (C.shown console.new) (C.failure console.new) }
 {
     match shipped(alloc, kind) {
-        Ok(program) => talk_about(alloc, &program, schedule, shows, console),
+        Ok(program) => talk_about(alloc, &program, schedule, shows, console, folder),
         Err(_) => Err(ProgramFault::Memory),
     }
 }
 
 /// Talks about these texts.
-fn talk<C: Console>(
+fn talk<C: Console, S: Folder + Copy>(
     alloc: Global,
     texts: &Texts,
-    shows: bool,
+    shows: Shows,
     console: &mut C,
+    folder: S,
 ) -> Result<(), ProgramFault>
     requires { C.failure console.old ≡ None }
     ensures { TalksIn (view_texts texts.now) shows result (C.left console.old)
@@ -77,9 +81,10 @@ fn talk<C: Console>(
             schedule.as_slice(),
             shows,
             console,
+            folder,
         ),
         Texts::Shipped(kind, schedule) => {
-            talk_over_shipped(alloc, *kind, schedule.as_slice(), shows, console)
+            talk_over_shipped(alloc, *kind, schedule.as_slice(), shows, console, folder)
         }
     }
 }
@@ -150,10 +155,10 @@ fn finish<E: ByteSink>(
 
 /// Opens the session that is asked for, says why where there is no dialog, or no whole one, and
 /// answers the status of it.
-fn open<F: FileSource, C: Console, E: ByteSink>(
+fn open<F: FileSource + Folder + Copy, C: Console, E: ByteSink>(
     alloc: Global,
     session: &Session<'_>,
-    shows: bool,
+    shows: Shows,
     files: &F,
     console: &mut C,
     errors: &mut E,
@@ -166,7 +171,7 @@ fn open<F: FileSource, C: Console, E: ByteSink>(
 {
     match read_texts(alloc, files, &session.named) {
         Ok(texts) => {
-            let done = talk(alloc, &texts, shows, console);
+            let done = talk(alloc, &texts, shows, console, *files);
             finish(alloc, session, Some(&texts), &done, errors)
         }
         Err(fault) => finish(alloc, session, None, &Err(fault), errors),
@@ -194,12 +199,12 @@ fn help<C: Console, E: ByteSink>(alloc: Global, text: &[u8], console: &mut C, er
     }
 }
 
-/// Does what a command line asks for, and answers the status of it. `shows` says whether a prompt is
-/// shown before each line.
-pub(crate) fn answer<F: FileSource, C: Console, E: ByteSink>(
+/// Does what a command line asks for, and answers the status of it. `shows` says what is shown
+/// beside the answers.
+pub(crate) fn answer<F: FileSource + Folder + Copy, C: Console, E: ByteSink>(
     alloc: Global,
     line: &Result<CommandLine<'_>, AllocError>,
-    shows: bool,
+    shows: Shows,
     files: &F,
     console: &mut C,
     errors: &mut E,

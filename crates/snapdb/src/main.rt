@@ -3,17 +3,19 @@
 
 mod about;
 mod answers;
+mod system_files;
 
 use answers::answer;
 use snap_dialog::Terminal;
-use snap_files::Disk;
-use snap_pipe::{PipeReader, Piped, Quiet};
+use snap_pipe::{Messages, Piped, end};
+use snap_prompt::Shows;
 use snap_streams::Std;
 use snapdb_command_line::{CommandLine, read_arguments};
 use std::alloc::AllocError;
 use std::io::IsTerminal;
 use std::process::ExitCode;
 use std::{env, io};
+use system_files::SystemFiles;
 
 /// The words of the command line, where they are text.
 fn words_of(rt: &HostRuntime) -> Result<Option<Vec<String>>, AllocError> {
@@ -37,6 +39,16 @@ fn line_of<'a>(
     Ok(read_arguments(rt.alloc(), words)?.explained_if(explains))
 }
 
+/// What is shown beside the answers: no greeting where they are not read at a terminal, and no
+/// position where lines are not typed at one.
+fn shows_at(rt: &HostRuntime) -> Shows {
+    match (rt.stdin().is_terminal(), rt.stdout().is_terminal()) {
+        (true, true) => Shows::Greeting,
+        (true, false) => Shows::Positions,
+        (false, _) => Shows::Answers,
+    }
+}
+
 fn main(rt: HostRuntime) -> ExitCode {
     let words = words_of(&rt);
     let explains = rt.stderr().is_terminal();
@@ -45,18 +57,18 @@ fn main(rt: HostRuntime) -> ExitCode {
         Ok(None) => Ok(CommandLine::NoText),
         Err(_) => Err(AllocError),
     };
-    let shows = rt.stdin().is_terminal();
-    let reader = PipeReader::new();
-    let writer = Piped::new(io::writer(&rt), &reader);
+    let shows = shows_at(&rt);
+    let writer = Piped::new(io::writer(&rt));
     let mut console = Terminal::new(Std::new(rt.reader()), writer);
-    let mut errors = Quiet::new(rt.stderr(), &reader);
+    let mut errors = Messages::new(rt.alloc());
     let status = answer(
         rt.alloc(),
         &line,
         shows,
-        &Disk(&rt),
+        &SystemFiles::new(&rt),
         &mut console,
         &mut errors,
     );
-    ExitCode::from(reader.status(status))
+    let mut device = Std::new(rt.stderr());
+    ExitCode::from(end(status, console.writer(), &errors, &mut device))
 }

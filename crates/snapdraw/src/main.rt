@@ -7,7 +7,8 @@ mod drawing;
 use answers::answer;
 use snap_files::Disk;
 use snap_picture::{LEGEND, Look, STYLE};
-use snap_pipe::{PipeReader, Piped, Quiet};
+use snap_pipe::{Messages, Piped, end};
+use snap_streams::Std;
 use snapdraw_command_line::{CommandLine, read_arguments};
 use std::alloc::AllocError;
 use std::io::IsTerminal;
@@ -50,9 +51,8 @@ fn main(rt: HostRuntime) -> ExitCode {
         Ok(None) => Ok(CommandLine::NoText),
         Err(_) => Err(AllocError),
     };
-    let reader = PipeReader::new();
-    let mut sink = Piped::new(io::writer(&rt), &reader);
-    let mut errors = Quiet::new(rt.stderr(), &reader);
+    let mut sink = Piped::new(io::writer(&rt));
+    let mut errors = Messages::new(rt.alloc());
     let status = answer(rt.alloc(), &line, &LOOK, &Disk(&rt), &mut sink, &mut errors);
-    ExitCode::from(reader.status(status))
+    ExitCode::from(end(status, &sink, &errors, &mut Std::new(rt.stderr())))
 }

@@ -11,7 +11,8 @@ mod searching;
 use crate::answers::answer;
 use crate::progress::Progress;
 use snap_files::Disk;
-use snap_pipe::{PipeReader, Piped, Quiet};
+use snap_pipe::{Messages, Piped, end};
+use snap_streams::Std;
 use snaphunt_command_line::{CommandLine, read_arguments};
 use std::alloc::AllocError;
 use std::io::IsTerminal;
@@ -63,9 +64,8 @@ fn main(rt: HostRuntime) -> ExitCode {
     let words = words_of(&rt);
     let line = explained_line(line_of(&rt, &words), rt.stderr().is_terminal());
     let mut progress = Progress::new(&rt);
-    let reader = PipeReader::new();
-    let mut sink = Piped::new(io::writer(&rt), &reader);
-    let mut errors = Quiet::new(rt.stderr(), &reader);
+    let mut sink = Piped::new(io::writer(&rt));
+    let mut errors = Messages::new(rt.alloc());
     let status = answer(
         &rt,
         rt.alloc(),
@@ -75,5 +75,5 @@ fn main(rt: HostRuntime) -> ExitCode {
         &mut sink,
         &mut errors,
     );
-    ExitCode::from(reader.status(status))
+    ExitCode::from(end(status, &sink, &errors, &mut Std::new(rt.stderr())))
 }

@@ -5,7 +5,7 @@ ghost use Rattle.std.specs.Prelude.{IfOk};
 ghost use Rattle.snap_command_line.specs.Limits.{HasLimits};
 
 use snap_command_line::{CommandLine, read_arguments};
-use snap_pipe::{PipeReader, Piped, Quiet};
+use snap_pipe::{Messages, Piped, end};
 use snap_program::{Std, answer, say_terminal};
 use std::alloc::AllocError;
 use std::io::{self, IsTerminal};
@@ -30,12 +30,11 @@ fn command_line(rt: &HostRuntime) -> Result<CommandLine, AllocError>
 fn main(rt: HostRuntime) -> ExitCode {
     let line = command_line(&rt);
     let mut source = Std::new(rt.reader());
-    let reader = PipeReader::new();
-    let mut sink = Piped::new(io::writer(&rt), &reader);
+    let mut sink = Piped::new(io::writer(&rt));
     if rt.stdin().is_terminal() {
         say_terminal(&line, &mut Std::new(rt.stderr()));
     }
-    let mut errors = Quiet::new(rt.stderr(), &reader);
+    let mut errors = Messages::new(rt.alloc());
     let status = answer(&rt, rt.alloc(), &line, &mut source, &mut sink, &mut errors);
-    ExitCode::from(reader.status(status))
+    ExitCode::from(end(status, &sink, &errors, &mut Std::new(rt.stderr())))
 }

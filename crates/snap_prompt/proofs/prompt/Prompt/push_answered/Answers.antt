@@ -1,26 +1,20 @@
 -- `Prompt::push_answered` of snap_prompt (src/prompt.rt): the proof of what its contract says.
 -- Adds what is answered to a line, and tells whether the dialog goes on.
-use Rattle.std.proofs.Common.{◌≡◌, ◌∙◌, ℕ, List, Err, ap, subst, sym}
+use Rattle.std.proofs.Common.{◌≡◌, ℕ, List, Err, subst}
 use Rattle.snap_semantics.specs.Answers.{IsRefusal}
 use Rattle.snap_semantics.specs.declared.fault.Fault.{Fault}
 use Rattle.snap_semantics.specs.declared.fault.Fault.TheVariants.{Refused}
 use Rattle.snap_semantics.specs.declared.refusal.CommandRefusal.{CommandRefusal}
 use Rattle.snap_prompt_lines.specs.Ask.{ask_of}
-use Rattle.snap_prompt.specs.Prompt.{Prompt}
-use Rattle.snap_prompt.proofs.Added.{asked_is_said, on_ok}
-use Rattle.snap_prompt.proofs.GoesOn.{deciding_goes_on}
+use Rattle.snap_prompt.proofs.Added.{asked_is_said, none_named, on_ok}
 use Rattle.snap_prompt.proofs.prompt.Prompt.push_answered.Goals as goal
-
-pub returns-in-Some-clause-goes_on : goal.returns-in-Some-clause-goes_on
-returns-in-Some-clause-goes_on g c =
-    deciding_goes_on c.args.self.now c.args.line.now c.in-Some.addition
-    (ap (λ (p : Prompt). p.question) (sym c.self.view_is) ∙ c.in-Some.is)
 
 pub returns-in-Ok-clause-text : goal.returns-in-Ok-clause-text
 returns-in-Ok-clause-text g c =
     on_ok c.push_asked.result c.push_asked.ensures.text
     (asked_is_said c.args.self.now _ c.args.line.now _ _ _ _ c.self.view_is
-    c.saturating_add-self-inside.ensures c.in_default.is c.in-Ok.ensures)
+    c.saturating_add-self-inside.ensures c.in_default.is
+    (none_named _ c.saving_of.result _ c.saving_of.ensures c.in_default-saving_of.is) c.in-Ok.ensures)
 
 -- what is answered with a refusal is refused
 refused : (n : ℕ) (line : List ℕ) (f : Fault CommandRefusal) (r : CommandRefusal) → f ≡ Refused r →
@@ -32,4 +26,5 @@ returns-in-Err-Refused-clause-text g c =
     on_ok c.push_asked-in-Err-Refused.result c.push_asked-in-Err-Refused.ensures.text
     (asked_is_said c.args.self.now _ c.args.line.now _ _ _ _ c.self.view_is
     c.saturating_add-self-inside.ensures c.in_default.is
+    (none_named _ c.saving_of.result _ c.saving_of.ensures c.in_default-saving_of.is)
     (refused _ c.args.line.now c.in-Err-Refused.field-0 _ c.in-Err-Refused.field-0-is c.in-Err-Refused.ensures))

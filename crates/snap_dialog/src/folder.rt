@@ -1,0 +1,19 @@
+//! `Folder`: where a dialog keeps texts under names, as files.
+ghost use Rattle.std.specs.Prelude.{ℕ, List, Option, None};
+ghost use Rattle.snap_dialog.specs.Folder.{Keeps, Kept};
+
+use std::io::ErrorKind;
+
+/// A place where texts are kept under names.
+pub trait Folder {
+    /// What was kept so far, in order, where it is known.
+    ghost kept: { Self → Option (List Kept) } = { λ _. None };
+
+    /// Keeps a text under a name. What is there under that name is replaced only if `replaces`.
+    ///
+    /// # Errors
+    ///
+    /// Returns why the text is not kept, `AlreadyExists` where something is there under that name.
+    fn keep(&mut self, name: &[u8], text: &[u8], replaces: bool) -> Result<(), ErrorKind>
+        ensures { Keeps result (kept self.old) (kept self.new) name.now text.now };
+}

@@ -1,0 +1,12 @@
+-- `unwritten_edges` of snap_lint (src/edges.rt): what holds at the head of each of its loops.
+-- Which line leads to which in an update that has written no word.
+use Rattle.std.proofs.Common.{◌≡◌, ◌++◌, drop}
+use Rattle.std.specs.List.{flat_map}
+use Rattle.snap_lint.specs.Flow.{unwritten_edges, unwritten_line_edges}
+use Rattle.snap_lint.proofs.edges.unwritten_edges.Given as goal
+
+-- the edges so far, and those of the lines that are left
+abbrev pub invariant-loop-line : goal.invariant-loop-line
+invariant-loop-line l =
+    l.edges.items ++ flat_map (unwritten_line_edges l.lines l.silent) (drop l.line-index l.lines)
+    ≡ unwritten_edges l.lines l.silent

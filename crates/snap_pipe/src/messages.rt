@@ -1,0 +1,64 @@
+//! `Messages`: what a program says on standard error, kept until its end.
+ghost use Rattle.std.specs.Prelude.{◌≡◌, Some, [], false};
+
+use snap_streams::{ByteSink, Failed};
+use std::alloc::Global;
+
+/// So many bytes are kept even where memory runs out later.
+const ROOM: usize = 4096;
+
+/// A sink that keeps what is said to it. It fails only for want of memory.
+#[derive(Drop)]
+pub struct Messages {
+    text: Vec<u8>,
+    failed: bool,
+    stalled: bool,
+}
+
+impl Messages {
+    /// Returns a sink to which nothing was said yet, with room for a few lines where there is
+    /// memory for that.
+    pub fn new(alloc: Global) -> Messages
+        ensures empty { result.text.items ≡ [] }
+        ensures well { result.failed ≡ false }
+        ensures goes_on { result.stalled ≡ false }
+    {
+        let text = match Vec::with_capacity(alloc, ROOM) {
+            Ok(text) => text,
+            Err(_) => Vec::new(alloc),
+        };
+        Messages {
+            text,
+            failed: false,
+            stalled: false,
+        }
+    }
+
+    /// Returns what was said.
+    pub(crate) fn text(&self) -> &[u8]
+        ensures { result.now ≡ self.now.text.items }
+    {
+        self.text.as_slice()
+    }
+}
+
+impl ByteSink for Messages {
+    ghost state = { λ s. record {
+      taken = Some s.text.items;
+      failed = s.failed;
+      stalled = s.stalled;
+    } };
+
+    fn write(&mut self, bytes: &[u8]) -> Result<usize, Failed> {
+        match self.text.extend_from_slice(bytes) {
+            Ok(()) => {
+                self.stalled = bytes.is_empty();
+                Ok(bytes.len())
+            }
+            Err(_) => {
+                self.failed = true;
+                Err(Failed)
+            }
+        }
+    }
+}

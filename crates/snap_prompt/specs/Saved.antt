@@ -1,0 +1,29 @@
+-- What the debugger's prompt says of a schedule that was to be saved as a file: that it was, or why it was not; and
+-- `Saves`, what a folder has kept then.
+use Rattle.std.specs.Prelude.{◌≡◌, ℕ, List, ◌++◌, Option, Result, Ok, Err, codes}
+use Rattle.std.specs.declared.io.ErrorKind.{ErrorKind}
+use Rattle.std.specs.declared.io.ErrorKind.TheVariants as kind
+use Rattle.snap_dialog.specs.Folder.{Keeps, Kept}
+
+-- why a file was not written, for a person
+abbrev pub save_reason : ErrorKind → List ℕ
+save_reason kind.AlreadyExists = codes "there is such a file, and `save!` writes over it"
+save_reason kind.NotFound = codes "there is no such folder"
+save_reason kind.PermissionDenied = codes "permission denied"
+save_reason kind.IsADirectory = codes "is a directory"
+save_reason kind.InvalidInput = codes "no name of a file"
+save_reason _ = codes "cannot be written"
+
+-- what is said of a schedule that was saved under a name, or was not for this reason
+abbrev pub outcome_line : (name : List ℕ) → Result (Unit {0}) ErrorKind → List ℕ
+outcome_line name (Ok done) = codes "saved: " ++ name ++ codes "\n"
+outcome_line name (Err k) = codes "refused: " ++ name ++ codes ": " ++ save_reason k ++ codes "\n"
+
+-- this may be said of a schedule that was to be saved under a name
+abbrev pub IsSavedLine : (name it : List ℕ) → Type 0
+IsSavedLine name it = (done : Result (Unit {0}) ErrorKind) × (it ≡ outcome_line name done)
+
+-- What is said of a text that was put into a folder under a name is so: that it was saved where the folder has kept it.
+abbrev pub Saves : (name text : List ℕ) → (before after : Option (List Kept)) → (old new : List ℕ) → Type 0
+Saves name text before after old new =
+    (done : Result (Unit {0}) ErrorKind) × Keeps done before after name text × (new ≡ old ++ outcome_line name done)

@@ -1,36 +1,33 @@
 -- `OwnSteps`: the steps that each process has taken since its last call, for failures of too many, after one item
 -- more.
-use Rattle.std.proofs.Common.{◌≡◌, ℕ, zero, suc, ◌+◌, ◌-◌, ◌^◌, ◌<◌, ◌≤◌, Bool, true, false, ◌&&◌, List, [], ◌∷◌}
+use Rattle.std.proofs.Common.{◌≡◌, ℕ, zero, suc, ◌+◌, ◌-◌, ◌^◌, ◌<◌, ◌≤◌, Bool, true, false, ◌&&◌, List}
 use Rattle.std.proofs.Common.{length, get_or, Option, None, if◌then◌else◌, nat_eq}
 use Rattle.std.proofs.Common.{nat_lt, refl, sym, ap, subst, ◌∙◌, arith}
 use Rattle.std.specs.Prelude.{replicate, slice_set}
-use Rattle.std.proofs.Math.Seq.{get_or-append_seam}
 use Rattle.std.proofs.lemmas.Bool.{eqb-true, eqb-false}
 use Rattle.std.proofs.lemmas.Grind.{get_or-set_at}
-use Rattle.std.proofs.lemmas.List.{get_or-replicate, get_or-set_other, length-append}
-use Rattle.std.proofs.lemmas.List.{length-replicate, length-set, take-append-le}
-use Rattle.snap_words.specs.Shape.{Counts, IsOneOf}
+use Rattle.std.proofs.lemmas.List.{get_or-replicate, get_or-set_other}
+use Rattle.std.proofs.lemmas.List.{length-replicate, length-set}
+use Rattle.snap_words.specs.Shape.{IsOneOf}
 use Rattle.snap_semantics.specs.Rules.{or_else}
-use Rattle.snap_semantics.specs.Run.{after}
-use Rattle.snap_semantics.specs.Source.{Source}
-use Rattle.snap_semantics.specs.State.{State, initial}
-use Rattle.snap_semantics.specs.Table.{done, who}
+use Rattle.snap_semantics.specs.Table.{who}
 use Rattle.snap_semantics.specs.declared.process.Item.{Item}
 use Rattle.snap_semantics.specs.declared.process.Item.TheVariants.{Step, Call, Crash}
 use Rattle.snap_semantics.specs.declared.process.Outcome.{Outcome}
 use Rattle.snap_runs.specs.Audit.{is_called, last_call}
-use Rattle.snap_runs.specs.Run.{Run, item, outcome, run_of_items, state}
+use Rattle.snap_runs.specs.Run.{Run, item, outcome}
 use Rattle.snap_runs.specs.Scan.{count, is_not_skipped, own_steps, steps, takes_step}
 use Rattle.snap_runs.proofs.Computing.{same_number}
 use Rattle.snap_runs.proofs.Counting.{count_next, count_none, count_not}
-use Rattle.snap_record.specs.Record.{with_item, with_items}
-use Rattle.snap_record.proofs.Histories.{outcome_last}
+use Rattle.snap_walk.specs.Walk.{Passes, Way}
+use Rattle.snap_walk.specs.declared.passed.Passed.{Passed}
+use Rattle.snap_audit.specs.Watch.{Watches}
+use Rattle.snap_audit.specs.declared.watch.Watch.{Watch}
 use Rattle.snap_failure.specs.Firsts.{asks_update}
-use Rattle.snap_failure.proofs.Doing.{Going, next_few, next_fits}
 use Rattle.snap_failure.specs.declared.failures.Failure.{Failure}
 use Rattle.snap_failure.specs.declared.failures.OwnSteps.{OwnSteps}
 use Rattle.snap_failure.specs.Failing.{overrun, overrun_at, steps_since_call}
-use Rattle.snap_failure.specs.Watching.{TakesOver, TakesOwn, Watches, is_taken, none_taken, noted, noted_if, overrun_by}
+use Rattle.snap_failure.specs.Watching.{CountsSteps, is_taken, none_taken, noted, noted_if, overrun_by}
 
 -- a step of another process is none of this one
 not_stepped : (i : ℕ) (x : Item) → nat_eq (who x) i ≡ false → steps i x ≡ false
@@ -140,7 +137,7 @@ pub watches_next : (r : Run) (most t : ℕ) (owns owns' : List OwnSteps) (found 
     (noted (get_or owns (who (item r (suc t)) - 1) d) (suc t) (item r (suc t)) (outcome r (suc t)))) →
     ((d : OwnSteps) → later ≡ overrun_by most (suc t) (item r (suc t)) (outcome r (suc t))
     (noted (get_or owns (who (item r (suc t)) - 1) d) (suc t) (item r (suc t)) (outcome r (suc t)))) →
-    Watches r most t owns found → Watches r most (suc t) owns' (or_else found later)
+    CountsSteps r most t owns found → CountsSteps r most (suc t) owns' (or_else found later)
 watches_next r most t owns owns' found later one set over h =
     let x = item r (suc t) in
     let o = outcome r (suc t) in
@@ -183,7 +180,7 @@ watches_next r most t owns owns' found later one set over h =
 
 -- before the first item
 pub watches_none : (r : Run) (most : ℕ) (owns : List OwnSteps) →
-    owns ≡ replicate r.shape.n none_taken → Watches r most 0 owns None
+    owns ≡ replicate r.shape.n none_taken → CountsSteps r most 0 owns None
 watches_none r most owns is = record {
   count = ap length is ∙ length-replicate r.shape.n none_taken;
   each = λ i one d.
@@ -193,32 +190,9 @@ watches_none r most owns is = record {
   found_is = refl;
 }
 
--- what comes of the next of the items that are left
-module _ (s : Source) (n : Counts) (all left left' : List Item) (r : Run) (x : Item) (h : Going s n all r left)
-    (next : left ≡ x ∷ left') where
-  whole : run_of_items s n all ≡ with_items r (x ∷ left')
-  whole = sym h.run ∙ ap (with_items r) next
-
-  pub next_item : item (run_of_items s n all) (suc (length r.items)) ≡ x
-  next_item = ap (λ (q : Run). item q (suc (length r.items))) whole ∙ get_or-append_seam r.items x left' (Step 0)
-
-  same_state : state (with_items r (x ∷ left')) (length r.items) ≡ state r (length r.items)
-  same_state =
-      ap (after r.source r.shape (initial r.source r.shape))
-      (take-append-le (length r.items) r.items (x ∷ left') (omega arith))
-
-  pub next_outcome : outcome (run_of_items s n all) (suc (length r.items))
-      ≡ outcome (with_item r x) (suc (length r.items))
-  next_outcome =
-      let t = length r.items in
-      ap (λ (q : Run). outcome q (suc t)) whole
-      ∙ ap (λ (S : State). (done r.source r.shape S (item (with_items r (x ∷ left')) (suc t))).1) same_state
-      ∙ ap (λ (y : Item). (done r.source r.shape (state r t) y).1) (get_or-append_seam r.items x left' (Step 0))
-      ∙ sym (outcome_last r x)
-
 -- a process has room to count one step more
 pub few_steps : (r : Run) (most t i : ℕ) (owns : List OwnSteps) (found : Option Failure) →
-    Watches r most t owns found → IsOneOf r.shape.n i → t ≤ 1000000 →
+    CountsSteps r most t owns found → IsOneOf r.shape.n i → t ≤ 1000000 →
     (d : OwnSteps) → (get_or owns (i - 1) d).count + 1 < 2 ^ 64
 few_steps r most t i owns found h one few d =
     let same : (get_or owns (i - 1) d).count ≡ own_steps r i (last_call r i t) t =
@@ -226,52 +200,45 @@ few_steps r most t i owns found h one few d =
     let less : own_steps r i (last_call r i t) t ≤ t = count_few (takes_step r i) (last_call r i t) t in
     omega (arith, same, less, few)
 
--- the next of the items that are left is of a process that is watched
-module _ (s : Source) (n : Counts) (all left left' : List Item) (r : Run) (x : Item) (most : ℕ)
-    (owns : List OwnSteps) (found : Option Failure)
-    (going : Going s n all r left) (next : left ≡ x ∷ left')
-    (h : Watches (run_of_items s n all) most (length r.items) owns found) where
-  of_process : IsOneOf n.n (who x)
-  of_process =
-      let shape : r.shape ≡ n = ap (λ (q : Run). q.shape) going.run in
-      subst (λ (m : Counts). IsOneOf m.n (who x)) shape (next_fits s n all left left' r x going next)
+-- so has the process of the item that is passed
+pub has_room : (w w' : Way) (p : Passed) (x : Watch) (most : ℕ) (owns : List OwnSteps) (found : Option Failure) →
+    Watches w x → Passes w p w' → CountsSteps w.run most w.at owns found →
+    (d : OwnSteps) → (get_or owns (who p.item - 1) d).count + 1 < 2 ^ 64
+has_room w w' p x most owns found watched is h d =
+    let few = watched.few in
+    let left = is.left in
+    few_steps w.run most w.at (who p.item) owns found h is.process (omega (arith, few, left)) d
 
-  pub has_room : (d : OwnSteps) → (get_or owns (who x - 1) d).count + 1 < 2 ^ 64
-  has_room d =
-      let few = next_few s n all left left' r x going next in
-      few_steps (run_of_items s n all) most (length r.items) (who x) owns found h of_process (omega (arith, few)) d
+-- and its steps are counted
+pub is_counted : (w w' : Way) (p : Passed) (most : ℕ) (owns : List OwnSteps) (found : Option Failure) →
+    Passes w p w' → CountsSteps w.run most w.at owns found → IsOneOf (length owns) (who p.item)
+is_counted w w' p most owns found is h = subst (λ n. IsOneOf n (who p.item)) (sym h.count) is.process
 
--- the next of the items that are left is watched
-pub one_watched : (s : Source) (n : Counts) (all left left' : List Item) (r r' : Run) (x : Item)
-    (most : ℕ) (owns owns' : List OwnSteps)
-    (found later found' : Option Failure) → Going s n all r left → left ≡ x ∷ left' → IsOneOf r.shape.n (who x) →
-    r' ≡ with_item r x → TakesOwn r' x owns owns' → TakesOver r' most x owns later → found' ≡ or_else found later →
-    Watches (run_of_items s n all) most (length r.items) owns found →
-    Watches (run_of_items s n all) most (length r'.items) owns' found'
-one_watched s n all left left' r r' x most owns owns' found later found' going next one is set over first h =
-    let whole = run_of_items s n all in
-    let t = length r.items in
-    let more : length r'.items ≡ suc t =
-    (let e = length-append r.items (x ∷ []) in ap (λ (q : Run). length q.items) is ∙ omega (arith, e)) in
-    let its_item : x ≡ item whole (suc t) = sym (next_item s n all left left' r x going next) in
-    let its_outcome : outcome r' (length r'.items) ≡ outcome whole (suc t) =
-    ap (outcome r') more ∙ ap (λ (q : Run). outcome q (suc t)) is
-    ∙ sym (next_outcome s n all left left' r x going next) in
-    let shape : r.shape ≡ n = ap (λ (q : Run). q.shape) going.run in
-    let there : IsOneOf n.n (who (item whole (suc t))) =
-    subst (λ y. IsOneOf n.n (who y)) its_item (subst (λ (m : Counts). IsOneOf m.n (who x)) shape one) in
+-- the item that is passed is counted
+pub steps_passed : (w w' : Way) (p : Passed) (most : ℕ) (owns owns' : List OwnSteps)
+    (found later found' : Option Failure) → Passes w p w' →
+    ((d : OwnSteps) → owns' ≡ slice_set owns (who p.item - 1)
+    (noted (get_or owns (who p.item - 1) d) p.number p.item p.outcome)) →
+    ((d : OwnSteps) → later ≡ overrun_by most p.number p.item p.outcome
+    (noted (get_or owns (who p.item - 1) d) p.number p.item p.outcome)) → found' ≡ or_else found later →
+    CountsSteps w.run most w.at owns found → CountsSteps w'.run most w'.at owns' found'
+steps_passed w w' p most owns owns' found later found' is set over first h =
+    let r = w.run in
+    let t = w.at in
     let sets : (k : ℕ) (y : Item) (c : Outcome) → Type 0 =
     λ k y c. (d : OwnSteps) → owns' ≡ slice_set owns (who y - 1) (noted (get_or owns (who y - 1) d) k y c) in
     let overs : (k : ℕ) (y : Item) (c : Outcome) → Type 0 =
     λ k y c. (d : OwnSteps) → later ≡ overrun_by most k y c (noted (get_or owns (who y - 1) d) k y c) in
-    let set' : sets (suc t) (item whole (suc t)) (outcome whole (suc t)) =
-    subst (λ k. sets k (item whole (suc t)) (outcome whole (suc t))) more
-    (subst (λ y. sets (length r'.items) y (outcome whole (suc t))) its_item
-    (subst (λ c. sets (length r'.items) x c) its_outcome set)) in
-    let over' : overs (suc t) (item whole (suc t)) (outcome whole (suc t)) =
-    subst (λ k. overs k (item whole (suc t)) (outcome whole (suc t))) more
-    (subst (λ y. overs (length r'.items) y (outcome whole (suc t))) its_item
-    (subst (λ c. overs (length r'.items) x c) its_outcome over)) in
-    subst (λ k. Watches whole most k owns' found') (sym more)
-    (subst (λ f. Watches whole most (suc t) owns' f) (sym first)
-    (watches_next whole most t owns owns' found later there set' over' h))
+    let set' : sets (suc t) (item r (suc t)) (outcome r (suc t)) =
+    subst (λ k. sets k (item r (suc t)) (outcome r (suc t))) is.number
+    (subst (λ y. sets p.number y (outcome r (suc t))) is.item
+    (subst (λ c. sets p.number p.item c) is.outcome set)) in
+    let over' : overs (suc t) (item r (suc t)) (outcome r (suc t)) =
+    subst (λ k. overs k (item r (suc t)) (outcome r (suc t))) is.number
+    (subst (λ y. overs p.number y (outcome r (suc t))) is.item
+    (subst (λ c. overs p.number p.item c) is.outcome over)) in
+    let there : IsOneOf r.shape.n (who (item r (suc t))) =
+    subst (λ y. IsOneOf r.shape.n (who y)) is.item is.process in
+    subst (λ (v : Way). CountsSteps v.run most v.at owns' found') (sym is.way)
+    (subst (λ f. CountsSteps r most (suc t) owns' f) (sym first)
+    (watches_next r most t owns owns' found later there set' over' h))

@@ -1,14 +1,13 @@
 -- `OwnSteps` item by item: the steps that each process has taken since its last call, and the failure that they are
 -- too many.
-use Rattle.std.specs.Prelude.{◌≡◌, ℕ, suc, ◌-◌, Bool, true, false, List, length}
-use Rattle.std.specs.Prelude.{Option, get_or, slice_set}
+use Rattle.std.specs.Prelude.{◌≡◌, ℕ, suc, ◌-◌, Bool, true, false, List, length, Option, get_or}
 use Rattle.snap_words.specs.Shape.{IsOneOf}
 use Rattle.snap_semantics.specs.declared.process.Item.{Item}
 use Rattle.snap_semantics.specs.declared.process.Item.TheVariants.{Step, Call, Crash}
 use Rattle.snap_semantics.specs.declared.process.Outcome.{Outcome}
 use Rattle.snap_semantics.specs.Table.{who}
 use Rattle.snap_runs.specs.Audit.{is_called}
-use Rattle.snap_runs.specs.Run.{Run, outcome}
+use Rattle.snap_runs.specs.Run.{Run}
 use Rattle.snap_runs.specs.Scan.{is_not_skipped}
 use Rattle.snap_failure.specs.Firsts.{asks_update, first_found}
 use Rattle.snap_failure.specs.declared.failures.Failure.{Failure}
@@ -38,20 +37,8 @@ noted own t x o = noted_if (is_called o) (is_taken x o) own t x
 abbrev pub overrun_by : (most t : ℕ) → Item → Outcome → OwnSteps → Option Failure
 overrun_by most t x o own = overrun most (who x) t (is_taken x o) own
 
--- With its last item, which is this one, a run has these steps of its processes after those.
-abbrev pub TakesOwn : Run → Item → List OwnSteps → List OwnSteps → Type 0
-TakesOwn r x owns owns' = (d : OwnSteps) →
-    owns'
-    ≡ slice_set owns (who x - 1) (noted (get_or owns (who x - 1) d) (length r.items) x (outcome r (length r.items)))
-
--- This is what its last item, which is this one, makes of them.
-abbrev pub TakesOver : Run → ℕ → Item → List OwnSteps → Option Failure → Type 0
-TakesOver r most x owns found = (d : OwnSteps) →
-    found ≡ overrun_by most (length r.items) x (outcome r (length r.items))
-    (noted (get_or owns (who x - 1) d) (length r.items) x (outcome r (length r.items)))
-
 -- by item t of a run these are the steps of its processes, and this is the first operation that takes more than so many
-pub record Watches (r : Run) (most t : ℕ) (owns : List OwnSteps) (found : Option Failure) : Type 0 where
+pub record CountsSteps (r : Run) (most t : ℕ) (owns : List OwnSteps) (found : Option Failure) : Type 0 where
   pub count : length owns ≡ r.shape.n
   pub each : (i : ℕ) → IsOneOf r.shape.n i → (d : OwnSteps) → get_or owns (i - 1) d ≡ steps_since_call r i t
   pub found_is : found ≡ first_found (overrun_at r most) t

@@ -1,11 +1,12 @@
-//! What fails in a record, as far as it is `Wanted`: that it is not linearizable, a scan without a
+//! What fails in a run, as far as it is `Wanted`: that it is not linearizable, a scan without a
 //! point, a trap, an operation of too many steps, or a scan of too many double collects.
 ghost use Rattle.std.specs.Prelude.{◌≡◌, IfOk, length};
+ghost use Rattle.snap_semantics.specs.Rules.{or_else};
 ghost use Rattle.snap_runs.specs.Audit.{audit};
-ghost use Rattle.snap_runs.specs.Run.{state};
+ghost use Rattle.snap_walk.specs.Walk.{Way};
+ghost use Rattle.snap_audit.specs.Watch.{Watches, so_far};
 ghost use Rattle.snap_failure.specs.Finding.{Finds};
 ghost use Rattle.snap_failure.specs.Failing.{
-  first_seen,
   first_trap,
   many_collects,
   no_point,
@@ -18,11 +19,12 @@ ghost use Rattle.snap_failure.specs.Failing.{
 
 use crate::failures::{Failure, Wanted};
 use crate::judged::of_judgement;
-use snap_audit::audit;
+use snap_audit::Watch;
 use snap_machine::Machine;
-use snap_record::Record;
+use snap_run_judge::History;
 use snap_runs::Verdict;
 use snap_semantics::Status;
+use snap_walk::Walk;
 use snap_words::Kind;
 use std::alloc::{AllocError, Global};
 
@@ -110,65 +112,70 @@ fn of_collects(wanted: &Wanted, verdicts: &[Verdict]) -> Option<Failure>
     }
 }
 
-/// The verdicts of a record, where the first scan without a point, or with too many double collects,
-/// is asked for.
+/// The verdicts on a run, where the first scan without a point, or with too many double collects, is
+/// asked for.
 #[tactic(auto, using(crate::proofs::Judging::no_points_asked, crate::proofs::Judging::no_collects_asked))]
-fn verdicts_for<K: Kind>(
-    alloc: Global,
-    record: &Record<K>,
-    wanted: &Wanted,
-) -> Result<Vec<Verdict>, AllocError>
-    ensures points { IfOk result (λ vs.
-        of_points wanted.now vs.items ≡ of_points wanted.now (audit record.now)) }
-    ensures collects { IfOk result (λ vs.
-        of_collects wanted.now vs.items ≡ of_collects wanted.now (audit record.now)) }
+fn verdicts_for(alloc: Global, watch: &Watch, wanted: &Wanted) -> Result<Vec<Verdict>, AllocError>
+    requires { (w : Way) × Watches w watch.now }
+    ensures points { IfOk result (λ vs. (w : Way) → Watches w watch.now →
+        of_points wanted.now vs.items ≡ of_points wanted.now (audit (so_far w))) }
+    ensures collects { IfOk result (λ vs. (w : Way) → Watches w watch.now →
+        of_collects wanted.now vs.items ≡ of_collects wanted.now (audit (so_far w))) }
 {
     if wanted.point || wanted.collects.is_some() {
-        audit(alloc, record)
+        watch.verdicts(alloc)
     } else {
         Ok(Vec::new(alloc))
     }
 }
 
-/// What is seen in a record, the first that is asked for: a scan without a point, a trap, the first
+/// What is seen in a run, the first that is asked for: a scan without a point, a trap, the first
 /// operation of too many steps, which is this one, a scan of too many double collects.
 fn first_seen<K: Kind>(
-    alloc: Global,
-    record: &Record<K>,
+    machine: &Machine<K>,
+    verdicts: &[Verdict],
     overrun: Option<Failure>,
     wanted: &Wanted,
-) -> Result<Option<Failure>, AllocError>
-    requires { overrun ≡ of_steps wanted.now record.now }
-    ensures { IfOk result (λ f. f ≡ first_seen wanted.now record.now) }
+) -> Option<Failure>
+    ensures { result ≡ or_else (of_points wanted.now verdicts.now)
+        (or_else (of_traps wanted.now machine.now.state machine.now.shape.n)
+        (or_else overrun (of_collects wanted.now verdicts.now))) }
 {
-    let verdicts = verdicts_for(alloc, record, wanted)?;
-    if let Some(found) = of_points(wanted, verdicts.as_slice()) {
-        return Ok(Some(found));
+    if let Some(found) = of_points(wanted, verdicts) {
+        return Some(found);
     }
-    if let Some(found) = of_traps(wanted, record.machine()) {
-        return Ok(Some(found));
+    if let Some(found) = of_traps(wanted, machine) {
+        return Some(found);
     }
     if let Some(found) = overrun {
-        return Ok(Some(found));
+        return Some(found);
     }
-    Ok(of_collects(wanted, verdicts.as_slice()))
+    of_collects(wanted, verdicts)
 }
 
-/// What fails in a record, the first that is asked for: that it is not linearizable, or what is seen
-/// in it. This is the first operation of too many steps.
-#[tactic(auto, using(crate::proofs::Judging::found_judged, crate::proofs::Judging::found_seen))]
+/// What fails in a run, behind its last item, the first that is asked for: that it is not
+/// linearizable, or what is seen in it. This is the first operation of too many steps.
 pub(crate) fn failure<K: Kind>(
     alloc: Global,
-    record: &Record<K>,
+    walk: &Walk<'_, K>,
+    watch: Watch,
     overrun: Option<Failure>,
     wanted: &Wanted,
 ) -> Result<Option<Failure>, AllocError>
-    requires { overrun ≡ of_steps wanted.now record.now }
-    ensures { IfOk result (Finds wanted.now record.now) }
+    requires end { walk.now.at ≡ length walk.now.run.items }
+    requires watch { Watches walk.now watch }
+    requires overrun { overrun ≡ of_steps wanted.now walk.now.run }
+    ensures { IfOk result (Finds wanted.now walk.now.run) }
 {
-    let judged = of_judgement(alloc, record, wanted)?;
+    let verdicts = verdicts_for(alloc, &watch, wanted)?;
+    let machine = walk.machine();
+    let history = History {
+        shape: machine.shape(),
+        events: watch.into_events(),
+    };
+    let judged = of_judgement(alloc, machine.program(), &history, wanted)?;
     if judged.is_some() {
         return Ok(judged);
     }
-    first_seen(alloc, record, overrun, wanted)
+    Ok(first_seen(machine, verdicts.as_slice(), overrun, wanted))
 }

@@ -1,50 +1,57 @@
-//! `of_judgement`: that the run of a record is not linearizable, where that is asked for.
+//! `of_judgement`: that a run is not linearizable, where that is asked for.
 ghost use Rattle.std.specs.Prelude.{◌≡◌, IfOk, length};
 ghost use Rattle.snap_words.specs.Shape.{IsOneOf};
-ghost use Rattle.snap_run_judge.specs.RunHistory.{history_of};
+ghost use Rattle.snap_runs.specs.Run.{Run};
+ghost use Rattle.snap_run_judge.specs.RunHistory.{IsHistoryOf, history_of};
 ghost use Rattle.snap_failure.specs.Finding.{IsJudged, IsJudgedIf, failure_at};
 
 use crate::failures::{Failure, Wanted};
-use snap_record::Record;
-use snap_run_judge::{Judgement, MOST_CONFIGURATIONS, judge_record};
-use snap_words::Kind;
+use snap_asm_program::Program;
+use snap_run_judge::{History, Judgement, MOST_CONFIGURATIONS, judge_history};
 use std::alloc::{AllocError, Global};
 
-/// That a record fails at this event, counted from 1.
-fn failure_at<K: Kind>(record: &Record<K>, event: usize) -> Failure
-    requires { IsOneOf (length (history_of record.now).events) event }
-    ensures { result ≡ failure_at record.now event }
+/// That a run fails at this event of its history, counted from 1.
+fn failure_at(history: &History, event: usize) -> Failure
+    requires { IsOneOf (length history.now.events) event }
+    ensures { (r : Run) → history.now ≡ history_of r → result ≡ failure_at r event }
 {
-    let event = &record.events()[event - 1];
+    let event = &history.events[event - 1];
     Failure::NotLinearizable {
         process: event.process,
         item: event.item,
     }
 }
 
-/// That the run of a record is not linearizable. Nothing is found where it is, and where that is not
-/// decided.
-#[tactic(auto, using(crate::proofs::Judging::linearizable_so, crate::proofs::Judging::undecided_so, crate::proofs::Judging::fails_so, crate::proofs::Judging::is_event))]
-fn judged<K: Kind>(alloc: Global, record: &Record<K>) -> Result<Option<Failure>, AllocError>
-    ensures { IfOk result (IsJudged record.now) }
+/// That the run of this history is not linearizable. Nothing is found where it is, and where that is
+/// not decided.
+fn judged(
+    alloc: Global,
+    program: &Program,
+    history: &History,
+) -> Result<Option<Failure>, AllocError>
+    requires { (r : Run) × IsHistoryOf r program.now history.now }
+    ensures { IfOk result (λ f. (r : Run) → IsHistoryOf r program.now history.now → IsJudged r f) }
 {
-    match judge_record(alloc, record, MOST_CONFIGURATIONS)? {
-        Judgement::NotLinearizable(event) => Ok(Some(failure_at(record, event))),
+    match judge_history(alloc, program, history, MOST_CONFIGURATIONS)? {
+        Judgement::NotLinearizable(event) => Ok(Some(failure_at(history, event))),
         Judgement::Linearizable(_) => Ok(None),
         Judgement::Undecided(_) => Ok(None),
     }
 }
 
-/// That the run of a record is not linearizable, where that is asked for.
-pub(crate) fn of_judgement<K: Kind>(
+/// That the run of this history is not linearizable, where that is asked for.
+pub(crate) fn of_judgement(
     alloc: Global,
-    record: &Record<K>,
+    program: &Program,
+    history: &History,
     wanted: &Wanted,
 ) -> Result<Option<Failure>, AllocError>
-    ensures { IfOk result (IsJudgedIf wanted.now.linearizable record.now) }
+    requires { (r : Run) × IsHistoryOf r program.now history.now }
+    ensures { IfOk result (λ f. (r : Run) → IsHistoryOf r program.now history.now →
+        IsJudgedIf wanted.now.linearizable r f) }
 {
     if wanted.linearizable {
-        judged(alloc, record)
+        judged(alloc, program, history)
     } else {
         Ok(None)
     }

@@ -10,7 +10,6 @@ mod judged;
 mod over;
 mod step_bounds;
 mod steps;
-mod watched;
 
 pub use failures::{Failure, FailureKind, OwnSteps, StepBound, Wanted};
 pub use over::failure_over;

@@ -6,15 +6,16 @@ ghost use Rattle.snap_failure.specs.Finding.{Finds};
 use crate::failing::failure;
 use crate::failures::{Failure, StepBound, Wanted};
 use crate::step_bounds::most_steps;
-use crate::watched::watched_over;
+use crate::steps::{first, none_taken, note};
 use snap_asm_program::Program;
-use snap_record::record_over;
+use snap_audit::Watch;
 use snap_sched::Schedule;
+use snap_walk::Walk;
 use snap_words::{Bits, Kind, KindTag, Multi, Seq};
 use std::alloc::{AllocError, Global};
 
 /// What fails in the run of a program of a kind, where steps may be as many as they like.
-fn failure_of_record<K: Kind>(
+fn failure_of_run<K: Kind>(
     alloc: Global,
     program: &Program,
     schedule: &Schedule,
@@ -24,12 +25,16 @@ fn failure_of_record<K: Kind>(
     requires steps { wanted.now.steps ≡ None }
     ensures { IfOk result (Finds wanted.now (run_over program.now schedule.now)) }
 {
-    let record = record_over::<K>(alloc, program, schedule)?;
-    failure(alloc, &record, None, wanted)
+    let mut walk = Walk::<K>::over(alloc, program, schedule)?;
+    let mut watch = Watch::new(alloc, program, schedule)?;
+    while let Some(passed) = walk.next()? {
+        watch.note(&walk, passed)?;
+    }
+    failure(alloc, &walk, watch, None, wanted)
 }
 
 /// What fails in the run of a program of a kind, where steps are bounded so.
-fn failure_of_watched<K: Kind>(
+fn failure_of_steps<K: Kind>(
     alloc: Global,
     program: &Program,
     schedule: &Schedule,
@@ -41,8 +46,16 @@ fn failure_of_watched<K: Kind>(
     ensures { IfOk result (Finds wanted.now (run_over program.now schedule.now)) }
 {
     let most = most_steps(program.kind(), schedule.shape(), bound);
-    let watched = watched_over::<K>(alloc, program, schedule, most)?;
-    failure(alloc, &watched.record, watched.overrun, wanted)
+    let mut walk = Walk::<K>::over(alloc, program, schedule)?;
+    let mut watch = Watch::new(alloc, program, schedule)?;
+    let mut owns = none_taken(alloc, schedule.shape().n())?;
+    let mut overrun = None;
+    while let Some(passed) = walk.next()? {
+        let found = note(&mut owns, most, passed.number, passed.item, &passed.outcome);
+        overrun = first(overrun, found);
+        watch.note(&walk, passed)?;
+    }
+    failure(alloc, &walk, watch, overrun, wanted)
 }
 
 /// What fails in the run of a program of a kind.
@@ -56,8 +69,8 @@ fn failure_in<K: Kind>(
     ensures { IfOk result (Finds wanted.now (run_over program.now schedule.now)) }
 {
     match wanted.steps {
-        None => failure_of_record::<K>(alloc, program, schedule, wanted),
-        Some(bound) => failure_of_watched::<K>(alloc, program, schedule, wanted, bound),
+        None => failure_of_run::<K>(alloc, program, schedule, wanted),
+        Some(bound) => failure_of_steps::<K>(alloc, program, schedule, wanted, bound),
     }
 }
 

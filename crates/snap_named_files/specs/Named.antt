@@ -1,7 +1,7 @@
 -- `named_of`: what a command line names: the files of a listing and of a schedule, or the file of a schedule for a
 -- shipped listing.
 use Rattle.std.specs.Prelude.{ℕ, List, [], ◌∷◌, Option, Some, None}
-use Rattle.snap_faults.specs.Names as program
+use Rattle.snap_faults.specs.Names as faults
 use Rattle.snap_words.specs.declared.kind.KindTag.{KindTag}
 use Rattle.snap_named_files.specs.declared.named.Named.{Named}
 use Rattle.snap_named_files.specs.declared.named.Named.TheVariants as named
@@ -22,6 +22,6 @@ named_of (Some kind) (schedule ∷ []) = Some (Shipped kind schedule)
 named_of _ _ = None
 
 -- what a program is called, and the files that are named: where a listing is shipped, a schedule alone
-abbrev pub names_of : (program : List ℕ) → Names → program.Names
+abbrev pub names_of : (program : List ℕ) → Names → faults.Names
 names_of p (Files listing schedule) = record { program = p; listing = Some listing; schedule = Some schedule }
 names_of p (Shipped kind schedule) = record { program = p; listing = None; schedule = Some schedule }

@@ -1,10 +1,12 @@
-// The page's side of a worker: one question at a time, and of several of one kind the newest alone. There are two: one
-// for what is shown, one aside for pictures and for what a step would do, so that a step never waits for these.
+// The page's side of a worker: one question at a time, and of several of one kind the newest alone. There are three:
+// one for what is shown, one aside for pictures and for what a step would do, so that a step never waits for these, and
+// one for hunts, which is started with the first.
 import {MEMORY, OUTPUT, STOPPED, TRAPPED} from './text.js';
 import {$, say} from './elements.js';
 
 const SLOW = 100;
-const DOING = {start: 'starting', audit: 'auditing', judge: 'judging', draw: 'drawing', compare: 'comparing'};
+const DOING = {start: 'starting', audit: 'auditing', judge: 'judging', draw: 'drawing', compare: 'comparing',
+    hunt: 'hunting'};
 const workerCode = new Blob([$('worker').textContent], {type: 'text/javascript'});
 export const failure = {text: ''};
 
@@ -87,8 +89,8 @@ export class Asker {
     }
 }
 
-export const asker = new Asker('shown'), aside = new Asker('aside');
-export const stopAsking = () => [asker, aside].forEach(one => one.stop());
+export const asker = new Asker('shown'), aside = new Asker('aside'), hunter = new Asker('hunter');
+export const stopAsking = () => [asker, aside, hunter].forEach(one => one.stop());
 
 // Without the module nothing works, and nothing looks as if it did.
 function tellFailure(text) {

@@ -1,11 +1,12 @@
 // Buttons and keys.
 import {$, data, say} from './elements.js';
-import {asker, aside, failure, readRefusal, stopAsking} from './asker.js';
+import {asker, aside, failure, hunter, readRefusal, stopAsking} from './asker.js';
 import {timelineFocus} from './editor.js';
 import {change, goOn, goTo, parted, press, refresh, state, toggle, undo} from './state.js';
 import {compare} from './compare.js';
 import {takeDraft, watchDrafts} from './drafts.js';
 import {asHash, asInput, copyFrame, copyLink, copyText, openFile, save, showPicture, takeHash} from './files.js';
+import {hunt} from './hunt.js';
 import {lastProcess, listingEditor, showTexts, toggleBreak} from './listing.js';
 import {choose, fillLessons, makeExercise, nextCaption, openLessons, showIdea, showVerdicts,
     showWhere} from './lessons.js';
@@ -23,7 +24,7 @@ const BUTTONS = {
     trust: () => $('proved').showModal(), compare, present, home: () => goTo(0), end: () => goTo(Infinity),
     back: () => goTo(state.at - 1), on: () => goTo(state.at + 1), run: () => refresh('run'),
     rrun: () => refresh('rrun'), closer: () => zoom(.5), wider: () => zoom(2), fit: () => zoom(0), stop: stopAsking,
-    cut: cutHere, play, next: () => nextCaption(1), previous: () => nextCaption(-1), more,
+    cut: cutHere, hunt, play, next: () => nextCaption(1), previous: () => nextCaption(-1), more,
     'hello-close': closeHello,
 };
 
@@ -96,7 +97,7 @@ export function showState() {
     window.snaplab.shownAt ??= performance.now();
 }
 
-const isSettled = () => Boolean(failure.text) || asker.idle && aside.idle && !state.timer;
+const isSettled = () => Boolean(failure.text) || asker.idle && aside.idle && hunter.idle && !state.timer;
 const answer = (name, texts, numbers) => asker.ask('answer', {name, texts, numbers}, Symbol(name));
 window.snaplab = {state, settled: isSettled, answer, asHash, asInput, change, choose, goTo, press, refresh, toggle,
     asker, showState, readRefusal, shownAt: undefined};

@@ -1,7 +1,7 @@
 // Reads what the program prints, and finds the items of a schedule's lines. Runs in the worker and in the page.
 
 // The module's codes, and two of the page's own: after a trap, and where the user has stopped a run.
-export const OUTPUT = 0, REFUSED = 1, MEMORY = 2, SMALL = 3, TRAPPED = 5, STOPPED = 6;
+export const OUTPUT = 0, REFUSED = 1, MEMORY = 2, SMALL = 3, UNSAID = 5, TRAPPED = 6, STOPPED = 7;
 export const KINDS = [undefined, 'scan', 'update', 'crash'], STEP = 0, CRASH = 3, MOST_ITEMS = 1000000, MOST_TOLD = 999;
 export const ITEM = /^[ \t\r]*(\d+)[ \t\r]*(?:\*[ \t\r]*(\d+)|(scan|crash|update)\b[^#]*)?[ \t\r]*(?:#.*)?$/;
 export const SHAPE = /^[ \t\r]*shape[ \t\r]+(\d+)[ \t\r]+(\d+)/;

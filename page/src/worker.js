@@ -6,6 +6,7 @@ import {Glue} from './glue.js';
 const NEAR = 60;        // so many scans, the last ones, are told of in words, and as many without a point
 const MOST_MARKS = 64;  // of one session; more of them are asked for in several
 const MOST_PICTURED = 300, SHOWN_BEFORE = 3, SHOWN_AFTER = 4;   // of two runs that are compared
+const SEEDS = 20, RUNS_OF_SEED = 500;  // of a hunt
 const NOT_JUDGED = {verdict: '', item: 0, who: 0, reasons: []};
 let glue = null, told = '', operations = null;     // the texts whose operations the page has been told, and these
 
@@ -166,6 +167,15 @@ function compare({runs}) {
     return {code: OUTPUT, parted: k < most ? k + 1 : 0, runs: found.map(run => ({...run, items: near(run)}))};
 }
 
+// The first run of several seeds that fails, made small, as an input; no text where none of them does.
+function hunt({listing, processes, words}) {
+    for (let seed = 1; seed <= SEEDS; seed++) {
+        const answer = asText(glue.answer('page_hunt', [listing], [processes, words, seed, RUNS_OF_SEED]));
+        if (answer.code !== OUTPUT || answer.text) return {...answer, seed};
+    }
+    return {code: OUTPUT, text: '', runs: SEEDS * RUNS_OF_SEED};
+}
+
 // What an input of 'snaplab debug' leads to, whatever it is.
 const tryInput = ({text}) => asText(glue.answer('page_output', ['debug', '', ended(text)]));
 
@@ -176,7 +186,7 @@ async function start(letters) {
     return {code: OUTPUT};
 }
 
-const TASKS = {start, look, audit, judge, draw, peek, reach, writer, compare, tryInput,
+const TASKS = {start, look, audit, judge, draw, peek, reach, writer, compare, hunt, tryInput,
     answer: ({name, texts, numbers}) => glue.answer(name, texts, numbers)};
 
 onmessage = async ({data: {kind, request}}) => {

@@ -150,6 +150,23 @@ def try_pictures(tab, count):
     count.check("a picture of no listing is refused", told == (1, b"refused: L2 BadHeader 1\n"), told[1][:80])
 
 
+def try_hunts(tab, count):
+    """The hunts of the gallery, which bin/snaphunt makes; and what there is no hunt of."""
+    for command, wanted in commands("gallery-2.md"):
+        found = re.fullmatch(r"bin/snaphunt (examples/hunts/\S+) \| sed -n '/\^# run/,\$p'\s*", command)
+        if found:
+            text = read(os.path.join(TOP, found[1]))
+            told = tab.ask_module("page_hunt", (text,), (3, 3, 1, 1000))
+            count.check(f"hunt: {found[1]}", told == (0, text + b"%\n" + wanted.encode()), told[1][-200:])
+    listing = read(os.path.join(TOP, "examples", "u.txt"))
+    count.check("no run of U fails", tab.ask_module("page_hunt", (listing,), (3, 3, 1, 100)) == (0, b""))
+    count.check("there is no hunt of no processes", tab.ask_module("page_hunt", (listing,), (0, 0, 1, 100)) == (4, b""))
+    count.check("nor of more than 1,000,000 runs", tab.ask_module("page_hunt", (listing,), (3, 3, 1, 1000001)) == (4, b""))
+    count.check("a shape that does not fit is refused", tab.ask_module("page_hunt", (listing,), (3, 2, 1, 100)) == (1, b"refused: W1 BadShape\n"))
+    told = tab.ask_module("page_hunt", (b"kind so\n",), (3, 3, 1, 100))
+    count.check("a hunt of no listing is refused", told == (1, b"refused: L2 BadHeader 1\n"), told[1][:80])
+
+
 def try_pairs(tab, count, pairs, first):
     program = os.environ.get("SNAPLAB") or os.path.join(TOP, "crates", "snaplab", "out", "snaplab")
     if not os.access(program, os.X_OK):
@@ -182,6 +199,7 @@ def main():
         try_examples(tab, count)
         try_gallery(tab, count)
         try_pictures(tab, count)
+        try_hunts(tab, count)
         try_pairs(tab, count, pairs, first)
         count.check("a subcommand that is none is told so", tab.answer("live", "", b"") == (4, b""))
     count.finish()

@@ -526,7 +526,7 @@ def try_readers(page, count):
         page.tab.key("Tab")
         reached.add(page.run("document.activeElement.id || document.activeElement.className || document.activeElement.dataset.register || "
                              "document.activeElement.parentElement?.parentElement?.id || document.activeElement.tagName"))
-    wanted = {"menu", "undo", "open", "save", "copy", "link", "picture", "make", "keys", "gutter", "word", "value", "step", "scan", "update", "crash",
+    wanted = {"menu", "hunt", "undo", "open", "save", "copy", "link", "picture", "make", "keys", "gutter", "word", "value", "step", "scan", "update", "crash",
               "cut", "run", "rrun", "home", "end", "at", "timeline", "play", "next", "previous", "compare", "words", "present", "trust", "frame",
               "edge-left", "edge-right", "edge-middle", "edge-lesson"}
     count.check("the Tab key reaches every control", wanted <= reached, wanted - reached)

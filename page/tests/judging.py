@@ -1,5 +1,6 @@
 #!/usr/bin/env python3
 """Whether the run is linearizable: what the page tells of it, where, and when; and that it is asked for once for a run."""
+import re
 import sys
 
 sys.dont_write_bytecode = True
@@ -141,6 +142,35 @@ def try_once(page, count):
         "#run-verdict"))
 
 
+def try_hunt(page, count):
+    """A hunt finds a schedule under which a wrong listing fails, and says so."""
+    page.choose(FIRST_IDEA + 3)
+    page.click("#change")
+    before = page.schedule()
+    page.tab.click("#hunt")
+    page.tab.until("hunter.idle && snaplab.settled()", 120)
+    said = page.text("#note")
+    count.check("a hunt finds a run that fails, shrunk", said.startswith("Run ") and "not linearizable: event" in said, said)
+    item = re.search(r"event (\d+) process", said)
+    count.check("and stands at its end, which is judged so", item and page.at() == f"Item {item[1]} of {item[1]}" and
+                f"item {item[1]}, process" in page.text("#run-verdict"), page.at() + page.text("#run-verdict"))
+    page.click("#undo")
+    count.check("undo brings the schedule back", page.schedule() == before)
+    page.choose(0)
+    page.tab.click("#hunt")
+    page.tab.until("hunter.busy?.kind === 'hunt'")
+    page.click(".process .scan")
+    count.check("the page goes on meanwhile", page.run("!hunter.idle") and page.schedule().endswith("1 scan\n"), page.schedule())
+    page.tab.click("#hunt")
+    page.tab.until("hunter.idle && snaplab.settled()")
+    count.check("and the button stops the hunt", page.text("#note") == "The hunt was stopped." and page.text("#hunt") == "Find a failure", page.text(
+        "#note"))
+    page.write("listing", page.value("#listing textarea").replace("33: finish", "33: finnish"))
+    page.leave()
+    page.click("#hunt")
+    count.check("what is refused is not hunted", "Mend what is refused" in page.text("#note"), page.text("#note"))
+
+
 def try_stopped(page, count):
     page.run("(() => { const send = aside.send; aside.send = function (one) { send.call(this, one); if (one.kind === 'judge') this.stop(); }; })()")
     show_example(page, "update-without-write")
@@ -154,7 +184,7 @@ def main():
     count = browser.Count()
     with browser.Browser() as running:
         page = Page(running.tab())
-        for trial in (try_wrong, try_untold, try_no_point, try_undecided, try_once, try_stopped):
+        for trial in (try_wrong, try_untold, try_no_point, try_undecided, try_once, try_hunt, try_stopped):
             attempt(trial, count, page)
         wrong = [str(one["params"])[:300] for one in list(running.events.queue) if one["method"] == "Runtime.exceptionThrown"]
         count.check("no script failed", not wrong, wrong[:3])

@@ -5,7 +5,8 @@ ghost use Rattle.snap_runs.specs.Run.{run_over};
 ghost use Rattle.snap_failure.specs.Finding.{Finds};
 ghost use Rattle.snap_failure.specs.Kinds.{kind_of};
 ghost use Rattle.snap_semantics.specs.Answers.{Answers};
-ghost use Rattle.snap_hunt.specs.Hunt.{run_of};
+ghost use Rattle.snap_hunt.specs.Hunt.{IsFirst, run_of};
+ghost use Rattle.snap_hunt_output.specs.Asked.{owned};
 ghost use Rattle.snap_hunt_output.specs.Hunted.{IsDue, IsFaultOf, IsHunted, IsHuntedOf};
 ghost use Rattle.snap_hunt_output.specs.Hunted.{IsNoRefusal, IsPrinted, Says, asked_source};
 
@@ -16,7 +17,7 @@ use snap_asm_program::Program;
 use snap_chance::{Plan, schedule_of};
 use snap_failure::{Failure, Wanted, failure_over};
 use snap_faults::ProgramFault;
-use snap_hunt::{Found, Watcher, first_failing, shrunk};
+use snap_hunt::{Found, Watcher, first_failing, first_failing_alone, shrunk};
 use snap_input::{MAX_INPUT, program_of};
 use snap_semantics::{Fault, Refusal};
 use snap_words::WordFault;
@@ -112,9 +113,39 @@ fn check(
     }
 }
 
+/// What a hunt comes to in which this is the first run that fails, or none does: a small run that
+/// fails too, as an input.
+#[tactic(auto, using(crate::proofs::Finding::fault_by, crate::proofs::Finding::found_by, crate::proofs::Finding::none_by))]
+fn hunted_of(
+    alloc: Global,
+    listing: &[u8],
+    program: &Program,
+    plan: &Plan,
+    asked: &Asked,
+    found: Option<Found>,
+) -> Result<Hunted, ProgramFault>
+    requires plan { plan.now ≡ owned program.now.kind asked.now.plan }
+    requires first { IsFirst program.now plan.now asked.now.wanted asked.now.seed 0 asked.now.runs
+        found }
+    ensures hunted { IfOk result (IsHuntedOf program.now listing.now asked.now) }
+    ensures fault { IfErr result (IsFaultOf program.now asked.now) }
+{
+    let Some(found) = found else {
+        return Ok(Hunted::NoneFails);
+    };
+    let small = small_input(alloc, listing, program, plan, asked, &found)?;
+    let alike = asked.wanted.with_only(found.failure.kind());
+    check(alloc, small.input.as_slice(), &alike, &small.failure)?;
+    let SmallInput { failure, input } = small;
+    Ok(Hunted::Fails {
+        run: found.run,
+        failure,
+        input,
+    })
+}
+
 /// The first of the runs of a program that fails, as an input of a small run that fails too;
 /// or that none of them does.
-#[tactic(auto, using(crate::proofs::Finding::fault_by, crate::proofs::Finding::found_by, crate::proofs::Finding::none_by))]
 fn hunt_program<W: Watcher>(
     rt: &(impl Threads + Sync),
     alloc: Global,
@@ -138,18 +169,23 @@ fn hunt_program<W: Watcher>(
         asked.runs,
         watcher,
     )?;
-    let Some(found) = found else {
-        return Ok(Hunted::NoneFails);
-    };
-    let small = small_input(alloc, listing, program, &plan, asked, &found)?;
-    let alike = asked.wanted.with_only(found.failure.kind());
-    check(alloc, small.input.as_slice(), &alike, &small.failure)?;
-    let SmallInput { failure, input } = small;
-    Ok(Hunted::Fails {
-        run: found.run,
-        failure,
-        input,
-    })
+    hunted_of(alloc, listing, program, &plan, asked, found)
+}
+
+/// The same without threads.
+fn hunt_program_alone(
+    alloc: Global,
+    listing: &[u8],
+    program: &Program,
+    asked: &Asked,
+) -> Result<Hunted, ProgramFault>
+    requires { asked.now.runs < 2 ^ 63 }
+    ensures hunted { IfOk result (IsHuntedOf program.now listing.now asked.now) }
+    ensures fault { IfErr result (IsFaultOf program.now asked.now) }
+{
+    let plan = owned(program.kind(), &asked.plan);
+    let found = first_failing_alone(alloc, program, &plan, &asked.wanted, asked.seed, asked.runs)?;
+    hunted_of(alloc, listing, program, &plan, asked, found)
 }
 
 /// The program of a listing that is asked for, where the shape fits its kind.
@@ -180,4 +216,20 @@ pub fn hunt_listing<W: Watcher>(
 {
     let program = asked_program(alloc, listing, asked)?;
     hunt_program(rt, alloc, listing, &program, asked, watcher)
+}
+
+/// Returns what a hunt comes to that is made in one thread, which is what `hunt_listing` returns.
+///
+/// # Errors
+///
+/// The listing is refused as it is elsewhere, and where the shape does not fit its kind; or there is
+/// no memory.
+#[tactic(auto, using(crate::proofs::Finding::hunted_by, crate::proofs::Finding::due_by))]
+pub fn hunt_alone(alloc: Global, listing: &[u8], asked: &Asked) -> Result<Hunted, ProgramFault>
+    requires { asked.now.runs < 2 ^ 63 }
+    ensures hunted { IfOk result (IsHunted listing.now asked.now) }
+    ensures refused { IfErr result (IsDue listing.now asked.now) }
+{
+    let program = asked_program(alloc, listing, asked)?;
+    hunt_program_alone(alloc, listing, &program, asked)
 }

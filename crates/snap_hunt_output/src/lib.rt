@@ -8,4 +8,4 @@ mod input;
 
 pub use asked::Asked;
 pub use check::{InputRun, run_in_input};
-pub use hunted::{Hunted, hunt_listing};
+pub use hunted::{Hunted, hunt_alone, hunt_listing};

@@ -1,5 +1,6 @@
 -- What is handed to a page is of what is answered for what it asks and the input, and of a picture that is so.
-use Rattle.std.proofs.Common.{◌≡◌, ℕ, List, Option, Result, Ok, Err, Vec, refl}
+use Rattle.std.proofs.Common.{◌≡◌, ℕ, List, Option, Result, Ok, Err, Vec, refl, subst}
+use Rattle.std.specs.Prelude.{IfErr, IfOk}
 use Rattle.std.specs.Global.{Global}
 use Rattle.snap_semantics.specs.Answers.{Answers}
 use Rattle.snap_semantics.specs.declared.fault.Fault.{Fault}
@@ -8,6 +9,11 @@ use Rattle.snap_semantics.specs.declared.refusal.Refusal.{Refusal}
 use Rattle.snap_semantics.specs.declared.event.Event.{Event}
 use Rattle.snap_page.specs.Answer.{AnswersAsked, IsAnswerFor}
 use Rattle.snap_page.specs.declared.asked.Asked.{Asked}
+use Rattle.snap_hunt_output.specs.Hunted.{IsDue, IsHunted}
+use Rattle.snap_hunt_output.specs.declared.asked.Asked as hunt
+use Rattle.snap_hunt_output.specs.declared.hunted.Hunted.{Hunted}
+use Rattle.snap_faults.specs.declared.fault.ProgramFault.{ProgramFault}
+use Rattle.snap_page.specs.Hunt.{IsHuntAnswer}
 use Rattle.snap_picture.specs.Picture.{AnswersPicture, IsPictureBy}
 use Rattle.snap_picture.specs.declared.refusal.PictureRefusal.{PictureRefusal}
 
@@ -40,3 +46,9 @@ module _ (IsWrong : Option Event → Type 0) (picture : Option Event → Result 
     of (Ok out) h says = (Ok out.items, h, says (Ok out.items) refl)
     of (Err (fault.Refused r)) h says = (Err r, h, says (Err r) refl)
     of (Err fault.Memory) h says = absurd (apart (λ d. says d tt))
+
+-- What a hunt comes to, or a fault of it, is an answer of it.
+pub hunted : (listing : List ℕ) (a b : hunt.Asked) (result : Result Hunted ProgramFault) → a ≡ b →
+    IfOk result (IsHunted listing a) → IfErr result (IsDue listing a) → IsHuntAnswer listing b result
+hunted listing a b (Ok h) same is due = subst (λ (x : hunt.Asked). IsHunted listing x h) same is
+hunted listing a b (Err why) same is due = subst (λ (x : hunt.Asked). IsDue listing x why) same due

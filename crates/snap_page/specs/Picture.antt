@@ -6,7 +6,9 @@ use Rattle.snap_semantics.specs.Source.{Source}
 use Rattle.snap_semantics.specs.declared.event.Event.{Event}
 use Rattle.snap_semantics.specs.declared.refusal.Refusal.TheVariants.{Listing}
 use Rattle.snap_refusals.specs.RefusalText.{numbered, refusal_text}
+use Rattle.snap_page.specs.Answer.{page_configurations}
 use Rattle.snap_picture.specs.Picture.{FailsUnder, IsPictureBy, picture_of}
+use Rattle.snap_picture.specs.declared.options.Options.{Options}
 use Rattle.snap_picture.specs.declared.refusal.PictureRefusal.{PictureRefusal}
 use Rattle.snap_picture.specs.declared.refusal.PictureRefusal.TheVariants as refusal
 
@@ -14,18 +16,23 @@ use Rattle.snap_picture.specs.declared.refusal.PictureRefusal.TheVariants as ref
 abbrev pub drawn_listing : List ℕ → Result Source PictureRefusal
 drawn_listing text = refused_as refusal.Input (refused_as Listing (listing_of text))
 
+-- the items from one to another, of a run that is judged as long as a page judges one
+abbrev pub options_from : (from to : ℕ) → Options
+options_from from to = record { from = Some from; to = Some to; reads = false; most = page_configurations }
+
 -- The picture of a listing's run under a schedule, from one item to another, or the first reason why there is none. The
 -- operation that ended with the event `wrong` is crossed out.
 abbrev pub drawn : (listing schedule : List ℕ) → (from to : ℕ) → (style legend : List ℕ) → (wrong : Option Event) →
     Result (List ℕ) PictureRefusal
 drawn listing schedule from to style legend wrong = do
   l ← drawn_listing listing
-  picture_of l (Some listing) schedule (record { from = Some from; to = Some to; reads = false }) style legend wrong
+  picture_of l (Some listing) schedule (options_from from to) style legend wrong
 
--- The run of a listing's text over a schedule's fails at this event, or at none, by a judgement of it that is so.
+-- The run of a listing's text over a schedule's fails at this event, or at none, by a judgement of it that is so, and
+-- that meets as few configurations as a page has time for.
 abbrev pub FailsOver : (listing schedule : List ℕ) → Option Event → Type 0
 FailsOver listing schedule wrong =
-    (l : Source) × (drawn_listing listing ≡ Ok l) × FailsUnder l schedule wrong
+    (l : Source) × (drawn_listing listing ≡ Ok l) × FailsUnder page_configurations l schedule wrong
 
 -- The picture that a page asks for, of which what is judged to be wrong, and nothing else, is crossed out; or a refusal.
 abbrev pub IsDrawn : (listing schedule : List ℕ) → (from to : ℕ) → (style legend : List ℕ) →

@@ -16,7 +16,7 @@ use std::alloc::Global;
 
 /// How many configurations a search for an order meets at most: a page waits some seconds for so
 /// many, where the program itself allows ten times as many.
-const PAGE_CONFIGURATIONS: u64 = 100_000;
+pub(crate) const PAGE_CONFIGURATIONS: u64 = 100_000;
 
 /// What is judged: the run of this listing.
 fn judge_request(subject: Subject) -> JudgeRequest

@@ -7,6 +7,7 @@ ghost use Rattle.snap_picture.specs.declared.refusal.PictureRefusal.{PictureRefu
 ghost use Rattle.snap_page.specs.Picture.{FailsOver, drawn, drawn_code, drawn_listing, drawn_text};
 ghost use Rattle.snap_page.specs.Picture.{picture_refusal_line};
 
+use crate::answering::PAGE_CONFIGURATIONS;
 use crate::handed::{Handed, handed_line, handed_refusal, handed_text};
 use itoa::Buffer;
 use snap_asm_program::Program;
@@ -43,6 +44,7 @@ pub fn drawn(
         from: Some(from),
         to: Some(to),
         reads: false,
+        most: PAGE_CONFIGURATIONS as usize,
     };
     picture(alloc, &program, Some(listing), schedule, &options, look)
 }

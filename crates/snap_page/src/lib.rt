@@ -1,24 +1,30 @@
 //! What a page in a browser asks of the program, in one thread: a task on an input, whether a run is
-//! linearizable, and the picture of a run.
+//! linearizable, the picture of a run, and a run that fails.
 #![tactic(auto)]
 
-ghost use Rattle.std.specs.Prelude.{◌≡◌, ◌<◌, ◌⊎◌, ◌↔◌, ℕ, List, None, Result, Some, length, take};
+ghost use Rattle.std.specs.Prelude.{◌≡◌, ◌≢◌, ◌<◌, ◌⊎◌, ◌↔◌, ℕ, List, None, Result, Some, length, take};
 ghost use Rattle.snap_page.specs.Answer.{IsAnswerFor, found_at_once};
 ghost use Rattle.snap_page.specs.Page.{answer_code, answer_text, asked_of};
+ghost use Rattle.snap_page.specs.Hunt.{IsHandedHunt, IsHuntAnswer, IsHuntable, hunt_asked};
 ghost use Rattle.snap_page.specs.Picture.{IsDrawn, drawn_code, drawn_text};
 ghost use Rattle.snap_picture.specs.declared.refusal.PictureRefusal.{PictureRefusal};
 ghost use Rattle.snap_semantics.specs.declared.refusal.Refusal.{Refusal};
+ghost use Rattle.snap_hunt_output.specs.declared.hunted.Hunted.{Hunted};
+ghost use Rattle.snap_faults.specs.declared.fault.ProgramFault.{ProgramFault};
 ghost use Rattle.snap_page.specs.declared.asked.Asked.{Asked};
 
 mod answering;
 mod asked;
 mod drawing;
 mod handed;
+mod hunting;
 
 use answering::answer_to;
 use asked::asked_of;
 use drawing::{drawn, handed_picture};
 use handed::{Handed, handed_answer};
+use hunting::{handed_hunt, hunt_asked};
+use snap_hunt_output::hunt_alone;
 use snap_picture::{LEGEND, Look, STYLE};
 use std::alloc::Global;
 
@@ -82,4 +88,32 @@ pub extern "C" fn page_picture(
     };
     let answer = drawn(alloc, listing, schedule, from, to, &look);
     handed_picture(alloc, answer, room)
+}
+
+/// Hands a page the input of the first run of a seed in which a listing fails, made small, or no text
+/// where none of so many runs fails; or the line that says why there is no hunt.
+#[unsafe(no_mangle)]
+#[tactic(auto, using(crate::proofs::Answered::hunted))]
+pub extern "C" fn page_hunt(
+    alloc: Global,
+    listing: &[u8],
+    n: u64,
+    w: u64,
+    seed: u64,
+    runs: u64,
+    room: &mut [u8],
+) -> Handed
+    ensures code { result.code < 6 }
+    ensures no_hunt { result.code ≡ 4 → ¬ (IsHuntable n w runs) }
+    ensures hunt { result.code ≢ 4 → IsHuntable n w runs }
+    ensures small { result.code ≡ 3 ↔ length room.old < result.len }
+    ensures answer { result.code ≢ 4 → (answer : Result Hunted ProgramFault)
+        × IsHuntAnswer listing.now (hunt_asked n w seed runs) answer
+        × IsHandedHunt answer result.code result.len room.new }
+{
+    let Some(asked) = hunt_asked(n, w, seed, runs) else {
+        return Handed { code: 4, len: 0 };
+    };
+    let answer = hunt_alone(alloc, listing, &asked);
+    handed_hunt(alloc, answer, room)
 }

@@ -7,7 +7,7 @@ use Rattle.snap_semantics.specs.declared.event.Event.{Event}
 use Rattle.snap_runs.specs.Run.{Run}
 use Rattle.snap_draft.specs.Drafted.{Drafted}
 use Rattle.snap_judge.specs.declared.judgements.Judgement.{Judgement}
-use Rattle.snap_run_judge.specs.RunJudgement.{IsRunJudgement, most_configurations}
+use Rattle.snap_run_judge.specs.RunJudgement.{IsRunJudgement}
 use Rattle.snap_picture.specs.Shapes.{shapes}
 use Rattle.snap_svg.specs.ShapeText.{shapes_text}
 use Rattle.snap_svg.specs.Window.{Part}
@@ -28,16 +28,16 @@ finished (Ok out) draft whole h is = h.1 ∙ is h.0
 finished (Err e) draft whole h is = tt
 
 -- the picture of a run that was judged
-pub judged : {E : Type 0} (r history : Run) (j : Judgement) (ss : List Shape) (wrong : Option Event) (p : Part)
+pub judged : {E : Type 0} (most : ℕ) (r history : Run) (j : Judgement) (ss : List Shape) (wrong : Option Event) (p : Part)
     (listing : Option (List ℕ)) (schedule style legend : List ℕ) (result : Result (Vec ℕ Global) E) → history ≡ r →
-    IsRunJudgement most_configurations history j → ss ≡ shapes r → wrong ≡ wrong_at history j →
+    IsRunJudgement most history j → ss ≡ shapes r → wrong ≡ wrong_at history j →
     IfOk result (λ out. out.items ≡ picture_by history ss p listing schedule style legend wrong) →
     IfOk result
     (λ out.
-    (x : Option Event) × FailsBy r x × (out.items ≡ picture_text r p listing schedule style legend x))
-judged r history j ss wrong p listing schedule style legend (Ok out) is so drawn at h = (
+    (x : Option Event) × FailsBy most r x × (out.items ≡ picture_text r p listing schedule style legend x))
+judged most r history j ss wrong p listing schedule style legend (Ok out) is so drawn at h = (
   wrong_at r j,
-  (j, subst (λ (x : Run). IsRunJudgement most_configurations x j) is so, refl),
+  (j, subst (λ (x : Run). IsRunJudgement most x j) is so, refl),
   h ∙ rw (drawn, at, is) refl,
 )
-judged r history j ss wrong p listing schedule style legend (Err e) is so drawn at h = tt
+judged most r history j ss wrong p listing schedule style legend (Err e) is so drawn at h = tt

@@ -7,7 +7,7 @@ use Rattle.snap_judge.specs.declared.judgements.Judgement.{Judgement}
 use Rattle.snap_judge.specs.declared.judgements.Judgement.TheVariants as judgement
 use Rattle.snap_judge_output.specs.JudgementText.{last_of}
 use Rattle.snap_run_judge.specs.RunHistory.{history_of}
-use Rattle.snap_run_judge.specs.RunJudgement.{IsRunJudgement, most_configurations}
+use Rattle.snap_run_judge.specs.RunJudgement.{IsRunJudgement}
 use Rattle.snap_svg.specs.ShapeText.{bar_span}
 use Rattle.snap_svg.specs.declared.shape.Bar.{Bar}
 use Rattle.snap_svg.specs.declared.shape.Shape.{Shape}
@@ -19,9 +19,10 @@ wrong_at r (judgement.NotLinearizable k) = Some (last_of k (history_of r))
 wrong_at r (judgement.Linearizable order) = None
 wrong_at r (judgement.Undecided k) = None
 
--- The run fails at this event, or at none, by a judgement of it that is so.
-abbrev pub FailsBy : Run → Option Event → Type 0
-FailsBy r wrong = (j : Judgement) × IsRunJudgement most_configurations r j × (wrong ≡ wrong_at r j)
+-- The run fails at this event, or at none, by a judgement of it that is so, and that meets at most so many
+-- configurations.
+abbrev pub FailsBy : (most : ℕ) → Run → Option Event → Type 0
+FailsBy most r wrong = (j : Judgement) × IsRunJudgement most r j × (wrong ≡ wrong_at r j)
 
 -- an operation, where it is this process's and ended with this item
 abbrev pub crossed_bar : (process item : ℕ) → Bar → List Shape

@@ -20,7 +20,7 @@ use snap_acts::trace;
 use snap_asm_program::Program;
 use snap_draft::Draft;
 use snap_record::{Record, record_over};
-use snap_run_judge::{MOST_CONFIGURATIONS, judge_record};
+use snap_run_judge::judge_record;
 use snap_sched::Schedule;
 use snap_semantics::{Event, Fault};
 use snap_svg::{Counts, Shape, Window, push_foot, push_head, push_input, push_shapes};
@@ -128,7 +128,8 @@ fn picture_by<K: Kind>(
     out.finish()
 }
 
-/// The picture of a program's run over a schedule. The run is judged for it.
+/// The picture of a program's run over a schedule. The run is judged for it, with at most so many
+/// configurations.
 fn picture_text<K: Kind>(
     alloc: Global,
     program: &Program,
@@ -137,17 +138,18 @@ fn picture_text<K: Kind>(
     listing: Option<&[u8]>,
     schedule: &[u8],
     look: &Look<'_>,
+    most: usize,
 ) -> Result<Vec<u8>, AllocError>
     requires { program.now.kind ≡ K.TAG }
     ensures { let run = run_over program.now items.now in
-        IfOk result (λ out. (wrong : Option Event) × FailsBy run wrong
+        IfOk result (λ out. (wrong : Option Event) × FailsBy most run wrong
         × (out.items ≡ picture_text run window.now (option_map (λ t. t.now) listing.entry)
         schedule.now look.now.style.now look.now.legend.now wrong)) }
 {
     let history = record_over::<K>(alloc, program, items)?;
     let steps = trace::<K>(alloc, program, items)?;
     let shapes = shapes(alloc, &history, steps.as_slice())?;
-    let judgement = judge_record(alloc, &history, MOST_CONFIGURATIONS)?;
+    let judgement = judge_record(alloc, &history, most)?;
     picture_by(
         alloc,
         &history,
@@ -188,14 +190,21 @@ fn picture_of_kind<K: Kind>(
     look: &Look<'_>,
 ) -> Result<Vec<u8>, Fault<PictureRefusal>>
     requires { program.now.kind ≡ K.TAG }
-    ensures { AnswersPicture (FailsUnder program.now schedule.now) result
+    ensures { AnswersPicture (FailsUnder options.now.most program.now schedule.now) result
         (λ wrong. picture_of program.now (option_map (λ t. t.now) listing.entry) schedule.now
         options.now look.now.style.now look.now.legend.now wrong) }
 {
     let items = schedule_of::<K>(alloc, program, schedule)?;
     match window_for(items.items().len(), items.shape(), options) {
         Ok(window) => Ok(picture_text::<K>(
-            alloc, program, &items, &window, listing, schedule, look,
+            alloc,
+            program,
+            &items,
+            &window,
+            listing,
+            schedule,
+            look,
+            options.most,
         )?),
         Err(refusal) => Err(Fault::Refused(refusal)),
     }
@@ -203,7 +212,8 @@ fn picture_of_kind<K: Kind>(
 
 /// The picture of a program under a schedule, as SVG. The text of its listing, where one is given,
 /// and that of the schedule are in it. Where the run is judged not to be linearizable, the operation
-/// is crossed out whose end no order of the operations explains.
+/// is crossed out whose end no order of the operations explains; the judgement meets at most as many
+/// configurations as the options say.
 pub fn picture(
     alloc: Global,
     program: &Program,
@@ -212,7 +222,7 @@ pub fn picture(
     options: &Options,
     look: &Look<'_>,
 ) -> Result<Vec<u8>, Fault<PictureRefusal>>
-    ensures { AnswersPicture (FailsUnder program.now schedule.now) result
+    ensures { AnswersPicture (FailsUnder options.now.most program.now schedule.now) result
         (λ wrong. picture_of program.now (option_map (λ t. t.now) listing.entry) schedule.now
         options.now look.now.style.now look.now.legend.now wrong) }
 {

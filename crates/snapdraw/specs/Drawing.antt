@@ -10,6 +10,7 @@ use Rattle.snap_semantics.specs.Source.{Source}
 use Rattle.snap_semantics.specs.declared.event.Event.{Event}
 use Rattle.snap_semantics.specs.declared.refusal.Refusal.TheVariants.{Listing}
 use Rattle.snap_shipped.specs.Shipped.{shipped}
+use Rattle.snap_run_judge.specs.RunJudgement.{most_configurations}
 use Rattle.snap_picture.specs.Picture.{FailsUnder, IsPictureBy, picture_of}
 use Rattle.snap_picture.specs.declared.options.Options.{Options}
 use Rattle.snap_picture.specs.declared.refusal.PictureRefusal.{PictureRefusal}
@@ -25,9 +26,9 @@ Comes view (Err fault.Memory) wanted = ⊤
 Comes view (Err (fault.Write n)) wanted = ⊥
 Comes view (Err f) wanted = wanted ≡ Err f
 
--- the items that are asked for
+-- the items that are asked for, of a run that is judged as long as the program judges one
 abbrev pub options_of : Drawing → Options
-options_of d = record { from = d.from; to = d.to; reads = d.reads }
+options_of d = record { from = d.from; to = d.to; reads = d.reads; most = most_configurations }
 
 -- the listing that a text is
 abbrev pub listing_in : List ℕ → Result Source ProgramFault
@@ -53,9 +54,11 @@ drawn_texts listing schedule o style legend wrong = do
   l ← listing_in listing
   picture_in l (Some listing) schedule o style legend wrong
 
--- The run of two texts fails at this event, or at none, by a judgement of it that is so.
-abbrev pub FailsInTexts : (listing schedule : List ℕ) → Option Event → Type 0
-FailsInTexts listing schedule wrong = (l : Source) × (listing_in listing ≡ Ok l) × FailsUnder l schedule wrong
+-- The run of two texts fails at this event, or at none, by a judgement of it that is so, and that meets at most so many
+-- configurations.
+abbrev pub FailsInTexts : (most : ℕ) → (listing schedule : List ℕ) → Option Event → Type 0
+FailsInTexts most listing schedule wrong =
+    (l : Source) × (listing_in listing ≡ Ok l) × FailsUnder most l schedule wrong
 
 -- What is drawn is a picture of which what is judged to be wrong, and nothing else, is crossed out. A fault comes before
 -- anything is judged, and a want of memory may stand in place of both; no fault is one of writing.
@@ -72,6 +75,7 @@ bytes_of (Err f) = Err f
 
 -- the picture of these texts, or why there is none
 abbrev pub IsDrawing : Read → Options → (style legend : List ℕ) → Result (List ℕ) ProgramFault → Type 0
-IsDrawing (OfFiles l s) o style legend picture = IsDrawnBy (FailsInTexts l s) (drawn_texts l s o style legend) picture
+IsDrawing (OfFiles l s) o style legend picture =
+    IsDrawnBy (FailsInTexts o.most l s) (drawn_texts l s o style legend) picture
 IsDrawing (OfShipped kind s) o style legend picture =
-    IsDrawnBy (FailsUnder (shipped kind) s) (picture_in (shipped kind) None s o style legend) picture
+    IsDrawnBy (FailsUnder o.most (shipped kind) s) (picture_in (shipped kind) None s o style legend) picture

@@ -12,12 +12,13 @@ use snap_faults::ProgramFault;
 use snap_input::program_of;
 use snap_named_files::Texts;
 use snap_picture::{Look, Options, PictureRefusal, picture};
+use snap_run_judge::MOST_CONFIGURATIONS;
 use snap_semantics::Fault;
 use snap_words::KindTag;
 use snapdraw_command_line::Drawing;
 use std::alloc::Global;
 
-/// The items that are asked for.
+/// The items that are asked for, of a run that is judged as long as the program judges one.
 fn options_of(drawing: &Drawing<'_>) -> Options
     ensures { result ≡ options_of drawing.now }
 {
@@ -25,6 +26,7 @@ fn options_of(drawing: &Drawing<'_>) -> Options
         from: drawing.from,
         to: drawing.to,
         reads: drawing.reads,
+        most: MOST_CONFIGURATIONS,
     }
 }
 
@@ -48,7 +50,7 @@ fn picture_in(
     options: &Options,
     look: &Look<'_>,
 ) -> Result<Vec<u8>, ProgramFault>
-    ensures { IsDrawnBy (FailsUnder program.now schedule.now)
+    ensures { IsDrawnBy (FailsUnder options.now.most program.now schedule.now)
         (picture_in program.now (option_map (λ t. t.now) listing.entry) schedule.now options.now
         look.now.style.now look.now.legend.now) (bytes_of result) }
 {
@@ -73,7 +75,7 @@ fn draw_texts(
     options: &Options,
     look: &Look<'_>,
 ) -> Result<Vec<u8>, ProgramFault>
-    ensures { IsDrawnBy (FailsInTexts listing.now schedule.now)
+    ensures { IsDrawnBy (FailsInTexts options.now.most listing.now schedule.now)
         (drawn_texts listing.now schedule.now options.now look.now.style.now look.now.legend.now)
         (bytes_of result) }
 {

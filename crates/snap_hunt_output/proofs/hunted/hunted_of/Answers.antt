@@ -1,17 +1,15 @@
--- `hunt_program` of snap_hunt_output (src/hunted.rt).
-use Rattle.std.proofs.Common.{List, ℕ, ◌∙◌, ap, subst}
-use Rattle.snap_hunt_output.specs.Asked.{owned}
+-- `hunted_of` of snap_hunt_output (src/hunted.rt).
+use Rattle.std.proofs.Common.{List, ℕ, subst}
 use Rattle.snap_hunt_output.specs.Hunted.{Says}
 use Rattle.snap_hunt_output.proofs.Finding.{found_by}
-use Rattle.snap_hunt_output.proofs.hunted.hunt_program.Goals as goal
+use Rattle.snap_hunt_output.proofs.hunted.hunted_of.Goals as goal
 
 pub returns-clause-hunted : goal.returns-clause-hunted
-returns-clause-hunted g c =
+returns-clause-hunted c =
     let small = c.in_ok-small.small in
     found_by c.args.program.now c.args.listing.now c.args.asked.now c.in-Some.found small.failure small.input.items
-    c.owned-plan.result c.kind-2.result c.with_only-alike.result
-    (c.owned-plan.ensures ∙ ap (λ k. owned k c.args.asked.now.plan) c.kind.ensures)
-    (rw c.in-Some.is at c.in_ok-found.ensures) c.in_ok-small.ensures.alike c.kind-2.ensures c.with_only-alike.ensures
+    c.args.plan.now c.kind.result c.with_only-alike.result c.requires.plan
+    (rw c.in-Some.is at c.requires.first) c.in_ok-small.ensures.alike c.kind.ensures c.with_only-alike.ensures
     c.in_ok-small.ensures.printed
     (subst (λ (x : List ℕ). Says c.with_only-alike.result x small.failure) c.as_slice.ensures.value
     c.in_ok-check.ensures.says)

@@ -10,7 +10,7 @@ returns g c =
     let wrong = option_map (λ (e : Bor Event). e.now) c.wrong_at.result in
     let look = c.args.look.now in
     let listing = option_map (λ (t : Bor (List ℕ)). t.now) c.args.listing in
-    judged (run_over c.args.program.now c.args.items.now) c.in_ok-history.history c.in_ok-judgement.judgement
+    judged c.args.most (run_over c.args.program.now c.args.items.now) c.in_ok-history.history c.in_ok-judgement.judgement
     c.as_slice-2.result.now wrong c.args.window.now listing c.args.schedule.now look.style.now look.legend.now
     c.picture_by.result c.in_ok-history.ensures c.in_ok-judgement.ensures.judgement
     (c.as_slice-2.ensures.value

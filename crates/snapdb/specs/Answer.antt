@@ -13,7 +13,7 @@ use Rattle.snap_named_files.specs.Explained.{explanation_in}
 use Rattle.snap_named_files.specs.Named.{names_of, view_named}
 use Rattle.snap_named_files.specs.Texts.{AreTexts, Read}
 use Rattle.snap_named_files.specs.declared.texts.Texts.{Texts}
-use Rattle.snap_prompt.specs.declared.shows.Shows.{Shows}
+use Rattle.snap_prompt.specs.declared.shows.Shows as beside
 use Rattle.snap_semantics.specs.declared.refusal.Refusal.TheVariants.{InputTooLong}
 use Rattle.snap_streams.specs.Sent.{Says}
 use Rattle.snap_streams.specs.State.{SinkState}
@@ -36,7 +36,7 @@ abbrev pub explained : (explains : Bool) → Option Read → ProgramFault → Li
 explained explains texts f = if explains then why texts f else []
 
 -- What the program does about a session. Where a text is refused, it is the one that is explained.
-abbrev pub AnswersSession : (files : List ℕ → Option (Result (List ℕ) ErrorKind)) → Session → (shows : Shows) →
+abbrev pub AnswersSession : (files : List ℕ → Option (Result (List ℕ) ErrorKind)) → Session → (shows : beside.Shows) →
     (status : ℕ) → (left shown shown_after : Option (List ℕ)) → (failure : Option DialogFault) →
     (errors errors_after : SinkState) → Type 0
 AnswersSession files session shows status left shown shown_after failure errors errors_after =
@@ -57,7 +57,7 @@ Shown text status shown shown_after errors errors_after =
 -- What the program does about a command line, or where there was no memory to read it: what it shows where these bytes
 -- are left to be typed, what it says, and its status.
 abbrev pub AnswersLine : {E : Type 0} → (files : List ℕ → Option (Result (List ℕ) ErrorKind)) → Result CommandLine E →
-    (shows : Shows) → (status : ℕ) → (left shown shown_after : Option (List ℕ)) → (failure : Option DialogFault) →
+    (shows : beside.Shows) → (status : ℕ) → (left shown shown_after : Option (List ℕ)) → (failure : Option DialogFault) →
     (errors errors_after : SinkState) → Type 0
 AnswersLine files (Ok (Asks session)) shows status left shown shown_after failure errors errors_after =
     AnswersSession files session shows status left shown shown_after failure errors errors_after

@@ -1,6 +1,7 @@
 -- What a program whose output may have lost its reader says at its end (`SaysAtEnd`), and the status that it ends with
 -- (`ended_status`).
-use Rattle.std.specs.Prelude.{◌≡◌, ℕ, Bool, true, false, List, Option, Some, None, Result, Ok, Err, if◌then◌else◌}
+use Rattle.std.specs.Prelude.{◌≡◌, ℕ, Bool, true, false, List, Option, Some, None, Result, Ok, Err, codes}
+use Rattle.std.specs.Prelude.{if◌then◌else◌}
 use Rattle.std.specs.IoError.{error_kind}
 use Rattle.std.specs.declared.io.Error.{Error}
 use Rattle.std.specs.declared.io.ErrorKind.{ErrorKind}
@@ -25,6 +26,10 @@ gone = 141
 -- what a program ends with that would else end with this status, where its output failed for this reason
 abbrev pub ended_status : Option ErrorKind → (status : ℕ) → ℕ
 ended_status failure status = if is_gone failure then gone else status
+
+-- what is said at the end: what was kept, or that there was no memory to keep it
+abbrev pub text_at_end : (failed : Bool) → List ℕ → List ℕ
+text_at_end failed text = if failed then codes "refused: Memory\n" else text
 
 -- Messages are said at the end of a program, all of them; where its reader has gone away, none is.
 abbrev pub SaysAtEnd : (is_gone : Bool) → List ℕ → (device device_after : SinkState) → Type 0

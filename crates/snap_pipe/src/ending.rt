@@ -1,6 +1,6 @@
 //! `end`: the end of a program whose output may have lost its reader.
 ghost use Rattle.std.specs.Prelude.{◌≡◌, false};
-ghost use Rattle.snap_pipe.specs.Ended.{SaysAtEnd, ended_status, is_gone};
+ghost use Rattle.snap_pipe.specs.Ended.{SaysAtEnd, ended_status, is_gone, text_at_end};
 
 use crate::messages::Messages;
 use crate::piped::Piped;
@@ -9,12 +9,14 @@ use snap_streams::{ByteSink, say};
 /// The status of a program that `SIGPIPE` ends, as a shell tells it.
 const GONE: u8 = 141;
 
-/// Says the messages of a program that would end with this status, and returns the status. Where
-/// the reader of its output has gone away, nothing is said, and the status is the one of that.
+/// Says the messages of a program that would end with this status, or that there was no memory to
+/// keep them, and returns the status. Where the reader of its output has gone away, nothing is
+/// said, and the status is the one of that.
 pub fn end<W, E: ByteSink>(status: u8, output: &Piped<W>, messages: &Messages, device: &mut E) -> u8
     requires { (E.state device.old).failed ≡ false }
     ensures status { result ≡ ended_status output.now.failure status }
-    ensures says { SaysAtEnd (is_gone output.now.failure) messages.now.text.items
+    ensures says { SaysAtEnd (is_gone output.now.failure)
+        (text_at_end messages.now.failed messages.now.text.items)
         (E.state device.old) (E.state device.new) }
 {
     if output.has_lost_reader() {

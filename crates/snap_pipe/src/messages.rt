@@ -1,11 +1,15 @@
 //! `Messages`: what a program says on standard error, kept until its end.
 ghost use Rattle.std.specs.Prelude.{◌≡◌, Some, [], false};
+ghost use Rattle.snap_pipe.specs.Ended.{text_at_end};
 
 use snap_streams::{ByteSink, Failed};
 use std::alloc::Global;
 
 /// So many bytes are kept even where memory runs out later.
 const ROOM: usize = 4096;
+
+/// What is said where there was no memory to keep what was said.
+const NO_MEMORY: &[u8] = b"refused: Memory\n";
 
 /// A sink that keeps what is said to it. It fails only for want of memory.
 #[derive(Drop)]
@@ -34,11 +38,15 @@ impl Messages {
         }
     }
 
-    /// Returns what was said.
+    /// Returns what was said, or that there was no memory to keep it.
     pub(crate) fn text(&self) -> &[u8]
-        ensures { result.now ≡ self.now.text.items }
+        ensures { result.now ≡ text_at_end self.now.failed self.now.text.items }
     {
-        self.text.as_slice()
+        if self.failed {
+            NO_MEMORY
+        } else {
+            self.text.as_slice()
+        }
     }
 }
 

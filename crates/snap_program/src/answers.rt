@@ -18,11 +18,11 @@ use snap_command_line::{CommandLine, Invocation};
 use snap_devices::{
     ByteSink, ByteSource, Linearizability, conduct_judge, conduct_live_keeping, conduct_model,
 };
-use snap_explanation::{explanation, history_explanation, layout_of};
+use snap_explanation::{explanation, history_explanation, layout_of, turn_limit_explanation};
 use snap_faults::{
     Names, ProgramFault, complain, fault_status, help, say_no_memory, say_no_text, tell,
 };
-use snap_live::NoGate;
+use snap_live::{LiveRefusal, NoGate};
 use snap_streams::say;
 use snap_tasks::{JudgeRequest, Request, Subject, Task};
 use std::alloc::{AllocError, Global};
@@ -74,6 +74,9 @@ fn explained(
         }
         ProgramFault::History(refusal) if asked.explains => {
             history_explanation(alloc, input, refusal)
+        }
+        ProgramFault::Live(LiveRefusal::TurnLimit(process)) if asked.explains => {
+            turn_limit_explanation(alloc, *process)
         }
         _ => Ok(Vec::new(alloc)),
     }

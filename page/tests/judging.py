@@ -157,12 +157,17 @@ def try_hunt(page, count):
     page.click("#undo")
     count.check("undo brings the schedule back", page.schedule() == before)
     page.choose(0)
-    page.tab.click("#hunt")
-    page.tab.until("hunter.busy?.kind === 'hunt'")
-    page.click(".process .scan")
-    count.check("the page goes on meanwhile", page.run("!hunter.idle") and page.schedule().endswith("1 scan\n"), page.schedule())
-    page.tab.click("#hunt")
+    # In one script, since a hunt is over in some seconds: an item is added while it goes on, and then it is stopped.
+    went_on = page.run("""(async () => {
+        const {schedule} = snaplab.state, button = document.getElementById('hunt');
+        button.click();
+        document.querySelector('.process .scan').click();
+        while (snaplab.state.schedule === schedule && !hunter.idle) await new Promise(done => setTimeout(done, 5));
+        const busy = !hunter.idle;
+        button.click();
+        return busy; })()""")
     page.tab.until("hunter.idle && snaplab.settled()")
+    count.check("the page goes on meanwhile", went_on and page.schedule().endswith("1 scan\n"), [went_on, page.schedule()])
     count.check("and the button stops the hunt", page.text("#note") == "The hunt was stopped." and page.text("#hunt") == "Find a failure", page.text(
         "#note"))
     page.write("listing", page.value("#listing textarea").replace("33: finish", "33: finnish"))

@@ -52,8 +52,8 @@ def ask(tab, args, given):
 
 def try_examples(tab, count):
     passed_over = []
-    for name in sorted(os.listdir(os.path.join(TOP, "examples"))):
-        folder = os.path.join(TOP, "examples", name)
+    for name in sorted(f"{place}/{it}" for place in ("examples", "tests/cases") for it in os.listdir(os.path.join(TOP, place))):
+        folder = os.path.join(TOP, name)
         if not os.path.isfile(os.path.join(folder, "args")):
             continue
         args = read(os.path.join(folder, "args"), "r").split("\n")[:-1]
@@ -66,14 +66,14 @@ def try_examples(tab, count):
         status = int(read(file)) if os.path.exists(file) else 0
         file = os.path.join(folder, "stderr")
         same = told[0] == status and told[1] == read(os.path.join(folder, "stdout"))
-        count.check(f"examples/{name}", same and (not os.path.exists(file) or told[2] == read(file)), told[2][:80])
+        count.check(name, same and (not os.path.exists(file) or told[2] == read(file)), told[2][:80])
         for other, sub in (("audit", "audit"), ("events", "run")):
             wanted = os.path.join(folder, other)
             if os.path.exists(wanted):
                 said = ask(tab, [sub, *args[1:]], given)[1]
                 if other == "events":
                     said = b"".join(line for line in said.splitlines(True) if line.startswith(b"event "))
-                count.check(f"examples/{name}, {other}", said == read(wanted))
+                count.check(f"{name}, {other}", said == read(wanted))
     print("not asked of the module:", ", ".join(passed_over))
 
 

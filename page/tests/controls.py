@@ -256,10 +256,10 @@ def try_files(page, count, running):
         page.choose(0)
         open_file(page, path)
         count.check("open", page.run("asInput()") == text)
-        for name in ("debug", "debug-end-of-a-run"):
-            open_file(page, os.path.join(TOP, "examples", name, "stdin"))
-            out = re.findall(r"(?m)^report at (\d+) of", read("examples", name, "stdout"))[-1]
-            count.check(f"open examples/{name}", page.at().split()[1] == out, page.at())
+        for name in ("examples/debug", "tests/cases/debug-end-of-a-run"):
+            open_file(page, os.path.join(TOP, name, "stdin"))
+            out = re.findall(r"(?m)^report at (\d+) of", read(name, "stdout"))[-1]
+            count.check(f"open {name}", page.at().split()[1] == out, page.at())
 
 
 def try_picture(page, count):

@@ -167,8 +167,8 @@ def try_changes(page, count):
     page.key("r")
     count.check("and again at the next", page.at() == "Item 54 of 64" and "5\u21926" in page.text("#memory"), page.text("#memory"))
     page.key("Home", "End")
-    count.check("after a jump too", page.run("document.querySelector('#memory .since')?.title ?? ''") == "was 0 0 at item 0",
-                page.run("document.querySelector('#memory .since')?.title ?? ''"))
+    titles = page.run("[...document.querySelectorAll('#memory .since')].map(e => e.title)")
+    count.check("after a jump too", titles and all(re.fullmatch("was 0( 0)? at item 0", title) for title in titles), titles)
 
 
 def try_texts(page, count):

@@ -15,7 +15,7 @@ module _ {S : Type 0} (next : S → List ℕ → Next S) where
   next_or_end s [] = record { state = s; goes_on = false }
   next_or_end s (b ∷ bs) = next s (b ∷ bs)
 
-  -- this is what comes of a line: the respondent from there on, and whether the dialog goes on
+  -- what comes of a line: the respondent from there on, and whether the dialog goes on
   abbrev pub IsAnswered : S → List ℕ → S → Bool → Type 0
   IsAnswered s line after more = (after ≡ (next_or_end s line).state) × (more ≡ (next_or_end s line).goes_on)
 
@@ -52,7 +52,7 @@ module _ {S : Type 0} (prompt : S → List ℕ) (says : S → List ℕ → List 
   IsTurn s line events =
       (text : List ℕ) × SaysOrEnds says s line text × (events ≡ said (prompt s) ∷ typed line ∷ said text ∷ [])
 
-  -- and what is shown
+  -- what is shown for one line: the prompt and an answer
   abbrev pub IsTurnText : S → List ℕ → List ℕ → Type 0
   IsTurnText s line shown = (text : List ℕ) × SaysOrEnds says s line text × (shown ≡ prompt s ++ text)
 

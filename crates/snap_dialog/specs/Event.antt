@@ -15,7 +15,7 @@ Passes None new event = ⊤
 Passes (Some old) None event = ⊥
 Passes (Some old) (Some new) event = new ≡ old ++ event ∷ []
 
--- these have passed, where it is known what has
+-- several things have passed, in order, where it is known what has
 abbrev pub PassesAll : Option (List Event) → Option (List Event) → List Event → Type 0
 PassesAll None new events = ⊤
 PassesAll (Some old) None events = ⊥

@@ -13,7 +13,8 @@ HasKept first left line = IfSome first (λ all. (rest : List ℕ) × (left ≡ S
     × (take_through 10 all ≡ seen ++ take_through 10 rest)
     × (drop_through 10 all ≡ drop_through 10 rest) × (line ≡ kept seen))
 
--- So many turns, or bytes of a line, have taken at least as many bytes of the input `first`, of which there is `left`.
+-- A number of turns, or of bytes of a line, have taken at least as many bytes of the input `first`, of which there is
+-- `left`.
 abbrev pub HasTaken : ℕ → Option (List ℕ) → Option (List ℕ) → Type 0
 HasTaken count first left =
     IfSome first (λ all. (rest : List ℕ) × (left ≡ Some rest) × (count + length rest ≤ length all))

@@ -12,19 +12,23 @@ use std::alloc::Global;
 
 /// A place where lines are typed and texts are shown.
 pub trait Console {
-    /// What has passed so far, in order, where it is known.
+    /// What has passed so far, in order, if it is known.
     ghost passed: { Self → Option (List Event) } = { λ _. None };
 
-    /// The bytes that are still to be typed, where they are known.
+    /// The bytes that are still to be typed, if they are known.
     ghost left: { Self → Option (List ℕ) } = { λ _. None };
 
-    /// The bytes that were shown, where they are known.
+    /// The bytes that were shown, if they are known.
     ghost shown: { Self → Option (List ℕ) } = { λ _. None };
 
-    /// What of it has failed, where something has.
+    /// The device of the console that has failed, if one has.
     ghost failure: { Self → Option DialogFault };
 
-    /// Shows a text now. Where its device fails, a beginning of the text was shown.
+    /// Shows `text` at once.
+    ///
+    /// # Errors
+    ///
+    /// The fault of the device that failed; a beginning of `text` was shown then.
     fn say(&mut self, text: &[u8]) -> Result<(), DialogFault>
         requires { failure self.old ≡ None }
         ensures event { Says result (passed self.old) (passed self.new) text.now }
@@ -33,8 +37,14 @@ pub trait Console {
         ensures failure { failure self.new ≡ failure_of result }
         ensures fails { IfErr result (λ fault. fault ≡ Write) };
 
-    /// Waits for a line, of which it keeps as much as a line may have and one byte more. Only at
-    /// the end of the input it is empty.
+    /// Waits for a line, and returns it with its line feed; an empty line is returned only at the
+    /// end of the input. Of a line that is too long, one byte more is returned than a line may
+    /// have.
+    ///
+    /// # Errors
+    ///
+    /// The fault of the device that failed; `Memory` where memory runs out; `Endless` where the
+    /// line has more bytes than can be counted.
     fn line(&mut self, alloc: Global) -> Result<Vec<u8>, DialogFault>
         requires { failure self.old ≡ None }
         ensures event { Types result (passed self.old) (passed self.new) }

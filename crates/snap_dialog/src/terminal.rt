@@ -8,7 +8,8 @@ use crate::typed_line::read_line;
 use snap_streams::{ByteSink, ByteSource, write_all};
 use std::alloc::Global;
 
-/// A source of what is typed and a sink of what is shown, as those of the process.
+/// A console of two devices, as those of the process: a source of what is typed and a sink of what
+/// is shown.
 #[derive(Drop)]
 pub struct Terminal<R, W> {
     reader: R,
@@ -16,7 +17,7 @@ pub struct Terminal<R, W> {
 }
 
 impl<R, W> Terminal<R, W> {
-    /// A console of these two.
+    /// Returns a console that reads from `reader` and shows on `writer`.
     pub fn new(reader: R, writer: W) -> Terminal<R, W>
         ensures reader { result.reader ≡ reader }
         ensures writer { result.writer ≡ writer }

@@ -12,7 +12,8 @@ use crate::fault::DialogFault;
 use crate::respondent::Respondent;
 use std::alloc::{AllocError, Global};
 
-/// Adds an answer to a line; nothing is answered to the end of the input, which ends the dialog.
+/// Appends an answer of `partner` to `line`, and returns whether the dialog goes on. Nothing is
+/// answered to the end of the input, which ends the dialog.
 fn push_answer_or_end<P: Respondent>(
     partner: &mut P,
     out: &mut Vec<u8>,
@@ -31,8 +32,8 @@ fn push_answer_or_end<P: Respondent>(
     partner.push_answer(out, line)
 }
 
-/// One turn: the prompt, a line, and its answer, in that order.
-/// It tells whether another turn follows. Where it fails, a beginning of that has passed.
+/// Takes one turn: shows the prompt, reads a line, and shows its answer, in that order; and returns
+/// whether another turn follows. After an error, a beginning of the turn has passed.
 fn take_turn<C: Console, P: Respondent>(
     alloc: Global,
     console: &mut C,
@@ -61,10 +62,14 @@ fn take_turn<C: Console, P: Respondent>(
     Ok(goes_on)
 }
 
-/// Talks to the last line. What passes is a dialog, each answer before the next prompt; and what is
-/// shown is a transcript of what is typed. It is broken off only where a device of the console
-/// fails, for want of memory, or where the lines, or the bytes of one, are more than can be counted:
-/// then a beginning of a dialog has passed, and a beginning of a transcript was shown.
+/// Talks with `partner` at `console` until the dialog ends. What passes is a dialog, each answer
+/// before the next prompt; what is shown is a transcript of what is typed.
+///
+/// # Errors
+///
+/// The fault of a device of `console` that failed; `Memory` where memory runs out; `Endless` where
+/// the lines, or the bytes of one, are more than can be counted. A beginning of a dialog has passed
+/// then, and a beginning of a transcript was shown.
 pub fn talk<C: Console, P: Respondent>(
     alloc: Global,
     console: &mut C,

@@ -1,5 +1,5 @@
-//! `read_line`: reads a line that is typed at a console, byte by byte, and keeps no more of it than
-//! a line may have.
+//! `read_line`: reads a line that is typed at a console, byte by byte, and keeps at most one byte
+//! more of it than a line may have.
 ghost use Rattle.std.specs.Prelude.{◌≡◌, ◌<◌, false, is_err, IfErr, IfOk, IfSome, OnOk, length};
 ghost use Rattle.std.specs.Io.BufRead.{take_through, DropsThrough};
 ghost use Rattle.snap_dialog.specs.Failures.{MayEndLine, is_read_fault};
@@ -13,7 +13,7 @@ use std::alloc::{AllocError, Global};
 /// The most bytes that a line may have.
 const MAX_LINE: usize = 1_048_576;
 
-/// The next byte, where there is one.
+/// Reads the next byte; `None` at the end of the input.
 fn next_byte<R: ByteSource>(reader: &mut R) -> Result<Option<u8>, DialogFault>
     requires { (R.state reader.old).failed ≡ false }
     ensures byte { IfOk result (λ next.
@@ -29,7 +29,7 @@ fn next_byte<R: ByteSource>(reader: &mut R) -> Result<Option<u8>, DialogFault>
     }
 }
 
-/// Keeps one byte more of a line, unless it is too long already.
+/// Appends `byte` to `line`, unless `line` is too long already.
 fn keep_byte(line: &mut Vec<u8>, byte: u8) -> Result<(), AllocError>
     ensures { OnOk result (line.new.items ≡ with_byte line.old.items byte) }
 {
@@ -39,9 +39,13 @@ fn keep_byte(line: &mut Vec<u8>, byte: u8) -> Result<(), AllocError>
     Ok(())
 }
 
-/// Reads a line with its line feed, and no byte behind it. Of a line that is too long it keeps one
-/// byte more than a line may have. It fails with its source, for want of memory, or where the bytes
-/// of a line are more than can be counted.
+/// Reads a line up to and with its line feed, or to the end of the input. Of a line that is too
+/// long, one byte more is returned than a line may have.
+///
+/// # Errors
+///
+/// `Read` where `reader` fails; `Memory` where memory runs out; `Endless` where the line has more
+/// bytes than can be counted.
 pub fn read_line<R: ByteSource>(alloc: Global, reader: &mut R) -> Result<Vec<u8>, DialogFault>
     requires { (R.state reader.old).failed ≡ false }
     ensures line { IfOk result (λ line.

@@ -10,15 +10,15 @@ use thiserror::Error;
 pub enum FileFault {
     #[error("out of memory")]
     Memory,
-    /// It has as many bytes as are too many, or more.
+    /// The file has too many bytes.
     #[error("the file is too long")]
     TooLong,
-    /// It could not be opened, or not be read to its end.
+    /// The file could not be opened, or not be read to its end.
     #[error("the file cannot be read")]
     Unread(ErrorKind),
 }
 
-/// Why a file could not be opened or read, for a person.
+/// Returns why a file could not be opened or read, for a person.
 pub fn reason(kind: ErrorKind) -> &'static str
     ensures { result.now ≡ reason kind }
 {

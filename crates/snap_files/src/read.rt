@@ -1,4 +1,4 @@
-//! `read_named`: the bytes of a file that a command line names, read whole, where they are not too
+//! `read_named`: the bytes of a file that a command line names, read whole, if they are not too
 //! many.
 ghost use Rattle.std.specs.Prelude.{◌≡◌, ◌≤◌, ◌<◌, IfErr, IfOk, IfSome, IsErrAnd};
 ghost use Rattle.std.specs.Prelude.{MatchOption, None, length};
@@ -11,8 +11,12 @@ use std::fs::File;
 use std::io;
 use std::io::{Error, ErrorKind, Read};
 
-/// Reads all there is, where it has fewer than `most` bytes. A source may have no end, as
-/// `/dev/zero`.
+/// Reads `reader` to its end, and returns its bytes if they are fewer than `most`; `None`
+/// otherwise. At most `most` bytes are read, so `reader` may have no end, as `/dev/zero`.
+///
+/// # Errors
+///
+/// The error of `reader`, or `OutOfMemory` where there is no memory for the bytes.
 pub fn read_below<R: Read + Drop>(
     alloc: Global,
     reader: R,
@@ -31,7 +35,7 @@ pub fn read_below<R: Read + Drop>(
     }
 }
 
-/// The fault of an error.
+/// Returns the fault that stands for `error`.
 fn fault_of(error: &Error) -> FileFault
     ensures { IsFaultOf (error_kind error.now) result }
 {
@@ -41,7 +45,7 @@ fn fault_of(error: &Error) -> FileFault
     }
 }
 
-/// The bytes that an open file has, where they are fewer than `most`.
+/// Reads an open file, and returns its bytes if they are fewer than `most`.
 #[tactic(auto, using(crate::proofs::Faults::may_fail))]
 fn read_open<R: Read + Drop>(alloc: Global, reader: R, most: u64) -> Result<Vec<u8>, FileFault>
     ensures short { Reads most None result }
@@ -54,7 +58,12 @@ fn read_open<R: Read + Drop>(alloc: Global, reader: R, most: u64) -> Result<Vec<
     }
 }
 
-/// The bytes of what was opened, where they are fewer than `most`; or why it was not opened.
+/// Reads what was opened, and returns its bytes if they are fewer than `most`.
+///
+/// # Errors
+///
+/// `TooLong` where there are `most` bytes or more; `Unread` where `opened` is an error, or reading
+/// fails; `Memory` where memory runs out.
 pub fn read_opened<R: Read + Drop>(
     alloc: Global,
     opened: io::Result<R>,
@@ -71,7 +80,12 @@ pub fn read_opened<R: Read + Drop>(
     }
 }
 
-/// The bytes of the file of this name, where it has fewer than `most`.
+/// Reads the file `name`, and returns its bytes if they are fewer than `most`.
+///
+/// # Errors
+///
+/// `TooLong` where the file has `most` bytes or more; `Unread` where it cannot be opened or read;
+/// `Memory` where memory runs out.
 pub fn read_named(rt: &HostRuntime, name: &str, most: u64) -> Result<Vec<u8>, FileFault>
     ensures { Reads most None result }
 {

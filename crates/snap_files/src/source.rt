@@ -1,5 +1,5 @@
-//! `FileSource`: from where a program reads the files that its command line names; `Disk`: the
-//! files of the system.
+//! `FileSource`: where a program reads the files that its command line names; `Disk`: the files of
+//! the system.
 ghost use Rattle.std.specs.Prelude.{ℕ, List, Option, None, Result};
 ghost use Rattle.std.specs.declared.io.ErrorKind.{ErrorKind};
 ghost use Rattle.snap_files.specs.FileTexts.{Reads};
@@ -8,21 +8,22 @@ use crate::fault::FileFault;
 use crate::read::read_named;
 use std::alloc::Global;
 
-/// From where a program reads the files that its command line names.
+/// The place where a program reads the files that its command line names.
 pub trait FileSource {
     /// What the file of a name has, or why it cannot be read, where that is known.
     ghost found: { Self → List ℕ → Option (Result (List ℕ) ErrorKind) };
 
-    /// The bytes of the file of this name, where it has fewer than `most`.
+    /// Reads the file `name`, and returns its bytes if they are fewer than `most`.
     ///
     /// # Errors
     ///
-    /// `TooLong` where it has as many or more; `Unread` where it cannot be read.
+    /// `TooLong` where the file has `most` bytes or more; `Unread` where it cannot be read;
+    /// `Memory` where memory runs out.
     fn read(&self, alloc: Global, name: &str, most: u64) -> Result<Vec<u8>, FileFault>
         ensures { Reads most (found self.now name.now) result };
 }
 
-/// The files of the system, of which nothing is known before they are read.
+/// The files of the system. Nothing is known of a file before it is read.
 #[derive(Clone, Copy)]
 pub struct Disk<'r>(pub &'r HostRuntime);
 

@@ -9,9 +9,9 @@ use snap_streams::{ByteSink, say};
 /// The status of a program that `SIGPIPE` ends, as a shell tells it.
 const GONE: u8 = 141;
 
-/// Says the messages of a program that would end with this status, or that there was no memory to
-/// keep them, and returns the status. Where the reader of its output has gone away, nothing is
-/// said, and the status is the one of that.
+/// Writes `messages` to `device`, or that there was no memory to keep them, and returns `status`.
+/// Where the reader of `output` has gone away, nothing is written, and the status of a program that
+/// `SIGPIPE` ends is returned.
 pub fn end<W, E: ByteSink>(status: u8, output: &Piped<W>, messages: &Messages, device: &mut E) -> u8
     requires { (E.state device.old).failed ≡ false }
     ensures status { result ≡ ended_status output.now.failure status }

@@ -5,13 +5,13 @@ ghost use Rattle.snap_pipe.specs.Ended.{text_at_end};
 use snap_streams::{ByteSink, Failed};
 use std::alloc::Global;
 
-/// So many bytes are kept even where memory runs out later.
+/// The number of bytes that are kept even where memory runs out later.
 const ROOM: usize = 4096;
 
-/// What is said where there was no memory to keep what was said.
+/// The message in place of those that there was no memory to keep.
 const NO_MEMORY: &[u8] = b"refused: Memory\n";
 
-/// A sink that keeps what is said to it. It fails only for want of memory.
+/// A sink that keeps what is said to it, and fails only where memory runs out.
 #[derive(Drop)]
 pub struct Messages {
     text: Vec<u8>,
@@ -20,8 +20,7 @@ pub struct Messages {
 }
 
 impl Messages {
-    /// Returns a sink to which nothing was said yet, with room for a few lines where there is
-    /// memory for that.
+    /// Returns an empty sink, with room for a few lines where there is memory for them.
     pub fn new(alloc: Global) -> Messages
         ensures empty { result.text.items ≡ [] }
         ensures well { result.failed ≡ false }
@@ -38,7 +37,7 @@ impl Messages {
         }
     }
 
-    /// Returns what was said, or that there was no memory to keep it.
+    /// Returns what was said, or `NO_MEMORY` where there was no memory to keep it.
     pub(crate) fn text(&self) -> &[u8]
         ensures { result.now ≡ text_at_end self.now.failed self.now.text.items }
     {

@@ -6,8 +6,8 @@ use snap_streams::{ByteSink, Failed};
 use std::io;
 use std::io::{ErrorKind, Write};
 
-/// A writer of the standard library. It tells what that one tells, and keeps the kind of the error
-/// with which it failed.
+/// A writer of the standard library, as a sink that tells what `device` tells, and keeps the kind
+/// of the error with which `device` failed.
 #[derive(Drop)]
 pub struct Piped<D> {
     device: D,
@@ -16,7 +16,7 @@ pub struct Piped<D> {
 }
 
 impl<D> Piped<D> {
-    /// A sink of what this writer takes.
+    /// Returns a sink of what `device` takes.
     pub fn new(device: D) -> Piped<D>
         ensures device { result.device ≡ device }
         ensures well { result.failure ≡ None }
@@ -29,7 +29,7 @@ impl<D> Piped<D> {
         }
     }
 
-    /// Returns whether its reader has gone away.
+    /// Returns whether the reader of this output has gone away.
     pub fn has_lost_reader(&self) -> bool
         ensures { result ≡ is_gone self.now.failure }
     {
@@ -39,7 +39,7 @@ impl<D> Piped<D> {
         }
     }
 
-    /// Keeps what came of a write.
+    /// Keeps what came of a write, and returns how many bytes were written.
     fn note(&mut self, written: io::Result<usize>) -> Result<usize, Failed>
         ensures count { IfOk result (λ count. written ≡ Ok count) }
         ensures fails { IfErr result (λ _. is_err written ≡ true) }

@@ -1,5 +1,4 @@
-//! What listings, schedules and runs are: the types that all crates speak of, and, in `specs/`,
-//! the definitions.
+//! Types of listings, schedules and runs that all crates share; their definitions are in `specs/`.
 #![tactic(auto)]
 
 mod event;

@@ -1,10 +1,10 @@
-//! Why a listing, a schedule, a command, an image or the program's input is refused:
-//! an enum for each. A refusal is shown by its code, its name and its number.
+//! Why a listing, a schedule, a command, an image or the program's input is refused: an enum for
+//! each. A refusal is shown by its code, its name and its number.
 use snap_words::WordFault;
 use thiserror::Error;
 
-/// Why a listing is refused. The number is that of a text line, from 1;
-/// of `NoSuchLine` it is the target.
+/// Why a listing is refused. The number is that of a text line, from 1; of `NoSuchLine`, the number
+/// of the line that is missing.
 #[derive(Clone, Copy, Debug, PartialEq, Eq, Error)]
 pub enum ListingRefusal {
     /// More than 65,536 bytes.

@@ -1,5 +1,5 @@
--- `take_turn` of snap_dialog (src/turns.rt): the proof of what its contract says.
--- One turn: the prompt, a line, and its answer, in that order.
+-- `take_turn` of snap_dialog (src/turns.rt): the proof of what its contract says. Takes one turn: shows the prompt,
+-- reads a line, and shows its answer, in that order; and returns whether another turn follows.
 use Rattle.std.proofs.Common.{◌∙◌, refl}
 use Rattle.snap_dialog.proofs.Dialogs.{of_copy, turn_passed, turn_shown}
 use Rattle.snap_dialog.proofs.Parts.{answer_left, into_empty, none_passed, on_err, prompt_alone}

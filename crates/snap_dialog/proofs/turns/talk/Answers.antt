@@ -1,5 +1,5 @@
--- `talk` of snap_dialog (src/turns.rt): the proof of what its contract says.
--- Talks to the last line.
+-- `talk` of snap_dialog (src/turns.rt): the proof of what its contract says. Talks with `partner` at `console` until
+-- the dialog ends.
 use Rattle.snap_dialog.proofs.Dialogs.{passed_all, passed_more, shown_all, shown_more}
 use Rattle.snap_dialog.proofs.Parts.{between_turns, on_err, shown_between, shown_within, turn_taken, within_turn}
 use Rattle.snap_dialog.proofs.turns.talk.Goals as goal

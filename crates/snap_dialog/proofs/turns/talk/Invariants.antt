@@ -1,5 +1,5 @@
--- `talk` of snap_dialog (src/turns.rt): what holds at the head of each of its loops.
--- Talks to the last line.
+-- `talk` of snap_dialog (src/turns.rt): what holds at the head of each of its loops. Talks with `partner` at `console`
+-- until the dialog ends.
 use Rattle.std.specs.Prelude.{◌≡◌, None}
 use Rattle.snap_dialog.specs.Talks.{HasPassed, HasShown, HasTaken}
 use Rattle.snap_dialog.proofs.turns.talk.Given as goal

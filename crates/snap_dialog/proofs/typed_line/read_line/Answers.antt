@@ -1,5 +1,5 @@
--- `read_line` of snap_dialog (src/typed_line.rt): the proof of what its contract says.
--- Reads a line with its line feed, and no byte behind it.
+-- `read_line` of snap_dialog (src/typed_line.rt): the proof of what its contract says. Reads a line up to and with its
+-- line feed, or to the end of the input.
 use Rattle.std.proofs.Common.{subst}
 use Rattle.snap_dialog.specs.TypedLines.{GivesNext}
 use Rattle.snap_dialog.proofs.Lines.{kept_on, line_at_end}

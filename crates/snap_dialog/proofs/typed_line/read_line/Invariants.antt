@@ -1,5 +1,5 @@
--- `read_line` of snap_dialog (src/typed_line.rt): what holds at the head of each of its loops.
--- Reads a line with its line feed, and no byte behind it.
+-- `read_line` of snap_dialog (src/typed_line.rt): what holds at the head of each of its loops. Reads a line up to and
+-- with its line feed, or to the end of the input.
 use Rattle.std.specs.Prelude.{◌≡◌, false}
 use Rattle.snap_dialog.specs.Talks.{HasKept, HasTaken}
 use Rattle.snap_dialog.proofs.typed_line.read_line.Given as goal

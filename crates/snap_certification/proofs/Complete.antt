@@ -183,7 +183,7 @@ module _ (r : Run) (line : ℕ) (fits : IsValidRun r) (has : HasLinearizationPoi
         | inr some ↦ (past.0 ++ some.0 ∷ [], here ∙ ap (with_finding past.0) some.1)
       ]
 
-  -- and all points
+  -- all points are found
   points_found : (vs : List Verdict) → AllByRecursion (IsOfScan r) vs → points vs ≡ Ok tt
   points_found [] h = refl
   points_found (v ∷ vs) h = by (points_found vs h.1) v.point refl

@@ -149,7 +149,7 @@ module _ (r : Run) (line : ℕ) where
   kept_wrote true c h = refl
   kept_wrote false c h = absurd cc
 
-  -- and who does so at an item has executed it since
+  -- a process that executes the line at an item since its call has written
   pub has_written : (i t u : ℕ) → (progress r line i t).call < u → u ≤ t → executes r i line u ≡ true →
       (progress r line i t).wrote ≡ true
   has_written i zero u = λ lt le ex. absurd (omega (arith, lt, le))

@@ -79,7 +79,7 @@ pub record IsCertificate (line : ℕ) (r : Run) (c : Certificate) : Type 0 where
   -- each scan that has been answered has its point
   pub scans_answered : (i c' e : ℕ) (view : List ℕ) → FinishedScan r i None c' e view → HasItsPoint c.points c'
 
--- There is one.
+-- A run has a certificate.
 abbrev pub HasCertificate : ℕ → Run → Type 0
 HasCertificate line r = IsValidRun r → (c : Certificate) × IsCertificate line r c
 

@@ -52,7 +52,7 @@ seen_item r t = record {
   values_after = values (state r t);
 }
 
--- it changes the values
+-- whether an item changes the values
 abbrev pub changes : SeenItem → Bool
 changes x = not (bytes_eq x.values_before x.values_after)
 
@@ -60,7 +60,7 @@ changes x = not (bytes_eq x.values_before x.values_after)
 abbrev pub executed : SeenItem → Option Activity
 executed x = if goes_on x.outcome then x.activity else None
 
--- it executes this line
+-- whether what is executed is this line
 abbrev pub at_line : ℕ → Option Activity → Bool
 at_line line None = false
 at_line line (Some a) = nat_eq a.line line
@@ -106,7 +106,7 @@ progress r line i (suc t) =
     if nat_eq (who (item r (suc t))) i then progress_after line (suc t) (seen_item r (suc t)) (progress r line i t)
     else progress r line i t
 
--- this is missing at item t
+-- the finding that something is missing at item t
 abbrev pub lacks : Lack → ℕ → SeenItem → Progress → Finding
 lacks l t x p = finding.Lacks (record { lack = l; process = x.process; call = p.call; item = t })
 
@@ -128,7 +128,7 @@ abbrev pub stepped : ℕ → ℕ → SeenItem → Progress → Option Activity �
 stepped line t x p None = unwritten t x p
 stepped line t x p (Some a) = if nat_eq a.line line then written t x p a.op else unwritten t x p
 
--- and as the end of an update, which has written before it
+-- what is found of an item that ends an update: nothing if the update has written before it
 abbrev pub ended : ℕ → SeenItem → Progress → Outcome → Finding
 ended t x p outcome.Finished = if p.wrote then finding.Nothing else lacks lack.Write t x p
 ended t x p _ = finding.Nothing

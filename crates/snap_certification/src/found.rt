@@ -7,7 +7,7 @@ use snap_words::View;
 #[derive(Drop)]
 pub struct SeenItem {
     pub process: u32,
-    /// What the process is at before the item, where it is busy and the item is a step.
+    /// The activity of the process before the item, if the process is busy and the item is a step.
     pub activity: Option<Activity>,
     pub outcome: Outcome,
     /// The values before the item.
@@ -21,7 +21,7 @@ pub struct SeenItem {
 pub struct Progress {
     /// The item of its last call, and 0 before the first one.
     pub call: u64,
-    /// Whether it has executed the line at which updates write since then.
+    /// Whether the process has executed the line at which updates write since its last call.
     pub wrote: bool,
 }
 
@@ -42,19 +42,21 @@ pub struct UpdateWrite {
 pub enum Lack {
     /// The item changes the values, and does not execute the line at which updates write.
     Line,
-    /// It executes that line in a scan.
+    /// The item executes the line at which updates write, in a scan.
     Update,
-    /// It executes that line in an update that has executed it before.
+    /// The item executes the line at which updates write, in an update that has executed it before.
     FirstWrite,
-    /// It executes that line in an update, and does not write what the update was called for.
+    /// The item executes the line at which updates write, in an update, and does not write what the
+    /// update was called for.
     OwnValue,
-    /// It ends an update that has not executed that line.
+    /// The item ends an update that has not executed the line at which updates write.
     Write,
-    /// It answers a scan that has no linearization point.
+    /// The item answers a scan that has no linearization point.
     Point,
 }
 
-/// The first thing that is missing: what, of which process, at which call of it, and at which item.
+/// The first thing that is missing: what it is, of which process, at which call of that process,
+/// and at which item.
 #[derive(Clone, Copy, PartialEq, Eq)]
 pub struct Missing {
     pub lack: Lack,

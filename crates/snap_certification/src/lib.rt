@@ -13,15 +13,16 @@ mod found;
 pub use certificate::{Certification, Certified};
 pub use found::{Finding, Lack, Missing, Progress, SeenItem, UpdateWrite};
 
-/// What a certified run is certified by is a certificate of it: so it is linearizable.
+/// What a certified run is certified by is a certificate of that run: a certified run is
+/// linearizable.
 pub fn certified_has_certificate()
     ensures { CertifiedHasCertificate }
 {
     certified_is_linearizable();
 }
 
-/// A run is certified exactly where it has a certificate in which updates write at
-/// the line that is chosen.
+/// A run is certified exactly if it has a certificate in which updates write at the line that is
+/// chosen.
 pub fn certified_exactly()
     ensures { CertifiedExactly }
 {
@@ -29,7 +30,7 @@ pub fn certified_exactly()
 }
 
 /// A run whose operations have linearization points is certified, where its updates write at the
-/// first line that writes a word: that is the line that is chosen.
+/// first line that writes a word, which is the line that is chosen.
 #[tactic(auto, using(crate::proofs::Chosen::points_certify))]
 pub fn points_certify()
     ensures { PointsCertify }
@@ -42,15 +43,15 @@ pub fn certified_is_linearizable()
     snap_runs::linearizable_by_points();
 }
 
-/// In such a run each operation has its place.
+/// In a run that has a certificate each operation has its place.
 pub fn certified_has_places()
     ensures { CertifiedHasPlaces }
 {
     snap_runs::placed_by_points();
 }
 
-/// A run has a certificate exactly where its operations have linearization points: so a run of a
-/// listing of one's own can be certified item by item.
+/// A run has a certificate exactly if its operations have linearization points: a run of a listing
+/// of one's own can be certified item by item.
 pub fn certified_by_points()
     ensures { CertifiedByPoints }
 {}

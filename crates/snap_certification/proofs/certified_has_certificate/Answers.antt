@@ -1,5 +1,5 @@
--- `certified_has_certificate` of snap_certification (src/lib.rt): the proof of what its contract says.
--- What a certified run is certified by is a certificate of it: so it is linearizable.
+-- `certified_has_certificate` of snap_certification (src/lib.rt): the proof of what its contract says. What a certified
+-- run is certified by is a certificate of that run: a certified run is linearizable.
 use Rattle.snap_certification.specs.Certification.{certificate_of, write_line}
 use Rattle.snap_certification.proofs.Sound.{certificate_is}
 use Rattle.snap_certification.proofs.certified_has_certificate.Goals as goal

@@ -1,5 +1,5 @@
--- `certified_has_places` of snap_certification (src/lib.rt): the proof of what its contract says.
--- In such a run each operation has its place.
+-- `certified_has_places` of snap_certification (src/lib.rt): the proof of what its contract says. In a run that has a
+-- certificate each operation has its place.
 use Rattle.snap_certification.proofs.Certifying.{has_places}
 use Rattle.snap_certification.proofs.certified_has_places.Goals as goal
 

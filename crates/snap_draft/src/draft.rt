@@ -7,7 +7,7 @@ use snap_text::{push_number, push_numbers, push_text};
 use std::alloc::{AllocError, Global};
 use std::marker::Model;
 
-/// A text, as far as it is put together. Where there was no memory for one of its pieces, it has
+/// A text that is put together piece by piece. Once memory ran out for a piece, the draft has
 /// failed, and takes no more.
 #[derive(Drop)]
 pub struct Draft {
@@ -24,7 +24,7 @@ impl Model for Draft {
 }
 
 impl Draft {
-    /// Nothing yet.
+    /// Returns an empty draft.
     pub fn new(alloc: Global) -> Draft
         ensures text { result.text ≡ [] }
         ensures well { result.failed ≡ false }
@@ -35,7 +35,7 @@ impl Draft {
         }
     }
 
-    /// Adds a text.
+    /// Appends `text`.
     pub fn push(&mut self, text: &[u8])
         ensures { Adds self.old self.new text.now }
     {
@@ -44,7 +44,7 @@ impl Draft {
         }
     }
 
-    /// Adds a number in digits.
+    /// Appends `number` in decimal digits.
     pub fn push_number(&mut self, number: u64)
         ensures { Adds self.old self.new (decimal number) }
     {
@@ -53,7 +53,7 @@ impl Draft {
         }
     }
 
-    /// Adds each number behind a space.
+    /// Appends each of `numbers` behind a space.
     pub fn push_numbers(&mut self, numbers: &[u64])
         ensures { Adds self.old self.new (numbers_text numbers.now) }
     {
@@ -62,7 +62,11 @@ impl Draft {
         }
     }
 
-    /// The whole text, and an error where it has failed, and only there.
+    /// Returns the whole text.
+    ///
+    /// # Errors
+    ///
+    /// `AllocError` where memory ran out for one of the pieces.
     pub fn finish(self) -> Result<Vec<u8>, AllocError>
         ensures { MatchResult result (λ text. (self.failed ≡ false) × (text.items ≡ self.text))
             (λ _. self.failed ≡ true) }

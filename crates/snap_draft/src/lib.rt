@@ -1,5 +1,5 @@
-//! `Draft`: a text that is put together piece by piece, and asks once whether there was memory for
-//! all of them.
+//! `Draft`: a text that is put together piece by piece, and reports allocation failure once, at the
+//! end.
 #![tactic(auto)]
 
 mod draft;

@@ -21,7 +21,7 @@ pub data Step : Type 0 where
   Passes : Step
   Refuses : Step
 
--- and these behind it
+-- a step with more wanted behind it
 abbrev pub and_then : List Wanted → Step → Step
 and_then more (Takes next) = Takes (next ++ more)
 and_then more Passes = Passes
@@ -35,7 +35,7 @@ one b = if b then Takes [] else Refuses
 abbrev pub begun : Bool → List Wanted → Step
 begun b next = if b then Takes next else Refuses
 
--- the same, or nothing
+-- a step over tokens that begin with one that passes a test, or over nothing
 abbrev pub maybe_begun : Bool → List Wanted → Step
 maybe_begun b next = if b then Takes next else Passes
 
@@ -170,7 +170,7 @@ after_control_instruction t =
     if is_word (codes "return") t then Takes (wanted.Name ∷ []) else
     if is_word (codes "finish") t then Takes [] else Refuses
 
--- those that go over `n` or `w` places, or one of the others
+-- the instructions that go over `n` or `w` places, or one of the others
 abbrev pub after_range_instruction : Token → Step
 after_range_instruction t =
     if is_word (codes "each") t
@@ -183,7 +183,7 @@ after_range_instruction t =
     then Takes (wanted.Name ∷ wanted.Range ∷ wanted.Keyword keyword.Goto ∷ wanted.Number ∷ []) else
     after_control_instruction t
 
--- those that read or write a register, or one of the others
+-- the instructions that read or write a register, or one of the others
 abbrev pub after_register_instruction : Token → Step
 after_register_instruction t =
     if is_word (codes "get") t

@@ -8,13 +8,13 @@ use Rattle.snap_semantics.specs.Token.{Token, Identifier, Number, Sign, same_sym
 use Rattle.snap_expected.specs.declared.wanted.Keyword.{Keyword}
 use Rattle.snap_expected.specs.declared.wanted.Keyword.TheVariants as keyword
 
--- this word
+-- whether a token is this word
 abbrev pub is_word : List ℕ → Token → Bool
 is_word x (Identifier w) = bytes_eq w x
 is_word x (Number k) = false
 is_word x (Sign m) = false
 
--- this symbol
+-- whether a token is this symbol
 abbrev pub is_symbol : Symbol → Token → Bool
 is_symbol x (Identifier w) = false
 is_symbol x (Number k) = false

@@ -43,24 +43,24 @@ const COLON: Wanted = Wanted::Symbol(Symbol::Colon);
 
 const GOTO: Wanted = Wanted::Keyword(Keyword::Goto);
 
-/// What a token is where something is wanted.
+/// What a token does where something is wanted: it is taken or passed over.
 #[derive(Drop)]
 pub enum Step {
-    /// The front of it; the rest is wanted next.
+    /// The token is the front of what is wanted; the rest is wanted next.
     Takes(Vec<Wanted>),
-    /// None of it, and it may be nothing.
+    /// The token is no part of what is wanted, which may be nothing.
     Passes,
     Refuses,
 }
 
-/// A step that takes the token, with these wanted next.
+/// Returns a step that takes the token, with `next` wanted next.
 fn takes(alloc: Global, next: &[Wanted]) -> Result<Step, AllocError>
     ensures { IfOk result (λ step. view_step step ≡ Takes next.now) }
 {
     Ok(Step::Takes(Vec::from_slice(alloc, next)?))
 }
 
-/// A step with these wanted behind it.
+/// Returns `step` with `more` wanted behind it.
 fn and_then(step: Step, more: &[Wanted]) -> Result<Step, AllocError>
     ensures { IfOk result (λ made. view_step made ≡ and_then more.now (view_step step)) }
 {
@@ -74,14 +74,14 @@ fn and_then(step: Step, more: &[Wanted]) -> Result<Step, AllocError>
     }
 }
 
-/// One token that passes a test.
+/// Returns a step over one token that passes a test.
 fn one(alloc: Global, passed: bool) -> Result<Step, AllocError>
     ensures { IfOk result (λ step. view_step step ≡ one passed) }
 {
     begun(alloc, passed, &[])
 }
 
-/// Tokens that begin with one that passes a test.
+/// Returns a step over tokens that begin with one that passes a test.
 fn begun(alloc: Global, passed: bool, next: &[Wanted]) -> Result<Step, AllocError>
     ensures { IfOk result (λ step. view_step step ≡ begun passed next.now) }
 {
@@ -92,7 +92,7 @@ fn begun(alloc: Global, passed: bool, next: &[Wanted]) -> Result<Step, AllocErro
     }
 }
 
-/// The same, or nothing.
+/// Returns a step over tokens that begin with one that passes a test, or over nothing.
 fn maybe_begun(alloc: Global, passed: bool, next: &[Wanted]) -> Result<Step, AllocError>
     ensures { IfOk result (λ step. view_step step ≡ maybe_begun passed next.now) }
 {
@@ -103,7 +103,7 @@ fn maybe_begun(alloc: Global, passed: bool, next: &[Wanted]) -> Result<Step, All
     }
 }
 
-/// A term.
+/// Steps through a term.
 fn after_term(alloc: Global, in_quantifier: bool, token: &Token<'_>) -> Result<Step, AllocError>
     ensures { IfOk result (λ step. view_step step
         ≡ after_term in_quantifier (view_token token.now)) }
@@ -145,7 +145,7 @@ fn after_term(alloc: Global, in_quantifier: bool, token: &Token<'_>) -> Result<S
     }
 }
 
-/// `not` and a term, or one or two terms.
+/// Steps through `not` and a term, or one or two terms.
 fn after_expr(alloc: Global, in_quantifier: bool, token: &Token<'_>) -> Result<Step, AllocError>
     ensures { IfOk result (λ step. view_step step
         ≡ after_expr in_quantifier (view_token token.now)) }
@@ -157,7 +157,7 @@ fn after_expr(alloc: Global, in_quantifier: bool, token: &Token<'_>) -> Result<S
     and_then(term, &[Wanted::SumOption(in_quantifier)])
 }
 
-/// One to four comparisons.
+/// Steps through one to four comparisons.
 fn after_condition(
     alloc: Global,
     in_quantifier: bool,
@@ -177,7 +177,7 @@ fn after_condition(
     )
 }
 
-/// What stands behind one comparison.
+/// Steps through what stands behind one comparison.
 fn after_first(alloc: Global, in_quantifier: bool, token: &Token<'_>) -> Result<Step, AllocError>
     ensures { IfOk result (λ step. view_step step
         ≡ after_first in_quantifier (view_token token.now)) }
@@ -207,7 +207,7 @@ fn after_first(alloc: Global, in_quantifier: bool, token: &Token<'_>) -> Result<
     }
 }
 
-/// What stands behind two comparisons.
+/// Steps through what stands behind two comparisons.
 fn after_second(
     alloc: Global,
     join: Join,
@@ -229,7 +229,7 @@ fn after_second(
     )
 }
 
-/// What stands behind three comparisons.
+/// Steps through what stands behind three comparisons.
 fn after_third(
     alloc: Global,
     join: Join,
@@ -250,7 +250,7 @@ fn after_third(
     )
 }
 
-/// The second part of a tuple, and what stands behind it.
+/// Steps through the second part of a tuple, and what stands behind it.
 fn after_second_part(alloc: Global, token: &Token<'_>) -> Result<Step, AllocError>
     ensures { IfOk result (λ step. view_step step ≡ after_second_part (view_token token.now)) }
 {
@@ -261,7 +261,7 @@ fn after_second_part(alloc: Global, token: &Token<'_>) -> Result<Step, AllocErro
     and_then(part, &[COMMA, Wanted::Expr(false), CLOSE_PARENTHESIS])
 }
 
-/// What stands behind a name at the front of the second part of a tuple.
+/// Steps through what stands behind a name at the front of the second part of a tuple.
 fn after_second_name(alloc: Global, token: &Token<'_>) -> Result<Step, AllocError>
     ensures { IfOk result (λ step. view_step step ≡ after_second_name (view_token token.now)) }
 {
@@ -294,7 +294,7 @@ fn after_second_name(alloc: Global, token: &Token<'_>) -> Result<Step, AllocErro
     }
 }
 
-/// What stands behind the third part of a tuple whose second part is a name.
+/// Steps through what stands behind the third part of a tuple whose second part is a name.
 fn after_third_part(alloc: Global, token: &Token<'_>) -> Result<Step, AllocError>
     ensures { IfOk result (λ step. view_step step ≡ after_third_part (view_token token.now)) }
 {
@@ -307,7 +307,7 @@ fn after_third_part(alloc: Global, token: &Token<'_>) -> Result<Step, AllocError
     }
 }
 
-/// `[I]` behind a name, or nothing.
+/// Steps through `[I]` behind a name, or nothing.
 fn after_place_option(
     alloc: Global,
     in_quantifier: bool,
@@ -324,7 +324,7 @@ fn after_place_option(
     )
 }
 
-/// `+` and a term, or nothing.
+/// Steps through `+` and a term, or nothing.
 fn after_sum_option(
     alloc: Global,
     in_quantifier: bool,
@@ -337,7 +337,7 @@ fn after_sum_option(
     maybe_begun(alloc, begins, &[Wanted::Term(in_quantifier)])
 }
 
-/// `where` and a condition, or nothing.
+/// Steps through `where` and a condition, or nothing.
 fn after_where_option(alloc: Global, token: &Token<'_>) -> Result<Step, AllocError>
     ensures { IfOk result (λ step. view_step step ≡ after_where_option (view_token token.now)) }
 {
@@ -345,7 +345,7 @@ fn after_where_option(alloc: Global, token: &Token<'_>) -> Result<Step, AllocErr
     maybe_begun(alloc, begins, &[Wanted::Condition(true)])
 }
 
-/// `q` or `p`, and `[I,J]`.
+/// Steps through `q` or `p`, and `[I,J]`.
 fn after_bit(alloc: Global, token: &Token<'_>) -> Result<Step, AllocError>
     ensures { IfOk result (λ step. view_step step ≡ after_bit (view_token token.now)) }
 {
@@ -362,7 +362,7 @@ fn after_bit(alloc: Global, token: &Token<'_>) -> Result<Step, AllocError>
     )
 }
 
-/// A tuple.
+/// Steps through a tuple.
 fn after_tuple(alloc: Global, token: &Token<'_>) -> Result<Step, AllocError>
     ensures { IfOk result (λ step. view_step step ≡ after_tuple (view_token token.now)) }
 {
@@ -374,7 +374,7 @@ fn after_tuple(alloc: Global, token: &Token<'_>) -> Result<Step, AllocError>
     )
 }
 
-/// The register that a `put` writes, and what it writes.
+/// Steps through the register that a `put` writes, and what it writes.
 fn after_target(alloc: Global, token: &Token<'_>) -> Result<Step, AllocError>
     ensures { IfOk result (λ step. view_step step ≡ after_target (view_token token.now)) }
 {
@@ -406,7 +406,7 @@ fn after_target(alloc: Global, token: &Token<'_>) -> Result<Step, AllocError>
     }
 }
 
-/// `data(W)` or `view(W[I])`.
+/// Steps through `data(W)` or `view(W[I])`.
 fn after_view_source(alloc: Global, token: &Token<'_>) -> Result<Step, AllocError>
     ensures { IfOk result (λ step. view_step step ≡ after_view_source (view_token token.now)) }
 {
@@ -429,7 +429,7 @@ fn after_view_source(alloc: Global, token: &Token<'_>) -> Result<Step, AllocErro
     }
 }
 
-/// What stands behind `if`.
+/// Steps through what stands behind `if`.
 fn after_if(alloc: Global, token: &Token<'_>) -> Result<Step, AllocError>
     ensures { IfOk result (λ step. view_step step ≡ after_if (view_token token.now)) }
 {
@@ -449,7 +449,7 @@ fn after_if(alloc: Global, token: &Token<'_>) -> Result<Step, AllocError>
     and_then(condition, &[GOTO, Wanted::Number])
 }
 
-/// An instruction, by its first word.
+/// Steps through an instruction, by its first word.
 fn after_instruction(alloc: Global, token: &Token<'_>) -> Result<Step, AllocError>
     ensures { IfOk result (λ step. view_step step ≡ after_instruction (view_token token.now)) }
 {
@@ -470,8 +470,8 @@ fn after_instruction(alloc: Global, token: &Token<'_>) -> Result<Step, AllocErro
     }
 }
 
-/// An instruction that reads or writes a register, or another one that sets no local from values
-/// alone.
+/// Steps through an instruction that reads or writes a register, or another one that sets no local
+/// from values alone.
 fn after_register_instruction(alloc: Global, token: &Token<'_>) -> Result<Step, AllocError>
     ensures { IfOk result (λ step. view_step step
         ≡ after_register_instruction (view_token token.now)) }
@@ -512,7 +512,7 @@ fn after_register_instruction(alloc: Global, token: &Token<'_>) -> Result<Step, 
     }
 }
 
-/// An instruction that goes over `n` or `w` places, or one of control.
+/// Steps through an instruction that goes over `n` or `w` places, or one of control.
 fn after_range_instruction(alloc: Global, token: &Token<'_>) -> Result<Step, AllocError>
     ensures { IfOk result (λ step. view_step step
         ≡ after_range_instruction (view_token token.now)) }
@@ -551,7 +551,7 @@ fn after_range_instruction(alloc: Global, token: &Token<'_>) -> Result<Step, All
     }
 }
 
-/// An instruction that leads elsewhere, or ends an operation.
+/// Steps through an instruction that leads elsewhere, or ends an operation.
 fn after_control_instruction(alloc: Global, token: &Token<'_>) -> Result<Step, AllocError>
     ensures { IfOk result (λ step. view_step step
         ≡ after_control_instruction (view_token token.now)) }
@@ -571,7 +571,7 @@ fn after_control_instruction(alloc: Global, token: &Token<'_>) -> Result<Step, A
     }
 }
 
-/// What a process does in a schedule.
+/// Steps through what a process does in a schedule.
 fn after_act(alloc: Global, token: &Token<'_>) -> Result<Step, AllocError>
     ensures { IfOk result (λ step. view_step step ≡ after_act (view_token token.now)) }
 {
@@ -588,7 +588,7 @@ fn after_act(alloc: Global, token: &Token<'_>) -> Result<Step, AllocError>
     }
 }
 
-/// What a process of a live run does.
+/// Steps through what a process of a live run does.
 fn after_script_act(alloc: Global, token: &Token<'_>) -> Result<Step, AllocError>
     ensures { IfOk result (λ step. view_step step ≡ after_script_act (view_token token.now)) }
 {
@@ -603,7 +603,7 @@ fn after_script_act(alloc: Global, token: &Token<'_>) -> Result<Step, AllocError
     }
 }
 
-/// A register, as a command names it.
+/// Steps through a register, as a command names it.
 fn after_register(alloc: Global, token: &Token<'_>) -> Result<Step, AllocError>
     ensures { IfOk result (λ step. view_step step ≡ after_register (view_token token.now)) }
 {
@@ -618,7 +618,7 @@ fn after_register(alloc: Global, token: &Token<'_>) -> Result<Step, AllocError>
     }
 }
 
-/// A register or a process, as a command names it.
+/// Steps through a register or a process, as a command names it.
 fn after_shown(alloc: Global, token: &Token<'_>) -> Result<Step, AllocError>
     ensures { IfOk result (λ step. view_step step ≡ after_shown (view_token token.now)) }
 {
@@ -629,28 +629,28 @@ fn after_shown(alloc: Global, token: &Token<'_>) -> Result<Step, AllocError>
     }
 }
 
-/// Whether a token is a command that moves by a number.
+/// Returns whether a token is a command that moves by a number.
 fn is_move(token: &Token<'_>) -> bool
     ensures { result ≡ is_move (view_token token.now) }
 {
     is_word(b"step", token) || is_word(b"back", token) || is_word(b"goto", token)
 }
 
-/// Whether a token is a command on breakpoints.
+/// Returns whether a token is a command on breakpoints.
 fn is_breakpoint(token: &Token<'_>) -> bool
     ensures { result ≡ is_breakpoint (view_token token.now) }
 {
     is_word(b"break", token) || is_word(b"clear", token)
 }
 
-/// Whether a token is a command on watched registers.
+/// Returns whether a token is a command on watched registers.
 fn is_watch(token: &Token<'_>) -> bool
     ensures { result ≡ is_watch (view_token token.now) }
 {
     is_word(b"watch", token) || is_word(b"unwatch", token)
 }
 
-/// Whether a token is a command of one word.
+/// Returns whether a token is a command of one word.
 fn is_short(token: &Token<'_>) -> bool
     ensures { result ≡ is_short (view_token token.now) }
 {
@@ -661,7 +661,7 @@ fn is_short(token: &Token<'_>) -> bool
         || is_word(b"where", token)
 }
 
-/// A command.
+/// Steps through a command.
 fn after_command(alloc: Global, token: &Token<'_>) -> Result<Step, AllocError>
     ensures { IfOk result (λ step. view_step step ≡ after_command (view_token token.now)) }
 {
@@ -678,7 +678,7 @@ fn after_command(alloc: Global, token: &Token<'_>) -> Result<Step, AllocError>
     }
 }
 
-/// Whether a token is what is wanted, where that is one token.
+/// Returns whether a token is what is wanted, if that is one token.
 fn is_single(wanted: Wanted, token: &Token<'_>) -> bool
     ensures { result ≡ is_single wanted (view_token token.now) }
 {
@@ -699,7 +699,11 @@ fn is_single(wanted: Wanted, token: &Token<'_>) -> bool
     }
 }
 
-/// What a token is where this is wanted.
+/// Returns what `token` does where `wanted` is wanted.
+///
+/// # Errors
+///
+/// `AllocError` where memory runs out.
 pub fn after(alloc: Global, wanted: Wanted, token: &Token<'_>) -> Result<Step, AllocError>
     ensures { IfOk result (λ step. view_step step ≡ after wanted (view_token token.now)) }
 {
@@ -732,7 +736,7 @@ pub fn after(alloc: Global, wanted: Wanted, token: &Token<'_>) -> Result<Step, A
     }
 }
 
-/// Whether nothing may stand for what is wanted.
+/// Returns whether nothing may stand for what is wanted.
 pub fn may_pass(wanted: Wanted) -> bool
     ensures { result ≡ may_pass wanted }
 {

@@ -2,7 +2,7 @@
 //! it.
 ghost use Rattle.snap_expected.specs.Laws.{StaysLost};
 
-/// Where a line is lost at a token, so is each line that begins with the tokens up to it.
+/// A line that is lost at a token is lost whatever follows that token.
 pub fn what_is_lost_stays_lost()
     ensures { StaysLost }
 {}

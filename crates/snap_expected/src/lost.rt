@@ -14,15 +14,15 @@ use snap_semantics::Symbol;
 use snap_text::Token;
 use std::alloc::{AllocError, Global};
 
-/// A place in a line: so many tokens stand before it, and these were wanted there.
+/// A place in a line: how many tokens stand before it, and what was wanted there.
 #[derive(Drop)]
 pub struct LostPlace {
     pub before: usize,
     pub wanted: Vec<Wanted>,
 }
 
-/// What is wanted behind a token, where these are wanted in a row; none where the line does not go
-/// on with it.
+/// Returns what is wanted behind `token`, where `wanted` are wanted in a row; `None` if the line
+/// does not go on with it.
 fn step(
     alloc: Global,
     token: &Token<'_>,
@@ -45,7 +45,7 @@ fn step(
     Ok(None)
 }
 
-/// Whether a line may end where these are wanted.
+/// Returns whether a line may end where `wanted` are wanted in a row.
 fn may_end(wanted: &[Wanted]) -> bool
     ensures { result ≡ may_end wanted.now }
 {
@@ -59,7 +59,7 @@ fn may_end(wanted: &[Wanted]) -> bool
     true
 }
 
-/// Where tokens are lost of which these are wanted in a row.
+/// Returns where tokens are lost of which `wanted` are wanted in a row.
 fn lost(
     alloc: Global,
     wanted: Vec<Wanted>,
@@ -84,7 +84,7 @@ fn lost(
     }
 }
 
-/// What a header line is.
+/// Returns the parts of a header line.
 fn wanted_of_header(alloc: Global, header: Header) -> Result<Vec<Wanted>, AllocError>
     ensures { IfOk result (λ wanted. wanted.items ≡ wanted_of_header header) }
 {
@@ -100,7 +100,11 @@ fn wanted_of_header(alloc: Global, header: Header) -> Result<Vec<Wanted>, AllocE
     Vec::from_slice(alloc, &[Wanted::Keyword(keyword), rest])
 }
 
-/// What a line of this sort is.
+/// Returns the parts of a line of this sort.
+///
+/// # Errors
+///
+/// `AllocError` where memory runs out.
 pub fn wanted_of(alloc: Global, sort: LineSort) -> Result<Vec<Wanted>, AllocError>
     ensures { IfOk result (λ wanted. wanted.items ≡ wanted_of sort) }
 {
@@ -125,8 +129,12 @@ pub fn wanted_of(alloc: Global, sort: LineSort) -> Result<Vec<Wanted>, AllocErro
     Vec::from_slice(alloc, wanted)
 }
 
-/// Where a line of this sort is lost: the first token with which no line of its sort goes on, or
-/// its end; none where it has the form of such a line.
+/// Returns where a line of this sort is lost: the first token with which no line of its sort goes
+/// on, or the end of the line; `None` if it has the form of such a line.
+///
+/// # Errors
+///
+/// `AllocError` where memory runs out.
 pub fn lost_in(
     alloc: Global,
     sort: LineSort,

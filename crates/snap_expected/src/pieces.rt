@@ -16,7 +16,7 @@ pub struct PlacedToken<'a> {
     pub token: Token<'a>,
 }
 
-/// The tokens of a line before the first byte that begins none, and the column of that byte, where
+/// The tokens of a line before the first byte that begins no token, and the column of that byte, if
 /// there is one. Columns count bytes, from 1.
 #[derive(Drop)]
 pub struct PlacedTokens<'a> {
@@ -24,14 +24,14 @@ pub struct PlacedTokens<'a> {
     pub stray: Option<usize>,
 }
 
-/// Whether a byte is of an identifier or of a number.
+/// Returns whether a byte is of an identifier or of a number.
 pub fn is_lexeme_byte(byte: u8) -> bool
     ensures { result ≡ is_lexeme_byte byte }
 {
     (b'a' <= byte && byte <= b'z') || (b'0' <= byte && byte <= b'9')
 }
 
-/// How many letters and digits stand at the front.
+/// Returns how many letters and digits stand at the front.
 fn lexeme_len(bytes: &[u8]) -> usize
     ensures value { result ≡ lexeme_len bytes.now }
     ensures within { result ≤ length bytes.now }
@@ -43,7 +43,7 @@ fn lexeme_len(bytes: &[u8]) -> usize
     len
 }
 
-/// Whether the first byte is this one.
+/// Returns whether the first of `bytes` is `byte`.
 fn begins_with(byte: u8, bytes: &[u8]) -> bool
     ensures { result ≡ begins_with byte bytes.now }
 {
@@ -53,7 +53,7 @@ fn begins_with(byte: u8, bytes: &[u8]) -> bool
     }
 }
 
-/// The length of the first piece: letters and digits side by side, `!=`, or one byte.
+/// Returns the length of the first piece: letters and digits side by side, `!=`, or one byte.
 pub fn piece_len(bytes: &[u8]) -> usize
     ensures value { result ≡ piece_len bytes.now }
     ensures within { result ≤ length bytes.now }
@@ -73,7 +73,7 @@ pub fn piece_len(bytes: &[u8]) -> usize
     }
 }
 
-/// Adds the first token of a piece, which has no more, in its column.
+/// Appends the first token of a piece, which has no more, in its column.
 fn push_first<'a>(
     out: &mut Vec<PlacedToken<'a>>,
     column: usize,
@@ -91,7 +91,11 @@ fn push_first<'a>(
     }
 }
 
-/// The tokens of a line with their columns.
+/// Returns the tokens of `line` with their columns.
+///
+/// # Errors
+///
+/// `AllocError` where memory runs out.
 pub fn placed_tokens(alloc: Global, line: &[u8]) -> Result<PlacedTokens<'_>, AllocError>
     ensures { IfOk result (λ placed. view_placed placed ≡ placed_of line.now) }
 {

@@ -12,7 +12,7 @@ use snap_listing_rules::{is_line_number, is_reserved};
 use snap_semantics::Symbol;
 use snap_text::Token;
 
-/// Whether a token is this word.
+/// Returns whether a token is this word.
 pub fn is_word(word: &[u8], token: &Token<'_>) -> bool
     ensures { result ≡ is_word word.now (view_token token.now) }
 {
@@ -22,7 +22,7 @@ pub fn is_word(word: &[u8], token: &Token<'_>) -> bool
     }
 }
 
-/// Whether a token is this symbol.
+/// Returns whether a token is this symbol.
 pub fn is_symbol(symbol: Symbol, token: &Token<'_>) -> bool
     ensures { result ≡ is_symbol symbol (view_token token.now) }
 {
@@ -41,7 +41,7 @@ pub fn is_identifier(token: &Token<'_>) -> bool
     }
 }
 
-/// Whether a token is an identifier that is not reserved.
+/// Returns whether a token is an identifier that is not reserved.
 pub fn is_name(token: &Token<'_>) -> bool
     ensures { result ≡ is_name (view_token token.now) }
 {
@@ -60,7 +60,7 @@ pub fn is_number(token: &Token<'_>) -> bool
     }
 }
 
-/// Whether a token is the number of a line.
+/// Returns whether a token is the number of a line.
 pub fn is_line(token: &Token<'_>) -> bool
     ensures { result ≡ is_line (view_token token.now) }
 {
@@ -70,7 +70,7 @@ pub fn is_line(token: &Token<'_>) -> bool
     }
 }
 
-/// Whether a token is a number in these bounds.
+/// Returns whether a token is a number in these bounds.
 pub fn is_within(least: u64, most: u64, token: &Token<'_>) -> bool
     ensures { result ≡ is_within least most (view_token token.now) }
 {
@@ -89,7 +89,7 @@ pub fn is_positive(token: &Token<'_>) -> bool
     }
 }
 
-/// The letters of a keyword.
+/// Returns the letters of a keyword.
 pub fn keyword_text(keyword: Keyword) -> &'static [u8]
     ensures { result.now ≡ keyword_text keyword }
 {
@@ -122,7 +122,7 @@ pub fn is_relation(token: &Token<'_>) -> bool
         || is_symbol(Symbol::Less, token)
 }
 
-/// Whether a token is an index that is no name.
+/// Returns whether a token is an index that is no name.
 pub fn is_fixed_index(in_quantifier: bool, token: &Token<'_>) -> bool
     ensures { result ≡ is_fixed_index in_quantifier (view_token token.now) }
 {
@@ -140,7 +140,7 @@ pub fn is_index(in_quantifier: bool, token: &Token<'_>) -> bool
     is_name(token) || is_fixed_index(in_quantifier, token)
 }
 
-/// Whether a token is the keyword of a field of one number.
+/// Returns whether a token is the keyword of a field of one number.
 pub fn is_field(token: &Token<'_>) -> bool
     ensures { result ≡ is_field (view_token token.now) }
 {
@@ -156,7 +156,7 @@ pub fn is_kind(token: &Token<'_>) -> bool
     is_word(b"seq", token) || is_word(b"bit", token) || is_word(b"multi", token)
 }
 
-/// Whether a token is a bank of bits.
+/// Returns whether a token is a bank of bits.
 pub fn is_bit_bank(token: &Token<'_>) -> bool
     ensures { result ≡ is_bit_bank (view_token token.now) }
 {

@@ -1,5 +1,5 @@
-//! `decode`: the listing whose image these bytes are, with
-//! its comments, or the first reason why they are no image.
+//! `decode`: the listing whose image some bytes are, with its comments, or the first reason why
+//! they are no image.
 ghost use Rattle.std.specs.Prelude.{◌≡◌, ◌≢◌, ℕ, List, ◌∷◌, ◌++◌, IfOk, None, Ok, Err, take};
 ghost use Rattle.snap_semantics.specs.Answers.{Answers};
 ghost use Rattle.snap_semantics.specs.Comments.{Commented, IsCommented};
@@ -22,7 +22,7 @@ use snap_listing_rules::{checked_target, checked_targets};
 use snap_semantics::{ImageRefusal, Line, ListingRefusal};
 use std::alloc::Global;
 
-/// Each target has to be a line.
+/// Checks that each target is a line.
 fn targets(header: &Header, lines: &[Line]) -> Result<(), ListingRefusal>
     ensures { result ≡ checked_targets lines.now (header.now.scan ∷ header.now.update
         ∷ line_targets lines.now) }
@@ -32,8 +32,7 @@ fn targets(header: &Header, lines: &[Line]) -> Result<(), ListingRefusal>
     checked_targets(lines)
 }
 
-/// The listing whose image these bytes are, with its comments, or the first reason why they are
-/// none.
+/// Decodes `image`, or returns the first reason why it is no image of a listing.
 #[tactic(auto, unfolding(snap_image_format::specs::ImageListing::commented_in))]
 fn decoded(alloc: Global, image: &[u8]) -> Result<CommentedListing, ImageFault>
     ensures answer { Answers (λ l. l) result (commented_in image.now) }
@@ -51,9 +50,13 @@ fn decoded(alloc: Global, image: &[u8]) -> Result<CommentedListing, ImageFault>
     }
 }
 
-/// The listing whose image these bytes are, with its comments, or the first reason why they are
-/// none: it is refused exactly where no listing has this image in either version. Takes memory for
-/// the listing and its comments alone.
+/// Decodes `image`, and returns the listing whose image it is, with its comments. Memory is
+/// allocated for the listing and its comments alone.
+///
+/// # Errors
+///
+/// `Refused` exactly if no listing has this image in either version, with the first reason;
+/// `Memory` where memory runs out.
 pub fn decode(alloc: Global, image: &[u8]) -> Result<CommentedListing, ImageFault>
     ensures answer { Answers (λ l. l) result (commented_in image.now) }
     ensures image { IfOk result (λ l. IsImageOf image.now l) }

@@ -26,7 +26,7 @@ pub struct CommentedLines {
     pub comments: Vec<Option<Vec<u8>>>,
 }
 
-/// Whether a version has this line number.
+/// Returns whether a version has this line number.
 fn is_number_in(version: ImageVersion, number: u64) -> bool
     ensures { result ≡ is_number_in version number }
 {
@@ -36,7 +36,7 @@ fn is_number_in(version: ImageVersion, number: u64) -> bool
     }
 }
 
-/// A line number of a version, above the last one.
+/// Checks a line number of a version, which is to be above `last`.
 fn checked_number(
     version: ImageVersion,
     line: u64,
@@ -54,7 +54,7 @@ fn checked_number(
     }
 }
 
-/// The line of this place, behind line number `last`.
+/// Reads line `line`, counted from 1, behind line number `last`.
 #[tactic(auto, unfolding(snap_image_format::specs::ImageListing::line_in))]
 fn line_at(
     header: &Header,
@@ -72,7 +72,8 @@ fn line_at(
     Ok(Line { number, instr })
 }
 
-/// Adds the line of this place with its comment, and gives its number.
+/// Reads line `line`, counted from 1, with its comment, appends both, and returns the line's
+/// number.
 fn add_line(
     alloc: Global,
     header: &Header,
@@ -95,7 +96,12 @@ fn add_line(
     }
 }
 
-/// So many lines, with their comments.
+/// Reads `count` lines, with their comments.
+///
+/// # Errors
+///
+/// `Refused` with the first reason why the bytes at the cursor are no such lines; `Memory` where
+/// memory runs out.
 pub fn lines(
     alloc: Global,
     header: &Header,

@@ -188,7 +188,7 @@ small_at [] h i = omega arith
 small_at (b ∷ bytes) h zero = h.0
 small_at (b ∷ bytes) h (suc i) = small_at bytes h.1 i
 
--- so many bytes, and those behind them
+-- this many bytes, and those behind them
 abbrev pub BytesAre : ℕ → Rest → (List ℕ × Rest) → Type 0
 BytesAre n r x =
     (length x.0 ≡ n) × (r.bytes ≡ x.0 ++ x.1.bytes) × (AreBytes r.bytes → AreBytes x.0 × AreBytes x.1.bytes)

@@ -55,7 +55,7 @@ pub behind : {s : Source} {a b x c : List ℕ} {us : List Use} {F : Type 0} (k :
     Part s b x c us F → Part s a (k ∷ x) c us F
 behind {s} {a} {b} k e p = skip (one_byte s a b k e) p
 
--- the same bytes, said otherwise
+-- bytes that are said otherwise
 pub said_as : {s : Source} {a b x y : List ℕ} {us : List Use} {F : Type 0} → x ≡ y →
     Part s a x b us F → Part s a y b us F
 said_as {s} {a} {b} {x} {y} {us} {F} e p = subst (λ (z : List ℕ). Part s a z b us F) e p

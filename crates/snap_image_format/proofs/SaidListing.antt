@@ -76,7 +76,7 @@ line_is ls s h v line last r =
 abbrev with_comments : Source → List Line → List Comment → Commented
 with_comments s lines comments = record { source = with_lines lines s; comments = comments }
 
--- so many lines behind line number `last`, with their comments, in an image of this version
+-- a number of lines behind line number `last`, with their comments, in an image of this version
 record AreLines (g : Source) (v : ImageVersion) (last n : ℕ) (xs : List Line) (cs : List Comment) : Type 0 where
   lines : AllByRecursion (IsLine g) xs
   rising : AreRising last xs
@@ -439,7 +439,7 @@ are_bytes (b ∷ bytes) fits =
     let small : b < 256 = omega (arith, first) in
     (small, are_bytes bytes (λ i. fits (suc i)))
 
--- so what is decoded is a listing with comments
+-- what is decoded is a listing with comments
 pub decoded_is_listing : (bytes : List ℕ) → ((i : ℕ) → Fits w8 (slice_index_or bytes i 0)) →
     (v : ImageVersion) (s : Source) (count : ℕ)
     (r after : Rest) (lines : List Line) (comments : List Comment) → head_in bytes ≡ Ok ((v, s, count), r) →

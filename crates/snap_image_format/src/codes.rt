@@ -12,16 +12,16 @@ use snap_words::KindTag;
 pub trait Coded: Copy + 'static {
     ghost table: { Codes Self };
 
-    /// All values that have a code.
+    /// Returns all values that have a code.
     fn all() -> &'static [Self]
         ensures { result.now ≡ table.all };
 
-    /// The code of a value.
+    /// Returns the code of a value.
     fn code(self) -> u8
         ensures { result ≡ table.code self };
 }
 
-/// The first of these values with this code.
+/// Returns the first of these values with this code.
 fn find<T: Coded>(all: &[T], code: u8) -> Option<T>
     ensures { result ≡ coded T.table.code all.now code }
 {
@@ -33,7 +33,7 @@ fn find<T: Coded>(all: &[T], code: u8) -> Option<T>
     None
 }
 
-/// The value with this code.
+/// Returns the value with this code; `None` where there is none.
 pub fn with_code<T: Coded>(code: u8) -> Option<T>
     ensures { result ≡ of_code T.table code }
 {

@@ -1,5 +1,5 @@
-//! `Cursor`: what is left of an image that is read from
-//! front to back; it takes bytes, numbers, codes and slots.
+//! `Cursor`: what is left of an image that is read from front to back, by bytes, numbers, codes and
+//! slots.
 ghost use Rattle.std.specs.Prelude.{◌≡◌, Bool, if◌then◌else◌};
 ghost use Rattle.snap_image_format.specs.ImageForms.{byte_in, bytes_in, short_in, long_in};
 ghost use Rattle.snap_image_format.specs.ImageForms.{code_in, slot_in, count_in, flag_in};
@@ -32,7 +32,11 @@ impl<'a> Model for Cursor<'a> {
 }
 
 impl<'a> Cursor<'a> {
-    /// Behind the signature of an image.
+    /// Returns what is left of `image` behind its signature.
+    ///
+    /// # Errors
+    ///
+    /// `NotAnImage` where the signature is not there.
     pub fn new(image: &'a [u8]) -> Result<Cursor<'a>, ImageRefusal>
         ensures { result ≡ signature_in image.now }
     {
@@ -46,14 +50,18 @@ impl<'a> Cursor<'a> {
         }
     }
 
-    /// How many bytes stand before what is left.
+    /// Returns how many bytes stand before what is left.
     pub fn passed(&self) -> u64
         ensures { result ≡ self.now.passed }
     {
         self.passed as u64
     }
 
-    /// A byte.
+    /// Reads a byte.
+    ///
+    /// # Errors
+    ///
+    /// `Truncated` where none is left.
     pub fn byte(&mut self) -> Result<u8, ImageRefusal>
         ensures { Reads result self.new (byte_in self.old) }
     {
@@ -66,7 +74,7 @@ impl<'a> Cursor<'a> {
         Ok(byte)
     }
 
-    /// So many bytes.
+    /// Reads `N` bytes.
     fn bytes<const N: usize>(&mut self) -> Result<[u8; N], ImageRefusal>
         ensures { Reads result self.new (bytes_in N self.old) }
     {
@@ -80,7 +88,11 @@ impl<'a> Cursor<'a> {
         Ok(bytes)
     }
 
-    /// A number of two bytes.
+    /// Reads a number of two bytes, the high one first.
+    ///
+    /// # Errors
+    ///
+    /// `Truncated` where fewer are left.
     #[tactic(auto, unfolding(crate::specs::ImageForms::short_in))]
     pub fn short(&mut self) -> Result<u64, ImageRefusal>
         ensures { Reads result self.new (short_in self.old) }
@@ -89,7 +101,11 @@ impl<'a> Cursor<'a> {
         Ok(u64::from(u16::from_be_bytes(bytes)))
     }
 
-    /// A number of eight bytes.
+    /// Reads a number of eight bytes, the highest first.
+    ///
+    /// # Errors
+    ///
+    /// `Truncated` where fewer are left.
     #[tactic(auto, unfolding(crate::specs::ImageForms::long_in))]
     pub fn long(&mut self) -> Result<u64, ImageRefusal>
         ensures { Reads result self.new (long_in self.old) }
@@ -98,7 +114,11 @@ impl<'a> Cursor<'a> {
         Ok(u64::from_be_bytes(bytes))
     }
 
-    /// What a byte is the code of.
+    /// Reads a byte, and returns the value that it is the code of.
+    ///
+    /// # Errors
+    ///
+    /// `Truncated` where no byte is left; `BadCode` where it is no code.
     #[tactic(auto, unfolding(crate::specs::ImageForms::code_in))]
     pub fn code<T: Coded>(&mut self) -> Result<T, ImageRefusal>
         ensures { Reads result self.new (code_in T.table self.old) }
@@ -111,7 +131,13 @@ impl<'a> Cursor<'a> {
         }
     }
 
-    /// The name of a slot.
+    /// Reads the slot of a name, and returns the name; `line` is the place of the line in which it
+    /// stands.
+    ///
+    /// # Errors
+    ///
+    /// `Truncated` where no byte is left; `Invalid` with `UnknownName` where `names` have no such
+    /// slot.
     #[tactic(auto, unfolding(crate::specs::ImageForms::slot_in))]
     pub fn slot(&mut self, line: u64, names: &[Name]) -> Result<Name, ImageRefusal>
         ensures { Reads result self.new (slot_in line names.now self.old) }
@@ -123,7 +149,11 @@ impl<'a> Cursor<'a> {
         }
     }
 
-    /// How many comparisons a condition has: 1 to 4.
+    /// Reads how many comparisons a condition has, 1 to 4.
+    ///
+    /// # Errors
+    ///
+    /// `Truncated` where no byte is left; `BadCode` where the count is another one.
     #[tactic(auto, unfolding(crate::specs::ImageForms::count_in))]
     pub fn count(&mut self) -> Result<u8, ImageRefusal>
         ensures { Reads result self.new (count_in self.old) }
@@ -137,7 +167,11 @@ impl<'a> Cursor<'a> {
         }
     }
 
-    /// Whether what may be left out follows: a byte that is 0 or 1.
+    /// Reads whether an optional part follows, a byte that is 0 or 1.
+    ///
+    /// # Errors
+    ///
+    /// `Truncated` where no byte is left; `BadCode` where the byte is another one.
     #[tactic(auto, unfolding(crate::specs::ImageForms::flag_in))]
     pub fn flag(&mut self) -> Result<bool, ImageRefusal>
         ensures { Reads result self.new (flag_in self.old) }
@@ -153,7 +187,11 @@ impl<'a> Cursor<'a> {
         }
     }
 
-    /// Nothing is left.
+    /// Checks that nothing is left.
+    ///
+    /// # Errors
+    ///
+    /// `Extra` where bytes are left.
     pub fn ended(&self) -> Result<(), ImageRefusal>
         ensures { result ≡ ended self.now.bytes }
     {

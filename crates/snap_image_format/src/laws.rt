@@ -13,12 +13,12 @@ pub fn what_is_encoded_is_decoded()
     ensures { DecodesAllImages }
 {}
 
-/// No image begins another.
+/// No image is the beginning of another one.
 pub fn more_than_an_image_is_refused()
     ensures { RefusesMore }
 {}
 
-/// An image is bytes.
+/// An image consists of bytes.
 pub fn images_are_bytes()
     ensures { ImagesAreBytes }
 {}

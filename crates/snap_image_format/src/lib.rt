@@ -1,6 +1,7 @@
 //! The format of images: `specs/` has the codes, what a listing's image is, and what bytes are the
-//! image of. Its laws say that what is encoded is decoded, and nothing else is. `Coded` and `Cursor`
-//! are the codes and the bytes of an image for those who write and read it.
+//! image of. The laws say that each image is decoded as the listing that was encoded, and nothing
+//! else is decoded. `Coded` and `Cursor` are the codes and the bytes of an image for the crates
+//! that write and read images.
 #![tactic(auto)]
 
 mod codes;

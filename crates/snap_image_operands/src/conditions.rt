@@ -11,7 +11,7 @@ use snap_image_format::Cursor;
 use snap_listing_core::Header;
 use snap_semantics::{Comparison, Condition, ImageRefusal, Join, Relation};
 
-/// A comparison.
+/// Reads a comparison.
 #[tactic(auto, unfolding(snap_image_format::specs::ImageForms::comparison_in))]
 fn comparison(
     header: &Header,
@@ -32,7 +32,7 @@ fn comparison(
     })
 }
 
-/// One comparison, whose join, behind so many bytes, is `and`.
+/// Reads one comparison; the join before it, behind `at` bytes, has to be `and`.
 #[tactic(auto, unfolding(snap_image_format::specs::ImageForms::one_in))]
 fn one(
     header: &Header,
@@ -54,7 +54,7 @@ fn one(
     }
 }
 
-/// Two comparisons.
+/// Reads two comparisons.
 #[tactic(auto, unfolding(snap_image_format::specs::ImageForms::two_in))]
 fn two(
     header: &Header,
@@ -71,7 +71,7 @@ fn two(
     Ok(Condition::Two(join, first, second))
 }
 
-/// Three comparisons.
+/// Reads three comparisons.
 #[tactic(auto, unfolding(snap_image_format::specs::ImageForms::three_in))]
 fn three(
     header: &Header,
@@ -89,7 +89,7 @@ fn three(
     Ok(Condition::Three(join, first, second, third))
 }
 
-/// Four comparisons.
+/// Reads four comparisons.
 #[tactic(auto, unfolding(snap_image_format::specs::ImageForms::four_in))]
 fn four(
     header: &Header,
@@ -108,7 +108,7 @@ fn four(
     Ok(Condition::Four(join, first, second, third, fourth))
 }
 
-/// So many comparisons; the count stands before the join.
+/// Reads `count` comparisons, whose count stands behind `at` bytes, before the join.
 fn comparisons(
     header: &Header,
     line: u64,
@@ -132,7 +132,11 @@ fn comparisons(
     }
 }
 
-/// A condition.
+/// Reads a condition.
+///
+/// # Errors
+///
+/// The first reason why the bytes at the cursor are no condition.
 #[tactic(auto, unfolding(snap_image_format::specs::ImageForms::condition_in))]
 pub fn condition(
     header: &Header,
@@ -149,7 +153,7 @@ pub fn condition(
     comparisons(header, line, in_quantifier, at, count, join, cursor)
 }
 
-/// The condition, where there is one.
+/// Reads the condition if `flag` says that there is one.
 #[tactic(auto, unfolding(snap_image_format::specs::ImageForms::where_of_flag))]
 fn where_of_flag(
     header: &Header,
@@ -168,7 +172,11 @@ fn where_of_flag(
     }
 }
 
-/// Whether there is a condition, and the condition.
+/// Reads whether there is a condition, and the condition.
+///
+/// # Errors
+///
+/// The first reason why the bytes at the cursor are no such part.
 #[tactic(auto, unfolding(snap_image_format::specs::ImageForms::where_in))]
 pub fn optional_condition(
     header: &Header,

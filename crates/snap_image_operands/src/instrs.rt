@@ -19,7 +19,7 @@ use snap_listing_rules::{has_bank, has_view, same_kind};
 use snap_semantics::{BitBank, ImageRefusal, Instr, ListingRefusal, Range, Tuple};
 use snap_words::{Bank, KindTag};
 
-/// `let X = E`.
+/// Reads `let X = E`.
 #[tactic(auto, unfolding(snap_image_format::specs::ImageInstrs::let_in))]
 fn let_instr(header: &Header, line: u64, cursor: &mut Cursor<'_>) -> Result<Instr, ImageRefusal>
     ensures { Reads result cursor.new (let_in (header_source header.now) line cursor.old) }
@@ -29,7 +29,7 @@ fn let_instr(header: &Header, line: u64, cursor: &mut Cursor<'_>) -> Result<Inst
     Ok(Instr::Let(scalar, value))
 }
 
-/// `let R[I] = E`.
+/// Reads `let R[I] = E`.
 #[tactic(auto, unfolding(snap_image_format::specs::ImageInstrs::let_place_in))]
 fn let_place_instr(
     header: &Header,
@@ -44,7 +44,7 @@ fn let_place_instr(
     Ok(Instr::LetPlace(row, place, value))
 }
 
-/// `get W[I] = r[J]`.
+/// Reads `get W[I] = r[J]`.
 #[tactic(auto, unfolding(snap_image_format::specs::ImageInstrs::get_in))]
 fn get_instr(header: &Header, line: u64, cursor: &mut Cursor<'_>) -> Result<Instr, ImageRefusal>
     ensures { Reads result cursor.new (get_in (header_source header.now) line cursor.old) }
@@ -55,7 +55,7 @@ fn get_instr(header: &Header, line: u64, cursor: &mut Cursor<'_>) -> Result<Inst
     Ok(Instr::Get(words, place, register))
 }
 
-/// `bit X = q[I,J]`.
+/// Reads `bit X = q[I,J]`.
 #[tactic(auto, unfolding(snap_image_format::specs::ImageInstrs::bit_in))]
 fn bit_instr(
     header: &Header,
@@ -71,7 +71,7 @@ fn bit_instr(
     Ok(Instr::Bit(scalar, bits, first, second))
 }
 
-/// `look S = v[I]`.
+/// Reads `look S = v[I]`.
 #[tactic(auto, unfolding(snap_image_format::specs::ImageInstrs::look_in))]
 fn look_instr(header: &Header, line: u64, cursor: &mut Cursor<'_>) -> Result<Instr, ImageRefusal>
     ensures { Reads result cursor.new (look_in (header_source header.now) line cursor.old) }
@@ -81,7 +81,7 @@ fn look_instr(header: &Header, line: u64, cursor: &mut Cursor<'_>) -> Result<Ins
     Ok(Instr::Look(view, register))
 }
 
-/// `put r[I] = (data, seq, S)`.
+/// Reads `put r[I] = (data, seq, S)`.
 #[tactic(auto, unfolding(snap_image_format::specs::ImageInstrs::put_seq_in))]
 fn put_seq_instr(header: &Header, line: u64, cursor: &mut Cursor<'_>) -> Result<Instr, ImageRefusal>
     ensures { Reads result cursor.new (put_seq_in (header_source header.now) line cursor.old) }
@@ -93,7 +93,7 @@ fn put_seq_instr(header: &Header, line: u64, cursor: &mut Cursor<'_>) -> Result<
     Ok(Instr::Put(register, Tuple::Seq(datum, seq, view)))
 }
 
-/// `put r[I] = (data, R, toggle, S)`.
+/// Reads `put r[I] = (data, R, toggle, S)`.
 #[tactic(auto, unfolding(snap_image_format::specs::ImageInstrs::put_bits_in))]
 fn put_bits_instr(
     header: &Header,
@@ -110,7 +110,7 @@ fn put_bits_instr(
     Ok(Instr::Put(register, Tuple::Bits(datum, handshakes, toggle, view)))
 }
 
-/// `put r[I] = (data, id, toggle)`.
+/// Reads `put r[I] = (data, id, toggle)`.
 #[tactic(auto, unfolding(snap_image_format::specs::ImageInstrs::put_multi_in))]
 fn put_multi_instr(
     header: &Header,
@@ -126,7 +126,7 @@ fn put_multi_instr(
     Ok(Instr::Put(register, Tuple::Multi(datum, id, toggle)))
 }
 
-/// `put q[I,J] = E`.
+/// Reads `put q[I,J] = E`.
 #[tactic(auto, unfolding(snap_image_format::specs::ImageInstrs::put_bit_in))]
 fn put_bit_instr(
     header: &Header,
@@ -142,7 +142,7 @@ fn put_bit_instr(
     Ok(Instr::PutBit(bits, first, second, value))
 }
 
-/// `put v[I] = S`.
+/// Reads `put v[I] = S`.
 #[tactic(auto, unfolding(snap_image_format::specs::ImageInstrs::put_view_in))]
 fn put_view_instr(
     header: &Header,
@@ -156,7 +156,7 @@ fn put_view_instr(
     Ok(Instr::PutView(register, view))
 }
 
-/// `view S = data(W)`.
+/// Reads `view S = data(W)`.
 #[tactic(auto, unfolding(snap_image_format::specs::ImageInstrs::view_data_in))]
 fn view_data_instr(
     header: &Header,
@@ -170,7 +170,7 @@ fn view_data_instr(
     Ok(Instr::ViewData(view, words))
 }
 
-/// `view S = view(W[I])`.
+/// Reads `view S = view(W[I])`.
 #[tactic(auto, unfolding(snap_image_format::specs::ImageInstrs::view_of_in))]
 fn view_of_instr(header: &Header, line: u64, cursor: &mut Cursor<'_>) -> Result<Instr, ImageRefusal>
     ensures { Reads result cursor.new (view_of_in (header_source header.now) line cursor.old) }
@@ -181,7 +181,7 @@ fn view_of_instr(header: &Header, line: u64, cursor: &mut Cursor<'_>) -> Result<
     Ok(Instr::ViewOf(view, words, place))
 }
 
-/// `each G: R[@] = E where C`.
+/// Reads `each G: R[@] = E where C`.
 #[tactic(auto, unfolding(snap_image_format::specs::ImageInstrs::each_in))]
 fn each_instr(header: &Header, line: u64, cursor: &mut Cursor<'_>) -> Result<Instr, ImageRefusal>
     ensures { Reads result cursor.new (each_in (header_source header.now) line cursor.old) }
@@ -193,7 +193,7 @@ fn each_instr(header: &Header, line: u64, cursor: &mut Cursor<'_>) -> Result<Ins
     Ok(Instr::Each(range, row, value, condition))
 }
 
-/// `first X G: C goto N`.
+/// Reads `first X G: C goto N`.
 #[tactic(auto, unfolding(snap_image_format::specs::ImageInstrs::first_in))]
 fn first_instr(header: &Header, line: u64, cursor: &mut Cursor<'_>) -> Result<Instr, ImageRefusal>
     ensures { Reads result cursor.new (first_in (header_source header.now) line cursor.old) }
@@ -205,7 +205,7 @@ fn first_instr(header: &Header, line: u64, cursor: &mut Cursor<'_>) -> Result<In
     Ok(Instr::First(scalar, range, condition, target))
 }
 
-/// `next X G goto N`.
+/// Reads `next X G goto N`.
 #[tactic(auto, unfolding(snap_image_format::specs::ImageInstrs::next_in))]
 fn next_instr(header: &Header, line: u64, cursor: &mut Cursor<'_>) -> Result<Instr, ImageRefusal>
     ensures { Reads result cursor.new (next_in (header_source header.now) line cursor.old) }
@@ -216,7 +216,7 @@ fn next_instr(header: &Header, line: u64, cursor: &mut Cursor<'_>) -> Result<Ins
     Ok(Instr::Next(scalar, range, target))
 }
 
-/// `if C goto N`.
+/// Reads `if C goto N`.
 #[tactic(auto, unfolding(snap_image_format::specs::ImageInstrs::if_in))]
 fn if_instr(header: &Header, line: u64, cursor: &mut Cursor<'_>) -> Result<Instr, ImageRefusal>
     ensures { Reads result cursor.new (if_in (header_source header.now) line cursor.old) }
@@ -226,7 +226,7 @@ fn if_instr(header: &Header, line: u64, cursor: &mut Cursor<'_>) -> Result<Instr
     Ok(Instr::If(condition, target))
 }
 
-/// `if all G: C goto N`.
+/// Reads `if all G: C goto N`.
 #[tactic(auto, unfolding(snap_image_format::specs::ImageInstrs::if_all_in))]
 fn if_all_instr(header: &Header, line: u64, cursor: &mut Cursor<'_>) -> Result<Instr, ImageRefusal>
     ensures { Reads result cursor.new (if_all_in (header_source header.now) line cursor.old) }
@@ -237,7 +237,7 @@ fn if_all_instr(header: &Header, line: u64, cursor: &mut Cursor<'_>) -> Result<I
     Ok(Instr::IfAll(range, condition, target))
 }
 
-/// `goto N`.
+/// Reads `goto N`.
 #[tactic(auto, unfolding(snap_image_format::specs::ImageInstrs::goto_in))]
 fn goto_instr(cursor: &mut Cursor<'_>) -> Result<Instr, ImageRefusal>
     ensures { Reads result cursor.new (goto_in cursor.old) }
@@ -246,7 +246,7 @@ fn goto_instr(cursor: &mut Cursor<'_>) -> Result<Instr, ImageRefusal>
     Ok(Instr::Goto(target))
 }
 
-/// `call N`.
+/// Reads `call N`.
 #[tactic(auto, unfolding(snap_image_format::specs::ImageInstrs::call_in))]
 fn call_instr(cursor: &mut Cursor<'_>) -> Result<Instr, ImageRefusal>
     ensures { Reads result cursor.new (call_in cursor.old) }
@@ -255,7 +255,7 @@ fn call_instr(cursor: &mut Cursor<'_>) -> Result<Instr, ImageRefusal>
     Ok(Instr::Call(target))
 }
 
-/// `return S`.
+/// Reads `return S`.
 #[tactic(auto, unfolding(snap_image_format::specs::ImageInstrs::return_in))]
 fn return_instr(header: &Header, line: u64, cursor: &mut Cursor<'_>) -> Result<Instr, ImageRefusal>
     ensures { Reads result cursor.new (return_in (header_source header.now) line cursor.old) }
@@ -264,7 +264,7 @@ fn return_instr(header: &Header, line: u64, cursor: &mut Cursor<'_>) -> Result<I
     Ok(Instr::Return(view))
 }
 
-/// Whether a kind has what a form speaks of.
+/// Returns whether a kind has the registers and fields that a form needs.
 fn has_form(kind: KindTag, form: InstrTag) -> bool
     ensures { result ≡ has_form kind form }
 {
@@ -280,7 +280,7 @@ fn has_form(kind: KindTag, form: InstrTag) -> bool
     }
 }
 
-/// The kind has to have what a form speaks of.
+/// Checks that the kind has the registers and fields that a form needs.
 #[tactic(auto, using(crate::proofs::FormUses::form_allowed))]
 fn checked_form(header: &Header, line: u64, form: InstrTag) -> Result<(), ImageRefusal>
     ensures { result ≡ allowed (header_source header.now) line (form_uses form) }
@@ -292,7 +292,7 @@ fn checked_form(header: &Header, line: u64, form: InstrTag) -> Result<(), ImageR
     }
 }
 
-/// What stands behind the code of a form.
+/// Reads the operands of a form, which stand behind its code.
 fn operands(
     header: &Header,
     line: u64,
@@ -329,7 +329,11 @@ fn operands(
     }
 }
 
-/// An instruction.
+/// Reads an instruction.
+///
+/// # Errors
+///
+/// The first reason why the bytes at the cursor are no instruction of a listing with this header.
 #[tactic(auto, unfolding(snap_image_format::specs::ImageInstrs::instr_in))]
 pub fn instr(header: &Header, line: u64, cursor: &mut Cursor<'_>) -> Result<Instr, ImageRefusal>
     ensures { Reads result cursor.new (instr_in (header_source header.now) line cursor.old) }

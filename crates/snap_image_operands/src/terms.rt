@@ -15,7 +15,7 @@ use snap_listing_rules::{has_field, has_handshakes};
 use snap_semantics::{Expr, ImageRefusal, Index, ListingRefusal, Term};
 use snap_words::Field;
 
-/// A number as an index.
+/// Reads a number as an index.
 #[tactic(auto, unfolding(snap_image_format::specs::ImageForms::number_index))]
 fn number_index(cursor: &mut Cursor<'_>) -> Result<Index, ImageRefusal>
     ensures { Reads result cursor.new (number_index cursor.old) }
@@ -24,7 +24,7 @@ fn number_index(cursor: &mut Cursor<'_>) -> Result<Index, ImageRefusal>
     Ok(Index::Number(number))
 }
 
-/// A scalar as an index.
+/// Reads a scalar as an index.
 #[tactic(auto, unfolding(snap_image_format::specs::ImageForms::scalar_index))]
 fn scalar_index(header: &Header, line: u64, cursor: &mut Cursor<'_>) -> Result<Index, ImageRefusal>
     ensures { Reads result cursor.new (scalar_index (header_source header.now) line cursor.old) }
@@ -33,7 +33,7 @@ fn scalar_index(header: &Header, line: u64, cursor: &mut Cursor<'_>) -> Result<I
     Ok(Index::Scalar(scalar))
 }
 
-/// The index with this tag, which stands behind so many bytes; `@` only in a quantifier.
+/// Reads the index with this tag, which stands behind `at` bytes; `@` only in a quantifier.
 fn index_of_tag(
     header: &Header,
     line: u64,
@@ -64,7 +64,11 @@ fn index_of_tag(
     }
 }
 
-/// An index.
+/// Reads an index.
+///
+/// # Errors
+///
+/// The first reason why the bytes at the cursor are no index.
 #[tactic(auto, unfolding(snap_image_format::specs::ImageForms::index_in))]
 pub fn index(
     header: &Header,
@@ -80,7 +84,7 @@ pub fn index(
     index_of_tag(header, line, in_quantifier, at, tag, cursor)
 }
 
-/// A place of a row.
+/// Reads a place of a row.
 #[tactic(auto, unfolding(snap_image_format::specs::ImageForms::row_term))]
 fn row_term(
     header: &Header,
@@ -96,7 +100,7 @@ fn row_term(
     Ok(Term::Row(row, place))
 }
 
-/// The words of the kind have to have this field.
+/// Checks that the words of the kind have this field.
 fn checked_field(header: &Header, line: u64, field: Field) -> Result<(), ImageRefusal>
     ensures { result ≡ allowed (header_source header.now) line (FieldUse field ∷ []) }
 {
@@ -107,7 +111,7 @@ fn checked_field(header: &Header, line: u64, field: Field) -> Result<(), ImageRe
     }
 }
 
-/// The words of the kind have to have handshake bits.
+/// Checks that the words of the kind have handshake bits.
 fn checked_handshakes(header: &Header, line: u64) -> Result<(), ImageRefusal>
     ensures { result ≡ allowed (header_source header.now) line (HandshakeUse ∷ []) }
 {
@@ -118,7 +122,7 @@ fn checked_handshakes(header: &Header, line: u64) -> Result<(), ImageRefusal>
     }
 }
 
-/// A field of a word.
+/// Reads a field of a word.
 #[tactic(auto, unfolding(snap_image_format::specs::ImageForms::field_term))]
 fn field_term(
     header: &Header,
@@ -136,7 +140,7 @@ fn field_term(
     Ok(Term::Field(field, words, place))
 }
 
-/// A handshake bit of a word.
+/// Reads a handshake bit of a word.
 #[tactic(auto, unfolding(snap_image_format::specs::ImageForms::handshake_term))]
 fn handshake_term(
     header: &Header,
@@ -154,7 +158,7 @@ fn handshake_term(
     Ok(Term::Handshake(words, place, handshake))
 }
 
-/// An index as a term.
+/// Reads an index as a term.
 #[tactic(auto, unfolding(snap_image_format::specs::ImageForms::index_term))]
 fn index_term(
     header: &Header,
@@ -171,7 +175,7 @@ fn index_term(
     Ok(Term::Index(index))
 }
 
-/// The term with this tag, which stands behind so many bytes.
+/// Reads the term with this tag, which stands behind `at` bytes.
 fn term_of_tag(
     header: &Header,
     line: u64,
@@ -201,7 +205,11 @@ fn term_of_tag(
     }
 }
 
-/// A term.
+/// Reads a term.
+///
+/// # Errors
+///
+/// The first reason why the bytes at the cursor are no term.
 #[tactic(auto, unfolding(snap_image_format::specs::ImageForms::term_in))]
 pub fn term(
     header: &Header,
@@ -217,7 +225,7 @@ pub fn term(
     term_of_tag(header, line, in_quantifier, at, tag, cursor)
 }
 
-/// A term as an expression.
+/// Reads a term as an expression.
 #[tactic(auto, unfolding(snap_image_format::specs::ImageForms::plain_expr))]
 fn plain_expr(
     header: &Header,
@@ -232,7 +240,7 @@ fn plain_expr(
     Ok(Expr::Term(operand))
 }
 
-/// A sum.
+/// Reads a sum.
 #[tactic(auto, unfolding(snap_image_format::specs::ImageForms::sum_expr))]
 fn sum_expr(
     header: &Header,
@@ -248,7 +256,7 @@ fn sum_expr(
     Ok(Expr::Sum(left, right))
 }
 
-/// A negation.
+/// Reads a negation.
 #[tactic(auto, unfolding(snap_image_format::specs::ImageForms::not_expr))]
 fn not_expr(
     header: &Header,
@@ -263,7 +271,11 @@ fn not_expr(
     Ok(Expr::Not(operand))
 }
 
-/// An expression.
+/// Reads an expression.
+///
+/// # Errors
+///
+/// The first reason why the bytes at the cursor are no expression.
 #[tactic(auto, unfolding(snap_image_format::specs::ImageForms::expr_in))]
 pub fn expr(
     header: &Header,

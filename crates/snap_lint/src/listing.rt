@@ -1,4 +1,4 @@
-//! `read_listing`: the listing that a text is, for the tasks that write of it.
+//! `read_listing`: reads a listing from its text, for the tasks that write of it.
 ghost use Rattle.std.specs.Prelude.{◌≡◌, ◌<◌, Err, length};
 ghost use Rattle.snap_semantics.specs.declared.fault.Fault.TheVariants.{Refused};
 ghost use Rattle.snap_semantics.specs.declared.refusal.ListingRefusal.TheVariants.{TooLong};
@@ -10,7 +10,11 @@ use snap_listing_core::Listing;
 use snap_semantics::{Fault, Refusal};
 use std::alloc::Global;
 
-/// Reads a listing.
+/// Reads the listing that `text` spells.
+///
+/// # Errors
+///
+/// `Refused` with the first reason why `text` is no listing; `Memory` where memory runs out.
 pub fn read_listing(alloc: Global, text: &[u8]) -> Result<Listing, Fault<Refusal>>
     ensures listing { Answers (λ l. l) result (refused_as refusal.Listing (listing_of text.now)) }
     ensures too_long { 65536 < length text.now → result ≡ Err (Refused (refusal.Listing TooLong)) }

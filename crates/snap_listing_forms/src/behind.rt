@@ -8,7 +8,7 @@ use crate::{expr_at, index_at, name_at};
 use snap_semantics::{Expr, Index, Name, Symbol};
 use snap_text::{Token, symbol_at};
 
-/// A symbol and an expression.
+/// Reads a symbol and an expression.
 pub fn expr_behind<'a, 'b>(
     symbol: Symbol,
     in_quantifier: bool,
@@ -21,7 +21,7 @@ pub fn expr_behind<'a, 'b>(
     expr_at(in_quantifier, rest)
 }
 
-/// A symbol and a name.
+/// Reads a symbol and a name.
 pub fn name_behind<'a, 'b>(
     symbol: Symbol,
     tokens: &'a [Token<'b>],
@@ -33,7 +33,7 @@ pub fn name_behind<'a, 'b>(
     name_at(rest)
 }
 
-/// A symbol and an index.
+/// Reads a symbol and an index.
 pub fn index_behind<'a, 'b>(
     symbol: Symbol,
     tokens: &'a [Token<'b>],
@@ -45,7 +45,7 @@ pub fn index_behind<'a, 'b>(
     index_at(false, rest)
 }
 
-/// `[@]`.
+/// Reads `[@]`.
 pub fn every_place<'a, 'b>(tokens: &'a [Token<'b>]) -> Option<&'a [Token<'b>]>
     ensures { Finds (λ x. view_tokens x.now) result (every_place (view_tokens tokens.now)) }
 {

@@ -13,7 +13,7 @@ use snap_listing_rules::join_keyword;
 use snap_semantics::{Comparison, Condition, Expr, Join, Range, Relation, Symbol, Term};
 use snap_text::{Token, keyword_at, number_at, symbol_at};
 
-/// `not` and a term.
+/// Reads `not` and a term.
 #[tactic(auto, unfolding(snap_semantics::specs::ListingForms::not_expr))]
 fn not_expr<'a, 'b>(in_quantifier: bool, tokens: &'a [Token<'b>]) -> Option<(Expr, &'a [Token<'b>])>
     ensures { Finds (λ x. (x.0, view_tokens x.1.now)) result
@@ -26,7 +26,7 @@ fn not_expr<'a, 'b>(in_quantifier: bool, tokens: &'a [Token<'b>]) -> Option<(Exp
     Some((Expr::Not(term), rest))
 }
 
-/// `+` and a term.
+/// Reads `+` and a term.
 fn plus_term<'a, 'b>(
     in_quantifier: bool,
     tokens: &'a [Token<'b>],
@@ -38,7 +38,7 @@ fn plus_term<'a, 'b>(
     term_at(in_quantifier, rest)
 }
 
-/// The sum that begins with this term, or the term alone.
+/// Reads the sum that begins with this term, or the term alone.
 #[tactic(auto, unfolding(snap_semantics::specs::ListingForms::plus_expr))]
 fn sum_on<'a, 'b>(
     in_quantifier: bool,
@@ -54,7 +54,7 @@ fn sum_on<'a, 'b>(
     (Expr::Term(first), tokens)
 }
 
-/// A term, or a sum of two.
+/// Reads a term, or a sum of two.
 #[tactic(auto, unfolding(snap_semantics::specs::ListingForms::term_expr))]
 fn term_expr<'a, 'b>(
     in_quantifier: bool,
@@ -69,7 +69,7 @@ fn term_expr<'a, 'b>(
     Some(sum_on(in_quantifier, term, rest))
 }
 
-/// An expression.
+/// Reads an expression.
 #[tactic(auto, unfolding(snap_semantics::specs::ListingForms::expr_at))]
 pub fn expr_at<'a, 'b>(
     in_quantifier: bool,
@@ -84,7 +84,7 @@ pub fn expr_at<'a, 'b>(
     term_expr(in_quantifier, tokens)
 }
 
-/// `=`, `!=` or `<`.
+/// Reads `=`, `!=` or `<`.
 #[tactic(auto, unfolding(snap_semantics::specs::ListingForms::relation_at))]
 fn relation_at<'a, 'b>(tokens: &'a [Token<'b>]) -> Option<(Relation, &'a [Token<'b>])>
     ensures { Finds (λ x. (x.0, view_tokens x.1.now)) result
@@ -100,7 +100,7 @@ fn relation_at<'a, 'b>(tokens: &'a [Token<'b>]) -> Option<(Relation, &'a [Token<
     Some((Relation::Less, rest))
 }
 
-/// Two terms compared.
+/// Reads two terms compared.
 #[tactic(auto, unfolding(snap_semantics::specs::ListingForms::comparison_at))]
 fn comparison_at<'a, 'b>(
     in_quantifier: bool,
@@ -126,7 +126,7 @@ fn comparison_at<'a, 'b>(
     ))
 }
 
-/// A comparison behind `and` or `or`.
+/// Reads a comparison behind `and` or `or`.
 #[tactic(auto, unfolding(snap_semantics::specs::ListingForms::joined_at))]
 fn joined_at<'a, 'b>(
     in_quantifier: bool,
@@ -140,7 +140,7 @@ fn joined_at<'a, 'b>(
     comparison_at(in_quantifier, rest)
 }
 
-/// The condition that begins with these three comparisons.
+/// Reads the condition that begins with these three comparisons.
 #[tactic(auto, unfolding(snap_semantics::specs::ListingForms::third_on))]
 fn third_on<'a, 'b>(
     in_quantifier: bool,
@@ -159,7 +159,7 @@ fn third_on<'a, 'b>(
     (Condition::Three(join, first, second, third), tokens)
 }
 
-/// The condition that begins with these two comparisons.
+/// Reads the condition that begins with these two comparisons.
 #[tactic(auto, unfolding(snap_semantics::specs::ListingForms::second_on))]
 fn second_on<'a, 'b>(
     in_quantifier: bool,
@@ -177,7 +177,7 @@ fn second_on<'a, 'b>(
     (Condition::Two(join, first, second), tokens)
 }
 
-/// The condition that begins with this comparison.
+/// Reads the condition that begins with this comparison.
 #[tactic(auto, unfolding(snap_semantics::specs::ListingForms::first_on))]
 fn first_on<'a, 'b>(
     in_quantifier: bool,
@@ -196,7 +196,7 @@ fn first_on<'a, 'b>(
     (Condition::One(first), tokens)
 }
 
-/// A condition.
+/// Reads a condition.
 #[tactic(auto, unfolding(snap_semantics::specs::ListingForms::condition_at))]
 pub fn condition_at<'a, 'b>(
     in_quantifier: bool,
@@ -211,7 +211,7 @@ pub fn condition_at<'a, 'b>(
     Some(first_on(in_quantifier, first, rest))
 }
 
-/// `where C`, or nothing.
+/// Reads `where C` if it stands at the front of `tokens`, and nothing otherwise.
 #[tactic(auto, unfolding(snap_semantics::specs::ListingForms::where_at))]
 pub fn where_at<'a, 'b>(tokens: &'a [Token<'b>]) -> (Option<Condition>, &'a [Token<'b>])
     ensures { where_at (view_tokens tokens.now) ≡ Some (result.0, view_tokens result.1.now) }
@@ -224,7 +224,7 @@ pub fn where_at<'a, 'b>(tokens: &'a [Token<'b>]) -> (Option<Condition>, &'a [Tok
     (None, tokens)
 }
 
-/// `n` or `w`.
+/// Reads `n` or `w`.
 #[tactic(auto, unfolding(snap_semantics::specs::ListingForms::range_at))]
 pub fn range_at<'a, 'b>(tokens: &'a [Token<'b>]) -> Option<(Range, &'a [Token<'b>])>
     ensures { Finds (λ x. (x.0, view_tokens x.1.now)) result (range_at (view_tokens tokens.now)) }
@@ -236,7 +236,7 @@ pub fn range_at<'a, 'b>(tokens: &'a [Token<'b>]) -> Option<(Range, &'a [Token<'b
     Some((Range::Words, rest))
 }
 
-/// `goto N`.
+/// Reads `goto N`.
 #[tactic(auto, unfolding(snap_semantics::specs::ListingForms::target_at))]
 pub fn target_at<'a, 'b>(tokens: &'a [Token<'b>]) -> Option<(u64, &'a [Token<'b>])>
     ensures { Finds (λ x. (x.0, view_tokens x.1.now)) result (target_at (view_tokens tokens.now)) }

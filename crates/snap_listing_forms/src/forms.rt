@@ -19,7 +19,7 @@ use snap_semantics::{BitBank, Index, Instr, Line, Symbol};
 use snap_text::{Token, end_at, identifier_at, keyword_at, number_at, symbol_at};
 use snap_words::KindTag;
 
-/// `let X = E`.
+/// Reads `let X = E`.
 #[tactic(auto, unfolding(snap_semantics::specs::ListingForms::let_form))]
 fn let_form(tokens: &[Token<'_>]) -> Option<Instr>
     ensures { Finds (λ x. x) result (let_form (view_tokens tokens.now)) }
@@ -36,7 +36,7 @@ fn let_form(tokens: &[Token<'_>]) -> Option<Instr>
     Some(Instr::Let(scalar, value))
 }
 
-/// `let R[I] = E`.
+/// Reads `let R[I] = E`.
 #[tactic(auto, unfolding(snap_semantics::specs::ListingForms::let_place_form))]
 fn let_place_form(tokens: &[Token<'_>]) -> Option<Instr>
     ensures { Finds (λ x. x) result (let_place_form (view_tokens tokens.now)) }
@@ -53,7 +53,7 @@ fn let_place_form(tokens: &[Token<'_>]) -> Option<Instr>
     Some(Instr::LetPlace(row, place, value))
 }
 
-/// `get W[I] = r[J]`.
+/// Reads `get W[I] = r[J]`.
 #[tactic(auto, unfolding(snap_semantics::specs::ListingForms::get_form))]
 fn get_form(tokens: &[Token<'_>]) -> Option<Instr>
     ensures { Finds (λ x. x) result (get_form (view_tokens tokens.now)) }
@@ -76,7 +76,7 @@ fn get_form(tokens: &[Token<'_>]) -> Option<Instr>
     Some(Instr::Get(words, place, register))
 }
 
-/// `[I,J]`.
+/// Reads `[I,J]`.
 #[tactic(auto, unfolding(snap_semantics::specs::ListingForms::pair_at))]
 fn pair_at<'a, 'b>(tokens: &'a [Token<'b>]) -> Option<((Index, Index), &'a [Token<'b>])>
     ensures { Finds (λ x. (x.0, view_tokens x.1.now)) result (pair_at (view_tokens tokens.now)) }
@@ -91,7 +91,7 @@ fn pair_at<'a, 'b>(tokens: &'a [Token<'b>]) -> Option<((Index, Index), &'a [Toke
     Some(((first, second), rest))
 }
 
-/// `q` or `p`.
+/// Reads `q` or `p`.
 #[tactic(auto, unfolding(snap_semantics::specs::ListingForms::bit_bank_at))]
 fn bit_bank_at<'a, 'b>(tokens: &'a [Token<'b>]) -> Option<(BitBank, &'a [Token<'b>])>
     ensures { Finds (λ x. (x.0, view_tokens x.1.now)) result
@@ -104,7 +104,7 @@ fn bit_bank_at<'a, 'b>(tokens: &'a [Token<'b>]) -> Option<(BitBank, &'a [Token<'
     Some((BitBank::P, rest))
 }
 
-/// `bit X = q[I,J]`, and so `p`.
+/// Reads `bit X = q[I,J]` or `bit X = p[I,J]`.
 #[tactic(auto, unfolding(snap_semantics::specs::ListingForms::bit_form))]
 fn bit_form(tokens: &[Token<'_>]) -> Option<Instr>
     ensures { Finds (λ x. x) result (bit_form (view_tokens tokens.now)) }
@@ -127,7 +127,7 @@ fn bit_form(tokens: &[Token<'_>]) -> Option<Instr>
     Some(Instr::Bit(scalar, bank, first, second))
 }
 
-/// `look S = v[I]`.
+/// Reads `look S = v[I]`.
 #[tactic(auto, unfolding(snap_semantics::specs::ListingForms::look_form))]
 fn look_form(tokens: &[Token<'_>]) -> Option<Instr>
     ensures { Finds (λ x. x) result (look_form (view_tokens tokens.now)) }
@@ -150,7 +150,7 @@ fn look_form(tokens: &[Token<'_>]) -> Option<Instr>
     Some(Instr::Look(view, register))
 }
 
-/// `put r[I] = tuple`.
+/// Reads `put r[I] = ` and a tuple.
 #[tactic(auto, unfolding(snap_semantics::specs::ListingForms::put_form))]
 fn put_form(kind: KindTag, tokens: &[Token<'_>]) -> Option<Instr>
     ensures { Finds (λ x. x) result (put_form kind (view_tokens tokens.now)) }
@@ -173,7 +173,7 @@ fn put_form(kind: KindTag, tokens: &[Token<'_>]) -> Option<Instr>
     Some(Instr::Put(register, tuple))
 }
 
-/// `put q[I,J] = E`, and so `p`.
+/// Reads `put q[I,J] = E` or `put p[I,J] = E`.
 #[tactic(auto, unfolding(snap_semantics::specs::ListingForms::put_bit_form))]
 fn put_bit_form(tokens: &[Token<'_>]) -> Option<Instr>
     ensures { Finds (λ x. x) result (put_bit_form (view_tokens tokens.now)) }
@@ -193,7 +193,7 @@ fn put_bit_form(tokens: &[Token<'_>]) -> Option<Instr>
     Some(Instr::PutBit(bank, first, second, value))
 }
 
-/// `put v[I] = S`.
+/// Reads `put v[I] = S`.
 #[tactic(auto, unfolding(snap_semantics::specs::ListingForms::put_view_form))]
 fn put_view_form(tokens: &[Token<'_>]) -> Option<Instr>
     ensures { Finds (λ x. x) result (put_view_form (view_tokens tokens.now)) }
@@ -213,7 +213,7 @@ fn put_view_form(tokens: &[Token<'_>]) -> Option<Instr>
     Some(Instr::PutView(register, view))
 }
 
-/// `view S = data(W)`.
+/// Reads `view S = data(W)`.
 #[tactic(auto, unfolding(snap_semantics::specs::ListingForms::view_data_form))]
 fn view_data_form(tokens: &[Token<'_>]) -> Option<Instr>
     ensures { Finds (λ x. x) result (view_data_form (view_tokens tokens.now)) }
@@ -239,7 +239,7 @@ fn view_data_form(tokens: &[Token<'_>]) -> Option<Instr>
     Some(Instr::ViewData(view, words))
 }
 
-/// `view S = view(W[I])`.
+/// Reads `view S = view(W[I])`.
 #[tactic(auto, unfolding(snap_semantics::specs::ListingForms::view_of_form))]
 fn view_of_form(tokens: &[Token<'_>]) -> Option<Instr>
     ensures { Finds (λ x. x) result (view_of_form (view_tokens tokens.now)) }
@@ -268,7 +268,7 @@ fn view_of_form(tokens: &[Token<'_>]) -> Option<Instr>
     Some(Instr::ViewOf(view, words, place))
 }
 
-/// `each G: R[@] = E where C`.
+/// Reads `each G: R[@] = E where C`.
 #[tactic(auto, unfolding(snap_semantics::specs::ListingForms::each_form))]
 fn each_form(tokens: &[Token<'_>]) -> Option<Instr>
     ensures { Finds (λ x. x) result (each_form (view_tokens tokens.now)) }
@@ -292,7 +292,7 @@ fn each_form(tokens: &[Token<'_>]) -> Option<Instr>
     Some(Instr::Each(range, row, value, condition))
 }
 
-/// `first X G: C goto N`.
+/// Reads `first X G: C goto N`.
 #[tactic(auto, unfolding(snap_semantics::specs::ListingForms::first_form))]
 fn first_form(tokens: &[Token<'_>]) -> Option<Instr>
     ensures { Finds (λ x. x) result (first_form (view_tokens tokens.now)) }
@@ -318,7 +318,7 @@ fn first_form(tokens: &[Token<'_>]) -> Option<Instr>
     Some(Instr::First(scalar, range, condition, target))
 }
 
-/// `next X G goto N`.
+/// Reads `next X G goto N`.
 #[tactic(auto, unfolding(snap_semantics::specs::ListingForms::next_form))]
 fn next_form(tokens: &[Token<'_>]) -> Option<Instr>
     ensures { Finds (λ x. x) result (next_form (view_tokens tokens.now)) }
@@ -338,7 +338,7 @@ fn next_form(tokens: &[Token<'_>]) -> Option<Instr>
     Some(Instr::Next(scalar, range, target))
 }
 
-/// `if C goto N`.
+/// Reads `if C goto N`.
 #[tactic(auto, unfolding(snap_semantics::specs::ListingForms::if_form))]
 fn if_form(tokens: &[Token<'_>]) -> Option<Instr>
     ensures { Finds (λ x. x) result (if_form (view_tokens tokens.now)) }
@@ -355,7 +355,7 @@ fn if_form(tokens: &[Token<'_>]) -> Option<Instr>
     Some(Instr::If(condition, target))
 }
 
-/// `if all G: C goto N`.
+/// Reads `if all G: C goto N`.
 #[tactic(auto, unfolding(snap_semantics::specs::ListingForms::if_all_form))]
 fn if_all_form(tokens: &[Token<'_>]) -> Option<Instr>
     ensures { Finds (λ x. x) result (if_all_form (view_tokens tokens.now)) }
@@ -381,7 +381,7 @@ fn if_all_form(tokens: &[Token<'_>]) -> Option<Instr>
     Some(Instr::IfAll(range, condition, target))
 }
 
-/// `goto N`.
+/// Reads `goto N`.
 #[tactic(auto, unfolding(snap_semantics::specs::ListingForms::goto_form))]
 fn goto_form(tokens: &[Token<'_>]) -> Option<Instr>
     ensures { Finds (λ x. x) result (goto_form (view_tokens tokens.now)) }
@@ -395,7 +395,7 @@ fn goto_form(tokens: &[Token<'_>]) -> Option<Instr>
     Some(Instr::Goto(target))
 }
 
-/// `call N`.
+/// Reads `call N`.
 #[tactic(auto, unfolding(snap_semantics::specs::ListingForms::call_form))]
 fn call_form(tokens: &[Token<'_>]) -> Option<Instr>
     ensures { Finds (λ x. x) result (call_form (view_tokens tokens.now)) }
@@ -409,7 +409,7 @@ fn call_form(tokens: &[Token<'_>]) -> Option<Instr>
     Some(Instr::Call(target))
 }
 
-/// `return S`.
+/// Reads `return S`.
 #[tactic(auto, unfolding(snap_semantics::specs::ListingForms::return_form))]
 fn return_form(tokens: &[Token<'_>]) -> Option<Instr>
     ensures { Finds (λ x. x) result (return_form (view_tokens tokens.now)) }
@@ -423,7 +423,7 @@ fn return_form(tokens: &[Token<'_>]) -> Option<Instr>
     Some(Instr::Return(view))
 }
 
-/// `finish`.
+/// Reads `finish`.
 #[tactic(auto, unfolding(snap_semantics::specs::ListingForms::finish_form))]
 fn finish_form(tokens: &[Token<'_>]) -> Option<Instr>
     ensures { Finds (λ x. x) result (finish_form (view_tokens tokens.now)) }
@@ -434,7 +434,7 @@ fn finish_form(tokens: &[Token<'_>]) -> Option<Instr>
     Some(Instr::Finish)
 }
 
-/// The forms that begin with `let`.
+/// Reads a form that begins with `let`.
 fn let_forms(tokens: &[Token<'_>]) -> Option<Instr>
     ensures { Finds (λ x. x) result (or_else (let_form (view_tokens tokens.now))
         (let_place_form (view_tokens tokens.now))) }
@@ -445,7 +445,7 @@ fn let_forms(tokens: &[Token<'_>]) -> Option<Instr>
     let_place_form(tokens)
 }
 
-/// The forms that begin with `put`.
+/// Reads a form that begins with `put`.
 fn put_forms(kind: KindTag, tokens: &[Token<'_>]) -> Option<Instr>
     ensures { Finds (λ x. x) result (or_else (put_form kind (view_tokens tokens.now))
         (or_else (put_bit_form (view_tokens tokens.now))
@@ -460,7 +460,7 @@ fn put_forms(kind: KindTag, tokens: &[Token<'_>]) -> Option<Instr>
     put_view_form(tokens)
 }
 
-/// The forms that begin with `view`.
+/// Reads a form that begins with `view`.
 fn view_forms(tokens: &[Token<'_>]) -> Option<Instr>
     ensures { Finds (λ x. x) result (or_else (view_data_form (view_tokens tokens.now))
         (view_of_form (view_tokens tokens.now))) }
@@ -471,7 +471,7 @@ fn view_forms(tokens: &[Token<'_>]) -> Option<Instr>
     view_of_form(tokens)
 }
 
-/// The forms that begin with `if`.
+/// Reads a form that begins with `if`.
 fn if_forms(tokens: &[Token<'_>]) -> Option<Instr>
     ensures { Finds (λ x. x) result (or_else (if_form (view_tokens tokens.now))
         (if_all_form (view_tokens tokens.now))) }
@@ -482,7 +482,7 @@ fn if_forms(tokens: &[Token<'_>]) -> Option<Instr>
     if_all_form(tokens)
 }
 
-/// The instruction that begins with this keyword.
+/// Reads the instruction that begins with this keyword.
 #[tactic(auto, unfolding(snap_semantics::specs::ListingForms::form_of_keyword))]
 fn form_of_keyword(kind: KindTag, word: &[u8], tokens: &[Token<'_>]) -> Option<Instr>
     ensures { Finds (λ x. x) result (form_of_keyword kind word.now (view_tokens tokens.now)) }
@@ -520,7 +520,8 @@ fn form_of_keyword(kind: KindTag, word: &[u8], tokens: &[Token<'_>]) -> Option<I
     }
 }
 
-/// `N: instruction`, in a listing of this kind.
+/// Reads `N: instruction`, in a listing of the kind `kind`; `None` where `tokens` are no form of a
+/// line.
 #[tactic(auto, unfolding(snap_semantics::specs::ListingForms::line_form))]
 pub fn line_form(kind: KindTag, tokens: &[Token<'_>]) -> Option<Line>
     ensures { Finds (λ x. x) result (line_form kind (view_tokens tokens.now)) }

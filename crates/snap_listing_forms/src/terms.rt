@@ -13,14 +13,14 @@ use snap_semantics::{Index, Name, Symbol, Term};
 use snap_text::{Token, identifier_at, keyword_at, number_at, symbol_at};
 use snap_words::Field;
 
-/// Whether two words are the same.
+/// Returns whether two words are the same.
 pub fn same_word(one: &[u8], other: &[u8]) -> bool
     ensures { result ≡ bytes_eq one.now other.now }
 {
     one == other
 }
 
-/// An identifier in a name's place; of a long one the first nine letters.
+/// Returns the name that an identifier is; of a long one the first nine letters.
 pub fn name_of_identifier(word: &[u8]) -> Option<Name>
     ensures { result ≡ name_of_identifier word.now }
 {
@@ -33,7 +33,7 @@ pub fn name_of_identifier(word: &[u8]) -> Option<Name>
     }
 }
 
-/// A name.
+/// Reads a name.
 #[tactic(auto, unfolding(snap_semantics::specs::ListingForms::name_at))]
 pub fn name_at<'a, 'b>(tokens: &'a [Token<'b>]) -> Option<(Name, &'a [Token<'b>])>
     ensures { Finds (λ x. (x.0, view_tokens x.1.now)) result (name_at (view_tokens tokens.now)) }
@@ -43,7 +43,7 @@ pub fn name_at<'a, 'b>(tokens: &'a [Token<'b>]) -> Option<(Name, &'a [Token<'b>]
     Some((name, rest))
 }
 
-/// The index that an identifier is.
+/// Returns the index that an identifier is.
 pub fn index_of_identifier(word: &[u8]) -> Option<Index>
     ensures { result ≡ index_of_identifier word.now }
 {
@@ -61,7 +61,7 @@ pub fn index_of_identifier(word: &[u8]) -> Option<Index>
     }
 }
 
-/// A number as an index.
+/// Reads a number as an index.
 #[tactic(auto, unfolding(snap_semantics::specs::ListingForms::number_index))]
 pub fn number_index<'a, 'b>(tokens: &'a [Token<'b>]) -> Option<(Index, &'a [Token<'b>])>
     ensures { Finds (λ x. (x.0, view_tokens x.1.now)) result
@@ -71,7 +71,7 @@ pub fn number_index<'a, 'b>(tokens: &'a [Token<'b>]) -> Option<(Index, &'a [Toke
     Some((Index::Number(number), rest))
 }
 
-/// `@`, where it may stand.
+/// Reads `@`, which stands for a place in a quantifier alone.
 #[tactic(auto, unfolding(snap_semantics::specs::ListingForms::place_index))]
 pub fn place_index<'a, 'b>(
     in_quantifier: bool,
@@ -88,7 +88,7 @@ pub fn place_index<'a, 'b>(
     }
 }
 
-/// An identifier as an index.
+/// Reads an identifier as an index.
 #[tactic(auto, unfolding(snap_semantics::specs::ListingForms::identifier_index))]
 pub fn identifier_index<'a, 'b>(tokens: &'a [Token<'b>]) -> Option<(Index, &'a [Token<'b>])>
     ensures { Finds (λ x. (x.0, view_tokens x.1.now)) result
@@ -99,7 +99,7 @@ pub fn identifier_index<'a, 'b>(tokens: &'a [Token<'b>]) -> Option<(Index, &'a [
     Some((index, rest))
 }
 
-/// An index.
+/// Reads an index.
 #[tactic(auto, unfolding(snap_semantics::specs::ListingForms::index_at))]
 pub fn index_at<'a, 'b>(
     in_quantifier: bool,
@@ -117,7 +117,7 @@ pub fn index_at<'a, 'b>(
     identifier_index(tokens)
 }
 
-/// `[I]`.
+/// Reads `[I]`.
 #[tactic(auto, unfolding(snap_semantics::specs::ListingForms::place_at))]
 pub fn place_at<'a, 'b>(
     in_quantifier: bool,
@@ -134,7 +134,7 @@ pub fn place_at<'a, 'b>(
     Some((index, rest))
 }
 
-/// A local's name and `[I]`.
+/// Reads a local's name and `[I]`.
 #[tactic(auto, unfolding(snap_semantics::specs::ListingForms::named_place_at))]
 pub fn named_place_at<'a, 'b>(
     in_quantifier: bool,
@@ -152,7 +152,7 @@ pub fn named_place_at<'a, 'b>(
     Some(((name, index), rest))
 }
 
-/// `arg`.
+/// Reads `arg`.
 #[tactic(auto, unfolding(snap_semantics::specs::ListingForms::arg_term))]
 pub fn arg_term<'a, 'b>(tokens: &'a [Token<'b>]) -> Option<(Term, &'a [Token<'b>])>
     ensures { Finds (λ x. (x.0, view_tokens x.1.now)) result (arg_term (view_tokens tokens.now)) }
@@ -161,7 +161,7 @@ pub fn arg_term<'a, 'b>(tokens: &'a [Token<'b>]) -> Option<(Term, &'a [Token<'b>
     Some((Term::Arg, rest))
 }
 
-/// `R[I]`.
+/// Reads `R[I]`.
 #[tactic(auto, unfolding(snap_semantics::specs::ListingForms::row_term))]
 pub fn row_term<'a, 'b>(
     in_quantifier: bool,
@@ -176,7 +176,7 @@ pub fn row_term<'a, 'b>(
     Some((Term::Row(name, index), rest))
 }
 
-/// The field of one number that an identifier names.
+/// Returns the field of one number that an identifier names.
 pub fn field_of_keyword(word: &[u8]) -> Option<Field>
     ensures { result ≡ field_of_keyword word.now }
 {
@@ -193,7 +193,7 @@ pub fn field_of_keyword(word: &[u8]) -> Option<Field>
     }
 }
 
-/// `seq(W[I])`, and so `data`, `toggle` and `id`.
+/// Reads `seq(W[I])`, or the same with `data`, `toggle` or `id`.
 #[tactic(auto, unfolding(snap_semantics::specs::ListingForms::field_term))]
 pub fn field_term<'a, 'b>(
     in_quantifier: bool,
@@ -212,7 +212,7 @@ pub fn field_term<'a, 'b>(
     Some((Term::Field(field, name, index), rest))
 }
 
-/// `handshake(W[I],J)`.
+/// Reads `handshake(W[I],J)`.
 #[tactic(auto, unfolding(snap_semantics::specs::ListingForms::handshake_term))]
 pub fn handshake_term<'a, 'b>(
     in_quantifier: bool,
@@ -234,7 +234,7 @@ pub fn handshake_term<'a, 'b>(
     Some((Term::Handshake(name, index, handshake), rest))
 }
 
-/// An index as a term.
+/// Reads an index as a term.
 #[tactic(auto, unfolding(snap_semantics::specs::ListingForms::index_term))]
 pub fn index_term<'a, 'b>(
     in_quantifier: bool,
@@ -249,7 +249,7 @@ pub fn index_term<'a, 'b>(
     Some((Term::Index(index), rest))
 }
 
-/// A term.
+/// Reads a term.
 #[tactic(auto, unfolding(snap_semantics::specs::ListingForms::term_at))]
 pub fn term_at<'a, 'b>(
     in_quantifier: bool,

@@ -9,7 +9,7 @@ use snap_semantics::{Symbol, Tuple};
 use snap_text::{Token, symbol_at};
 use snap_words::KindTag;
 
-/// `(E, E, S)`.
+/// Reads `(E, E, S)`.
 #[tactic(auto, unfolding(snap_semantics::specs::ListingForms::seq_tuple_at))]
 fn seq_tuple_at<'a, 'b>(tokens: &'a [Token<'b>]) -> Option<(Tuple, &'a [Token<'b>])>
     ensures { Finds (λ x. (x.0, view_tokens x.1.now)) result
@@ -28,7 +28,7 @@ fn seq_tuple_at<'a, 'b>(tokens: &'a [Token<'b>]) -> Option<(Tuple, &'a [Token<'b
     Some((Tuple::Seq(datum, seq, view), rest))
 }
 
-/// `(E, R, E, S)`.
+/// Reads `(E, R, E, S)`.
 #[tactic(auto, unfolding(snap_semantics::specs::ListingForms::bits_tuple_at))]
 fn bits_tuple_at<'a, 'b>(tokens: &'a [Token<'b>]) -> Option<(Tuple, &'a [Token<'b>])>
     ensures { Finds (λ x. (x.0, view_tokens x.1.now)) result
@@ -50,7 +50,7 @@ fn bits_tuple_at<'a, 'b>(tokens: &'a [Token<'b>]) -> Option<(Tuple, &'a [Token<'
     Some((Tuple::Bits(datum, handshakes, toggle, view), rest))
 }
 
-/// `(E, E, E)`.
+/// Reads `(E, E, E)`.
 #[tactic(auto, unfolding(snap_semantics::specs::ListingForms::multi_tuple_at))]
 fn multi_tuple_at<'a, 'b>(tokens: &'a [Token<'b>]) -> Option<(Tuple, &'a [Token<'b>])>
     ensures { Finds (λ x. (x.0, view_tokens x.1.now)) result
@@ -69,7 +69,8 @@ fn multi_tuple_at<'a, 'b>(tokens: &'a [Token<'b>]) -> Option<(Tuple, &'a [Token<
     Some((Tuple::Multi(datum, id, toggle), rest))
 }
 
-/// A tuple of three parts. One that ends with a name alone is of kind seq where the listing is.
+/// Reads a tuple of three parts. A tuple that ends with a name alone is of kind seq in a listing of
+/// kind seq.
 #[tactic(auto, unfolding(snap_semantics::specs::ListingForms::triple_at))]
 fn triple_at<'a, 'b>(kind: KindTag, tokens: &'a [Token<'b>]) -> Option<(Tuple, &'a [Token<'b>])>
     ensures { Finds (λ x. (x.0, view_tokens x.1.now)) result
@@ -87,7 +88,7 @@ fn triple_at<'a, 'b>(kind: KindTag, tokens: &'a [Token<'b>]) -> Option<(Tuple, &
     }
 }
 
-/// A tuple of any kind, in a listing of this kind.
+/// Reads a tuple of any kind, in a listing of the kind `kind`.
 #[tactic(auto, unfolding(snap_semantics::specs::ListingForms::tuple_at))]
 pub fn tuple_at<'a, 'b>(kind: KindTag, tokens: &'a [Token<'b>]) -> Option<(Tuple, &'a [Token<'b>])>
     ensures { Finds (λ x. (x.0, view_tokens x.1.now)) result

@@ -70,7 +70,7 @@ if_so P false o p g h = h
 abbrev pub Sounds : List Token → Type 0
 Sounds ts = AllByRecursion IsSound ts
 
--- such tokens, without one that parts them, or without the brackets round them
+-- tokens that sound, without one that parts them, or without the brackets round them
 parts_sound : (xs : List Token) (t : Token) (ys : List Token) → Sounds (xs ++ t ∷ ys) → Sounds xs × Sounds ys
 parts_sound xs t ys h = (all_first IsSound xs (t ∷ ys) h, (all_rest IsSound xs (t ∷ ys) h).1)
 

@@ -14,7 +14,7 @@ use Rattle.snap_listing_grammar.specs.Laws.{Spells, ReadsAllSpelled, PrintsSpell
 use Rattle.snap_listing_grammar.proofs.AgainHeader.{bind_by}
 use Rattle.snap_listing_grammar.proofs.SoundForms.{listing_sound}
 
--- those of the header's lines and of the numbered ones
+-- the comments of the header's lines and of the numbered ones
 abbrev all_comments : Commented → List Comment
 all_comments c = replicate header_lines None ++ c.comments
 
@@ -36,7 +36,7 @@ printed_is c h =
 pub printed_spells : PrintsSpelling
 printed_spells c h = (printed_is c h).0
 
--- so it is read
+-- what is printed is read
 pub printed_read : ReadsAllSpelled → ReadsPrinted
 unfolding commented_of
 printed_read read c h short =

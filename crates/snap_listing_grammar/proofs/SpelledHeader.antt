@@ -149,7 +149,7 @@ words_sound (w ∷ ws) h = (h.0, words_sound ws h.1)
 abbrev pub AreSoundTexts : List TextLine → Type 0
 AreSoundTexts lines = AllByRecursion AreSound (line_tokens lines)
 
--- those of the first line, and of the lines behind it
+-- the tokens of the first line, and of the lines behind it
 first_sound : (ts : List Token) (lines rest : List TextLine) → line_tokens lines ≡ some_line ts ∷ line_tokens rest →
     AreSoundTexts lines → Sounds ts × AreSoundTexts rest
 first_sound ts lines rest e sound = subst (AllByRecursion AreSound) e sound

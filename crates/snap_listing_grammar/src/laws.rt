@@ -1,5 +1,5 @@
-//! The laws of reading and printing listings, proved: what is read is spelled
-//! by the text, what spells a listing is read, and so is what is printed.
+//! The laws of reading and printing listings, proved: a text is read exactly if it spells a
+//! listing, and what is printed of a listing is read as that listing.
 ghost use Rattle.snap_listing_grammar.specs.Laws.{PrintsSpelling, ReadsAllSpelled};
 ghost use Rattle.snap_listing_grammar.specs.Laws.{ReadsOnlyCommented};
 ghost use Rattle.snap_listing_grammar.specs.Laws.{ReadsOnlySpelled, ReadsPrinted};

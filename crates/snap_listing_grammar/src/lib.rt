@@ -1,4 +1,4 @@
-//! The laws of the grammar of listings: they speak of definitions alone.
+//! The laws of the grammar of listings, which are of definitions alone.
 #![tactic(auto)]
 
 mod laws;

@@ -13,7 +13,7 @@ use crate::spelling::Spelling;
 use snap_semantics::{BitBank, Condition, Expr, Index, Instr, Line, Name, Range, Symbol, Tuple};
 use snap_words::KindTag;
 
-/// The keyword of a bank of bits.
+/// Returns the keyword of a bank of bits.
 fn bank_keyword(bank: BitBank) -> &'static [u8]
     ensures { result.now ≡ bank_keyword bank }
 {
@@ -23,7 +23,7 @@ fn bank_keyword(bank: BitBank) -> &'static [u8]
     }
 }
 
-/// The keyword of a kind.
+/// Returns the keyword of a kind.
 pub fn kind_keyword(kind: KindTag) -> &'static [u8]
     ensures { result.now ≡ kind_keyword kind }
 {
@@ -35,7 +35,7 @@ pub fn kind_keyword(kind: KindTag) -> &'static [u8]
 }
 
 impl<'a> Spelling<'a> {
-    /// The next expression of a tuple.
+    /// Appends the next expression of a tuple, behind a comma.
     fn push_next_expr(&mut self, expr: &'a Expr)
         ensures { Spells self.old self.new (Sign symbol.Comma ∷ spelled_expr expr.now) }
     {
@@ -43,7 +43,7 @@ impl<'a> Spelling<'a> {
         self.push_expr(expr);
     }
 
-    /// The next name of a tuple.
+    /// Appends the next name of a tuple, behind a comma.
     fn push_next_name(&mut self, name: &'a Name)
         ensures { Spells self.old self.new (Sign symbol.Comma ∷ Identifier name.now ∷ []) }
     {
@@ -51,7 +51,7 @@ impl<'a> Spelling<'a> {
         self.push_name(name);
     }
 
-    /// `(E, E, S)`.
+    /// Appends `(E, E, S)`.
     fn push_seq_tuple(&mut self, datum: &'a Expr, seq: &'a Expr, view: &'a Name)
         ensures { Spells self.old self.new (spelled_tuple (tuple.Seq datum.now seq.now view.now)) }
     {
@@ -62,7 +62,7 @@ impl<'a> Spelling<'a> {
         self.push_sign(Symbol::CloseParenthesis);
     }
 
-    /// `(E, R, E, S)`.
+    /// Appends `(E, R, E, S)`.
     fn push_bits_tuple(
         &mut self,
         datum: &'a Expr,
@@ -81,7 +81,7 @@ impl<'a> Spelling<'a> {
         self.push_sign(Symbol::CloseParenthesis);
     }
 
-    /// `(E, E, E)`.
+    /// Appends `(E, E, E)`.
     fn push_multi_tuple(&mut self, datum: &'a Expr, id: &'a Expr, toggle: &'a Expr)
         ensures { Spells self.old self.new
             (spelled_tuple (tuple.Multi datum.now id.now toggle.now)) }
@@ -93,7 +93,7 @@ impl<'a> Spelling<'a> {
         self.push_sign(Symbol::CloseParenthesis);
     }
 
-    /// A tuple.
+    /// Appends a tuple.
     fn push_tuple(&mut self, tuple: &'a Tuple)
         ensures { Spells self.old self.new (spelled_tuple tuple.now) }
     {
@@ -106,7 +106,7 @@ impl<'a> Spelling<'a> {
         }
     }
 
-    /// `let X = E`.
+    /// Appends `let X = E`.
     fn push_let(&mut self, scalar: &'a Name, value: &'a Expr)
         ensures { Spells self.old self.new (spelled_instr (instr.Let scalar.now value.now)) }
     {
@@ -116,7 +116,7 @@ impl<'a> Spelling<'a> {
         self.push_expr(value);
     }
 
-    /// `let R[I] = E`.
+    /// Appends `let R[I] = E`.
     fn push_let_place(&mut self, row: &'a Name, index: &'a Index, value: &'a Expr)
         ensures { Spells self.old self.new
             (spelled_instr (instr.LetPlace row.now index.now value.now)) }
@@ -127,7 +127,7 @@ impl<'a> Spelling<'a> {
         self.push_expr(value);
     }
 
-    /// `get W[I] = r[J]`.
+    /// Appends `get W[I] = r[J]`.
     fn push_get(&mut self, words: &'a Name, index: &'a Index, register: &'a Index)
         ensures { Spells self.old self.new
             (spelled_instr (instr.Get words.now index.now register.now)) }
@@ -139,7 +139,7 @@ impl<'a> Spelling<'a> {
         self.push_bracketed(register);
     }
 
-    /// `bit X = q[I,J]`, and so `p`.
+    /// Appends `bit X = q[I,J]` or `bit X = p[I,J]`.
     fn push_bit(&mut self, scalar: &'a Name, bank: BitBank, first: &'a Index, second: &'a Index)
         ensures { Spells self.old self.new
             (spelled_instr (instr.Bit scalar.now bank first.now second.now)) }
@@ -151,7 +151,7 @@ impl<'a> Spelling<'a> {
         self.push_pair(first, second);
     }
 
-    /// `look S = v[I]`.
+    /// Appends `look S = v[I]`.
     fn push_look(&mut self, view: &'a Name, index: &'a Index)
         ensures { Spells self.old self.new (spelled_instr (instr.Look view.now index.now)) }
     {
@@ -162,7 +162,7 @@ impl<'a> Spelling<'a> {
         self.push_bracketed(index);
     }
 
-    /// `put r[I] = ` and a tuple.
+    /// Appends `put r[I] = ` and a tuple.
     fn push_put(&mut self, index: &'a Index, tuple: &'a Tuple)
         ensures { Spells self.old self.new (spelled_instr (instr.Put index.now tuple.now)) }
     {
@@ -173,7 +173,7 @@ impl<'a> Spelling<'a> {
         self.push_tuple(tuple);
     }
 
-    /// `put q[I,J] = E`, and so `p`.
+    /// Appends `put q[I,J] = E` or `put p[I,J] = E`.
     fn push_put_bit(&mut self, bank: BitBank, first: &'a Index, second: &'a Index, value: &'a Expr)
         ensures { Spells self.old self.new
             (spelled_instr (instr.PutBit bank first.now second.now value.now)) }
@@ -185,7 +185,7 @@ impl<'a> Spelling<'a> {
         self.push_expr(value);
     }
 
-    /// `put v[I] = S`.
+    /// Appends `put v[I] = S`.
     fn push_put_view(&mut self, index: &'a Index, view: &'a Name)
         ensures { Spells self.old self.new (spelled_instr (instr.PutView index.now view.now)) }
     {
@@ -196,7 +196,7 @@ impl<'a> Spelling<'a> {
         self.push_name(view);
     }
 
-    /// `view S = data(W)`.
+    /// Appends `view S = data(W)`.
     fn push_view_data(&mut self, view: &'a Name, words: &'a Name)
         ensures { Spells self.old self.new (spelled_instr (instr.ViewData view.now words.now)) }
     {
@@ -209,7 +209,7 @@ impl<'a> Spelling<'a> {
         self.push_sign(Symbol::CloseParenthesis);
     }
 
-    /// `view S = view(W[I])`.
+    /// Appends `view S = view(W[I])`.
     fn push_view_of(&mut self, view: &'a Name, words: &'a Name, index: &'a Index)
         ensures { Spells self.old self.new
             (spelled_instr (instr.ViewOf view.now words.now index.now)) }
@@ -221,7 +221,7 @@ impl<'a> Spelling<'a> {
         self.push_word_place(words, index);
     }
 
-    /// `each G: R[@] = E where C`.
+    /// Appends `each G: R[@] = E where C`.
     fn push_each(
         &mut self,
         range: Range,
@@ -244,7 +244,7 @@ impl<'a> Spelling<'a> {
         self.push_where(condition);
     }
 
-    /// `first X G: C goto N`.
+    /// Appends `first X G: C goto N`.
     fn push_first(&mut self, scalar: &'a Name, range: Range, condition: &'a Condition, target: u64)
         ensures { Spells self.old self.new
             (spelled_instr (instr.First scalar.now range condition.now target)) }
@@ -257,7 +257,7 @@ impl<'a> Spelling<'a> {
         self.push_target(target);
     }
 
-    /// `next X G goto N`.
+    /// Appends `next X G goto N`.
     fn push_next(&mut self, scalar: &'a Name, range: Range, target: u64)
         ensures { Spells self.old self.new (spelled_instr (instr.Next scalar.now range target)) }
     {
@@ -267,7 +267,7 @@ impl<'a> Spelling<'a> {
         self.push_target(target);
     }
 
-    /// `if C goto N`.
+    /// Appends `if C goto N`.
     fn push_if(&mut self, condition: &'a Condition, target: u64)
         ensures { Spells self.old self.new (spelled_instr (instr.If condition.now target)) }
     {
@@ -276,7 +276,7 @@ impl<'a> Spelling<'a> {
         self.push_target(target);
     }
 
-    /// `if all G: C goto N`.
+    /// Appends `if all G: C goto N`.
     fn push_if_all(&mut self, range: Range, condition: &'a Condition, target: u64)
         ensures { Spells self.old self.new
             (spelled_instr (instr.IfAll range condition.now target)) }
@@ -289,7 +289,7 @@ impl<'a> Spelling<'a> {
         self.push_target(target);
     }
 
-    /// `call N`.
+    /// Appends `call N`.
     fn push_call(&mut self, target: u64)
         ensures { Spells self.old self.new (spelled_instr (instr.Call target)) }
     {
@@ -297,7 +297,7 @@ impl<'a> Spelling<'a> {
         self.push_number(target);
     }
 
-    /// `return S`.
+    /// Appends `return S`.
     fn push_return(&mut self, view: &'a Name)
         ensures { Spells self.old self.new (spelled_instr (instr.Return view.now)) }
     {
@@ -305,7 +305,7 @@ impl<'a> Spelling<'a> {
         self.push_name(view);
     }
 
-    /// An instruction.
+    /// Appends an instruction.
     fn push_instr(&mut self, instr: &'a Instr)
         ensures { Spells self.old self.new (spelled_instr instr.now) }
     {
@@ -340,7 +340,7 @@ impl<'a> Spelling<'a> {
         }
     }
 
-    /// A numbered line.
+    /// Appends a numbered line.
     pub fn push_line(&mut self, line: &'a Line)
         ensures { Spells self.old self.new (spelled_line line.now) }
     {
@@ -349,7 +349,7 @@ impl<'a> Spelling<'a> {
         self.push_instr(&line.instr);
     }
 
-    /// The line of the kind.
+    /// Appends the line of the kind.
     pub fn push_kind(&mut self, kind: KindTag)
         ensures { Spells self.old self.new (spelled_names (codes "kind") (kind_keyword kind ∷ [])) }
     {
@@ -357,7 +357,7 @@ impl<'a> Spelling<'a> {
         self.push_identifier(kind_keyword(kind));
     }
 
-    /// A keyword and names.
+    /// Appends a keyword and names.
     pub fn push_names(&mut self, keyword: &'a [u8], names: &'a [Name])
         ensures { Spells self.old self.new (spelled_names keyword.now names.now) }
     {
@@ -367,7 +367,7 @@ impl<'a> Spelling<'a> {
         }
     }
 
-    /// A keyword and the number of a line.
+    /// Appends a keyword and the number of a line.
     pub fn push_entry(&mut self, keyword: &'a [u8], number: u64)
         ensures { Spells self.old self.new (spelled_entry keyword.now number) }
     {

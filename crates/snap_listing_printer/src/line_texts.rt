@@ -14,7 +14,7 @@ use snap_text::{TextLines, push_tokens};
 use std::alloc::{AllocError, Global};
 use std::marker::Model;
 
-/// How many lines stand before the numbered ones.
+/// The number of lines before the numbered ones.
 const HEADER_LINES: u64 = 7;
 
 /// A line as it stands in the canonical text of its listing, without its comment.
@@ -39,7 +39,7 @@ impl Model for LineTexts {
     ghost view = { λ t. map seen_line t.lines.items };
 }
 
-/// The canonical text of a listing without comments.
+/// Returns the canonical text of a listing without comments.
 fn canonical_text(alloc: Global, listing: &Listing) -> Result<Vec<u8>, AllocError>
     ensures { IfOk result (λ text. text.items ≡ canonical_text (uncommented listing.now)) }
 {
@@ -47,7 +47,7 @@ fn canonical_text(alloc: Global, listing: &Listing) -> Result<Vec<u8>, AllocErro
     print(alloc, &listing)
 }
 
-/// The next line of a text, laid out anew; nothing behind the last one.
+/// Returns the next line of a text, laid out anew; an empty text behind the last line.
 fn next_text(alloc: Global, lines: &mut TextLines<'_>) -> Result<Vec<u8>, AllocError>
     ensures text { IfOk result (λ text. text.items ≡ line_to [] (first_tokens lines.old)) }
     ensures rest { OnOk result (lines.new ≡ behind lines.old) }
@@ -73,7 +73,7 @@ fn pass_header(alloc: Global, lines: &mut TextLines<'_>) -> Result<(), AllocErro
     Ok(())
 }
 
-/// The numbers of these lines, with what stands for them in a text.
+/// Returns the numbers of `lines`, each with its line of the text.
 fn numbered_texts(
     alloc: Global,
     lines: &[Line],
@@ -93,7 +93,11 @@ fn numbered_texts(
 }
 
 impl LineTexts {
-    /// The lines of a listing.
+    /// Returns the lines of `listing` as text.
+    ///
+    /// # Errors
+    ///
+    /// `AllocError` where memory runs out.
     #[tactic(auto, using(crate::proofs::Written::lines_written))]
     pub fn of(alloc: Global, listing: &Listing) -> Result<LineTexts, AllocError>
         ensures { IfOk result (λ texts. texts ≡ map written listing.now.lines) }
@@ -105,7 +109,7 @@ impl LineTexts {
         Ok(LineTexts { lines })
     }
 
-    /// The text of the line with this number.
+    /// Returns the text of line `number`; `None` where there is no such line.
     pub fn with_number(&self, number: u64) -> Option<&[u8]>
         ensures { option_map (λ text. text.now) result ≡ text_with self.now number }
     {
@@ -113,7 +117,7 @@ impl LineTexts {
     }
 }
 
-/// The text of the line with this number.
+/// Returns the text of the line with this number.
 fn find_text(lines: &[LineText], number: u64) -> Option<&[u8]>
     ensures { option_map (λ text. text.now) result ≡ text_with (map seen_line lines.now) number }
 {

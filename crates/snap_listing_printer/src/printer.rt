@@ -13,7 +13,7 @@ use snap_text::{push_laid_out, push_text, push_tokens};
 use snap_words::KindTag;
 use std::alloc::{AllocError, Global};
 
-/// Adds the line of the kind.
+/// Appends the line of the kind.
 fn push_kind_line(out: &mut Vec<u8>, alloc: Global, kind: KindTag) -> Result<(), AllocError>
     ensures { OnOk result (out.new.items ≡ out.old.items
         ++ line_text (spelled_names (codes "kind") (kind_keyword kind ∷ []))) }
@@ -23,7 +23,7 @@ fn push_kind_line(out: &mut Vec<u8>, alloc: Global, kind: KindTag) -> Result<(),
     push_laid_out(out, line.tokens()?)
 }
 
-/// Adds a line of a keyword and names.
+/// Appends a line of a keyword and names.
 fn push_names_line(
     out: &mut Vec<u8>,
     alloc: Global,
@@ -38,7 +38,7 @@ fn push_names_line(
     push_laid_out(out, line.tokens()?)
 }
 
-/// Adds a line of a keyword and the number of a line.
+/// Appends a line of a keyword and the number of a line.
 fn push_entry_line(
     out: &mut Vec<u8>,
     alloc: Global,
@@ -53,7 +53,7 @@ fn push_entry_line(
     push_laid_out(out, line.tokens()?)
 }
 
-/// Adds the end of a line with this comment.
+/// Appends the end of a line: its comment, if it has one, and a line feed.
 fn push_comment_end(out: &mut Vec<u8>, comment: &Option<Vec<u8>>) -> Result<(), AllocError>
     ensures { OnOk result (out.new.items ≡ out.old.items
         ++ comment_end (seen_comment comment.now)) }
@@ -65,7 +65,7 @@ fn push_comment_end(out: &mut Vec<u8>, comment: &Option<Vec<u8>>) -> Result<(), 
     push_text(out, b"\n")
 }
 
-/// Adds a numbered line with its comment.
+/// Appends a numbered line with its comment.
 fn push_numbered_line(
     out: &mut Vec<u8>,
     alloc: Global,
@@ -82,7 +82,7 @@ fn push_numbered_line(
     push_comment_end(out, comment)
 }
 
-/// Adds the numbered lines, each with its comment.
+/// Appends the numbered lines, each with its comment.
 fn push_lines(
     out: &mut Vec<u8>,
     alloc: Global,
@@ -99,7 +99,11 @@ fn push_lines(
     Ok(())
 }
 
-/// The canonical text of a listing, with its comments.
+/// Returns the canonical text of `listing`, with its comments.
+///
+/// # Errors
+///
+/// `AllocError` where memory runs out.
 pub fn print(alloc: Global, listing: &CommentedListing) -> Result<Vec<u8>, AllocError>
     ensures { IfOk result (λ text. text.items ≡ canonical_text listing.now) }
 {

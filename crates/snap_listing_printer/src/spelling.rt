@@ -20,15 +20,15 @@ use snap_text::Token;
 use snap_words::Field;
 use std::alloc::{AllocError, Global};
 
-/// The tokens of a line, as far as it is spelled. Where there was no memory for one of them, the
-/// spelling has failed, and takes no more.
+/// The tokens of a line, as far as it is spelled. Once memory ran out for a token, the spelling has
+/// failed, and takes no more.
 #[derive(Drop)]
 pub struct Spelling<'a> {
     tokens: Vec<Token<'a>>,
     failed: bool,
 }
 
-/// The keyword of a field.
+/// Returns the keyword of a field.
 fn field_keyword(field: Field) -> &'static [u8]
     ensures { result.now ≡ field_keyword field }
 {
@@ -40,7 +40,7 @@ fn field_keyword(field: Field) -> &'static [u8]
     }
 }
 
-/// The token of an index.
+/// Returns the token of an index.
 fn index_token(index: &Index) -> Token<'_>
     ensures { view_token result ∷ [] ≡ spelled_index index.now }
 {
@@ -55,7 +55,7 @@ fn index_token(index: &Index) -> Token<'_>
     }
 }
 
-/// The symbol of a relation.
+/// Returns the symbol of a relation.
 fn relation_symbol(relation: Relation) -> Symbol
     ensures { Sign result ≡ spelled_relation relation }
 {
@@ -66,7 +66,7 @@ fn relation_symbol(relation: Relation) -> Symbol
     }
 }
 
-/// The keyword of a range.
+/// Returns the keyword of a range.
 fn range_keyword(range: Range) -> &'static [u8]
     ensures { Identifier result.now ≡ spelled_range range }
 {
@@ -77,7 +77,7 @@ fn range_keyword(range: Range) -> &'static [u8]
 }
 
 impl<'a> Spelling<'a> {
-    /// Nothing yet.
+    /// Returns an empty spelling.
     pub fn new(alloc: Global) -> Spelling<'a>
         ensures tokens { view_tokens result.tokens.items ≡ [] }
         ensures well { result.failed ≡ false }
@@ -88,7 +88,11 @@ impl<'a> Spelling<'a> {
         }
     }
 
-    /// Its tokens, and an error where it has failed, and only there.
+    /// Returns the tokens of the line.
+    ///
+    /// # Errors
+    ///
+    /// `AllocError` where memory ran out for one of the tokens.
     pub fn tokens(&self) -> Result<&[Token<'a>], AllocError>
         ensures { MatchResult result (λ tokens. (self.now.failed ≡ false)
             × (tokens.now ≡ self.now.tokens.items)) (λ _. self.now.failed ≡ true) }
@@ -99,7 +103,7 @@ impl<'a> Spelling<'a> {
         Ok(self.tokens.as_slice())
     }
 
-    /// A token.
+    /// Appends a token.
     fn push(&mut self, token: Token<'a>)
         ensures { Spells self.old self.new (view_token token.entry ∷ []) }
     {
@@ -108,42 +112,42 @@ impl<'a> Spelling<'a> {
         }
     }
 
-    /// An identifier.
+    /// Appends an identifier.
     pub fn push_identifier(&mut self, word: &'a [u8])
         ensures { Spells self.old self.new (Identifier word.now ∷ []) }
     {
         self.push(Token::Identifier(word));
     }
 
-    /// A number.
+    /// Appends a number.
     pub fn push_number(&mut self, number: u64)
         ensures { Spells self.old self.new (Number number ∷ []) }
     {
         self.push(Token::Number(number));
     }
 
-    /// A symbol.
+    /// Appends a symbol.
     pub fn push_sign(&mut self, symbol: Symbol)
         ensures { Spells self.old self.new (Sign symbol ∷ []) }
     {
         self.push(Token::Sign(symbol));
     }
 
-    /// A name.
+    /// Appends a name.
     pub fn push_name(&mut self, name: &'a Name)
         ensures { Spells self.old self.new (Identifier name.now ∷ []) }
     {
         self.push_identifier(name.letters());
     }
 
-    /// An index.
+    /// Appends an index.
     pub fn push_index(&mut self, index: &'a Index)
         ensures { Spells self.old self.new (spelled_index index.now) }
     {
         self.push(index_token(index));
     }
 
-    /// `[I]`.
+    /// Appends `[I]`.
     pub fn push_bracketed(&mut self, index: &'a Index)
         ensures { Spells self.old self.new (in_brackets (spelled_index index.now)) }
     {
@@ -152,7 +156,7 @@ impl<'a> Spelling<'a> {
         self.push_sign(Symbol::CloseBracket);
     }
 
-    /// `[I,J]`.
+    /// Appends `[I,J]`.
     pub fn push_pair(&mut self, first: &'a Index, second: &'a Index)
         ensures { Spells self.old self.new (spelled_pair first.now second.now) }
     {
@@ -163,7 +167,7 @@ impl<'a> Spelling<'a> {
         self.push_sign(Symbol::CloseBracket);
     }
 
-    /// A local and `[I]`.
+    /// Appends a local and `[I]`.
     pub fn push_place(&mut self, name: &'a Name, index: &'a Index)
         ensures { Spells self.old self.new (spelled_place name.now index.now) }
     {
@@ -171,7 +175,7 @@ impl<'a> Spelling<'a> {
         self.push_bracketed(index);
     }
 
-    /// `(W[I])`.
+    /// Appends `(W[I])`.
     pub fn push_word_place(&mut self, words: &'a Name, index: &'a Index)
         ensures { Spells self.old self.new (in_parentheses (spelled_place words.now index.now)) }
     {
@@ -180,7 +184,7 @@ impl<'a> Spelling<'a> {
         self.push_sign(Symbol::CloseParenthesis);
     }
 
-    /// `handshake(W[I],J)`.
+    /// Appends `handshake(W[I],J)`.
     fn push_handshake(&mut self, words: &'a Name, index: &'a Index, handshake: &'a Index)
         ensures { Spells self.old self.new
             (spelled_term (term.Handshake words.now index.now handshake.now)) }
@@ -193,7 +197,7 @@ impl<'a> Spelling<'a> {
         self.push_sign(Symbol::CloseParenthesis);
     }
 
-    /// A term.
+    /// Appends a term.
     pub fn push_term(&mut self, term: &'a Term)
         ensures { Spells self.old self.new (spelled_term term.now) }
     {
@@ -211,7 +215,7 @@ impl<'a> Spelling<'a> {
         }
     }
 
-    /// An expression.
+    /// Appends an expression.
     pub fn push_expr(&mut self, expr: &'a Expr)
         ensures { Spells self.old self.new (spelled_expr expr.now) }
     {
@@ -229,7 +233,7 @@ impl<'a> Spelling<'a> {
         }
     }
 
-    /// A comparison.
+    /// Appends a comparison.
     fn push_comparison(&mut self, comparison: &'a Comparison)
         ensures { Spells self.old self.new (spelled_comparison comparison.now) }
     {
@@ -238,7 +242,7 @@ impl<'a> Spelling<'a> {
         self.push_term(&comparison.right);
     }
 
-    /// A comparison behind `and` or `or`.
+    /// Appends a comparison behind `and` or `or`.
     fn push_joined(&mut self, join: Join, comparison: &'a Comparison)
         ensures { Spells self.old self.new
             (Identifier (join_keyword join) ∷ spelled_comparison comparison.now) }
@@ -247,7 +251,7 @@ impl<'a> Spelling<'a> {
         self.push_comparison(comparison);
     }
 
-    /// A condition.
+    /// Appends a condition.
     pub fn push_condition(&mut self, condition: &'a Condition)
         ensures { Spells self.old self.new (spelled_condition condition.now) }
     {
@@ -271,7 +275,7 @@ impl<'a> Spelling<'a> {
         }
     }
 
-    /// `where C`, or nothing.
+    /// Appends `where C`, or nothing where there is no condition.
     pub fn push_where(&mut self, condition: &'a Option<Condition>)
         ensures { Spells self.old self.new (spelled_where condition.now) }
     {
@@ -284,14 +288,14 @@ impl<'a> Spelling<'a> {
         }
     }
 
-    /// `n` or `w`.
+    /// Appends `n` or `w`.
     pub fn push_range(&mut self, range: Range)
         ensures { Spells self.old self.new (spelled_range range ∷ []) }
     {
         self.push_identifier(range_keyword(range));
     }
 
-    /// `goto N`.
+    /// Appends `goto N`.
     pub fn push_target(&mut self, target: u64)
         ensures { Spells self.old self.new (spelled_target target) }
     {

@@ -14,14 +14,14 @@ const RESERVED_WORDS: [&[u8]; 40] = [
     b"r", b"q", b"p", b"v", b"data", b"hand", b"toggle", b"id",
 ];
 
-/// Whether an identifier is one of these.
+/// Returns whether `word` is one of `words`.
 fn is_one_of(word: &[u8], words: &[&[u8]]) -> bool
     ensures { result ≡ list_any (λ w. bytes_eq word.now w.now) words.now }
 {
     words.iter().any(|w| word == *w)
 }
 
-/// Whether an identifier is no name.
+/// Returns whether `word` is reserved, so that it is no name.
 pub fn is_reserved(word: &[u8]) -> bool
     ensures { result ≡ is_reserved word.now }
 {
@@ -31,14 +31,14 @@ pub fn is_reserved(word: &[u8]) -> bool
 /// The largest number of a line.
 const MAX_LINE_NUMBER: u64 = 9_999;
 
-/// Whether a line may have this number.
+/// Returns whether a line may have this number.
 pub fn is_line_number(number: u64) -> bool
     ensures { result ≡ is_line_number number }
 {
     1 <= number && number <= MAX_LINE_NUMBER
 }
 
-/// The keyword that joins comparisons.
+/// Returns the keyword that joins comparisons.
 pub fn join_keyword(join: Join) -> &'static [u8]
     ensures { result.now ≡ join_keyword join }
 {

@@ -1,5 +1,5 @@
-//! `checked_targets`: each line to which an instruction of a listing
-//! may lead has to be one of its lines; and copies of lines.
+//! `checked_targets`: checks that each line to which an instruction of a listing may lead is one of
+//! its lines; and copies of lines.
 ghost use Rattle.std.specs.Prelude.{◌≡◌, [], ◌∷◌, ◌++◌, OnOk};
 ghost use Rattle.snap_semantics.specs.Listing.{instr_targets, checked_targets, line_targets};
 ghost use Rattle.snap_listing_rules.specs.Targets.{target_list, checked_target};
@@ -9,14 +9,18 @@ use snap_semantics::{Instr, Line, ListingRefusal};
 use std::alloc::AllocError;
 use std::slice;
 
-/// Adds a copy of a line.
+/// Appends a copy of `line`.
+///
+/// # Errors
+///
+/// `AllocError` where memory runs out.
 pub fn push_line_copy(lines: &mut Vec<Line>, line: &Line) -> Result<(), AllocError>
     ensures { OnOk result (lines.new.items ≡ lines.old.items ++ line.now ∷ []) }
 {
     lines.extend_from_slice(slice::from_ref(line))
 }
 
-/// The line to which an instruction may lead.
+/// Returns the line that an instruction names as its target, if it names one.
 fn instr_target(instr: &Instr) -> Option<u64>
     ensures { instr_targets instr.now ≡ target_list result }
 {
@@ -31,7 +35,11 @@ fn instr_target(instr: &Instr) -> Option<u64>
     }
 }
 
-/// A target has to be a line.
+/// Checks that one of `lines` has the number `target`.
+///
+/// # Errors
+///
+/// `NoSuchLine` where none has.
 pub fn checked_target(lines: &[Line], target: u64) -> Result<(), ListingRefusal>
     ensures { result ≡ checked_target lines.now target }
 {
@@ -42,7 +50,11 @@ pub fn checked_target(lines: &[Line], target: u64) -> Result<(), ListingRefusal>
     }
 }
 
-/// The targets of all lines.
+/// Checks that each line to which an instruction may lead is one of `lines`.
+///
+/// # Errors
+///
+/// `NoSuchLine` with the first target that is no line.
 pub fn checked_targets(lines: &[Line]) -> Result<(), ListingRefusal>
     ensures { result ≡ checked_targets lines.now (line_targets lines.now) }
 {

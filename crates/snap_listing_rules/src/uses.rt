@@ -17,14 +17,14 @@ use snap_semantics::{
 };
 use snap_words::{Bank, Bits, Field, Kind, KindTag, Multi, Seq};
 
-/// Whether these letters are one of the names.
+/// Returns whether one of `names` has these letters.
 pub fn is_among(letters: &[u8], names: &[Name]) -> bool
     ensures { result ≡ is_among letters.now names.now }
 {
     names.iter().any(|name| letters == name.letters())
 }
 
-/// The sort of a declared name.
+/// Returns the sort of a declared name.
 fn sort_of(header: &Header, name: &Name) -> Option<Sort>
     ensures { result ≡ sort_of (header_source header.now) name.now }
 {
@@ -42,14 +42,14 @@ fn sort_of(header: &Header, name: &Name) -> Option<Sort>
     }
 }
 
-/// Whether two sorts are the same.
+/// Returns whether two sorts are the same.
 fn same_sort(one: Sort, other: Sort) -> bool
     ensures { result ≡ same_sort one other }
 {
     one == other
 }
 
-/// A name in the place of this sort.
+/// Checks that `name` is declared and of the sort `wanted`.
 fn checked_name(header: &Header, line: u64, wanted: Sort, name: &Name) -> Result<(), ListingRefusal>
     ensures { result ≡ checked_name (header_source header.now) line wanted name.now }
 {
@@ -60,14 +60,14 @@ fn checked_name(header: &Header, line: u64, wanted: Sort, name: &Name) -> Result
     }
 }
 
-/// Whether two kinds are the same.
+/// Returns whether two kinds are the same.
 pub fn same_kind(one: KindTag, other: KindTag) -> bool
     ensures { result ≡ same_kind one other }
 {
     one == other
 }
 
-/// Whether a kind has this bank.
+/// Returns whether a kind has this bank.
 pub fn has_bank(kind: KindTag, bank: Bank) -> bool
     ensures { result ≡ has_bank kind bank }
 {
@@ -78,7 +78,7 @@ pub fn has_bank(kind: KindTag, bank: Bank) -> bool
     }
 }
 
-/// Whether the words of a kind have this field.
+/// Returns whether the words of a kind have this field.
 pub fn has_field(kind: KindTag, field: Field) -> bool
     ensures { result ≡ has_field kind field }
 {
@@ -90,21 +90,21 @@ pub fn has_field(kind: KindTag, field: Field) -> bool
     }
 }
 
-/// Whether the words of a kind have handshake bits.
+/// Returns whether the words of a kind have handshake bits.
 pub fn has_handshakes(kind: KindTag) -> bool
     ensures { result ≡ has_handshakes kind }
 {
     kind == KindTag::Bits
 }
 
-/// Whether the words of a kind have a view.
+/// Returns whether the words of a kind have a view.
 pub fn has_view(kind: KindTag) -> bool
     ensures { result ≡ has_view kind }
 {
     kind != KindTag::Multi
 }
 
-/// What the kind has to have.
+/// Checks that the kind has what the line needs.
 fn checked_kind(line: u64, has: bool) -> Result<(), ListingRefusal>
     ensures { result ≡ checked_kind line has }
 {
@@ -115,7 +115,7 @@ fn checked_kind(line: u64, has: bool) -> Result<(), ListingRefusal>
     }
 }
 
-/// An index.
+/// Checks an index.
 fn checked_index(header: &Header, line: u64, index: &Index) -> Result<(), ListingRefusal>
     ensures { result ≡ checked_index (header_source header.now) line index.now }
 {
@@ -125,7 +125,7 @@ fn checked_index(header: &Header, line: u64, index: &Index) -> Result<(), Listin
     }
 }
 
-/// Two indexes.
+/// Checks two indexes, the first one first.
 fn checked_indexes(
     header: &Header,
     line: u64,
@@ -138,7 +138,7 @@ fn checked_indexes(
     checked_index(header, line, second)
 }
 
-/// A local of this sort, and a place of it.
+/// Checks a local of the sort `wanted`, and the index of a place in it.
 fn checked_place(
     header: &Header,
     line: u64,
@@ -152,7 +152,7 @@ fn checked_place(
     checked_index(header, line, index)
 }
 
-/// A term.
+/// Checks a term.
 fn checked_term(header: &Header, line: u64, term: &Term) -> Result<(), ListingRefusal>
     ensures { result ≡ checked_term (header_source header.now) line term.now }
 {
@@ -172,7 +172,7 @@ fn checked_term(header: &Header, line: u64, term: &Term) -> Result<(), ListingRe
     }
 }
 
-/// An expression.
+/// Checks an expression.
 fn checked_expr(header: &Header, line: u64, expr: &Expr) -> Result<(), ListingRefusal>
     ensures { result ≡ checked_expr (header_source header.now) line expr.now }
 {
@@ -186,7 +186,7 @@ fn checked_expr(header: &Header, line: u64, expr: &Expr) -> Result<(), ListingRe
     }
 }
 
-/// A comparison.
+/// Checks a comparison.
 fn checked_comparison(
     header: &Header,
     line: u64,
@@ -198,7 +198,7 @@ fn checked_comparison(
     checked_term(header, line, &comparison.right)
 }
 
-/// A condition.
+/// Checks a condition.
 fn checked_condition(
     header: &Header,
     line: u64,
@@ -226,7 +226,7 @@ fn checked_condition(
     }
 }
 
-/// A condition that may be left out.
+/// Checks a condition that may be left out.
 fn checked_where(
     header: &Header,
     line: u64,
@@ -240,7 +240,7 @@ fn checked_where(
     }
 }
 
-/// A tuple.
+/// Checks a tuple.
 fn checked_tuple(header: &Header, line: u64, tuple: &Tuple) -> Result<(), ListingRefusal>
     ensures { result ≡ checked_tuple (header_source header.now) line tuple.now }
 {
@@ -267,7 +267,7 @@ fn checked_tuple(header: &Header, line: u64, tuple: &Tuple) -> Result<(), Listin
     }
 }
 
-/// An instruction that reads or writes a register; nothing is said of the others.
+/// Checks an instruction that reads or writes a register, and accepts any other.
 fn checked_access(header: &Header, line: u64, instr: &Instr) -> Result<(), ListingRefusal>
     ensures { result ≡ checked_access (header_source header.now) line instr.now }
 {
@@ -304,7 +304,7 @@ fn checked_access(header: &Header, line: u64, instr: &Instr) -> Result<(), Listi
     }
 }
 
-/// An instruction that sets a local by locals; nothing is said of the others.
+/// Checks an instruction that sets a local by locals, and accepts any other.
 fn checked_assignment(header: &Header, line: u64, instr: &Instr) -> Result<(), ListingRefusal>
     ensures { result ≡ checked_assignment (header_source header.now) line instr.now }
 {
@@ -335,7 +335,7 @@ fn checked_assignment(header: &Header, line: u64, instr: &Instr) -> Result<(), L
     }
 }
 
-/// An instruction.
+/// Checks an instruction.
 fn checked_instr(header: &Header, line: u64, instr: &Instr) -> Result<(), ListingRefusal>
     ensures { result ≡ checked_instr (header_source header.now) line instr.now }
 {
@@ -363,8 +363,12 @@ fn checked_instr(header: &Header, line: u64, instr: &Instr) -> Result<(), Listin
     }
 }
 
-/// What an instruction speaks of, from left to right:
-/// the first that is not as it has to be decides.
+/// Checks what an instruction names and needs, from left to right.
+///
+/// # Errors
+///
+/// The refusal of the first part that breaks a rule, with the number `line`: `UnknownName` for a
+/// name that is not declared, `WrongKind` for a name of another sort or for what the kind lacks.
 #[tactic(auto, using(crate::proofs::Checks::instr_checks))]
 pub fn checked_uses(header: &Header, line: u64, instr: &Instr) -> Result<(), ListingRefusal>
     ensures { result ≡ checked_uses (header_source header.now) line (instr_uses instr.now) }

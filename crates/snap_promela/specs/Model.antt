@@ -17,7 +17,7 @@ is_short s = nat_le (length s.operations) 32
 abbrev pub has_room : Counts → Bool
 has_room c = nat_le c.n 8 && nat_le c.w 8
 
--- so many, with short scripts
+-- few enough processes and words, with short scripts
 abbrev pub is_small : Scripts → Bool
 is_small s = has_room s.shape && list_all is_short s.scripts
 

@@ -1,7 +1,7 @@
 //! `Addition`: what can be added to a schedule: steps of a process, a call or a crash.
 use snap_semantics::Op;
 
-/// What is added to a schedule, whether or not its process is there.
+/// An addition to a schedule, whether or not its process exists.
 #[derive(Clone, Copy, PartialEq, Eq)]
 pub enum Addition {
     Steps { process: u64, count: u64 },

@@ -19,18 +19,18 @@ use std::alloc::{AllocError, Global};
 /// The most bytes that a line may have.
 const MAX_LINE: usize = 1_048_576;
 
-/// What a line asks for.
+/// A request at the prompt.
 #[derive(Clone, Copy, PartialEq, Eq)]
 pub enum Ask {
-    /// Nothing: it has no more than a comment.
+    /// Nothing: the line has no more than a comment.
     Nothing,
-    /// The last thing again.
+    /// The last request again.
     Again,
     /// The end of the dialog.
     Quit,
-    /// What can be asked for.
+    /// The list of requests.
     Help,
-    /// Where each process stands.
+    /// The status of each process.
     All,
     /// The report of the position.
     Report,
@@ -38,10 +38,10 @@ pub enum Ask {
     Save,
     /// The lines around the one at which the process of the last item stands.
     ListLast,
-    /// And those around the one at which this process stands.
+    /// The lines around the one at which a process stands.
     List(u64),
-    /// Why the scan that an item answered had its answer, or why its process trapped; that of the
-    /// position where none is named.
+    /// Why the scan that an item answered had its answer, or why its process trapped; without a
+    /// number, the item is that of the position.
     Why(Option<u64>),
     Add(Addition),
     /// As many steps as lead a process to a line, or to the end of its operation.
@@ -51,7 +51,7 @@ pub enum Ask {
     Do(Command),
 }
 
-/// The line without the line feed at its end.
+/// Returns a line without the line feed at its end.
 pub(crate) fn body(line: &[u8]) -> &[u8]
     ensures { result.now ≡ strip_last 10 line.now }
 {
@@ -61,7 +61,7 @@ pub(crate) fn body(line: &[u8]) -> &[u8]
     }
 }
 
-/// What a line asks for, where that is the prompt's own.
+/// Returns the request of a line, if it is one of the prompt's own.
 fn prompt_ask_in(alloc: Global, line: &[u8]) -> Result<Option<Ask>, AllocError>
     ensures { IfOk result (λ found. found ≡ prompt_ask_in (tokens_of line.now)) }
 {
@@ -71,7 +71,7 @@ fn prompt_ask_in(alloc: Global, line: &[u8]) -> Result<Option<Ask>, AllocError>
     }
 }
 
-/// The refusal of a line with this number.
+/// Returns the refusal of a line with this number.
 fn at_line(number: u64, refusal: CommandRefusal) -> CommandRefusal
     ensures { result ≡ at_line number refusal }
 {
@@ -81,7 +81,7 @@ fn at_line(number: u64, refusal: CommandRefusal) -> CommandRefusal
     }
 }
 
-/// The command of a line, where it has one.
+/// Returns the first command, if there is one, as a request.
 fn first_command(commands: &[Command]) -> Ask
     ensures { result ≡ first_command commands.now }
 {
@@ -91,7 +91,7 @@ fn first_command(commands: &[Command]) -> Ask
     }
 }
 
-/// The command that line `number` is.
+/// Returns the command on line `number` as a request.
 fn command_asked(alloc: Global, number: u64, line: &[u8]) -> Result<Ask, Fault<CommandRefusal>>
     ensures { Answers (λ ask. ask) result (command_asked number (commands_of line.now)) }
 {
@@ -102,7 +102,12 @@ fn command_asked(alloc: Global, number: u64, line: &[u8]) -> Result<Ask, Fault<C
     }
 }
 
-/// What line `number` asks for.
+/// Returns the request on line `number`.
+///
+/// # Errors
+///
+/// `Refused` with `TooLong` where `line` is too long, and with `BadCommand` where it is no request;
+/// `Memory` where memory runs out.
 pub fn ask_of(alloc: Global, number: u64, line: &[u8]) -> Result<Ask, Fault<CommandRefusal>>
     ensures { Answers (λ ask. ask) result (ask_of number line.now) }
 {
@@ -120,7 +125,11 @@ pub fn ask_of(alloc: Global, number: u64, line: &[u8]) -> Result<Ask, Fault<Comm
     command_asked(alloc, number, line.as_slice())
 }
 
-/// Whether a line says yes.
+/// Returns whether `line` says yes.
+///
+/// # Errors
+///
+/// `AllocError` where memory runs out.
 pub fn is_yes(alloc: Global, line: &[u8]) -> Result<bool, AllocError>
     ensures { IfOk result (λ yes. yes ≡ is_yes line.now) }
 {

@@ -13,7 +13,7 @@ use snap_sched::{Items, MAX_ITEMS, Schedule};
 use snap_semantics::{Fault, Item, ScheduleRefusal};
 use std::alloc::{AllocError, Global};
 
-/// What is added, where its process is one of `n` and no more than `left` items come of it.
+/// Returns `addition` if its process is one of `n` and it has no more than `left` items.
 fn admitted(n: u64, left: u64, line: u64, addition: Addition) -> Result<Addition, ScheduleRefusal>
     ensures { Gives form_of result (admitted n left line (form_of addition)) }
 {
@@ -31,7 +31,7 @@ fn admitted(n: u64, left: u64, line: u64, addition: Addition) -> Result<Addition
     Ok(addition)
 }
 
-/// Adds the items of what is added.
+/// Appends the items of `addition`.
 fn push_addition(items: &mut Items, addition: Addition) -> Result<(), AllocError>
     requires process { form_process (form_of addition) < 2 ^ 32 }
     requires few { length items.old + form_count (form_of addition) < 2 ^ 32 }
@@ -45,7 +45,7 @@ fn push_addition(items: &mut Items, addition: Addition) -> Result<(), AllocError
     }
 }
 
-/// Adds an item.
+/// Appends an item.
 fn push_item(items: &mut Items, item: Item) -> Result<(), AllocError>
     requires { length items.old + 1 < 2 ^ 32 }
     ensures { OnOk result (items.new ≡ items.old ++ item ∷ []) }
@@ -57,7 +57,7 @@ fn push_item(items: &mut Items, item: Item) -> Result<(), AllocError>
     }
 }
 
-/// The first of these items, so many of them.
+/// Returns the first `count` of `items`.
 fn first_items(alloc: Global, items: &Items, count: u64) -> Result<Items, AllocError>
     requires within { count ≤ length items.now }
     requires few { length items.now ≤ max_items }
@@ -74,8 +74,12 @@ fn first_items(alloc: Global, items: &Items, count: u64) -> Result<Items, AllocE
     Ok(first)
 }
 
-/// The first items of a schedule, so many of them, and what is added behind these.
-/// A refusal names the line.
+/// Returns the first `count` items of `schedule`, and those of `addition` behind them.
+///
+/// # Errors
+///
+/// `Refused` with `NoSuchProcess` or `TooManyItems`, and the number `line`; `Memory` where memory
+/// runs out.
 #[tactic(auto, unfolding(crate::specs::Edits::edited))]
 pub fn edited(
     alloc: Global,

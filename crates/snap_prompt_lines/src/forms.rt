@@ -11,7 +11,7 @@ use snap_debug_commands::{Breakpoint, Command, keyword_form, number_form, number
 use snap_semantics::Op;
 use snap_text::{Token, keyword_at, number_at};
 
-/// A word alone, which asks for this.
+/// Reads `word` alone, which asks for `ask`.
 #[tactic(auto, unfolding(crate::specs::Ask::alone))]
 fn alone(word: &[u8], ask: Ask, tokens: &[Token<'_>]) -> Option<Ask>
     ensures { Finds (λ a. a) result (alone word.now ask (view_tokens tokens.now)) }
@@ -20,7 +20,7 @@ fn alone(word: &[u8], ask: Ask, tokens: &[Token<'_>]) -> Option<Ask>
     Some(ask)
 }
 
-/// The prompt's own words.
+/// Reads a word of the prompt's own.
 #[tactic(auto, unfolding(crate::specs::Ask::word_ask))]
 fn word_ask(tokens: &[Token<'_>]) -> Option<Ask>
     ensures { Finds (λ a. a) result (word_ask (view_tokens tokens.now)) }
@@ -46,7 +46,7 @@ fn word_ask(tokens: &[Token<'_>]) -> Option<Ask>
     alone(b"b", Ask::Do(Command::Back(1)), tokens)
 }
 
-/// `list`, or `list I`.
+/// Reads `list`, or `list I`.
 #[tactic(auto, unfolding(crate::specs::Ask::list_ask))]
 fn list_ask(tokens: &[Token<'_>]) -> Option<Ask>
     ensures { Finds (λ a. a) result (list_ask (view_tokens tokens.now)) }
@@ -58,7 +58,7 @@ fn list_ask(tokens: &[Token<'_>]) -> Option<Ask>
     Some(Ask::List(process))
 }
 
-/// `why`, or `why T`.
+/// Reads `why`, or `why T`.
 #[tactic(auto, unfolding(crate::specs::Ask::why_ask))]
 fn why_ask(tokens: &[Token<'_>]) -> Option<Ask>
     ensures { Finds (λ a. a) result (why_ask (view_tokens tokens.now)) }
@@ -70,7 +70,7 @@ fn why_ask(tokens: &[Token<'_>]) -> Option<Ask>
     Some(Ask::Why(Some(item)))
 }
 
-/// A scan, or an update.
+/// Reads a scan, or an update.
 #[tactic(auto, unfolding(crate::specs::Ask::op_form))]
 fn op_form(tokens: &[Token<'_>]) -> Option<Op>
     ensures { Finds (λ o. o) result (op_form (view_tokens tokens.now)) }
@@ -82,7 +82,7 @@ fn op_form(tokens: &[Token<'_>]) -> Option<Op>
     Some(Op::Update { word, value })
 }
 
-/// `call I scan`, or `call I update K X`.
+/// Reads `call I scan`, or `call I update K X`.
 #[tactic(auto, unfolding(crate::specs::Ask::call_ask))]
 fn call_ask(tokens: &[Token<'_>]) -> Option<Ask>
     ensures { Finds (λ a. a) result (call_ask (view_tokens tokens.now)) }
@@ -93,7 +93,7 @@ fn call_ask(tokens: &[Token<'_>]) -> Option<Ask>
     Some(Ask::Add(Addition::Call { process, op }))
 }
 
-/// `step I K`, for steps at all.
+/// Reads `step I K`, for steps at all.
 #[tactic(auto, unfolding(crate::specs::Ask::steps_ask))]
 fn steps_ask(word: &[u8], tokens: &[Token<'_>]) -> Option<Ask>
     ensures { Finds (λ a. a) result (steps_ask word.now (view_tokens tokens.now)) }
@@ -105,7 +105,7 @@ fn steps_ask(word: &[u8], tokens: &[Token<'_>]) -> Option<Ask>
     Some(Ask::Add(Addition::Steps { process, count }))
 }
 
-/// What adds items.
+/// Reads an addition to the schedule.
 #[tactic(auto, unfolding(crate::specs::Ask::adding_ask))]
 fn adding_ask(tokens: &[Token<'_>]) -> Option<Ask>
     ensures { Finds (λ a. a) result (adding_ask (view_tokens tokens.now)) }
@@ -123,7 +123,7 @@ fn adding_ask(tokens: &[Token<'_>]) -> Option<Ask>
     Some(Ask::Add(Addition::Crash { process }))
 }
 
-/// `until I N`, or `end I`.
+/// Reads `until I N`, or `end I`.
 #[tactic(auto, unfolding(crate::specs::Ask::leading_ask))]
 fn leading_ask(tokens: &[Token<'_>]) -> Option<Ask>
     ensures { Finds (λ a. a) result (leading_ask (view_tokens tokens.now)) }
@@ -135,7 +135,7 @@ fn leading_ask(tokens: &[Token<'_>]) -> Option<Ask>
     Some(Ask::End { process })
 }
 
-/// `b I N` is a breakpoint.
+/// Reads `b I N`, which sets a breakpoint.
 #[tactic(auto, unfolding(crate::specs::Ask::break_ask))]
 fn break_ask(tokens: &[Token<'_>]) -> Option<Ask>
     ensures { Finds (λ a. a) result (break_ask (view_tokens tokens.now)) }
@@ -144,7 +144,7 @@ fn break_ask(tokens: &[Token<'_>]) -> Option<Ask>
     Some(Ask::Do(Command::Break(Breakpoint { process, line })))
 }
 
-/// What tokens ask for, where that is the prompt's own.
+/// Reads a request of the prompt's own.
 #[tactic(auto, unfolding(crate::specs::Ask::prompt_ask))]
 pub(crate) fn prompt_ask(tokens: &[Token<'_>]) -> Option<Ask>
     ensures { Finds (λ a. a) result (prompt_ask (view_tokens tokens.now)) }
@@ -167,7 +167,7 @@ pub(crate) fn prompt_ask(tokens: &[Token<'_>]) -> Option<Ask>
     adding_ask(tokens)
 }
 
-/// `y`, or `yes`.
+/// Reads `y`, or `yes`.
 #[tactic(auto, unfolding(crate::specs::Ask::yes_form))]
 pub(crate) fn yes_form(tokens: &[Token<'_>]) -> Option<()>
     ensures { Finds (λ end. end) result (yes_form (view_tokens tokens.now)) }

@@ -6,7 +6,7 @@ ghost use Rattle.snap_prompt_lines.specs.SaveForm.{saving_of};
 
 use crate::ask::body;
 
-/// What stands behind a word, where a line begins with it.
+/// Returns what stands behind `word`, if `line` begins with it.
 fn behind<'l>(word: &[u8], line: &'l [u8]) -> Option<&'l [u8]>
     ensures { option_map (λ s. s.now) result ≡ behind word.now line.now }
 {
@@ -17,22 +17,22 @@ fn behind<'l>(word: &[u8], line: &'l [u8]) -> Option<&'l [u8]>
     }
 }
 
-/// Whether a byte stands in no name of a file: a space and what is below it, and the `#` of a
-/// comment.
+/// Returns whether a byte stands in no name of a file: a space and what is below it, and the `#` of
+/// a comment.
 fn ends_name(byte: u8) -> bool
     ensures { result ≡ ends_name byte }
 {
     byte <= b' ' || byte == b'#'
 }
 
-/// Whether a text has such a byte.
+/// Returns whether a text has a byte that stands in no name of a file.
 fn has_an_end(text: &[u8]) -> bool
     ensures { result ≡ list_any ends_name text.now }
 {
     text.iter().any(|byte| ends_name(*byte))
 }
 
-/// Whether a text is a name of a file, as the prompt takes it.
+/// Returns whether a text is a name of a file, as the prompt takes it.
 fn is_file_name(text: &[u8]) -> bool
     ensures { result ≡ is_file_name text.now }
 {
@@ -42,7 +42,7 @@ fn is_file_name(text: &[u8]) -> bool
     }
 }
 
-/// The file that a line names behind a word.
+/// Returns the file that a line names behind `word`.
 fn file_named<'l>(word: &[u8], line: &'l [u8]) -> Option<&'l [u8]>
     ensures { option_map (λ s. s.now) result ≡ file_named word.now line.now }
 {
@@ -52,7 +52,7 @@ fn file_named<'l>(word: &[u8], line: &'l [u8]) -> Option<&'l [u8]>
     }
 }
 
-/// Returns the file that a line names behind `save` or `save!`, and whether what is there under
+/// Returns the file that a line names behind `save` or `save!`, and whether an existing file of
 /// that name is replaced, as behind `save!`.
 pub fn saving_of(line: &[u8]) -> Option<(&[u8], bool)>
     ensures { option_map (λ f. (f.0.now, f.1)) result ≡ saving_of line.now }

@@ -5,7 +5,7 @@ ghost use Rattle.snap_prompt_lines.specs.Ask.{long_word, spelled_out, stands_alo
 
 use std::alloc::{AllocError, Global};
 
-/// Whether a byte before these is a letter or a digit alone.
+/// Returns whether the byte before `rest` is a letter or a digit alone.
 fn stands_alone(rest: &[u8]) -> bool
     ensures { result ≡ stands_alone rest.now }
 {
@@ -15,7 +15,7 @@ fn stands_alone(rest: &[u8]) -> bool
     }
 }
 
-/// The word that a letter stands for.
+/// Appends the word that a letter stands for.
 fn push_long_word(out: &mut Vec<u8>, letter: u8) -> Result<(), AllocError>
     ensures { OnOk result (out.new.items ≡ out.old.items ++ long_word letter) }
 {
@@ -29,7 +29,7 @@ fn push_long_word(out: &mut Vec<u8>, letter: u8) -> Result<(), AllocError>
     }
 }
 
-/// A line whose first word may be short, spelled out.
+/// Returns a line with its first word spelled out if it is short.
 pub(crate) fn spelled_out(alloc: Global, line: &[u8]) -> Result<Vec<u8>, AllocError>
     ensures { IfOk result (λ text. text.items ≡ spelled_out line.now) }
 {

@@ -18,7 +18,11 @@ use snap_text::{push_number, push_text};
 use snap_words::WordFault;
 use std::alloc::{AllocError, Global};
 
-/// Adds a name and a number behind a space.
+/// Appends `name`, and `number` behind a space.
+///
+/// # Errors
+///
+/// `AllocError` where memory runs out.
 pub fn push_numbered(out: &mut Vec<u8>, name: &[u8], number: u64) -> Result<(), AllocError>
     ensures { OnOk result (out.new.items ≡ out.old.items ++ numbered name.now number) }
 {
@@ -96,7 +100,11 @@ fn push_refusal(out: &mut Vec<u8>, refusal: &Refusal) -> Result<(), AllocError>
     }
 }
 
-/// Adds what is said where an input is refused.
+/// Appends the words that say why an input is refused.
+///
+/// # Errors
+///
+/// `AllocError` where memory runs out.
 #[tactic(auto, using(snap_text::proofs::Texts::joined))]
 pub fn push_refused(out: &mut Vec<u8>, refusal: &Refusal) -> Result<(), AllocError>
     ensures { OnOk result (out.new.items ≡ out.old.items ++ refused_text refusal.now) }
@@ -105,7 +113,11 @@ pub fn push_refused(out: &mut Vec<u8>, refusal: &Refusal) -> Result<(), AllocErr
     push_refusal(out, refusal)
 }
 
-/// The line that says why an input is refused.
+/// Returns the line that says why an input is refused.
+///
+/// # Errors
+///
+/// `AllocError` where memory runs out.
 pub fn refusal_line(alloc: Global, refusal: &Refusal) -> Result<Vec<u8>, AllocError>
     ensures { IfOk result (λ line. line.items ≡ refusal_line refusal.now) }
 {

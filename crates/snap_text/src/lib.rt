@@ -1,5 +1,5 @@
-//! Texts in tokens and lines, texts put together, and what changed from one text to another, line by
-//! line.
+//! Tokens and lines of texts, texts put together piece by piece, and the changes from one text to
+//! another, line by line.
 #![tactic(auto)]
 
 mod calls;

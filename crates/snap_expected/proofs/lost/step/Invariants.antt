@@ -1,5 +1,5 @@
--- `step` of snap_expected (src/lost.rt): what holds at the head of each of its loops.
--- What is wanted behind a token, where these are wanted in a row; none where the line does not go on with it.
+-- `step` of snap_expected (src/lost.rt): what holds at the head of each of its loops. Returns what is wanted behind
+-- `token`, where `wanted` are wanted in a row; `None` if the line does not go on with it.
 use Rattle.std.proofs.Common.{◌≡◌, length}
 use Rattle.snap_text.specs.Tokens.{view_token}
 use Rattle.snap_expected.specs.Lost.{step}

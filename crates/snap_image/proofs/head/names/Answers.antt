@@ -1,5 +1,4 @@
--- `names` of snap_image (src/head.rt): the proof of what its contract says.
--- So many names.
+-- `names` of snap_image (src/head.rt): the proof of what its contract says. Reads `count` names.
 use Rattle.std.proofs.Common.{◌≡◌, ◌≤◌, ◌<◌, ◌-◌, ◌++◌, length, Err, sym, ap, ◌∙◌, List, arith}
 use Rattle.std.proofs.lemmas.Grind.{common_steps}
 use Rattle.snap_image_format.specs.ImageListing.{names_in}

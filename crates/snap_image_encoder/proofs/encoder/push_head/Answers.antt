@@ -1,5 +1,5 @@
--- `push_head` of snap_image_encoder (src/encoder.rt): the proof of what its contract says.
--- Adds what stands before the lines.
+-- `push_head` of snap_image_encoder (src/encoder.rt): the proof of what its contract says. Appends what stands before
+-- the lines.
 use Rattle.std.proofs.Common.{◌∙◌}
 use Rattle.snap_image_encoder.proofs.Heads.{head_pushed}
 use Rattle.snap_image_encoder.proofs.encoder.push_head.Goals as goal

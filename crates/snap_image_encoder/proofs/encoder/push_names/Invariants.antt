@@ -1,5 +1,5 @@
--- `push_names` of snap_image_encoder (src/encoder.rt): what holds at the head of each of its loops.
--- Adds names, each behind its length.
+-- `push_names` of snap_image_encoder (src/encoder.rt): what holds at the head of each of its loops. Appends names, each
+-- behind its length.
 use Rattle.std.proofs.Common.{◌≡◌, ◌++◌, drop}
 use Rattle.std.specs.List.{AllByRecursion}
 use Rattle.std.specs.Prelude.{false}

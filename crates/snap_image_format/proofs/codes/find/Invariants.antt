@@ -1,5 +1,5 @@
--- `find` of snap_image_format (src/codes.rt): what holds at the head of each of its loops.
--- The first of these values with this code.
+-- `find` of snap_image_format (src/codes.rt): what holds at the head of each of its loops. Returns the first of these
+-- values with this code.
 use Rattle.std.proofs.Common.{◌≡◌, drop}
 use Rattle.snap_image_format.specs.ImageCodes.{coded}
 use Rattle.snap_image_format.proofs.codes.find.Given as goal

@@ -1,5 +1,5 @@
--- `images_are_bytes` of snap_image_format (src/laws.rt): the proof of what its contract says.
--- An image is bytes.
+-- `images_are_bytes` of snap_image_format (src/laws.rt): the proof of what its contract says. An image consists of
+-- bytes.
 use Rattle.snap_image_format.proofs.ImageBytes.{images_are_bytes}
 use Rattle.snap_image_format.proofs.laws.images_are_bytes.Goals as goal
 

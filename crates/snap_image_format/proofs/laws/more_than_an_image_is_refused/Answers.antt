@@ -1,5 +1,5 @@
--- `more_than_an_image_is_refused` of snap_image_format (src/laws.rt): the proof of what its contract says.
--- No image begins another.
+-- `more_than_an_image_is_refused` of snap_image_format (src/laws.rt): the proof of what its contract says. No image is
+-- the beginning of another one.
 use Rattle.snap_image_format.proofs.AgainListing.{refuses_more}
 use Rattle.snap_image_format.proofs.laws.more_than_an_image_is_refused.Goals as goal
 

@@ -1,5 +1,5 @@
--- `find_text` of snap_listing_printer (src/line_texts.rt): what holds at the head of each of its loops.
--- The text of the line with this number.
+-- `find_text` of snap_listing_printer (src/line_texts.rt): what holds at the head of each of its loops. Returns the
+-- text of the line with this number.
 use Rattle.std.proofs.Common.{◌≡◌, ◌-◌, drop, length, map}
 use Rattle.snap_listing_printer.specs.LineTexts.{seen_line, text_with}
 use Rattle.snap_listing_printer.proofs.line_texts.find_text.Given as goal

@@ -1,5 +1,5 @@
--- `numbered_texts` of snap_listing_printer (src/line_texts.rt): what holds at the head of each of its loops.
--- The numbers of these lines, with what stands for them in a text.
+-- `numbered_texts` of snap_listing_printer (src/line_texts.rt): what holds at the head of each of its loops. Returns
+-- the numbers of `lines`, each with its line of the text.
 use Rattle.std.proofs.Common.{◌≡◌, ◌++◌, drop, map}
 use Rattle.snap_listing_printer.specs.LineTexts.{seen_line, texts_from}
 use Rattle.snap_listing_printer.proofs.line_texts.numbered_texts.Given as goal

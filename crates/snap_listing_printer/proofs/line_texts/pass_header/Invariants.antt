@@ -3,6 +3,6 @@
 use Rattle.std.proofs.Common.{◌≡◌, drop}
 use Rattle.snap_listing_printer.proofs.line_texts.pass_header.Given as goal
 
--- so many lines are passed over
+-- the lines that are passed over
 abbrev pub invariant-loop-line : goal.invariant-loop-line
 invariant-loop-line l = l.lines ≡ drop l._line l.initial.lines

@@ -1,5 +1,5 @@
--- `edited` of snap_prompt_lines (src/edits.rt): the proof of what its contract says.
--- The first items of a schedule, so many of them, and what is added behind these.
+-- `edited` of snap_prompt_lines (src/edits.rt): the proof of what its contract says. Returns the first `count` items of
+-- `schedule`, and those of `addition` behind them.
 use Rattle.std.proofs.Common.{List, ◌++◌, take, ap, ◌∙◌}
 use Rattle.snap_semantics.specs.Schedule.{form_items}
 use Rattle.snap_semantics.specs.declared.process.Item.{Item}

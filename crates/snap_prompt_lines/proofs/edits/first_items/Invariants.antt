@@ -1,5 +1,5 @@
--- `first_items` of snap_prompt_lines (src/edits.rt): what holds at the head of each of its loops.
--- The first of these items, so many of them.
+-- `first_items` of snap_prompt_lines (src/edits.rt): what holds at the head of each of its loops. Returns the first
+-- `count` of `items`.
 use Rattle.std.proofs.Common.{◌≡◌, ◌≤◌, ◌-◌, ◌++◌, length}
 use Rattle.snap_prompt_lines.proofs.edits.first_items.Given as goal
 

@@ -22,7 +22,11 @@ use snap_listing::{ListingFault, print, read};
 use snap_listing_core::CommentedListing;
 use std::alloc::{AllocError, Global};
 
-/// The image of the listing that a text is, with its comments, or the first reason why it is none.
+/// Returns the image of the listing that `text` spells, with its comments.
+///
+/// # Errors
+///
+/// `Refused` with the first reason why `text` is no listing; `Memory` where memory runs out.
 #[tactic(auto, unfolding(snap_image_format::specs::Assembly::assembled))]
 pub fn assemble(alloc: Global, text: &[u8]) -> Result<Vec<u8>, ListingFault>
     ensures image { Answers (λ image. image.items) result (assembled text.now) }
@@ -33,8 +37,12 @@ pub fn assemble(alloc: Global, text: &[u8]) -> Result<Vec<u8>, ListingFault>
     Ok(image)
 }
 
-/// The canonical text of the listing whose image these bytes are, in either version, or the first
-/// reason why they are none: they are refused exactly where no listing has this image.
+/// Returns the canonical text of the listing whose image `image` is, in either version.
+///
+/// # Errors
+///
+/// `Refused` exactly if no listing has this image, with the first reason; `Memory` where memory
+/// runs out.
 #[tactic(auto, unfolding(snap_image_format::specs::Assembly::listed))]
 pub fn list(alloc: Global, image: &[u8]) -> Result<Vec<u8>, ImageFault>
     ensures answer { Answers (λ text. text.items) result (listed image.now) }
@@ -50,8 +58,13 @@ pub fn list(alloc: Global, image: &[u8]) -> Result<Vec<u8>, ImageFault>
     Ok(text)
 }
 
-/// The image, in the second version, of the listing whose image these bytes are in either version,
-/// or the first reason why they are none.
+/// Returns the image, in the second version, of the listing whose image `image` is in either
+/// version.
+///
+/// # Errors
+///
+/// `Refused` exactly if no listing has this image, with the first reason; `Memory` where memory
+/// runs out.
 #[tactic(auto, unfolding(snap_image_format::specs::Assembly::upgraded))]
 pub fn upgrade(alloc: Global, image: &[u8]) -> Result<Vec<u8>, ImageFault>
     ensures answer { Answers (λ image. image.items) result (upgraded image.now) }
@@ -66,8 +79,12 @@ pub fn upgrade(alloc: Global, image: &[u8]) -> Result<Vec<u8>, ImageFault>
     Ok(upgraded)
 }
 
-/// The program whose image these bytes are, in either version, or the first reason why they are
-/// none: they are refused exactly where no listing has this image.
+/// Returns the program whose image `image` is, in either version.
+///
+/// # Errors
+///
+/// `Refused` exactly if no listing has this image, with the first reason; `Memory` where memory
+/// runs out.
 #[tactic(auto, unfolding(snap_image_format::specs::ImageListing::listing_of_image))]
 pub fn load(alloc: Global, image: &[u8]) -> Result<Program, ImageFault>
     ensures answer { Answers (λ p. p) result (listing_of_image image.now) }
@@ -83,11 +100,11 @@ pub fn load(alloc: Global, image: &[u8]) -> Result<Program, ImageFault>
     Ok(program)
 }
 
-/// Returns the program of a listing, whose comments are left out: no line does anything by them.
+/// Returns the program of `listing`. Comments are left out, since no line does anything by them.
 ///
 /// # Errors
 ///
-/// Memory ran out.
+/// `AllocError` where memory runs out.
 pub fn program(alloc: Global, listing: &CommentedListing) -> Result<Program, AllocError>
     ensures { IfOk result (λ p. p ≡ listing.now.source) }
 {

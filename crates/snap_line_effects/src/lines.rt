@@ -12,7 +12,7 @@ use snap_values::StepContext;
 use snap_words::View;
 use std::alloc::AllocError;
 
-/// Where a process goes on, or how its operation ends.
+/// How a process goes on behind a line: at which line, or with the end of its operation.
 #[derive(Drop)]
 pub enum Continuation {
     Line { line: u64, link: Option<u64> },
@@ -55,7 +55,7 @@ impl From<RegisterFault> for Halt {
     }
 }
 
-/// The line after this one.
+/// Returns the line behind that of the process.
 #[inline(always)]
 pub(crate) fn next_line(program: &Program, context: &StepContext) -> Result<Continuation, Cause>
     ensures { result ≡ next_line context.now.activity
@@ -67,7 +67,7 @@ pub(crate) fn next_line(program: &Program, context: &StepContext) -> Result<Cont
     }
 }
 
-/// A line, with the same link.
+/// Returns a line, with the same link.
 pub fn goto(context: &StepContext, line: u64) -> Continuation
     ensures { result ≡ Continuation.Line line context.now.activity.link }
 {

@@ -28,7 +28,11 @@ pub struct TupleValues<'a> {
     pub view: Option<&'a View>,
 }
 
-/// What a tuple gives.
+/// Returns the values of a tuple.
+///
+/// # Errors
+///
+/// The cause of the trap, where a part of the tuple has no value.
 pub fn given_of<'a, K: Kind>(
     program: &Program,
     context: &StepContext,
@@ -70,14 +74,18 @@ pub fn given_of<'a, K: Kind>(
     }
 }
 
-/// The first numbers, or all where there are fewer.
+/// Returns the first numbers, or all where there are fewer.
 fn first_numbers(numbers: &[u64], count: u64) -> &[u64]
     ensures { result.now ≡ take count numbers.now }
 {
     &numbers[..(count as usize).min(numbers.len())]
 }
 
-/// `NotABit` unless the toggle and the handshake bits are bits.
+/// Checks that the toggle and the handshake bits are bits.
+///
+/// # Errors
+///
+/// `NotABit` where one of them is not.
 pub fn check_bits(given: &TupleValues<'_>) -> Result<(), Cause>
     ensures { let test = is_bit given.now.toggle && list_all is_bit given.now.handshakes.now in
         MatchResult result (λ _. test ≡ true) (λ e. (e ≡ NotABit) × (test ≡ false)) }
@@ -89,14 +97,18 @@ pub fn check_bits(given: &TupleValues<'_>) -> Result<(), Cause>
     }
 }
 
-/// Whether each number is 0 or 1.
+/// Returns whether each number is 0 or 1.
 fn are_bits(numbers: &[u64]) -> bool
     ensures { result ≡ list_all is_bit numbers.now }
 {
     numbers.iter().all(|&x| x <= 1)
 }
 
-/// `NotABit` unless it is 0 or 1.
+/// Checks that `bit` is 0 or 1.
+///
+/// # Errors
+///
+/// `NotABit` where it is not.
 pub fn check_bit(bit: u64) -> Result<(), Cause>
     ensures { MatchResult result (λ _. is_bit bit ≡ true) (λ e. (e ≡ NotABit) ×
         (is_bit bit ≡ false)) }
@@ -108,7 +120,11 @@ pub fn check_bit(bit: u64) -> Result<(), Cause>
     }
 }
 
-/// The word of these values, which are those that the kind has.
+/// Returns the word of the values of a tuple.
+///
+/// # Errors
+///
+/// `Trap` with `NotABit` where a bit is not 0 or 1; `NoMemory` where memory runs out.
 pub fn built<K: Kind>(alloc: Global, shape: Shape, given: &TupleValues<'_>) -> Result<K::Word, Halt>
     requires sized { is_sized K.TAG shape (given_word given.now) ≡ true }
     requires bits { has_bits K.TAG (given_word given.now) ≡ true }

@@ -1,5 +1,5 @@
-//! `new_row`: the row that a line `each` sets: the new values of its places, and after them the old
-//! ones.
+//! `new_row`: the row that a line `each` sets: the new values of its places, and the old values of
+//! the places behind them.
 ghost use Rattle.std.specs.Prelude.{◌≡◌, [], ◌∷◌, ◌++◌, drop, IfOk, OnOk};
 ghost use Rattle.snap_asm_program.specs.NamedLines.{name_at, named_expr, named_where};
 ghost use Rattle.snap_line_effects.specs.Lines.{IfAnswered};
@@ -12,7 +12,12 @@ use snap_values::{SlotProcess, StepContext, row, row_value};
 use snap_words::Kind;
 use std::alloc::{AllocError, Global};
 
-/// A row with the new values, and after them the old ones.
+/// Returns a row with the new values of `count` places, and the old values of the places behind
+/// them.
+///
+/// # Errors
+///
+/// `Trap` with the cause of the first place that traps; `NoMemory` where memory runs out.
 pub fn new_row<K: Kind>(
     alloc: Global,
     program: &Program,
@@ -40,14 +45,14 @@ pub fn new_row<K: Kind>(
     Ok(values)
 }
 
-/// An empty row with room.
+/// Returns an empty row with room.
 fn room(alloc: Global, count: usize) -> Result<Vec<u64>, AllocError>
     ensures { IfOk result (λ row. row.items ≡ []) }
 {
     Vec::with_capacity(alloc, count)
 }
 
-/// A row with one number more.
+/// Returns a row with one number more.
 fn push(row: &mut Vec<u64>, value: u64) -> Result<(), AllocError>
     ensures { OnOk result (row.new.items ≡ row.old.items ++ value ∷ []) }
 {
@@ -55,7 +60,7 @@ fn push(row: &mut Vec<u64>, value: u64) -> Result<(), AllocError>
     Ok(())
 }
 
-/// A row with what another has after this many numbers.
+/// Returns a row with what another has behind `count` numbers.
 fn push_rest(row: &mut Vec<u64>, other: &[u64], count: u64) -> Result<(), AllocError>
     ensures { OnOk result (row.new.items ≡ row.old.items ++ drop count other.now) }
 {

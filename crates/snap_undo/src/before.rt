@@ -31,7 +31,7 @@ use snap_values::{
 use snap_words::Kind;
 use std::alloc::{AllocError, Global};
 
-/// A scalar.
+/// Returns the scalar of a slot.
 fn scalar_before<K: Kind>(
     program: &Program,
     context: &StepContext,
@@ -48,14 +48,14 @@ fn scalar_before<K: Kind>(
     )
 }
 
-/// The number at a place of a row, 0 past its end.
+/// Returns the number at a place of a row, 0 past its end.
 fn number_at(row: &[u64], place: usize) -> u64
     ensures { result ≡ slice_index row.now place }
 {
     if place < row.len() { row[place] } else { 0 }
 }
 
-/// A number of a row, where there is such a place.
+/// Returns a number of a row, if the row has this place.
 fn number_before<K: Kind>(
     program: &Program,
     process: &SlotProcess<K>,
@@ -75,7 +75,7 @@ fn number_before<K: Kind>(
     }
 }
 
-/// A whole row.
+/// Returns the row of a slot.
 fn row_before<K: Kind>(
     alloc: Global,
     program: &Program,
@@ -91,7 +91,7 @@ fn row_before<K: Kind>(
     Ok(SlotPlace::Row(slot, Vec::from_slice(alloc, row)?))
 }
 
-/// The word at a place of a `words` local, where there is such a place.
+/// Returns the word at a place of a `words` local, if the local has this place.
 fn word_there<K: Kind>(
     alloc: Global,
     words: &[K::Word],
@@ -107,7 +107,7 @@ fn word_there<K: Kind>(
     }
 }
 
-/// A word of a `words` local, where there is such a place.
+/// Returns a word of a `words` local, if the local has this place.
 fn local_word_before<K: Kind>(
     alloc: Global,
     program: &Program,
@@ -128,7 +128,7 @@ fn local_word_before<K: Kind>(
     }
 }
 
-/// A view.
+/// Returns the view of a slot.
 fn local_view_before<K: Kind>(
     alloc: Global,
     program: &Program,
@@ -144,7 +144,7 @@ fn local_view_before<K: Kind>(
     Ok(SlotPlace::LocalView(slot, copy_of(alloc, view)?))
 }
 
-/// A word of the registers, where there is one of this number.
+/// Returns word `k` of the registers, if there is one.
 fn word_before<K: Kind>(
     alloc: Global,
     registers: &Registers<K>,
@@ -159,7 +159,7 @@ fn word_before<K: Kind>(
     }
 }
 
-/// A bit of the registers, where there is one of these numbers.
+/// Returns bit `j` of row `i` of the registers, if there is one.
 fn bit_before<K: Kind>(registers: &Registers<K>, bits: BitBank, i: u64, j: u64) -> SlotPlace<K>
     ensures { seen_place K.as_word result ≡ bit_before registers.now.memory bits i j
         (is_bit_place K.TAG registers.now.shape bits i j) }
@@ -170,7 +170,7 @@ fn bit_before<K: Kind>(registers: &Registers<K>, bits: BitBank, i: u64, j: u64) 
     }
 }
 
-/// A view of the registers, where there is one of this number.
+/// Returns view `i` of the registers, if there is one.
 fn view_before<K: Kind>(
     alloc: Global,
     registers: &Registers<K>,
@@ -185,7 +185,7 @@ fn view_before<K: Kind>(
     }
 }
 
-/// What the place has that a line writes to a register.
+/// Returns the contents of the place that a line writes in a register.
 fn register_before<K: Kind>(
     alloc: Global,
     program: &Program,
@@ -218,7 +218,7 @@ fn register_before<K: Kind>(
     }
 }
 
-/// What the place has that a line writes.
+/// Returns the contents of the place that a line writes.
 pub(crate) fn place_before<K: Kind>(
     alloc: Global,
     program: &Program,

@@ -1,4 +1,5 @@
-//! Undoing items: what an item overwrites (`Undo`), where that is (`WritePlace`), and how it is put back.
+//! Undoing items: what an item overwrites (`Undo`), where it writes (`WritePlace`), and how what it
+//! overwrote is put back.
 #![tactic(auto)]
 
 mod before;

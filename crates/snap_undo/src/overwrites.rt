@@ -18,7 +18,7 @@ use snap_values::{SlotProcess, StepContext};
 use snap_words::Kind;
 use std::alloc::{AllocError, Global};
 
-/// What the place has that the line writes at which a process is.
+/// Returns the contents of the place that the line of a process writes.
 fn current_place<K: Kind>(
     alloc: Global,
     program: &Program,
@@ -41,7 +41,7 @@ fn current_place<K: Kind>(
     }
 }
 
-/// What a step of a process overwrites besides its status.
+/// Returns what a step of a process overwrites besides its status.
 fn step_place<K: Kind>(
     alloc: Global,
     program: &Program,
@@ -73,7 +73,7 @@ fn step_place<K: Kind>(
     }
 }
 
-/// What an item of a process overwrites besides its status.
+/// Returns what an item of a process overwrites besides its status.
 fn item_place<K: Kind>(
     alloc: Global,
     program: &Program,
@@ -96,7 +96,11 @@ fn item_place<K: Kind>(
     }
 }
 
-/// What an item overwrites: put back after the item, all is as it was.
+/// Returns what `item` overwrites: once that is put back after the item, everything is as it was.
+///
+/// # Errors
+///
+/// `AllocError` where memory runs out.
 pub fn overwritten<K: Kind>(
     alloc: Global,
     program: &Program,
@@ -125,7 +129,7 @@ pub fn overwritten<K: Kind>(
     })
 }
 
-/// The process of an item.
+/// Returns the process of an item.
 fn who(item: Item) -> u32
     ensures { result ≡ who item }
 {

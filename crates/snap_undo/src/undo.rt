@@ -1,5 +1,5 @@
 //! `Undo`: what an item overwrote: the status of its process, and the register or local that it
-//! wrote with what that had; and `WritePlace`, which register or local that is.
+//! wrote with the contents before; and `WritePlace`, which register or local that is.
 ghost use Rattle.std.specs.Prelude.{◌≡◌};
 ghost use Rattle.snap_semantics.specs.Table.{bank_of};
 ghost use Rattle.snap_undo.specs.WritePlace.{lone, write_place_of};
@@ -18,8 +18,8 @@ pub enum WritePlace {
     WordsPlace(usize, usize),
 }
 
-/// A place that an item writes, with what it had: a register by its indices, counted from 1; or a
-/// local of the process by its slot, whole or one of its places, all counted from 0.
+/// A place that an item writes, with its contents before: a register by its indices, counted from
+/// 1; or a local of the process by its slot, whole or one of its places, all counted from 0.
 #[derive(Drop)]
 pub(crate) enum SlotPlace<K: Kind> {
     Nowhere,
@@ -33,7 +33,7 @@ pub(crate) enum SlotPlace<K: Kind> {
     LocalView(usize, View),
 }
 
-/// What an item overwrote: how its process stood, and what the place had that it wrote.
+/// What an item overwrote: the status of its process, and the contents of the place that it wrote.
 #[derive(Drop)]
 pub struct Undo<K: Kind> {
     pub(crate) process: u32,
@@ -55,7 +55,7 @@ impl<K: Kind> Model for Undo<K> {
 }
 
 impl<K: Kind> Undo<K> {
-    /// Where that is what the item overwrote.
+    /// Returns the place that the item wrote.
     pub fn write_place(&self) -> WritePlace
         ensures { result ≡ write_place_of self.now.place }
     {
@@ -77,14 +77,14 @@ impl<K: Kind> Undo<K> {
     }
 }
 
-/// The register of a bank whose registers have one index.
+/// Returns the register of a bank whose registers have one index.
 fn lone(bank: Bank, i: u64) -> WritePlace
     ensures { result ≡ lone bank i }
 {
     WritePlace::Register(Address { bank, i, j: 0 })
 }
 
-/// The bank of registers that a bank of bits is.
+/// Returns the bank of registers that a bank of bits is.
 fn bank_of(bits: BitBank) -> Bank
     ensures { result ≡ bank_of bits }
 {

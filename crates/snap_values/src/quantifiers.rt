@@ -1,5 +1,5 @@
-//! Quantifiers: what holds, and what the values are, at the places from 1 on. The operands of a
-//! place are all taken before those of the next.
+//! Quantifiers: whether a condition holds, and which values a row gets, at the places from 1 on.
+//! The operands of a place are all taken before those of the next.
 ghost use Rattle.std.specs.Prelude.{◌≡◌, if◌then◌else◌};
 ghost use Rattle.snap_semantics.specs.Rules.{or_else};
 ghost use Rattle.snap_semantics.specs.Table.{each_value, range_end};
@@ -16,7 +16,7 @@ use snap_asm_program::{Program, SlotCondition, SlotExpr};
 use snap_semantics::{Cause, Join, Range};
 use snap_words::{Kind, Shape};
 
-/// How many places a quantifier goes over.
+/// Returns how many places a quantifier goes over.
 pub fn range_end(shape: Shape, range: Range) -> u64
     ensures { result ≡ range_end shape range }
 {
@@ -26,7 +26,12 @@ pub fn range_end(shape: Shape, range: Range) -> u64
     }
 }
 
-/// The least place at which a condition holds.
+/// Returns the least place, from 1 to `count`, at which a condition holds; `None` where it holds at
+/// none.
+///
+/// # Errors
+///
+/// The cause of the trap, where an operand of a place has no value.
 pub fn first_place<K: Kind>(
     program: &Program,
     context: &StepContext,
@@ -47,7 +52,7 @@ pub fn first_place<K: Kind>(
     Ok(found)
 }
 
-/// The place that was found, or else this one if it holds.
+/// Returns the place that was found, or else `place` if the condition holds there.
 fn first_of(found: Option<u64>, holds: bool, place: u64) -> Option<u64>
     ensures { result ≡ or_else found (if holds then Some place else None) }
 {
@@ -57,7 +62,11 @@ fn first_of(found: Option<u64>, holds: bool, place: u64) -> Option<u64>
     }
 }
 
-/// Whether a condition holds at every place.
+/// Returns whether a condition holds at every place from 1 to `count`.
+///
+/// # Errors
+///
+/// The cause of the trap, where an operand of a place has no value.
 pub fn holds_at_all<K: Kind>(
     program: &Program,
     context: &StepContext,
@@ -78,7 +87,12 @@ pub fn holds_at_all<K: Kind>(
     Ok(all)
 }
 
-/// A place's new value: the expression's where the condition holds, else the old one.
+/// Returns the new value of a place of a row: that of `expr` if the condition holds, and the old
+/// one otherwise.
+///
+/// # Errors
+///
+/// The cause of the trap, where an operand has no value.
 #[inline(always)]
 pub fn row_value<K: Kind>(
     program: &Program,
@@ -107,7 +121,11 @@ pub fn row_value<K: Kind>(
     }
 }
 
-/// The trap of the first place that has no new value, if one has none.
+/// Checks that each place from 1 to `count` has a new value.
+///
+/// # Errors
+///
+/// The cause of the trap of the first place that has none.
 pub fn check_values<K: Kind>(
     program: &Program,
     context: &StepContext,

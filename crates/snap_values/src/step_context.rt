@@ -3,7 +3,7 @@
 use snap_semantics::Activity;
 use snap_words::Shape;
 
-/// The context of a process: who it is, what it is at, and the place of a quantifier.
+/// The context of a step: the process, its operation and line, and the place of a quantifier.
 #[derive(Clone, Copy)]
 pub struct StepContext {
     pub shape: Shape,

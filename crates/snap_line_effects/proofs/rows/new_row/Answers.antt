@@ -1,5 +1,5 @@
--- `new_row` of snap_line_effects (src/rows.rt): the proof of what its contract says.
--- A row with the new values, and after them the old ones.
+-- `new_row` of snap_line_effects (src/rows.rt): the proof of what its contract says. Returns a row with the new values
+-- of `count` places, and the old values of the places behind them.
 use Rattle.std.proofs.Common.{◌≡◌, refl, ℕ, ◌+◌, List, [], ◌∷◌, ◌++◌, drop, Ok, Err, sym, ap, ◌∙◌, arith, append_assoc}
 use Rattle.std.proofs.lemmas.Result.{err_from_is_err_and}
 use Rattle.snap_asm_program.specs.NamedLines.{name_at, named_expr, named_where}

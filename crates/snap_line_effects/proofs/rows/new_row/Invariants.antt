@@ -1,5 +1,5 @@
--- `new_row` of snap_line_effects (src/rows.rt): what holds at the head of each of its loops.
--- A row with the new values, and after them the old ones.
+-- `new_row` of snap_line_effects (src/rows.rt): what holds at the head of each of its loops. Returns a row with the new
+-- values of `count` places, and the old values of the places behind them.
 use Rattle.std.proofs.Common.{◌≡◌, Ok, ◌++◌, drop}
 use Rattle.snap_asm_program.specs.NamedLines.{name_at, named_expr, named_where}
 use Rattle.snap_semantics.specs.Answers.{◌>>=◌}

@@ -1,5 +1,5 @@
--- `crash` of snap_machine (src/call.rt): the proof of what its contract says.
--- A crash of process i.
+-- `crash` of snap_machine (src/call.rt): the proof of what its contract says. Crashes process `i`, and returns the
+-- outcome.
 use Rattle.std.proofs.Common.{arith, slice_index_or, ◌-◌, Some, None, refl}
 use Rattle.std.proofs.lemmas.List.{get_or_default}
 use Rattle.snap_semantics.specs.declared.process.Status.TheVariants.{Idle, Busy}

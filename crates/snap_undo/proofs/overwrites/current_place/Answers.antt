@@ -1,5 +1,5 @@
--- `current_place` of snap_undo (src/overwrites.rt): the proof of what its contract says.
--- What the place has that the line writes at which a process is.
+-- `current_place` of snap_undo (src/overwrites.rt): the proof of what its contract says. Returns the contents of the
+-- place that the line of a process writes.
 use Rattle.std.proofs.Common.{Option, sym, subst}
 use Rattle.snap_words.specs.declared.kind.KindTag.{KindTag}
 use Rattle.snap_semantics.specs.declared.instr.Instr.{Instr}

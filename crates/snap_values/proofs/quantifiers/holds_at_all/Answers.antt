@@ -1,5 +1,5 @@
--- `holds_at_all` of snap_values (src/quantifiers.rt): the proof of what its contract says.
--- Whether a condition holds at every place.
+-- `holds_at_all` of snap_values (src/quantifiers.rt): the proof of what its contract says. Returns whether a condition
+-- holds at every place from 1 to `count`.
 use Rattle.std.proofs.Common.{◌≡◌, ◌+◌, Bool, List, ◌&&◌, Ok, Err, sym, ap, ◌∙◌, arith}
 use Rattle.snap_asm_program.specs.NamedLines.{named_condition}
 use Rattle.snap_semantics.specs.Table.{all_true}

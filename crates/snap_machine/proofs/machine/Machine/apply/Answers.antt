@@ -1,5 +1,5 @@
--- `Machine::apply` of snap_machine (src/machine.rt): the proof of what its contract says.
--- One item of a schedule.
+-- `Machine::apply` of snap_machine (src/machine.rt): the proof of what its contract says. Does one item of a schedule,
+-- and returns its outcome.
 use Rattle.std.proofs.Common.{rules, ◌≡◌, length, map, refl, ap, subst, ◌∙◌}
 use Rattle.snap_values.specs.Seen.{seen_process}
 use Rattle.snap_line_effects.specs.Sizes.{AllSized}

@@ -1,5 +1,4 @@
--- `Machine::copy` of snap_machine (src/machine.rt): the proof of what its contract says.
--- An equal machine.
+-- `Machine::copy` of snap_machine (src/machine.rt): the proof of what its contract says. Returns a copy of the machine.
 use Rattle.std.proofs.Common.{map, ap, ◌∙◌}
 use Rattle.snap_regs.specs.Store.{Store}
 use Rattle.snap_values.specs.Seen.{seen_process}

@@ -22,7 +22,7 @@ pub after_append : (s : Source) (n : Counts) (S : State) (xs ys : List Item) →
 after_append s n S [] ys = refl
 after_append s n S (x ∷ xs) ys = after_append s n (done s n S x).0 xs ys
 
--- and their events
+-- the events of items that are done one after the other
 pub events_append : (s : Source) (n : Counts) (S : State) (t : ℕ) (xs ys : List Item)
     → events s n S t (xs ++ ys) ≡ events s n S t xs ++ events s n (after s n S xs) (t + length xs) ys
 events_append s n S t [] ys = let place : t ≡ t + 0 = omega arith in ap (λ k. events s n S k ys) place

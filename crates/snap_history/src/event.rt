@@ -4,7 +4,7 @@ ghost use Rattle.snap_semantics.specs.Run.{event_of};
 
 use snap_semantics::{Event, Happening, Item, Outcome, who};
 
-/// What callers see of an item of this number, where they see anything.
+/// Returns what callers see of item number `number`, if they see anything.
 #[inline(always)]
 pub fn event_of(number: u64, item: Item, outcome: Outcome) -> Option<Event>
     ensures { option_to_list result ≡ event_of number item outcome }

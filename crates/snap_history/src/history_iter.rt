@@ -7,7 +7,7 @@ use crate::items::{Called, StoredItem, kept_item};
 use snap_semantics::Item;
 use std::marker::Model;
 
-/// Goes through items in order; seen as the list of those that are still to come.
+/// An iterator over items in order, seen as the list of those that are still to come.
 #[derive(Drop)]
 pub struct HistoryIter<'a> {
     calls: &'a [Called],
@@ -28,7 +28,7 @@ impl<'a> Model for HistoryIter<'a> {
 }
 
 impl<'a> HistoryIter<'a> {
-    /// The items that are kept so, where these are the calls.
+    /// Returns an iterator over the items that are kept so, with these calls.
     pub(crate) fn new(calls: &'a [Called], items: &'a [StoredItem]) -> HistoryIter<'a>
         requires { AllByRecursion (IsThere (length calls.now)) items.now }
         ensures { result ≡ kept_items calls.now items.now }

@@ -32,7 +32,7 @@ pub struct History {
 }
 
 impl Drop for History {
-    // Written out, so that it is proved here and not once more wherever one is dropped.
+    // A drop that is written out is one call: it is proved once, and not again at each drop.
     fn drop(self) {
         let History { items: _, calls: _ } = self;
     }
@@ -53,7 +53,7 @@ impl Model for History {
     ghost invariant = { λ h. AreKept h.calls.items h.items.items };
 }
 
-/// The item that is kept so.
+/// Returns the item that is kept as this one.
 pub(crate) fn kept_item(calls: &[Called], kept: StoredItem) -> Item
     requires { IsThere (length calls.now) kept }
     ensures { result ≡ kept_item calls.now kept }
@@ -69,7 +69,7 @@ pub(crate) fn kept_item(calls: &[Called], kept: StoredItem) -> Item
 }
 
 impl History {
-    /// No items.
+    /// Returns an empty history.
     pub fn new(alloc: Global) -> History
         ensures items { result.items ≡ [] }
     {
@@ -100,7 +100,7 @@ impl History {
         HistoryIter::new(self.calls.as_slice(), self.items.as_slice())
     }
 
-    /// Item `t`, counted from 1, where there are so many.
+    /// Returns item `t`, counted from 1; `None` where there are fewer.
     pub fn item(&self, t: u64) -> Option<Item>
         ensures { result ≡ nth t self.now.items }
     {
@@ -112,6 +112,10 @@ impl History {
     }
 
     /// Makes room for one more.
+    ///
+    /// # Errors
+    ///
+    /// `AllocError` where memory runs out.
     pub fn reserve(&mut self) -> Result<(), AllocError>
         ensures items { self.new.items ≡ self.old.items }
         ensures ready { OnOk result (self.new.ready ≡ true) }
@@ -121,7 +125,7 @@ impl History {
         Ok(())
     }
 
-    /// Adds an item, for which there is room.
+    /// Appends an item, for which there is room.
     pub fn push_reserved(&mut self, item: Item)
         requires room { self.old.ready ≡ true }
         requires few { length self.old.items < 2 ^ 32 }

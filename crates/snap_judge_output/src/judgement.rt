@@ -9,11 +9,11 @@ use crate::verdicts::{push_not_linearizable, push_undecided};
 use snap_judge::{History, Judgement};
 use std::alloc::{AllocError, Global};
 
-/// Returns what is written of a judgement of this history.
+/// Returns what is written of a judgement of `history`.
 ///
 /// # Errors
 ///
-/// Memory ran out.
+/// `AllocError` where memory runs out.
 pub fn judgement_text(
     alloc: Global,
     history: &History,

@@ -7,7 +7,7 @@ use snap_judge::{Action, Operation};
 use snap_text::{push_number, push_numbers, push_text};
 use std::alloc::AllocError;
 
-/// Adds what an operation did.
+/// Appends what an operation did.
 #[tactic(auto, using(snap_text::proofs::Texts::joined))]
 fn push_action(out: &mut Vec<u8>, action: &Action) -> Result<(), AllocError>
     ensures { OnOk result (out.new.items ≡ out.old.items ++ action_text action.now) }
@@ -26,7 +26,7 @@ fn push_action(out: &mut Vec<u8>, action: &Action) -> Result<(), AllocError>
     }
 }
 
-/// Adds when an operation ended, where it has.
+/// Appends when an operation ended, if it has ended.
 #[tactic(auto, using(snap_text::proofs::Texts::joined))]
 fn push_end(out: &mut Vec<u8>, end: Option<u64>) -> Result<(), AllocError>
     ensures { OnOk result (out.new.items ≡ out.old.items ++ end_text end) }
@@ -40,7 +40,7 @@ fn push_end(out: &mut Vec<u8>, end: Option<u64>) -> Result<(), AllocError>
     }
 }
 
-/// Adds the line of an operation.
+/// Appends the line of an operation.
 #[tactic(auto, using(snap_text::proofs::Texts::joined))]
 fn push_operation(out: &mut Vec<u8>, operation: &Operation) -> Result<(), AllocError>
     ensures { OnOk result (out.new.items ≡ out.old.items ++ operation_line operation.now) }
@@ -54,11 +54,11 @@ fn push_operation(out: &mut Vec<u8>, operation: &Operation) -> Result<(), AllocE
     push_text(out, b"\n")
 }
 
-/// Adds the lines of operations.
+/// Appends the lines of operations.
 ///
 /// # Errors
 ///
-/// Memory ran out.
+/// `AllocError` where memory runs out.
 pub fn push_operations(out: &mut Vec<u8>, operations: &[Operation]) -> Result<(), AllocError>
     ensures { OnOk result (out.new.items ≡ out.old.items ++ operation_lines operations.now) }
 {
@@ -68,11 +68,11 @@ pub fn push_operations(out: &mut Vec<u8>, operations: &[Operation]) -> Result<()
     Ok(())
 }
 
-/// Adds an order of the operations that explains their history.
+/// Appends an order of the operations that explains their history.
 ///
 /// # Errors
 ///
-/// Memory ran out.
+/// `AllocError` where memory runs out.
 #[tactic(auto, using(snap_text::proofs::Texts::joined))]
 pub fn push_linearizable(out: &mut Vec<u8>, order: &[Operation]) -> Result<(), AllocError>
     ensures { OnOk result (out.new.items ≡ out.old.items ++ linearizable_text order.now) }

@@ -7,7 +7,7 @@ use snap_semantics::Event;
 use snap_text::{push_number, push_text};
 use std::alloc::AllocError;
 
-/// Adds a verdict on an event.
+/// Appends a verdict on an event.
 #[tactic(auto, using(snap_text::proofs::Texts::joined))]
 fn push_verdict(out: &mut Vec<u8>, verdict: &[u8], event: &Event) -> Result<(), AllocError>
     ensures { OnOk result (out.new.items ≡ out.old.items ++ verdict_line verdict.now event.now) }
@@ -20,22 +20,22 @@ fn push_verdict(out: &mut Vec<u8>, verdict: &[u8], event: &Event) -> Result<(), 
     push_text(out, b"\n")
 }
 
-/// Adds the first event with which no order of the operations explains their history.
+/// Appends the first event with which no order of the operations explains their history.
 ///
 /// # Errors
 ///
-/// Memory ran out.
+/// `AllocError` where memory runs out.
 pub fn push_not_linearizable(out: &mut Vec<u8>, event: &Event) -> Result<(), AllocError>
     ensures { OnOk result (out.new.items ≡ out.old.items ++ not_linearizable_line event.now) }
 {
     push_verdict(out, b"not linearizable", event)
 }
 
-/// Adds the event at which the search for an order was given up.
+/// Appends the event at which the search for an order was given up.
 ///
 /// # Errors
 ///
-/// Memory ran out.
+/// `AllocError` where memory runs out.
 pub fn push_undecided(out: &mut Vec<u8>, event: &Event) -> Result<(), AllocError>
     ensures { OnOk result (out.new.items ≡ out.old.items ++ undecided_line event.now) }
 {

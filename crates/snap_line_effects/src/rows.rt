@@ -52,7 +52,7 @@ fn room(alloc: Global, count: usize) -> Result<Vec<u64>, AllocError>
     Vec::with_capacity(alloc, count)
 }
 
-/// Returns a row with one number more.
+/// Appends one number.
 fn push(row: &mut Vec<u64>, value: u64) -> Result<(), AllocError>
     ensures { OnOk result (row.new.items ≡ row.old.items ++ value ∷ []) }
 {
@@ -60,7 +60,7 @@ fn push(row: &mut Vec<u64>, value: u64) -> Result<(), AllocError>
     Ok(())
 }
 
-/// Returns a row with what another has behind `count` numbers.
+/// Appends what `other` has behind its first `count` numbers.
 fn push_rest(row: &mut Vec<u64>, other: &[u64], count: u64) -> Result<(), AllocError>
     ensures { OnOk result (row.new.items ≡ row.old.items ++ drop count other.now) }
 {

@@ -85,7 +85,7 @@ events_within s n S t u (x ∷ xs) all le =
     (event_within n.n u t x (done s n S x).1 all.0 (omega (arith, le)))
     (events_within s n (done s n S x).0 (t + 1) u xs all.1 (omega (arith, le)))
 
--- so is each event of a run
+-- each event of a run is within the run
 pub all_within_run : (r : Run) → IsValidRun r → AllByRecursion (IsWithin r.shape.n (length r.items)) (events_from r 0)
 all_within_run r fits = events_within r.source r.shape (state r 0) 1 (length r.items) r.items fits.all (omega arith)
 

@@ -1,4 +1,4 @@
-//! A machine with its history: the items that it has done, what callers saw of them, and how the
+//! A machine with its history: the items that were done, what callers saw of them, and how the
 //! values changed.
 #![tactic(auto)]
 

@@ -63,7 +63,7 @@ module _ (s : Source) (shape : Counts) where
     pub view_count : length m.views ≡ rows_in s.kind shape bank.V
     pub view_places : HasColumns shape.w m.views
 
-  -- So are the locals of the processes, of which there are as many as the shape has.
+  -- The locals of the processes have the lengths of the shape, and there are as many processes as it has.
   pub record IsSized (S : State) : Type 0 where
     pub count : length S.processes ≡ shape.n
     pub memory : HasSizes S.memory
@@ -360,7 +360,7 @@ module _ (s : Source) (shape : Counts) (listing : IsListing s) where
   of_shape kind.Bits = IsOfShape-new kind.Bits shape (initial_memory kind.Bits shape) refl refl refl refl
   of_shape kind.Multi = IsOfShape-new kind.Multi shape (initial_memory kind.Multi shape) refl refl refl refl
 
-  -- and so has the state before the first item
+  -- the state before the first item has the lengths of the shape
   pub initial_sized : IsSized s shape (initial s shape)
   initial_sized = record {
     count = length-replicate shape.n (initial_process s shape);

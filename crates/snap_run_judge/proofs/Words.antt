@@ -16,7 +16,7 @@ word_is law most r (judgement.Linearizable order) is h = (map operation_of order
 word_is law most r (judgement.NotLinearizable k) is h = λ whole. h.fails (law (history_of r) k is whole)
 word_is law most r (judgement.Undecided k) is h = (k, h)
 
--- and names an event that there is
+-- a judgement names an event of the history
 pub event_named : (most : ℕ) (r : Run) (j : Judgement) → IsRunJudgement most r j → NamesEvent (history_of r) j
 event_named most r (judgement.Linearizable order) h = tt
 event_named most r (judgement.NotLinearizable k) h = h.is_event

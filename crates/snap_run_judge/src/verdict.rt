@@ -11,11 +11,11 @@ use snap_text::push_text;
 use snap_words::Kind;
 use std::alloc::AllocError;
 
-/// Adds the line of a verdict on the run of a record. Of a linearizable run no order is told.
+/// Appends the line of a verdict on the run of a record. No order is written of a linearizable run.
 ///
 /// # Errors
 ///
-/// Memory ran out.
+/// `AllocError` where memory runs out.
 pub fn push_verdict<K: Kind>(
     out: &mut Vec<u8>,
     history: &Record<K>,

@@ -19,14 +19,14 @@ use std::alloc::{AllocError, Global};
 ///
 /// # Errors
 ///
-/// Memory ran out.
+/// `AllocError` where memory runs out.
 pub fn listing(alloc: Global) -> Result<CommentedListing, AllocError>
     ensures { IfOk result (λ l. l ≡ uncommented listing_u) }
 {
     CommentedListing::uncommented(alloc, listing_u(alloc)?)
 }
 
-/// What is promised of the run over a schedule.
+/// The run of U over a schedule keeps what is promised of it.
 fn keeps_promises(schedule: &Schedule)
     requires { fits kind.Seq schedule.now.shape ≡ true }
     ensures fits { IsValidRun (run_over listing_u schedule.now) }
@@ -37,7 +37,12 @@ fn keeps_promises(schedule: &Schedule)
     let _shape = schedule.shape();
 }
 
-/// The record of U over a schedule, whatever its interleaving: a run that keeps all promises.
+/// Returns the record of U over a schedule, whatever its interleaving: a run that keeps all
+/// promises.
+///
+/// # Errors
+///
+/// `AllocError` where memory runs out.
 pub fn run(alloc: Global, schedule: &Schedule) -> Result<Record<Seq>, AllocError>
     requires { fits kind.Seq schedule.now.shape ≡ true }
     ensures record { IfOk result (λ r. r ≡ run_over listing_u schedule.now) }

@@ -1,5 +1,5 @@
--- `push_operations` of snap_judge_output (src/operations.rt): what holds at the head of each of its loops.
--- Adds the lines of operations.
+-- `push_operations` of snap_judge_output (src/operations.rt): what holds at the head of each of its loops. Appends the
+-- lines of operations.
 use Rattle.std.proofs.Common.{◌≡◌, ◌++◌, drop}
 use Rattle.snap_judge_output.specs.JudgementText.{operation_lines}
 use Rattle.snap_judge_output.proofs.operations.push_operations.Given as goal

@@ -1,5 +1,5 @@
--- `History::push_reserved` of snap_history (src/items.rt): the proof of what its contract says.
--- Adds an item, for which there is room.
+-- `History::push_reserved` of snap_history (src/items.rt): the proof of what its contract says. Appends an item, for
+-- which there is room.
 use Rattle.std.proofs.Common.{[], ◌∷◌, ◌++◌, sym, ap, ◌∙◌}
 use Rattle.snap_semantics.specs.declared.process.Item.{Item}
 use Rattle.snap_history.specs.Items.{HistoryView, kept_items}

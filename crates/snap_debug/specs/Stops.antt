@@ -29,7 +29,7 @@ abbrev pub or_before : Option ℕ → ℕ → ℕ
 or_before None t = t
 or_before (Some t) before = t
 
--- both machines of a walk stand at one position of a run
+-- the machines of a walk stand at one position of a run
 pub record AreAt {K W : Type 0} (r : Run) (w : Walk K W) : Type 0 where
   pub before : IsCheckpoint r w.before
   pub after : IsCheckpoint r w.after

@@ -217,7 +217,7 @@ first_events r p es all =
     ∙ ap (λ k. until k (events r.source r.shape (initial r.source r.shape) 1 r.items)) (sym e)
     ∙ events_until r.source r.shape (initial r.source r.shape) 0 p r.items
 
--- those that are recorded
+-- the events of the items that are recorded
 pub events_begun : (r p : Run) (xs : List Item) (t : ℕ) → ContinuesWith r p xs →
     t ≤ length p.items → events_of p t ≡ events_of r t
 events_begun r p xs t h le =

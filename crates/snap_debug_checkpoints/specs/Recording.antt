@@ -42,7 +42,7 @@ pub record Undoes {K W : Type 0} (r : Run) (t : ℕ) (d : DoneItem K W) : Type 0
   pub fits : CanPut r.source r.shape d.undo
   pub back : put r.source d.undo (state r (t + 1)) ≡ state r t
 
--- and so each of the items from there on
+-- each of the items from there on is undone by what it overwrote
 abbrev pub AllUndo : {K W : Type 0} → Run → ℕ → List (DoneItem K W) → Type 0
 AllUndo r t [] = ⊤
 AllUndo r t (d ∷ ds) = Undoes r t d × AllUndo r (t + 1) ds

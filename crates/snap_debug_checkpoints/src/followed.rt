@@ -1,4 +1,4 @@
-//! `Followed`: a machine with the items that it has done and what callers saw of them.
+//! `Followed`: a machine with the items that were done and what callers saw of them.
 ghost use Rattle.std.specs.Prelude.{◌≡◌, ◌<◌, ◌≤◌, ◌++◌, [], IfOk, OnErr, OnOk, length};
 ghost use Rattle.std.specs.Prelude.{vec_capacity, vec_len};
 ghost use Rattle.snap_words.specs.Shape.{IsOneOf, max_items};
@@ -15,8 +15,8 @@ use snap_words::{Kind, Shape};
 use std::alloc::{AllocError, Global};
 use std::marker::Model;
 
-/// A machine with the items that it has done and what callers saw of them, seen as their run. It
-/// notes nothing else, so that going on by an item costs little more than the item.
+/// A machine with the items that were done and what callers saw of them, seen as their run. Nothing
+/// else is noted, so that going on by an item costs little more than the item.
 pub struct Followed<K: Kind> {
     machine: Machine<K>,
     items: History,
@@ -24,7 +24,7 @@ pub struct Followed<K: Kind> {
 }
 
 impl<K: Kind> Drop for Followed<K> {
-    // Written out, so that it is proved here and not once more wherever one is dropped.
+    // A drop that is written out is one call: it is proved once, and not again at each drop.
     fn drop(self) {
         let Followed {
             machine: _,
@@ -57,7 +57,7 @@ fn note_event(events: &mut Vec<Event>, number: u64, item: Item, outcome: Outcome
     requires { vec_len events.old < vec_capacity events.old }
     ensures { events.new.items ≡ events.old.items ++ event_of number item outcome }
 {
-    // Most items are such steps, of which nobody sees anything.
+    // Most items are steps of which nobody sees anything.
     if let Outcome::Stepped = outcome {
         return;
     }
@@ -67,7 +67,11 @@ fn note_event(events: &mut Vec<Event>, number: u64, item: Item, outcome: Outcome
 }
 
 impl<K: Kind> Followed<K> {
-    /// Before the first item.
+    /// Returns the machine of a program over a shape, with no items done.
+    ///
+    /// # Errors
+    ///
+    /// `AllocError` where memory runs out.
     pub fn new(alloc: Global, program: &Program, shape: Shape) -> Result<Followed<K>, AllocError>
         requires { program.now.kind ≡ K.TAG }
         ensures { IfOk result (λ f. f
@@ -80,8 +84,11 @@ impl<K: Kind> Followed<K> {
         })
     }
 
-    /// Does one item, for which there is a number. Where there is no memory for it, everything is
-    /// as before.
+    /// Does one item, whose number has 64 bits.
+    ///
+    /// # Errors
+    ///
+    /// `AllocError` where memory runs out; everything is as before then.
     pub fn apply(&mut self, item: Item) -> Result<(), AllocError>
         requires process { IsOneOf self.old.shape.n (who item) }
         requires few { length self.old.items < max_items }
@@ -96,7 +103,7 @@ impl<K: Kind> Followed<K> {
         Ok(())
     }
 
-    /// The items, in order.
+    /// Returns the items, in order.
     pub fn items(&self) -> &History
         ensures items { result.now.items ≡ self.now.items }
         ensures fits { IsValidRun self.now }
@@ -105,14 +112,14 @@ impl<K: Kind> Followed<K> {
         &self.items
     }
 
-    /// What callers saw, in order.
+    /// Returns what callers saw, in order.
     pub fn events(&self) -> &[Event]
         ensures { result.now ≡ events_of self.now (length self.now.items) }
     {
         self.events.as_slice()
     }
 
-    /// The machine after the last item.
+    /// Returns the machine after the last item.
     pub fn machine(&self) -> &Machine<K>
         ensures { result.now ≡ record {
           source = self.now.source;

@@ -1,5 +1,5 @@
-//! `Recording`: a schedule's first items with what callers saw of them, as far as the debugger has
-//! followed its run, with checkpoints of the machine at some of the positions.
+//! `Recording`: the first items of a schedule with what callers saw of them, as far as the debugger
+//! has followed its run, with checkpoints of the machine at some of the positions.
 ghost use Rattle.std.specs.Prelude.{◌≡◌, ◌<◌, ◌≤◌, ◌+◌, ◌∷◌, List, drop, length, IfOk, OnErr, OnOk};
 ghost use Rattle.std.specs.List.{AllByRecursion};
 ghost use Rattle.snap_words.specs.Shape.{IsOneOf, max_items};
@@ -25,7 +25,7 @@ const FAR: u64 = 64;
 /// How many items lie between checkpoints at least.
 const LEAST: u64 = 512;
 
-/// A schedule's first items with what callers saw of them, as many as were asked for yet, and
+/// The first items of a schedule with what callers saw of them, as many as were needed so far, and
 /// checkpoints: copies of the machine at the beginning and at even distances from it. No item is
 /// recorded twice.
 pub struct Recording<K: Kind> {
@@ -36,7 +36,7 @@ pub struct Recording<K: Kind> {
 }
 
 impl<K: Kind> Drop for Recording<K> {
-    // Written out, so that it is proved here and not once more wherever one is dropped.
+    // A drop that is written out is one call: it is proved once, and not again at each drop.
     fn drop(self) {
         let Recording {
             schedule: _,
@@ -66,7 +66,7 @@ impl<K: Kind> Model for Recording<K> {
         × AllByRecursion (IsCheckpoint (run_over t.history.source t.schedule)) t.later.items };
 }
 
-/// The next of the items to come.
+/// Returns the next of the items to come.
 fn next_item(items: &mut ItemIter<'_>) -> Item
     requires { 0 < length items.old }
     ensures { items.old ≡ result ∷ items.new }
@@ -77,7 +77,7 @@ fn next_item(items: &mut ItemIter<'_>) -> Item
     }
 }
 
-/// Leaves so many items behind.
+/// Skips `count` items.
 fn skip(items: &mut ItemIter<'_>, count: u64)
     requires { count ≤ length items.old }
     ensures { items.new ≡ drop count items.old }
@@ -87,7 +87,7 @@ fn skip(items: &mut ItemIter<'_>, count: u64)
     }
 }
 
-/// Keeps a copy of the machine, where a checkpoint is due.
+/// Keeps a copy of the machine, if a checkpoint is due.
 fn keep_checkpoint<K: Kind>(
     later: &mut Vec<Checkpoint<K>>,
     history: &Followed<K>,
@@ -98,7 +98,7 @@ fn keep_checkpoint<K: Kind>(
         AllByRecursion (IsCheckpoint r) later.new.items }
 {
     let position = history.items().len();
-    // No division: this is asked at each item.
+    // There is no division here, since the test is made at each item.
     let due = (later.len() as u64 + 1).wrapping_mul(spacing);
     if position == due {
         let machine = history.machine().copy()?;
@@ -123,8 +123,8 @@ fn record_next<K: Kind>(
     history.apply(item)
 }
 
-/// Records so many items more, with the checkpoints on the way. Where there is no memory for one,
-/// those before it stay recorded.
+/// Records `count` items more, with the checkpoints on the way. If memory runs out for one, the
+/// items before it stay recorded.
 fn record_more<K: Kind>(
     history: &mut Followed<K>,
     later: &mut Vec<Checkpoint<K>>,
@@ -148,8 +148,8 @@ fn record_more<K: Kind>(
     Ok(())
 }
 
-/// How far to go on from what is recorded: to a position, and an eighth further than now, so that
-/// going on item by item passes those before but seldom.
+/// Returns how far to go on from what is recorded: to a position, and an eighth beyond what is
+/// recorded, so that going on item by item seldom copies the earlier ones.
 fn further(reached: u64, position: u64, total: u64) -> u64
     requires position { position ≤ total }
     requires reached { reached ≤ total }
@@ -160,7 +160,7 @@ fn further(reached: u64, position: u64, total: u64) -> u64
     position.max(reached + reached / 8).min(total)
 }
 
-/// The events of the first items, so many of them.
+/// Returns the events of the first `position` items.
 fn events_until(events: &[Event], position: u64) -> &[Event]
     ensures { (r : Run) → events.now ≡ events_of r (length r.items) →
         result.now ≡ events_of r position }
@@ -176,7 +176,11 @@ fn events_until(events: &[Event], position: u64) -> &[Event]
 }
 
 impl<K: Kind> Recording<K> {
-    /// Before the first item of a schedule.
+    /// Returns a recording before the first item of `schedule`.
+    ///
+    /// # Errors
+    ///
+    /// `AllocError` where memory runs out.
     pub fn new(
         alloc: Global,
         program: &Program,
@@ -198,14 +202,14 @@ impl<K: Kind> Recording<K> {
         })
     }
 
-    /// How many items there are.
+    /// Returns how many items there are.
     pub fn total(&self) -> u64
         ensures { result ≡ length self.now.run.items }
     {
         self.schedule.items().len()
     }
 
-    /// How many of them are recorded.
+    /// Returns how many items are recorded.
     fn reached(&self) -> u64
         ensures reached { result ≡ self.now.reached }
         ensures within { result ≤ length self.now.run.items }
@@ -213,7 +217,7 @@ impl<K: Kind> Recording<K> {
         self.history.items().len()
     }
 
-    /// How many processes there are.
+    /// Returns how many processes there are.
     pub fn processes(&self) -> u32
         ensures count { result ≡ self.now.run.shape.n }
         ensures some { 0 < result }
@@ -222,14 +226,18 @@ impl<K: Kind> Recording<K> {
         self.schedule.shape().process_count()
     }
 
-    /// How many items lie between checkpoints.
+    /// Returns how many items lie between checkpoints.
     fn spacing(&self) -> u64
         ensures { 0 < result }
     {
         (u64::from(self.processes()) * FAR).max(LEAST)
     }
 
-    /// Goes on until so many items are recorded, or more.
+    /// Goes on until at least `position` items are recorded.
+    ///
+    /// # Errors
+    ///
+    /// `AllocError` where memory runs out.
     pub fn reach(&mut self, position: u64) -> Result<(), AllocError>
         requires { position ≤ length self.old.run.items }
         ensures run { self.new.run ≡ self.old.run }
@@ -253,7 +261,7 @@ impl<K: Kind> Recording<K> {
         )
     }
 
-    /// The item behind the first `t`.
+    /// Returns the item behind the first `t`.
     pub fn item(&self, t: u64) -> Item
         requires { t < self.now.reached }
         ensures item { result ≡ item self.now.run (t + 1) }
@@ -268,7 +276,11 @@ impl<K: Kind> Recording<K> {
         }
     }
 
-    /// Does the next item at a position, and answers what came of it: its process, and its outcome.
+    /// Does the next item of `current`, and returns its process and its outcome.
+    ///
+    /// # Errors
+    ///
+    /// `AllocError` where memory runs out.
     pub fn advance(&self, current: &mut Checkpoint<K>) -> Result<(u32, Outcome), AllocError>
         requires stands { IsCheckpoint self.now.run current.old }
         requires reached { current.old.position < self.now.reached }
@@ -286,6 +298,10 @@ impl<K: Kind> Recording<K> {
     }
 
     /// Does the items up to a position.
+    ///
+    /// # Errors
+    ///
+    /// `AllocError` where memory runs out.
     pub fn run_to(&self, current: &mut Checkpoint<K>, position: u64) -> Result<(), AllocError>
         requires stands { IsCheckpoint self.now.run current.old }
         requires before { current.old.position ≤ position }
@@ -299,7 +315,7 @@ impl<K: Kind> Recording<K> {
         Ok(())
     }
 
-    /// The last checkpoint that is not behind a position.
+    /// Returns the last checkpoint that is not behind a position.
     pub fn checkpoint(&self, position: u64) -> &Checkpoint<K>
         ensures stands { IsCheckpoint self.now.run result.now }
         ensures before { result.now.position ≤ position }
@@ -314,7 +330,7 @@ impl<K: Kind> Recording<K> {
         &self.first
     }
 
-    /// What callers saw of the first items, so many of them.
+    /// Returns what callers saw of the first `position` items.
     pub fn events(&self, position: u64) -> &[Event]
         requires { position ≤ self.now.reached }
         ensures { result.now ≡ events_of self.now.run position }

@@ -12,25 +12,25 @@ use snap_semantics::Outcome;
 use snap_words::Kind;
 use std::alloc::{AllocError, Global};
 
-/// How many items a machine that comes from a checkpoint can go back, if so many lie between.
+/// How many items a machine that comes from a checkpoint can go back, if as many lie between.
 const NEAR: u64 = 256;
 
-/// An item that was done: what came of it, and what it overwrote.
+/// An item that was done: its outcome, and what it overwrote.
 #[derive(Drop)]
 pub struct DoneItem<K: Kind> {
     pub outcome: Outcome,
     pub undo: Undo<K>,
 }
 
-/// A machine at a position, and the items by which it came there from an earlier one, the first of
-/// them first.
+/// A machine at a position, and the items by which it came there from an earlier one, the earliest
+/// first.
 pub struct ReversibleMachine<K: Kind> {
     pub current: Checkpoint<K>,
     pub done: Vec<DoneItem<K>>,
 }
 
 impl<K: Kind> Drop for ReversibleMachine<K> {
-    // Written out, so that it is proved here and not once more wherever one is dropped.
+    // A drop that is written out is one call: it is proved once, and not again at each drop.
     fn drop(self) {
         let ReversibleMachine {
             current: _,
@@ -39,7 +39,7 @@ impl<K: Kind> Drop for ReversibleMachine<K> {
     }
 }
 
-/// An equal outcome.
+/// Returns a copy of the outcome.
 fn copy_outcome(alloc: Global, outcome: &Outcome) -> Result<Outcome, AllocError>
     ensures { IfOk result (λ o. o ≡ outcome.now) }
 {
@@ -55,7 +55,7 @@ fn copy_outcome(alloc: Global, outcome: &Outcome) -> Result<Outcome, AllocError>
 }
 
 impl<K: Kind> ReversibleMachine<K> {
-    /// At a checkpoint, with no way back.
+    /// Returns a machine at a checkpoint, with no way back.
     fn new(alloc: Global, current: Checkpoint<K>) -> ReversibleMachine<K>
         ensures current { result.current ≡ current }
         ensures done { result.done.items ≡ [] }
@@ -66,7 +66,7 @@ impl<K: Kind> ReversibleMachine<K> {
         }
     }
 
-    /// The position to which it can go back.
+    /// Returns the earliest position to which the machine can go back.
     fn start(&self) -> u64
         requires { length self.now.done.items ≤ self.now.current.position }
         ensures { result ≡ start self.now }
@@ -91,7 +91,7 @@ impl<K: Kind> ReversibleMachine<K> {
         }
     }
 
-    /// Takes items back up to a position. It takes no memory.
+    /// Goes back to `position`. No memory is allocated.
     fn go_back(&mut self, position: u64)
         requires leads { (r : Run) × IsReversible r self.old }
         requires within { start self.old ≤ position }
@@ -122,7 +122,7 @@ impl<K: Kind> ReversibleMachine<K> {
         Ok(())
     }
 
-    /// Goes on to a position, or as far as there is memory for it.
+    /// Goes on to `position`, or as far as there is memory.
     fn go_on(&mut self, recording: &Recording<K>, position: u64) -> Result<(), AllocError>
         requires leads { IsReversible recording.now.run self.old }
         requires before { self.old.current.position ≤ position }
@@ -138,8 +138,13 @@ impl<K: Kind> ReversibleMachine<K> {
         Ok(())
     }
 
-    /// From the last checkpoint before a position to that position. It can go back the last items
-    /// alone: to keep what an item overwrote costs more than to do it.
+    /// Returns a machine that went from the last checkpoint before `position` to `position`. It can
+    /// go back over the last items alone, since it costs more to keep what an item overwrote than
+    /// to do the item.
+    ///
+    /// # Errors
+    ///
+    /// `AllocError` where memory runs out.
     pub fn to(
         alloc: Global,
         recording: &Recording<K>,
@@ -158,7 +163,7 @@ impl<K: Kind> ReversibleMachine<K> {
         Ok(reversible)
     }
 
-    /// Whether a position lies on the way, or ahead before the next checkpoint.
+    /// Returns whether a position lies on the way, or ahead before the next checkpoint.
     pub fn is_near(&self, recording: &Recording<K>, position: u64) -> bool
         requires { IsReversible recording.now.run self.now }
         ensures { IsTrue result → start self.now < position }
@@ -167,7 +172,11 @@ impl<K: Kind> ReversibleMachine<K> {
         start < position && recording.checkpoint(position.saturating_sub(1)).position <= start
     }
 
-    /// Goes back or on to a position that is near. Where there is no memory for that, it stays.
+    /// Goes back or on to `position`, which is near.
+    ///
+    /// # Errors
+    ///
+    /// `AllocError` where memory runs out; the machine stays where it was then.
     pub fn go_to(&mut self, recording: &Recording<K>, position: u64) -> Result<(), AllocError>
         requires leads { IsReversible recording.now.run self.old }
         requires near { start self.old < position }
@@ -191,7 +200,11 @@ impl<K: Kind> ReversibleMachine<K> {
         }
     }
 
-    /// What came of the last item.
+    /// Returns the outcome of the last item.
+    ///
+    /// # Errors
+    ///
+    /// `AllocError` where memory runs out.
     pub fn last(&self, alloc: Global) -> Result<Outcome, AllocError>
         requires { 0 < length self.now.done.items }
         ensures { (r : Run) → IsReversible r self.now →

@@ -20,11 +20,11 @@ pub linearizable_so : (r : Run) (order : Vec Operation Global) →
     IsRunJudgement 1000000 r (judgement.Linearizable order) → IsJudged r None
 linearizable_so r order h = inl (map operation_of order.items, h)
 
--- that is not decided
+-- a judgement that is undecided finds no failure
 pub undecided_so : (r : Run) (k : ℕ) → IsRunJudgement 1000000 r (judgement.Undecided k) → IsJudged r None
 undecided_so r k h = inr (k, h)
 
--- it fails at an event
+-- a judgement that fails at an event finds the failure
 pub fails_so : (r : Run) (k : ℕ) (f : Failure) → IsRunJudgement 1000000 r (judgement.NotLinearizable k) →
     f ≡ failure_at r k → IsJudged r (Some f)
 fails_so r k f h is = (k, h, is)
@@ -39,7 +39,7 @@ pub found_judged : (w : Wanted) (r : Run) (o : Option Failure) → IsJudgedIf w.
 found_judged w r (Some f) h e = record { judged = Some f; is_judged = h; is = refl }
 found_judged w r None h e = absurd cc
 
--- and what is seen, where nothing was
+-- what is seen is found, if nothing is judged to fail
 pub found_seen : (w : Wanted) (r : Run) (o found : Option Failure) → IsJudgedIf w.linearizable r o →
     is_some o ≡ false → found ≡ first_seen w r → Finds w r found
 found_seen w r None found h e is = record { judged = None; is_judged = h; is = is }

@@ -49,7 +49,7 @@ count_few test c (suc e) = at_most (nat_lt c (suc e) && test (suc e)) (count_few
   at_most true h = omega (arith, h)
   at_most false h = omega (arith, h)
 
--- these items and this count
+-- the steps of a call, by its item and its count
 of_call : Run → (c k : ℕ) → OwnSteps
 of_call r c k = record { update = asks_update (item r c); call = c; count = k }
 
@@ -200,7 +200,7 @@ few_steps r most t i owns found h one few d =
     let less : own_steps r i (last_call r i t) t ≤ t = count_few (takes_step r i) (last_call r i t) t in
     omega (arith, same, less, few)
 
--- so has the process of the item that is passed
+-- the process of the item that is passed has room for its steps
 pub has_room : (w w' : Way) (p : Passed) (x : Watch) (most : ℕ) (owns : List OwnSteps) (found : Option Failure) →
     Watches w x → Passes w p w' → CountsSteps w.run most w.at owns found →
     (d : OwnSteps) → (get_or owns (who p.item - 1) d).count + 1 < 2 ^ 64
@@ -209,7 +209,7 @@ has_room w w' p x most owns found watched is h d =
     let left = is.left in
     few_steps w.run most w.at (who p.item) owns found h is.process (omega (arith, few, left)) d
 
--- and its steps are counted
+-- the steps of the process of the item are counted
 pub is_counted : (w w' : Way) (p : Passed) (most : ℕ) (owns : List OwnSteps) (found : Option Failure) →
     Passes w p w' → CountsSteps w.run most w.at owns found → IsOneOf (length owns) (who p.item)
 is_counted w w' p most owns found is h = subst (λ n. IsOneOf n (who p.item)) (sym h.count) is.process

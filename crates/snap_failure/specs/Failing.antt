@@ -32,7 +32,7 @@ abbrev pub many_collects : ℕ → List Verdict → Option Failure
 many_collects most [] = None
 many_collects most (v ∷ vs) = if nat_lt most v.collects then Some (failure.ManyCollects v) else many_collects most vs
 
--- that process i has trapped, where it stands so
+-- that process i has trapped, if it has
 abbrev pub trap_of : ℕ → Status → Option Failure
 trap_of i (Trapped cause a) = Some (failure.Trapped i a.line cause)
 trap_of i _ = None
@@ -51,7 +51,7 @@ steps_since_call r i t = record {
   count = own_steps r i (last_call r i t) t;
 }
 
--- that an operation of process i has taken more than so many by item t, where the item is a step
+-- that an operation of process i has taken more than `most` steps by item t, if the item is a step
 abbrev pub overrun : (most i t : ℕ) → Bool → OwnSteps → Option Failure
 overrun most i t step own = if step && nat_lt most own.count then Some (failure.ManySteps i t own) else None
 

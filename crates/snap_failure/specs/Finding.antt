@@ -34,7 +34,7 @@ abbrev pub IsJudged : Run → Option Failure → Type 0
 IsJudged r (Some f) = (k : ℕ) × FailsAt (history_of r) k × (f ≡ failure_at r k)
 IsJudged r None = IsLinearizableHistory (history_of r) ⊎ IsUndecided r
 
--- the same, where it is asked for
+-- the failure that a run is not linearizable, if it is wanted
 abbrev pub IsJudgedIf : Bool → Run → Option Failure → Type 0
 IsJudgedIf true r found = IsJudged r found
 IsJudgedIf false r found = found ≡ None

@@ -33,7 +33,7 @@ noted_if false false own t x = own
 abbrev pub noted : OwnSteps → ℕ → Item → Outcome → OwnSteps
 noted own t x o = noted_if (is_called o) (is_taken x o) own t x
 
--- that an operation has taken more than so many steps by item t, of this outcome, with which these are its steps
+-- that an operation has taken more than `most` steps by item t, of this outcome, with which these are its steps
 abbrev pub overrun_by : (most t : ℕ) → Item → Outcome → OwnSteps → Option Failure
 overrun_by most t x o own = overrun most (who x) t (is_taken x o) own
 

@@ -1,5 +1,5 @@
-//! What fails in a run, as far as it is `Wanted`: that it is not linearizable, a scan without a
-//! point, a trap, an operation of too many steps, or a scan of too many double collects.
+//! What fails in a run, of the failures that are `Wanted`: that it is not linearizable, a scan
+//! without a point, a trap, an operation of too many steps, or a scan of too many double collects.
 ghost use Rattle.std.specs.Prelude.{◌≡◌, IfOk, length};
 ghost use Rattle.snap_semantics.specs.Rules.{or_else};
 ghost use Rattle.snap_runs.specs.Audit.{audit};
@@ -28,7 +28,7 @@ use snap_walk::Walk;
 use snap_words::Kind;
 use std::alloc::{AllocError, Global};
 
-/// The first scan that has no point.
+/// Returns the first scan that has no point.
 fn no_point(verdicts: &[Verdict]) -> Option<Failure>
     ensures { result ≡ no_point verdicts.now }
 {
@@ -40,7 +40,7 @@ fn no_point(verdicts: &[Verdict]) -> Option<Failure>
     None
 }
 
-/// The first scan that made more than so many double collects.
+/// Returns the first scan that made more than `most` double collects.
 fn many_collects(verdicts: &[Verdict], most: u64) -> Option<Failure>
     ensures { result ≡ many_collects most verdicts.now }
 {
@@ -52,7 +52,7 @@ fn many_collects(verdicts: &[Verdict], most: u64) -> Option<Failure>
     None
 }
 
-/// That a process has trapped, where it stands so.
+/// Returns that a process has trapped, if it has.
 fn trap_of(process: u32, status: Status) -> Option<Failure>
     ensures { result ≡ trap_of process status }
 {
@@ -66,7 +66,7 @@ fn trap_of(process: u32, status: Status) -> Option<Failure>
     }
 }
 
-/// The least process that has trapped.
+/// Returns the least process that has trapped.
 #[tactic(auto, using(crate::proofs::Traps::trap_here, crate::proofs::Traps::trap_passed, crate::proofs::Traps::no_trap))]
 fn first_trap<K: Kind>(machine: &Machine<K>) -> Option<Failure>
     ensures { result ≡ first_trap machine.now.state 1 machine.now.shape.n }
@@ -80,7 +80,7 @@ fn first_trap<K: Kind>(machine: &Machine<K>) -> Option<Failure>
     None
 }
 
-/// The first scan without a point, where that is asked for.
+/// Returns the first scan without a point, if that failure is wanted.
 fn of_points(wanted: &Wanted, verdicts: &[Verdict]) -> Option<Failure>
     ensures { result ≡ of_points wanted.now verdicts.now }
 {
@@ -91,7 +91,7 @@ fn of_points(wanted: &Wanted, verdicts: &[Verdict]) -> Option<Failure>
     }
 }
 
-/// The least process that has trapped, where that is asked for.
+/// Returns the least process that has trapped, if that failure is wanted.
 fn of_traps<K: Kind>(wanted: &Wanted, machine: &Machine<K>) -> Option<Failure>
     ensures { result ≡ of_traps wanted.now machine.now.state machine.now.shape.n }
 {
@@ -102,7 +102,7 @@ fn of_traps<K: Kind>(wanted: &Wanted, machine: &Machine<K>) -> Option<Failure>
     }
 }
 
-/// The first scan of too many double collects, where that is asked for.
+/// Returns the first scan of too many double collects, if that failure is wanted.
 fn of_collects(wanted: &Wanted, verdicts: &[Verdict]) -> Option<Failure>
     ensures { result ≡ of_collects wanted.now verdicts.now }
 {
@@ -112,8 +112,8 @@ fn of_collects(wanted: &Wanted, verdicts: &[Verdict]) -> Option<Failure>
     }
 }
 
-/// The verdicts on a run, where the first scan without a point, or with too many double collects, is
-/// asked for.
+/// Returns the verdicts on a run, if the first scan without a point, or with too many double
+/// collects, is wanted.
 #[tactic(auto, using(crate::proofs::Judging::no_points_asked, crate::proofs::Judging::no_collects_asked))]
 fn verdicts_for(alloc: Global, watch: &Watch, wanted: &Wanted) -> Result<Vec<Verdict>, AllocError>
     requires { (w : Way) × Watches w watch.now }
@@ -129,8 +129,9 @@ fn verdicts_for(alloc: Global, watch: &Watch, wanted: &Wanted) -> Result<Vec<Ver
     }
 }
 
-/// What is seen in a run, the first that is asked for: a scan without a point, a trap, the first
-/// operation of too many steps, which is this one, a scan of too many double collects.
+/// Returns the first wanted failure that is seen in a run: a scan without a point, a trap,
+/// `overrun`, which is the first operation of too many steps, or a scan of too many double
+/// collects.
 fn first_seen<K: Kind>(
     machine: &Machine<K>,
     verdicts: &[Verdict],
@@ -153,8 +154,8 @@ fn first_seen<K: Kind>(
     of_collects(wanted, verdicts)
 }
 
-/// What fails in a run, behind its last item, the first that is asked for: that it is not
-/// linearizable, or what is seen in it. This is the first operation of too many steps.
+/// Returns the first wanted failure of a run, behind its last item: that it is not linearizable, or
+/// what is seen in it. `overrun` is the first operation of too many steps.
 pub(crate) fn failure<K: Kind>(
     alloc: Global,
     walk: &Walk<'_, K>,

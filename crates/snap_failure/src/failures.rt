@@ -6,12 +6,12 @@ ghost use Rattle.snap_failure.specs.Kinds.{is_kind, kind_of, with_only};
 use snap_runs::Verdict;
 use snap_semantics::Cause;
 
-/// The steps of its own that a process has taken since it called an operation.
+/// The own steps of a process since it called an operation.
 #[derive(Clone, Copy, PartialEq, Eq)]
 pub struct OwnSteps {
-    /// Whether the operation is an update. It is a scan where not.
+    /// Whether the operation is an update; otherwise it is a scan.
     pub update: bool,
-    /// The item that called it.
+    /// The item that called the operation.
     pub call: u64,
     pub count: u64,
 }
@@ -20,7 +20,7 @@ pub struct OwnSteps {
 #[derive(Clone, Copy, PartialEq, Eq)]
 pub enum Failure {
     /// The run is not linearizable up to the event of this item, which is one of this process. Up
-    /// to the event before it the run is.
+    /// to the event before it the run is linearizable.
     NotLinearizable {
         process: u32,
         item: u64,
@@ -35,7 +35,7 @@ pub enum Failure {
     },
     /// A finished scan made too many double collects.
     ManyCollects(Verdict),
-    /// With this item, which is one of them, an operation has taken too many steps of its own.
+    /// With this item, which is one of its steps, an operation has taken too many steps of its own.
     ManySteps {
         process: u32,
         item: u64,
@@ -56,13 +56,13 @@ pub enum FailureKind {
 /// The most steps of its own that an operation may take.
 #[derive(Clone, Copy, PartialEq, Eq)]
 pub enum StepBound {
-    /// Those within which each operation of the listing that is shipped for the kind is over, in
-    /// the shape at hand.
+    /// The steps within which each operation of the listing that is shipped for the kind is over,
+    /// in the given shape.
     Shipped,
     Given(u64),
 }
 
-/// Which failures are asked for.
+/// The failures that are wanted.
 #[derive(Clone, Copy, PartialEq, Eq)]
 pub struct Wanted {
     /// That the run is not linearizable.
@@ -75,7 +75,7 @@ pub struct Wanted {
     pub collects: Option<u64>,
 }
 
-/// No failure is asked for.
+/// No failure is wanted.
 const NOTHING: Wanted = Wanted {
     linearizable: false,
     point: false,
@@ -85,7 +85,7 @@ const NOTHING: Wanted = Wanted {
 };
 
 impl Wanted {
-    /// Returns what is asked for of this kind alone.
+    /// Returns these failures, of which those of this kind alone are wanted.
     pub fn with_only(&self, kind: FailureKind) -> Wanted
         ensures { result ≡ with_only kind self.now }
     {

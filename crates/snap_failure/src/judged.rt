@@ -1,4 +1,4 @@
-//! `of_judgement`: that a run is not linearizable, where that is asked for.
+//! `of_judgement`: that a run is not linearizable, if that failure is wanted.
 ghost use Rattle.std.specs.Prelude.{◌≡◌, IfOk, length};
 ghost use Rattle.snap_words.specs.Shape.{IsOneOf};
 ghost use Rattle.snap_runs.specs.Run.{Run};
@@ -10,7 +10,7 @@ use snap_asm_program::Program;
 use snap_run_judge::{History, Judgement, MOST_CONFIGURATIONS, judge_history};
 use std::alloc::{AllocError, Global};
 
-/// That a run fails at this event of its history, counted from 1.
+/// Returns that a run fails at this event of its history, counted from 1.
 fn failure_at(history: &History, event: usize) -> Failure
     requires { IsOneOf (length history.now.events) event }
     ensures { (r : Run) → history.now ≡ history_of r → result ≡ failure_at r event }
@@ -22,8 +22,8 @@ fn failure_at(history: &History, event: usize) -> Failure
     }
 }
 
-/// That the run of this history is not linearizable. Nothing is found where it is, and where that is
-/// not decided.
+/// Returns that the run of this history is not linearizable; `None` where it is linearizable, or
+/// that is not decided.
 fn judged(
     alloc: Global,
     program: &Program,
@@ -39,7 +39,7 @@ fn judged(
     }
 }
 
-/// That the run of this history is not linearizable, where that is asked for.
+/// Returns that the run of this history is not linearizable, if that failure is wanted and so.
 pub(crate) fn of_judgement(
     alloc: Global,
     program: &Program,

@@ -14,8 +14,8 @@ mod steps;
 pub use failures::{Failure, FailureKind, OwnSteps, StepBound, Wanted};
 pub use over::failure_over;
 
-/// Too many steps are those of an operation of the run that had not ended before; and where an
-/// operation takes too many, whether it ends or not, that is found.
+/// An operation of too many steps is one of the run that had not ended before; and if an operation
+/// takes too many steps, whether it ends or not, that is found.
 pub fn steps_are_of_operations()
     ensures { StepsAreOfOperations }
 {}

@@ -14,7 +14,7 @@ use snap_walk::Walk;
 use snap_words::{Bits, Kind, KindTag, Multi, Seq};
 use std::alloc::{AllocError, Global};
 
-/// What fails in the run of a program of a kind, where steps may be as many as they like.
+/// Returns what fails in the run of a program of a kind, with no bound on steps.
 fn failure_of_run<K: Kind>(
     alloc: Global,
     program: &Program,
@@ -33,7 +33,7 @@ fn failure_of_run<K: Kind>(
     failure(alloc, &walk, watch, None, wanted)
 }
 
-/// What fails in the run of a program of a kind, where steps are bounded so.
+/// Returns what fails in the run of a program of a kind, with this bound on steps.
 fn failure_of_steps<K: Kind>(
     alloc: Global,
     program: &Program,
@@ -58,7 +58,7 @@ fn failure_of_steps<K: Kind>(
     failure(alloc, &walk, watch, overrun, wanted)
 }
 
-/// What fails in the run of a program of a kind.
+/// Returns what fails in the run of a program of a kind.
 fn failure_in<K: Kind>(
     alloc: Global,
     program: &Program,
@@ -74,7 +74,11 @@ fn failure_in<K: Kind>(
     }
 }
 
-/// What fails in the run of a program over a schedule.
+/// Returns what fails in the run of a program over a schedule.
+///
+/// # Errors
+///
+/// `AllocError` where memory runs out.
 pub fn failure_over(
     alloc: Global,
     program: &Program,

@@ -7,7 +7,7 @@ ghost use Rattle.snap_failure.specs.Failing.{most_steps};
 use crate::failures::StepBound;
 use snap_words::{KindTag, Shape};
 
-/// The product of two counts.
+/// Returns the product of two counts.
 #[tactic(auto, using(crate::proofs::Products::few))]
 fn product(count: u64, other: u64) -> u64
     requires count { count ≤ 64 }
@@ -18,7 +18,7 @@ fn product(count: u64, other: u64) -> u64
     count * other
 }
 
-/// The most steps that an operation takes of the listing that is shipped for a kind.
+/// Returns the most steps that an operation takes of the listing that is shipped for a kind.
 fn shipped_steps(kind: KindTag, shape: Shape) -> u64
     ensures { result ≡ update_turns kind shape }
 {
@@ -32,7 +32,7 @@ fn shipped_steps(kind: KindTag, shape: Shape) -> u64
     }
 }
 
-/// How many steps of its own an operation may take.
+/// Returns how many steps of its own an operation may take.
 pub(crate) fn most_steps(kind: KindTag, shape: Shape, bound: StepBound) -> u64
     ensures { result ≡ most_steps kind shape bound }
 {

@@ -13,7 +13,7 @@ use crate::failures::{Failure, OwnSteps};
 use snap_semantics::{Item, Op, Outcome, who};
 use std::alloc::{AllocError, Global};
 
-/// Whether an item asks for an update.
+/// Returns whether an item calls an update.
 fn asks_update(item: Item) -> bool
     ensures { result ≡ asks_update item }
 {
@@ -23,7 +23,7 @@ fn asks_update(item: Item) -> bool
     }
 }
 
-/// Whether an item is a step that is not skipped.
+/// Returns whether an item is a step that is not skipped.
 fn is_taken(item: Item, outcome: &Outcome) -> bool
     ensures { result ≡ is_taken item outcome.now }
 {
@@ -35,7 +35,7 @@ fn is_taken(item: Item, outcome: &Outcome) -> bool
 }
 
 impl OwnSteps {
-    /// Before the first call.
+    /// Returns the steps before the first call.
     fn new() -> OwnSteps
         ensures { result ≡ none_taken }
     {
@@ -46,7 +46,7 @@ impl OwnSteps {
         }
     }
 
-    /// Notes the item of this number, of the same process.
+    /// Notes item number `number`, which is one of the same process.
     fn note(&mut self, number: u64, item: Item, outcome: &Outcome)
         requires { self.old.count + 1 < 2 ^ 64 }
         ensures { self.new ≡ noted self.old number item outcome.now }
@@ -60,8 +60,8 @@ impl OwnSteps {
         }
     }
 
-    /// That the operation has taken more than so many steps by the item of this number, which is
-    /// one of them.
+    /// Returns that the operation has taken more than `most` steps by item number `number`, which
+    /// is one of them.
     fn overrun(&self, most: u64, number: u64, item: Item, outcome: &Outcome) -> Option<Failure>
         ensures { result ≡ overrun_by most number item outcome.now self.now }
     {
@@ -77,15 +77,15 @@ impl OwnSteps {
     }
 }
 
-/// Each process before its first call.
+/// Returns each process before its first call.
 pub(crate) fn none_taken(alloc: Global, count: u64) -> Result<Vec<OwnSteps>, AllocError>
     ensures { IfOk result (λ v. v.items ≡ replicate count none_taken) }
 {
     Ok(vec![in alloc; OwnSteps::new(); count as usize]?)
 }
 
-/// Notes the item of this number: that with it an operation has taken more than so many steps,
-/// where it has.
+/// Notes item number `number`, and returns that with it an operation has taken more than `most`
+/// steps, if it has.
 pub(crate) fn note(
     owns: &mut Vec<OwnSteps>,
     most: u64,
@@ -105,7 +105,7 @@ pub(crate) fn note(
     own.overrun(most, number, item, outcome)
 }
 
-/// The first of two failures.
+/// Returns the first of two failures.
 pub(crate) fn first(found: Option<Failure>, later: Option<Failure>) -> Option<Failure>
     ensures { result ≡ or_else found later }
 {

@@ -17,7 +17,7 @@ use std::thread::Threads;
 /// How many runs a thread makes at least, once it was started.
 const FEW: usize = 64;
 
-/// What fails in the run of this number.
+/// Returns what fails in the run of this number.
 #[tactic(auto, using(crate::proofs::Runs::found_over))]
 pub(crate) fn find(
     alloc: Global,
@@ -33,7 +33,7 @@ pub(crate) fn find(
     failure_over(alloc, program, &schedule, wanted)
 }
 
-/// So many numbers, the first of which is this one.
+/// Returns `count` numbers, the first of which is `from`.
 pub(crate) fn numbers(alloc: Global, from: u64, count: u64) -> Result<Vec<u64>, AllocError>
     requires { from + count < 2 ^ 64 }
     ensures { IfOk result (λ v. v.items ≡ range_with_len from count) }
@@ -45,7 +45,7 @@ pub(crate) fn numbers(alloc: Global, from: u64, count: u64) -> Result<Vec<u64>, 
     Ok(numbers)
 }
 
-/// What fails in the runs of these numbers, whichever thread made each and when.
+/// Returns what fails in the runs of these numbers, whichever thread made each and when.
 pub(crate) fn find_each(
     rt: &(impl Threads + Sync),
     alloc: Global,
@@ -71,8 +71,8 @@ pub(crate) fn find_each(
     found
 }
 
-/// The first of these that is a failure, with the number of its run. They are those of the runs from
-/// this one on.
+/// Returns the first failure of `found`, the failures of the runs from `from` on, with the number
+/// of its run.
 pub(crate) fn first_of(from: u64, found: &[Option<Failure>]) -> Option<Found>
     requires { from + length found.now < 2 ^ 64 }
     ensures { IsFirstIn from found.now result }

@@ -1,4 +1,4 @@
-//! The first run that fails, of those that a seed gives, and schedules whose runs fail, made small.
+//! The first run that fails, of the runs that a seed gives, and schedules whose runs fail, shrunk.
 #![tactic(auto)]
 
 mod alone;

@@ -24,7 +24,7 @@ use Rattle.snap_live.specs.Worker.{shown, IsLetOn, MayGoOn, MayNotGoOn, WorkedVi
 abbrev pub turns_at : List (List Turn) → ℕ → List Turn
 turns_at turns k = slice_index_or turns k []
 
--- these are the turns of a process in the record, and they are a play of its script, each after the gate
+-- The turns of a process in the record, which are a play of its script, each after the gate.
 pub record Played (may : ℕ → ℕ → Bool → Type 0) (base : Setting) (items : List Item) (process : ℕ) (script : Script)
     (limit : ℕ) (turns : List Turn) : Type 0 where
   pub told : turns ≡ map shown (turns_of base process items)

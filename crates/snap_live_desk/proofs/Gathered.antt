@@ -21,7 +21,7 @@ turns_left p ts [] ys h = absurd h
 turns_left p ts (x ∷ xs) ys h =
     ⊎_elim (λ (a : (p ≡ x.process) × (ts ≡ x.turns)). inl a) (λ (a : HasTurns p ts xs). inr (turns_left p ts xs ys a)) h
 
--- it stays in when one more is taken in
+-- a turn stays in what was gathered when one more is taken in
 pub stays_in : (seen seen' : List Item) (xs ys : List Own) (s : SeatView) → IsPrefix seen seen' →
     IsIn seen xs s → IsIn seen' (xs ++ ys) s
 stays_in seen seen' xs ys s p h = (prefix_chain s.seen seen seen' h.0 p, turns_left s.process s.own xs ys h.1)

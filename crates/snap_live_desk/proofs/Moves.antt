@@ -784,7 +784,7 @@ pub serves_all : (base : Setting) (slots id : ℕ) (m : Mine) (t : ℕ) → m.0.
     → Allows (TableInvariant base) slots id m 2 (λ n. (n + 1) % 2 ^ 64) (ServedOut (step slots 2 1 0 none) m)
 serves_all base slots id m t alive served has = serves_as base slots id m t (grip_of m.0.stage) alive served has
 
--- the same, where the step is named after an item and an outcome that equal these
+-- a step publishes, where it is named after an item and an outcome that equal these
 pub publishes_as : (base : Setting) (slots id : ℕ) (m : Mine) (t len : ℕ) (x x' : Item)
     (o o' : Outcome) → x ≡ x' → o ≡ o'
     → m.0.alive ≡ true → m.0.stage ≡ Served t (grip_of m.0.stage) → m.0.owns ≡ own (who x) (turns_in m.0.owns) ∷ [] →

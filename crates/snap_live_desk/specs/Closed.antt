@@ -29,7 +29,7 @@ NamesMissing (Refused (Full n)) count ss = ⊥
 NamesMissing (Refused (TurnLimit p)) count ss = ⊥
 NamesMissing (Refused (SeatMissing p)) count ss = IsLeastMissing p count ss
 
--- these are the turns of the process
+-- the turns of the process
 abbrev pub HasTurns : ℕ → List OwnTurn → List Own → Type 0
 HasTurns p ts [] = ⊥
 HasTurns p ts (o ∷ os) = ((p ≡ o.process) × (ts ≡ o.turns)) ⊎ HasTurns p ts os

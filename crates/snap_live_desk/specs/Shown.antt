@@ -51,6 +51,6 @@ seats_of d (suc n) = seats_of d n ++ seat_of d (suc n) ∷ []
 abbrev pub Keeps : Setting → List Item → SeatView → Type 0
 Keeps base items s = IsPrefix s.seen items × (turns_of base s.process items ≡ s.own)
 
--- the same desk, process and number of tickets drawn more
+-- the desk and the process stay, and the number of tickets drawn grows
 abbrev pub StaysWith : SeatView → SeatView → ℕ → Type 0
 StaysWith before after drawn = (after.desk ≡ before.desk) × (after.process ≡ before.process) × (after.asked ≡ drawn)

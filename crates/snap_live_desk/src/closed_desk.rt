@@ -1,5 +1,5 @@
-//! `close`: the end of a desk. It takes the seats of all processes back, and gives the record of
-//! all turns.
+//! `close`: the end of a desk, which takes the seats of all processes back, and returns the record
+//! of all turns.
 ghost use Rattle.std.specs.Prelude.{◌≡◌, ℕ, ◌≤◌, IfOk, IfErr, MatchBool, MatchOption, All};
 ghost use mathlib.Core.List.{IsPrefix};
 ghost use Rattle.snap_words.specs.Shape.{IsOneOf};
@@ -22,7 +22,8 @@ use snap_semantics::Fault;
 use snap_words::Kind;
 use std::alloc::Global;
 
-/// The record, at the end. The table's seat has been joined with all others that have a process.
+/// Returns the record, at the end. The table's seat has been joined with all others that have a
+/// process.
 fn finish<K: Kind>(
     table: Table<Option<HeldRecord<K>>, SeatState, InitialRecord<K>, DeskRule, Global>,
     table_seat: TableSeat<K>,
@@ -40,7 +41,7 @@ fn finish<K: Kind>(
     kept.into_record()
 }
 
-/// Whether one of the seats is of this process.
+/// Returns whether one of the seats is of this process.
 fn has_seat<K: Kind>(seats: &[Seat<K>], process: u32) -> bool
     ensures { MatchBool result (HasSeat process seats.now) (¬ HasSeat process seats.now) }
 {
@@ -52,7 +53,7 @@ fn has_seat<K: Kind>(seats: &[Seat<K>], process: u32) -> bool
     false
 }
 
-/// The least process that has no seat.
+/// Returns the least process that has no seat.
 fn first_missing<K: Kind>(seats: &[Seat<K>], count: u32) -> Option<u32>
     ensures { MatchOption result ((p : ℕ) → IsOneOf count p →
         HasSeat p seats.now) (λ p. IsLeastMissing p count seats.now) }
@@ -65,7 +66,7 @@ fn first_missing<K: Kind>(seats: &[Seat<K>], count: u32) -> Option<u32>
     None
 }
 
-/// One seat of the table that knows what all of these seats know.
+/// Returns one seat of the table that knows what all of `seats` know.
 fn gather<K: Kind>(shared: &SharedTable<K>, first: Seat<K>, seats: Vec<Seat<K>>) -> TableSeat<K>
     requires shared { IsSeatOf shared.now.table_id first.desk.id }
     requires seats { All (λ s. s.desk ≡ first.desk) seats.items }
@@ -81,7 +82,7 @@ fn gather<K: Kind>(shared: &SharedTable<K>, first: Seat<K>, seats: Vec<Seat<K>>)
     table_seat
 }
 
-/// What the seat knows.
+/// Returns what the seat knows.
 fn table_seat_of<K: Kind>(seat: Seat<K>) -> TableSeat<K>
     ensures table_seat { (result.table_id ≡ seat.desk.id) × IsIdle result.me ×
         (result.me.0.base ≡ seat.desk.base) }
@@ -96,7 +97,7 @@ fn table_seat_of<K: Kind>(seat: Seat<K>) -> TableSeat<K>
     table_seat
 }
 
-/// The table's seat then knows what the seat knows, and what it knew.
+/// Joins a seat into the table's seat, which knows what both knew then.
 fn take_in<K: Kind>(shared: &SharedTable<K>, table_seat: &mut TableSeat<K>, seat: Seat<K>)
     requires shared { IsSeatOf shared.now.table_id table_seat.old.table_id ×
         (seat.desk.id ≡ shared.now.table_id) }
@@ -110,9 +111,13 @@ fn take_in<K: Kind>(shared: &SharedTable<K>, table_seat: &mut TableSeat<K>, seat
     join(shared, table_seat, table_seat_of(seat));
 }
 
-/// The record of all turns, where each process has a seat among these. It begins with what each
-/// seat had seen, and its items of a seat's process are the seat's turns. Else the least process
-/// that has none, and all is handed back. Takes no memory.
+/// Closes the desk, and returns the record of all turns. The record begins with what each seat had
+/// seen, and its items of a seat's process are the seat's turns. No memory is allocated.
+///
+/// # Errors
+///
+/// `Refused` with `SeatMissing` and the least process that has no seat among `seats`; the desk and
+/// the seats are handed back then.
 pub fn close<K: Kind>(
     desk: Desk<K>,
     mut seats: Vec<Seat<K>>,

@@ -18,8 +18,8 @@ use std::alloc::{AllocError, Global};
 use std::marker::Model;
 use std::snapshot::Snapshot;
 
-/// What threads share: the record lies in the one slot of a table, and seats take it out in the
-/// order of their tickets.
+/// A desk, which threads share: the record lies in the one slot of a table, and seats take it out
+/// in the order of their tickets.
 #[derive(Drop)]
 pub struct Desk<K: Kind> {
     pub(crate) table: Table<Option<HeldRecord<K>>, SeatState, InitialRecord<K>, DeskRule, Global>,
@@ -43,7 +43,11 @@ impl<K: Kind> Model for Desk<K> {
         (0 < d.count) };
 }
 
-/// A desk before the first item of a program over a shape, with a seat for each process.
+/// Returns a desk before the first item of a program over a shape, with a seat for each process.
+///
+/// # Errors
+///
+/// `AllocError` where memory runs out.
 pub fn open<K: Kind>(
     alloc: Global,
     program: &Program,
@@ -72,7 +76,7 @@ pub fn open<K: Kind>(
     Ok((Desk { table, count }, seats))
 }
 
-/// The seat of the next process, and the one that may name after it.
+/// Returns the seat of the next process, and the seat that may name the process behind it.
 fn seat_next<K: Kind>(
     shared: &SharedTable<K>,
     mut table_seat: TableSeat<K>,

@@ -39,14 +39,14 @@ impl<K: Kind> Play<Option<HeldRecord<K>>, SeatState> for Draw {
     ghost then = { Drew };
 }
 
-/// A seat looks whose ticket is served. If it is its own, it has the record.
+/// A seat looks whose ticket is served, and has the record if that is its own.
 pub(crate) struct Look;
 
 impl<K: Kind> Play<Option<HeldRecord<K>>, SeatState> for Look {
     ghost then = { Looked };
 }
 
-/// What is added to the history. Each call picks it.
+/// What is added to the history, which each call picks.
 pub(crate) trait Entry {
     ghost use Rattle.snap_semantics.specs.declared.process.Item.{Item};
     ghost use Rattle.snap_semantics.specs.declared.process.Outcome.{Outcome};
@@ -88,7 +88,7 @@ impl<K: Kind> Play<Option<HeldRecord<K>>, SeatState> for Serve {
     ghost then = { ServedOut };
 }
 
-/// A seat is told of what it was joined with.
+/// A seat hears of what it was joined with.
 pub(crate) struct Tell;
 
 impl<K: Kind> Play<Option<HeldRecord<K>>, SeatState> for Tell {

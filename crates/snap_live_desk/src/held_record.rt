@@ -18,7 +18,7 @@ pub struct HeldRecord<K: Kind> {
 }
 
 impl<K: Kind> Drop for HeldRecord<K> {
-    // Written out, so that it is proved here and not once more wherever one is dropped.
+    // A drop that is written out is one call: it is proved once, and not again at each drop.
     fn drop(self) {
         let HeldRecord { record: _ } = self;
     }
@@ -33,7 +33,7 @@ impl<K: Kind> Model for HeldRecord<K> {
 }
 
 impl<K: Kind> HeldRecord<K> {
-    /// The record goes into a box.
+    /// Puts a record into a box.
     #[inline(always)]
     pub(crate) fn new(alloc: Global, kept: Record<K>) -> Result<HeldRecord<K>, AllocError>
         ensures { IfOk result (λ h. h ≡ kept) }
@@ -43,7 +43,7 @@ impl<K: Kind> HeldRecord<K> {
         })
     }
 
-    /// Does one item, where fewer than 1,000,000 are kept.
+    /// Does one item, and returns its outcome, if fewer than 1,000,000 are kept.
     #[inline(always)]
     pub(crate) fn apply(&mut self, item: Item) -> Result<Outcome, RecordFault>
         requires { IsOneOf self.old.shape.n (who item) }
@@ -55,7 +55,7 @@ impl<K: Kind> HeldRecord<K> {
         self.record.apply(item)
     }
 
-    /// The record, in its box.
+    /// Returns the record in its box.
     #[inline(always)]
     pub(crate) fn record(&self) -> &Record<K>
         ensures { result.now ≡ self.now }
@@ -63,7 +63,7 @@ impl<K: Kind> HeldRecord<K> {
         &self.record
     }
 
-    /// The record, out of its box.
+    /// Returns the record out of its box.
     #[inline(always)]
     pub(crate) fn into_record(self) -> Record<K>
         ensures { result ≡ self }

@@ -5,7 +5,7 @@ use thiserror::Error;
 /// Why a live call is refused.
 #[derive(Clone, Copy, Debug, PartialEq, Eq, Error)]
 pub enum LiveRefusal {
-    /// So many items are kept, the most that may be.
+    /// The record keeps this many items, the most that it may.
     #[error("V1 Full {0}")]
     Full(u64),
     /// The gate did not let this process on, or its script was not done after as many turns as it
@@ -17,5 +17,5 @@ pub enum LiveRefusal {
     SeatMissing(u32),
 }
 
-/// Why a live call gave no answer: memory ran out, or it is refused.
+/// Why a live call returns an error: memory ran out, or the call is refused.
 pub type LiveFault = Fault<LiveRefusal>;

@@ -22,7 +22,7 @@ use snap_words::Kind;
 use std::marker::Model;
 use std::sync::Wait;
 
-/// A turn that was made: the item's place in the history, counted from 1, and what came of it.
+/// A turn that was made: the item's place in the history, counted from 1, and its outcome.
 #[derive(Drop)]
 pub struct Turn {
     pub number: u64,
@@ -84,8 +84,8 @@ impl<K: Kind> Model for Note<K> {
         (n.table_seat.me.0.draws ≡ 0) × (n.seen ≡ length n.table_seat.me.0.seen) };
 }
 
-/// One turn of a seat that has a process: a ticket is drawn, and once it is served the record takes
-/// the item and goes back.
+/// Makes one turn of a seat that has a process: draws a ticket, and once it is served, takes the
+/// record, does the item, and puts the record back.
 fn one_turn<K: Kind, R: Wait>(
     rt: &R,
     shared: &SharedTable<K>,
@@ -129,7 +129,11 @@ fn one_turn<K: Kind, R: Wait>(
 }
 
 impl<K: Kind> Seat<K> {
-    /// Asks the process for an operation.
+    /// Calls `op` at the process of the seat, and returns the turn.
+    ///
+    /// # Errors
+    ///
+    /// `Refused` with `Full` where the record has no room; `Memory` where memory runs out.
     pub fn call<R: Wait>(&mut self, rt: &R, desk: &Desk<K>, op: Op) -> Result<Turn, LiveFault>
         requires desk { self.old.desk ≡ desk.now }
         requires asked { self.old.asked < 2 ^ 32 }
@@ -142,7 +146,11 @@ impl<K: Kind> Seat<K> {
         self.turn(rt, desk, Item::Call(process, op))
     }
 
-    /// The process runs its line.
+    /// Runs the line of the process of the seat, and returns the turn.
+    ///
+    /// # Errors
+    ///
+    /// `Refused` with `Full` where the record has no room; `Memory` where memory runs out.
     pub fn step<R: Wait>(&mut self, rt: &R, desk: &Desk<K>) -> Result<Turn, LiveFault>
         requires desk { self.old.desk ≡ desk.now }
         requires asked { self.old.asked < 2 ^ 32 }
@@ -155,7 +163,11 @@ impl<K: Kind> Seat<K> {
         self.turn(rt, desk, Item::Step(process))
     }
 
-    /// The process stops for good.
+    /// Crashes the process of the seat, and returns the turn.
+    ///
+    /// # Errors
+    ///
+    /// `Refused` with `Full` where the record has no room; `Memory` where memory runs out.
     pub fn crash<R: Wait>(&mut self, rt: &R, desk: &Desk<K>) -> Result<Turn, LiveFault>
         requires desk { self.old.desk ≡ desk.now }
         requires asked { self.old.asked < 2 ^ 32 }
@@ -168,7 +180,7 @@ impl<K: Kind> Seat<K> {
         self.turn(rt, desk, Item::Crash(process))
     }
 
-    /// A turn with an item of this seat's process.
+    /// Makes a turn with an item of the seat's process.
     fn turn<R: Wait>(&mut self, rt: &R, desk: &Desk<K>, item: Item) -> Result<Turn, LiveFault>
         requires mine { who item ≡ self.old.process }
         requires desk { self.old.desk ≡ desk.now }
@@ -191,7 +203,7 @@ impl<K: Kind> Seat<K> {
         }
     }
 
-    /// What this seat has seen.
+    /// Returns a note of what the seat has seen.
     pub fn note(&mut self, desk: &Desk<K>) -> Note<K>
         requires { self.old.desk ≡ desk.now }
         ensures seat { self.new ≡ self.old }
@@ -204,7 +216,7 @@ impl<K: Kind> Seat<K> {
         }
     }
 
-    /// The seat has then seen the longer of its list and the note's.
+    /// Takes in what `note` has seen: the seat has then seen the longer of its list and the note's.
     pub fn meet(&mut self, desk: &Desk<K>, note: Note<K>)
         requires { (self.old.desk ≡ desk.now) × (note.desk ≡ desk.now) }
         ensures seat { StaysWith self.old self.new self.old.asked × (self.new.own ≡ self.old.own) }
@@ -218,21 +230,21 @@ impl<K: Kind> Seat<K> {
         }
     }
 
-    /// How many items it has seen.
+    /// Returns how many items the seat has seen.
     pub fn seen_len(&self) -> u64
         ensures { result ≡ length self.now.seen }
     {
         self.seen
     }
 
-    /// How many turns it has asked for.
+    /// Returns how many turns the seat has made or tried.
     pub fn asked(&self) -> u64
         ensures { result ≡ self.now.asked }
     {
         self.asked
     }
 
-    /// Its process, counted from 1.
+    /// Returns the process of the seat, counted from 1.
     pub fn process(&self) -> u32
         ensures { result ≡ self.now.process }
     {

@@ -1,5 +1,5 @@
-//! `SeatState`: what a seat knows of its desk. No value of these ghost types is made: the desk's
-//! rule speaks of them.
+//! `SeatState`: what a seat knows of its desk. No value of these ghost types is made; they stand in
+//! the rule of the desk alone.
 use snap_asm_program::Program;
 use snap_semantics::{Item, Outcome};
 use snap_words::Shape;
@@ -19,7 +19,7 @@ pub enum Stage {
     Served(u64, LinkedList<Item>),
 }
 
-/// A turn that was made: the item's place in the history, the item and what came of it.
+/// A turn that was made: the item's place in the history, the item and its outcome.
 pub struct OwnTurn {
     pub number: u64,
     pub item: Item,
@@ -41,9 +41,9 @@ pub struct SeatState {
     pub seen: LinkedList<Item>,
     /// What the two seats had seen that were joined into this one.
     pub olds: LinkedList<LinkedList<Item>>,
-    /// The processes of a seat with their turns, none before it is named.
+    /// The processes of a seat with their turns, none before the seat is named.
     pub owns: LinkedList<Own>,
-    /// How many tickets it has drawn.
+    /// How many tickets the seat has drawn.
     pub draws: u64,
     pub stage: Stage,
     /// The seat that may name itself knows how many are named.

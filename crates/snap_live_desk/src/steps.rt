@@ -46,7 +46,7 @@ const SERVING: usize = 2;
 /// The word that has how many processes are named.
 const COUNT: usize = 3;
 
-/// The seat that may name a process takes the next one.
+/// Takes the next process for the seat that may name a process.
 pub(crate) fn name<K: Kind>(shared: &SharedTable<K>, seat: &mut TableSeat<K>)
     requires shared { IsSeatOf shared.now.table_id seat.old.table_id }
     requires fresh { IsIdle seat.old.me × (seat.old.me.0.draws ≡ 0) × (seat.old.me.0.owns ≡ []) }
@@ -58,7 +58,7 @@ pub(crate) fn name<K: Kind>(shared: &SharedTable<K>, seat: &mut TableSeat<K>)
     shared.fetch_add::<NameProcess>(seat, COUNT, 1);
 }
 
-/// A new seat, which has seen as much, and may name a process if the old one might.
+/// Returns a new seat, which has seen as much, and may name a process if the old one might.
 pub(crate) fn split<K: Kind>(shared: &SharedTable<K>, seat: &mut TableSeat<K>) -> TableSeat<K>
     requires shared { IsSeatOf shared.now.table_id seat.old.table_id }
     requires idle { IsIdle seat.old.me }
@@ -70,7 +70,7 @@ pub(crate) fn split<K: Kind>(shared: &SharedTable<K>, seat: &mut TableSeat<K>) -
     shared.split_seat::<Cut>(seat)
 }
 
-/// The seat takes in what the other has seen, and its turns.
+/// Joins `other` into `seat`, with what it has seen and its turns.
 pub(crate) fn join<K: Kind>(shared: &SharedTable<K>, seat: &mut TableSeat<K>, other: TableSeat<K>)
     requires shared { IsSeatOf shared.now.table_id seat.old.table_id ×
         (other.table_id ≡ shared.now.table_id) }
@@ -83,7 +83,7 @@ pub(crate) fn join<K: Kind>(shared: &SharedTable<K>, seat: &mut TableSeat<K>, ot
     shared.load::<Tell>(seat, LENGTH);
 }
 
-/// The ticket that a seat draws.
+/// Draws a ticket for a seat, and returns it.
 pub(crate) fn draw<K: Kind>(shared: &SharedTable<K>, seat: &mut TableSeat<K>) -> u64
     requires shared { IsSeatOf shared.now.table_id seat.old.table_id }
     requires idle { IsIdle seat.old.me ×
@@ -94,7 +94,7 @@ pub(crate) fn draw<K: Kind>(shared: &SharedTable<K>, seat: &mut TableSeat<K>) ->
     shared.fetch_add::<Draw>(seat, NEXT, 1)
 }
 
-/// True where the ticket is served. The seat then has the record.
+/// Returns whether the ticket is served; the seat has the record then.
 fn look<K: Kind>(shared: &SharedTable<K>, seat: &mut TableSeat<K>, ticket: u64) -> bool
     requires shared { IsSeatOf shared.now.table_id seat.old.table_id }
     requires waits { (seat.old.me.1 ≡ []) × (seat.old.me.0.alive ≡ true) ×
@@ -128,7 +128,7 @@ pub(crate) fn wait<K: Kind, R: Wait>(
     unreachable!()
 }
 
-/// The record, which leaves the slot empty.
+/// Takes the record, which leaves the slot empty.
 pub(crate) fn take<K: Kind>(shared: &SharedTable<K>, seat: &mut TableSeat<K>) -> HeldRecord<K>
     requires shared { IsSeatOf shared.now.table_id seat.old.table_id }
     requires has { HasAll seat.old.me }
@@ -139,7 +139,7 @@ pub(crate) fn take<K: Kind>(shared: &SharedTable<K>, seat: &mut TableSeat<K>) ->
     shared.exchange(seat, 0, None).unwrap()
 }
 
-/// The history goes on by the item, which the entry names.
+/// Adds the item, which the entry names, to the history.
 fn publish_as<J: Entry, K: Kind>(
     shared: &SharedTable<K>,
     seat: &mut TableSeat<K>,
@@ -163,7 +163,7 @@ fn publish_as<J: Entry, K: Kind>(
     shared.store::<Publish<J>>(seat, LENGTH, len);
 }
 
-/// The history goes on by the item.
+/// Adds the item to the history.
 pub(crate) fn publish<K: Kind>(
     shared: &SharedTable<K>,
     seat: &mut TableSeat<K>,
@@ -186,7 +186,7 @@ pub(crate) fn publish<K: Kind>(
     publish_as::<Brand, K>(shared, seat, ticket, item, outcome, len);
 }
 
-/// Nothing was added, and the seat sees the history.
+/// Adds nothing, and lets the seat see the history.
 pub(crate) fn catch_up<K: Kind>(
     shared: &SharedTable<K>,
     seat: &mut TableSeat<K>,
@@ -204,7 +204,7 @@ pub(crate) fn catch_up<K: Kind>(
     shared.store::<CatchUp>(seat, LENGTH, len);
 }
 
-/// The record goes into the slot.
+/// Puts the record into the slot.
 pub(crate) fn give<K: Kind>(shared: &SharedTable<K>, seat: &mut TableSeat<K>, given: HeldRecord<K>)
     requires shared { IsSeatOf shared.now.table_id seat.old.table_id }
     requires empty { seat.old.me.1 ≡ (0, None) ∷ [] }
@@ -215,7 +215,7 @@ pub(crate) fn give<K: Kind>(shared: &SharedTable<K>, seat: &mut TableSeat<K>, gi
     drop(shared.exchange(seat, 0, Some(given)));
 }
 
-/// The slot goes home, and the next ticket is served.
+/// Brings the slot home, so that the next ticket is served.
 pub(crate) fn serve<K: Kind>(shared: &SharedTable<K>, seat: &mut TableSeat<K>, ticket: u64)
     requires shared { IsSeatOf shared.now.table_id seat.old.table_id }
     requires served { (seat.old.me.0.alive ≡ true) ×

@@ -46,7 +46,7 @@ counts_words p c =
 unfoldable pub name_text : Part → Counts → List ℕ
 name_text p c = codes "<title>" ++ title_words p c ++ codes "</title>\n"
 
--- the same in sight, with what was counted
+-- the titles of a picture, with what was counted
 unfoldable pub titles : Part → Counts → List ℕ
 titles p c =
     words_head (codes "title") 12 30 ++ title_words p c ++ codes "</text>\n"
@@ -93,7 +93,7 @@ tick_text p t =
 abbrev pub tick_or_none : Part → ℕ → List ℕ
 tick_or_none p t = if nat_le t p.to then tick_text p t else []
 
--- so many numbers, a step apart, from the first one on
+-- a number of numbers, a step apart, from the first one on
 abbrev pub ticks_text : Part → (step first count : ℕ) → List ℕ
 ticks_text p step first zero = []
 ticks_text p step first (suc k) = ticks_text p step first k ++ tick_or_none p (first + k * step)

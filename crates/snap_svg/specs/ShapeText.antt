@@ -74,7 +74,7 @@ end_text ended.Open = codes " .."
 unfoldable pub bar_words : Bar → List ℕ
 bar_words b = op_text b.op ++ end_text b.end
 
--- the same, where there is room for it
+-- the label of a bar, if there is room for it
 unfoldable pub bar_label : ℕ → Bar → List ℕ
 bar_label width b =
     if nat_le least_words width then words_head (codes "words") 5 17 ++ bar_words b ++ codes "</text>" else []

@@ -52,6 +52,6 @@ is_near p from to = nat_le from p.to && nat_lt p.from to
 abbrev pub is_here : Part → ℕ → Bool
 is_here p t = is_near p t t
 
--- so many items leave no room for each of them
+-- whether there are too many items to leave room for each of them
 abbrev pub is_thin : Part → Bool
 is_thin p = nat_lt 1000 (p.to - p.from)

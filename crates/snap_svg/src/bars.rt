@@ -40,10 +40,11 @@ use snap_semantics::Op;
 /// The least width of a box that has words.
 const LEAST_WORDS: u64 = 22;
 
-/// The last place at which the words of what is crossed out begin: the picture has room for them.
+/// The last place at which the words of what is crossed out begin, so that the picture has room for
+/// them.
 const LAST_WORDS: u64 = 1450;
 
-/// What is said of values.
+/// Appends what is said of values.
 #[tactic(auto, unfolding(crate::specs::ShapeText::period_title))]
 fn period_title(out: &mut Draft, period: &Period)
     ensures { Adds out.old out.new (period_title period.now) }
@@ -56,7 +57,7 @@ fn period_title(out: &mut Draft, period: &Period)
     out.push_number(period.to);
 }
 
-/// Values, where there is room for them.
+/// Appends values, if there is room for them.
 #[tactic(auto, unfolding(crate::specs::ShapeText::values_words))]
 fn values_words(out: &mut Draft, width: u64, values: &[u64])
     ensures { Adds out.old out.new (values_words width values.now) }
@@ -69,7 +70,7 @@ fn values_words(out: &mut Draft, width: u64, values: &[u64])
     out.push(b"</text>");
 }
 
-/// The values from an item on, in a box.
+/// Appends the values from an item on, in a box.
 #[tactic(auto, unfolding(crate::specs::ShapeText::period_box))]
 fn period_box(out: &mut Draft, period: &Period, x: u64, width: u64)
     ensures { Adds out.old out.new (period_box period.now x width) }
@@ -81,7 +82,7 @@ fn period_box(out: &mut Draft, period: &Period, x: u64, width: u64)
     out.push(b"</svg>\n");
 }
 
-/// The values from an item on.
+/// Appends the values from an item on.
 #[tactic(auto, unfolding(crate::specs::ShapeText::period_text))]
 pub(crate) fn period_text(out: &mut Draft, window: &Window, period: &Period)
     ensures { Adds out.old out.new (period_text window.now period.now) }
@@ -90,7 +91,7 @@ pub(crate) fn period_text(out: &mut Draft, window: &Window, period: &Period)
     period_box(out, period, x, width_of(x, window.x_of(period.to)));
 }
 
-/// What came of an operation.
+/// Appends the outcome of an operation.
 #[tactic(auto, unfolding(crate::specs::ShapeText::end_text))]
 fn end_text(out: &mut Draft, end: &End)
     ensures { Adds out.old out.new (end_text end.now) }
@@ -107,7 +108,7 @@ fn end_text(out: &mut Draft, end: &End)
     }
 }
 
-/// An operation.
+/// Appends an operation.
 fn op_text(out: &mut Draft, op: Op)
     ensures { Adds out.old out.new (op_text op) }
 {
@@ -122,7 +123,7 @@ fn op_text(out: &mut Draft, op: Op)
     }
 }
 
-/// An operation and what came of it.
+/// Appends an operation and its outcome.
 #[tactic(auto, unfolding(crate::specs::ShapeText::bar_words))]
 fn bar_words(out: &mut Draft, bar: &Bar)
     ensures { Adds out.old out.new (bar_words bar.now) }
@@ -131,7 +132,7 @@ fn bar_words(out: &mut Draft, bar: &Bar)
     end_text(out, &bar.end);
 }
 
-/// An operation and what came of it, where there is room for it.
+/// Appends an operation and its outcome, if there is room for them.
 #[tactic(auto, unfolding(crate::specs::ShapeText::bar_label))]
 fn bar_label(out: &mut Draft, width: u64, bar: &Bar)
     ensures { Adds out.old out.new (bar_label width bar.now) }
@@ -144,7 +145,7 @@ fn bar_label(out: &mut Draft, width: u64, bar: &Bar)
     out.push(b"</text>");
 }
 
-/// The class of an operation.
+/// Returns the class of an operation.
 fn bar_class(op: Op) -> &'static [u8]
     ensures { result.now ≡ bar_class op }
 {
@@ -154,7 +155,7 @@ fn bar_class(op: Op) -> &'static [u8]
     }
 }
 
-/// An operation, in a box.
+/// Appends an operation, in a box.
 #[tactic(auto, unfolding(crate::specs::ShapeText::bar_box))]
 fn bar_box(out: &mut Draft, bar: &Bar, x: u64, width: u64)
     ensures { Adds out.old out.new (bar_box bar.now x width) }
@@ -172,7 +173,7 @@ fn bar_box(out: &mut Draft, bar: &Bar, x: u64, width: u64)
     out.push(b"</svg>\n");
 }
 
-/// An operation.
+/// Appends an operation.
 #[tactic(auto, unfolding(crate::specs::ShapeText::bar_text))]
 pub(crate) fn bar_text(out: &mut Draft, window: &Window, bar: &Bar)
     ensures { Adds out.old out.new (bar_text window.now bar.now) }
@@ -181,7 +182,7 @@ pub(crate) fn bar_text(out: &mut Draft, window: &Window, bar: &Bar)
     bar_box(out, bar, x, width_of(x, window.x_of(bar.to)));
 }
 
-/// A scan within an update, in a box.
+/// Appends a scan within an update, in a box.
 #[tactic(auto, unfolding(crate::specs::ShapeText::embedded_box))]
 fn embedded_box(out: &mut Draft, span: Span, x: u64, y: u64, width: u64)
     ensures { Adds out.old out.new (embedded_box span x y width) }
@@ -193,7 +194,7 @@ fn embedded_box(out: &mut Draft, span: Span, x: u64, y: u64, width: u64)
     out.push(b"</svg>\n");
 }
 
-/// A scan within an update.
+/// Appends a scan within an update.
 #[tactic(auto, unfolding(crate::specs::ShapeText::embedded_text))]
 pub(crate) fn embedded_text(out: &mut Draft, window: &Window, span: Span)
     ensures { Adds out.old out.new (embedded_text window.now span) }
@@ -203,7 +204,7 @@ pub(crate) fn embedded_text(out: &mut Draft, window: &Window, span: Span)
     embedded_box(out, span, x, y_of(span.process) + 30, width);
 }
 
-/// What is said of a point.
+/// Appends what is said of a point.
 #[tactic(auto, unfolding(crate::specs::ShapeText::found_words))]
 fn found_words(out: &mut Draft, scan: Span, item: u64, values: &[u64], collects: u64)
     ensures { Adds out.old out.new (found_words scan item values.now collects) }
@@ -218,7 +219,7 @@ fn found_words(out: &mut Draft, scan: Span, item: u64, values: &[u64], collects:
     out.push(b"</title>");
 }
 
-/// What is said of a point.
+/// Appends what is said of a point.
 #[tactic(auto, unfolding(crate::specs::ShapeText::point_title))]
 fn point_title(out: &mut Draft, point: &Point)
     ensures { Adds out.old out.new (point_title point.now) }
@@ -232,7 +233,7 @@ fn point_title(out: &mut Draft, point: &Point)
     );
 }
 
-/// The state of a point, where there is room for it.
+/// Appends the state of a point, if there is room for it.
 #[tactic(auto, unfolding(crate::specs::ShapeText::point_words))]
 fn point_words(out: &mut Draft, window: &Window, point: &Point)
     ensures { Adds out.old out.new (point_words window.now point.now) }
@@ -245,7 +246,7 @@ fn point_words(out: &mut Draft, window: &Window, point: &Point)
     out.push(b"</text>");
 }
 
-/// The point of a scan, with a line down to the scan.
+/// Appends the point of a scan, with a line down to the scan.
 #[tactic(auto, unfolding(crate::specs::ShapeText::point_path))]
 fn point_path(out: &mut Draft, window: &Window, point: &Point, x: u64, y: u64)
     ensures { Adds out.old out.new (point_path window.now point.now x y) }
@@ -259,7 +260,7 @@ fn point_path(out: &mut Draft, window: &Window, point: &Point, x: u64, y: u64)
     out.push(b"</g>\n");
 }
 
-/// The point of a scan.
+/// Appends the point of a scan.
 #[tactic(auto, unfolding(crate::specs::ShapeText::point_text))]
 pub(crate) fn point_text(out: &mut Draft, window: &Window, point: &Point)
     ensures { Adds out.old out.new (point_text window.now point.now) }
@@ -268,7 +269,7 @@ pub(crate) fn point_text(out: &mut Draft, window: &Window, point: &Point)
     point_path(out, window, point, window.x_of(point.item), y);
 }
 
-/// A scan without a point, in a box of its own.
+/// Appends a scan without a point, in a box of its own.
 #[tactic(auto, unfolding(crate::specs::ShapeText::none_box))]
 fn none_box(out: &mut Draft, span: Span, x: u64, y: u64, width: u64)
     requires { y ≤ 1000000000000 }
@@ -283,7 +284,7 @@ fn none_box(out: &mut Draft, span: Span, x: u64, y: u64, width: u64)
     out.push(b"point none</text></g>\n");
 }
 
-/// A scan without a point.
+/// Appends a scan without a point.
 #[tactic(auto, unfolding(crate::specs::ShapeText::none_text))]
 pub(crate) fn none_text(out: &mut Draft, window: &Window, span: Span)
     ensures { Adds out.old out.new (none_text window.now span) }
@@ -293,7 +294,7 @@ pub(crate) fn none_text(out: &mut Draft, window: &Window, span: Span)
     none_box(out, span, x, y_of(span.process) + 6, width);
 }
 
-/// An operation whose end nothing explains, crossed out.
+/// Appends an operation whose end nothing explains, crossed out.
 #[tactic(auto, unfolding(crate::specs::ShapeText::wrong_box))]
 fn wrong_box(out: &mut Draft, span: Span, x: u64, right: u64, y: u64, width: u64)
     requires { y ≤ 1000000000000 }
@@ -311,7 +312,7 @@ fn wrong_box(out: &mut Draft, span: Span, x: u64, right: u64, y: u64, width: u64
     out.push(b"not linearizable</text></g>\n");
 }
 
-/// An operation whose end no order of the operations explains.
+/// Appends an operation whose end no order of the operations explains.
 #[tactic(auto, unfolding(crate::specs::ShapeText::wrong_text))]
 pub(crate) fn wrong_text(out: &mut Draft, window: &Window, span: Span)
     ensures { Adds out.old out.new (wrong_text window.now span) }

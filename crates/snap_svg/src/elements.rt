@@ -18,7 +18,7 @@ use snap_draft::Draft;
 /// What stands behind what is said of a box.
 pub(crate) const BOX_BODY: &[u8] = b"</title><rect width=\"100%\" height=\"100%\"/>";
 
-/// ` NAME="X"`.
+/// Appends ` NAME="X"`.
 #[tactic(auto, unfolding(crate::specs::Elements::attribute))]
 pub(crate) fn attribute(out: &mut Draft, name: &[u8], x: u64)
     ensures { Adds out.old out.new (attribute name.now x) }
@@ -30,7 +30,7 @@ pub(crate) fn attribute(out: &mut Draft, name: &[u8], x: u64)
     out.push(b"\"");
 }
 
-/// A place in a path.
+/// Appends a place in a path.
 #[tactic(auto, unfolding(crate::specs::Elements::place_text))]
 fn place_text(out: &mut Draft, x: u64, y: u64)
     ensures { Adds out.old out.new (place_text x y) }
@@ -40,7 +40,7 @@ fn place_text(out: &mut Draft, x: u64, y: u64)
     out.push_number(y);
 }
 
-/// Four edges.
+/// Appends four edges.
 #[tactic(auto, unfolding(crate::specs::Elements::edges_text))]
 pub(crate) fn edges_text(out: &mut Draft, x: u64, y: u64, width: u64, height: u64)
     ensures { Adds out.old out.new (edges_text x y width height) }
@@ -51,7 +51,7 @@ pub(crate) fn edges_text(out: &mut Draft, x: u64, y: u64, width: u64, height: u6
     attribute(out, b"height", height);
 }
 
-/// An element of a class, up to what is said of it.
+/// Appends an element of a class, up to its description.
 #[tactic(auto, unfolding(crate::specs::Elements::group_head))]
 pub(crate) fn group_head(out: &mut Draft, class: &[u8])
     ensures { Adds out.old out.new (group_head class.now) }
@@ -61,7 +61,7 @@ pub(crate) fn group_head(out: &mut Draft, class: &[u8])
     out.push(b"\"><title>");
 }
 
-/// A box of a class, up to what is said of it.
+/// Appends a box of a class, up to its description.
 #[tactic(auto, unfolding(crate::specs::Elements::box_head))]
 pub(crate) fn box_head(out: &mut Draft, class: &[u8], x: u64, y: u64, width: u64, height: u64)
     ensures { Adds out.old out.new (box_head class.now x y width height) }
@@ -73,7 +73,7 @@ pub(crate) fn box_head(out: &mut Draft, class: &[u8], x: u64, y: u64, width: u64
     out.push(b"><title>");
 }
 
-/// A path of a class that begins here and goes so, up to what is said of it.
+/// Appends a path of a class that begins at a place and has this form, up to its description.
 #[tactic(auto, unfolding(crate::specs::Elements::path_head))]
 pub(crate) fn path_head(out: &mut Draft, class: &[u8], x: u64, y: u64, form: &[u8])
     ensures { Adds out.old out.new (path_head class.now x y form.now) }
@@ -86,7 +86,7 @@ pub(crate) fn path_head(out: &mut Draft, class: &[u8], x: u64, y: u64, form: &[u
     out.push(b"\"><title>");
 }
 
-/// A straight path.
+/// Appends a straight path.
 #[tactic(auto, unfolding(crate::specs::Elements::line_text))]
 pub(crate) fn line_text(out: &mut Draft, class: &[u8], x: u64, y: u64, to_x: u64, to_y: u64)
     ensures { Adds out.old out.new (line_text class.now x y to_x to_y) }
@@ -100,7 +100,7 @@ pub(crate) fn line_text(out: &mut Draft, class: &[u8], x: u64, y: u64, to_x: u64
     out.push(b"\"/>");
 }
 
-/// A dot.
+/// Appends a dot.
 #[tactic(auto, unfolding(crate::specs::Elements::dot_text))]
 pub(crate) fn dot_text(out: &mut Draft, x: u64, y: u64)
     ensures { Adds out.old out.new (dot_text x y) }
@@ -111,7 +111,7 @@ pub(crate) fn dot_text(out: &mut Draft, x: u64, y: u64)
     out.push(b"/>");
 }
 
-/// Words of a class at a place, up to the words.
+/// Appends words of a class at a place, up to the words.
 #[tactic(auto, unfolding(crate::specs::Elements::words_head))]
 pub(crate) fn words_head(out: &mut Draft, class: &[u8], x: u64, y: u64)
     ensures { Adds out.old out.new (words_head class.now x y) }

@@ -15,21 +15,21 @@ ghost use Rattle.snap_svg.specs.Escape.{
 
 use snap_draft::Draft;
 
-/// Whether a byte is a part of markup.
+/// Returns whether a byte is a part of markup.
 fn is_markup(byte: u8) -> bool
     ensures { result ≡ is_markup byte }
 {
     byte == b'&' || byte == b'<' || byte == b'>' || byte == b'"' || byte == b'\''
 }
 
-/// Whether a byte is a tab, a line feed, or a printed character of ASCII.
+/// Returns whether a byte is a tab, a line feed, or a printed character of ASCII.
 fn is_printed(byte: u8) -> bool
     ensures { result ≡ is_printed byte }
 {
     byte == b'\t' || byte == b'\n' || (32 <= byte && byte <= 126)
 }
 
-/// A digit to base 16.
+/// Returns a digit to base 16.
 fn hex_digit(digit: u8) -> u8
     requires { digit < 16 }
     ensures { result ≡ hex_digit digit }
@@ -37,14 +37,14 @@ fn hex_digit(digit: u8) -> u8
     if digit < 10 { 48 + digit } else { 55 + digit }
 }
 
-/// The first two of the four digits of a reference.
+/// Returns the first two of the four digits of a reference.
 fn plane(byte: u8) -> &'static [u8]
     ensures { result.now ≡ plane byte }
 {
     if is_markup(byte) { b"00" } else { b"E0" }
 }
 
-/// Adds the reference that stands for a byte.
+/// Appends the reference that stands for a byte.
 #[tactic(auto, unfolding(crate::specs::Escape::reference))]
 fn push_reference(out: &mut Draft, byte: u8)
     ensures { Adds out.old out.new (reference byte) }
@@ -55,7 +55,7 @@ fn push_reference(out: &mut Draft, byte: u8)
     out.push(&digits);
 }
 
-/// Adds what stands for a byte.
+/// Appends what stands for a byte.
 #[tactic(auto, unfolding(crate::specs::Escape::escaped_byte))]
 fn push_byte(out: &mut Draft, byte: u8)
     ensures { Adds out.old out.new (escaped_byte byte) }
@@ -67,7 +67,7 @@ fn push_byte(out: &mut Draft, byte: u8)
     }
 }
 
-/// Adds what stands for a text.
+/// Appends what stands for a text.
 pub fn push_escaped(out: &mut Draft, text: &[u8])
     ensures { Adds out.old out.new (escaped text.now) }
 {

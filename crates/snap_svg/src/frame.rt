@@ -41,7 +41,7 @@ pub struct Counts {
     pub items: u64,
     /// Scans that were called and have been answered.
     pub scans: u64,
-    /// Those of them that have no point.
+    /// Scans that were called and have no point.
     pub without_point: u64,
     /// Updates that were called.
     pub updates: u64,
@@ -57,7 +57,7 @@ fn kind_name(kind: KindTag) -> &'static [u8]
     }
 }
 
-/// The opening of a picture of this height.
+/// Appends the opening of a picture of this height.
 #[tactic(auto, unfolding(crate::specs::FrameText::opening_of))]
 fn opening_of(out: &mut Draft, height: u64)
     ensures { Adds out.old out.new (opening_of height) }
@@ -74,7 +74,7 @@ fn opening(out: &mut Draft, window: &Window)
     opening_of(out, window.height());
 }
 
-/// A listing of this kind and shape, and which of its items.
+/// Appends a listing of this kind and shape, and which of its items.
 #[tactic(auto, unfolding(crate::specs::FrameText::items_words))]
 fn items_words(
     out: &mut Draft,
@@ -101,7 +101,7 @@ fn items_words(
     out.push_number(total);
 }
 
-/// Which listing, and which items of its run.
+/// Appends which listing, and which items of its run.
 #[tactic(auto, unfolding(crate::specs::FrameText::title_words))]
 fn title_words(out: &mut Draft, window: &Window, counts: &Counts)
     ensures { Adds out.old out.new (title_words window.now counts.now) }
@@ -117,7 +117,7 @@ fn title_words(out: &mut Draft, window: &Window, counts: &Counts)
     );
 }
 
-/// What is left out.
+/// Appends what is left out.
 fn thin_words(out: &mut Draft, window: &Window)
     ensures { Adds out.old out.new (thin_words window.now) }
 {
@@ -139,7 +139,7 @@ fn counts_words(out: &mut Draft, window: &Window, counts: &Counts)
     thin_words(out, window);
 }
 
-/// The name of the picture.
+/// Appends the name of the picture.
 #[tactic(auto, unfolding(crate::specs::FrameText::name_text))]
 fn name_text(out: &mut Draft, window: &Window, counts: &Counts)
     ensures { Adds out.old out.new (name_text window.now counts.now) }
@@ -149,7 +149,7 @@ fn name_text(out: &mut Draft, window: &Window, counts: &Counts)
     out.push(b"</title>\n");
 }
 
-/// The title, in sight, with what was counted.
+/// Appends the title, in sight, with what was counted.
 #[tactic(auto, unfolding(crate::specs::FrameText::titles))]
 fn titles(out: &mut Draft, window: &Window, counts: &Counts)
     ensures { Adds out.old out.new (titles window.now counts.now) }
@@ -162,7 +162,7 @@ fn titles(out: &mut Draft, window: &Window, counts: &Counts)
     out.push(b"</text>\n");
 }
 
-/// A listing, where one is given.
+/// Appends a listing, if one is given.
 #[tactic(auto, unfolding(crate::specs::FrameText::listing_part))]
 fn listing_part(out: &mut Draft, listing: Option<&[u8]>)
     ensures { Adds out.old out.new (listing_part (option_map (λ t. t.now) listing.entry)) }
@@ -174,7 +174,7 @@ fn listing_part(out: &mut Draft, listing: Option<&[u8]>)
     out.push(b"\n%\n");
 }
 
-/// Adds the input of the run, as it is given to `snaplab run`.
+/// Appends the input of the run, as it is given to `snaplab run`.
 #[tactic(auto, unfolding(crate::specs::FrameText::input_text))]
 pub fn push_input(out: &mut Draft, listing: Option<&[u8]>, schedule: &[u8])
     ensures { Adds out.old out.new
@@ -186,7 +186,7 @@ pub fn push_input(out: &mut Draft, listing: Option<&[u8]>, schedule: &[u8])
     out.push(b"</metadata>\n");
 }
 
-/// The lane of a process, with its name at a height.
+/// Appends the lane of a process, with its name at a height.
 #[tactic(auto, unfolding(crate::specs::FrameText::lane_box))]
 fn lane_box(out: &mut Draft, process: u64, y: u64, name_y: u64)
     ensures { Adds out.old out.new (lane_box process y name_y) }
@@ -200,7 +200,7 @@ fn lane_box(out: &mut Draft, process: u64, y: u64, name_y: u64)
     out.push(b"</text>\n");
 }
 
-/// The lane of a process.
+/// Appends the lane of a process.
 #[tactic(auto, unfolding(crate::specs::FrameText::lane_text))]
 fn lane_text(out: &mut Draft, process: u32)
     ensures { Adds out.old out.new (lane_text process) }
@@ -209,7 +209,7 @@ fn lane_text(out: &mut Draft, process: u32)
     lane_box(out, u64::from(process), y, y + 34);
 }
 
-/// The lanes of so many processes.
+/// Appends the lanes of `count` processes.
 fn lanes_text(out: &mut Draft, count: u64)
     requires { count ≤ 64 }
     ensures { Adds out.old out.new (lanes_text count) }
@@ -219,7 +219,7 @@ fn lanes_text(out: &mut Draft, count: u64)
     }
 }
 
-/// How far apart the numbers of items stand, for so many items.
+/// Returns how far apart the numbers of items stand, for `count` items.
 fn step_of(count: u64) -> u64
     ensures step { result ≡ step_of count }
     ensures some { (0 < result) × (result ≤ 2000) }
@@ -238,7 +238,7 @@ fn step_of(count: u64) -> u64
     }
 }
 
-/// The number of an item, below the lanes.
+/// Appends the number of an item, below the lanes.
 #[tactic(auto, unfolding(crate::specs::FrameText::tick_text))]
 fn tick_text(out: &mut Draft, window: &Window, item: u64)
     ensures { Adds out.old out.new (tick_text window.now item) }
@@ -251,7 +251,7 @@ fn tick_text(out: &mut Draft, window: &Window, item: u64)
     out.push(b"</text>\n");
 }
 
-/// The number of an item that is drawn.
+/// Appends the number of an item that is drawn.
 fn tick_or_none(out: &mut Draft, window: &Window, item: u64)
     ensures { Adds out.old out.new (tick_or_none window.now item) }
 {
@@ -260,7 +260,7 @@ fn tick_or_none(out: &mut Draft, window: &Window, item: u64)
     }
 }
 
-/// So many numbers, a step apart, from the first one on.
+/// Appends `count` numbers, a step apart, from the first one on.
 fn ticks_text(out: &mut Draft, window: &Window, step: u64, first: u64, count: u64)
     requires { (step ≤ 2000) × ((first ≤ 1002000) × (count ≤ 20001)) }
     ensures { Adds out.old out.new (ticks_text window.now step first count) }
@@ -274,7 +274,7 @@ fn ticks_text(out: &mut Draft, window: &Window, step: u64, first: u64, count: u6
     }
 }
 
-/// The numbers of items.
+/// Appends the numbers of items.
 #[tactic(auto, using(crate::proofs::Places::quotient_le))]
 fn all_ticks(out: &mut Draft, window: &Window, step: u64)
     requires { (0 < step) × (step ≤ 2000) }
@@ -285,7 +285,7 @@ fn all_ticks(out: &mut Draft, window: &Window, step: u64)
     ticks_text(out, window, step, first, window.count() / step + 1);
 }
 
-/// The lanes, and the numbers of items below them.
+/// Appends the lanes, and the numbers of items below them.
 #[tactic(auto, unfolding(crate::specs::FrameText::all_lanes))]
 fn all_lanes(out: &mut Draft, window: &Window)
     ensures { Adds out.old out.new (all_lanes window.now) }
@@ -294,7 +294,7 @@ fn all_lanes(out: &mut Draft, window: &Window)
     all_ticks(out, window, step_of(window.count()));
 }
 
-/// Adds what stands before the shapes.
+/// Appends what stands before the shapes.
 #[tactic(auto, unfolding(crate::specs::FrameText::head_text))]
 pub fn push_head(out: &mut Draft, window: &Window, counts: &Counts, style: &[u8])
     ensures { Adds out.old out.new (head_text window.now counts.now style.now) }
@@ -308,7 +308,7 @@ pub fn push_head(out: &mut Draft, window: &Window, counts: &Counts, style: &[u8]
     all_lanes(out, window);
 }
 
-/// Adds what stands behind the shapes.
+/// Appends what stands behind the shapes.
 #[tactic(auto, unfolding(crate::specs::FrameText::foot_text))]
 pub fn push_foot(out: &mut Draft, window: &Window, legend: &[u8])
     ensures { Adds out.old out.new (foot_text window.now legend.now) }

@@ -9,7 +9,7 @@ use crate::spots::{crash_text, loan_text, read_text, test_text, trap_text, write
 use crate::window::Window;
 use snap_draft::Draft;
 
-/// Whether it is drawn.
+/// Returns whether a shape is drawn.
 fn is_drawn(window: &Window, shape: &Shape) -> bool
     ensures { result ≡ is_drawn window.now shape.now }
 {
@@ -29,7 +29,7 @@ fn is_drawn(window: &Window, shape: &Shape) -> bool
     }
 }
 
-/// What is drawn of a run.
+/// Appends what is drawn of a run.
 fn shape_text(out: &mut Draft, window: &Window, shape: &Shape)
     ensures { Adds out.old out.new (shape_text window.now shape.now) }
 {
@@ -49,7 +49,7 @@ fn shape_text(out: &mut Draft, window: &Window, shape: &Shape)
     }
 }
 
-/// Adds the shapes that are drawn, one after another: a later one lies above.
+/// Appends the shapes that are drawn, one after another: a later one lies above.
 pub fn push_shapes(out: &mut Draft, window: &Window, shapes: &[Shape])
     ensures { Adds out.old out.new (shapes_text window.now shapes.now) }
 {

@@ -18,7 +18,7 @@ pub enum End {
     Done,
     Crash,
     Trap,
-    /// It has not ended.
+    /// The operation has not ended.
     Open,
 }
 

@@ -25,7 +25,7 @@ use crate::shape::{Loan, Read, Span, Spot, Write, Written};
 use crate::window::{Window, y_of};
 use snap_draft::Draft;
 
-/// `process I, items A to B: `.
+/// Appends `process I, items A to B: `.
 #[tactic(auto, unfolding(crate::specs::ShapeText::span_text))]
 pub(crate) fn span_text(out: &mut Draft, span: Span)
     ensures { Adds out.old out.new (span_text span) }
@@ -39,7 +39,7 @@ pub(crate) fn span_text(out: &mut Draft, span: Span)
     out.push(b": ");
 }
 
-/// `item T, process I, line L: `.
+/// Appends `item T, process I, line L: `.
 #[tactic(auto, unfolding(crate::specs::ShapeText::spot_text))]
 fn spot_text(out: &mut Draft, spot: Spot)
     ensures { Adds out.old out.new (spot_text spot) }
@@ -53,7 +53,7 @@ fn spot_text(out: &mut Draft, spot: Spot)
     out.push(b": ");
 }
 
-/// From the last write of a word to its read.
+/// Appends a path from the last write of a word to its read.
 #[tactic(auto, unfolding(crate::specs::ShapeText::trail_text))]
 fn trail_text(out: &mut Draft, window: &Window, spot: Spot, written: Option<Written>)
     ensures { Adds out.old out.new (trail_text window.now spot written) }
@@ -74,7 +74,7 @@ fn trail_text(out: &mut Draft, window: &Window, spot: Spot, written: Option<Writ
     );
 }
 
-/// A read, in a path.
+/// Appends a read, in a path.
 #[tactic(auto, unfolding(crate::specs::ShapeText::read_path))]
 fn read_path(out: &mut Draft, spot: Spot, word: u64, x: u64, y: u64)
     ensures { Adds out.old out.new (read_path spot word x y) }
@@ -86,7 +86,7 @@ fn read_path(out: &mut Draft, spot: Spot, word: u64, x: u64, y: u64)
     out.push(b"]</title></path>");
 }
 
-/// A read.
+/// Appends a read.
 #[tactic(auto, unfolding(crate::specs::ShapeText::read_text))]
 pub(crate) fn read_text(out: &mut Draft, window: &Window, read: Read)
     ensures { Adds out.old out.new (read_text window.now read) }
@@ -103,7 +103,7 @@ pub(crate) fn read_text(out: &mut Draft, window: &Window, read: Read)
     out.push(b"\n");
 }
 
-/// What is said of a write.
+/// Appends what is said of a write.
 #[tactic(auto, unfolding(crate::specs::ShapeText::write_title))]
 fn write_title(out: &mut Draft, write: &Write)
     ensures { Adds out.old out.new (write_title write.now) }
@@ -116,7 +116,7 @@ fn write_title(out: &mut Draft, write: &Write)
     out.push(b"</title>");
 }
 
-/// A write, with a line up to the values.
+/// Appends a write, with a line up to the values.
 #[tactic(auto, unfolding(crate::specs::ShapeText::write_text))]
 pub(crate) fn write_text(out: &mut Draft, window: &Window, write: &Write)
     ensures { Adds out.old out.new (write_text window.now write.now) }
@@ -130,7 +130,7 @@ pub(crate) fn write_text(out: &mut Draft, window: &Window, write: &Write)
     out.push(b"</g>\n");
 }
 
-/// A tick for a test that passed, a cross for another one.
+/// Appends a tick for a test that passed, a cross for another one.
 #[tactic(auto, unfolding(crate::specs::ShapeText::test_head))]
 fn test_head(out: &mut Draft, x: u64, y: u64, passed: bool)
     ensures { Adds out.old out.new (test_head x y passed) }
@@ -142,7 +142,7 @@ fn test_head(out: &mut Draft, x: u64, y: u64, passed: bool)
     }
 }
 
-/// Whether a test passed.
+/// Appends whether a test passed.
 fn test_words(out: &mut Draft, passed: bool)
     ensures { Adds out.old out.new (test_words passed) }
 {
@@ -153,7 +153,7 @@ fn test_words(out: &mut Draft, passed: bool)
     }
 }
 
-/// A test.
+/// Appends a test.
 #[tactic(auto, unfolding(crate::specs::ShapeText::test_text))]
 pub(crate) fn test_text(out: &mut Draft, window: &Window, spot: Spot, passed: bool)
     ensures { Adds out.old out.new (test_text window.now spot passed) }
@@ -163,7 +163,7 @@ pub(crate) fn test_text(out: &mut Draft, window: &Window, spot: Spot, passed: bo
     test_words(out, passed);
 }
 
-/// A trap, in a path.
+/// Appends a trap, in a path.
 #[tactic(auto, unfolding(crate::specs::ShapeText::trap_path))]
 fn trap_path(out: &mut Draft, spot: Spot, x: u64, y: u64)
     ensures { Adds out.old out.new (trap_path spot x y) }
@@ -173,7 +173,7 @@ fn trap_path(out: &mut Draft, spot: Spot, x: u64, y: u64)
     out.push(b"a trap</title></path>\n");
 }
 
-/// A trap.
+/// Appends a trap.
 #[tactic(auto, unfolding(crate::specs::ShapeText::trap_text))]
 pub(crate) fn trap_text(out: &mut Draft, window: &Window, spot: Spot)
     ensures { Adds out.old out.new (trap_text window.now spot) }
@@ -181,7 +181,7 @@ pub(crate) fn trap_text(out: &mut Draft, window: &Window, spot: Spot)
     trap_path(out, spot, window.x_of(spot.item), y_of(spot.process) + 8);
 }
 
-/// A crash, in a path.
+/// Appends a crash, in a path.
 #[tactic(auto, unfolding(crate::specs::ShapeText::crash_path))]
 fn crash_path(out: &mut Draft, spot: Spot, x: u64, y: u64)
     ensures { Adds out.old out.new (crash_path spot x y) }
@@ -191,7 +191,7 @@ fn crash_path(out: &mut Draft, spot: Spot, x: u64, y: u64)
     out.push(b"a crash</title></path>\n");
 }
 
-/// A crash.
+/// Appends a crash.
 #[tactic(auto, unfolding(crate::specs::ShapeText::crash_text))]
 pub(crate) fn crash_text(out: &mut Draft, window: &Window, spot: Spot)
     ensures { Adds out.old out.new (crash_text window.now spot) }
@@ -199,7 +199,7 @@ pub(crate) fn crash_text(out: &mut Draft, window: &Window, spot: Spot)
     crash_path(out, spot, window.x_of(spot.item), y_of(spot.process) + 28);
 }
 
-/// What is said of a loan.
+/// Appends what is said of a loan.
 #[tactic(auto, unfolding(crate::specs::ShapeText::loan_words))]
 fn loan_words(out: &mut Draft, taken: Spot, lender: u64, ended: u64)
     ensures { Adds out.old out.new (loan_words taken lender ended) }
@@ -213,7 +213,7 @@ fn loan_words(out: &mut Draft, taken: Spot, lender: u64, ended: u64)
     out.push(b"</title>");
 }
 
-/// What is said of a loan.
+/// Appends what is said of a loan.
 #[tactic(auto, unfolding(crate::specs::ShapeText::loan_title))]
 fn loan_title(out: &mut Draft, loan: Loan)
     ensures { Adds out.old out.new (loan_title loan) }
@@ -221,7 +221,7 @@ fn loan_title(out: &mut Draft, loan: Loan)
     loan_words(out, loan.taken, u64::from(loan.lender), loan.ended);
 }
 
-/// A loan: an arrow from the lender to the borrower.
+/// Appends a loan: an arrow from the lender to the borrower.
 #[tactic(auto, unfolding(crate::specs::ShapeText::loan_text))]
 pub(crate) fn loan_text(out: &mut Draft, window: &Window, loan: Loan)
     ensures { Adds out.old out.new (loan_text window.now loan) }

@@ -21,7 +21,7 @@ use std::marker::Model;
 /// The most items that a picture has.
 const MOST_ITEMS: u64 = 20_000;
 
-/// The items that are drawn, in the lanes of so many processes.
+/// The items that are drawn, in the lanes of the processes.
 #[derive(Clone, Copy)]
 pub struct Window {
     from: u64,
@@ -57,7 +57,7 @@ impl Model for Window {
     } };
 }
 
-/// How far it is from one place to another; what is drawn is seen.
+/// Returns how far it is from one place to another, at least enough to be seen.
 pub(crate) fn width_of(left: u64, right: u64) -> u64
     ensures { result ≡ width_of left right }
 {
@@ -65,7 +65,8 @@ pub(crate) fn width_of(left: u64, right: u64) -> u64
 }
 
 impl Window {
-    /// The items after `from` and up to `to`, where there is one and they are not too many.
+    /// Returns the window of the items after `from` and up to `to`; `None` where there are none or
+    /// too many.
     pub fn new(from: u64, to: u64, shape: Shape, reads: bool) -> Option<Window>
         ensures { let p : Part = record { from = from; to = to; processes = shape.n; reads = reads }
             in MatchOption result (IsPart p → ⊥) (λ w. (w ≡ p) × IsPart p) }
@@ -82,7 +83,7 @@ impl Window {
         }
     }
 
-    /// The number of lanes.
+    /// Returns the number of lanes.
     pub(crate) fn processes(&self) -> u64
         ensures value { result ≡ self.now.processes }
         ensures few { result ≤ 64 }
@@ -90,14 +91,14 @@ impl Window {
         self.processes
     }
 
-    /// Whether reads lead to what they read.
+    /// Returns whether reads lead to what they read.
     pub(crate) fn has_reads(&self) -> bool
         ensures { result ≡ self.now.reads }
     {
         self.reads
     }
 
-    /// The item before the first one.
+    /// Returns the item before the first one.
     pub(crate) fn from(&self) -> u64
         ensures value { result ≡ self.now.from }
         ensures part { IsPart self.now }
@@ -105,21 +106,21 @@ impl Window {
         self.from
     }
 
-    /// The first item.
+    /// Returns the first item.
     pub(crate) fn first(&self) -> u64
         ensures { result ≡ self.now.from + 1 }
     {
         self.from + 1
     }
 
-    /// How many items are drawn.
+    /// Returns how many items are drawn.
     pub(crate) fn count(&self) -> u64
         ensures { result ≡ self.now.to - self.now.from }
     {
         self.to - self.from
     }
 
-    /// The last item.
+    /// Returns the last item.
     pub(crate) fn to(&self) -> u64
         ensures value { result ≡ self.now.to }
         ensures part { IsPart self.now }
@@ -127,7 +128,7 @@ impl Window {
         self.to
     }
 
-    /// Where the state after an item stands.
+    /// Returns where the state after an item stands.
     #[tactic(auto, using(crate::proofs::Places::quotient_le))]
     pub(crate) fn x_of(&self, item: u64) -> u64
         ensures { result ≡ x_of self.now item }
@@ -135,14 +136,14 @@ impl Window {
         110 + (item.max(self.from).min(self.to) - self.from) * 1460 / (self.to - self.from)
     }
 
-    /// Where the state before an item stands.
+    /// Returns where the state before an item stands.
     pub(crate) fn x_before(&self, item: u64) -> u64
         ensures { result ≡ x_before self.now item }
     {
         self.x_of(item.saturating_sub(1))
     }
 
-    /// Where the lanes end.
+    /// Returns where the lanes end.
     pub(crate) fn y_end(&self) -> u64
         ensures place { result ≡ y_end self.now }
         ensures few { result ≤ 10000 }
@@ -150,28 +151,28 @@ impl Window {
         92 + 62 * (self.processes + 1)
     }
 
-    /// The height of the picture.
+    /// Returns the height of the picture.
     pub(crate) fn height(&self) -> u64
         ensures { result ≡ height self.now }
     {
         self.y_end() + 148
     }
 
-    /// Whether some of the items from one to another are drawn.
+    /// Returns whether some of the items from one to another are drawn.
     pub(crate) fn is_near(&self, from: u64, to: u64) -> bool
         ensures { result ≡ is_near self.now from to }
     {
         from <= self.to && self.from < to
     }
 
-    /// Whether an item is drawn.
+    /// Returns whether an item is drawn.
     pub(crate) fn is_here(&self, item: u64) -> bool
         ensures { result ≡ is_here self.now item }
     {
         self.is_near(item, item)
     }
 
-    /// Whether there is no room for each item.
+    /// Returns whether there is no room for each item.
     pub fn is_thin(&self) -> bool
         ensures { result ≡ is_thin self.now }
     {
@@ -179,7 +180,7 @@ impl Window {
     }
 }
 
-/// The upper edge of the lane of a process.
+/// Returns the upper edge of the lane of a process.
 pub(crate) fn y_of(process: u32) -> u64
     ensures { result ≡ y_of process }
 {

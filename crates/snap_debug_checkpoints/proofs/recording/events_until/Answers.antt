@@ -1,5 +1,5 @@
--- `events_until` of snap_debug_checkpoints (src/recording.rt): the proof of what its contract says.
--- The events of the first items, so many of them.
+-- `events_until` of snap_debug_checkpoints (src/recording.rt): the proof of what its contract says. Returns the events
+-- of the first `position` items.
 use Rattle.std.proofs.Common.{◌<◌, subst, sym, ◌∙◌}
 use Rattle.snap_semantics.specs.declared.event.Event.{Event}
 use Rattle.snap_debug_checkpoints.proofs.Recordings.{first_events, until_end, until_here}

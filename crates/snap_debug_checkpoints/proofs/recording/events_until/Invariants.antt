@@ -1,5 +1,5 @@
--- `events_until` of snap_debug_checkpoints (src/recording.rt): what holds at the head of each of its loops.
--- The events of the first items, so many of them.
+-- `events_until` of snap_debug_checkpoints (src/recording.rt): what holds at the head of each of its loops. Returns the
+-- events of the first `position` items.
 use Rattle.std.proofs.Common.{◌≡◌, ◌-◌, ◌++◌, drop, length, take}
 use Rattle.snap_debug_checkpoints.proofs.Recordings.{until}
 use Rattle.snap_debug_checkpoints.proofs.recording.events_until.Given as goal

@@ -1,5 +1,5 @@
--- `keep_checkpoint` of snap_debug_checkpoints (src/recording.rt): the proof of what its contract says.
--- Keeps a copy of the machine, where a checkpoint is due.
+-- `keep_checkpoint` of snap_debug_checkpoints (src/recording.rt): the proof of what its contract says. Keeps a copy of
+-- the machine, if a checkpoint is due.
 use Rattle.std.proofs.Common.{length, ap, ◌∙◌}
 use Rattle.snap_history.proofs.Longer.{join_all}
 use Rattle.snap_debug_checkpoints.specs.Recording.{IsCheckpoint}

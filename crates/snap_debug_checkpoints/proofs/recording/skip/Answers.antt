@@ -1,5 +1,4 @@
--- `skip` of snap_debug_checkpoints (src/recording.rt): the proof of what its contract says.
--- Leaves so many items behind.
+-- `skip` of snap_debug_checkpoints (src/recording.rt): the proof of what its contract says. Skips `count` items.
 use Rattle.std.proofs.Common.{sym, ◌∙◌}
 use Rattle.snap_debug_checkpoints.proofs.Recordings.{drop_next}
 use Rattle.snap_debug_checkpoints.proofs.recording.skip.Goals as goal

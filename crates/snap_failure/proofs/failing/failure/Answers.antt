@@ -1,5 +1,5 @@
--- `failure` of snap_failure (src/failing.rt): the proof of what its contract says.
--- What fails in a run, behind its last item, the first that is asked for.
+-- `failure` of snap_failure (src/failing.rt): the proof of what its contract says. Returns the first wanted failure of
+-- a run, behind its last item: that it is not linearizable, or what is seen in it.
 use Rattle.std.proofs.Common.{◌≡◌, List, Option, ap, length, refl, subst, sym, ◌∙◌}
 use Rattle.snap_words.specs.Shape.{Counts}
 use Rattle.snap_semantics.specs.Rules.{or_else}

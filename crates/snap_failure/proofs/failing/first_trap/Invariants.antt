@@ -1,5 +1,5 @@
--- `first_trap` of snap_failure (src/failing.rt): what holds at the head of each of its loops.
--- The least process that has trapped.
+-- `first_trap` of snap_failure (src/failing.rt): what holds at the head of each of its loops. Returns the least process
+-- that has trapped.
 use Rattle.std.proofs.Common.{◌≡◌, ◌+◌, ◌-◌}
 use Rattle.snap_failure.specs.Failing.{first_trap}
 use Rattle.snap_failure.proofs.failing.first_trap.Given as goal

@@ -1,5 +1,5 @@
--- `many_collects` of snap_failure (src/failing.rt): what holds at the head of each of its loops.
--- The first scan that made more than so many double collects.
+-- `many_collects` of snap_failure (src/failing.rt): what holds at the head of each of its loops. Returns the first scan
+-- that made more than `most` double collects.
 use Rattle.std.proofs.Common.{◌≡◌, drop}
 use Rattle.snap_failure.specs.Failing.{many_collects}
 use Rattle.snap_failure.proofs.failing.many_collects.Given as goal

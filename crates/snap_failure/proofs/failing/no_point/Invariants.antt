@@ -1,5 +1,5 @@
--- `no_point` of snap_failure (src/failing.rt): what holds at the head of each of its loops.
--- The first scan that has no point.
+-- `no_point` of snap_failure (src/failing.rt): what holds at the head of each of its loops. Returns the first scan that
+-- has no point.
 use Rattle.std.proofs.Common.{◌≡◌, drop}
 use Rattle.snap_failure.specs.Failing.{no_point}
 use Rattle.snap_failure.proofs.failing.no_point.Given as goal

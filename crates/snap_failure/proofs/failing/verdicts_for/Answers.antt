@@ -1,5 +1,5 @@
--- `verdicts_for` of snap_failure (src/failing.rt): the proof of what its contract says.
--- The verdicts on a run, where the first scan without a point, or with too many double collects, is asked for.
+-- `verdicts_for` of snap_failure (src/failing.rt): the proof of what its contract says. Returns the verdicts on a run,
+-- if the first scan without a point, or with too many double collects, is wanted.
 use Rattle.std.proofs.Common.{ap, [], sym, ◌∙◌}
 use Rattle.std.proofs.lemmas.Result.{IfOk-weaker}
 use Rattle.snap_runs.specs.Audit.{audit}

@@ -1,5 +1,5 @@
--- `failure_of_steps` of snap_failure (src/over.rt): the proof of what its contract says.
--- What fails in the run of a program of a kind, where steps are bounded so.
+-- `failure_of_steps` of snap_failure (src/over.rt): the proof of what its contract says. Returns what fails in the run
+-- of a program of a kind, with this bound on steps.
 use Rattle.std.proofs.Common.{◌≡◌, IfOk, ap, length, sym, subst, ◌∙◌}
 use Rattle.snap_words.specs.Shape.{Counts}
 use Rattle.snap_words.specs.declared.kind.KindTag.{KindTag}

@@ -1,5 +1,5 @@
--- `failure_of_steps` of snap_failure (src/over.rt): what holds at the head of each of its loops.
--- What fails in the run of a program of a kind, where steps are bounded so.
+-- `failure_of_steps` of snap_failure (src/over.rt): what holds at the head of each of its loops. Returns what fails in
+-- the run of a program of a kind, with this bound on steps.
 use Rattle.std.proofs.Common.{◌≡◌, ◌-◌, length}
 use Rattle.snap_runs.specs.Run.{run_over}
 use Rattle.snap_audit.specs.Watch.{Watches}

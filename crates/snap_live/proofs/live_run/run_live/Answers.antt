@@ -1,6 +1,5 @@
--- `run_live` of snap_live (src/live_run.rt): the proof of what its contract says.
--- Plays all scripts at once at a new desk, a worker in a thread for each process, and each with at most so many
--- turns, for each of which it asks the gate.
+-- `run_live` of snap_live (src/live_run.rt): the proof of what its contract says. Plays all scripts at once at a new
+-- desk, with a worker in a thread for each process.
 use Rattle.std.proofs.Common.{◌≡◌, ◌∙◌, List, ap, sym, subst}
 use Rattle.std.specs.Prelude.{All}
 use Rattle.snap_words.specs.Shape.{Counts}

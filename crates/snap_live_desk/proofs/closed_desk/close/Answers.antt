@@ -1,5 +1,5 @@
--- `close` of snap_live_desk (src/closed_desk.rt): the proof of what its contract says.
--- The record of all turns, where each process has a seat among these.
+-- `close` of snap_live_desk (src/closed_desk.rt): the proof of what its contract says. Closes the desk, and returns the
+-- record of all turns.
 use Rattle.std.proofs.Common.{◌≡◌, ℕ, ◌≤◌, List, sym, ap, ◌∙◌, subst}
 use Rattle.snap_live_desk.specs.declared.seat_state.Setting.{Setting}
 use Rattle.snap_live_desk.specs.Rule.{OwnTurns}

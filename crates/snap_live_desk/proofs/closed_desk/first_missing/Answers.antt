@@ -1,5 +1,5 @@
--- `first_missing` of snap_live_desk (src/closed_desk.rt): the proof of what its contract says.
--- The least process that has no seat.
+-- `first_missing` of snap_live_desk (src/closed_desk.rt): the proof of what its contract says. Returns the least
+-- process that has no seat.
 use Rattle.std.proofs.Common.{ℕ, arith}
 use Rattle.snap_live_desk.specs.Closed.{HasSeat}
 use Rattle.snap_live_desk.proofs.Gathered.{up_to}

@@ -1,5 +1,5 @@
--- `has_seat` of snap_live_desk (src/closed_desk.rt): the proof of what its contract says.
--- Whether one of the seats is of this process.
+-- `has_seat` of snap_live_desk (src/closed_desk.rt): the proof of what its contract says. Returns whether one of the
+-- seats is of this process.
 use Rattle.std.proofs.Common.{ap, sym, ◌∙◌}
 use Rattle.snap_live_desk.specs.Shown.{SeatView}
 use Rattle.snap_live_desk.proofs.Gathered.{has_at}

@@ -1,5 +1,5 @@
--- `take_in` of snap_live_desk (src/closed_desk.rt): the proof of what its contract says.
--- The table's seat then knows what the seat knows, and what it knew.
+-- `take_in` of snap_live_desk (src/closed_desk.rt): the proof of what its contract says. Joins a seat into the table's
+-- seat, which knows what both knew then.
 use Rattle.std.proofs.Common.{ap}
 use Rattle.snap_live_desk.specs.Rule.{Mine}
 use Rattle.snap_live_desk.proofs.Gathered.{in_left, in_right}

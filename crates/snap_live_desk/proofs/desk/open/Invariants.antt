@@ -1,5 +1,5 @@
--- `open` of snap_live_desk (src/desk.rt): what holds at the head of each of its loops.
--- A desk before the first item of a program over a shape, with a seat for each process.
+-- `open` of snap_live_desk (src/desk.rt): what holds at the head of each of its loops. Returns a desk before the first
+-- item of a program over a shape, with a seat for each process.
 use Rattle.std.proofs.Common.{◌≡◌, ◌≤◌, [], vec_len}
 use Rattle.std.specs.Prelude.{vec_capacity}
 use Rattle.snap_live_desk.specs.declared.seat_state.Setting.{Setting}

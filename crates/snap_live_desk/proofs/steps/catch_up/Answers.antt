@@ -1,5 +1,5 @@
--- `catch_up` of snap_live_desk (src/steps.rt): the proof of what its contract says.
--- Nothing was added, and the seat sees the history.
+-- `catch_up` of snap_live_desk (src/steps.rt): the proof of what its contract says. Adds nothing, and lets the seat see
+-- the history.
 use Rattle.std.proofs.Common.{rules}
 use Rattle.snap_live_desk.proofs.Moves.{catches}
 use Rattle.snap_live_desk.proofs.steps.catch_up.Goals as goal

@@ -1,5 +1,5 @@
--- `draw` of snap_live_desk (src/steps.rt): the proof of what its contract says.
--- The ticket that a seat draws.
+-- `draw` of snap_live_desk (src/steps.rt): the proof of what its contract says. Draws a ticket for a seat, and returns
+-- it.
 use Rattle.std.proofs.Common.{rules}
 use Rattle.snap_live_desk.proofs.Moves.{draws_as}
 use Rattle.snap_live_desk.proofs.steps.draw.Goals as goal

@@ -1,5 +1,5 @@
--- `join` of snap_live_desk (src/steps.rt): the proof of what its contract says.
--- The seat takes in what the other has seen, and its turns.
+-- `join` of snap_live_desk (src/steps.rt): the proof of what its contract says. Joins `other` into `seat`, with what it
+-- has seen and its turns.
 use Rattle.std.proofs.Common.{rules, ap, ◌∙◌}
 use Rattle.snap_live_desk.specs.Rule.{Mine}
 use Rattle.snap_live_desk.proofs.Moves.{tells_it}

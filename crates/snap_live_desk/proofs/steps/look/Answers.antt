@@ -1,5 +1,5 @@
--- `look` of snap_live_desk (src/steps.rt): the proof of what its contract says.
--- True where the ticket is served.
+-- `look` of snap_live_desk (src/steps.rt): the proof of what its contract says. Returns whether the ticket is served;
+-- the seat has the record then.
 use Rattle.std.proofs.Common.{rules}
 use mathlib.Core.Option.{none}
 use Rattle.atomic_table.specs.Table.{step}

@@ -1,5 +1,5 @@
--- `name` of snap_live_desk (src/steps.rt): the proof of what its contract says.
--- The seat that may name a process takes the next one.
+-- `name` of snap_live_desk (src/steps.rt): the proof of what its contract says. Takes the next process for the seat
+-- that may name a process.
 use Rattle.std.proofs.Common.{rules}
 use Rattle.snap_live_desk.proofs.Moves.{names_as}
 use Rattle.snap_live_desk.proofs.steps.name.Goals as goal

@@ -1,5 +1,5 @@
--- `publish_as` of snap_live_desk (src/steps.rt): the proof of what its contract says.
--- The history goes on by the item, which the entry names.
+-- `publish_as` of snap_live_desk (src/steps.rt): the proof of what its contract says. Adds the item, which the entry
+-- names, to the history.
 use Rattle.std.proofs.Common.{rules}
 use Rattle.snap_live_desk.proofs.Moves.{publishes_as}
 use Rattle.snap_live_desk.proofs.steps.publish_as.Goals as goal

@@ -1,5 +1,5 @@
--- `serve` of snap_live_desk (src/steps.rt): the proof of what its contract says.
--- The slot goes home, and the next ticket is served.
+-- `serve` of snap_live_desk (src/steps.rt): the proof of what its contract says. Brings the slot home, so that the next
+-- ticket is served.
 use Rattle.std.proofs.Common.{rules}
 use Rattle.snap_live_desk.proofs.Moves.{serves_all}
 use Rattle.snap_live_desk.proofs.steps.serve.Goals as goal

@@ -1,5 +1,5 @@
--- `split` of snap_live_desk (src/steps.rt): the proof of what its contract says.
--- A new seat, which has seen as much, and may name a process if the old one might.
+-- `split` of snap_live_desk (src/steps.rt): the proof of what its contract says. Returns a new seat, which has seen as
+-- much, and may name a process if the old one might.
 use Rattle.std.proofs.Common.{rules}
 use Rattle.snap_live_desk.proofs.Moves.{splits}
 use Rattle.snap_live_desk.proofs.steps.split.Goals as goal

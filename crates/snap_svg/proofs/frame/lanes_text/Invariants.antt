@@ -1,5 +1,5 @@
--- `lanes_text` of snap_svg (src/frame.rt): what holds at the head of each of its loops.
--- The lanes of so many processes.
+-- `lanes_text` of snap_svg (src/frame.rt): what holds at the head of each of its loops. Appends the lanes of `count`
+-- processes.
 use Rattle.snap_draft.specs.Drafted.{Adds}
 use Rattle.snap_svg.specs.FrameText.{lanes_text}
 use Rattle.snap_svg.proofs.frame.lanes_text.Given as goal

@@ -1,5 +1,5 @@
--- `Followed::apply` of snap_debug_checkpoints (src/followed.rt): the proof of what its contract says.
--- Does one item, for which there is a number.
+-- `Followed::apply` of snap_debug_checkpoints (src/followed.rt): the proof of what its contract says. Does one item,
+-- whose number has 64 bits.
 use Rattle.std.proofs.Common.{◌≡◌, suc, ◌<◌, ◌∷◌, [], ◌++◌, length, refl, sym, ◌∙◌, ap, subst}
 use Rattle.snap_words.specs.Shape.{IsOneOf, max_items}
 use Rattle.snap_semantics.specs.Table.{who}

@@ -1,5 +1,5 @@
--- `Followed::new` of snap_debug_checkpoints (src/followed.rt): the proof of what its contract says.
--- Before the first item.
+-- `Followed::new` of snap_debug_checkpoints (src/followed.rt): the proof of what its contract says. Returns the machine
+-- of a program over a shape, with no items done.
 use Rattle.snap_debug_checkpoints.proofs.Following.{started}
 use Rattle.snap_debug_checkpoints.proofs.followed.Followed.new.Goals as goal
 

@@ -1,5 +1,5 @@
--- `Recording::advance` of snap_debug_checkpoints (src/recording.rt): the proof of what its contract says.
--- Does the next item at a position, and answers what came of it: its process, and its outcome.
+-- `Recording::advance` of snap_debug_checkpoints (src/recording.rt): the proof of what its contract says. Does the next
+-- item of `current`, and returns its process and its outcome.
 use Rattle.std.proofs.Common.{◌+◌, refl}
 use Rattle.snap_debug_checkpoints.proofs.Recordings.{checkpoint_next}
 use Rattle.snap_debug_checkpoints.proofs.recording.Recording.advance.Goals as goal

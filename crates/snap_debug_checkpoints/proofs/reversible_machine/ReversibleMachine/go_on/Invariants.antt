@@ -1,5 +1,5 @@
--- `ReversibleMachine::go_on` of snap_debug_checkpoints (src/reversible_machine.rt): what holds at the head of each
--- of its loops.
+-- `ReversibleMachine::go_on` of snap_debug_checkpoints (src/reversible_machine.rt): what holds at the head of each of
+-- its loops. Goes on to `position`, or as far as there is memory.
 use Rattle.std.proofs.Common.{◌≡◌, ◌≤◌, ◌-◌}
 use Rattle.snap_debug_checkpoints.specs.Recording.{IsReversible, start}
 use Rattle.snap_debug_checkpoints.proofs.reversible_machine.ReversibleMachine.go_on.Given as goal

@@ -1,5 +1,5 @@
--- `ReversibleMachine::step_back` of snap_debug_checkpoints (src/reversible_machine.rt): the proof of what its
--- contract says.
+-- `ReversibleMachine::step_back` of snap_debug_checkpoints (src/reversible_machine.rt): the proof of what its contract
+-- says. Takes the last item back.
 use Rattle.std.proofs.Common.{◌≡◌, ◌+◌, ◌-◌, arith}
 use Rattle.snap_debug_checkpoints.proofs.ReversibleMachines.{can_put, leads_back}
 use Rattle.snap_debug_checkpoints.proofs.reversible_machine.ReversibleMachine.step_back.Goals as goal

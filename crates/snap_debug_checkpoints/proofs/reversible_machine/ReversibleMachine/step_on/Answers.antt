@@ -1,5 +1,5 @@
--- `ReversibleMachine::step_on` of snap_debug_checkpoints (src/reversible_machine.rt): the proof of what its
--- contract says.
+-- `ReversibleMachine::step_on` of snap_debug_checkpoints (src/reversible_machine.rt): the proof of what its contract
+-- says. Does the next item.
 use Rattle.std.proofs.Common.{◌+◌, refl, sym}
 use Rattle.snap_debug_checkpoints.proofs.ReversibleMachines.{leads_on}
 use Rattle.snap_debug_checkpoints.proofs.Recordings.{checkpoint_next}

@@ -1,5 +1,5 @@
--- `Seat::turn` of snap_live_desk (src/seat.rt): the proof of what its contract says.
--- A turn with an item of this seat's process.
+-- `Seat::turn` of snap_live_desk (src/seat.rt): the proof of what its contract says. Makes a turn with an item of the
+-- seat's process.
 use Rattle.std.proofs.Common.{subst, ◌+◌}
 use Rattle.snap_live_desk.specs.Shown.{IsTurn, SeatView}
 use Rattle.snap_live_desk.proofs.Opening.{turns_seat, seat_view}

@@ -111,7 +111,7 @@ pub dry_line : (r : Run) (line t : ℕ) → WritesWord r.source line →
     at_line line (executed (seen_item r (suc t))) ≡ false
 dry_line r line t word dry = item_elsewhere r.source line word r.shape (state r t) (item_at r (suc t)) dry
 
--- and changes no value
+-- an item that writes no word changes no value
 pub dry_values : (r : Run) (t : ℕ) → t < length r.items →
     is_write (step_role_of r.source (state r t) (item_at r (suc t))) ≡ false → changes (seen_item r (suc t)) ≡ false
 dry_values r t below dry =

@@ -28,7 +28,7 @@ use snap_sched::Schedule;
 use snap_words::Kind;
 use std::alloc::{AllocError, Global};
 
-/// Whether a scan has its point: without one it lacks it at its answer.
+/// Checks that a scan has its point; without one, a point is missing at its answer.
 fn point_of(verdict: &Verdict) -> Result<(), Missing>
     ensures { result ≡ point_of verdict.now verdict.now.point }
 {
@@ -43,7 +43,7 @@ fn point_of(verdict: &Verdict) -> Result<(), Missing>
     }
 }
 
-/// Whether each scan has its point.
+/// Checks that each scan has its point.
 fn points(verdicts: &[Verdict]) -> Result<(), Missing>
     ensures { result ≡ points verdicts.now }
 {
@@ -53,7 +53,8 @@ fn points(verdicts: &[Verdict]) -> Result<(), Missing>
     Ok(())
 }
 
-/// What a run is certified by whose updates write so, where each scan has its point.
+/// Returns the certificate of these writes and verdicts, if each scan has its point, or what is
+/// missing.
 fn pointed(line: u64, writes: Vec<UpdateWrite>, verdicts: Vec<Verdict>) -> Certification
     ensures { (r : Run) → verdicts.items ≡ audit r →
         seen_certification result ≡ pointed r line writes.items }
@@ -68,7 +69,7 @@ fn pointed(line: u64, writes: Vec<UpdateWrite>, verdicts: Vec<Verdict>) -> Certi
     }
 }
 
-/// The certification of the run of a program over a schedule.
+/// Returns the certification of the run of a program over a schedule.
 pub(crate) fn certification_over<K: Kind>(
     alloc: Global,
     program: &Program,
@@ -91,7 +92,7 @@ pub(crate) fn certification_over<K: Kind>(
     }
 }
 
-/// The certification of a record.
+/// Returns the certification of a record.
 fn conclude<K: Kind>(alloc: Global, history: &Record<K>) -> Result<Certification, AllocError>
     ensures { IfOk result (λ c. seen_certification c ≡ certification_of history.now) }
 {
@@ -99,9 +100,13 @@ fn conclude<K: Kind>(alloc: Global, history: &Record<K>) -> Result<Certification
     certification_over::<K>(alloc, history.machine().program(), &schedule)
 }
 
-/// What a record is certified by, or the first thing that is missing: of the writes, in the order
-/// of the items, and then of the points, in the order of the answers. A certified run has a
+/// Returns what a record is certified by, or the first thing that is missing: of the writes, in the
+/// order of the items, and then of the points, in the order of the answers. A certified run has a
 /// certificate, and is linearizable.
+///
+/// # Errors
+///
+/// `AllocError` where memory runs out.
 pub fn certify<K: Kind>(alloc: Global, history: &Record<K>) -> Result<Certification, AllocError>
     ensures exact { IfOk result (λ c. seen_certification c ≡ certification_of history.now) }
     ensures certificate { IfOk result (λ c. (e : Evidence) → seen_certification c ≡ Ok e →

@@ -14,7 +14,7 @@ pub fn no_line_goes_on_where_one_is_lost()
     ensures { NoneGoesOn }
 {}
 
-/// A line is refused for what the token speaks of that is found, and for nothing before it.
+/// A line is refused for what the token that is found stands for, and for nothing before it.
 pub fn a_line_is_refused_for_the_token_found()
     ensures { RefusedForToken }
 {}

@@ -44,7 +44,7 @@ lines_behind before (p ∷ ps) = lines_through before p ∷ lines_behind (lines_
 abbrev pub separators : List (List ℕ) → List ℕ
 separators parts = take (length (lines_behind 0 parts) - 1) (lines_behind 0 parts)
 
--- where they are: the first eight
+-- the words of where the lines `%` are: the first eight
 unfoldable pub separator_words : List ℕ → List ℕ
 separator_words ks =
     if nat_eq (length ks) 0 then NO_SEPARATOR.now else SEPARATORS.now ++ numbers_text (take 8 ks) ++ LINE_END.now

@@ -40,7 +40,7 @@ abbrev pub right_or : Source → PlacedToken → Slot → Option Use → Result 
 right_or s t next None = Ok next
 right_or s t next (Some u) = if is_right s u then Ok next else Err (record { token = t; spoken = u })
 
--- the same at a token with these behind it
+-- what the next name is behind a token, with the tokens behind it
 unfoldable pub step_at : Source → Instr → Slot → PlacedToken → List PlacedToken → Result Slot Misuse
 step_at s i here t ts = right_or s t (slot_after here t.token) (use_at i here t.token (tokens_of_placed ts))
 

@@ -119,7 +119,7 @@ common_len [] bs = 0
 common_len (a ∷ more) [] = 0
 common_len (a ∷ more) (b ∷ bs) = if nat_eq a b then common_len more bs + 1 else 0
 
--- the same but for the first letter: put in, left out, or another one
+-- two words are the same but for the first letter: put in, left out, or another one
 abbrev pub is_same_later : List ℕ → List ℕ → Bool
 is_same_later xs ys = bytes_eq (drop 1 xs) (drop 1 ys) || (bytes_eq (drop 1 xs) ys || bytes_eq xs (drop 1 ys))
 

@@ -1,5 +1,5 @@
-//! Explains a refused input, after the line that refuses it: the place, what was expected there and
-//! what was found, and what is advised.
+//! Explanations of a refused input, after the line that refuses it: the place, what was expected
+//! there and what was found, and advice.
 #![tactic(auto)]
 
 mod advice;

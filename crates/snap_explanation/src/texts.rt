@@ -52,7 +52,7 @@ fn keyword_words(keyword: Keyword) -> &'static [u8]
     }
 }
 
-/// What is wanted, in words.
+/// Returns the words for what is wanted.
 fn wanted_words(wanted: Wanted) -> &'static [u8]
     ensures { result.now ≡ wanted_words wanted }
 {
@@ -93,7 +93,7 @@ fn wanted_words(wanted: Wanted) -> &'static [u8]
     }
 }
 
-/// Adds all that may stand next.
+/// Appends all that may stand next.
 fn push_expected(out: &mut Draft, wanted: &[Wanted])
     ensures { Adds out.old out.new (expected_words wanted.now) }
 {
@@ -109,7 +109,7 @@ fn push_expected(out: &mut Draft, wanted: &[Wanted])
     out.push(END_OF_LINE);
 }
 
-/// Adds what stands at a place.
+/// Appends what stands at a place.
 fn push_found(out: &mut Draft, piece: &[u8])
     ensures { Adds out.old out.new (found_words piece.now) }
 {
@@ -135,7 +135,7 @@ fn push_found(out: &mut Draft, piece: &[u8])
     }
 }
 
-/// Adds what was expected at a place, and what stands there.
+/// Appends what was expected at a place, and what stands there.
 #[tactic(auto, unfolding(crate::specs::Texts::expected_line))]
 pub fn push_expected_line(out: &mut Draft, wanted: &[Wanted], piece: &[u8])
     ensures { Adds out.old out.new (expected_line wanted.now piece.now) }

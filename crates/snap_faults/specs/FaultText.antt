@@ -42,7 +42,7 @@ abbrev pub refused_file : Refusal → Which
 refused_file (refusal.Listing r) = which.Listing
 refused_file _ = which.Schedule
 
--- that a file, or an input that has no name, is refused
+-- the words that a file, or an input that has no name, is refused
 abbrev pub refused_in : Names → Which → Refusal → List ℕ
 refused_in n w r = front n.program (file_of n w) ++ refused_text r
 

@@ -58,7 +58,7 @@ fn push_model_refusal(out: &mut Vec<u8>, refusal: &ModelRefusal) -> Result<(), A
     }
 }
 
-/// The name of a file.
+/// Returns the name of a file.
 fn file_of<'a>(names: &Names<'a>, which: Which) -> Option<&'a str>
     ensures { option_map (λ name. name.now) result ≡ file_of (view_names names.now) which }
 {
@@ -68,7 +68,7 @@ fn file_of<'a>(names: &Names<'a>, which: Which) -> Option<&'a str>
     }
 }
 
-/// Adds the front of a line that speaks of a file, where it has a name.
+/// Appends the front of a line about a file, with its name if it has one.
 #[tactic(auto, using(snap_text::proofs::Texts::joined))]
 fn push_front(out: &mut Vec<u8>, program: &str, file: Option<&str>) -> Result<(), AllocError>
     ensures { OnOk result (out.new.items
@@ -85,7 +85,7 @@ fn push_front(out: &mut Vec<u8>, program: &str, file: Option<&str>) -> Result<()
     }
 }
 
-/// Which of the files is refused so.
+/// Returns which of the files the refusal is of.
 fn refused_file(refusal: &Refusal) -> Which
     ensures { result ≡ refused_file refusal.now }
 {
@@ -95,7 +95,7 @@ fn refused_file(refusal: &Refusal) -> Which
     }
 }
 
-/// Adds that a file, or an input that has no name, is refused.
+/// Appends that a file, or an input that has no name, is refused.
 #[tactic(auto, using(snap_text::proofs::Texts::joined))]
 fn push_refused_in(
     out: &mut Vec<u8>,
@@ -110,7 +110,7 @@ fn push_refused_in(
     push_refused(out, refusal)
 }
 
-/// Adds why a file was not read.
+/// Appends why a file was not read.
 #[tactic(auto, using(snap_text::proofs::Texts::joined))]
 fn push_unread(
     out: &mut Vec<u8>,
@@ -125,7 +125,7 @@ fn push_unread(
     push_text(out, reason(kind).as_bytes())
 }
 
-/// Adds that what a hunt found is not that of its input.
+/// Appends that what a hunt found is not that of its input.
 #[tactic(auto, using(snap_text::proofs::Texts::joined))]
 fn push_unsaid(out: &mut Vec<u8>, program: &str) -> Result<(), AllocError>
     ensures { OnOk result (out.new.items ≡ out.old.items
@@ -135,7 +135,7 @@ fn push_unsaid(out: &mut Vec<u8>, program: &str) -> Result<(), AllocError>
     push_text(out, b": the run that was found is not that of the input")
 }
 
-/// Adds what is said for a fault.
+/// Appends the text on a fault.
 #[tactic(auto, using(snap_text::proofs::Texts::joined))]
 fn push_fault(out: &mut Vec<u8>, names: &Names<'_>, fault: &ProgramFault) -> Result<(), AllocError>
     ensures { OnOk result (out.new.items
@@ -175,12 +175,12 @@ fn push_fault(out: &mut Vec<u8>, names: &Names<'_>, fault: &ProgramFault) -> Res
     }
 }
 
-/// Returns the line that a program says for a fault, with the name of the file that it is about,
-/// where there is one.
+/// Returns the line that a program says for `fault`, with the name of the file that it is about, if
+/// there is one.
 ///
 /// # Errors
 ///
-/// There is no memory for it.
+/// `AllocError` where memory runs out.
 pub fn fault_line(
     alloc: Global,
     names: &Names<'_>,

@@ -1,5 +1,5 @@
-//! Why a program did not do what was asked of it, or not all of it (`ProgramFault`); the status that
-//! it ends with then, and what it says on its device for messages.
+//! Why a program did not do what it was called for, or not all of it (`ProgramFault`); the status
+//! that it ends with then, and what it says on its device for messages.
 #![tactic(auto)]
 
 mod fault;

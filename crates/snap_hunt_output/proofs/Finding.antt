@@ -85,7 +85,7 @@ pub hunted_by : (text : List ℕ) (a : Asked) (l : Source) (h : Hunted) →
     asked_source text a ≡ Ok l → IsHuntedOf l text a h → IsHunted text a h
 hunted_by text a l h is hunted = record { listing = l; is = is; hunted = hunted }
 
--- that none of the runs fails
+-- none of the runs fails
 pub none_by : (l : Source) (a : Asked) (p : Plan) (r : Option Found) → p ≡ owned l.kind a.plan →
     IsFirst l p a.wanted a.seed 0 a.runs r → r ≡ None → IsFirstOf l a None
 none_by l a p r plan first none =

@@ -29,7 +29,7 @@ abbrev pub WasBefore : (most : ℕ) → History → (k : ℕ) → (text longer :
 WasBefore most h k text longer =
     (j : Judgement) × IsJudgement most (up_to (k - 1) h) j × (longer ≡ text ++ before_text j)
 
--- These are a circle of reasons, or there is none.
+-- Reasons are a circle, or there are none.
 abbrev pub IsCircleOrNone : History → List Reason → Type 0
 IsCircleOrNone h [] = Unit {0}
 IsCircleOrNone h (r ∷ rs) = IsCircle h (r ∷ rs)

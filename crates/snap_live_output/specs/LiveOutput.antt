@@ -76,7 +76,7 @@ pub record IsLiveText (g : Setup) (limit : ℕ) (text : List ℕ) : Type 0 where
   pub few : (k : ℕ) → k < g.scripts.shape.n → length (turns_of (setting g) (k + 1) items) ≤ limit
   pub written : text ≡ history_text (run_of (setting g) items)
 
--- Such a text, of a run whose gate may have let each process on to each of its turns.
+-- The text of a live run whose gate may have let each process on to each of its turns.
 pub record IsGatedText (may : ℕ → ℕ → Bool → Type 0) (g : Setup) (limit : ℕ) (text : List ℕ) : Type 0 where
   pub live : IsLiveText g limit text
   pub let_on : (k : ℕ) → k < g.scripts.shape.n → IsLetOn may (k + 1) (length (turns_of (setting g) (k + 1) live.items))

@@ -8,13 +8,13 @@ use snap_promela::model_text;
 use snap_tasks::Subject;
 use std::alloc::Global;
 
-/// Returns the model, in the language of Spin, of the listing and the scripts that an input has, in
-/// which at most so many processes crash.
+/// Returns the model, in the language of Spin, of the listing and the scripts in `input`, in which
+/// at most `crashes` processes crash.
 ///
 /// # Errors
 ///
-/// The input is refused as that of a live run is; no model holds its scripts or one of its numbers;
-/// or memory ran out.
+/// The reason why `input` is refused, as that of a live run is; `Model` where no model holds its
+/// scripts or one of its numbers; `Memory` where memory runs out.
 pub fn model_output(
     alloc: Global,
     subject: Subject,

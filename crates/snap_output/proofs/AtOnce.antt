@@ -21,7 +21,7 @@ use Rattle.snap_input.specs.Parts.{max_input}
 use Rattle.snap_output.specs.AtOnce.{found_at_once, long_text, unknown_version, why, wrong_head, wrong_version}
 
 module _ {X : Type 0} (result : Result X (Fault Refusal)) where
-  -- this refusal is answered
+  -- a refusal is answered
   abbrev pub Refuses : Refusal → Type 0
   Refuses r = result ≡ Err (Refused r)
 

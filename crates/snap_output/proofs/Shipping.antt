@@ -68,7 +68,7 @@ schedule_from l y s e =
       subst (λ (x : Schedule). fits l.kind x.shape ≡ true) fit.1 fit.0,
     )
 
--- and those that texts are, one for one
+-- the schedules of texts, one for one
 schedules_from : (l : Source) (texts : List (List ℕ)) (ss : List Schedule) →
     schedules_for l texts ≡ Ok ss → AreSchedulesFor l texts ss
 schedules_from l [] ss e =
@@ -131,7 +131,7 @@ of_parts : (t : Task) (input text : List ℕ) → output_of [] t input ≡ Ok te
 unfolding output_of
 of_parts t input text e = within (nat_lt max_input (length input)) refusal.InputTooLong (of_task [] t input) text e
 
--- and what is found of parts is found of the listing and the texts after it
+-- what is found of parts is found of the listing and the texts after it
 of_listing : (s : Subject) (count : ℕ) (parts : List (List ℕ)) (f : Source → List (List ℕ) → Result (List ℕ) Refusal)
     (text : List ℕ) → parted s count parts f ≡ Ok text →
     (l : Source) × (listing_for s parts ≡ Ok l) × (f l (texts_for s parts) ≡ Ok text)

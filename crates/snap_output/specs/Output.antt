@@ -49,8 +49,8 @@ unfoldable pub clean_of : List Judgement → Subject → List ℕ → Result Boo
 clean_of judged s input =
     if nat_lt max_input (length input) then Err refusal.InputTooLong else clean_runs judged s (parts_of input)
 
--- This was judged for a task on an input: of the run that is to be certified, of each run that is surveyed, and for
--- other tasks nothing.
+-- What was judged for a task on an input: the run that is to be certified, each run that is surveyed, and for other
+-- tasks nothing.
 abbrev pub AreJudged : Task → List ℕ → List Judgement → Type 0
 AreJudged (task.Certify s) input judged = WasJudgedIn s (parts_of input) judged
 AreJudged (task.Survey s) input judged = WereJudgedIn s (parts_of input) judged

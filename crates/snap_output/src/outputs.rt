@@ -24,7 +24,8 @@ use snap_tasks::{Subject, Task};
 use std::alloc::Global;
 use std::thread::Threads;
 
-/// A listing under a schedule, to its end: what a session answers to the one command `run`.
+/// Returns the output of a listing under a schedule, to its end: the reply of a session to the one
+/// command `run`.
 fn run(alloc: Global, subject: Subject, input: &[u8]) -> Result<Vec<u8>, Fault<Refusal>>
     requires { length input.now ≤ max_input }
     ensures output { Answers (λ out. out.items) result
@@ -35,7 +36,7 @@ fn run(alloc: Global, subject: Subject, input: &[u8]) -> Result<Vec<u8>, Fault<R
     snap_run_output::run(alloc, subject, input)
 }
 
-/// The program and the schedule that a listing and a text are.
+/// Returns the program of a listing and the schedule of a text.
 fn plan(alloc: Global, subject: Subject, input: &[u8]) -> Result<PlannedRun, Fault<Refusal>>
     requires { length input.now ≤ max_input }
     ensures output { Answers (λ run. end_text run.program run.schedule) result
@@ -46,8 +47,12 @@ fn plan(alloc: Global, subject: Subject, input: &[u8]) -> Result<PlannedRun, Fau
     snap_run_output::planned_run(alloc, subject, input)
 }
 
-/// What is written for an input that is surveyed, and whether each of its runs is clean; or why
-/// there is no output. The schedules are read and run side by side.
+/// Returns the output for `input`, which is surveyed, and whether each of its runs is clean. The
+/// schedules are read and run side by side.
+///
+/// # Errors
+///
+/// `Refused` with the reason why `input` is refused; `Memory` where memory runs out.
 #[tactic(auto, using(crate::proofs::AtOnce::of_why), unfolding(crate::specs::Output::output_of, crate::specs::Output::clean_of))]
 pub fn survey_output(
     rt: &(impl Threads + Sync),
@@ -67,9 +72,12 @@ pub fn survey_output(
     survey_in_threads(rt, alloc, subject, input)
 }
 
-/// The program and the schedule that an input asks to run, or why it is refused. Of these
-/// `run_planned` writes what `output` writes for the task `run`, so a caller may let go of the
-/// input in between.
+/// Returns the program and the schedule of `input`. `run_planned` writes of them what `output`
+/// writes for the task `run`, so a caller may free the input in between.
+///
+/// # Errors
+///
+/// `Refused` with the reason why `input` is refused; `Memory` where memory runs out.
 #[tactic(auto, using(crate::proofs::AtOnce::of_why), unfolding(crate::specs::Output::output_of))]
 pub fn planned_run(
     alloc: Global,
@@ -87,7 +95,11 @@ pub fn planned_run(
     plan(alloc, subject, input)
 }
 
-/// The whole output for an input, or why there is none, in one thread.
+/// Returns the whole output for `input`, made in one thread.
+///
+/// # Errors
+///
+/// `Refused` with the reason why `input` is refused; `Memory` where memory runs out.
 #[tactic(auto, using(crate::proofs::AtOnce::of_text, crate::proofs::AtOnce::of_why), unfolding(crate::specs::Output::output_of))]
 pub fn output_alone(alloc: Global, task: &Task, input: &[u8]) -> Result<Vec<u8>, Fault<Refusal>>
     ensures output { AnswersJudged (λ out. out.items) (AreJudged task.now input.now) result
@@ -114,8 +126,13 @@ pub fn output_alone(alloc: Global, task: &Task, input: &[u8]) -> Result<Vec<u8>,
     }
 }
 
-/// The same, with the schedules of a batch or a survey read and run side by side. What is a fault in
-/// a batch there is made once more in one thread: it finds the first fault, and takes less memory.
+/// Returns the whole output for `input`, with the schedules of a batch or a survey read and run
+/// side by side. A batch that has a fault there is made once more in one thread, which finds the
+/// first fault, and takes less memory.
+///
+/// # Errors
+///
+/// `Refused` with the reason why `input` is refused; `Memory` where memory runs out.
 #[tactic(auto, using(crate::proofs::AtOnce::of_why), unfolding(crate::specs::Output::output_of))]
 pub fn output(
     rt: &(impl Threads + Sync),

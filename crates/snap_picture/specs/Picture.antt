@@ -104,7 +104,7 @@ abbrev pub IsPictureBy : {E : Type 0} → (Option Event → Type 0) → (Option 
 IsPictureBy IsWrong picture (Ok text) = (wrong : Option Event) × IsWrong wrong × (picture wrong ≡ Ok text)
 IsPictureBy IsWrong picture (Err r) = picture None ≡ Err r
 
--- The same of what is answered; a want of memory may stand in place of both.
+-- The picture that is answered; a want of memory may stand in place of it.
 abbrev pub AnswersPicture : (Option Event → Type 0) → Result (Vec ℕ Global) (Fault PictureRefusal) →
     (Option Event → Result (List ℕ) PictureRefusal) → Type 0
 AnswersPicture IsWrong (Ok out) picture = IsPictureBy IsWrong picture (Ok out.items)

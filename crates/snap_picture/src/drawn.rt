@@ -12,7 +12,7 @@ use snap_svg::Shape;
 use snap_words::Kind;
 use std::alloc::{AllocError, Global};
 
-/// The values before the first write.
+/// Returns the values before the first write.
 #[tactic(auto, unfolding(crate::specs::Shapes::first_period))]
 fn first_period<K: Kind>(
     alloc: Global,
@@ -24,7 +24,11 @@ fn first_period<K: Kind>(
     Ok(period_of(steps, 0, 0, values_at(alloc, history, 0)?))
 }
 
-/// What is drawn of a run whose items did this: a later shape lies above.
+/// Returns the shapes of a run whose items did `steps`; a later shape lies above the others.
+///
+/// # Errors
+///
+/// `AllocError` where memory runs out.
 #[tactic(auto, unfolding(crate::specs::Shapes::shapes_by))]
 pub fn shapes<K: Kind>(
     alloc: Global,

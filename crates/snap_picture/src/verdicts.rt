@@ -20,7 +20,7 @@ fn scan_of(verdict: &Verdict) -> Span
     }
 }
 
-/// The values after an item, where they are there.
+/// Returns the values after an item, if it is in the run.
 pub(crate) fn values_at<K: Kind>(
     alloc: Global,
     history: &Record<K>,
@@ -34,7 +34,7 @@ pub(crate) fn values_at<K: Kind>(
     }
 }
 
-/// A point with the state that it stands for, or that there is none.
+/// Returns a point with the state that it stands for, or that there is none.
 #[tactic(auto, unfolding(crate::specs::Shapes::verdict_shape))]
 fn verdict_shape<K: Kind>(
     alloc: Global,
@@ -54,7 +54,7 @@ fn verdict_shape<K: Kind>(
     }
 }
 
-/// Adds what is drawn of verdicts.
+/// Appends what is drawn of verdicts.
 pub(crate) fn push_verdicts<K: Kind>(
     alloc: Global,
     shapes: &mut Vec<Shape>,

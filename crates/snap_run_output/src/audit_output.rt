@@ -12,7 +12,7 @@ use snap_semantics::{Fault, Refusal};
 use snap_words::{Bits, Kind, KindTag, Multi, Seq};
 use std::alloc::Global;
 
-/// What each finished scan of a program of a kind stands for.
+/// Returns what is drawn of each finished scan of a program of a kind.
 #[tactic(auto, unfolding(crate::specs::ScheduleOutput::audit_listing))]
 fn audit_kind<K: Kind>(
     alloc: Global,
@@ -26,7 +26,11 @@ fn audit_kind<K: Kind>(
     Ok(audit_text_over::<K>(alloc, program, &schedule)?)
 }
 
-/// The verdicts of the finished scans of a program under a schedule, a line each.
+/// Returns the verdicts on the finished scans of `program` under `schedule`, a line each.
+///
+/// # Errors
+///
+/// `Refused` with the reason why `schedule` is refused; `Memory` where memory runs out.
 pub fn audit_program(
     alloc: Global,
     program: &Program,
@@ -34,7 +38,8 @@ pub fn audit_program(
 ) -> Result<Vec<u8>, Fault<Refusal>>
     ensures { Answers (λ out. out.items) result (audit_listing program.now schedule.now) }
 {
-    // Steps of an audit have code of their own, as those of `run` have, under a name more.
+    // The steps of an audit have code of their own, as the steps of `run` have, under another name
+    // of the kind.
     match program.kind() {
         KindTag::Seq => audit_kind::<OwnCode<OwnCode<Seq>>>(alloc, program, schedule),
         KindTag::Bits => audit_kind::<OwnCode<OwnCode<Bits>>>(alloc, program, schedule),

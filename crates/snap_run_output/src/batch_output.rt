@@ -14,7 +14,7 @@ use snap_text::{push_number, push_text};
 use std::alloc::{AllocError, Global};
 use std::thread::Threads;
 
-/// Adds a report behind the line of its number.
+/// Appends a report behind the line of its number.
 #[tactic(auto, using(snap_text::proofs::Texts::joined))]
 fn push_report(out: &mut Vec<u8>, number: u64, report: &Report) -> Result<(), AllocError>
     ensures { OnOk result (out.new.items ≡ out.old.items ++ numbered_report number report.now) }
@@ -25,7 +25,7 @@ fn push_report(out: &mut Vec<u8>, number: u64, report: &Report) -> Result<(), Al
     push_text(out, report.as_slice())
 }
 
-/// Adds reports, each behind the line of its number.
+/// Appends reports, each behind the line of its number.
 fn push_reports(out: &mut Vec<u8>, reports: &[Report]) -> Result<(), AllocError>
     requires { length reports.now < 2 ^ 64 }
     ensures { OnOk result (out.new.items ≡ out.old.items ++ reports_text 1 reports.now) }
@@ -36,7 +36,7 @@ fn push_reports(out: &mut Vec<u8>, reports: &[Report]) -> Result<(), AllocError>
     Ok(())
 }
 
-/// Reports, each behind the line of its number.
+/// Returns reports, each behind the line of its number.
 fn reports_text(alloc: Global, reports: &[Report]) -> Result<Vec<u8>, AllocError>
     requires { length reports.now < 2 ^ 64 }
     ensures { IfOk result (λ out. out.items ≡ reports_text 1 reports.now) }
@@ -46,8 +46,11 @@ fn reports_text(alloc: Global, reports: &[Report]) -> Result<Vec<u8>, AllocError
     Ok(out)
 }
 
-/// The report of the end of each of a program's schedules that texts are, behind the line of its
-/// number.
+/// Returns the report of the end of `program` under each of `texts`, behind the line of its number.
+///
+/// # Errors
+///
+/// `Refused` with the reason why the first text that is refused is; `Memory` where memory runs out.
 #[tactic(auto, unfolding(crate::specs::ScheduleOutput::batch_text))]
 pub fn batch_program(
     alloc: Global,
@@ -62,8 +65,12 @@ pub fn batch_program(
     Ok(reports_text(alloc, reports.as_slice())?)
 }
 
-/// What `batch_program` answers, if the schedules can be read and run side by side. A fault that is
-/// answered need not be that of the first text.
+/// Returns what `batch_program` returns, with the schedules read and run side by side.
+///
+/// # Errors
+///
+/// `Refused` with the reason why one of the texts is refused, which need not be the first; `Memory`
+/// where memory runs out.
 #[tactic(auto, unfolding(crate::specs::ScheduleOutput::batch_text))]
 pub fn batch_side_by_side(
     rt: &(impl Threads + Sync),

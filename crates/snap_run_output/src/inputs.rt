@@ -1,4 +1,5 @@
-//! What the tasks `run`, `audit` and `batch` write for the parts of an input, or why they refuse.
+//! The output of the tasks `run`, `audit` and `batch` for the parts of an input, or why they refuse
+//! it.
 ghost use Rattle.std.specs.Prelude.{◌≡◌, ◌≤◌, ◌<◌, Err, IfOk, Ok, length, map};
 ghost use Rattle.snap_semantics.specs.Answers.{Answers};
 ghost use Rattle.snap_semantics.specs.declared.fault.Fault.TheVariants.{Refused};
@@ -19,7 +20,7 @@ use snap_tasks::Subject;
 use std::alloc::Global;
 use std::thread::Threads;
 
-/// A program and the schedule that a text is.
+/// Returns a program with the schedule of a text.
 fn plan_texts(
     alloc: Global,
     program: Program,
@@ -32,8 +33,11 @@ fn plan_texts(
     plan(alloc, program, texts[0])
 }
 
-/// The program and the schedule that an input asks to run. The input is not needed any more for the
-/// run itself.
+/// Returns the program and the schedule of `input`, which the run itself does not need.
+///
+/// # Errors
+///
+/// `Refused` with the reason why `input` is refused; `Memory` where memory runs out.
 #[tactic(auto, unfolding(snap_input::specs::Input::parted))]
 pub fn planned_run(
     alloc: Global,
@@ -52,7 +56,11 @@ pub fn planned_run(
     plan_texts(alloc, program, texts)
 }
 
-/// A listing under a schedule, to its end.
+/// Returns the output of a listing under a schedule, run to its end.
+///
+/// # Errors
+///
+/// `Refused` with the reason why `input` is refused; `Memory` where memory runs out.
 pub fn run(alloc: Global, subject: Subject, input: &[u8]) -> Result<Vec<u8>, Fault<Refusal>>
     requires { length input.now ≤ max_input }
     ensures output { Answers (λ out. out.items) result
@@ -64,7 +72,7 @@ pub fn run(alloc: Global, subject: Subject, input: &[u8]) -> Result<Vec<u8>, Fau
     Ok(run_planned(alloc, run)?)
 }
 
-/// The verdicts of a program under the schedule that a text is.
+/// Returns the verdicts on a program under the schedule of a text.
 fn audit_texts(alloc: Global, program: &Program, texts: &[&[u8]]) -> Result<Vec<u8>, Fault<Refusal>>
     requires { 0 < length texts.now }
     ensures { Answers (λ out. out.items) result
@@ -73,7 +81,11 @@ fn audit_texts(alloc: Global, program: &Program, texts: &[&[u8]]) -> Result<Vec<
     audit_program(alloc, program, texts[0])
 }
 
-/// The verdicts of a listing under a schedule.
+/// Returns the verdicts on a listing under a schedule.
+///
+/// # Errors
+///
+/// `Refused` with the reason why `input` is refused; `Memory` where memory runs out.
 #[tactic(auto, unfolding(snap_input::specs::Input::parted))]
 pub fn audit(alloc: Global, subject: Subject, input: &[u8]) -> Result<Vec<u8>, Fault<Refusal>>
     requires { length input.now ≤ max_input }
@@ -88,8 +100,12 @@ pub fn audit(alloc: Global, subject: Subject, input: &[u8]) -> Result<Vec<u8>, F
     audit_texts(alloc, &program, texts)
 }
 
-/// The reports of a listing under many schedules. Another number of parts is found before they are
+/// Returns the reports of a listing under many schedules. The parts are counted before they are
 /// collected.
+///
+/// # Errors
+///
+/// `Refused` with the first reason why `input` is refused; `Memory` where memory runs out.
 #[tactic(auto, unfolding(crate::specs::ScheduleOutput::batched))]
 pub fn batch(alloc: Global, subject: Subject, input: &[u8]) -> Result<Vec<u8>, Fault<Refusal>>
     requires { length input.now ≤ max_input }
@@ -104,8 +120,12 @@ pub fn batch(alloc: Global, subject: Subject, input: &[u8]) -> Result<Vec<u8>, F
     batch_program(alloc, &program, texts)
 }
 
-/// The same, if the schedules can be read and run side by side. A fault that is answered need not be
-/// the first.
+/// Returns what `batch` returns, with the schedules read and run side by side.
+///
+/// # Errors
+///
+/// `Refused` with a reason why `input` is refused, which need not be the first; `Memory` where
+/// memory runs out.
 #[tactic(auto, unfolding(crate::specs::ScheduleOutput::batched))]
 pub fn batch_in_threads(
     rt: &(impl Threads + Sync),

@@ -1,4 +1,4 @@
-//! `run_planned`: what is written for a listing under a schedule that is run to its end, without a
+//! `run_planned`: the output of a listing under a schedule that is run to its end, without a
 //! session. `PlannedRun` has what such a run needs, and nothing of the texts that it was read from.
 ghost use Rattle.std.specs.Prelude.{◌≡◌, IfOk};
 ghost use Rattle.snap_semantics.specs.Answers.{Answers};
@@ -15,14 +15,14 @@ use snap_text::push_text;
 use snap_words::{Bits, Kind, KindTag, Multi, Seq};
 use std::alloc::{AllocError, Global};
 
-/// The program and the schedule that an input asks to run.
+/// The program and the schedule of an input.
 #[derive(Drop)]
 pub struct PlannedRun {
     pub program: Program,
     pub schedule: Schedule,
 }
 
-/// A program over a whole schedule, of which nothing is kept but what callers saw.
+/// Runs a program over a whole schedule, and keeps what callers saw alone.
 fn end_of<K: Kind>(
     alloc: Global,
     program: &Program,
@@ -34,8 +34,8 @@ fn end_of<K: Kind>(
     run_to_end(alloc, program, &schedule)
 }
 
-/// What a session without marks answers to `run` at the beginning of a schedule, and the report of
-/// the end. No session is opened for it.
+/// Returns the reply of a session without marks to `run` at the beginning of a schedule, and the
+/// report of the end. No session is opened for it.
 #[tactic(auto, using(snap_text::proofs::Texts::joined))]
 fn run_kind<K: Kind>(
     alloc: Global,
@@ -54,7 +54,7 @@ fn run_kind<K: Kind>(
     Ok(out)
 }
 
-/// The same, whatever the kind of the program.
+/// Returns the reply to `run` and the report of the end, whatever the kind of the program.
 fn run_schedule(alloc: Global, program: &Program, schedule: Schedule) -> Result<Vec<u8>, AllocError>
     ensures { IfOk result (λ out. out.items ≡ end_text program.now schedule) }
 {
@@ -65,7 +65,11 @@ fn run_schedule(alloc: Global, program: &Program, schedule: Schedule) -> Result<
     }
 }
 
-/// A program and the schedule that a text is.
+/// Returns `program` with the schedule that `schedule` spells.
+///
+/// # Errors
+///
+/// `Refused` with the reason why `schedule` is refused; `Memory` where memory runs out.
 #[tactic(auto, unfolding(crate::specs::RunOutput::run_listing))]
 pub fn plan(alloc: Global, program: Program, schedule: &[u8]) -> Result<PlannedRun, Fault<Refusal>>
     ensures { Answers (λ run. end_text run.program run.schedule) result
@@ -75,7 +79,11 @@ pub fn plan(alloc: Global, program: Program, schedule: &[u8]) -> Result<PlannedR
     Ok(PlannedRun { program, schedule })
 }
 
-/// What is written for a run that was planned.
+/// Returns the output of a run that was planned.
+///
+/// # Errors
+///
+/// `AllocError` where memory runs out.
 pub fn run_planned(alloc: Global, run: PlannedRun) -> Result<Vec<u8>, AllocError>
     ensures { IfOk result (λ out. out.items ≡ end_text run.program run.schedule) }
 {

@@ -68,7 +68,7 @@ first_is [] (suc k) x ys e = absurd cc
 first_is (z ∷ xs) zero x ys e = cc
 first_is (z ∷ xs) (suc k) x ys e = first_is xs k x ys e
 
--- and those behind it
+-- the items behind the first one that is left
 rest_is : (xs : List Item) (k : ℕ) (x : Item) (ys : List Item) → drop k xs ≡ x ∷ ys → drop (suc k) xs ≡ ys
 rest_is [] zero x ys e = absurd cc
 rest_is [] (suc k) x ys e = absurd cc

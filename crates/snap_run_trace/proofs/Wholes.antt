@@ -37,7 +37,7 @@ joined a b h k = record {
       ∙ ap (λ n. feeds a + n) k.count ∙ sym (feeds_append a b);
 }
 
--- and has one at least
+-- a text has at least one line
 pub record IsSome (t : List ℕ) : Type 0 where
   pub whole : IsWhole t
   pub some : 0 < feeds t

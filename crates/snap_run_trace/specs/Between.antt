@@ -22,7 +22,7 @@ abbrev pub state_text : KindTag → State → List Event → List ℕ
 state_text g S es =
     values_line (values S) ++ register_lines g S.memory ++ processes_lines g 1 S.processes ++ event_lines es
 
--- the same of process i alone
+-- the report text of process i alone
 abbrev pub process_text : KindTag → ℕ → State → List Event → List ℕ
 process_text g i S es =
     values_line (values S) ++ register_lines g S.memory ++ process_lines g i (process_at S i) ++ event_lines es

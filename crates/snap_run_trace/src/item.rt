@@ -15,7 +15,7 @@ use snap_text::{push_changes, push_number, push_text};
 use snap_words::Kind;
 use std::alloc::{AllocError, Global};
 
-/// The number of the line that an item runs, where its process stands so.
+/// Returns the number of the line that an item runs, by the status of its process.
 fn line_run(item: Item, status: Status) -> Option<u64>
     ensures { result ≡ line_run item status }
 {
@@ -25,7 +25,7 @@ fn line_run(item: Item, status: Status) -> Option<u64>
     }
 }
 
-/// What callers see of an item of this number.
+/// Returns what callers see of an item of this number.
 fn events_of(
     alloc: Global,
     number: u64,
@@ -50,7 +50,7 @@ fn events_of(
     Ok(events)
 }
 
-/// Adds the line of a local, with its process in place of its first space.
+/// Appends the line of a local, with its process in place of its first space.
 #[tactic(auto, using(snap_text::proofs::Texts::joined))]
 fn push_of_process(out: &mut Vec<u8>, i: u32, line: &[u8]) -> Result<(), AllocError>
     ensures { OnOk result (out.new.items ≡ out.old.items ++ of_process i line.now) }
@@ -65,8 +65,8 @@ fn push_of_process(out: &mut Vec<u8>, i: u32, line: &[u8]) -> Result<(), AllocEr
     }
 }
 
-/// Makes the text of what an item that writes there can change in a report, and of events: each
-/// line says of whom it speaks. The line of a local is made in memory of its own.
+/// Makes the text of what an item that writes at `place` can change in a report, and of events:
+/// each line names its owner. The line of a local is made in memory of its own.
 #[tactic(auto, using(snap_text::proofs::Texts::joined))]
 fn touched_text<K: Kind>(
     text: &mut Vec<u8>,
@@ -89,7 +89,7 @@ fn touched_text<K: Kind>(
     event_lines(text, events)
 }
 
-/// Adds ` at ` and the text of the line that was run, where one was.
+/// Appends ` at ` and the text of the line that was run, if one was.
 #[tactic(auto, using(snap_text::proofs::Texts::joined))]
 fn push_run(out: &mut Vec<u8>, texts: &LineTexts, run: Option<u64>) -> Result<(), AllocError>
     ensures { OnOk result (out.new.items ≡ out.old.items ++ run_text texts.now run) }
@@ -106,7 +106,7 @@ fn push_run(out: &mut Vec<u8>, texts: &LineTexts, run: Option<u64>) -> Result<()
     }
 }
 
-/// Adds `item T I `.
+/// Appends `item T I `.
 #[tactic(auto, using(snap_text::proofs::Texts::joined))]
 fn push_numbers(out: &mut Vec<u8>, number: u64, process: u32) -> Result<(), AllocError>
     ensures { OnOk result (out.new.items ≡ out.old.items ++ number_text number process) }
@@ -118,7 +118,7 @@ fn push_numbers(out: &mut Vec<u8>, number: u64, process: u32) -> Result<(), Allo
     push_text(out, b" ")
 }
 
-/// Adds `item T I OUTCOME`, and the line that was run.
+/// Appends `item T I OUTCOME`, and the line that was run.
 #[tactic(auto, using(snap_text::proofs::Texts::joined), unfolding(crate::specs::Step::head_text))]
 fn push_did(
     out: &mut Vec<u8>,
@@ -147,7 +147,7 @@ pub(crate) struct Sheet {
 }
 
 impl Sheet {
-    /// A sheet without text.
+    /// Returns a sheet without text.
     pub(crate) fn new(alloc: Global) -> Sheet
         ensures { result.out.items ≡ [] }
     {
@@ -159,7 +159,7 @@ impl Sheet {
         }
     }
 
-    /// What is written.
+    /// Returns the text of the sheet.
     pub(crate) fn into_text(self) -> Vec<u8>
         ensures { result.items ≡ self.out.items }
     {
@@ -173,7 +173,7 @@ impl Sheet {
     }
 }
 
-/// Does an item of this number, and adds what it did and what it changed.
+/// Does item number `number`, and appends what it did and what it changed.
 #[tactic(auto, using(snap_text::proofs::Texts::joined), unfolding(crate::specs::Step::done_text))]
 pub(crate) fn push_item<K: Kind>(
     sheet: &mut Sheet,

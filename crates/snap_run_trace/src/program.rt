@@ -11,7 +11,7 @@ use snap_semantics::{Fault, Refusal};
 use snap_words::{Bits, Kind, KindTag, Multi, Seq};
 use std::alloc::Global;
 
-/// What each item of the run of a program of a kind did under a schedule.
+/// Returns what each item of the run of a program of a kind did under a schedule.
 #[tactic(auto, unfolding(crate::specs::Traces::trace_listing))]
 fn trace_kind<K: Kind>(
     alloc: Global,
@@ -25,7 +25,11 @@ fn trace_kind<K: Kind>(
     Ok(trace::<K>(alloc, program, &schedule)?)
 }
 
-/// What each item of the run of a program did under a schedule, and what it changed.
+/// Returns what each item of the run of `program` under `schedule` did, and what it changed.
+///
+/// # Errors
+///
+/// `Refused` with the reason why `schedule` is refused; `Memory` where memory runs out.
 pub fn trace_program(
     alloc: Global,
     program: &Program,

@@ -11,7 +11,11 @@ use snap_sched::Schedule;
 use snap_words::Kind;
 use std::alloc::{AllocError, Global};
 
-/// What each item of a program's run over a schedule did, and what it changed.
+/// Returns what each item of the run of `program` over `schedule` did, and what it changed.
+///
+/// # Errors
+///
+/// `AllocError` where memory runs out.
 pub fn trace<K: Kind>(
     alloc: Global,
     program: &Program,

@@ -14,7 +14,7 @@ use snap_semantics::{Fault, Refusal};
 use snap_tasks::Subject;
 use std::alloc::Global;
 
-/// What each item of a program's run did under the schedule that a text is.
+/// Returns what each item of a program's run did under the schedule of a text.
 fn trace_texts(alloc: Global, program: &Program, texts: &[&[u8]]) -> Result<Vec<u8>, Fault<Refusal>>
     requires { 0 < length texts.now }
     ensures { Answers (λ out. out.items) result
@@ -23,7 +23,11 @@ fn trace_texts(alloc: Global, program: &Program, texts: &[&[u8]]) -> Result<Vec<
     trace_program(alloc, program, texts[0])
 }
 
-/// What each item of a listing's run under a schedule did.
+/// Returns what each item of a listing's run under a schedule did.
+///
+/// # Errors
+///
+/// `Refused` with the reason why `input` is refused; `Memory` where memory runs out.
 #[tactic(auto, unfolding(snap_input::specs::Input::parted))]
 pub fn trace_input(alloc: Global, subject: Subject, input: &[u8]) -> Result<Vec<u8>, Fault<Refusal>>
     requires { length input.now ≤ max_input }

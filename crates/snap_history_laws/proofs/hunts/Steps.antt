@@ -99,7 +99,7 @@ none_found laws g r valid kept most enough (Some f) is =
     absurd
     (none_takes_more g r valid kept most found.process found.own.call found.item found.own.update enough found.takes)
 
--- so none is found that takes more than enough
+-- no operation of a shipped listing is found that takes more than enough steps
 pub no_overrun : StepsAreOfOperations → (g : KindTag) (b : Option StepBound) (r : Run) → r.source ≡ shipped g →
     IsValidRun r → KeepsPromises g r → StepsSuffice g r.shape b → long_of r b ≡ None
 no_overrun laws g None r source valid kept h = refl

@@ -87,7 +87,7 @@ module _ (r : Run) (p : ℕ) where
   pub told_is : (u : OwnTurn) → Contains (told_in r p) u → IsTurnAt u
   told_is u has = told_later 0 (length r.items) u (omega arith) has
 
-  -- and each item of the process has its turn
+  -- each item of the process has its turn
   kept : (mine : Bool) (u v : OwnTurn) (us : List OwnTurn) → Contains us u → Contains (put_if mine v us) u
   kept true u v us has = behind v u us has
   kept false u v us has = has

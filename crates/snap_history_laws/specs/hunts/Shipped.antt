@@ -28,7 +28,7 @@ FindsNothing g =
     (p : Plan) (w : Wanted) (seed k : ℕ) (found : Option Failure) → IsPlan p → fits (shipped g).kind p.shape ≡ true →
     w.collects ≡ None → StepsSuffice g p.shape w.steps → Finds w (run_of (shipped g) p seed k) found → found ≡ None
 
--- So no hunt comes to a run that fails.
+-- No hunt comes to a run that fails.
 abbrev pub HuntsFindNone : KindTag → Type 0
 HuntsFindNone g =
     (p : Plan) (w : Wanted) (seed runs : ℕ) (first : Option Found) → IsPlan p →

@@ -32,7 +32,7 @@ abbrev pub told_at : List SeatView → Told
 told_at [] p = []
 told_at (s ∷ ss) p = if nat_eq p s.process then s.own else told_at ss p
 
--- They were told the turns of the record.
+-- The seats of a closed desk were told the turns of the record.
 abbrev pub SeatsAreToldTheRecord : Type 0
 SeatsAreToldTheRecord = (base : Setting) (seats : List SeatView) (kept : Run) → IsClosed base seats kept →
     (p : ℕ) → told_at seats p ≡ told_in kept p
@@ -47,11 +47,11 @@ DesksTellLinearizations = (base : Setting) (seats : List SeatView) (kept : Run) 
 abbrev pub OwnsWhatItSaw : SeatView → Type 0
 OwnsWhatItSaw s = (items : List Item) × IsPrefix items s.seen × (s.own ≡ turns_of s.desk.base s.process items)
 
--- the same desk and process
+-- two seats have the same desk and process
 abbrev pub IsSameSeat : SeatView → SeatView → Type 0
 IsSameSeat before after = (after.desk ≡ before.desk) × (after.process ≡ before.process)
 
--- So it is of a new seat, after each turn, and where a seat has seen more since then.
+-- Seats own what they saw: a new seat, a seat after each turn, and a seat that has seen more since then.
 pub record SeatsOwnWhatTheySaw : Type 0 where
   pub at_first : (desk : DeskView) (process : ℕ) → OwnsWhatItSaw (seat_of desk process)
   pub after_turn : (before after : SeatView) (x : Item) (number : ℕ) (outcome : Outcome) → IsSameSeat before after →

@@ -55,7 +55,8 @@ pub record TellsLinearizations (base : Setting) (scripts : List Script) (turns :
   pub linearizable : IsLinearizableAsTold base.shape.w (told_in kept)
   pub nobody_invented : NobodyIsInvented base.shape.n base.shape.w (told_in kept)
 
--- So it is where the listing is a shipped one, where the gate of the run may answer `may`.
+-- What the threads of a live run of a shipped listing are told is linearizable, where the gate of the run may answer
+-- `may`.
 abbrev pub LiveRunsAreLinearizable : (may : ℕ → ℕ → Bool → Type 0) → Type 0
 LiveRunsAreLinearizable may = (g : KindTag) (shape : Counts) (scripts : List Script) (limit : ℕ) (kept : Run)
     (turns : List (List Turn)) → IsShapeFor g shape →

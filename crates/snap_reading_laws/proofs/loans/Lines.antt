@@ -131,7 +131,7 @@ module _ (l : Locals) (m : Memory) where
   plain : Went l m act.Other m l
   plain = kept l l m m act.Other refl refl refl refl tt
 
-  -- or sets a scalar
+  -- an item sets a scalar
   scalar : (x : Name) (v : ℕ) → Went l m act.Other m (with_scalar x v l)
   scalar x v = kept l (with_scalar x v l) m m act.Other refl refl refl refl tt
 

@@ -1,5 +1,5 @@
--- `plan` of snap_output (src/outputs.rt): the proof of what its contract says.
--- The program and the schedule that a listing and a text are.
+-- `plan` of snap_output (src/outputs.rt): the proof of what its contract says. Returns the program of a listing and the
+-- schedule of a text.
 use Rattle.std.proofs.Common.{ℕ, List, Result, subst}
 use Rattle.snap_semantics.specs.Answers.{Answers}
 use Rattle.snap_semantics.specs.declared.refusal.Refusal.{Refusal}

@@ -1,5 +1,5 @@
--- `push_reports` of snap_run_output (src/batch_output.rt): what holds at the head of each of its loops.
--- Adds reports, each behind the line of its number.
+-- `push_reports` of snap_run_output (src/batch_output.rt): what holds at the head of each of its loops. Appends
+-- reports, each behind the line of its number.
 use Rattle.std.proofs.Common.{◌≡◌, ◌++◌, ◌+◌, drop}
 use Rattle.snap_batch.specs.Reports.{reports_text}
 use Rattle.snap_run_output.proofs.batch_output.push_reports.Given as goal

@@ -1,5 +1,5 @@
--- `audit` of snap_run_output (src/inputs.rt): the proof of what its contract says.
--- The verdicts of a listing under a schedule.
+-- `audit` of snap_run_output (src/inputs.rt): the proof of what its contract says. Returns the verdicts on a listing
+-- under a schedule.
 use Rattle.std.proofs.Common.{map, sym}
 use Rattle.snap_run_output.specs.ScheduleOutput.{verdicts_text}
 use Rattle.snap_input.specs.Parts.{parts_of}

@@ -1,5 +1,5 @@
--- `batch` of snap_run_output (src/inputs.rt): the proof of what its contract says.
--- The reports of a listing under many schedules.
+-- `batch` of snap_run_output (src/inputs.rt): the proof of what its contract says. Returns the reports of a listing
+-- under many schedules.
 use Rattle.std.proofs.Common.{map, sym}
 use Rattle.snap_input.specs.Parts.{parts_of}
 use Rattle.snap_run_output.specs.ScheduleOutput.{batch_text, batched}

@@ -1,5 +1,5 @@
--- `batch_in_threads` of snap_run_output (src/inputs.rt): the proof of what its contract says.
--- The same, if the schedules can be read and run side by side.
+-- `batch_in_threads` of snap_run_output (src/inputs.rt): the proof of what its contract says. Returns what `batch`
+-- returns, with the schedules read and run side by side.
 use Rattle.std.proofs.Common.{map, sym}
 use Rattle.snap_input.specs.Parts.{parts_of}
 use Rattle.snap_run_output.specs.ScheduleOutput.{batch_text, batched}

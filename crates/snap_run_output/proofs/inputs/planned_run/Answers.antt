@@ -1,5 +1,5 @@
--- `planned_run` of snap_run_output (src/inputs.rt): the proof of what its contract says.
--- The program and the schedule that an input asks to run.
+-- `planned_run` of snap_run_output (src/inputs.rt): the proof of what its contract says. Returns the program and the
+-- schedule of `input`, which the run itself does not need.
 use Rattle.std.proofs.Common.{map, sym}
 use Rattle.snap_run_output.specs.RunOutput.{end_text, ended_text}
 use Rattle.snap_input.specs.Parts.{parts_of}

@@ -1,5 +1,5 @@
--- `push_item` of snap_run_trace (src/item.rt): the proof of what its contract says.
--- Does an item of this number, and adds what it did and what it changed.
+-- `push_item` of snap_run_trace (src/item.rt): the proof of what its contract says. Does item number `number`, and
+-- appends what it did and what it changed.
 use Rattle.std.proofs.Common.{◌≡◌, ℕ, ◌-◌, ◌<◌, List, [], ◌++◌, length, ap, ◌∙◌, arith, subst}
 use Rattle.snap_semantics.specs.declared.event.Event.{Event}
 use Rattle.snap_semantics.specs.IsListing.{IsListing}

@@ -1,5 +1,5 @@
--- `trace` of snap_run_trace (src/run_trace.rt): what holds at the head of each of its loops.
--- What each item of a program's run over a schedule did, and what it changed.
+-- `trace` of snap_run_trace (src/run_trace.rt): what holds at the head of each of its loops. Returns what each item of
+-- the run of `program` over `schedule` did, and what it changed.
 use Rattle.std.proofs.Common.{map}
 use Rattle.snap_runs.specs.Run.{run_over}
 use Rattle.snap_listing_printer.specs.LineTexts.{seen_line}

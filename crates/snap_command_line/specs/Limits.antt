@@ -12,7 +12,7 @@ HasLimits (Help text) = ⊤
 HasLimits (Wrong text) = ⊤
 HasLimits NoText = ⊤
 
--- the same, where a refusal is explained in any case if `more`
+-- a command line in which a refusal is explained in any case if `more`
 abbrev pub explained_if : Bool → CommandLine → CommandLine
 explained_if more (Asks a) = Asks (record { request = a.request; explains = a.explains || more; strict = a.strict })
 explained_if more (Help text) = Help text

@@ -1,4 +1,4 @@
-//! `request_of_arguments`: the subcommands and options that snaplab takes, and what they ask for.
+//! `request_of_arguments`: the subcommands and options of snaplab, and the request that they make.
 ghost use Rattle.std.specs.Prelude.{◌≡◌, ◌≤◌, IfOk, IfSome, codes};
 ghost use Rattle.clap.specs.Matches.{first_value, found_of};
 ghost use Rattle.clap.specs.declared.parser.matches.ArgMatches.{ArgMatches};
@@ -24,7 +24,7 @@ const VERSION: &str = "0.1.0";
 /// The kinds that `--shipped` takes.
 const KINDS: &[&str] = &["seq", "bit", "multi"];
 
-/// The most that it has where no limit is given.
+/// The most turns of a process if no limit is given.
 const USUAL_LIMIT: u64 = 100_000;
 
 /// The most processes that may crash in a model: all of them.
@@ -38,7 +38,8 @@ const NO_FILES: &str = "\
 snaplab takes no names of files, but reads standard input: use `<`,
        as in `snaplab check < FILE`";
 
-/// A subcommand with its help. It takes names of files, for which `NO_FILES` is said.
+/// Returns a subcommand with its help. The subcommand takes names of files, for which `NO_FILES` is
+/// said.
 fn subcommand<'a>(alloc: Global, told: Told) -> Result<Command<'a>, AllocError> {
     let (name, about, more) = told;
     let files = Arg::new(alloc, "FILE").num_args(0..=9).hide(true);
@@ -48,7 +49,7 @@ fn subcommand<'a>(alloc: Global, told: Told) -> Result<Command<'a>, AllocError> 
         .arg(files)
 }
 
-/// A subcommand that runs a listing: one of the input, or a shipped one.
+/// Returns a subcommand that runs a listing: one of the input, or a shipped one.
 fn running<'a>(alloc: Global, told: Told) -> Result<Command<'a>, AllocError> {
     let shipped = Arg::new(alloc, "shipped")
         .long("shipped")
@@ -58,7 +59,7 @@ fn running<'a>(alloc: Global, told: Told) -> Result<Command<'a>, AllocError> {
     subcommand(alloc, told)?.arg(shipped)
 }
 
-/// The subcommand that plays scripts.
+/// Returns the subcommand that plays scripts.
 fn live<'a>(alloc: Global) -> Result<Command<'a>, AllocError> {
     let limit = Arg::new(alloc, "limit")
         .long("limit")
@@ -69,7 +70,7 @@ fn live<'a>(alloc: Global) -> Result<Command<'a>, AllocError> {
     running(alloc, LIVE)?.arg(limit)
 }
 
-/// An option without a value.
+/// Returns an option without a value.
 fn flag<'a>(alloc: Global, name: &'a str, help: &'a str) -> Arg<'a> {
     Arg::new(alloc, name)
         .long(name)
@@ -77,7 +78,7 @@ fn flag<'a>(alloc: Global, name: &'a str, help: &'a str) -> Arg<'a> {
         .help(help)
 }
 
-/// The subcommand that surveys runs.
+/// Returns the subcommand that surveys runs.
 fn survey<'a>(alloc: Global) -> Result<Command<'a>, AllocError> {
     let strict = flag(
         alloc,
@@ -87,7 +88,7 @@ fn survey<'a>(alloc: Global) -> Result<Command<'a>, AllocError> {
     running(alloc, SURVEY)?.arg(strict)
 }
 
-/// The subcommand that judges.
+/// Returns the subcommand that judges.
 fn judge<'a>(alloc: Global) -> Result<Command<'a>, AllocError> {
     let history = flag(alloc, "history", "Judges a history: the whole input is one");
     let history = history.conflicts_with("shipped")?;
@@ -100,7 +101,7 @@ fn judge<'a>(alloc: Global) -> Result<Command<'a>, AllocError> {
     running(alloc, JUDGE)?.arg(history)?.arg(most)
 }
 
-/// The subcommand that writes a model.
+/// Returns the subcommand that writes a model.
 fn promela<'a>(alloc: Global) -> Result<Command<'a>, AllocError> {
     let crashes = Arg::new(alloc, "crashes")
         .long("crashes")
@@ -111,7 +112,7 @@ fn promela<'a>(alloc: Global) -> Result<Command<'a>, AllocError> {
     running(alloc, PROMELA)?.arg(crashes)
 }
 
-/// The option that has refusals explained.
+/// Returns the option that has refusals explained.
 fn explain<'a>(alloc: Global) -> Arg<'a> {
     flag(
         alloc,
@@ -121,7 +122,7 @@ fn explain<'a>(alloc: Global) -> Arg<'a> {
     .global(true)
 }
 
-/// A command with the subcommands that read a text or an image.
+/// Returns a command with the subcommands that read a text or an image.
 fn with_texts<'a>(alloc: Global, command: Command<'a>) -> Result<Command<'a>, AllocError> {
     let mut command = command;
     for told in OF_TEXTS {
@@ -130,7 +131,7 @@ fn with_texts<'a>(alloc: Global, command: Command<'a>) -> Result<Command<'a>, Al
     Ok(command)
 }
 
-/// A command with the subcommands that run a listing.
+/// Returns a command with the subcommands that run a listing.
 fn with_runs<'a>(alloc: Global, command: Command<'a>) -> Result<Command<'a>, AllocError> {
     let mut command = command;
     for told in OF_RUNS {
@@ -139,7 +140,7 @@ fn with_runs<'a>(alloc: Global, command: Command<'a>) -> Result<Command<'a>, All
     Ok(command)
 }
 
-/// The arguments that the program takes.
+/// Returns the arguments that the program takes.
 fn command<'a>(alloc: Global) -> Result<Command<'a>, AllocError> {
     let command = Command::new(alloc, "snaplab")
         .override_help(HELP)
@@ -155,7 +156,7 @@ fn command<'a>(alloc: Global) -> Result<Command<'a>, AllocError> {
         .subcommand(promela(alloc)?)
 }
 
-/// The limit that is given, where it is one that processes may have, and else the usual one.
+/// Returns the limit that is given, if processes may have it, or else the usual one.
 fn limit_or_usual(given: Option<u64>) -> u64
     ensures value { result ≡ limit_or_usual given }
     ensures limit { IsLimit result }
@@ -166,8 +167,8 @@ fn limit_or_usual(given: Option<u64>) -> u64
     }
 }
 
-/// The limit that a subcommand's arguments ask for, where it takes one. It takes no other than
-/// these.
+/// Returns the limit among a subcommand's arguments, if it takes one. A subcommand takes no other
+/// limit.
 fn limit_of(arguments: &ArgMatches<'_>) -> u64
     ensures given { IsLimitIn (found_of arguments.now) result }
     ensures limit { IsLimit result }
@@ -175,8 +176,8 @@ fn limit_of(arguments: &ArgMatches<'_>) -> u64
     limit_or_usual(number_of(arguments, "limit"))
 }
 
-/// The most configurations that a search is to keep, where a number is given, and else the usual
-/// number.
+/// Returns the most configurations that a search is to keep, if a number is given, or else the
+/// usual number.
 fn most_or_usual(given: Option<u64>) -> u64
     ensures value { result ≡ most_or_usual given }
     ensures some { 1 ≤ result }
@@ -187,7 +188,7 @@ fn most_or_usual(given: Option<u64>) -> u64
     }
 }
 
-/// The most configurations that a search is to keep by a subcommand's arguments.
+/// Returns the most configurations that a search is to keep by a subcommand's arguments.
 fn most_of(arguments: &ArgMatches<'_>) -> u64
     ensures given { IsMostIn (found_of arguments.now) result }
     ensures some { 1 ≤ result }
@@ -195,7 +196,7 @@ fn most_of(arguments: &ArgMatches<'_>) -> u64
     most_or_usual(number_of(arguments, "most"))
 }
 
-/// How many processes may crash at any time, where a number is given, and else none.
+/// Returns how many processes may crash at any time, if a number is given, or else none.
 fn crashes_or_none(given: Option<u64>) -> u64
     ensures { result ≡ crashes_or_none given }
 {
@@ -205,14 +206,14 @@ fn crashes_or_none(given: Option<u64>) -> u64
     }
 }
 
-/// How many processes may crash at any time by a subcommand's arguments.
+/// Returns how many processes may crash at any time by a subcommand's arguments.
 fn crashes_of(arguments: &ArgMatches<'_>) -> u64
     ensures { AreCrashesIn (found_of arguments.now) result }
 {
     crashes_or_none(number_of(arguments, "crashes"))
 }
 
-/// The listing that a subcommand's arguments ask for.
+/// Returns the listing among a subcommand's arguments.
 fn subject_of(arguments: &ArgMatches<'_>) -> Option<Subject>
     ensures { result ≡ subject_of (first_value (found_of arguments.now) (codes "shipped")) }
 {
@@ -222,7 +223,7 @@ fn subject_of(arguments: &ArgMatches<'_>) -> Option<Subject>
     }
 }
 
-/// What the options of a subcommand say.
+/// Returns the options of a subcommand.
 fn options_of(arguments: &ArgMatches<'_>) -> Option<Options>
     ensures given { IfSome result (AreOptionsIn (found_of arguments.now)) }
     ensures right { IfSome result AreOptions }
@@ -237,7 +238,7 @@ fn options_of(arguments: &ArgMatches<'_>) -> Option<Options>
     })
 }
 
-/// What the subcommand of this name asks for, by its own arguments and by all of them.
+/// Returns the request of the subcommand `name`, by its own arguments and by all of them.
 fn asked_by(name: &str, own: &ArgMatches<'_>, all: &ArgMatches<'_>) -> Option<Invocation>
     ensures asked { IfSome result (IsAskedBy name.now (found_of own.now) (found_of all.now)) }
     ensures limit { IfSome result (λ asked. HasLimit asked.request) }
@@ -253,7 +254,7 @@ fn asked_by(name: &str, own: &ArgMatches<'_>, all: &ArgMatches<'_>) -> Option<In
     })
 }
 
-/// Whether the name of a file stands behind the subcommand.
+/// Returns whether the name of a file stands behind the subcommand.
 fn names_a_file(matches: &ArgMatches<'_>) -> bool {
     match matches.subcommand() {
         Some((_, arguments)) => arguments.contains_id("FILE"),
@@ -261,7 +262,7 @@ fn names_a_file(matches: &ArgMatches<'_>) -> bool {
     }
 }
 
-/// What the arguments of a subcommand ask for.
+/// Returns the request of the arguments of a subcommand.
 fn request_by(matches: &ArgMatches<'_>) -> Option<Invocation>
     ensures asked { IfSome result (IsAsked matches.now) }
     ensures limit { IfSome result (λ asked. HasLimit asked.request) }
@@ -270,7 +271,11 @@ fn request_by(matches: &ArgMatches<'_>) -> Option<Invocation>
     asked_by(name, arguments, matches)
 }
 
-/// What the arguments ask for, the program's own name first.
+/// Returns the request of the arguments, the program's own name first.
+///
+/// # Errors
+///
+/// The error of `clap` where the arguments are invalid, or ask for help or the version.
 pub fn request_of_arguments<'a>(alloc: Global, arguments: &'a [String]) -> Result<Invocation, Error>
     ensures asked { IfOk result (λ asked. (m : ArgMatches) × IsAsked m asked) }
     ensures limit { IfOk result (λ asked. HasLimit asked.request) }

@@ -22,9 +22,9 @@ pub struct Invocation {
 /// What the arguments of a command line come to.
 #[derive(Drop)]
 pub enum CommandLine {
-    /// They ask for this.
+    /// The arguments make this request.
     Asks(Invocation),
-    /// They ask for help, or for the version: its text.
+    /// The arguments ask for help, or for the version: its text.
     Help(String),
     /// Invalid arguments, with the message.
     Wrong(String),
@@ -33,7 +33,7 @@ pub enum CommandLine {
 }
 
 impl CommandLine {
-    /// The same, where a refusal is explained in any case if `explains`.
+    /// Returns the same command line, in which a refusal is explained in any case if `explains`.
     pub fn explained_if(self, explains: bool) -> CommandLine
         ensures same { result ≡ explained_if explains self }
         ensures limits { HasLimits self → HasLimits result }
@@ -49,7 +49,7 @@ impl CommandLine {
     }
 }
 
-/// What is said where the arguments ask for no task.
+/// Returns the message where the arguments name no task.
 fn explained(alloc: Global, error: &Error) -> Result<CommandLine, AllocError>
     ensures matched { IfOk result IsMatched }
     ensures limits { IfOk result HasLimits }
@@ -67,12 +67,12 @@ fn explained(alloc: Global, error: &Error) -> Result<CommandLine, AllocError>
     }
 }
 
-/// Returns what arguments come to, the program's own name first. What they ask for is what `clap`
-/// has found in them asks for; that it finds what stands there is its own promise.
+/// Returns what the arguments come to, the program's own name first. Their request is that of what
+/// `clap` has found in them; that `clap` finds what stands there is its own promise.
 ///
 /// # Errors
 ///
-/// Memory ran out.
+/// `AllocError` where memory runs out.
 pub fn read_arguments(alloc: Global, arguments: &[String]) -> Result<CommandLine, AllocError>
     ensures matched { IfOk result IsMatched }
     ensures limits { IfOk result HasLimits }

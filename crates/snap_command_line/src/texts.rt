@@ -1,5 +1,5 @@
-//! What the help of snaplab says: of each subcommand its name, what it does, what it reads, and two
-//! examples. Lines have at most 80 columns.
+//! The help of snaplab: of each subcommand its name, what it does, what it reads, and two examples.
+//! Lines have at most 80 columns.
 
 /// What the help of a subcommand says: its name, what it does, and what it reads with examples.
 pub type Told = (&'static str, &'static str, &'static str);

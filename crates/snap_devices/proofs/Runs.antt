@@ -55,7 +55,7 @@ still_kept (Err f) e kept input from h = subst (λ (x : ProgramFault). IsKept (E
   of inner.Memory h = tt
   of (inner.Refused r) h = h r refl
 
--- and where there is an output, nothing need be kept
+-- if there is an output, nothing need be kept
 pub need_not_keep : (answer : Result (Unit {0}) ProgramFault) (text kept input : List ℕ)
     (sink sink_after : SinkState)
     → Sends answer text sink sink_after → IsKept answer kept input
@@ -94,7 +94,7 @@ pub nothing_found : {A : Type 0} (P : A → Type 0) (answer : Result A ProgramFa
 nothing_found P (Ok found) e from = absurd from.1
 nothing_found P (Err f) e from = tt
 
--- and is the same without that
+-- a fault is passed on without the output
 pub passed_on : {A : Type 0} (answer : Result A ProgramFault) (e : ProgramFault)
     → IsErr answer × IsErrAnd answer (λ f. f ≡ e) → IsErr (done_of answer) × IsErrAnd (done_of answer) (λ f. f ≡ e)
 passed_on (Ok found) e from = absurd from.1

@@ -1,5 +1,5 @@
-//! `conduct_judge`: a whole run that judges: it reads an input from a byte source and writes what is
-//! said of it, and nothing else, to a byte sink.
+//! `conduct_judge`: a whole run that judges: it reads an input from a byte source and writes the
+//! judgement, and nothing else, to a byte sink.
 ghost use Rattle.std.specs.Prelude.{◌≡◌, false};
 ghost use Rattle.snap_devices.specs.WholeRun.{ConductsJudge};
 
@@ -10,8 +10,12 @@ use snap_streams::{ByteSink, ByteSource};
 use snap_tasks::JudgeRequest;
 use std::alloc::Global;
 
-/// Reads the input, judges what it gives, writes what is said of it and nothing else, and answers
-/// the word for it. The input is kept: where it is refused, it was kept.
+/// Reads the input from `source`, judges it, writes the judgement to `sink` and nothing else, and
+/// returns the word for it. The input is kept in `kept`, even if it is refused.
+///
+/// # Errors
+///
+/// The reason why the input is refused, a fault of a device, or `Memory` where memory runs out.
 pub fn conduct_judge<R: ByteSource, W: ByteSink>(
     alloc: Global,
     request: &JudgeRequest,

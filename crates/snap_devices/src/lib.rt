@@ -1,5 +1,6 @@
 //! What a whole run of the program does with its devices: it reads an input from a byte source and
-//! writes an output to a byte sink, or says why not; and whole live runs, judgements and models.
+//! writes an output to a byte sink, or says why not. Live runs, judgements and models are whole
+//! runs too.
 #![tactic(auto)]
 
 mod judge_run;

@@ -14,8 +14,14 @@ use std::alloc::Global;
 use std::sync::Wait;
 use std::thread::Threads;
 
-/// Reads the input, plays its scripts live, each process with at most `limit` turns for each of
-/// which the gate is asked, and then writes the history of that run and nothing else.
+/// Reads the input from `source`, plays its scripts live, each process with at most `limit` turns
+/// before each of which `gate` is asked, and then writes the history of that run to `sink` and
+/// nothing else.
+///
+/// # Errors
+///
+/// The reason why the input is refused or the live run fails, a fault of a device, or `Memory`
+/// where memory runs out.
 pub fn conduct_live<G: Gate, R: ByteSource, W: ByteSink>(
     rt: &(impl Threads + Wait + Sync),
     alloc: Global,
@@ -37,8 +43,13 @@ pub fn conduct_live<G: Gate, R: ByteSource, W: ByteSink>(
     Ok(())
 }
 
-/// Does the same, and answers what is said of the operations in the scripts that call nothing. The
-/// input is kept: where it is refused, it was kept.
+/// Does what `conduct_live` does, and returns the text on the operations in the scripts that call
+/// nothing. The input is kept in `kept`, even if it is refused.
+///
+/// # Errors
+///
+/// The reason why the input is refused or the live run fails, a fault of a device, or `Memory`
+/// where memory runs out.
 pub fn conduct_live_keeping<G: Gate, R: ByteSource, W: ByteSink>(
     rt: &(impl Threads + Wait + Sync),
     alloc: Global,

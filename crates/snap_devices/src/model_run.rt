@@ -1,5 +1,5 @@
-//! `conduct_model`: a whole run that writes a model: it reads an input from a byte source and writes
-//! the model of what it asks to play, and nothing else, to a byte sink.
+//! `conduct_model`: a whole run that writes a model: it reads an input from a byte source and
+//! writes the model of its listing and scripts, and nothing else, to a byte sink.
 ghost use Rattle.std.specs.Prelude.{◌≡◌, false};
 ghost use Rattle.snap_devices.specs.WholeRun.{ConductsModel};
 
@@ -10,8 +10,14 @@ use snap_streams::{ByteSink, ByteSource};
 use snap_tasks::Subject;
 use std::alloc::Global;
 
-/// Reads the input, and writes the model of what it asks to play, in which at most so many
-/// processes crash at any time. The input is kept: where it is refused, it was kept.
+/// Reads the input from `source`, and writes the model of its listing and scripts to `sink`, in
+/// which at most `crashes` processes crash at any time. The input is kept in `kept`, even if it is
+/// refused.
+///
+/// # Errors
+///
+/// The reason why the input is refused or has no model, a fault of a device, or `Memory` where
+/// memory runs out.
 pub fn conduct_model<R: ByteSource, W: ByteSink>(
     alloc: Global,
     subject: Subject,

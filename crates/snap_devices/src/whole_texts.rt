@@ -10,7 +10,11 @@ use std::alloc::Global;
 /// The bytes of one read.
 const CHUNK: usize = 4096;
 
-/// Reads all there is, or one byte more than is allowed.
+/// Reads `source` to its end, or one byte more than is allowed.
+///
+/// # Errors
+///
+/// A fault of the device, or `Memory` where memory runs out.
 pub fn read_all<R: ByteSource>(alloc: Global, source: &mut R) -> Result<Vec<u8>, ProgramFault>
     requires { (R.state source.old).failed ≡ false }
     ensures { Reads result (R.state source.old) (R.state source.new) }

@@ -82,7 +82,7 @@ module _ (files : List ℕ → Option (Result (List ℕ) ErrorKind)) where
         (stops_reading e (refused_as (of_file which.Schedule) s) (λ b. Ok (OfFiles text b)) h),
   )
 
-  -- both were read
+  -- both texts were read
   pub both_read : (listing schedule : List ℕ) (v w : Vec ℕ Global) (l s : Result (List ℕ) FileFault) →
       IsTextIn files listing l → refused_as (of_file which.Listing) l ≡ Ok v.items → IsTextIn files schedule s →
       refused_as (of_file which.Schedule) s ≡ Ok w.items →
@@ -106,7 +106,7 @@ module _ (files : List ℕ → Option (Result (List ℕ) ErrorKind)) where
   no_items kind schedule e s its h =
       (s, its, stops_reading e (refused_as (of_file which.Schedule) s) (λ b. Ok (OfShipped kind b)) h)
 
-  -- it was read
+  -- the schedule was read
   pub items_read : (kind : KindTag) (schedule : List ℕ) (v : Vec ℕ Global) (s : Result (List ℕ) FileFault) →
       IsTextIn files schedule s → refused_as (of_file which.Schedule) s ≡ Ok v.items →
       AreTexts files (Shipped kind schedule) (Ok (texts.Shipped kind v))

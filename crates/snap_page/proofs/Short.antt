@@ -61,7 +61,7 @@ signed_short false bytes = of_one (refusal.Image image.NotAnImage) refl
 head_short : (bytes : List ℕ) → Short (option_map refusal.Image (wrong_head bytes))
 head_short bytes = signed_short (bytes_eq (take 4 bytes) signature) (drop 4 bytes)
 
--- so many texts, of parts
+-- a number of texts, of parts
 count_short : (counts : List (List ℕ) → Bool) (texts parts : List (List ℕ)) →
     Short (why {A = Unit {0}} (if counts texts then Ok tt else Err (refusal.WrongParts (length parts))))
 count_short counts texts parts = parts_short (counts texts) (length parts)

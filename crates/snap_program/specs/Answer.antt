@@ -69,7 +69,7 @@ SaysUncalled asked input (Err fault) errors errors_after =
 abbrev pub terminal_line : List ℕ
 terminal_line = codes "reading from the terminal; end with Ctrl-D\n"
 
--- It is said where an input is asked for, and nothing else.
+-- What is said if the request is for an input, and nothing otherwise.
 abbrev pub SaysTerminal : {E : Type 0} → Result CommandLine E → (errors errors_after : SinkState) → Type 0
 SaysTerminal (Ok (Asks asked)) errors errors_after = Says terminal_line errors errors_after
 SaysTerminal _ errors errors_after = errors ≡ errors_after

@@ -16,7 +16,7 @@ pub on_ok : {A E : Type 0} {P Q : Type 0} (r : Result A E) → OnOk r P → (P �
 on_ok (Ok x) p f = f p
 on_ok (Err e) p f = tt
 
--- the same as is said
+-- what is added is the same if what is said is
 pub same_added : (s t : Said) (old new : List ℕ) → s ≡ t → IsAdded t old new → IsAdded s old new
 same_added s t old new is adds = subst (λ (y : Said). IsAdded y old new) (sym is) adds
 
@@ -36,7 +36,7 @@ pub none_named : {A : Type 0} (view : A → List ℕ × Bool) (found : Option A)
     option_map view found ≡ wanted → found ≡ None → wanted ≡ None
 none_named view found wanted e is = sym e ∙ ap (option_map view) is
 
--- so many lines were read
+-- the number of lines that were read
 abbrev pub with_lines : ℕ → Prompt → Prompt
 with_lines n p = record {
   session = p.session;

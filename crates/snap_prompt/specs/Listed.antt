@@ -33,7 +33,7 @@ marked_line texts line number = pointer_text line number ++ text_or_none (text_w
 abbrev pub near_line : List NumberedText → Option ℕ → ℕ → List ℕ
 near_line texts line number = if is_near line number then marked_line texts line number else []
 
--- those of some lines that are near
+-- the lines that are near
 abbrev pub near_lines : List NumberedText → Option ℕ → List Line → List ℕ
 near_lines texts line [] = []
 near_lines texts line (l ∷ ls) = near_line texts line l.number ++ near_lines texts line ls

@@ -159,7 +159,7 @@ abbrev pub reply_or_refusal : Session → Command → Result Session CommandRefu
 reply_or_refusal s c (Err r) = refused_line s r
 reply_or_refusal s c (Ok s') = reply_text s' c
 
--- and of one that does: also the item, and what changed
+-- what is said of a command that moves: also the item, and what changed
 abbrev pub move_or_refusal : Session → Command → Result Session CommandRefusal → List ℕ
 move_or_refusal s c (Err r) = refused_line s r
 move_or_refusal s c (Ok s') = reply_text s' c ++ moved_text s s'
@@ -296,10 +296,10 @@ answered_to p (Some q) line = in_words (decided p q (is_yes line))
 unfoldable pub answer_line : Prompt → List ℕ → Answer Said
 answer_line p line = answered_to (counted p) p.question line
 
--- this may be answered to a line
+-- a text may be answered to a line
 abbrev pub Says : Prompt → List ℕ → List ℕ → Type 0
 Says p line it = IsSaid (answer_line p line).said it
 
--- and what comes of a line
+-- what comes of a line
 abbrev pub next_line : Prompt → List ℕ → Next Prompt
 next_line p line = record { state = (answer_line p line).state; goes_on = (answer_line p line).goes_on }

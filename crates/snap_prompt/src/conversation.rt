@@ -16,9 +16,14 @@ use snap_sched::Schedule;
 use snap_words::{Bits, KindTag, Multi, Seq};
 use std::alloc::Global;
 
-/// Talks at a console about a program under a schedule, from the position before its first item, to
+/// Talks at `console` about `program` under `schedule`, from the position before its first item, to
 /// `quit` or the end of the input: each line is answered before the next prompt, and what is shown
-/// is a transcript of the lines. It is broken off as `talk` is, after a beginning of that.
+/// is a transcript of the lines.
+///
+/// # Errors
+///
+/// The fault of a device of `console` that failed; `Memory` where memory runs out; `Endless` where
+/// the input does not end. A beginning of the dialog has passed then.
 pub fn converse<C: Console, S: Folder + Copy>(
     alloc: Global,
     program: &Program,

@@ -15,7 +15,7 @@ use snap_why::push_why;
 use snap_words::Kind;
 use std::alloc::{AllocError, Global};
 
-/// Adds why an item of a session's run came out as it did; or that there are not so many items.
+/// Appends why an item of a session's run came out as it did, or that there are fewer items.
 #[tactic(auto, unfolding(crate::specs::Explained::explained))]
 pub(crate) fn push_explained<K: Kind>(
     alloc: Global,

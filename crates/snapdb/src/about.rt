@@ -17,10 +17,14 @@ use snap_input::read_schedule;
 use snap_prompt::{Shows, converse};
 use std::alloc::Global;
 
-/// Talks at a console about a program under a schedule. What is shown is a transcript of what is
-/// typed; where the schedule is refused, nothing is; and where the dialog is broken off, which only
-/// a device that fails, memory that ran out or an input without an end does, a beginning of it is.
-/// Schedules are saved in the folder.
+/// Talks at `console` about `program` under `schedule`. What is shown is a transcript of what is
+/// typed; nothing if the schedule is refused. Schedules are saved in `folder`.
+///
+/// # Errors
+///
+/// The reason why `schedule` is refused; the fault of a device that failed; `Memory` where memory
+/// runs out; or that the input does not end. If the dialog is broken off, a beginning of the
+/// transcript was shown.
 pub fn talk_about<C: Console, S: Folder + Copy>(
     alloc: Global,
     program: &Program,

@@ -11,7 +11,7 @@ use std::fs::OpenOptions;
 use std::io;
 use std::io::{ErrorKind, Write};
 
-/// The files of the system, of which nothing is known before they are read.
+/// The files of the system. Nothing is known of a file before it is read.
 #[derive(Clone, Copy)]
 pub(crate) struct SystemFiles<'r> {
     rt: &'r HostRuntime,

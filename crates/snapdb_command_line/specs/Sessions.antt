@@ -30,7 +30,7 @@ abbrev pub IsMatched : CommandLine → Type 0
 IsMatched (line.Asks session) = (m : ArgMatches) × IsAskedBy (found_of m) session
 IsMatched _ = ⊤
 
--- the same, where a refusal is explained in any case if `more`
+-- a command line in which a refusal is explained in any case if `more`
 abbrev pub explained_if : Bool → CommandLine → CommandLine
 explained_if more (line.Asks s) = line.Asks (record { named = s.named; explains = s.explains || more })
 explained_if more (line.Help text) = line.Help text

@@ -1,4 +1,4 @@
-//! `Session`: the options and file names that snapdb takes, and the session that they ask for.
+//! `Session`: the options and file names of snapdb, and the session that they are for.
 ghost use Rattle.std.specs.Prelude.{◌≡◌, IfOk, IfSome, codes};
 ghost use Rattle.clap.specs.Matches.{first_value, found_of};
 ghost use Rattle.clap.specs.declared.parser.matches.ArgMatches.{ArgMatches};
@@ -27,14 +27,14 @@ Examples:
   snapdb examples/u.txt examples/prompt/borrowed/schedule.txt
   snapdb --shipped seq examples/prompt/borrowed/schedule.txt";
 
-/// A session that is asked for.
+/// The session that a command line is for.
 #[derive(Clone, Copy)]
 pub struct Session<'a> {
     pub named: Named<'a>,
     pub explains: bool,
 }
 
-/// The arguments that the program takes.
+/// Returns the arguments that the program takes.
 fn command<'a>(alloc: Global) -> Result<Command<'a>, AllocError> {
     let files = Arg::new(alloc, "FILE").required(true).num_args(1..=2).help(
         "A listing and a schedule; a schedule alone with --shipped",
@@ -57,7 +57,8 @@ fn command<'a>(alloc: Global) -> Result<Command<'a>, AllocError> {
         .arg(explain)
 }
 
-/// The kind whose shipped listing is asked for, if one is; none where there is no such kind.
+/// Returns the kind whose shipped listing is debugged, if one is; `None` where there is no such
+/// kind.
 fn kind_given(matches: &ArgMatches<'_>) -> Option<Option<KindTag>>
     ensures { result ≡ kind_given (first_value (found_of matches.now) (codes "shipped")) }
 {
@@ -67,7 +68,7 @@ fn kind_given(matches: &ArgMatches<'_>) -> Option<Option<KindTag>>
     }
 }
 
-/// What matched arguments ask for.
+/// Returns what matched arguments are for.
 fn session_by<'a>(matches: &ArgMatches<'a>) -> Option<Session<'a>>
     ensures { IfSome result (IsAskedBy (found_of matches.now)) }
 {
@@ -79,7 +80,7 @@ fn session_by<'a>(matches: &ArgMatches<'a>) -> Option<Session<'a>>
     })
 }
 
-/// What the arguments ask for, the program's own name first.
+/// Returns what the arguments are for, the program's own name first.
 pub(crate) fn session_of<'a>(alloc: Global, arguments: &'a [String]) -> Result<Session<'a>, Error>
     ensures { IfOk result (λ s. (m : ArgMatches) × IsAskedBy (found_of m) s) }
 {

@@ -1,5 +1,4 @@
-//! `CommandLine`: what the arguments of snapdb come to, a session that is asked for or a text such
-//! as the help.
+//! `CommandLine`: what the arguments of snapdb come to, a session or a text such as the help.
 ghost use Rattle.std.specs.Prelude.{◌≡◌, IfOk};
 ghost use Rattle.snapdb_command_line.specs.Sessions.{IsMatched, explained_if};
 
@@ -11,9 +10,9 @@ use std::alloc::{AllocError, Global};
 /// What the arguments of a command line come to.
 #[derive(Drop)]
 pub enum CommandLine<'a> {
-    /// They ask for this session.
+    /// The arguments are for this session.
     Asks(Session<'a>),
-    /// They ask for help, or for the version: its text.
+    /// The arguments ask for help, or for the version: its text.
     Help(String),
     /// Invalid arguments, with the message.
     Wrong(String),
@@ -22,7 +21,7 @@ pub enum CommandLine<'a> {
 }
 
 impl<'a> CommandLine<'a> {
-    /// The same, where a refusal is explained in any case if `explains`.
+    /// Returns the same command line, in which a refusal is explained in any case if `explains`.
     pub fn explained_if(self, explains: bool) -> CommandLine<'a>
         ensures { result ≡ explained_if explains self.entry }
     {
@@ -36,7 +35,7 @@ impl<'a> CommandLine<'a> {
     }
 }
 
-/// What is said where the arguments ask for no session.
+/// Returns the message where the arguments name no session.
 fn explained<'a>(alloc: Global, error: &Error) -> Result<CommandLine<'a>, AllocError>
     ensures { IfOk result IsMatched }
 {
@@ -53,12 +52,12 @@ fn explained<'a>(alloc: Global, error: &Error) -> Result<CommandLine<'a>, AllocE
     }
 }
 
-/// Returns what arguments come to, the program's own name first. The session that they ask for is
-/// the one that `clap` has found in them; that it finds what stands there is its own promise.
+/// Returns what the arguments come to, the program's own name first. Their session is that of what
+/// `clap` has found in them; that `clap` finds what stands there is its own promise.
 ///
 /// # Errors
 ///
-/// Memory ran out.
+/// `AllocError` where memory runs out.
 pub fn read_arguments<'a>(
     alloc: Global,
     arguments: &'a [String],

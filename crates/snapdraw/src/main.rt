@@ -21,7 +21,7 @@ const LOOK: Look<'static> = Look {
     legend: LEGEND,
 };
 
-/// The words of the command line, where they are text.
+/// Returns the words of the command line, if they are valid UTF-8.
 fn words_of(rt: &HostRuntime) -> Result<Option<Vec<String>>, AllocError> {
     let arguments = match env::args(rt) {
         Ok(arguments) => arguments,
@@ -34,7 +34,8 @@ fn words_of(rt: &HostRuntime) -> Result<Option<Vec<String>>, AllocError> {
     }
 }
 
-/// What the words of a command line come to, where a refusal is explained in any case if `explains`.
+/// Returns what the words of a command line come to, in which a refusal is explained in any case if
+/// `explains`.
 fn line_of<'a>(
     rt: &HostRuntime,
     words: &'a [String],

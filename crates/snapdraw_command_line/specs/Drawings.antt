@@ -35,7 +35,7 @@ abbrev pub IsMatched : CommandLine → Type 0
 IsMatched (line.Asks drawing) = (m : ArgMatches) × IsAskedBy (found_of m) drawing
 IsMatched _ = ⊤
 
--- the same, where a refusal is explained in any case if `more`
+-- a command line in which a refusal is explained in any case if `more`
 abbrev pub explained_if : Bool → CommandLine → CommandLine
 explained_if more (line.Asks d) =
     line.Asks (record { named = d.named; from = d.from; to = d.to; reads = d.reads; explains = d.explains || more })

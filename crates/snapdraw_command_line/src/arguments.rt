@@ -1,4 +1,4 @@
-//! `Drawing`: the options and file names that snapdraw takes, and the picture that they ask for.
+//! `Drawing`: the options and file names of snapdraw, and the picture that they are for.
 ghost use Rattle.std.specs.Prelude.{◌≡◌, IfOk, IfSome, codes};
 ghost use Rattle.clap.specs.Matches.{first_value, found_of};
 ghost use Rattle.clap.specs.declared.parser.matches.ArgMatches.{ArgMatches};
@@ -27,7 +27,7 @@ Examples:
   snapdraw examples/u.txt examples/prompt/borrowed/schedule.txt > run.svg
   snapdraw --shipped seq examples/shipped-borrowed-view/stdin --reads > run.svg";
 
-/// A picture that is asked for.
+/// The picture that a command line is for.
 #[derive(Clone, Copy)]
 pub struct Drawing<'a> {
     pub named: Named<'a>,
@@ -37,7 +37,7 @@ pub struct Drawing<'a> {
     pub explains: bool,
 }
 
-/// An option that takes the number of an item.
+/// Returns an option that takes the number of an item.
 fn item_option<'a>(alloc: Global, name: &'a str, help: &'a str) -> Arg<'a> {
     Arg::new(alloc, name)
         .long(name)
@@ -46,7 +46,7 @@ fn item_option<'a>(alloc: Global, name: &'a str, help: &'a str) -> Arg<'a> {
         .help(help)
 }
 
-/// An option without a value.
+/// Returns an option without a value.
 fn flag<'a>(alloc: Global, name: &'a str, help: &'a str) -> Arg<'a> {
     Arg::new(alloc, name)
         .long(name)
@@ -54,7 +54,7 @@ fn flag<'a>(alloc: Global, name: &'a str, help: &'a str) -> Arg<'a> {
         .help(help)
 }
 
-/// The arguments that the program takes.
+/// Returns the arguments that the program takes.
 fn command<'a>(alloc: Global) -> Result<Command<'a>, AllocError> {
     let shipped = Arg::new(alloc, "shipped")
         .long("shipped")
@@ -86,7 +86,7 @@ fn command<'a>(alloc: Global) -> Result<Command<'a>, AllocError> {
         .arg(explain)
 }
 
-/// The kind whose shipped listing is asked for, if one is; none where there is no such kind.
+/// Returns the kind whose shipped listing is drawn, if one is; `None` where there is no such kind.
 fn kind_given(matches: &ArgMatches<'_>) -> Option<Option<KindTag>>
     ensures { result ≡ kind_given (first_value (found_of matches.now) (codes "shipped")) }
 {
@@ -96,7 +96,7 @@ fn kind_given(matches: &ArgMatches<'_>) -> Option<Option<KindTag>>
     }
 }
 
-/// What matched arguments ask for.
+/// Returns what matched arguments are for.
 fn drawing_by<'a>(matches: &ArgMatches<'a>) -> Option<Drawing<'a>>
     ensures { IfSome result (IsAskedBy (found_of matches.now)) }
 {
@@ -111,7 +111,7 @@ fn drawing_by<'a>(matches: &ArgMatches<'a>) -> Option<Drawing<'a>>
     })
 }
 
-/// What the arguments ask for, the program's own name first.
+/// Returns what the arguments are for, the program's own name first.
 pub(crate) fn drawing_of<'a>(alloc: Global, arguments: &'a [String]) -> Result<Drawing<'a>, Error>
     ensures { IfOk result (λ d. (m : ArgMatches) × IsAskedBy (found_of m) d) }
 {

@@ -1,5 +1,5 @@
-//! `answer`: what snaphunt does about its command line, over any files, sink and device for
-//! messages, and the status of it.
+//! `answer`: what snaphunt does for its command line, over any files, sink and device for messages,
+//! and its status.
 ghost use Rattle.std.specs.Prelude.{◌≡◌, ◌<◌, ◌^◌, Ok, Err, IfOk, false};
 ghost use Rattle.snap_faults.specs.Faults.{fault_status};
 ghost use Rattle.snap_faults.specs.Names.{of_program, view_names};
@@ -25,7 +25,7 @@ use std::thread::Threads;
 /// What the program is called.
 const PROGRAM: &str = "snaphunt";
 
-/// What the program is called, and the file of the listing, where it is not shipped.
+/// Returns what the program is called, and the file of the listing, unless it is shipped.
 fn names_of<'a>(listed: &Listed<'a>) -> Names<'a>
     ensures { view_names result ≡ names_of (view_listed listed.now) }
 {
@@ -39,7 +39,7 @@ fn names_of<'a>(listed: &Listed<'a>) -> Names<'a>
     }
 }
 
-/// The status of what a hunt came to: 0 where no run fails, and 4 where one does.
+/// Returns the status of the result of a hunt: 0 if no run fails, and 4 if one does.
 fn hunted_status(hunted: &Hunted) -> u8
     ensures { result ≡ hunted_status hunted.now }
 {
@@ -49,7 +49,7 @@ fn hunted_status(hunted: &Hunted) -> u8
     }
 }
 
-/// Prints what a hunt came to.
+/// Prints the result of a hunt.
 fn print<W: ByteSink>(
     alloc: Global,
     asked: &Asked,
@@ -68,7 +68,7 @@ fn print<W: ByteSink>(
     }
 }
 
-/// Hunts in the runs of the listing that a text is, and prints what that came to and nothing else.
+/// Hunts in the runs of the listing that a text spells, and prints the result and nothing else.
 #[tactic(auto, using(crate::proofs::Searches::nothing_came))]
 fn hunt_in<W: Watcher, S: ByteSink>(
     threads: &(impl Threads + Sync),
@@ -88,7 +88,7 @@ fn hunt_in<W: Watcher, S: ByteSink>(
     }
 }
 
-/// What is said behind the line of a fault, where refusals are explained.
+/// Returns the text behind the line of a fault, if refusals are explained.
 fn explained(
     alloc: Global,
     explains: bool,
@@ -109,8 +109,8 @@ fn explained(
     }
 }
 
-/// Says why nothing, or not all, was printed, and explains it where that is asked for and there is
-/// memory for it. Returns the status for it.
+/// Says why nothing, or not all, was printed, explains it if that is wanted and there is memory for
+/// it, and returns the status.
 fn explain<E: ByteSink>(
     alloc: Global,
     asked: &Search<'_>,
@@ -134,7 +134,7 @@ fn explain<E: ByteSink>(
     }
 }
 
-/// The status of a whole hunt, whose fault it tells.
+/// Returns the status of a whole hunt, and says its fault if there is one.
 fn finish<E: ByteSink>(
     alloc: Global,
     asked: &Search<'_>,
@@ -154,8 +154,7 @@ fn finish<E: ByteSink>(
     }
 }
 
-/// Hunts as is asked for, says why where nothing, or not all, was printed, and answers the status
-/// of it.
+/// Hunts, says why if nothing, or not all, was printed, and returns the status.
 fn hunt<F: FileSource, W: Watcher, S: ByteSink, E: ByteSink>(
     threads: &(impl Threads + Sync),
     alloc: Global,
@@ -187,7 +186,7 @@ fn hunt<F: FileSource, W: Watcher, S: ByteSink, E: ByteSink>(
     }
 }
 
-/// Does what a command line asks for, and answers the status of it.
+/// Does what a command line is for, and returns the status.
 pub(crate) fn answer<F: FileSource, W: Watcher, S: ByteSink, E: ByteSink>(
     threads: &(impl Threads + Sync),
     alloc: Global,

@@ -19,7 +19,7 @@ use std::io::IsTerminal;
 use std::process::ExitCode;
 use std::{env, io};
 
-/// The words of the command line, where they are text.
+/// Returns the words of the command line, if they are valid UTF-8.
 fn words_of(rt: &HostRuntime) -> Result<Option<Vec<String>>, AllocError> {
     let arguments = match env::args(rt) {
         Ok(arguments) => arguments,
@@ -32,7 +32,7 @@ fn words_of(rt: &HostRuntime) -> Result<Option<Vec<String>>, AllocError> {
     }
 }
 
-/// What the words of a command line come to.
+/// Returns what the words of a command line come to.
 fn line_of<'a>(
     rt: &HostRuntime,
     words: &'a Result<Option<Vec<String>>, AllocError>,
@@ -46,7 +46,7 @@ fn line_of<'a>(
     }
 }
 
-/// The same, where a refusal is explained in any case if `explains`.
+/// Returns the same command line, in which a refusal is explained in any case if `explains`.
 fn explained_line(
     line: Result<CommandLine<'_>, AllocError>,
     explains: bool,

@@ -26,7 +26,7 @@ IsLine (Help text) = ⊤
 IsLine (Wrong text) = ⊤
 IsLine NoText = ⊤
 
--- the same, where a refusal is explained in any case if `more`
+-- a command line in which a refusal is explained in any case if `more`
 abbrev pub explained_if : Bool → CommandLine → CommandLine
 explained_if more (Asks s) = Asks (record { listed = s.listed; asked = s.asked; explains = s.explains || more })
 explained_if more (Help text) = Help text

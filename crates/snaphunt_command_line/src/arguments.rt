@@ -1,5 +1,5 @@
-//! `Search`: the arguments that snaphunt takes, and what they ask for: a listing, a plan of
-//! schedules, and the failures to hunt.
+//! `Search`: the arguments of snaphunt, and what they are for: a listing, a plan of schedules, and
+//! the failures to hunt.
 ghost use Rattle.std.specs.Prelude.{IfOk, IfSome};
 ghost use Rattle.snaphunt_command_line.specs.Search.{IsSearch};
 
@@ -78,7 +78,7 @@ pub enum Listed<'a> {
     Shipped(KindTag),
 }
 
-/// What a command line asks for: the listing, what is hunted in its runs, and whether a refusal is
+/// What a command line is for: the listing, what is hunted in its runs, and whether a refusal is
 /// explained.
 #[derive(Clone, Copy)]
 pub struct Search<'a> {
@@ -87,7 +87,7 @@ pub struct Search<'a> {
     pub explains: bool,
 }
 
-/// An option that takes a number, with the number that it has where it is not given.
+/// Returns an option that takes a number, with the number that it has if it is not given.
 fn number<'a>(
     alloc: Global,
     name: &'a str,
@@ -104,7 +104,7 @@ fn number<'a>(
         .help(help)
 }
 
-/// The argument that says that priorities decide who moves.
+/// Returns the argument that says that priorities decide who moves.
 fn depth<'a>(alloc: Global) -> Arg<'a> {
     Arg::new(alloc, "depth")
         .long("depth")
@@ -113,7 +113,7 @@ fn depth<'a>(alloc: Global) -> Arg<'a> {
         .help("Priorities, lowered at D - 1 turns, decide which{n}process moves")
 }
 
-/// The arguments that say how many processes and words there are.
+/// Returns the arguments that say how many processes and words there are.
 fn with_shape<'a>(alloc: Global, command: Command<'a>) -> Result<Command<'a>, AllocError> {
     command
         .arg(number(
@@ -134,7 +134,7 @@ fn with_shape<'a>(alloc: Global, command: Command<'a>) -> Result<Command<'a>, Al
         ))
 }
 
-/// The arguments that say how schedules are made.
+/// Returns the arguments that say how schedules are made.
 fn with_plan<'a>(alloc: Global, command: Command<'a>) -> Result<Command<'a>, AllocError> {
     let pace = Arg::new(alloc, "pace")
         .long("pace")
@@ -165,7 +165,7 @@ fn with_plan<'a>(alloc: Global, command: Command<'a>) -> Result<Command<'a>, All
         .arg(number(alloc, "repeat", 0, 4_294_967_295, "1", REPEAT_HELP))
 }
 
-/// The arguments that say what is hunted.
+/// Returns the arguments of the failures to hunt.
 fn with_failures<'a>(alloc: Global, command: Command<'a>) -> Result<Command<'a>, AllocError> {
     let fails = Arg::new(alloc, "fails")
         .long("fails")
@@ -194,7 +194,7 @@ fn with_failures<'a>(alloc: Global, command: Command<'a>) -> Result<Command<'a>,
         ))
 }
 
-/// The arguments that a hunt takes.
+/// Returns the arguments that a hunt takes.
 fn command<'a>(alloc: Global) -> Result<Command<'a>, AllocError> {
     let listing = Arg::new(alloc, "LISTING").help("The file of the listing");
     let shipped = Arg::new(alloc, "shipped")
@@ -233,12 +233,12 @@ fn command<'a>(alloc: Global) -> Result<Command<'a>, AllocError> {
     with_plan(alloc, command)
 }
 
-/// The number that an option gives.
+/// Returns the number that an option gives.
 fn number_of(arguments: &ArgMatches<'_>, name: &str) -> Option<u64> {
     arguments.get_one::<u64>(name)
 }
 
-/// The most steps that an operation may take, where that is asked for: by a number, or by a word.
+/// Returns the most steps that an operation may take, if they are bounded by a number or by a word.
 fn step_bound(most: u64, asked: bool) -> Option<StepBound> {
     if most > 0 {
         Some(StepBound::Given(most))
@@ -249,8 +249,8 @@ fn step_bound(most: u64, asked: bool) -> Option<StepBound> {
     }
 }
 
-/// Whether a failure is among the words behind `--fails`, or among the usual ones where there are
-/// none.
+/// Returns whether a failure is among the words behind `--fails`, or among the usual ones where
+/// there are none.
 fn is_asked(words: Option<&[&str]>, failure: &str) -> bool {
     match words {
         Some(words) => words.contains(&failure),
@@ -258,7 +258,7 @@ fn is_asked(words: Option<&[&str]>, failure: &str) -> bool {
     }
 }
 
-/// The failures that are asked for.
+/// Returns the failures to hunt.
 fn wanted_of(arguments: &ArgMatches<'_>) -> Option<Wanted> {
     let collects = number_of(arguments, "collects")?;
     let steps = number_of(arguments, "steps")?;
@@ -272,7 +272,7 @@ fn wanted_of(arguments: &ArgMatches<'_>) -> Option<Wanted> {
     })
 }
 
-/// How schedules are to be made.
+/// Returns how schedules are to be made.
 fn plan_of(arguments: &ArgMatches<'_>) -> Option<Plan> {
     let processes = number_of(arguments, "processes")?;
     let words = number_of(arguments, "words")?;
@@ -301,7 +301,7 @@ fn plan_of(arguments: &ArgMatches<'_>) -> Option<Plan> {
     Some(plan.with_depth(number_of(arguments, "depth")))
 }
 
-/// The listing that is asked for: a file, or a shipped one, and not both.
+/// Returns the listing to hunt in: a file, or a shipped one, and not both.
 fn listed_of<'a>(file: Option<&'a str>, shipped: Option<KindTag>) -> Option<Listed<'a>> {
     match (file, shipped) {
         (Some(name), None) => Some(Listed::File(name)),
@@ -310,7 +310,7 @@ fn listed_of<'a>(file: Option<&'a str>, shipped: Option<KindTag>) -> Option<List
     }
 }
 
-/// What arguments ask for.
+/// Returns what the arguments are for.
 fn search_of<'a>(arguments: &ArgMatches<'a>) -> Option<Search<'a>>
     ensures { IfSome result IsSearch }
 {
@@ -334,8 +334,12 @@ fn search_of<'a>(arguments: &ArgMatches<'a>) -> Option<Search<'a>>
     })
 }
 
-/// What the arguments ask for, the program's own name first. They name a file or a shipped listing,
-/// and not both.
+/// Returns what the arguments are for, the program's own name first. The arguments name a file or a
+/// shipped listing, and not both.
+///
+/// # Errors
+///
+/// The error of `clap` where the arguments are invalid, or ask for help or the version.
 pub fn search_of_arguments<'a>(alloc: Global, arguments: &'a [String]) -> Result<Search<'a>, Error>
     ensures { IfOk result IsSearch }
 {

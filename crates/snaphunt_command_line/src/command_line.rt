@@ -1,5 +1,4 @@
-//! `CommandLine`: what the arguments of snaphunt come to, a hunt that is asked for or a text such
-//! as the help.
+//! `CommandLine`: what the arguments of snaphunt come to, a hunt or a text such as the help.
 ghost use Rattle.std.specs.Prelude.{◌≡◌, IfOk};
 ghost use Rattle.snaphunt_command_line.specs.Search.{IsLine, explained_if};
 
@@ -11,9 +10,9 @@ use std::alloc::{AllocError, Global};
 /// What the arguments of a command line come to.
 #[derive(Drop)]
 pub enum CommandLine<'a> {
-    /// They ask for this.
+    /// The arguments are for this search.
     Asks(Search<'a>),
-    /// They ask for help, or for the version: its text.
+    /// The arguments ask for help, or for the version: its text.
     Help(String),
     /// Invalid arguments, with the message.
     Wrong(String),
@@ -22,7 +21,7 @@ pub enum CommandLine<'a> {
 }
 
 impl<'a> CommandLine<'a> {
-    /// The same, where a refusal is explained in any case if `explains`.
+    /// Returns the same command line, in which a refusal is explained in any case if `explains`.
     pub fn explained_if(self, explains: bool) -> CommandLine<'a>
         ensures same { result ≡ explained_if explains self.entry }
         ensures line { IsLine self.entry → IsLine result }
@@ -38,7 +37,7 @@ impl<'a> CommandLine<'a> {
     }
 }
 
-/// What is said where the arguments ask for no hunt.
+/// Returns the message where the arguments name no hunt.
 fn explained<'a>(alloc: Global, error: &Error) -> Result<CommandLine<'a>, AllocError>
     ensures { IfOk result IsLine }
 {
@@ -55,7 +54,11 @@ fn explained<'a>(alloc: Global, error: &Error) -> Result<CommandLine<'a>, AllocE
     }
 }
 
-/// What arguments come to, the program's own name first.
+/// Returns what the arguments come to, the program's own name first.
+///
+/// # Errors
+///
+/// `AllocError` where memory runs out.
 pub fn read_arguments<'a>(
     alloc: Global,
     arguments: &'a [String],

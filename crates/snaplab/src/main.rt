@@ -11,7 +11,7 @@ use std::alloc::AllocError;
 use std::io::{self, IsTerminal};
 use std::process::ExitCode;
 
-/// What the arguments of the command line come to.
+/// Returns what the arguments of the command line come to.
 fn command_line(rt: &HostRuntime) -> Result<CommandLine, AllocError>
     ensures { IfOk result HasLimits }
 {

@@ -1,4 +1,5 @@
--- `request_by` of snap_command_line (src/arguments.rt): the proof of what its contract says.
+-- `request_by` of snap_command_line (src/arguments.rt): the proof of what its contract says. Returns the request of the
+-- arguments of a subcommand.
 use Rattle.std.proofs.Common.{sym}
 use Rattle.clap.specs.Matches.{found_of}
 use Rattle.snap_command_line.proofs.OfSubcommand.{asked_by_subcommand}

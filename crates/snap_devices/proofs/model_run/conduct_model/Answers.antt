@@ -1,5 +1,6 @@
--- `conduct_model` of snap_devices (src/model_run.rt): the proof of what its contract says.
--- Reads the input, and writes the model of what it asks to play.
+-- `conduct_model` of snap_devices (src/model_run.rt): the proof of what its contract says. Reads the input from
+-- `source`, and writes the model of its listing and scripts to `sink`, in which at most `crashes` processes crash at
+-- any time.
 use Rattle.snap_model_output.specs.ModelOutput.{MayModel, RefusesModel}
 use Rattle.snap_devices.proofs.Runs.{is_kept, not_read, refused, sends, why_model}
 use Rattle.snap_devices.proofs.model_run.conduct_model.Goals as goal

@@ -1,5 +1,5 @@
--- `read_all` of snap_devices (src/whole_texts.rt): the proof of what its contract says.
--- Reads all there is, or one byte more than is allowed.
+-- `read_all` of snap_devices (src/whole_texts.rt): the proof of what its contract says. Reads `source` to its end, or
+-- one byte more than is allowed.
 use Rattle.std.proofs.Common.{◌++◌, length-append, take, arith}
 use Rattle.std.proofs.KnownBytes.{Consumes-trans}
 use Rattle.std.proofs.lemmas.List.{length-take}

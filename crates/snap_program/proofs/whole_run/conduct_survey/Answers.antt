@@ -1,5 +1,5 @@
--- `conduct_survey` of snap_program (src/whole_run.rt): the proof of what its contract says.
--- Reads the input, writes its survey and nothing else, and answers whether all of its runs are clean.
+-- `conduct_survey` of snap_program (src/whole_run.rt): the proof of what its contract says. Reads the input from
+-- `source`, writes its survey to `sink` and nothing else, and returns whether all of its runs are clean.
 use Rattle.std.specs.Prelude.{◌≡◌, Ok}
 use Rattle.snap_output.specs.Output.{clean_of}
 use Rattle.snap_tasks.specs.declared.task.Task.TheVariants.{Survey}

@@ -1,4 +1,5 @@
--- `talk_about` of snapdb (src/about.rt): the proof of what its contract says.
+-- `talk_about` of snapdb (src/about.rt): the proof of what its contract says. Talks at `console` about `program` under
+-- `schedule`.
 use Rattle.std.proofs.Common.{ℕ, List, Option, Result, Ok, Err, IfSome}
 use Rattle.std.specs.Prelude.{OnErr}
 use Rattle.snap_dialog.specs.Dialog.{ShowsTranscriptPart}

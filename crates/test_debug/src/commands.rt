@@ -12,7 +12,7 @@ use std::time::CpuClock;
 /// The most bytes that a text of commands may have.
 const MAX_BYTES: usize = 1_048_576;
 
-/// So many seconds of a processor are much for a reader that goes through a text once, and few for
+/// How many seconds of a processor are many for a reader that goes through a text once, and few for
 /// one that begins again at each line.
 const SECONDS: u64 = 3;
 
@@ -39,7 +39,7 @@ values\n\
 events\n\
   where  ";
 
-/// The same commands as they are written.
+/// The commands of `ALL` as they are written.
 const WRITTEN: &[u8] = b"step 1\n\
 back 18446744073709551615\n\
 goto 20\n\
@@ -56,13 +56,13 @@ values\n\
 events\n\
 where\n";
 
-/// So many commands as a text is, or why it is none.
+/// Returns how many commands a text has, or why it is refused.
 fn count(alloc: Global, text: &[u8]) -> Result<usize, Fault<CommandRefusal>> {
     let commands = read_commands(alloc, text)?;
     Ok(commands.len())
 }
 
-/// Whether a text is so many commands, or is refused so.
+/// Returns whether a text has the wanted number of commands, or is refused as wanted.
 fn is_read(alloc: Global, text: &[u8], want: Result<usize, CommandRefusal>) -> bool {
     match (count(alloc, text), want) {
         (Ok(found), Ok(len)) => found == len,
@@ -71,7 +71,8 @@ fn is_read(alloc: Global, text: &[u8], want: Result<usize, CommandRefusal>) -> b
     }
 }
 
-/// A text is so many commands, or is refused so, and this is soon known.
+/// Checks that a text is a number of commands, or is refused as wanted, and that this is soon
+/// known.
 fn check_soon(
     rt: &(impl Abort + CpuClock),
     alloc: Global,
@@ -85,7 +86,7 @@ fn check_soon(
     Ok(())
 }
 
-/// So many bytes of one sort.
+/// Returns `len` bytes of one sort.
 fn repeated(alloc: Global, byte: u8, len: usize) -> Result<Vec<u8>, AllocError> {
     let mut text = Vec::new(alloc);
     for _ in 0..len {
@@ -94,7 +95,7 @@ fn repeated(alloc: Global, byte: u8, len: usize) -> Result<Vec<u8>, AllocError> 
     Ok(text)
 }
 
-/// So many lines.
+/// Returns `count` lines.
 fn lines(alloc: Global, line: &[u8], count: usize) -> Result<Vec<u8>, AllocError> {
     let mut text = Vec::new(alloc);
     for _ in 0..count {
@@ -141,7 +142,7 @@ fn reads_ten_thousand_lines_soon(rt: HostRuntime) -> Result<(), Fail> {
     check_soon(&rt, alloc, text.as_slice(), Err(CommandRefusal::TooLong))
 }
 
-/// Whether what is left of a text that was cut is read, or is refused at its last line.
+/// Returns whether what is left of a text that was cut is read, or is refused at its last line.
 fn is_read_or_refused(alloc: Global, text: &[u8]) -> bool {
     match count(alloc, text) {
         Ok(found) => found <= 15,
@@ -159,7 +160,7 @@ fn reads_each_cut_or_refuses_its_last_line(rt: HostRuntime) {
     assert!(rt; is_read(rt.alloc(), &ALL[..22], Ok(1)));
 }
 
-/// The text of commands.
+/// Returns the text of commands.
 fn text_of(alloc: Global, commands: &[Command]) -> Result<Vec<u8>, AllocError> {
     let mut text = Vec::new(alloc);
     for command in commands {
@@ -202,7 +203,7 @@ fn reads_the_parts_of_a_command(rt: HostRuntime) -> Result<(), Fail> {
     Ok(())
 }
 
-/// Whether a refusal is written so by itself, in its line, and where it is shown.
+/// Checks that a refusal is written as wanted by itself, in its line, and where it is shown.
 fn is_written(
     rt: &impl Abort,
     alloc: Global,

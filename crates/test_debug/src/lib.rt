@@ -1,4 +1,4 @@
-//! Tests of debugger commands, what is read and written of them, and of what sessions answer.
+//! Tests of debugger commands, how they are read and written, and of the replies of sessions.
 #![tactic(auto)]
 
 #[cfg(test)]

@@ -24,12 +24,12 @@ const BORROWING: &[u8] = b"shape 2 2\n\
 /// An update, all alone, which scans first.
 const UPDATE: &[u8] = b"shape 1 1\n1 update 1 7\n1*13\n";
 
-/// The program of the listing.
+/// Returns the program of the listing.
 fn program(alloc: Global) -> Result<Program, Fail> {
     Ok(load(alloc, snap_single::listing(alloc)?.into_listing())?)
 }
 
-/// A session of the listing over a schedule.
+/// Returns a session of the listing over a schedule.
 fn session(rt: &impl Abort, alloc: Global, schedule: &[u8]) -> Result<Session<Seq>, Fail> {
     let program = program(alloc)?;
     assert!(rt; program.kind() == KindTag::Seq);
@@ -37,7 +37,7 @@ fn session(rt: &impl Abort, alloc: Global, schedule: &[u8]) -> Result<Session<Se
     Ok(Session::open(alloc, &program, &schedule)?)
 }
 
-/// The replies to commands, those that are refused among them.
+/// Returns the replies to commands, refused ones among them.
 fn replies(alloc: Global, session: &mut Session<Seq>, commands: &[u8]) -> Result<Vec<u8>, Fail> {
     let mut text = Vec::new(alloc);
     for command in &read_commands(alloc, commands)? {
@@ -50,7 +50,7 @@ fn replies(alloc: Global, session: &mut Session<Seq>, commands: &[u8]) -> Result
     Ok(text)
 }
 
-/// Whether commands over a schedule are answered so.
+/// Checks the replies to commands over a schedule.
 fn check(
     rt: &impl Abort,
     alloc: Global,

@@ -47,7 +47,7 @@ pub fn read(rt: &HostRuntime) -> Result<Vec<u8>, Trouble> {
 }
 
 impl<'a> Inputs<'a> {
-    /// The two parts of an input.
+    /// Returns the two parts of an input.
     pub fn of(alloc: Global, input: &'a [u8]) -> Result<Inputs<'a>, Trouble> {
         let parts = split_parts(alloc, input)?;
         match (parts.get(0), parts.get(1)) {
@@ -57,7 +57,7 @@ impl<'a> Inputs<'a> {
     }
 }
 
-/// The program of the unbounded single-writer listing.
+/// Returns the program of the unbounded single-writer listing.
 pub fn single(alloc: Global) -> Result<Program, Trouble>
     ensures { IfOk result (λ p. p.kind ≡ Seq) }
 {

@@ -7,10 +7,10 @@ use snap_judge_reasons::{failure_text, reasons, right_answers};
 use std::alloc::{AllocError, Global};
 use std::test::Fail;
 
-/// How many configurations a search may keep, more than these histories need.
+/// How many configurations a search may keep, more than the histories need.
 const CONFIGURATIONS: usize = 100;
 
-/// What is written of the history at its event number `count`.
+/// Returns what is written of the history at its event number `count`.
 fn told(alloc: Global, history: &History, count: usize) -> Result<Vec<u8>, AllocError>
     requires { IsHistory history.now }
 {

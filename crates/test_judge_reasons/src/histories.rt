@@ -10,7 +10,7 @@ use snap_words::{Shape, View};
 use std::alloc::{AllocError, Global};
 use std::test::Fail;
 
-/// A process calls a scan.
+/// Returns a call of a scan by a process.
 fn scan(item: u64, process: u32) -> Event
     ensures { result ≡ record { item = item; process = process; what = what.Call op.Scan } }
 {
@@ -21,7 +21,7 @@ fn scan(item: u64, process: u32) -> Event
     }
 }
 
-/// A process calls an update.
+/// Returns a call of an update by a process.
 fn update(item: u64, process: u32, word: u64, value: u64) -> Event
     ensures { result ≡ record {
       item = item;
@@ -36,7 +36,7 @@ fn update(item: u64, process: u32, word: u64, value: u64) -> Event
     }
 }
 
-/// The update of a process ends.
+/// Returns the end of an update of a process.
 fn done(item: u64, process: u32) -> Event
     ensures { result ≡ record { item = item; process = process; what = what.Done } }
 {
@@ -47,7 +47,7 @@ fn done(item: u64, process: u32) -> Event
     }
 }
 
-/// The scan of a process answers these values of the two words.
+/// Returns the answer of a process's scan with these values of the two words.
 fn answer(
     alloc: Global,
     item: u64,
@@ -69,7 +69,8 @@ fn answer(
     })
 }
 
-/// While an update of word 1 to 5 is open, a scan sees it, and one that is called later does not.
+/// Returns a history in which a scan sees an update of word 1 to 5 that is open, and one that is
+/// called later does not.
 pub fn new_then_old(alloc: Global) -> Result<History, Fail>
     ensures { IfOk result IsHistory }
 {
@@ -87,8 +88,8 @@ pub fn new_then_old(alloc: Global) -> Result<History, Fail>
     Ok(History { shape, events })
 }
 
-/// An update of word 1 to 5 ends and is lost: a scan that is called later does not see it, while
-/// an update of word 2 to 7 is open.
+/// Returns a history in which an update of word 1 to 5 ends and is lost: a scan that is called
+/// later does not see it, while an update of word 2 to 7 is open.
 pub fn lost_update(alloc: Global) -> Result<History, Fail>
     ensures { IfOk result IsHistory }
 {
@@ -104,7 +105,7 @@ pub fn lost_update(alloc: Global) -> Result<History, Fail>
     Ok(History { shape, events })
 }
 
-/// A scan sees an update that is called after it has ended.
+/// Returns a history in which a scan sees an update that is called after it has ended.
 pub fn early_sight(alloc: Global) -> Result<History, Fail>
     ensures { IfOk result IsHistory }
 {

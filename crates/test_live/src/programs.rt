@@ -9,7 +9,7 @@ use std::alloc::Global;
 use std::process::Abort;
 use std::test::Fail;
 
-/// The program of the unbounded single-writer listing.
+/// Returns the program of the unbounded single-writer listing.
 pub(crate) fn program(rt: &impl Abort, alloc: Global) -> Result<Program, Fail>
     ensures { IfOk result (λ p. p.kind ≡ Seq) }
 {

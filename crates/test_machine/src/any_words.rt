@@ -4,7 +4,11 @@ ghost use Rattle.std.specs.Prelude.{◌≡◌, IfOk, length};
 use snap_words::{AnyWord, View};
 use std::alloc::{AllocError, Global};
 
-/// A word for 64 processes and two words: the last handshake bit is 1, all others are 0.
+/// Returns a word for 64 processes and two words: the last handshake bit is 1, all others are 0.
+///
+/// # Errors
+///
+/// `AllocError` where memory runs out.
 pub fn parts_of_many(alloc: Global) -> Result<AnyWord, AllocError>
     ensures { IfOk result (λ p. (length p.handshakes ≡ 64) × (length p.view ≡ 2)) }
 {
@@ -20,7 +24,11 @@ pub fn parts_of_many(alloc: Global) -> Result<AnyWord, AllocError>
     })
 }
 
-/// A word for two processes and two words.
+/// Returns a word for two processes and two words.
+///
+/// # Errors
+///
+/// `AllocError` where memory runs out.
 pub fn parts(alloc: Global, toggle: u64, last_handshake: u64) -> Result<AnyWord, AllocError>
     ensures { IfOk result (λ p. (length p.handshakes ≡ 2) × (length p.view ≡ 2)) }
 {

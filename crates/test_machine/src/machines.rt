@@ -261,7 +261,7 @@ update 30\n\
 35: put v[me] = s\n\
 36: finish\n";
 
-/// A text of three parts.
+/// Returns a text of three parts.
 fn text_of(alloc: Global, kind: &[u8], names: &[u8], lines: &[u8]) -> Result<Vec<u8>, AllocError> {
     let mut text = Vec::new(alloc);
     text.extend_from_slice(kind)?;
@@ -270,13 +270,13 @@ fn text_of(alloc: Global, kind: &[u8], names: &[u8], lines: &[u8]) -> Result<Vec
     Ok(text)
 }
 
-/// The program of a text.
+/// Returns the program of a text.
 fn program_of(alloc: Global, text: &[u8]) -> Result<Program, Fail> {
     let image = assemble(alloc, text)?;
     Ok(load(alloc, image.as_slice())?)
 }
 
-/// A machine of so many processes and words over this text, which is a listing of this kind.
+/// Returns a machine of `count` processes and words over `text`, which is a listing of this kind.
 fn machine_of<K: Kind>(
     rt: &impl Abort,
     alloc: Global,
@@ -291,15 +291,15 @@ fn machine_of<K: Kind>(
     Ok(Machine::new(alloc, &program, Shape::new(count, count)?)?)
 }
 
-/// Whether there is a process of this number.
+/// Returns whether there is a process of this number.
 fn has<K: Kind>(machine: &Machine<K>, i: u32) -> bool
     ensures { IsTrue result ↔ IsOneOf machine.now.shape.n i }
 {
     0 < i && u64::from(i) <= machine.shape().n()
 }
 
-/// Does an item, takes it back, and does it again: whatever is expected of a machine here is
-/// expected of one that went back.
+/// Does an item, takes it back, and does it again, so that whatever is expected of a machine here
+/// is expected of one that went back.
 fn does<K: Kind>(machine: &mut Machine<K>, item: Item) -> Result<Outcome, Fail>
     requires { IsOneOf machine.old.shape.n (who item) }
 {
@@ -308,19 +308,19 @@ fn does<K: Kind>(machine: &mut Machine<K>, item: Item) -> Result<Outcome, Fail>
     Ok(machine.apply(item)?)
 }
 
-/// A step of process 1.
+/// Makes a step of process 1.
 fn step<K: Kind>(rt: &impl Abort, machine: &mut Machine<K>) -> Result<Outcome, Fail> {
     assert!(rt; has(machine, 1));
     does(machine, Item::Step(1))
 }
 
-/// A call of process 1.
+/// Makes a call of process 1.
 fn call<K: Kind>(rt: &impl Abort, machine: &mut Machine<K>, op: Op) -> Result<Outcome, Fail> {
     assert!(rt; has(machine, 1));
     does(machine, Item::Call(1, op))
 }
 
-/// Process 1 is called.
+/// Checks that process 1 is called.
 fn is_called<K: Kind>(rt: &impl Abort, machine: &mut Machine<K>, op: Op) -> Result<(), Fail> {
     match call(rt, machine, op)? {
         Outcome::Called => Ok(()),
@@ -328,7 +328,7 @@ fn is_called<K: Kind>(rt: &impl Abort, machine: &mut Machine<K>, op: Op) -> Resu
     }
 }
 
-/// A call of process 1 is skipped for this reason.
+/// Checks that a call of process 1 is skipped for this reason.
 fn is_not_called<K: Kind>(
     rt: &impl Abort,
     machine: &mut Machine<K>,
@@ -344,7 +344,7 @@ fn is_not_called<K: Kind>(
     }
 }
 
-/// So many steps of process 1 go well.
+/// Checks that `steps` steps of process 1 go well.
 fn goes_on<K: Kind>(rt: &impl Abort, machine: &mut Machine<K>, steps: u64) -> Result<(), Fail> {
     for _ in 0..steps {
         match step(rt, machine)? {
@@ -355,7 +355,7 @@ fn goes_on<K: Kind>(rt: &impl Abort, machine: &mut Machine<K>, steps: u64) -> Re
     Ok(())
 }
 
-/// A step of process 1 traps at one of these lines.
+/// Checks that a step of process 1 traps at one of `lines`.
 fn traps<K: Kind>(
     rt: &impl Abort,
     machine: &mut Machine<K>,
@@ -369,7 +369,7 @@ fn traps<K: Kind>(
     Ok(())
 }
 
-/// A step of process 1 is skipped for this reason.
+/// Checks that a step of process 1 is skipped for this reason.
 fn is_skipped<K: Kind>(
     rt: &impl Abort,
     machine: &mut Machine<K>,
@@ -384,7 +384,7 @@ fn is_skipped<K: Kind>(
     }
 }
 
-/// A step of process 1 finishes its update.
+/// Checks that a step of process 1 finishes its update.
 fn finishes<K: Kind>(rt: &impl Abort, machine: &mut Machine<K>) -> Result<(), Fail> {
     match step(rt, machine)? {
         Outcome::Finished => Ok(()),
@@ -392,7 +392,7 @@ fn finishes<K: Kind>(rt: &impl Abort, machine: &mut Machine<K>) -> Result<(), Fa
     }
 }
 
-/// A step of process 1 answers its scan.
+/// Checks that a step of process 1 answers its scan.
 fn answers<K: Kind>(rt: &impl Abort, machine: &mut Machine<K>, values: &[u64]) -> Result<(), Fail> {
     match step(rt, machine)? {
         Outcome::Answered(view) => {
@@ -403,20 +403,20 @@ fn answers<K: Kind>(rt: &impl Abort, machine: &mut Machine<K>, values: &[u64]) -
     }
 }
 
-/// Another outcome was wanted.
+/// Reports that another outcome was wanted.
 fn differs(rt: &impl Abort, outcome: &Outcome) -> Result<(), Fail> {
     assert!(rt; false, "{outcome:?}");
     Ok(())
 }
 
-/// The values of the words.
+/// Checks the values of the words.
 fn values_are<K: Kind>(rt: &impl Abort, machine: &Machine<K>, values: &[u64]) -> Result<(), Fail> {
     let found = machine.values()?;
     assert_eq!(rt; found.as_slice(), values);
     Ok(())
 }
 
-/// A row of a table: process 1 traps there, and then stays so.
+/// Checks a row of a table: process 1 traps there, and then stays trapped.
 fn check_trap<K: Kind>(rt: &impl Abort, machine: &mut Machine<K>, trap: &Trap) -> Result<(), Fail> {
     let (lines, op, steps, cause) = trap;
     is_called(rt, machine, *op)?;
@@ -425,7 +425,7 @@ fn check_trap<K: Kind>(rt: &impl Abort, machine: &mut Machine<K>, trap: &Trap) -
     is_skipped(rt, machine, Reason::Trapped)
 }
 
-/// Each line traps as the table says.
+/// Checks that each line traps as the table says.
 fn check_traps<K: Kind>(
     rt: &impl Abort,
     alloc: Global,
@@ -459,21 +459,21 @@ fn multi_lines_trap(rt: HostRuntime) -> Result<(), Fail> {
     check_traps::<Marked>(&rt, rt.alloc(), KindTag::Multi, MULTI, MULTI_TRAPS)
 }
 
-/// An update of word 2 by process 1.
+/// Makes an update of word 2 by process 1.
 fn update_round<K: Kind>(rt: &impl Abort, machine: &mut Machine<K>) -> Result<(), Fail> {
     is_called(rt, machine, Op::Update { word: 2, value: 7 })?;
     goes_on(rt, machine, 6)?;
     finishes(rt, machine)
 }
 
-/// What the update leaves.
+/// Checks what the update leaves.
 fn check_round<K: Kind>(rt: &impl Abort, machine: &Machine<K>) -> Result<(), Fail> {
     check_registers(rt, machine)?;
     assert!(rt; !has_register(machine, LONE));
     values_are(rt, machine, &[0, 7])
 }
 
-/// The bits and the view that the update puts.
+/// Checks the bits and the view that the update puts.
 fn check_registers<K: Kind>(rt: &impl Abort, machine: &Machine<K>) -> Result<(), Fail> {
     for (bank, j) in [(Bank::Q, 2), (Bank::P, 1)] {
         let bit = machine.register(Address { bank, i: 1, j })?;
@@ -491,12 +491,12 @@ fn check_registers<K: Kind>(rt: &impl Abort, machine: &Machine<K>) -> Result<(),
     Ok(())
 }
 
-/// Whether there is such a register.
+/// Returns whether there is such a register.
 fn has_register<K: Kind>(machine: &Machine<K>, address: Address) -> bool {
     machine.register(address).is_ok()
 }
 
-/// A scan by process 1 after that update.
+/// Makes a scan by process 1 after that update.
 fn scan_round<K: Kind>(rt: &impl Abort, machine: &mut Machine<K>) -> Result<(), Fail> {
     is_called(rt, machine, SCAN)?;
     goes_on(rt, machine, 4)?;
@@ -511,7 +511,7 @@ fn scan_round<K: Kind>(rt: &impl Abort, machine: &mut Machine<K>) -> Result<(), 
     Ok(())
 }
 
-/// An update by process 1, and its scan in a copy after it.
+/// Makes an update by process 1, and its scan in a copy after it.
 fn go_round<K: Kind>(rt: &impl Abort, alloc: Global, kind: KindTag) -> Result<(), Fail>
     requires { kind ≡ K.TAG }
 {
@@ -528,12 +528,12 @@ fn kinds_go_round_alike(rt: HostRuntime) -> Result<(), Fail> {
     go_round::<Marked>(&rt, rt.alloc(), KindTag::Multi)
 }
 
-/// An update of this word.
+/// Makes an update of this word.
 fn update_of(word: u64) -> Op {
     Op::Update { word, value: 5 }
 }
 
-/// Process 1 is idle, then asked for what is not its own, then busy.
+/// Checks process 1 when it is idle, then called for what is not its own, then busy.
 fn check_skips<K: Kind>(rt: &impl Abort, machine: &mut Machine<K>) -> Result<(), Fail> {
     is_skipped(rt, machine, Reason::Idle)?;
     is_not_called(rt, machine, update_of(2), Reason::NotOwner)?;
@@ -550,7 +550,8 @@ fn skips(rt: HostRuntime) -> Result<(), Fail> {
     check_skips(&rt, &mut machine)
 }
 
-/// A machine before the put of an update, and its copy, each go on to the end of the update.
+/// Checks that a machine before the put of an update, and its copy, each go on to the end of the
+/// update.
 fn go_on_apart(
     rt: &impl Abort,
     machine: &mut Machine<Seq>,
@@ -574,13 +575,13 @@ fn copies_go_on_alike(rt: HostRuntime) -> Result<(), Fail> {
     go_on_apart(&rt, &mut machine, &mut copy)
 }
 
-/// A crash of process 1.
+/// Makes a crash of process 1.
 fn crash<K: Kind>(rt: &impl Abort, machine: &mut Machine<K>) -> Result<Outcome, Fail> {
     assert!(rt; has(machine, 1));
     does(machine, Item::Crash(1))
 }
 
-/// Process 1 crashes.
+/// Checks that process 1 crashes.
 fn crashes<K: Kind>(rt: &impl Abort, machine: &mut Machine<K>) -> Result<(), Fail> {
     match crash(rt, machine)? {
         Outcome::Crashed => Ok(()),
@@ -588,7 +589,7 @@ fn crashes<K: Kind>(rt: &impl Abort, machine: &mut Machine<K>) -> Result<(), Fai
     }
 }
 
-/// A crash of process 1 is skipped for this reason.
+/// Checks that a crash of process 1 is skipped for this reason.
 fn is_not_crashed<K: Kind>(
     rt: &impl Abort,
     machine: &mut Machine<K>,
@@ -603,14 +604,14 @@ fn is_not_crashed<K: Kind>(
     }
 }
 
-/// No item of process 1 does anything more.
+/// Checks that no item of process 1 does anything more.
 fn stands_still<K: Kind>(rt: &impl Abort, machine: &mut Machine<K>) -> Result<(), Fail> {
     is_skipped(rt, machine, Reason::Crashed)?;
     is_not_called(rt, machine, SCAN, Reason::Crashed)?;
     is_not_crashed(rt, machine, Reason::Crashed)
 }
 
-/// An update by process 1 that crashes after so many steps, at this line and with this link.
+/// Makes an update by process 1 that crashes after `steps` steps, at this line and with this link.
 fn crash_update(
     rt: &impl Abort,
     alloc: Global,

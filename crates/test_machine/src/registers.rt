@@ -9,7 +9,7 @@ use snap_words::{Bits, Field, Kind, Multi, Seq, Shape, View};
 use std::alloc::{AllocError, Global};
 use std::test::Fail;
 
-/// Whether the datum of word `k` is this.
+/// Returns whether the datum of word `k` is this.
 fn has_datum<K: Kind>(registers: &Registers<K>, k: u64, datum: u64) -> bool {
     match registers.word(k) {
         Ok(word) => K::field(word, Field::Datum) == Some(datum),
@@ -17,14 +17,14 @@ fn has_datum<K: Kind>(registers: &Registers<K>, k: u64, datum: u64) -> bool {
     }
 }
 
-/// Whether there are two words, with these data.
+/// Returns whether there are two words, with these data.
 fn has_data<K: Kind>(registers: &Registers<K>, first: u64, second: u64) -> bool {
     has_datum(registers, 1, first)
         && has_datum(registers, 2, second)
         && registers.word(3).err() == Some(RegisterFault::Index)
 }
 
-/// What comes of it when a process puts a word of kind seq at place 2.
+/// Puts a word of kind seq at place 2 by a process, and returns the result.
 fn put_seq(
     alloc: Global,
     registers: &mut Registers<Seq>,
@@ -37,7 +37,7 @@ fn put_seq(
     Ok(registers.put_word(who, 2, word))
 }
 
-/// Whether registers of kind seq have no bits.
+/// Returns whether registers of kind seq have no bits.
 fn has_no_bits(registers: &mut Registers<Seq>) -> bool {
     registers.bit(BitBank::Q, 1, 1) == Err(RegisterFault::Index)
         && registers.put_bit(1, BitBank::Q, 1, 1, 1) == Err(RegisterFault::Index)
@@ -53,7 +53,7 @@ fn seq(rt: HostRuntime) -> Result<(), Fail> {
     Ok(())
 }
 
-/// Whether bits are put, and refused where they are no bits, another's to write or not there.
+/// Returns whether bits are put, and refused if they are no bits, another's to write or not there.
 fn puts_bits(registers: &mut Registers<Bits>) -> bool {
     registers.put_bit(1, BitBank::Q, 1, 2, 1) == Ok(())
         && registers.put_bit(1, BitBank::Q, 2, 1, 2) == Err(RegisterFault::NotABit)
@@ -61,7 +61,7 @@ fn puts_bits(registers: &mut Registers<Bits>) -> bool {
         && registers.put_bit(1, BitBank::Q, 1, 3, 2) == Err(RegisterFault::Index)
 }
 
-/// Whether the bits that were put are there, and kind bits has no bank P and no views.
+/// Returns whether the bits that were put are there, and kind bits has no bank P and no views.
 fn has_bits(registers: &Registers<Bits>) -> bool {
     registers.bit(BitBank::Q, 1, 2) == Ok(1)
         && registers.bit(BitBank::Q, 2, 1) == Ok(0)
@@ -78,8 +78,8 @@ fn bits(rt: HostRuntime) -> Result<(), Fail> {
     Ok(())
 }
 
-/// Whether of the bits of 64 processes the first one of the last row is 1, and those next to it are
-/// 0.
+/// Returns whether of the bits of 64 processes the first one of the last row is 1, and those next
+/// to it are 0.
 fn has_one_of_many(registers: &Registers<Multi>) -> bool {
     registers.bit(BitBank::Q, 64, 1) == Ok(1)
         && registers.bit(BitBank::Q, 63, 64) == Ok(0)
@@ -98,7 +98,7 @@ fn many_bits(rt: HostRuntime) -> Result<(), Fail> {
     Ok(())
 }
 
-/// What comes of it when process 1 puts a word of kind multi at place 2.
+/// Puts a word of kind multi at place 2 by process 1, and returns the result.
 fn put_multi(
     alloc: Global,
     registers: &mut Registers<Multi>,
@@ -110,7 +110,7 @@ fn put_multi(
     Ok(registers.put_word(1, 2, word))
 }
 
-/// What comes of it when a process puts view 1.
+/// Puts view 1 by a process, and returns the result.
 fn put_view(
     alloc: Global,
     registers: &mut Registers<Multi>,
@@ -123,7 +123,7 @@ fn put_view(
     Ok(registers.put_view(who, 1, view))
 }
 
-/// Whether view 1 has these values.
+/// Returns whether view 1 has the values `want`.
 fn has_view<K: Kind>(registers: &Registers<K>, want: &[u64]) -> bool {
     match registers.view(1) {
         Ok(view) => view.as_slice() == want,
@@ -131,7 +131,7 @@ fn has_view<K: Kind>(registers: &Registers<K>, want: &[u64]) -> bool {
     }
 }
 
-/// Whether everything that was put is there.
+/// Returns whether everything that was put is there.
 fn has_all(registers: &Registers<Multi>) -> bool {
     has_data(registers, 0, 7)
         && registers.bit(BitBank::P, 1, 1) == Ok(1)
@@ -140,7 +140,7 @@ fn has_all(registers: &Registers<Multi>) -> bool {
         && registers.shape().w() == 2
 }
 
-/// Whether a copy has everything too.
+/// Returns whether a copy has everything too.
 fn copy_has_all(alloc: Global, registers: &Registers<Multi>) -> Result<bool, AllocError> {
     let copy = registers.copy(alloc)?;
     Ok(has_all(&copy))

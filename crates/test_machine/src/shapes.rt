@@ -3,7 +3,7 @@ use snap_semantics::Name;
 use snap_words::{Shape, View, WordFault};
 use std::alloc::{AllocError, Global};
 
-/// Whether there is a shape of these counts.
+/// Returns whether there is a shape of `n` processes and `w` words.
 fn has_shape(n: u64, w: u64) -> bool {
     match Shape::new(n, w) {
         Ok(shape) => shape.n() == n && shape.w() == w,
@@ -11,7 +11,7 @@ fn has_shape(n: u64, w: u64) -> bool {
     }
 }
 
-/// Whether these counts are refused as a shape.
+/// Returns whether `n` and `w` are refused as a shape.
 fn is_refused(n: u64, w: u64) -> bool {
     match Shape::new(n, w) {
         Ok(_) => false,
@@ -27,14 +27,14 @@ fn bounds(rt: HostRuntime) {
     }
 }
 
-/// Whether the copy of a view has these values, and the copy of the copy.
+/// Returns whether the copy of a view has these values, and the copy of the copy.
 fn copies_as(alloc: Global, view: &View, want: &[u64]) -> Result<bool, AllocError> {
     let copy = view.copy(alloc)?;
     let again = copy.copy(alloc)?;
     Ok(copy.as_slice() == want && again.as_slice() == want)
 }
 
-/// Whether a view of 7 and 0 is copied, of values of its own and of shared ones.
+/// Returns whether a view of 7 and 0 is copied, of values of its own and of shared ones.
 fn is_copied(alloc: Global) -> Result<bool, AllocError> {
     let own = View::of(vec![in alloc; 7, 0]?);
     let shared = View::shared(alloc, vec![in alloc; 7, 0]?)?;

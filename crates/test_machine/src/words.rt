@@ -25,7 +25,7 @@ struct Wanted {
     view: Option<&'static [u64]>,
 }
 
-/// Whether these are the values, or there are none where none are wanted.
+/// Returns whether the values are `want`, or there are none if none are wanted.
 fn is_row(row: Option<&View>, want: Option<&[u64]>) -> bool {
     match (row, want) {
         (Some(row), Some(want)) => row.as_slice() == want,
@@ -34,7 +34,7 @@ fn is_row(row: Option<&View>, want: Option<&[u64]>) -> bool {
     }
 }
 
-/// Whether a word has these handshake bits, and no more of them.
+/// Returns whether a word has these handshake bits, and no more of them.
 fn has_handshakes<K: Kind>(word: &K::Word, want: &[u64]) -> bool {
     for (place, handshake) in want.iter().enumerate() {
         if handshake_of::<K>(word, place) != *handshake {
@@ -44,7 +44,7 @@ fn has_handshakes<K: Kind>(word: &K::Word, want: &[u64]) -> bool {
     K::handshake_count(word) as usize == want.len() && handshake_of::<K>(word, want.len()) == 0
 }
 
-/// Whether the fields of a word and its second handshake bit are as wanted.
+/// Returns whether the fields of a word and its second handshake bit are as wanted.
 fn has_fields<K: Kind>(word: &K::Word, want: &Wanted) -> bool {
     K::field(word, Field::Datum) == want.datum
         && K::field(word, Field::Seq) == want.seq
@@ -53,20 +53,20 @@ fn has_fields<K: Kind>(word: &K::Word, want: &Wanted) -> bool {
         && K::handshake(word, 2) == want.handshake
 }
 
-/// Whether a word is as wanted.
+/// Returns whether a word is as wanted.
 fn is_word<K: Kind>(word: &K::Word, want: &Wanted) -> bool {
     has_fields::<K>(word, want)
         && has_handshakes::<K>(word, want.handshakes)
         && is_row(K::view(word), want.view)
 }
 
-/// Whether the copy of a word is as wanted.
+/// Returns whether the copy of a word is as wanted.
 fn copies_as<K: Kind>(alloc: Global, word: &K::Word, want: &Wanted) -> Result<bool, AllocError> {
     let copy = K::copy(alloc, word)?;
     Ok(is_word::<K>(&copy, want) && same_handshakes::<K>(&copy, word))
 }
 
-/// Whether a word of any kind is built as one of the kind, and its copy is as wanted.
+/// Returns whether a word of any kind is built as one of the kind, and its copy is as wanted.
 fn builds_as<K: Kind>(
     alloc: Global,
     shape: Shape,
@@ -81,7 +81,7 @@ fn builds_as<K: Kind>(
     }
 }
 
-/// Whether a word of any kind is refused by the kind.
+/// Returns whether a word of any kind is refused by the kind.
 fn is_refused<K: Kind>(shape: Shape, given: AnyWord) -> bool
     requires { is_sized K.TAG shape (word_of_any given) ≡ true }
 {
@@ -91,13 +91,13 @@ fn is_refused<K: Kind>(shape: Shape, given: AnyWord) -> bool
     }
 }
 
-/// Whether a word that nobody has written is as wanted.
+/// Returns whether a word that nobody has written is as wanted.
 fn begins_as<K: Kind>(alloc: Global, shape: Shape, want: &Wanted) -> Result<bool, AllocError> {
     let word = K::initial(alloc, shape)?;
     Ok(is_word::<K>(&word, want))
 }
 
-/// Whether there are these of the banks R, Q, P and V.
+/// Returns whether the banks R, Q, P and V are there as the arguments say.
 fn has_banks<K: Kind>(r: bool, q: bool, p: bool, v: bool) -> bool {
     K::has_bank(Bank::R) == r
         && K::has_bank(Bank::Q) == q
@@ -105,7 +105,7 @@ fn has_banks<K: Kind>(r: bool, q: bool, p: bool, v: bool) -> bool {
         && K::has_bank(Bank::V) == v
 }
 
-/// Whether process 1 may write a word of process 2.
+/// Returns whether process 1 may write a word of process 2.
 fn writes_words<K: Kind>() -> bool {
     let word = Address {
         bank: Bank::R,
@@ -115,7 +115,7 @@ fn writes_words<K: Kind>() -> bool {
     K::may_write(1, word)
 }
 
-/// Whether process 1 may write a bit of its own.
+/// Returns whether process 1 may write a bit of its own.
 fn writes_bits<K: Kind>() -> bool {
     let bit = Address {
         bank: Bank::Q,
@@ -125,7 +125,7 @@ fn writes_bits<K: Kind>() -> bool {
     K::may_write(1, bit)
 }
 
-/// Whether there are registers of two processes and this many words.
+/// Returns whether there are registers of two processes and this many words.
 fn fits_words<K: Kind>(w: u64) -> bool {
     match Shape::new(2, w) {
         Ok(shape) => K::fits(shape),
@@ -199,7 +199,7 @@ fn bits(rt: HostRuntime) -> Result<(), Fail> {
     Ok(())
 }
 
-/// Whether the last of 64 handshake bits is 1, the others are 0, and there are no more.
+/// Returns whether the last of 64 handshake bits is 1, the others are 0, and there are no more.
 fn has_last_of_many(word: &BitsWord) -> bool {
     Bits::handshake_count(word) == 64
         && Bits::handshake(word, 1) == Some(0)
@@ -243,8 +243,8 @@ fn multi(rt: HostRuntime) -> Result<(), Fail> {
     Ok(())
 }
 
-/// Whether a new word of two processes and two words has these handshake bits and this view, and
-/// the sequence number 0.
+/// Returns whether a new word of two processes and two words has these handshake bits and this
+/// view, and the sequence number 0.
 fn has_parts<K: Kind>(alloc: Global, handshakes: &[u64], view: &[u64]) -> Result<bool, Fail> {
     let word = K::initial(alloc, Shape::new(2, 2)?)?;
     Ok(

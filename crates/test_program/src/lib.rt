@@ -1,3 +1,3 @@
 //! Worked samples of what the program writes, from the bytes that it reads to the bytes that it
-//! writes: they are computed from the definitions alone.
+//! writes, computed from the definitions alone.
 #![tactic(auto)]

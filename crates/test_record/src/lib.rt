@@ -1,5 +1,5 @@
-//! Tests of what a record keeps of runs of a snapshot listing, of what an audit of it finds, and of
-//! the snapshot listings, each of which is read from its text.
+//! Tests of the records of runs of a snapshot listing, of the audits of records, and of the
+//! snapshot listings, each of which is read from its text.
 #![tactic(auto)]
 
 #[cfg(test)]

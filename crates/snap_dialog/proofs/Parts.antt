@@ -12,8 +12,8 @@ use Rattle.snap_dialog.specs.Event.{Event, said, typed, Passes, PassesAll, Shows
 use Rattle.snap_dialog.specs.Failures.{AreCountless, MayEndDialog}
 use Rattle.snap_dialog.specs.Talks.{HasPassed, HasShown, HasTaken, PartPassed, PartShown, TurnShown}
 use Rattle.snap_dialog.specs.TypedLines.{GivesNext, kept, typed_lines}
-use Rattle.snap_dialog.specs.declared.fault.DialogFault.{DialogFault}
-use Rattle.snap_dialog.specs.declared.fault.DialogFault.TheVariants as fault
+use Rattle.snap_dialog.specs.declared.dialog_fault.DialogFault.{DialogFault}
+use Rattle.snap_dialog.specs.declared.dialog_fault.DialogFault.TheVariants as fault
 use Rattle.snap_dialog.proofs.Dialogs.{all_pass, appends_nothing, appends_then, nothing_passes, one_passes}
 use Rattle.snap_dialog.proofs.Dialogs.{part_of_first}
 use Rattle.snap_streams.specs.Sent.{Sends, unsent}

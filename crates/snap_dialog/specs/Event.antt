@@ -2,7 +2,7 @@
 use Rattle.std.specs.Prelude.{◌≡◌, ℕ, Vec, List, [], ◌∷◌, ◌++◌, Option, None, Some, Result, Ok, Err, ⊤}
 use Rattle.std.specs.Global.{Global}
 use Rattle.std.specs.Io.KnownBytes.{Appends}
-use Rattle.snap_dialog.specs.declared.fault.DialogFault.{DialogFault}
+use Rattle.snap_dialog.specs.declared.dialog_fault.DialogFault.{DialogFault}
 
 -- a text that was shown, and a line that was typed
 pub data Event : Type 0 where

@@ -1,8 +1,8 @@
 -- `failure_of`: the device of a console that an error tells of; and when a line, or a dialog, may end in an error.
 use Rattle.std.specs.Prelude.{ℕ, ◌-◌, ◌^◌, ◌≤◌, Bool, true, false, List, length, Option, None, Some, IfSome, ⊤}
 use Rattle.std.specs.Prelude.{Result, Ok, Err}
-use Rattle.snap_dialog.specs.declared.fault.DialogFault.{DialogFault}
-use Rattle.snap_dialog.specs.declared.fault.DialogFault.TheVariants as fault
+use Rattle.snap_dialog.specs.declared.dialog_fault.DialogFault.{DialogFault}
+use Rattle.snap_dialog.specs.declared.dialog_fault.DialogFault.TheVariants as fault
 
 -- what has failed where an answer is so
 abbrev pub failure_of : {A : Type 0} → Result A DialogFault → Option DialogFault

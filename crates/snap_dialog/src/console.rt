@@ -4,10 +4,10 @@ ghost use Rattle.std.specs.Io.BufRead.{take_through, DropsThrough};
 ghost use Rattle.snap_dialog.specs.Event.{Event, Says, Shows, Types};
 ghost use Rattle.snap_dialog.specs.Failures.{MayEndLine, failure_of};
 ghost use Rattle.snap_dialog.specs.TypedLines.{kept};
-ghost use Rattle.snap_dialog.specs.declared.fault.DialogFault.{DialogFault};
-ghost use Rattle.snap_dialog.specs.declared.fault.DialogFault.TheVariants.{Write};
+ghost use Rattle.snap_dialog.specs.declared.dialog_fault.DialogFault.{DialogFault};
+ghost use Rattle.snap_dialog.specs.declared.dialog_fault.DialogFault.TheVariants.{Write};
 
-use crate::fault::DialogFault;
+use crate::dialog_fault::DialogFault;
 use std::alloc::Global;
 
 /// A place where lines are typed and texts are shown.

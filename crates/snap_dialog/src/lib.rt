@@ -2,7 +2,7 @@
 #![tactic(auto)]
 
 mod console;
-mod fault;
+mod dialog_fault;
 mod folder;
 mod respondent;
 mod terminal;
@@ -10,7 +10,7 @@ mod turns;
 mod typed_line;
 
 pub use console::Console;
-pub use fault::DialogFault;
+pub use dialog_fault::DialogFault;
 pub use folder::Folder;
 pub use respondent::Respondent;
 pub use terminal::Terminal;

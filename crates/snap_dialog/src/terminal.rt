@@ -3,7 +3,7 @@ ghost use Rattle.std.specs.Prelude.{◌≡◌};
 ghost use Rattle.snap_dialog.specs.Failures.{failure_in};
 
 use crate::console::Console;
-use crate::fault::DialogFault;
+use crate::dialog_fault::DialogFault;
 use crate::typed_line::read_line;
 use snap_streams::{ByteSink, ByteSource, write_all};
 use std::alloc::Global;

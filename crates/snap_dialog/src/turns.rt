@@ -8,7 +8,7 @@ ghost use Rattle.snap_dialog.specs.Talks.{PartPassed, PartShown, TurnPassed, Tur
 ghost use Rattle.snap_dialog.specs.TypedLines.{typed_lines};
 
 use crate::console::Console;
-use crate::fault::DialogFault;
+use crate::dialog_fault::DialogFault;
 use crate::respondent::Respondent;
 use std::alloc::{AllocError, Global};
 

@@ -4,9 +4,9 @@ ghost use Rattle.std.specs.Prelude.{◌≡◌, ◌<◌, false, is_err, IfErr, If
 ghost use Rattle.std.specs.Io.BufRead.{take_through, DropsThrough};
 ghost use Rattle.snap_dialog.specs.Failures.{MayEndLine, is_read_fault};
 ghost use Rattle.snap_dialog.specs.TypedLines.{GivesNext, kept, with_byte};
-ghost use Rattle.snap_dialog.specs.declared.fault.DialogFault.TheVariants.{Read};
+ghost use Rattle.snap_dialog.specs.declared.dialog_fault.DialogFault.TheVariants.{Read};
 
-use crate::fault::DialogFault;
+use crate::dialog_fault::DialogFault;
 use snap_streams::ByteSource;
 use std::alloc::{AllocError, Global};
 

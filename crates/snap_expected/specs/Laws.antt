@@ -2,7 +2,7 @@
 -- one.
 use Rattle.std.specs.Prelude.{◌≡◌, List, ◌∷◌, ◌++◌, length, Some}
 use Rattle.snap_semantics.specs.Token.{Token}
-use Rattle.snap_expected.specs.declared.sorts.LineSort.{LineSort}
+use Rattle.snap_expected.specs.declared.line_sorts.LineSort.{LineSort}
 use Rattle.snap_expected.specs.Lost.{Place, lost_in}
 
 -- where a line is lost at a token, so is each line that begins with the tokens up to it, at the same place

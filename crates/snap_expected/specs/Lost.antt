@@ -6,10 +6,10 @@ use Rattle.snap_semantics.specs.Token.{Token}
 use Rattle.snap_expected.specs.declared.wanted.Keyword.TheVariants as keyword
 use Rattle.snap_expected.specs.declared.wanted.Wanted.{Wanted}
 use Rattle.snap_expected.specs.declared.wanted.Wanted.TheVariants as wanted
-use Rattle.snap_expected.specs.declared.sorts.LineSort.{LineSort}
-use Rattle.snap_expected.specs.declared.sorts.LineSort.TheVariants as line
-use Rattle.snap_expected.specs.declared.sorts.Header.{Header}
-use Rattle.snap_expected.specs.declared.sorts.Header.TheVariants as header
+use Rattle.snap_expected.specs.declared.line_sorts.LineSort.{LineSort}
+use Rattle.snap_expected.specs.declared.line_sorts.LineSort.TheVariants as line
+use Rattle.snap_expected.specs.declared.line_sorts.Header.{Header}
+use Rattle.snap_expected.specs.declared.line_sorts.Header.TheVariants as header
 use Rattle.snap_expected.specs.After.{Step, Takes, Passes, Refuses, after, may_pass}
 
 -- what is wanted behind a token that makes this step, with these wanted behind; where it

@@ -6,7 +6,7 @@ mod after;
 mod laws;
 mod lost;
 mod pieces;
-mod sorts;
+mod line_sorts;
 mod tests;
 mod wanted;
 
@@ -14,6 +14,6 @@ pub use after::may_pass;
 pub use laws::what_is_lost_stays_lost;
 pub use lost::{LostPlace, lost_in};
 pub use pieces::{PlacedToken, PlacedTokens, is_lexeme_byte, piece_len, placed_tokens};
-pub use sorts::{Header, LineSort};
+pub use line_sorts::{Header, LineSort};
 pub use tests::{is_bit_bank, is_identifier, is_line, is_name, is_symbol, is_word};
 pub use wanted::{Keyword, Wanted};

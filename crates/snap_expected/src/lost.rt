@@ -8,7 +8,7 @@ ghost use Rattle.snap_expected.specs.Steps.{placed_tokens, view_lost};
 
 use crate::after::{Step, after, may_pass};
 use crate::pieces::PlacedToken;
-use crate::sorts::{Header, LineSort};
+use crate::line_sorts::{Header, LineSort};
 use crate::wanted::{Keyword, Wanted};
 use snap_semantics::Symbol;
 use snap_text::Token;

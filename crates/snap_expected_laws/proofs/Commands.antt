@@ -11,7 +11,7 @@ use Rattle.snap_debug_commands.specs.declared.command.Breakpoint.{Breakpoint}
 use Rattle.snap_debug_commands.specs.declared.command.Command.{Command}
 use Rattle.snap_listing_grammar.proofs.HasForms.{Holds, then_with, either}
 use Rattle.snap_listing_grammar.proofs.SpelledTerms.{NumberIs, number_is, KeywordIs, keyword_is, EndIs, end_is, on_cons}
-use Rattle.snap_expected.specs.declared.sorts.LineSort.TheVariants as line
+use Rattle.snap_expected.specs.declared.line_sorts.LineSort.TheVariants as line
 use Rattle.snap_expected.specs.Lost.{lost_in}
 use Rattle.snap_expected_laws.proofs.Forms.{mapped, holds_more}
 

@@ -25,9 +25,9 @@ use Rattle.snap_expected.specs.declared.wanted.Keyword.{Keyword}
 use Rattle.snap_expected.specs.declared.wanted.Keyword.TheVariants as keyword
 use Rattle.snap_expected.specs.declared.wanted.Wanted.{Wanted}
 use Rattle.snap_expected.specs.declared.wanted.Wanted.TheVariants as wanted
-use Rattle.snap_expected.specs.declared.sorts.LineSort.{LineSort}
-use Rattle.snap_expected.specs.declared.sorts.LineSort.TheVariants as line
-use Rattle.snap_expected.specs.declared.sorts.Header.TheVariants as header
+use Rattle.snap_expected.specs.declared.line_sorts.LineSort.{LineSort}
+use Rattle.snap_expected.specs.declared.line_sorts.LineSort.TheVariants as line
+use Rattle.snap_expected.specs.declared.line_sorts.Header.TheVariants as header
 use Rattle.snap_expected.specs.After.{one, maybe_begun}
 use Rattle.snap_expected.specs.Lost.{Place, lost, lost_at, lost_in, step, stepped, may_end}
 use Rattle.snap_expected.specs.Tests.{keyword_text, is_kind}

@@ -8,9 +8,9 @@ use Rattle.snap_semantics.specs.Token.{Token}
 use Rattle.snap_sched.specs.ScriptForms.{script_form}
 use Rattle.snap_debug_commands.specs.CommandForms.{command_form}
 use Rattle.snap_expected.specs.declared.wanted.Keyword.TheVariants as keyword
-use Rattle.snap_expected.specs.declared.sorts.Header.TheVariants as header
-use Rattle.snap_expected.specs.declared.sorts.LineSort.{LineSort}
-use Rattle.snap_expected.specs.declared.sorts.LineSort.TheVariants as line
+use Rattle.snap_expected.specs.declared.line_sorts.Header.TheVariants as header
+use Rattle.snap_expected.specs.declared.line_sorts.LineSort.{LineSort}
+use Rattle.snap_expected.specs.declared.line_sorts.LineSort.TheVariants as line
 use Rattle.snap_expected.specs.Lost.{Place, lost_in, wanted_of}
 use Rattle.snap_expected.specs.Tests.{keyword_text}
 use Rattle.snap_expected.proofs.Stays.{stays}

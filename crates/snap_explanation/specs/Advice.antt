@@ -3,8 +3,8 @@ use Rattle.std.specs.Prelude.{ℕ, Bool, true, false, List, [], ◌∷◌, Optio
 use Rattle.std.specs.List.{list_all}
 use Rattle.snap_semantics.specs.declared.text.Symbol.TheVariants as symbol
 use Rattle.snap_semantics.specs.Token.{Token, is_digit, is_lexeme_byte}
-use Rattle.snap_expected.specs.declared.sorts.LineSort.{LineSort}
-use Rattle.snap_expected.specs.declared.sorts.LineSort.TheVariants as line
+use Rattle.snap_expected.specs.declared.line_sorts.LineSort.{LineSort}
+use Rattle.snap_expected.specs.declared.line_sorts.LineSort.TheVariants as line
 use Rattle.snap_expected.specs.declared.wanted.Keyword.TheVariants as keyword
 use Rattle.snap_expected.specs.declared.wanted.Wanted.{Wanted}
 use Rattle.snap_expected.specs.declared.wanted.Wanted.TheVariants as wanted

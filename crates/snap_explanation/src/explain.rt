@@ -19,7 +19,7 @@ ghost use Rattle.snap_explanation.specs.Explanation.{schedule_explained, command
 ghost use Rattle.snap_explanation.specs.Explanation.{image_explained};
 ghost use Rattle.snap_explanation.specs.Explanation.{too_many_spot, leading_spot, part_explained};
 ghost use Rattle.snap_explanation.specs.Explanation.{explanation};
-ghost use Rattle.snap_expected.specs.declared.sorts.Header.TheVariants.{Kind};
+ghost use Rattle.snap_expected.specs.declared.line_sorts.Header.TheVariants.{Kind};
 ghost use Rattle.snap_semantics.specs.declared.refusal.ListingRefusal.TheVariants.{BadHeader};
 ghost use Rattle.snap_explanation.specs.Names.{first_such, is_bad, leading_line, nth_token};
 ghost use Rattle.snap_explanation.specs.Sorts.{kind_in};

@@ -2,7 +2,7 @@
 ghost use Rattle.std.specs.Prelude.{◌≡◌, IfOk, OnOk};
 ghost use Rattle.snap_semantics.specs.Token.{text_lines};
 ghost use Rattle.snap_draft.specs.Drafted.{Adds};
-ghost use Rattle.snap_expected.specs.declared.sorts.LineSort.TheVariants.{Shape};
+ghost use Rattle.snap_expected.specs.declared.line_sorts.LineSort.TheVariants.{Shape};
 ghost use Rattle.snap_explanation.specs.Explanation.{first_number, form_text};
 ghost use Rattle.snap_explanation.specs.HistoryExplanation.{history_explanation, history_part};
 ghost use Rattle.snap_explanation.specs.HistoryExplanation.{line_said};

@@ -2,8 +2,8 @@
 use Rattle.std.proofs.Common.{ℕ, List, Err, Option, Some, None, IfSome}
 use Rattle.std.specs.declared.io.ErrorKind.{ErrorKind}
 use Rattle.snap_files.specs.FileTexts.{IsFaultOf, ReadsOpen}
-use Rattle.snap_files.specs.declared.fault.FileFault.{FileFault}
-use Rattle.snap_files.specs.declared.fault.FileFault.TheVariants.{Memory, TooLong, Unread}
+use Rattle.snap_files.specs.declared.file_fault.FileFault.{FileFault}
+use Rattle.snap_files.specs.declared.file_fault.FileFault.TheVariants.{Memory, TooLong, Unread}
 
 fails_open : (most : ℕ) (input : List ℕ) (k : ErrorKind) (f : FileFault) → IsFaultOf k f → ReadsOpen most input (Err f)
 fails_open most input k Memory h = tt

@@ -3,8 +3,8 @@ use Rattle.std.proofs.Common.{ℕ, List, Vec, Result, Ok, Err, Option, Some, Non
 use Rattle.std.specs.Global.{Global}
 use Rattle.std.specs.declared.io.ErrorKind.{ErrorKind}
 use Rattle.snap_files.specs.FileTexts.{Gives, IsTextOf, Reads, short_text}
-use Rattle.snap_files.specs.declared.fault.FileFault.{FileFault}
-use Rattle.snap_files.specs.declared.fault.FileFault.TheVariants.{Memory, TooLong, Unread}
+use Rattle.snap_files.specs.declared.file_fault.FileFault.{FileFault}
+use Rattle.snap_files.specs.declared.file_fault.FileFault.TheVariants.{Memory, TooLong, Unread}
 
 -- a file has a text, or there is a reason why it is not read
 pub some_text : (most : ℕ) (there : Option (Result (List ℕ) ErrorKind)) →

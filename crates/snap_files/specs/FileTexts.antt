@@ -5,8 +5,8 @@ use Rattle.std.specs.Prelude.{length, ⊤, codes, if◌then◌else◌}
 use Rattle.std.specs.Global.{Global}
 use Rattle.std.specs.declared.io.ErrorKind.{ErrorKind}
 use Rattle.std.specs.declared.io.ErrorKind.TheVariants as kind
-use Rattle.snap_files.specs.declared.fault.FileFault.{FileFault}
-use Rattle.snap_files.specs.declared.fault.FileFault.TheVariants as fault
+use Rattle.snap_files.specs.declared.file_fault.FileFault.{FileFault}
+use Rattle.snap_files.specs.declared.file_fault.FileFault.TheVariants as fault
 
 -- why a file could not be opened or read, for a person
 abbrev pub reason : ErrorKind → List ℕ

@@ -1,10 +1,10 @@
 //! Files that a command line names, read whole.
 #![tactic(auto)]
 
-mod fault;
+mod file_fault;
 mod read;
 mod source;
 
-pub use fault::{FileFault, reason};
+pub use file_fault::{FileFault, reason};
 pub use read::{read_below, read_named, read_opened};
 pub use source::{Disk, FileSource};

@@ -5,7 +5,7 @@ ghost use Rattle.std.specs.Prelude.{MatchOption, None, length};
 ghost use Rattle.std.specs.IoError.{error_kind};
 ghost use Rattle.snap_files.specs.FileTexts.{IsFaultOf, Reads, ReadsOpen};
 
-use crate::fault::FileFault;
+use crate::file_fault::FileFault;
 use std::alloc::Global;
 use std::fs::File;
 use std::io;

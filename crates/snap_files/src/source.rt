@@ -4,7 +4,7 @@ ghost use Rattle.std.specs.Prelude.{ℕ, List, Option, None, Result};
 ghost use Rattle.std.specs.declared.io.ErrorKind.{ErrorKind};
 ghost use Rattle.snap_files.specs.FileTexts.{Reads};
 
-use crate::fault::FileFault;
+use crate::file_fault::FileFault;
 use crate::read::read_named;
 use std::alloc::Global;
 

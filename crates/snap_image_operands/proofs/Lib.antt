@@ -1,2 +1,2 @@
 -- The proofs of snap_image_operands, by their modules.
-pub mod FormUses
+pub mod FormNeeds

@@ -8,7 +8,7 @@ ghost use Rattle.snap_semantics.specs.declared.process.Cause.TheVariants.{NotABi
 ghost use Rattle.snap_asm_program.specs.NamedLines.{named_tuple};
 ghost use Rattle.snap_line_effects.specs.TupleValues.{given_word, given_in, as_word_in};
 ghost use Rattle.snap_line_effects.specs.Lines.{IfAnswered};
-ghost use Rattle.snap_values.specs.Seen.{seen_context};
+ghost use Rattle.snap_values.specs.SeenProcesses.{seen_context};
 
 use crate::lines::Halt;
 use snap_asm_program::{Program, SlotTuple};

@@ -4,7 +4,7 @@ ghost use Rattle.std.specs.Prelude.{◌≡◌, [], ◌∷◌, ◌++◌, drop, If
 ghost use Rattle.snap_asm_program.specs.NamedLines.{name_at, named_expr, named_where};
 ghost use Rattle.snap_line_effects.specs.Lines.{IfAnswered};
 ghost use Rattle.snap_line_effects.specs.Rows.{new_row, items_of};
-ghost use Rattle.snap_values.specs.Seen.{seen_context};
+ghost use Rattle.snap_values.specs.SeenProcesses.{seen_context};
 
 use crate::lines::Halt;
 use snap_asm_program::{Program, SlotCondition, SlotExpr};

@@ -4,7 +4,7 @@ ghost use Rattle.std.specs.Prelude.{◌≡◌, length, map};
 ghost use Rattle.snap_words.specs.Shape.{IsOneOf};
 ghost use Rattle.snap_semantics.specs.Table.{call_skip, done, entry, owner_skip};
 ghost use Rattle.snap_semantics.specs.declared.process.Item.TheVariants as item;
-ghost use Rattle.snap_values.specs.Seen.{seen_process, seen_state};
+ghost use Rattle.snap_values.specs.SeenProcesses.{seen_process, seen_state};
 ghost use Rattle.snap_line_effects.specs.Sizes.{AllSized};
 
 use snap_listing_core::Listing;

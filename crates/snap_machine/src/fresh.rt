@@ -4,7 +4,7 @@ ghost use Rattle.std.specs.Prelude.{◌≡◌, IfOk, map, replicate, vec_items};
 ghost use Rattle.snap_words.specs.Kind.{initial_word};
 ghost use Rattle.snap_words.specs.Shape.{places};
 ghost use Rattle.snap_semantics.specs.State.{initial_process};
-ghost use Rattle.snap_values.specs.Seen.{seen_process};
+ghost use Rattle.snap_values.specs.SeenProcesses.{seen_process};
 
 use snap_listing_core::Listing;
 use snap_semantics::Status;

@@ -36,7 +36,7 @@ ghost use Rattle.snap_machine.specs.SeenContents.{
   value_there,
 };
 ghost use Rattle.snap_undo.specs.Undo.{CanPut, put};
-ghost use Rattle.snap_values.specs.Seen.{seen_locals};
+ghost use Rattle.snap_values.specs.SeenProcesses.{seen_locals};
 
 use crate::call::{call, crash};
 use crate::contents::{Contents, Local};
@@ -77,7 +77,7 @@ impl<K: Kind> Model for Machine<K> {
 
     ghost Value = { Configuration };
 
-    ghost use Rattle.snap_values.specs.Seen.{seen_state};
+    ghost use Rattle.snap_values.specs.SeenProcesses.{seen_state};
 
     ghost view = { λ m. record {
       source = m.program;

@@ -1,3 +1,3 @@
 -- The proofs of snap_prompt_lines, by their modules.
 pub mod Fronts
-pub mod Added
+pub mod AddedItems

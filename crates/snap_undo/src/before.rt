@@ -5,7 +5,7 @@ ghost use Rattle.snap_words.specs.Shape.{is_place};
 ghost use Rattle.snap_semantics.specs.State.{value_at};
 ghost use Rattle.snap_asm_program.specs.NamedLines.{name_at};
 ghost use Rattle.snap_regs.specs.Access.{is_bit_place, is_view_place};
-ghost use Rattle.snap_undo.specs.Seen.{seen_place};
+ghost use Rattle.snap_undo.specs.SeenPlaces.{seen_place};
 ghost use Rattle.snap_undo.specs.Written.{
   bit_before,
   local_view_before,
@@ -19,7 +19,7 @@ ghost use Rattle.snap_undo.specs.Written.{
   writes_local,
   written,
 };
-ghost use Rattle.snap_values.specs.Seen.{seen_context, seen_locals};
+ghost use Rattle.snap_values.specs.SeenProcesses.{seen_context, seen_locals};
 
 use crate::undo::SlotPlace;
 use snap_asm_program::{Program, SlotInstr};

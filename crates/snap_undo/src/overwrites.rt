@@ -3,11 +3,11 @@ ghost use Rattle.std.specs.Prelude.{◌≡◌, IfOk, length, map};
 ghost use Rattle.snap_words.specs.Shape.{IsOneOf};
 ghost use Rattle.snap_semantics.specs.Table.{done, who};
 ghost use Rattle.snap_values.specs.Sizes.{AllSized, IsReady};
-ghost use Rattle.snap_undo.specs.Seen.{seen_place};
+ghost use Rattle.snap_undo.specs.SeenPlaces.{seen_place};
 ghost use Rattle.snap_undo.specs.Undo.{CanPut, FitsPlace, put};
 ghost use Rattle.snap_undo.specs.Written.{ItemPutsBack, PutsBack, StepPutsBack};
 ghost use Rattle.snap_values.specs.Current.{current_effect};
-ghost use Rattle.snap_values.specs.Seen.{seen_context, seen_locals, seen_process, seen_state};
+ghost use Rattle.snap_values.specs.SeenProcesses.{seen_context, seen_locals, seen_process, seen_state};
 
 use crate::before::place_before;
 use crate::undo::{SlotPlace, Undo};

@@ -42,7 +42,7 @@ pub struct Undo<K: Kind> {
 }
 
 impl<K: Kind> Model for Undo<K> {
-    ghost use Rattle.snap_undo.specs.Seen.{seen_place};
+    ghost use Rattle.snap_undo.specs.SeenPlaces.{seen_place};
     ghost use Rattle.snap_undo.specs.Undo.{Overwritten};
 
     ghost Value = { Overwritten };

@@ -6,7 +6,7 @@ ghost use Rattle.snap_semantics.specs.Table.{each_value, range_end};
 ghost use Rattle.snap_asm_program.specs.NamedLines.{name_at, named_condition, named_expr};
 ghost use Rattle.snap_asm_program.specs.NamedLines.{named_where};
 ghost use Rattle.snap_values.specs.Quantifiers.{first_place, holds_at_all, checked_values};
-ghost use Rattle.snap_values.specs.Seen.{seen_context};
+ghost use Rattle.snap_values.specs.SeenProcesses.{seen_context};
 
 use crate::locals::row;
 use crate::slot_process::SlotProcess;

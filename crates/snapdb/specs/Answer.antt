@@ -4,7 +4,7 @@ use Rattle.std.specs.Prelude.{◌≡◌, ◌⊎◌, ℕ, Bool, List, [], Option,
 use Rattle.std.specs.Prelude.{string_bytes}
 use Rattle.std.specs.declared.io.ErrorKind.{ErrorKind}
 use Rattle.snap_dialog.specs.Event.{Shows}
-use Rattle.snap_dialog.specs.declared.fault.DialogFault.{DialogFault}
+use Rattle.snap_dialog.specs.declared.dialog_fault.DialogFault.{DialogFault}
 use Rattle.snap_faults.specs.Names.{of_program}
 use Rattle.snap_faults.specs.Told.{SaysWhy, Tells, exit_status, no_memory_line, no_text_line, success}
 use Rattle.snap_faults.specs.declared.fault.ProgramFault.{ProgramFault}

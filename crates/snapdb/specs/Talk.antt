@@ -3,7 +3,7 @@
 use Rattle.std.specs.Prelude.{◌≡◌, ◌⊎◌, ℕ, List, Option, Some, None, Result, Ok, Err, IfSome}
 use Rattle.snap_dialog.specs.Dialog.{ShowsTranscript, ShowsTranscriptPart}
 use Rattle.snap_dialog.specs.TypedLines.{typed_lines}
-use Rattle.snap_dialog.specs.declared.fault.DialogFault.{DialogFault}
+use Rattle.snap_dialog.specs.declared.dialog_fault.DialogFault.{DialogFault}
 use Rattle.snap_faults.specs.declared.fault.ProgramFault.{ProgramFault}
 use Rattle.snap_faults.specs.declared.fault.ProgramFault.TheVariants as fault
 use Rattle.snap_input.specs.Schedules.{schedule_for}

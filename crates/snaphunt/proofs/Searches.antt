@@ -9,8 +9,8 @@ use Rattle.snap_faults.specs.declared.fault.ProgramFault.{ProgramFault}
 use Rattle.snap_faults.specs.declared.fault.ProgramFault.TheVariants as fault
 use Rattle.snap_faults.specs.declared.files.Which.TheVariants as which
 use Rattle.snap_files.specs.FileTexts.{Gives, IsTextOf, Reads}
-use Rattle.snap_files.specs.declared.fault.FileFault.{FileFault}
-use Rattle.snap_files.specs.declared.fault.FileFault.TheVariants as file
+use Rattle.snap_files.specs.declared.file_fault.FileFault.{FileFault}
+use Rattle.snap_files.specs.declared.file_fault.FileFault.TheVariants as file
 use Rattle.snap_files.proofs.Texts.{text_read}
 use Rattle.snap_hunt_output.specs.Hunted.{IsDue}
 use Rattle.snap_hunt_output.specs.declared.asked.Asked.{Asked}

@@ -11,7 +11,7 @@ use Rattle.snap_faults.specs.declared.fault.ProgramFault.{ProgramFault}
 use Rattle.snap_faults.specs.declared.fault.ProgramFault.TheVariants as fault
 use Rattle.snap_faults.specs.declared.files.Which.TheVariants as which
 use Rattle.snap_files.specs.FileTexts.{IsTextOf}
-use Rattle.snap_files.specs.declared.fault.FileFault.{FileFault}
+use Rattle.snap_files.specs.declared.file_fault.FileFault.{FileFault}
 use Rattle.snap_hunt_output.specs.Hunted.{IsDue, IsHunted}
 use Rattle.snap_hunt_output.specs.declared.asked.Asked.{Asked}
 use Rattle.snap_hunt_output.specs.declared.hunted.Hunted.{Hunted}

@@ -1,7 +1,7 @@
 //! What is told of histories that are not linearizable, worked by hand.
 ghost use Rattle.snap_judge.specs.History.{IsHistory};
 
-use crate::histories::{early_sight, lost_update, new_then_old};
+use crate::reasons_histories::{early_sight, lost_update, new_then_old};
 use snap_judge::History;
 use snap_judge_reasons::{failure_text, reasons, right_answers};
 use std::alloc::{AllocError, Global};

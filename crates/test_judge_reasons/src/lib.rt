@@ -4,4 +4,4 @@
 #[cfg(test)]
 mod failures;
 #[cfg(test)]
-mod histories;
+mod reasons_histories;

@@ -5,7 +5,7 @@ use Rattle.snap_semantics.specs.Table.{tuple_word}
 use Rattle.snap_semantics.specs.Value.{Context}
 use Rattle.snap_asm_program.specs.NamedLines.{named_index, named_tuple}
 use Rattle.snap_line_effects.specs.TupleValues.{given_word, word_in}
-use Rattle.snap_values.specs.Seen.{seen_context}
+use Rattle.snap_values.specs.SeenProcesses.{seen_context}
 use Rattle.snap_line_effects.proofs.Tuples.{Suits, word_suits}
 use Rattle.snap_line_effects.proofs.register_lines.line_put.Goals as goal
 

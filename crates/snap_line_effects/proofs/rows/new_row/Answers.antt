@@ -7,7 +7,7 @@ use Rattle.snap_semantics.specs.Table.{each_value}
 use Rattle.snap_semantics.specs.State.{value_at}
 use Rattle.snap_semantics.specs.Value.{Context, at_place}
 use Rattle.snap_values.specs.declared.step_context.StepContext.{StepContext}
-use Rattle.snap_values.specs.Seen.{seen_context}
+use Rattle.snap_values.specs.SeenProcesses.{seen_context}
 use Rattle.snap_values.proofs.PlacesLeft.{all_places, next_place, trap_place}
 use Rattle.snap_line_effects.proofs.rows.new_row.Goals as goal
 

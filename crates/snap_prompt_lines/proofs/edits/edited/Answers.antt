@@ -4,7 +4,7 @@ use Rattle.std.proofs.Common.{List, ◌++◌, take, ap, ◌∙◌}
 use Rattle.snap_semantics.specs.Schedule.{form_items}
 use Rattle.snap_semantics.specs.declared.process.Item.{Item}
 use Rattle.snap_prompt_lines.specs.Edits.{form_of}
-use Rattle.snap_prompt_lines.proofs.Added.{is_schedule}
+use Rattle.snap_prompt_lines.proofs.AddedItems.{is_schedule}
 use Rattle.snap_prompt_lines.proofs.edits.edited.Goals as goal
 
 pub new-requires : goal.new-requires

@@ -8,7 +8,7 @@ use Rattle.snap_semantics.specs.Table.{effect_at}
 use Rattle.snap_regs.specs.Store.{IsOfShape}
 use Rattle.snap_undo.specs.Undo.{FitsPlace, Place}
 use Rattle.snap_undo.specs.Written.{PutsBack, written}
-use Rattle.snap_values.specs.Seen.{seen_context}
+use Rattle.snap_values.specs.SeenProcesses.{seen_context}
 use Rattle.snap_undo.proofs.Fitting.{written_fits}
 use Rattle.snap_undo.proofs.PutBack.{puts_back}
 use Rattle.snap_undo.proofs.Values.{when_ok}

@@ -1,7 +1,7 @@
 -- `overwritten` of snap_undo (src/overwrites.rt): the proof of what its contract says. Returns what `item` overwrites:
 -- once that is put back after the item, everything is as it was.
 use Rattle.std.proofs.Common.{arith, refl}
-use Rattle.snap_undo.specs.Seen.{seen_place}
+use Rattle.snap_undo.specs.SeenPlaces.{seen_place}
 use Rattle.snap_undo.proofs.States.{sized_at, undone}
 use Rattle.snap_undo.proofs.overwrites.overwritten.Goals as goal
 

@@ -3,11 +3,11 @@
 use Rattle.std.proofs.Common.{◌-◌, ◌<◌, arith, length, slice_index_or, sym, subst}
 use Rattle.std.proofs.lemmas.List.{get_or_default}
 use Rattle.snap_values.specs.Sizes.{AreSized}
-use Rattle.snap_undo.specs.Seen.{seen_place}
+use Rattle.snap_undo.specs.SeenPlaces.{seen_place}
 use Rattle.snap_undo.specs.Undo.{CanPut, Overwritten}
 use Rattle.snap_undo.proofs.Fitting.{sized_back}
 use Rattle.snap_undo.proofs.States.{reverted, sized_at, sized_set}
-use Rattle.snap_values.specs.Seen.{seen_locals}
+use Rattle.snap_values.specs.SeenProcesses.{seen_locals}
 use Rattle.snap_undo.proofs.reversal.revert.Goals as goal
 
 pub returns-clause-state : goal.returns-clause-state

@@ -6,7 +6,7 @@ use Rattle.snap_asm_program.specs.NamedLines.{name_at, named_expr, named_where}
 use Rattle.snap_semantics.specs.Table.{each_value}
 use Rattle.snap_semantics.specs.Value.{Context, at_place}
 use Rattle.snap_values.specs.declared.step_context.StepContext.{StepContext}
-use Rattle.snap_values.specs.Seen.{seen_context}
+use Rattle.snap_values.specs.SeenProcesses.{seen_context}
 use Rattle.snap_values.proofs.PlacesLeft.{next_place, trap_place}
 use Rattle.snap_values.proofs.quantifiers.check_values.Goals as goal
 

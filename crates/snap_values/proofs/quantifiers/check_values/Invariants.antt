@@ -6,7 +6,7 @@ use Rattle.snap_semantics.specs.Answers.{◌>>=◌}
 use Rattle.snap_semantics.specs.Table.{each_value}
 use Rattle.snap_semantics.specs.Value.{at_place}
 use Rattle.snap_values.specs.Quantifiers.{checked_values}
-use Rattle.snap_values.specs.Seen.{seen_context}
+use Rattle.snap_values.specs.SeenProcesses.{seen_context}
 use Rattle.snap_values.proofs.PlacesLeft.{left_of}
 use Rattle.snap_values.proofs.quantifiers.check_values.Given as goal
 

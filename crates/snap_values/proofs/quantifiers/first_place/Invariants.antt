@@ -7,7 +7,7 @@ use Rattle.snap_semantics.specs.Rules.{or_else}
 use Rattle.snap_semantics.specs.Table.{first_true}
 use Rattle.snap_semantics.specs.Value.{at_place, condition_holds}
 use Rattle.snap_values.specs.Quantifiers.{first_place}
-use Rattle.snap_values.specs.Seen.{seen_context}
+use Rattle.snap_values.specs.SeenProcesses.{seen_context}
 use Rattle.snap_values.proofs.PlacesLeft.{left_of}
 use Rattle.snap_values.proofs.quantifiers.first_place.Given as goal
 

@@ -5,7 +5,7 @@ use Rattle.snap_asm_program.specs.NamedLines.{named_condition}
 use Rattle.snap_semantics.specs.Table.{all_true}
 use Rattle.snap_semantics.specs.Value.{Context, at_place, condition_holds}
 use Rattle.snap_values.specs.declared.step_context.StepContext.{StepContext}
-use Rattle.snap_values.specs.Seen.{seen_context}
+use Rattle.snap_values.specs.SeenProcesses.{seen_context}
 use Rattle.snap_values.proofs.PlacesLeft.{more_all, next_place, trap_place}
 use Rattle.std.proofs.lemmas.Result.{err_from_is_err_and}
 use Rattle.snap_values.proofs.quantifiers.holds_at_all.Goals as goal

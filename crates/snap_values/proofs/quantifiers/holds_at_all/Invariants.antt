@@ -6,7 +6,7 @@ use Rattle.snap_semantics.specs.Answers.{◌>>=◌}
 use Rattle.snap_semantics.specs.Table.{all_true}
 use Rattle.snap_semantics.specs.Value.{at_place, condition_holds}
 use Rattle.snap_values.specs.Quantifiers.{holds_at_all}
-use Rattle.snap_values.specs.Seen.{seen_context}
+use Rattle.snap_values.specs.SeenProcesses.{seen_context}
 use Rattle.snap_values.proofs.PlacesLeft.{left_of}
 use Rattle.snap_values.proofs.quantifiers.holds_at_all.Given as goal
 

@@ -1,6 +1,6 @@
 //! `DialogFault`: why a dialog at a console was broken off.
 ghost use Rattle.std.specs.Prelude.{◌≡◌};
-ghost use Rattle.snap_dialog.specs.declared.fault.DialogFault.TheVariants.{Memory, Write};
+ghost use Rattle.snap_dialog.specs.declared.dialog_fault.DialogFault.TheVariants.{Memory, Write};
 
 use snap_streams::Unsent;
 use std::alloc::{AllocError, AllocFailed};

@@ -96,7 +96,7 @@ pub fn load(alloc: Global, image: &[u8]) -> Result<Program, ImageFault>
         of_code versions b ≡ None → result ≡ Err (Refused Version) }
 {
     let listing = decode(alloc, image)?;
-    let program = snap_loader::load(alloc, listing.into_listing())?;
+    let program = snap_loader::load_listing(alloc, listing.into_listing())?;
     Ok(program)
 }
 
@@ -108,5 +108,5 @@ pub fn load(alloc: Global, image: &[u8]) -> Result<Program, ImageFault>
 pub fn program(alloc: Global, listing: &CommentedListing) -> Result<Program, AllocError>
     ensures { IfOk result (λ p. p ≡ listing.now.source) }
 {
-    snap_loader::load(alloc, listing.listing().copy(alloc)?)
+    snap_loader::load_listing(alloc, listing.listing().copy(alloc)?)
 }

@@ -8,7 +8,7 @@ ghost use Rattle.snap_runs_of_b.specs.ListingB.{listing_b};
 ghost use Rattle.snap_shipped.specs.Kept.{KeepsPromises};
 
 use snap_listing_core::CommentedListing;
-use snap_loader::load;
+use snap_loader::load_listing;
 use snap_record::{Record, record_over};
 use snap_sched::Schedule;
 use snap_shipped::{listing_b, shipped_runs_keep_promises};
@@ -50,6 +50,6 @@ pub fn run(alloc: Global, schedule: &Schedule) -> Result<Record<Bits>, AllocErro
     ensures promises { KeepsPromises kind.Bits (run_over listing_b schedule.now) }
 {
     keeps_promises(schedule);
-    let program = load(alloc, listing_b(alloc)?)?;
+    let program = load_listing(alloc, listing_b(alloc)?)?;
     record_over(alloc, &program, schedule)
 }

@@ -8,7 +8,7 @@ ghost use Rattle.snap_tasks.specs.declared.subject.Subject.TheVariants.{FirstPar
 
 use crate::images::program_of;
 use snap_asm_program::Program;
-use snap_loader::load;
+use snap_loader::load_listing;
 use snap_semantics::{Fault, Refusal};
 use snap_shipped::{listing_b, listing_m, listing_u};
 use snap_tasks::Subject;
@@ -28,7 +28,7 @@ pub fn shipped(alloc: Global, kind: KindTag) -> Result<Program, AllocError>
         KindTag::Bits => listing_b(alloc)?,
         KindTag::Multi => listing_m(alloc)?,
     };
-    load(alloc, listing)
+    load_listing(alloc, listing)
 }
 
 /// Returns the program that a task runs.

@@ -7,4 +7,4 @@ mod listing_program;
 mod name_sorts;
 mod slots;
 
-pub use listing_program::load;
+pub use listing_program::load_listing;

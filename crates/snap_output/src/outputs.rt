@@ -44,7 +44,7 @@ fn plan(alloc: Global, subject: Subject, input: &[u8]) -> Result<PlannedRun, Fau
     ensures counted { (r : Refusal) → checked_parts subject 1 (parts_of input.now) ≡ Err r →
         result ≡ Err (Refused r) }
 {
-    snap_run_output::planned_run(alloc, subject, input)
+    snap_run_output::plan_input(alloc, subject, input)
 }
 
 /// Returns the output for `input`, which is surveyed, and whether each of its runs is clean. The

@@ -39,7 +39,7 @@ fn plan_texts(
 ///
 /// `Refused` with the reason why `input` is refused; `Memory` where memory runs out.
 #[tactic(auto, unfolding(snap_input::specs::Input::parted))]
-pub fn planned_run(
+pub fn plan_input(
     alloc: Global,
     subject: Subject,
     input: &[u8],
@@ -68,7 +68,7 @@ pub fn run(alloc: Global, subject: Subject, input: &[u8]) -> Result<Vec<u8>, Fau
     ensures counted { (r : Refusal) → checked_parts subject 1 (parts_of input.now) ≡ Err r →
         result ≡ Err (Refused r) }
 {
-    let run = planned_run(alloc, subject, input)?;
+    let run = plan_input(alloc, subject, input)?;
     Ok(run_planned(alloc, run)?)
 }
 

@@ -7,5 +7,5 @@ mod batch_output;
 mod inputs;
 mod run_output;
 
-pub use inputs::{audit, batch, batch_in_threads, planned_run, run};
+pub use inputs::{audit, batch, batch_in_threads, plan_input, run};
 pub use run_output::{PlannedRun, run_planned};

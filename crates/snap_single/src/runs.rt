@@ -8,7 +8,7 @@ ghost use Rattle.snap_runs_of_u.specs.ListingU.{listing_u};
 ghost use Rattle.snap_shipped.specs.Kept.{KeepsPromises};
 
 use snap_listing_core::CommentedListing;
-use snap_loader::load;
+use snap_loader::load_listing;
 use snap_record::{Record, record_over};
 use snap_sched::Schedule;
 use snap_shipped::{listing_u, shipped_runs_keep_promises};
@@ -50,6 +50,6 @@ pub fn run(alloc: Global, schedule: &Schedule) -> Result<Record<Seq>, AllocError
     ensures promises { KeepsPromises kind.Seq (run_over listing_u schedule.now) }
 {
     keeps_promises(schedule);
-    let program = load(alloc, listing_u(alloc)?)?;
+    let program = load_listing(alloc, listing_u(alloc)?)?;
     record_over(alloc, &program, schedule)
 }

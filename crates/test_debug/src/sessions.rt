@@ -1,7 +1,7 @@
 //! Tests of debugger sessions over runs of a snapshot listing; more of them are among the examples.
 use snap_asm_program::Program;
 use snap_debug::{Session, push_refusal_line, read_commands};
-use snap_loader::load;
+use snap_loader::load_listing;
 use snap_sched::{Schedule, read};
 use snap_semantics::{CommandRefusal, Fault};
 use snap_text::push_text;
@@ -26,7 +26,7 @@ const UPDATE: &[u8] = b"shape 1 1\n1 update 1 7\n1*13\n";
 
 /// Returns the program of the listing.
 fn program(alloc: Global) -> Result<Program, Fail> {
-    Ok(load(alloc, snap_single::listing(alloc)?.into_listing())?)
+    Ok(load_listing(alloc, snap_single::listing(alloc)?.into_listing())?)
 }
 
 /// Returns a session of the listing over a schedule.

@@ -6,7 +6,7 @@ ghost use Rattle.snap_words.specs.declared.kind.KindTag.TheVariants.{Seq};
 use crate::trouble::Trouble;
 use snap_asm_program::Program;
 use snap_input::split_parts;
-use snap_loader::load;
+use snap_loader::load_listing;
 use snap_words::KindTag;
 use std::alloc::Global;
 use std::io::Read;
@@ -61,7 +61,7 @@ impl<'a> Inputs<'a> {
 pub fn single(alloc: Global) -> Result<Program, Trouble>
     ensures { IfOk result (λ p. p.kind ≡ Seq) }
 {
-    let program = load(alloc, snap_single::listing(alloc)?.into_listing())?;
+    let program = load_listing(alloc, snap_single::listing(alloc)?.into_listing())?;
     if program.kind() != KindTag::Seq {
         return Err(Trouble::Refused);
     }

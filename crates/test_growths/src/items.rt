@@ -8,7 +8,7 @@ use crate::inputs::QUICK;
 use crate::outcomes::tell_outcome;
 use crate::trials::{tell, tried};
 use crate::trouble::Trouble;
-use snap_loader::load;
+use snap_loader::load_listing;
 use snap_machine::Machine;
 use snap_report::report;
 use snap_sched::{Schedule, read};
@@ -18,7 +18,7 @@ use std::alloc::{AllocError, Global};
 
 /// Returns a machine of the bounded single-writer listing, for a schedule.
 fn new_machine(alloc: Global, schedule: &Schedule) -> Result<Machine<Bits>, Trouble> {
-    let program = load(alloc, snap_bounded::listing(alloc)?.into_listing())?;
+    let program = load_listing(alloc, snap_bounded::listing(alloc)?.into_listing())?;
     if program.kind() != KindTag::Bits {
         return Err(Trouble::Refused);
     }

@@ -3,7 +3,7 @@ ghost use Rattle.std.specs.Prelude.{◌≡◌, IfOk};
 ghost use Rattle.snap_words.specs.declared.kind.KindTag.TheVariants.{Seq};
 
 use snap_asm_program::Program;
-use snap_loader::load;
+use snap_loader::load_listing;
 use snap_words::KindTag;
 use std::alloc::Global;
 use std::process::Abort;
@@ -13,7 +13,7 @@ use std::test::Fail;
 pub(crate) fn program(rt: &impl Abort, alloc: Global) -> Result<Program, Fail>
     ensures { IfOk result (λ p. p.kind ≡ Seq) }
 {
-    let program = load(alloc, snap_single::listing(alloc)?.into_listing())?;
+    let program = load_listing(alloc, snap_single::listing(alloc)?.into_listing())?;
     assert!(rt; program.kind() == KindTag::Seq);
     Ok(program)
 }

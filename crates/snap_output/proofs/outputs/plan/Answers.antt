@@ -11,5 +11,5 @@ use Rattle.snap_output.proofs.outputs.plan.Goals as goal
 pub returns-clause-output : goal.returns-clause-output
 returns-clause-output c =
     subst
-    (λ (answer : Result (List ℕ) Refusal). Answers (λ run. end_text run.program run.schedule) c.planned_run.result answer)
-    (as_performed c.args.subject (parts_of c.args.input.now)) c.planned_run.ensures.output
+    (λ (answer : Result (List ℕ) Refusal). Answers (λ run. end_text run.program run.schedule) c.plan_input.result answer)
+    (as_performed c.args.subject (parts_of c.args.input.now)) c.plan_input.ensures.output

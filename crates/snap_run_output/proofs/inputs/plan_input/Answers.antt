@@ -1,10 +1,10 @@
--- `planned_run` of snap_run_output (src/inputs.rt): the proof of what its contract says. Returns the program and the
--- schedule of `input`, which the run itself does not need.
+-- `plan_input` of snap_run_output (src/inputs.rt): the proof of what its contract says.
+-- The program and the schedule that an input asks to run.
 use Rattle.std.proofs.Common.{map, sym}
 use Rattle.snap_run_output.specs.RunOutput.{end_text, ended_text}
 use Rattle.snap_input.specs.Parts.{parts_of}
 use Rattle.snap_input.proofs.Parting.{of_parts}
-use Rattle.snap_run_output.proofs.inputs.planned_run.Goals as goal
+use Rattle.snap_run_output.proofs.inputs.plan_input.Goals as goal
 
 pub returns-clause-output : goal.returns-clause-output
 returns-clause-output c =

@@ -3,14 +3,14 @@
 ghost use Rattle.std.specs.Prelude.{◌≡◌, ◌≢◌, ◌<◌, ◌∷◌, ◌++◌};
 ghost use Rattle.std.specs.Prelude.{ℕ, List, IfOk, None, Ok, Err, length, take};
 ghost use Rattle.snap_semantics.specs.Answers.{Answers};
-ghost use Rattle.snap_image_format.specs.Assembly.{assembled, listed, upgraded};
+ghost use Rattle.snap_image.specs.Assembly.{assembled, listed, upgraded};
 ghost use Rattle.snap_semantics.specs.CanonicalText.{canonical_text};
 ghost use Rattle.snap_semantics.specs.Comments.{Commented, IsCommented};
-ghost use Rattle.snap_image_format.specs.Image.{CanSay, image_in, image_of, signature};
-ghost use Rattle.snap_image_format.specs.ImageCodes.{of_code, versions};
-ghost use Rattle.snap_image_format.specs.ImageListing.{listing_of_image};
+ghost use Rattle.snap_image.specs.Image.{CanSay, image_in, image_of, signature};
+ghost use Rattle.snap_image.specs.ImageCodes.{of_code, versions};
+ghost use Rattle.snap_image.specs.ImageListing.{listing_of_image};
 ghost use Rattle.snap_semantics.specs.declared.fault.Fault.TheVariants.{Refused};
-ghost use Rattle.snap_image_format.specs.declared.image.ImageVersion.{ImageVersion};
+ghost use Rattle.snap_image.specs.declared.image.ImageVersion.{ImageVersion};
 ghost use Rattle.snap_semantics.specs.declared.refusal.ImageRefusal.TheVariants.{NotAnImage};
 ghost use Rattle.snap_semantics.specs.declared.refusal.ImageRefusal.TheVariants.{Version};
 ghost use Rattle.snap_semantics.specs.declared.refusal.ListingRefusal.TheVariants.{TooLong};
@@ -27,7 +27,7 @@ use std::alloc::{AllocError, Global};
 /// # Errors
 ///
 /// `Refused` with the first reason why `text` is no listing; `Memory` where memory runs out.
-#[tactic(auto, unfolding(snap_image_format::specs::Assembly::assembled))]
+#[tactic(auto, unfolding(snap_image::specs::Assembly::assembled))]
 pub fn assemble(alloc: Global, text: &[u8]) -> Result<Vec<u8>, ListingFault>
     ensures image { Answers (λ image. image.items) result (assembled text.now) }
     ensures too_long { 65536 < length text.now → result ≡ Err (Refused TooLong) }
@@ -43,7 +43,7 @@ pub fn assemble(alloc: Global, text: &[u8]) -> Result<Vec<u8>, ListingFault>
 ///
 /// `Refused` exactly if no listing has this image, with the first reason; `Memory` where memory
 /// runs out.
-#[tactic(auto, unfolding(snap_image_format::specs::Assembly::listed))]
+#[tactic(auto, unfolding(snap_image::specs::Assembly::listed))]
 pub fn list(alloc: Global, image: &[u8]) -> Result<Vec<u8>, ImageFault>
     ensures answer { Answers (λ text. text.items) result (listed image.now) }
     ensures image { IfOk result (λ text. HaveOneListing image.now text.items) }
@@ -65,7 +65,7 @@ pub fn list(alloc: Global, image: &[u8]) -> Result<Vec<u8>, ImageFault>
 ///
 /// `Refused` exactly if no listing has this image, with the first reason; `Memory` where memory
 /// runs out.
-#[tactic(auto, unfolding(snap_image_format::specs::Assembly::upgraded))]
+#[tactic(auto, unfolding(snap_image::specs::Assembly::upgraded))]
 pub fn upgrade(alloc: Global, image: &[u8]) -> Result<Vec<u8>, ImageFault>
     ensures answer { Answers (λ image. image.items) result (upgraded image.now) }
     ensures every { (v : ImageVersion) (c : Commented) → IsCommented c → CanSay v c →
@@ -85,7 +85,7 @@ pub fn upgrade(alloc: Global, image: &[u8]) -> Result<Vec<u8>, ImageFault>
 ///
 /// `Refused` exactly if no listing has this image, with the first reason; `Memory` where memory
 /// runs out.
-#[tactic(auto, unfolding(snap_image_format::specs::ImageListing::listing_of_image))]
+#[tactic(auto, unfolding(snap_image::specs::ImageListing::listing_of_image))]
 pub fn load(alloc: Global, image: &[u8]) -> Result<Program, ImageFault>
     ensures answer { Answers (λ p. p) result (listing_of_image image.now) }
     ensures image { IfOk result (λ p. HasListing image.now p) }
@@ -96,7 +96,7 @@ pub fn load(alloc: Global, image: &[u8]) -> Result<Program, ImageFault>
         of_code versions b ≡ None → result ≡ Err (Refused Version) }
 {
     let listing = decode(alloc, image)?;
-    let program = snap_loader::load_listing(alloc, listing.into_listing())?;
+    let program = crate::listing_program::load_listing(alloc, listing.into_listing())?;
     Ok(program)
 }
 
@@ -108,5 +108,5 @@ pub fn load(alloc: Global, image: &[u8]) -> Result<Program, ImageFault>
 pub fn program(alloc: Global, listing: &CommentedListing) -> Result<Program, AllocError>
     ensures { IfOk result (λ p. p ≡ listing.now.source) }
 {
-    snap_loader::load_listing(alloc, listing.listing().copy(alloc)?)
+    crate::listing_program::load_listing(alloc, listing.listing().copy(alloc)?)
 }

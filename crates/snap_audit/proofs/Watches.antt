@@ -26,7 +26,7 @@ use Rattle.snap_runs.specs.Run.{Run, run_of_items, state}
 use Rattle.snap_runs.specs.Scan.{is_stepped}
 use Rattle.snap_runs.specs.StepRoles.{StepRole, is_test, is_write, line_step_role, returned, step_role_at, step_role_in}
 use Rattle.snap_runs.specs.StepRoles.{step_role_of}
-use Rattle.snap_history.specs.Longer.{with_item}
+use Rattle.snap_record.specs.Longer.{with_item}
 use Rattle.snap_record.specs.History.{IsRecord, changes_to, counted}
 use Rattle.snap_record.specs.Roles.{AreRoles, instr_role, role_of}
 use Rattle.snap_record.specs.declared.roles.LineRole.{LineRole}

@@ -18,9 +18,8 @@ ghost use Rattle.snap_audit.specs.Watch.{Watches, is_test_line, is_write_line, s
 
 use crate::sweep::sweep;
 use snap_asm_program::Program;
-use snap_history::event_of;
 use snap_machine::Machine;
-use snap_record::{Change, LineRole, Row, new_roles, note_values, role_in};
+use snap_record::{Change, LineRole, Row, event_of, new_roles, note_values, role_in};
 use snap_runs::Verdict;
 use snap_sched::Schedule;
 use snap_semantics::{Event, Item, Outcome, Status, who};

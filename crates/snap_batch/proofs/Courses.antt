@@ -20,7 +20,7 @@ use Rattle.snap_semantics.specs.State.{State, initial, process_at}
 use Rattle.snap_semantics.specs.Table.{done, step, who}
 use Rattle.snap_sched.specs.Segments.{segment_items}
 use Rattle.snap_sched.specs.declared.segments.Segment.{Segment}
-use Rattle.snap_history.proofs.Longer.{after_append, events_append}
+use Rattle.snap_record.proofs.Longer.{after_append, events_append}
 use Rattle.snap_batch.specs.Courses.{DoesNothing, Takes}
 use Rattle.snap_batch.specs.declared.course.Course.{Course}
 

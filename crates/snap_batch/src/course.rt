@@ -14,8 +14,8 @@ ghost use Rattle.snap_batch.specs.End.{IsEnd, end_report};
 
 use crate::own_code::OwnCode;
 use snap_asm_program::Program;
-use snap_history::event_of;
 use snap_machine::Machine;
+use snap_record::event_of;
 use snap_report::report;
 use snap_sched::Schedule;
 use snap_semantics::{Event, Item, Outcome, Status, who};

@@ -6,11 +6,11 @@ use Rattle.snap_semantics.specs.Source.{Source}
 use Rattle.snap_semantics.specs.declared.fault.Fault.{Fault}
 use Rattle.snap_semantics.specs.declared.refusal.Refusal.{Refusal}
 use Rattle.snap_runs.specs.Run.{Run, run_over}
-use Rattle.snap_certification.specs.Certification.{Evidence, certification_of, seen_certification}
-use Rattle.snap_certification.specs.declared.certificate.Certification.{Certification}
-use Rattle.snap_certification.specs.declared.certificate.Certification.TheVariants as certification
-use Rattle.snap_certification.specs.declared.certificate.Certified.{Certified}
-use Rattle.snap_certification.specs.declared.found.Missing.{Missing}
+use Rattle.snap_certify.specs.Certification.{Evidence, certification_of, seen_certification}
+use Rattle.snap_certify.specs.declared.certificate.Certification.{Certification}
+use Rattle.snap_certify.specs.declared.certificate.Certification.TheVariants as certification
+use Rattle.snap_certify.specs.declared.certificate.Certified.{Certified}
+use Rattle.snap_certify.specs.declared.found.Missing.{Missing}
 use Rattle.snap_judge.specs.declared.judgements.Judgement.{Judgement}
 use Rattle.snap_run_judge.specs.Judged.{AnswersJudged}
 use Rattle.snap_run_judge.specs.RunHistory.{history_of}

@@ -27,9 +27,9 @@ use Rattle.snap_runs.specs.StepRoles.{is_write, line_step_role, returned, step_r
 use Rattle.snap_runs.specs.Update.{goes_on}
 use Rattle.snap_runs.proofs.Embedding.{next_state}
 use Rattle.snap_record.proofs.Recording.{stay_when}
-use Rattle.snap_certification.specs.Certification.{at_line, changes, changing_line, executed, is_put, putting_line}
-use Rattle.snap_certification.specs.Certification.{line_or, seen_item, stepping, write_line}
-use Rattle.snap_certification.proofs.Findings.{equal_from, found_at_step}
+use Rattle.snap_certify.specs.Certification.{at_line, changes, changing_line, executed, is_put, putting_line}
+use Rattle.snap_certify.specs.Certification.{line_or, seen_item, stepping, write_line}
+use Rattle.snap_certify.proofs.Findings.{equal_from, found_at_step}
 use Rattle.snap_certify.specs.Finding.{WritesWord}
 
 -- a line `return` writes no word

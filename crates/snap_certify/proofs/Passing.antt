@@ -16,10 +16,10 @@ use Rattle.snap_record.specs.Roles.{AreRoles}
 use Rattle.snap_record.specs.declared.roles.LineRole.{LineRole}
 use Rattle.snap_walk.specs.Walk.{Passes, Way}
 use Rattle.snap_walk.specs.declared.passed.Passed.{Passed}
-use Rattle.snap_certification.specs.Certification.{at_line, changes, changing_line, executed, seen_item, stepping}
-use Rattle.snap_certification.specs.declared.found.Progress.{Progress}
-use Rattle.snap_certification.specs.declared.found.SeenItem.{SeenItem}
-use Rattle.snap_certification.proofs.Findings.{equal_numbers}
+use Rattle.snap_certify.specs.Certification.{at_line, changes, changing_line, executed, seen_item, stepping}
+use Rattle.snap_certify.specs.declared.found.Progress.{Progress}
+use Rattle.snap_certify.specs.declared.found.SeenItem.{SeenItem}
+use Rattle.snap_certify.proofs.Findings.{equal_numbers}
 use Rattle.snap_audit.specs.Watch.{Watches}
 use Rattle.snap_audit.specs.declared.watch.Watch.{Watch}
 use Rattle.snap_certify.specs.Finding.{Finds, Notes, all_of, changed_line, fresh, seen_write}

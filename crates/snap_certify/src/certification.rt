@@ -4,8 +4,8 @@ ghost use Rattle.std.specs.Prelude.{◌≡◌, IfOk, IsOk, Ok};
 ghost use Rattle.snap_runs.specs.Linearization.{IsLinearizable};
 ghost use Rattle.snap_runs.specs.Audit.{audit};
 ghost use Rattle.snap_runs.specs.Run.{Run, run_over};
-ghost use Rattle.snap_certification.specs.Certificate.{IsCertificate};
-ghost use Rattle.snap_certification.specs.Certification.{
+ghost use Rattle.snap_certify.specs.Certificate.{IsCertificate};
+ghost use Rattle.snap_certify.specs.Certification.{
   Evidence,
   certificate_of,
   certification_of,
@@ -16,12 +16,12 @@ ghost use Rattle.snap_certification.specs.Certification.{
 };
 ghost use Rattle.snap_certify.specs.Finding.{pointed};
 
+use crate::certificate::{Certification, Certified};
+use crate::certificates::certified_has_certificate;
+use crate::found::{Lack, Missing, UpdateWrite};
 use crate::line::write_line;
 use crate::pass::find;
 use snap_asm_program::Program;
-use snap_certification::{
-    Certification, Certified, Lack, Missing, UpdateWrite, certified_has_certificate,
-};
 use snap_record::Record;
 use snap_runs::Verdict;
 use snap_sched::Schedule;

@@ -6,7 +6,7 @@ ghost use Rattle.snap_words.specs.Shape.{IsOneOf};
 ghost use Rattle.snap_semantics.specs.State.{values};
 ghost use Rattle.snap_semantics.specs.declared.process.Outcome.TheVariants.{Finished};
 ghost use Rattle.snap_runs.specs.Run.{run_over};
-ghost use Rattle.snap_certification.specs.Certification.{
+ghost use Rattle.snap_certify.specs.Certification.{
   at_line,
   changes,
   ended,
@@ -18,8 +18,8 @@ ghost use Rattle.snap_certification.specs.Certification.{
   unwritten,
   written,
 };
-ghost use Rattle.snap_certification.specs.declared.found.Progress.{Progress};
-ghost use Rattle.snap_certification.specs.declared.found.SeenItem.{SeenItem};
+ghost use Rattle.snap_certify.specs.declared.found.Progress.{Progress};
+ghost use Rattle.snap_certify.specs.declared.found.SeenItem.{SeenItem};
 ghost use Rattle.snap_certify.specs.Finding.{
   Finds,
   Notes,
@@ -32,9 +32,9 @@ ghost use Rattle.snap_certify.specs.Finding.{
   with_found,
 };
 
+use crate::found::{Finding, Lack, Missing, Progress, UpdateWrite};
 use crate::sight::{Sight, changes, executed};
 use snap_asm_program::Program;
-use snap_certification::{Finding, Lack, Missing, Progress, UpdateWrite};
 use snap_machine::Machine;
 use snap_record::{LineRole, new_roles};
 use snap_sched::Schedule;

@@ -5,7 +5,7 @@ ghost use Rattle.snap_semantics.specs.State.{values};
 ghost use Rattle.snap_runs.specs.Run.{run_over, state};
 ghost use Rattle.snap_record.specs.Roles.{AreRoles};
 ghost use Rattle.snap_walk.specs.Walk.{Passes, Way};
-ghost use Rattle.snap_certification.specs.Certification.{
+ghost use Rattle.snap_certify.specs.Certification.{
   changing_line,
   is_put,
   putting_line,

@@ -5,10 +5,10 @@ ghost use Rattle.snap_run_judge.specs.Judged.{AnswersJudged};
 ghost use Rattle.snap_certify.specs.CertificationText.{IsCertificateText};
 ghost use Rattle.snap_certify.specs.Output.{WasJudgedOver, certify_listing};
 
+use crate::certificate::Certification;
 use crate::certification::certification_over;
 use crate::text::{text_of, with_verdict};
 use snap_asm_program::Program;
-use snap_certification::Certification;
 use snap_input::schedule_for;
 use snap_record::record_over;
 use snap_sched::Schedule;

@@ -6,7 +6,7 @@ ghost use Rattle.snap_semantics.specs.State.{State, process_at};
 ghost use Rattle.snap_semantics.specs.Table.{who};
 ghost use Rattle.snap_runs.specs.StepRoles.{is_write, step_role_of};
 ghost use Rattle.snap_record.specs.Roles.{AreRoles};
-ghost use Rattle.snap_certification.specs.Certification.{changes, executed, stepping};
+ghost use Rattle.snap_certify.specs.Certification.{changes, executed, stepping};
 ghost use Rattle.snap_certify.specs.Finding.{seen_sight};
 
 use snap_record::{LineRole, role_in};

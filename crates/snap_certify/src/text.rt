@@ -1,8 +1,8 @@
 //! `certification_text`: the printed certification of a run, a line for each operation in the order
 //! of linearization points, or the line of what is missing and a verdict on the run.
 ghost use Rattle.std.specs.Prelude.{◌≡◌, ◌++◌, IfOk, OnOk, codes, drop};
-ghost use Rattle.snap_draft.specs.Drafted.{Adds};
-ghost use Rattle.snap_certification.specs.Certification.{seen_certification};
+ghost use Rattle.snap_text.specs.Drafted.{Adds};
+ghost use Rattle.snap_certify.specs.Certification.{seen_certification};
 ghost use Rattle.snap_certify.specs.CertificationText.{
   IsCertificateText,
   in_order,
@@ -24,11 +24,10 @@ ghost use Rattle.snap_run_judge.specs.VerdictText.{verdict_text};
 
 use crate::order::{in_order, point_item};
 use crate::{Certification, Lack, Missing, UpdateWrite, certify};
-use snap_draft::Draft;
 use snap_record::Record;
 use snap_run_judge::{MOST_CONFIGURATIONS, judge_record, push_verdict};
 use snap_runs::Verdict;
-use snap_text::{push_number, push_text};
+use snap_text::{Draft, push_number, push_text};
 use snap_words::Kind;
 use std::alloc::{AllocError, Global};
 

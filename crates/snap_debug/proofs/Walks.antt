@@ -13,8 +13,8 @@ use Rattle.snap_debug.specs.Marks.{Marks, mark_count, reaches, changes, contents
 use Rattle.snap_debug.specs.Marks.{is_stop, next_stop, last_stop, same_contents}
 use Rattle.snap_debug.specs.Stops.{differs, or_before, stands_at, stops_between}
 use Rattle.snap_debug.proofs.Contents.{contents_are, contents_same}
-use Rattle.snap_debug_checkpoints.specs.Recording.{IsCheckpoint}
-use Rattle.snap_debug_checkpoints.specs.declared.checkpoint.Checkpoint.{Checkpoint}
+use Rattle.snap_debug.specs.Recording.{IsCheckpoint}
+use Rattle.snap_debug.specs.declared.checkpoint.Checkpoint.{Checkpoint}
 use Rattle.snap_debug_commands.specs.declared.command.Breakpoint.{Breakpoint}
 
 -- whether process i stands at a breakpoint

@@ -8,7 +8,7 @@ use Rattle.snap_semantics.specs.State.{State, process_at}
 use Rattle.snap_runs.specs.Run.{Run}
 use Rattle.snap_runs.specs.Update.{is_at}
 use Rattle.snap_debug.specs.Marks.{Marks, contents_at, same_contents}
-use Rattle.snap_debug_checkpoints.specs.Recording.{IsCheckpoint}
+use Rattle.snap_debug.specs.Recording.{IsCheckpoint}
 use Rattle.snap_debug_commands.specs.declared.command.Breakpoint.{Breakpoint}
 use Rattle.snap_debug.specs.declared.stops.Walk.{Walk}
 

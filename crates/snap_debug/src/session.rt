@@ -19,17 +19,18 @@ ghost use Rattle.snap_debug.specs.Session.{
   reopened,
   with_marks,
 };
-ghost use Rattle.snap_debug_checkpoints.specs.Recording.{IsReversible, start};
+ghost use Rattle.snap_debug.specs.Recording.{IsReversible, start};
 ghost use Rattle.snap_debug_commands.specs.declared.command.Command.TheVariants as command;
 
 use crate::marks::Marks;
+use crate::recording::Recording;
 use crate::reply::{
     Reply, events_reply, marks_reply, position_reply, process_reply, register_reply, values_reply,
     where_reply,
 };
+use crate::reversible_machine::ReversibleMachine;
 use crate::stops::{last_stop, next_stop};
 use snap_asm_program::Program;
-use snap_debug_checkpoints::{Recording, ReversibleMachine};
 use snap_debug_commands::{Breakpoint, Command};
 use snap_machine::Machine;
 use snap_report::{Report, report};
@@ -63,7 +64,7 @@ impl<K: Kind> Drop for Session<K> {
 impl<K: Kind> Model for Session<K> {
     ghost use Rattle.std.specs.Prelude.{◌<◌, ◌≤◌};
     ghost use Rattle.snap_debug.specs.Session.{Session};
-    ghost use Rattle.snap_debug_checkpoints.specs.Recording.{IsReversible, start};
+    ghost use Rattle.snap_debug.specs.Recording.{IsReversible, start};
 
     ghost Value = { Session };
 

@@ -11,10 +11,11 @@ ghost use Rattle.snap_runs.specs.Run.{item};
 ghost use Rattle.snap_runs.specs.Update.{is_at};
 ghost use Rattle.snap_debug.specs.Marks.{is_stop, last_stop, next_stop, same_contents, same_word};
 ghost use Rattle.snap_debug.specs.Stops.{AreAt, differs, or_before, stands_at, stops_between};
-ghost use Rattle.snap_debug_checkpoints.specs.Recording.{IsCheckpoint};
+ghost use Rattle.snap_debug.specs.Recording.{IsCheckpoint};
 
+use crate::checkpoint::Checkpoint;
 use crate::marks::Marks;
-use snap_debug_checkpoints::{Checkpoint, Recording};
+use crate::recording::Recording;
 use snap_debug_commands::Breakpoint;
 use snap_machine::{Contents, Machine};
 use snap_semantics::Status;

@@ -9,7 +9,7 @@ use Rattle.snap_semantics.specs.declared.refusal.Refusal.TheVariants as refusal
 use Rattle.snap_semantics.specs.Token.{Token, TextLine, begins_with, lines_of, text_lines}
 use Rattle.snap_input.specs.Parts.{ends_part, part, parts_of}
 use Rattle.snap_tasks.specs.declared.subject.Subject.TheVariants as subject
-use Rattle.snap_expected.specs.Tests.{is_word}
+use Rattle.snap_explanation.specs.Tests.{is_word}
 use Rattle.snap_explanation.specs.declared.layout.Layout.{Layout}
 use Rattle.snap_explanation.specs.declared.layout.Layout.TheVariants as layout
 use Rattle.snap_explanation.specs.declared.layout.Texts.TheVariants as texts

@@ -12,7 +12,7 @@ use Rattle.snap_semantics.specs.Rules.{or_else}
 use Rattle.snap_semantics.specs.Source.{Source}
 use Rattle.snap_semantics.specs.Spelling.{kind_keyword}
 use Rattle.snap_semantics.specs.Uses.{Use, Named, BankUse, TupleUse, kind_has, sort_of}
-use Rattle.snap_expected.specs.Pieces.{PlacedToken}
+use Rattle.snap_explanation.specs.Pieces.{PlacedToken}
 use Rattle.snap_explanation.specs.Names.{letters_of, nearest, tokens_of_placed}
 use Rattle.snap_explanation.specs.Sorts.{is_sort, of_sort}
 use Rattle.snap_explanation.specs.TokenUses.{use_at, slot_after}

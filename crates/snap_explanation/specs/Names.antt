@@ -6,9 +6,9 @@ use Rattle.std.specs.List.{list_any}
 use Rattle.snap_semantics.specs.Listing.{is_bad_name}
 use Rattle.snap_semantics.specs.ListingForms.{is_reserved}
 use Rattle.snap_semantics.specs.Token.{Token, Identifier, Number, Sign, TextLine}
-use Rattle.snap_expected.specs.Pieces.{PlacedToken}
+use Rattle.snap_explanation.specs.Pieces.{PlacedToken}
 use Rattle.snap_semantics.specs.Rules.{or_else}
-use Rattle.snap_expected.specs.Tests.{is_identifier, is_word}
+use Rattle.snap_explanation.specs.Tests.{is_identifier, is_word}
 use Rattle.snap_explanation.specs.declared.names.Numbered.{Numbered}
 
 -- tokens without their columns

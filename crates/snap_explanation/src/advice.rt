@@ -3,23 +3,24 @@ ghost use Rattle.std.specs.Prelude.{◌≡◌, map};
 ghost use Rattle.std.specs.List.{list_all};
 ghost use Rattle.snap_semantics.specs.Token.{is_digit};
 ghost use Rattle.snap_text.specs.Tokens.{view_token};
-ghost use Rattle.snap_expected.specs.Steps.{view_placed_token};
+ghost use Rattle.snap_explanation.specs.Steps.{view_placed_token};
 ghost use Rattle.snap_explanation.specs.Advice.{passes, firm, hints, otherwise, is_act};
 ghost use Rattle.snap_explanation.specs.Advice.{advice, first_word};
 ghost use Rattle.snap_explanation.specs.Advice.{numbered_advice, form_advice, stray_advice};
 ghost use Rattle.snap_explanation.specs.Said.{view_row};
 
+use crate::after::may_pass;
+use crate::line_sorts::LineSort;
 use crate::names::letters_of;
+use crate::pieces::{PlacedToken, is_lexeme_byte};
 use crate::tables::{by_byte, by_word};
+use crate::tests::{is_identifier, is_line, is_name, is_symbol};
+use crate::wanted::{Keyword, Wanted};
 use crate::wording::{
     BYTE_HINTS, COMMAND_FORMS, COMMANDS, COMPARISON_HINTS, END_HINTS, HEADERS, INDEX_HINTS,
     INSTRUCTION_FORMS, INSTRUCTION_HINTS, INSTRUCTIONS, ITEM, JOIN_HINTS, LEXEME_HINTS, LOCAL,
     NAME_HINTS, NAMES, NUMBERED, REGISTERS, RESERVED, SCRIPT, SHAPE, SUM_HINTS, TARGET,
     VALUE_HINTS, VALUES, WRONG_NUMBER,
-};
-use snap_expected::{
-    Keyword, LineSort, PlacedToken, Wanted, is_identifier, is_lexeme_byte, is_line, is_name,
-    is_symbol, may_pass,
 };
 use snap_semantics::Symbol;
 use snap_text::Token;

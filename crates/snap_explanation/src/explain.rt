@@ -2,8 +2,8 @@
 //! refusal.
 ghost use Rattle.std.specs.Prelude.{◌≡◌, IfOk, OnOk, drop, map, option_map};
 ghost use Rattle.snap_semantics.specs.Token.{text_lines};
-ghost use Rattle.snap_draft.specs.Drafted.{Adds};
-ghost use Rattle.snap_expected.specs.Steps.{view_placed, view_placed_token, view_lost};
+ghost use Rattle.snap_text.specs.Drafted.{Adds};
+ghost use Rattle.snap_explanation.specs.Steps.{view_placed, view_placed_token, view_lost};
 ghost use Rattle.snap_explanation.specs.Explanation.{token_advice, piece_of, stray_words};
 ghost use Rattle.snap_explanation.specs.Explanation.{stray_text};
 ghost use Rattle.snap_explanation.specs.Explanation.{lost_text};
@@ -19,7 +19,7 @@ ghost use Rattle.snap_explanation.specs.Explanation.{schedule_explained, command
 ghost use Rattle.snap_explanation.specs.Explanation.{image_explained};
 ghost use Rattle.snap_explanation.specs.Explanation.{too_many_spot, leading_spot, part_explained};
 ghost use Rattle.snap_explanation.specs.Explanation.{explanation};
-ghost use Rattle.snap_expected.specs.declared.line_sorts.Header.TheVariants.{Kind};
+ghost use Rattle.snap_explanation.specs.declared.line_sorts.Header.TheVariants.{Kind};
 ghost use Rattle.snap_semantics.specs.declared.refusal.ListingRefusal.TheVariants.{BadHeader};
 ghost use Rattle.snap_explanation.specs.Names.{first_such, is_bad, leading_line, nth_token};
 ghost use Rattle.snap_explanation.specs.Sorts.{kind_in};
@@ -28,12 +28,15 @@ ghost use Rattle.snap_explanation.specs.Views.{view_declared, view_misuse, view_
 use crate::advice::{advice, form_advice, stray_advice};
 use crate::inputs::{push_order_advice, push_parts};
 use crate::layout::{Layout, Texts};
+use crate::line_sorts::{Header, LineSort};
+use crate::lost::{LostPlace, lost_in};
 use crate::misuse::{Misuse, push_misuse, wrong_in_line};
 use crate::names::{
     Declared, Numbered, declared_at, first_again, first_bad, first_led, last_before, leading_line,
     letters_of, name_count, nth_token, one_too_many, words_before,
 };
 use crate::part::{Part, part_place};
+use crate::pieces::{PlacedToken, PlacedTokens, placed_tokens};
 use crate::said::{Said, push_said};
 use crate::sorts::{Names, kind_in, names_in};
 use crate::spot::{column_of, piece_at, push_line_spot, push_spot, text_of};
@@ -44,12 +47,8 @@ use crate::wording::{
     NO_FIT, NO_PROCESS, NO_SUCH_LINE, NO_TOKEN, NUMBERS_RISE, QUOTE, QUOTE_END, RISING,
     SECOND_CRASH, TOO_MANY, WRONG,
 };
-use snap_draft::Draft;
-use snap_expected::{
-    Header, LineSort, LostPlace, PlacedToken, PlacedTokens, lost_in, placed_tokens,
-};
 use snap_semantics::{CommandRefusal, ImageRefusal, ListingRefusal, Refusal, ScheduleRefusal};
-use snap_text::{TextLines, Token};
+use snap_text::{Draft, TextLines, Token};
 use std::alloc::{AllocError, Global};
 
 /// Appends what is no token, and the advice on it.

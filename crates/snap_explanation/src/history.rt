@@ -1,8 +1,8 @@
 //! `history_explanation`: the text on an input that is no history, after the line that refuses it.
 ghost use Rattle.std.specs.Prelude.{◌≡◌, IfOk, OnOk};
 ghost use Rattle.snap_semantics.specs.Token.{text_lines};
-ghost use Rattle.snap_draft.specs.Drafted.{Adds};
-ghost use Rattle.snap_expected.specs.declared.line_sorts.LineSort.TheVariants.{Shape};
+ghost use Rattle.snap_text.specs.Drafted.{Adds};
+ghost use Rattle.snap_explanation.specs.declared.line_sorts.LineSort.TheVariants.{Shape};
 ghost use Rattle.snap_explanation.specs.Explanation.{first_number, form_text};
 ghost use Rattle.snap_explanation.specs.HistoryExplanation.{history_explanation, history_part};
 ghost use Rattle.snap_explanation.specs.HistoryExplanation.{line_said};
@@ -10,14 +10,14 @@ ghost use Rattle.snap_explanation.specs.Spot.{line_spot};
 ghost use Rattle.snap_explanation.specs.Views.{view_part};
 
 use crate::explain::{first_number, push_form};
+use crate::line_sorts::LineSort;
 use crate::part::{Part, PartName};
 use crate::spot::push_line_spot;
 use crate::wording::{
     BAD_VIEW, BUSY, CRASHED, EVENT_FORMS, LONG_HISTORY, NO_PROCESS, NO_WORD, NOT_CALLED, NOT_RISING,
 };
-use snap_draft::Draft;
-use snap_expected::LineSort;
 use snap_history_text::HistoryRefusal;
+use snap_text::Draft;
 use std::alloc::{AllocError, Global};
 
 /// Returns the history that an input spells.

@@ -2,7 +2,7 @@
 //! place.
 ghost use Rattle.std.specs.Prelude.{◌≡◌, IfOk, OnOk, map, option_map, take};
 ghost use Rattle.snap_semantics.specs.Token.{begins_with, lines_of, text_lines};
-ghost use Rattle.snap_draft.specs.Drafted.{Adds};
+ghost use Rattle.snap_text.specs.Drafted.{Adds};
 ghost use Rattle.snap_input.specs.Parts.{ends_part, parts_of};
 ghost use Rattle.snap_text.specs.Tokens.{view_tokens};
 ghost use Rattle.snap_explanation.specs.Inputs.{parts_words, lines_behind, separators};
@@ -18,18 +18,17 @@ use crate::names::same_word;
 use crate::part::{lines_through, part_at};
 use crate::said::{Said, push_said};
 use crate::spot::{line_of, split_line};
+use crate::tests::is_word;
 use crate::wording::{
     ALONE, COMMANDS_ALONE, FILES_SWAPPED, LINE, LINE_END, LISTING_AND_COMMANDS,
     LISTING_AND_SCHEDULE, LISTING_AND_SCHEDULES, LISTING_AND_SCRIPTS, NEAR, NO_LISTING,
     NO_SEPARATOR, SCHEDULE_ALONE, SCHEDULES_ALONE, SCRIPTS_ALONE, SEPARATORS, SHIPPED, SWAPPED,
     WHOLE_INPUT,
 };
-use snap_draft::Draft;
-use snap_expected::is_word;
 use snap_input::split_parts;
 use snap_semantics::{ListingRefusal, Refusal};
 use snap_tasks::Subject;
-use snap_text::{TextLines, Token};
+use snap_text::{Draft, TextLines, Token};
 use std::alloc::{AllocError, Global};
 
 /// The most lines `%` that are told.

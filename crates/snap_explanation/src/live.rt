@@ -5,7 +5,7 @@ ghost use Rattle.snap_explanation.specs.LiveExplanation.{turn_limit_explanation}
 
 use crate::said::{Said, push_said};
 use crate::wording::{NOT_DONE, SCRIPT_OF};
-use snap_draft::Draft;
+use snap_text::Draft;
 use std::alloc::{AllocError, Global};
 
 /// Returns the text behind the line that refuses a live run, because the script of `process` was

@@ -3,8 +3,8 @@
 ghost use Rattle.std.specs.Prelude.{◌≡◌, Ok, Err, IfOk, IfErr, map, option_map};
 ghost use Rattle.snap_semantics.specs.Spelling.{kind_keyword};
 ghost use Rattle.snap_text.specs.Tokens.{view_token};
-ghost use Rattle.snap_draft.specs.Drafted.{Adds};
-ghost use Rattle.snap_expected.specs.Steps.{view_placed_token};
+ghost use Rattle.snap_text.specs.Drafted.{Adds};
+ghost use Rattle.snap_explanation.specs.Steps.{view_placed_token};
 ghost use Rattle.snap_explanation.specs.Misuse.{is_right, step_at, first_wrong, wrong_in_line};
 ghost use Rattle.snap_explanation.specs.Misuse.{sort_words, declared_words, usage, some_name};
 ghost use Rattle.snap_explanation.specs.Misuse.{some_words, name_text, banks_words, fields_words};
@@ -14,6 +14,7 @@ ghost use Rattle.snap_explanation.specs.Views.{view_names, view_use, view_misuse
 ghost use Rattle.snap_explanation.specs.declared.token_uses.Slot.TheVariants.{Value};
 
 use crate::names::{letters_of, nearest};
+use crate::pieces::PlacedToken;
 use crate::said::{Said, push_said};
 use crate::sorts::{Names, is_sort, of_sort, sort_of};
 use crate::token_uses::{Slot, Use, slot_after, use_at};
@@ -23,12 +24,9 @@ use crate::wording::{
     QUOTE_END, REGISTERS_OF, ROW_USE, SEQ_BANKS, SEQ_FIELDS, SEQ_TUPLE, TUPLE_OF, VIEW_USE, WHILE,
     WORDS_OF, WORDS_USE,
 };
-use snap_draft::Draft;
-use snap_expected::PlacedToken;
-use snap_listing_forms::line_form;
-use snap_listing_rules::{has_bank, has_field, has_handshakes, has_view, same_kind};
+use snap_listing::{has_bank, has_field, has_handshakes, has_view, line_form, same_kind};
 use snap_semantics::{Instr, Sort};
-use snap_text::Token;
+use snap_text::{Draft, Token};
 use snap_words::KindTag;
 use std::alloc::{AllocError, Global};
 

@@ -4,7 +4,7 @@ ghost use Rattle.std.specs.Prelude.{◌≡◌, ◌≤◌, ◌++◌, IfOk, OnOk, 
 ghost use Rattle.std.specs.Prelude.{option_map};
 ghost use Rattle.snap_semantics.specs.Token.{text_lines};
 ghost use Rattle.snap_text.specs.Tokens.{view_token, view_tokens};
-ghost use Rattle.snap_expected.specs.Steps.{view_placed_token};
+ghost use Rattle.snap_explanation.specs.Steps.{view_placed_token};
 ghost use Rattle.snap_explanation.specs.Names.{words_of, words_of_line, words_before, is_among};
 ghost use Rattle.snap_explanation.specs.Names.{letters_of, nth_token, first_such, is_bad};
 ghost use Rattle.snap_explanation.specs.Names.{first_again};
@@ -16,8 +16,9 @@ ghost use Rattle.snap_explanation.specs.Names.{begins_with_number, leads_to, lin
 ghost use Rattle.snap_explanation.specs.Names.{leading_line};
 ghost use Rattle.snap_explanation.specs.Views.{view_declared};
 
-use snap_expected::{PlacedToken, is_identifier, is_word};
-use snap_listing_rules::is_reserved;
+use crate::pieces::PlacedToken;
+use crate::tests::{is_identifier, is_word};
+use snap_listing::is_reserved;
 use snap_text::{TextLines, Token};
 use std::alloc::{AllocError, Global};
 

@@ -1,11 +1,11 @@
 //! `Said`: a piece of an explanation.
-ghost use Rattle.snap_draft.specs.Drafted.{Adds};
+ghost use Rattle.snap_text.specs.Drafted.{Adds};
 ghost use Rattle.snap_explanation.specs.Said.{shown_byte, shown, said_cut, said_text, said};
 ghost use Rattle.std.specs.Prelude.{◌≡◌, replicate};
 
 use crate::spot::front;
 use crate::wording::CUT;
-use snap_draft::Draft;
+use snap_text::Draft;
 
 /// The most bytes of a piece that are shown.
 const PIECE: usize = 40;

@@ -7,7 +7,7 @@ ghost use Rattle.snap_explanation.specs.Sorts.{source_in, of_sort};
 ghost use Rattle.snap_explanation.specs.Views.{view_names};
 
 use crate::names::{is_among, same_word};
-use snap_listing_rules::is_reserved;
+use snap_listing::is_reserved;
 use snap_semantics::Sort;
 use snap_words::KindTag;
 use std::alloc::{AllocError, Global};

@@ -1,8 +1,8 @@
 //! `push_spot`: a place of a refused input: where it is, its line, and a mark under its column.
 ghost use Rattle.std.specs.Prelude.{◌≡◌, ◌≤◌, ◌<◌, length, option_map, take, drop, ◌∷◌};
 ghost use Rattle.snap_semantics.specs.Token.{lines_of};
-ghost use Rattle.snap_draft.specs.Drafted.{Adds};
-ghost use Rattle.snap_expected.specs.Steps.{view_placed_token};
+ghost use Rattle.snap_text.specs.Drafted.{Adds};
+ghost use Rattle.snap_explanation.specs.Steps.{view_placed_token};
 ghost use Rattle.snap_explanation.specs.Spot.{nth_line, text_of, comment_start, piece_at};
 ghost use Rattle.snap_explanation.specs.Spot.{column_of};
 ghost use Rattle.snap_explanation.specs.Spot.{part_name_text, line_of_input, line_place, window};
@@ -10,13 +10,13 @@ ghost use Rattle.snap_explanation.specs.Spot.{column_words, mark, marked, spot, 
 ghost use Rattle.snap_explanation.specs.Views.{view_part};
 
 use crate::part::{Part, PartName};
+use crate::pieces::{PlacedToken, piece_len};
 use crate::said::{Said, push_said};
 use crate::wording::{
     COLUMN, LINE, LINE_END, MARGIN, MARK, NTH_SCHEDULE, OF, OF_THE_INPUT, PLACE_END, THE_COMMANDS,
     THE_HISTORY, THE_LISTING, THE_SCHEDULE, THE_SCRIPTS,
 };
-use snap_draft::Draft;
-use snap_expected::{PlacedToken, piece_len};
+use snap_text::Draft;
 
 /// The most bytes of a line that are shown.
 const WINDOW: usize = 72;

@@ -1,19 +1,20 @@
 //! Says what was expected at a place of a refused input, in words, and what was found there.
 ghost use Rattle.std.specs.Prelude.{◌≡◌};
-ghost use Rattle.snap_draft.specs.Drafted.{Adds};
+ghost use Rattle.snap_text.specs.Drafted.{Adds};
 ghost use Rattle.snap_explanation.specs.Texts.{symbol_words, keyword_words, wanted_words};
 ghost use Rattle.snap_explanation.specs.Texts.{expected_words, found_words, expected_line};
 
+use crate::after::may_pass;
 use crate::said::{Said, push_said};
+use crate::wanted::{Keyword, Wanted};
 use crate::wording::{
     ACT, AND_ALONE, AND_OR, BEHIND_NAME, BEHIND_THIRD, BIT, COMMAND, COMPARISON, COUNT,
     END_OF_LINE, EXPECTED, FOUND, INDEX, INDEX_OR_PLACE, INSTRUCTION, KIND_NAME, LINE_END,
     LINE_NUMBER, NAME, NUMBER, OPEN_BRACKET, OR, OR_ALONE, PLUS, POSITIVE, QUOTE, QUOTE_END, RANGE,
     REGISTER, RELATION, SCRIPT_ACT, SHOWN, TEST, TUPLE, TURN, VALUE, VIEW_SOURCE, WHERE,
 };
-use snap_draft::Draft;
-use snap_expected::{Keyword, Wanted, may_pass};
 use snap_semantics::{Join, Symbol};
+use snap_text::Draft;
 
 fn symbol_words(symbol: Symbol) -> &'static [u8]
     ensures { result.now ≡ symbol_words symbol }

@@ -2,7 +2,7 @@
 ghost use Rattle.std.specs.Prelude.{◌≡◌, option_map, length};
 ghost use Rattle.snap_semantics.specs.ListingForms.{field_of_keyword};
 ghost use Rattle.snap_text.specs.Tokens.{view_token};
-ghost use Rattle.snap_expected.specs.Steps.{placed_tokens};
+ghost use Rattle.snap_explanation.specs.Steps.{placed_tokens};
 ghost use Rattle.snap_explanation.specs.TokenUses.{opens_with, ends_with_view, has_row, lone_sort};
 ghost use Rattle.snap_explanation.specs.TokenUses.{sort_at, field_use, word_use, tuple_kind};
 ghost use Rattle.snap_explanation.specs.TokenUses.{tuple_use, use_at, is_view_word, is_words_word};
@@ -10,9 +10,10 @@ ghost use Rattle.snap_explanation.specs.TokenUses.{slot_of_word, slot_inside, sl
 ghost use Rattle.snap_explanation.specs.Views.{view_use};
 
 use crate::names::same_word;
+use crate::pieces::PlacedToken;
 use crate::spot::front;
-use snap_expected::{PlacedToken, is_symbol};
-use snap_listing_rules::is_reserved;
+use crate::tests::is_symbol;
+use snap_listing::is_reserved;
 use snap_semantics::{Instr, Sort, Symbol, Tuple};
 use snap_text::Token;
 use snap_words::{Bank, Field, KindTag};

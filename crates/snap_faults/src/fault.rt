@@ -7,13 +7,11 @@ ghost use Rattle.snap_faults.specs.Faults.{of_input_fault, of_live_fault, of_mod
 ghost use Rattle.snap_faults.specs.declared.fault.ProgramFault.TheVariants.{Memory, Write};
 
 use crate::files::Which;
-use snap_dialog::DialogFault;
-use snap_files::FileFault;
 use snap_history_text::{HistoryFault, HistoryRefusal};
-use snap_live_desk::{LiveFault, LiveRefusal};
+use snap_live::{LiveFault, LiveRefusal};
 use snap_promela::ModelRefusal;
 use snap_semantics::{Fault, Refusal};
-use snap_streams::Unsent;
+use snap_streams::{DialogFault, FileFault, Unsent};
 use std::alloc::{AllocError, AllocFailed};
 use std::io::ErrorKind;
 use thiserror::Error;

@@ -8,12 +8,12 @@ ghost use Rattle.snap_faults.specs.declared.fault.ProgramFault.TheVariants.{Unre
 
 use crate::fault::ProgramFault;
 use crate::files::{Names, Which};
-use snap_files::reason;
+use crate::refusal_text::{push_numbered, push_refused};
 use snap_history_text::HistoryRefusal;
-use snap_live_desk::LiveRefusal;
+use snap_live::LiveRefusal;
 use snap_promela::ModelRefusal;
-use snap_refusals::{push_numbered, push_refused};
 use snap_semantics::Refusal;
+use snap_streams::reason;
 use snap_text::push_text;
 use std::alloc::{AllocError, Global};
 use std::io::ErrorKind;

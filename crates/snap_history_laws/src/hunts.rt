@@ -9,6 +9,6 @@ pub fn shipped_listings_have_no_failing_run()
     ensures hunts { (g : KindTag) → HuntsFindNone g }
 {
     snap_shipped::shipped_runs_keep_promises();
-    snap_failure::steps_are_of_operations();
+    snap_hunt::steps_are_of_operations();
     crate::judgements::shipped_runs_are_seen_linearizable();
 }

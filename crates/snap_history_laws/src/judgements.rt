@@ -17,7 +17,7 @@ ghost use Rattle.snap_history_laws.specs.judgements.ThreadLaws.{ThreadsAreToldTh
 use crate::events::events_tell_operations;
 use crate::threads::operations_are_told;
 use snap_judge::linearizable_from_the_beginning;
-use snap_listing_grammar::what_is_read_is_spelled;
+use snap_listing::what_is_read_is_spelled;
 use snap_live::Gate;
 use snap_record::Record;
 use snap_run_judge::runs_have_histories;

@@ -12,9 +12,9 @@ use Rattle.snap_semantics.specs.ScheduleText.{FitsItem, IsSchedule}
 use Rattle.snap_semantics.specs.Table.{who}
 use Rattle.snap_semantics.specs.Source.{Source}
 use Rattle.snap_runs.specs.Run.{run_over}
-use Rattle.snap_failure.specs.Finding.{Finds}
-use Rattle.snap_failure.specs.declared.failures.Failure.{Failure}
-use Rattle.snap_failure.specs.declared.failures.Wanted.{Wanted}
+use Rattle.snap_hunt.specs.Finding.{Finds}
+use Rattle.snap_hunt.specs.declared.failures.Failure.{Failure}
+use Rattle.snap_hunt.specs.declared.failures.Wanted.{Wanted}
 use Rattle.snap_hunt.specs.Shrinking.{Fails, FailsWith, HoldsWith, IsShrunk, Shrinks, TellsWhether, without}
 
 -- whether anything is found in the run over these items

@@ -9,9 +9,9 @@ use Rattle.rayon.proofs.ToStd.{slice-AllZip}
 use Rattle.snap_runs.proofs.Computing.{lt_from, not_lt}
 use Rattle.snap_semantics.specs.Source.{Source}
 use Rattle.snap_chance.specs.Plan.{Plan}
-use Rattle.snap_failure.specs.Finding.{Finds}
-use Rattle.snap_failure.specs.declared.failures.Failure.{Failure}
-use Rattle.snap_failure.specs.declared.failures.Wanted.{Wanted}
+use Rattle.snap_hunt.specs.Finding.{Finds}
+use Rattle.snap_hunt.specs.declared.failures.Failure.{Failure}
+use Rattle.snap_hunt.specs.declared.failures.Wanted.{Wanted}
 use Rattle.snap_hunt.specs.Hunt.{IsFirst, IsFirstIn, NothingBefore, run_of}
 use Rattle.snap_hunt.specs.declared.found.Found.{Found}
 

@@ -3,14 +3,15 @@
 ghost use Rattle.std.specs.Prelude.{◌≡◌, ◌+◌, ◌-◌, ◌^◌, ◌<◌, ◌≤◌, ℕ, IfOk};
 ghost use Rattle.std.specs.Prelude.{IfNone, IfSome, None, Some, length, slice_index_or};
 ghost use Rattle.std.specs.List.{AllZip, range_with_len};
-ghost use Rattle.snap_failure.specs.Finding.{Finds};
+ghost use Rattle.snap_hunt.specs.Finding.{Finds};
 ghost use Rattle.snap_hunt.specs.Hunt.{IsFirstIn, run_of};
 
+use crate::failures::{Failure, Wanted};
 use crate::found::Found;
+use crate::over::failure_over;
 use rayon::prelude::*;
 use snap_asm_program::Program;
 use snap_chance::{Plan, schedule_of};
-use snap_failure::{Failure, Wanted, failure_over};
 use std::alloc::{AllocError, Global};
 use std::thread::Threads;
 

@@ -4,10 +4,10 @@ ghost use Rattle.std.specs.Prelude.{◌≡◌, ◌+◌, ◌-◌, ◌<◌, ◌≤
 ghost use Rattle.snap_hunt.specs.Hunt.{IsFirst};
 
 use crate::blocks::{find_each, first_of, numbers};
+use crate::failures::Wanted;
 use crate::found::Found;
 use snap_asm_program::Program;
 use snap_chance::Plan;
-use snap_failure::Wanted;
 use std::alloc::{AllocError, Global};
 use std::thread::Threads;
 

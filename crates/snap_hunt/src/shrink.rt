@@ -4,9 +4,9 @@ ghost use Rattle.snap_hunt.specs.Shrinking.{Fails, IsShrunk, drawn};
 
 use crate::cuts::schedule_with;
 use crate::draft::{Draft, draft_of};
+use crate::failures::Wanted;
 use crate::trials::Shrinker;
 use snap_asm_program::Program;
-use snap_failure::Wanted;
 use snap_sched::Schedule;
 use std::alloc::{AllocError, Global};
 

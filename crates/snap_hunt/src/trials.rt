@@ -7,8 +7,9 @@ ghost use Rattle.snap_hunt.specs.Shrinking.{drawn, without};
 
 use crate::cuts::{schedule_with, without};
 use crate::draft::{Draft, is_schedule, is_within};
+use crate::failures::Wanted;
+use crate::over::failure_over;
 use snap_asm_program::Program;
-use snap_failure::{Wanted, failure_over};
 use snap_semantics::Item;
 use snap_words::Shape;
 use std::alloc::{AllocError, Global};

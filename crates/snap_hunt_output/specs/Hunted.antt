@@ -12,11 +12,11 @@ use Rattle.snap_semantics.specs.declared.refusal.Refusal.TheVariants as refusal
 use Rattle.snap_runs.specs.Run.{Run, run_over}
 use Rattle.snap_chance.specs.Chance.{schedule_of}
 use Rattle.snap_chance.specs.Plan.{Plan}
-use Rattle.snap_failure.specs.Finding.{Finds}
-use Rattle.snap_failure.specs.Kinds.{kind_of, with_only}
-use Rattle.snap_failure.specs.declared.failures.Failure.{Failure}
-use Rattle.snap_failure.specs.declared.failures.FailureKind.{FailureKind}
-use Rattle.snap_failure.specs.declared.failures.Wanted.{Wanted}
+use Rattle.snap_hunt.specs.Finding.{Finds}
+use Rattle.snap_hunt.specs.Kinds.{kind_of, with_only}
+use Rattle.snap_hunt.specs.declared.failures.Failure.{Failure}
+use Rattle.snap_hunt.specs.declared.failures.FailureKind.{FailureKind}
+use Rattle.snap_hunt.specs.declared.failures.Wanted.{Wanted}
 use Rattle.snap_hunt.specs.Hunt.{IsFirst}
 use Rattle.snap_hunt.specs.declared.found.Found.{Found}
 use Rattle.snap_hunt.specs.Shrinking.{IsShrunk}

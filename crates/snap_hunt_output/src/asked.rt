@@ -3,7 +3,7 @@ ghost use Rattle.std.specs.Prelude.{◌≡◌};
 ghost use Rattle.snap_hunt_output.specs.Asked.{fits_kind, owned, owns_words};
 
 use snap_chance::Plan;
-use snap_failure::Wanted;
+use snap_hunt::Wanted;
 use snap_words::{KindTag, Shape};
 
 /// The plan of a hunt and the failures that it looks for.

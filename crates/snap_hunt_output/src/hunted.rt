@@ -2,8 +2,8 @@
 //! that does, with the input of a small run that fails too.
 ghost use Rattle.std.specs.Prelude.{◌≡◌, ◌<◌, ◌^◌, IfErr, IfOk, OnOk, Some};
 ghost use Rattle.snap_runs.specs.Run.{run_over};
-ghost use Rattle.snap_failure.specs.Finding.{Finds};
-ghost use Rattle.snap_failure.specs.Kinds.{kind_of};
+ghost use Rattle.snap_hunt.specs.Finding.{Finds};
+ghost use Rattle.snap_hunt.specs.Kinds.{kind_of};
 ghost use Rattle.snap_semantics.specs.Answers.{Answers};
 ghost use Rattle.snap_hunt.specs.Hunt.{IsFirst, run_of};
 ghost use Rattle.snap_hunt_output.specs.Asked.{owned};
@@ -15,9 +15,10 @@ use crate::check::{InputRun, run_in_input};
 use crate::input::input_text;
 use snap_asm_program::Program;
 use snap_chance::{Plan, schedule_of};
-use snap_failure::{Failure, Wanted, failure_over};
 use snap_faults::ProgramFault;
-use snap_hunt::{Found, Watcher, first_failing, first_failing_alone, shrunk};
+use snap_hunt::{
+    Failure, Found, Wanted, Watcher, failure_over, first_failing, first_failing_alone, shrunk,
+};
 use snap_input::{MAX_INPUT, program_of};
 use snap_semantics::{Fault, Refusal};
 use snap_words::WordFault;

@@ -6,7 +6,7 @@ ghost use Rattle.snap_hunt_output.specs.Input.{listing_part, order_line, run_not
 
 use snap_audit::push_verdict_line;
 use snap_debug_commands::{Command, push_command};
-use snap_failure::{Failure, OwnSteps};
+use snap_hunt::{Failure, OwnSteps};
 use snap_report::outcome_text;
 use snap_sched::{Schedule, print};
 use snap_semantics::Outcome;

@@ -3,12 +3,12 @@
 ghost use Rattle.std.specs.Prelude.{◌≡◌, ◌≢◌, ℕ, List, ◌∷◌, ◌++◌, IfOk, None, Ok, Err, take};
 ghost use Rattle.snap_semantics.specs.Answers.{Answers};
 ghost use Rattle.snap_semantics.specs.Comments.{Commented, IsCommented};
-ghost use Rattle.snap_image_format.specs.Image.{CanSay, IsImageOf, image_in, signature};
-ghost use Rattle.snap_image_format.specs.ImageCodes.{of_code, versions};
-ghost use Rattle.snap_image_format.specs.ImageListing.{commented_in};
+ghost use Rattle.snap_image.specs.Image.{CanSay, IsImageOf, image_in, signature};
+ghost use Rattle.snap_image.specs.ImageCodes.{of_code, versions};
+ghost use Rattle.snap_image.specs.ImageListing.{commented_in};
 ghost use Rattle.snap_semantics.specs.Listing.{checked_targets, line_targets};
 ghost use Rattle.snap_semantics.specs.declared.fault.Fault.TheVariants.{Refused};
-ghost use Rattle.snap_image_format.specs.declared.image.ImageVersion.{ImageVersion};
+ghost use Rattle.snap_image.specs.declared.image.ImageVersion.{ImageVersion};
 ghost use Rattle.snap_semantics.specs.declared.refusal.ImageRefusal.{ImageRefusal};
 ghost use Rattle.snap_semantics.specs.declared.refusal.ImageRefusal.TheVariants.{NotAnImage};
 ghost use Rattle.snap_semantics.specs.declared.refusal.ImageRefusal.TheVariants.{Version};
@@ -17,8 +17,8 @@ ghost use Rattle.snap_image.specs.Head.{opened};
 use crate::fault::ImageFault;
 use crate::head::head;
 use crate::lines::lines;
+use snap_listing::{checked_target, checked_targets};
 use snap_listing_core::{CommentedListing, Header, Listing};
-use snap_listing_rules::{checked_target, checked_targets};
 use snap_semantics::{ImageRefusal, Line, ListingRefusal};
 use std::alloc::Global;
 
@@ -33,7 +33,7 @@ fn targets(header: &Header, lines: &[Line]) -> Result<(), ListingRefusal>
 }
 
 /// Decodes `image`, or returns the first reason why it is no image of a listing.
-#[tactic(auto, unfolding(snap_image_format::specs::ImageListing::commented_in))]
+#[tactic(auto, unfolding(snap_image::specs::ImageListing::commented_in))]
 fn decoded(alloc: Global, image: &[u8]) -> Result<CommentedListing, ImageFault>
     ensures answer { Answers (λ l. l) result (commented_in image.now) }
     ensures opened { (e : ImageRefusal) → opened image.now ≡ Err e → result ≡ Err (Refused e) }

@@ -1,18 +1,19 @@
 //! `lines`: reads the lines of an image, each with its comment (`CommentedLines`).
 ghost use Rattle.std.specs.Prelude.{◌≡◌};
 ghost use Rattle.snap_semantics.specs.Answers.{Answers};
-ghost use Rattle.snap_image_format.specs.Image.{is_number_in};
-ghost use Rattle.snap_image_format.specs.ImageListing.{new_number, line_in, lines_in};
+ghost use Rattle.snap_image.specs.Image.{is_number_in};
+ghost use Rattle.snap_image.specs.ImageListing.{new_number, line_in, lines_in};
 ghost use Rattle.snap_listing_core.specs.Fields.{header_source};
-ghost use Rattle.snap_image_format.specs.Reads.{Reads};
+ghost use Rattle.snap_image.specs.Reads.{Reads};
 ghost use Rattle.snap_image.specs.DecoderSteps.{added_line, listed};
 
 use crate::comments::behind_line;
+use crate::cursor::Cursor;
 use crate::fault::ImageFault;
-use snap_image_format::{Cursor, ImageVersion};
-use snap_image_operands::instr;
+use crate::image::ImageVersion;
+use crate::instrs::instr;
+use snap_listing::{is_line_number, push_line_copy};
 use snap_listing_core::Header;
-use snap_listing_rules::{is_line_number, push_line_copy};
 use snap_semantics::{ImageRefusal, Line, ListingRefusal};
 use std::alloc::Global;
 
@@ -55,7 +56,7 @@ fn checked_number(
 }
 
 /// Reads line `line`, counted from 1, behind line number `last`.
-#[tactic(auto, unfolding(snap_image_format::specs::ImageListing::line_in))]
+#[tactic(auto, unfolding(snap_image::specs::ImageListing::line_in))]
 fn line_at(
     header: &Header,
     version: ImageVersion,

@@ -2,9 +2,9 @@
 //! of a listing's text.
 ghost use Rattle.std.specs.Prelude.{◌≡◌, ◌≢◌, ◌<◌, ℕ, List, ◌∷◌, ◌++◌, None, Err, length, take};
 ghost use Rattle.snap_semantics.specs.Answers.{Answers, refused_as};
-ghost use Rattle.snap_image_format.specs.Assembly.{assembled, listed, upgraded};
-ghost use Rattle.snap_image_format.specs.Image.{signature};
-ghost use Rattle.snap_image_format.specs.ImageCodes.{of_code, versions};
+ghost use Rattle.snap_image.specs.Assembly.{assembled, listed, upgraded};
+ghost use Rattle.snap_image.specs.Image.{signature};
+ghost use Rattle.snap_image.specs.ImageCodes.{of_code, versions};
 ghost use Rattle.snap_semantics.specs.Listing.{listing_of};
 ghost use Rattle.snap_semantics.specs.declared.fault.Fault.TheVariants.{Refused};
 ghost use Rattle.snap_semantics.specs.declared.refusal.ImageRefusal.TheVariants.{NotAnImage};

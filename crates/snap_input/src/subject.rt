@@ -7,8 +7,8 @@ ghost use Rattle.snap_shipped.specs.Shipped.{shipped};
 ghost use Rattle.snap_tasks.specs.declared.subject.Subject.TheVariants.{FirstPart};
 
 use crate::images::program_of;
+use snap_asm::load_listing;
 use snap_asm_program::Program;
-use snap_loader::load_listing;
 use snap_semantics::{Fault, Refusal};
 use snap_shipped::{listing_b, listing_m, listing_u};
 use snap_tasks::Subject;

@@ -2,14 +2,14 @@
 ghost use Rattle.std.specs.Prelude.{◌≡◌, ◌++◌, IfOk, codes, decimal};
 ghost use Rattle.snap_judge.specs.declared.operation.Operation.{Operation};
 ghost use Rattle.snap_judge_reasons.specs.declared.reason.Grounds.TheVariants as grounds;
-ghost use Rattle.snap_draft.specs.Drafted.{Adds};
+ghost use Rattle.snap_text.specs.Drafted.{Adds};
 ghost use Rattle.snap_judge_reasons.specs.FailureText.{answer_line, answer_lines, asked_text};
 ghost use Rattle.snap_judge_reasons.specs.FailureText.{failure_text, grounds_text, operation_name};
 ghost use Rattle.snap_judge_reasons.specs.FailureText.{reason_line, reason_lines};
 
 use crate::reason::{Grounds, Reason};
-use snap_draft::Draft;
 use snap_judge::{Action, Operation};
+use snap_text::Draft;
 use snap_words::View;
 use std::alloc::{AllocError, Global};
 

@@ -6,7 +6,7 @@ use Rattle.snap_judge.specs.Judgement.{IsJudgement}
 use Rattle.snap_judge.specs.Linearizable.{up_to}
 use Rattle.snap_judge.specs.declared.judgements.Judgement.{Judgement}
 use Rattle.snap_judge.specs.declared.judgements.Judgement.TheVariants as judgement
-use Rattle.snap_judge_output.specs.JudgementText.{NamesEvent}
+use Rattle.snap_history_text.specs.JudgementText.{NamesEvent}
 use Rattle.snap_judge_reasons.specs.FailureText.{failure_text}
 use Rattle.snap_judge_reasons.specs.Reasons.{IsCircle}
 use Rattle.snap_judge_reasons.specs.RightAnswers.{AreRightAnswers}

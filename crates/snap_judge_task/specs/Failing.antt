@@ -7,7 +7,7 @@ use Rattle.snap_judge.specs.Linearizable.{up_to}
 use Rattle.snap_judge.specs.declared.judgements.Judgement.{Judgement}
 use Rattle.snap_judge.specs.declared.judgements.Judgement.TheVariants as judgement
 use Rattle.snap_judge.specs.declared.operation.Operation.{Operation}
-use Rattle.snap_judge_output.specs.JudgementText.{operation_lines}
+use Rattle.snap_history_text.specs.JudgementText.{operation_lines}
 use Rattle.snap_judge_reasons.specs.FailureText.{failure_text}
 use Rattle.snap_judge_reasons.specs.Reasons.{IsCircle}
 use Rattle.snap_judge_reasons.specs.RightAnswers.{AreRightAnswers}

@@ -3,7 +3,7 @@ use Rattle.std.specs.Prelude.{◌≡◌, ℕ, List, Result, Ok, Err, ⊤}
 use Rattle.snap_judge.specs.History.{History}
 use Rattle.snap_judge.specs.Judgement.{IsJudgement}
 use Rattle.snap_judge.specs.declared.judgements.Judgement.{Judgement}
-use Rattle.snap_judge_output.specs.JudgementText.{judgement_text}
+use Rattle.snap_history_text.specs.JudgementText.{judgement_text}
 use Rattle.snap_run_judge.specs.RunJudgement.{word_of}
 use Rattle.snap_run_judge.specs.declared.linearizability.Linearizability.{Linearizability}
 use Rattle.snap_tasks.specs.declared.judge_request.JudgeRequest.{JudgeRequest}

@@ -6,8 +6,8 @@ ghost use Rattle.snap_judge.specs.Judgement.{IsJudgement};
 ghost use Rattle.snap_judge_task.specs.Failing.{Fails, IsMore, TellsWhy, WasBefore, before_text};
 ghost use Rattle.snap_judge_task.specs.Failing.{order_text};
 
+use snap_history_text::push_operations;
 use snap_judge::{History, Judgement, Operation, judge};
-use snap_judge_output::push_operations;
 use snap_judge_reasons::{failure_text, reasons, right_answers};
 use snap_text::push_text;
 use std::alloc::{AllocError, Global};

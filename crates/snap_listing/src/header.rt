@@ -15,8 +15,9 @@ ghost use Rattle.snap_text.specs.Lines.{view_line};
 ghost use Rattle.snap_text.specs.Tokens.{Finds, view_tokens};
 
 use crate::fault::ListingFault;
+use crate::rules::{is_line_number, is_reserved};
+use crate::uses::is_among;
 use snap_listing_core::Header;
-use snap_listing_rules::{is_among, is_line_number, is_reserved};
 use snap_semantics::{ListingRefusal, Name};
 use snap_text::{TextLines, Token, TokenLine, end_at, identifier_at, keyword_at, number_at};
 use snap_words::KindTag;

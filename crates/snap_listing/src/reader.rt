@@ -12,10 +12,11 @@ ghost use Rattle.snap_semantics.specs.declared.refusal.ListingRefusal.TheVariant
 ghost use Rattle.snap_text.specs.Lines.{view_line};
 
 use crate::fault::ListingFault;
+use crate::forms::line_form;
 use crate::header::header_of;
+use crate::targets::{checked_target, checked_targets, push_line_copy};
+use crate::uses::checked_uses;
 use snap_listing_core::{CommentedListing, Header, Listing};
-use snap_listing_forms::line_form;
-use snap_listing_rules::{checked_target, checked_targets, checked_uses, push_line_copy};
 use snap_semantics::{Line, ListingRefusal};
 use snap_text::{TextLines, TokenLine, line_comments, line_count};
 use std::alloc::{AllocError, Global};

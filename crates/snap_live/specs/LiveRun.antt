@@ -7,17 +7,17 @@ use Rattle.snap_semantics.specs.declared.process.Item.{Item}
 use Rattle.snap_semantics.specs.declared.fault.Fault.{Fault}
 use Rattle.snap_semantics.specs.declared.fault.Fault.TheVariants as fault
 use Rattle.snap_runs.specs.Run.{Run, IsValidRun}
-use Rattle.snap_live_desk.specs.declared.seat_state.Setting.{Setting}
-use Rattle.snap_live_desk.specs.declared.seat.Turn.{Turn}
+use Rattle.snap_live.specs.declared.seat_state.Setting.{Setting}
+use Rattle.snap_live.specs.declared.seat.Turn.{Turn}
 use Rattle.snap_live.specs.declared.worker.Stop.{Stop}
 use Rattle.snap_live.specs.declared.worker.Stop.TheVariants as stop
-use Rattle.snap_live_desk.specs.declared.refusal.LiveRefusal.{LiveRefusal}
-use Rattle.snap_live_desk.specs.declared.refusal.LiveRefusal.TheVariants.{Full, TurnLimit, SeatMissing}
-use Rattle.snap_live_desk.specs.Turns.{run_of, setting_of, turns_of}
+use Rattle.snap_live.specs.declared.refusal.LiveRefusal.{LiveRefusal}
+use Rattle.snap_live.specs.declared.refusal.LiveRefusal.TheVariants.{Full, TurnLimit, SeatMissing}
+use Rattle.snap_live.specs.Turns.{run_of, setting_of, turns_of}
 use Rattle.snap_sched.specs.ScriptText.{Script}
 use Rattle.snap_live.specs.Script.{script_at}
 use Rattle.snap_live.specs.Play.{IsPlay, IsBegun}
-use Rattle.snap_live_desk.specs.Shown.{DeskView}
+use Rattle.snap_live.specs.Shown.{DeskView}
 use Rattle.snap_live.specs.Worker.{shown, IsLetOn, MayGoOn, MayNotGoOn, WorkedView, IsWorked}
 
 -- the turns of process k + 1

@@ -4,18 +4,21 @@ ghost use Rattle.std.specs.Prelude.{◌≡◌, ◌+◌, ◌-◌, ◌*◌, ◌^�
 ghost use Rattle.std.specs.Prelude.{ℕ, length, vec_len, All, map};
 ghost use Rattle.std.specs.Prelude.{slice_index_or, IfOk, IfErr, Some, None};
 ghost use Rattle.snap_words.specs.Shape.{IsOneOf, max_items};
-ghost use Rattle.snap_live_desk.specs.declared.seat_state.Setting.{Setting};
+ghost use Rattle.snap_live.specs.declared.seat_state.Setting.{Setting};
 ghost use Rattle.snap_live.specs.Script.{script_at};
-ghost use Rattle.snap_live_desk.specs.Shown.{seat_of, seats_of};
+ghost use Rattle.snap_live.specs.Shown.{seat_of, seats_of};
 ghost use Rattle.snap_live.specs.Worker.{HasRoom, IsWorked, WorkedView};
 ghost use Rattle.snap_live.specs.LiveRun.{AllWorked, IsLive, MayFault};
 ghost use Rattle.snap_live.specs.LiveRun.{first_stop, then_first, fault_of};
 
+use crate::closed_desk::close;
+use crate::desk::{Desk, open};
 use crate::gate::Gate;
+use crate::refusal::{LiveFault, LiveRefusal};
+use crate::seat::{Seat, Turn};
 use crate::start_gate::StartGate;
 use crate::worker::{Stop, Worked, work};
 use snap_asm_program::Program;
-use snap_live_desk::{Desk, LiveFault, LiveRefusal, Seat, Turn, close, open};
 use snap_record::{MAX_ITEMS, Record};
 use snap_sched::{Script, Scripts};
 use snap_semantics::Fault;
@@ -35,7 +38,7 @@ pub struct Turns {
 
 impl Model for Turns {
     ghost use Rattle.std.specs.Prelude.{List};
-    ghost use Rattle.snap_live_desk.specs.declared.seat.Turn.{Turn};
+    ghost use Rattle.snap_live.specs.declared.seat.Turn.{Turn};
 
     ghost Value = { List Turn };
 

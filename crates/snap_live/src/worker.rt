@@ -2,15 +2,17 @@
 ghost use Rattle.std.specs.Prelude.{◌≡◌, ◌+◌, ◌^◌, ◌<◌, ◌≤◌, [], true, length, drop, IfOk, IfErr};
 ghost use Rattle.snap_words.specs.Shape.{max_items};
 ghost use Rattle.snap_semantics.specs.Table.{who};
-ghost use Rattle.snap_live_desk.specs.Shown.{IsTurn, StaysWith, seat_of};
-ghost use Rattle.snap_live_desk.specs.Untaken.{NoTurn};
+ghost use Rattle.snap_live.specs.Shown.{IsTurn, StaysWith, seat_of};
+ghost use Rattle.snap_live.specs.Untaken.{NoTurn};
 ghost use Rattle.snap_live.specs.Script.{crashes_behind};
 ghost use Rattle.snap_live.specs.Play.{Leaves, rest, busy, over, IsPlay, IsBegun};
 ghost use Rattle.snap_live.specs.Sequels.{sequel_of};
 ghost use Rattle.snap_live.specs.Worker.{Kept, Made, NoFurther, Stopped, after_operation, IsWorked};
 
+use crate::desk::Desk;
 use crate::gate::Gate;
-use snap_live_desk::{Desk, LiveFault, Seat, Turn};
+use crate::refusal::LiveFault;
+use crate::seat::{Seat, Turn};
 use snap_record::MAX_ITEMS;
 use snap_sched::Script;
 use snap_semantics::{Fault, Item, Outcome};

@@ -18,13 +18,13 @@ use Rattle.snap_report.specs.RunReport.{report_at}
 use Rattle.snap_tasks.specs.declared.subject.Subject.{Subject}
 use Rattle.snap_input.specs.Input.{parted}
 use Rattle.snap_input.specs.Parts.{part, parts_of, max_input}
-use Rattle.snap_live_desk.specs.declared.seat_state.Setting.{Setting}
-use Rattle.snap_live_desk.specs.declared.refusal.LiveRefusal.{LiveRefusal}
+use Rattle.snap_live.specs.declared.seat_state.Setting.{Setting}
+use Rattle.snap_live.specs.declared.refusal.LiveRefusal.{LiveRefusal}
 use Rattle.snap_live.specs.LiveRun.{MayFault}
 use Rattle.snap_live.specs.Play.{IsPlay}
 use Rattle.snap_live.specs.Script.{script_at}
 use Rattle.snap_live.specs.Worker.{IsLetOn}
-use Rattle.snap_live_desk.specs.Turns.{run_of, turns_of}
+use Rattle.snap_live.specs.Turns.{run_of, turns_of}
 
 -- what a live run plays: a listing, and a script for each process
 pub record Setup : Type 0 where

@@ -4,13 +4,13 @@ ghost use Rattle.std.specs.Prelude.{◌≡◌, length, map};
 ghost use Rattle.snap_words.specs.Shape.{IsOneOf};
 ghost use Rattle.snap_semantics.specs.Table.{call_skip, done, entry, owner_skip};
 ghost use Rattle.snap_semantics.specs.declared.process.Item.TheVariants as item;
-ghost use Rattle.snap_values.specs.SeenProcesses.{seen_process, seen_state};
-ghost use Rattle.snap_line_effects.specs.Sizes.{AllSized};
+ghost use Rattle.snap_machine.specs.SeenProcesses.{seen_process, seen_state};
+ghost use Rattle.snap_machine.specs.Sizes.{AllSized};
 
+use crate::slot_process::SlotProcess;
 use snap_listing_core::Listing;
 use snap_regs::Registers;
 use snap_semantics::{Activity, Op, Outcome, Reason, Status};
-use snap_values::SlotProcess;
 use snap_words::{Kind, KindTag, Shape};
 
 /// Calls `op` at process `i`, which begins it or skips the call, and returns the outcome.

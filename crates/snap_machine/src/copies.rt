@@ -1,9 +1,9 @@
 //! `copy_processes`: copies of the processes of a machine.
 ghost use Rattle.std.specs.Prelude.{◌≡◌, IfOk, map, vec_items};
 ghost use Rattle.snap_semantics.specs.Source.{Source};
-ghost use Rattle.snap_values.specs.SeenProcesses.{seen_process};
+ghost use Rattle.snap_machine.specs.SeenProcesses.{seen_process};
 
-use snap_values::SlotProcess;
+use crate::slot_process::SlotProcess;
 use snap_words::{Kind, copy_views, copy_words};
 use std::alloc::{AllocError, Global};
 

@@ -4,11 +4,12 @@ ghost use Rattle.std.specs.Prelude.{◌≡◌, IfOk, map, replicate, vec_items};
 ghost use Rattle.snap_words.specs.Kind.{initial_word};
 ghost use Rattle.snap_words.specs.Shape.{places};
 ghost use Rattle.snap_semantics.specs.State.{initial_process};
-ghost use Rattle.snap_values.specs.SeenProcesses.{seen_process};
+ghost use Rattle.snap_machine.specs.SeenProcesses.{seen_process};
 
+use crate::slot_process::SlotProcess;
+use crate::value::places;
 use snap_listing_core::Listing;
 use snap_semantics::Status;
-use snap_values::{SlotProcess, places};
 use snap_words::{Kind, Shape, View};
 use std::alloc::{AllocError, Global};
 

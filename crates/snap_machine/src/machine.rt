@@ -35,19 +35,21 @@ ghost use Rattle.snap_machine.specs.SeenContents.{
   seen_named,
   value_there,
 };
-ghost use Rattle.snap_undo.specs.Undo.{CanPut, put};
-ghost use Rattle.snap_values.specs.SeenProcesses.{seen_locals};
+ghost use Rattle.snap_machine.specs.Undo.{CanPut, put};
+ghost use Rattle.snap_machine.specs.SeenProcesses.{seen_locals};
 
 use crate::call::{call, crash};
 use crate::contents::{Contents, Local};
 use crate::copies::copy_processes;
 use crate::fresh::new_processes;
+use crate::overwrites::overwritten;
+use crate::reversal::revert;
+use crate::slot_process::SlotProcess;
 use crate::step::step;
+use crate::undo::Undo;
 use snap_asm_program::Program;
 use snap_regs::{RegisterFault, Registers};
 use snap_semantics::{Activity, BitBank, Item, Name, Op, Outcome, Sort, Status};
-use snap_undo::{Undo, overwritten, revert};
-use snap_values::SlotProcess;
 use snap_words::{Address, Bank, Field, Kind, Shape, View, field_of};
 use std::alloc::{AllocError, Global};
 use std::marker::Model;
@@ -77,7 +79,7 @@ impl<K: Kind> Model for Machine<K> {
 
     ghost Value = { Configuration };
 
-    ghost use Rattle.snap_values.specs.SeenProcesses.{seen_state};
+    ghost use Rattle.snap_machine.specs.SeenProcesses.{seen_state};
 
     ghost view = { λ m. record {
       source = m.program;

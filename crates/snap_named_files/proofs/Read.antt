@@ -5,10 +5,10 @@ use Rattle.std.specs.Global.{Global}
 use Rattle.std.specs.declared.io.ErrorKind.{ErrorKind}
 use Rattle.snap_words.specs.declared.kind.KindTag.{KindTag}
 use Rattle.snap_semantics.specs.Answers.{◌>>=◌, refused_as}
-use Rattle.snap_files.specs.FileTexts.{Gives, IsTextOf, Reads}
-use Rattle.snap_files.specs.declared.file_fault.FileFault.{FileFault}
-use Rattle.snap_files.specs.declared.file_fault.FileFault.TheVariants as file
-use Rattle.snap_files.proofs.Texts.{some_text, text_read}
+use Rattle.snap_streams.specs.FileTexts.{Gives, IsTextOf, Reads}
+use Rattle.snap_streams.specs.declared.file_fault.FileFault.{FileFault}
+use Rattle.snap_streams.specs.declared.file_fault.FileFault.TheVariants as file
+use Rattle.snap_streams.proofs.Texts.{some_text, text_read}
 use Rattle.snap_named_files.specs.Named.{Files, Shipped}
 use Rattle.snap_named_files.specs.Texts.{AreTexts, Comes, IsTextIn, Read, OfFiles, OfShipped, too_many, view_texts}
 use Rattle.snap_faults.specs.Faults.{of_file}

@@ -1,6 +1,6 @@
 //! `read_texts`: reads the texts of the files that a command line names.
 ghost use Rattle.std.specs.Prelude.{◌≡◌, Result, List, ℕ};
-ghost use Rattle.snap_files.specs.declared.file_fault.FileFault.{FileFault};
+ghost use Rattle.snap_streams.specs.declared.file_fault.FileFault.{FileFault};
 ghost use Rattle.snap_semantics.specs.Answers.{refused_as};
 ghost use Rattle.snap_named_files.specs.Named.{Files, Shipped, view_named};
 ghost use Rattle.snap_faults.specs.Faults.{of_file};
@@ -8,7 +8,7 @@ ghost use Rattle.snap_named_files.specs.Texts.{AreTexts, Comes, IsTextIn};
 
 use crate::named::Named;
 use snap_faults::{ProgramFault, Which, of_file};
-use snap_files::FileSource;
+use snap_streams::FileSource;
 use snap_words::KindTag;
 use std::alloc::Global;
 

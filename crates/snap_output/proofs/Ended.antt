@@ -7,7 +7,7 @@ use Rattle.snap_semantics.specs.declared.refusal.Refusal.{Refusal}
 use Rattle.snap_input.specs.Input.{checked_parts, listing_for, parted, texts_for}
 use Rattle.snap_input.specs.Parts.{part}
 use Rattle.snap_output.proofs.ToTheEnd.{to_the_end}
-use Rattle.snap_run_output.specs.RunOutput.{ended_text, run_listing}
+use Rattle.snap_output.specs.RunOutput.{ended_text, run_listing}
 use Rattle.snap_output.specs.Output.{run_text}
 use Rattle.snap_tasks.specs.declared.subject.Subject.{Subject}
 

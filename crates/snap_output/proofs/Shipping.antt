@@ -8,9 +8,9 @@ use Rattle.snap_words.specs.declared.shape.WordFault.TheVariants.{BadShape}
 use Rattle.snap_words.specs.declared.kind.KindTag.{KindTag}
 use Rattle.snap_words.specs.declared.kind.KindTag.TheVariants as kind
 use Rattle.snap_semantics.specs.Answers.{refused_as}
-use Rattle.snap_image_format.specs.Assembly.{assembled}
+use Rattle.snap_image.specs.Assembly.{assembled}
 use Rattle.snap_semantics.specs.Comments.{commented_of}
-use Rattle.snap_image_format.specs.Image.{image_of}
+use Rattle.snap_image.specs.Image.{image_of}
 use Rattle.snap_semantics.specs.Schedule.{Schedule, schedule_of}
 use Rattle.snap_semantics.specs.Source.{Source}
 use Rattle.snap_semantics.specs.declared.process.Item.{Item}
@@ -35,7 +35,7 @@ use Rattle.snap_output.specs.Stages.{AreSchedulesFor, IsScheduleFor, texts_in}
 use Rattle.snap_shipped.specs.Shipped.{shipped}
 use Rattle.snap_input.specs.Input.{checked_parts, listing_for, parted, texts_for}
 use Rattle.snap_output.specs.Output.{of_task, output_of, run_text}
-use Rattle.snap_run_output.specs.ScheduleOutput.{audit_listing, batch_text, batched, verdicts_text}
+use Rattle.snap_output.specs.ScheduleOutput.{audit_listing, batch_text, batched, verdicts_text}
 use Rattle.snap_input.specs.ManySchedules.{checked_schedules, schedules_for}
 use Rattle.snap_input.specs.Parts.{part, parts_of, max_input}
 use Rattle.snap_output.proofs.ToTheEnd.{is_run}

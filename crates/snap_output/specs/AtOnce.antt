@@ -1,9 +1,9 @@
 -- `found_at_once`: the refusal of an input that the program finds before it asks for any memory, for each task.
 use Rattle.std.specs.Prelude.{ℕ, nat_lt, List, [], ◌∷◌, length, take, drop, bytes_eq, if◌then◌else◌}
 use Rattle.std.specs.Prelude.{Option, Some, None, Result, Ok, Err, option_map}
-use Rattle.snap_image_format.specs.Image.{signature}
-use Rattle.snap_image_format.specs.ImageCodes.{of_code, versions}
-use Rattle.snap_image_format.specs.declared.image.ImageVersion.{ImageVersion}
+use Rattle.snap_image.specs.Image.{signature}
+use Rattle.snap_image.specs.ImageCodes.{of_code, versions}
+use Rattle.snap_image.specs.declared.image.ImageVersion.{ImageVersion}
 use Rattle.snap_semantics.specs.declared.refusal.ImageRefusal.{ImageRefusal}
 use Rattle.snap_semantics.specs.declared.refusal.ImageRefusal.TheVariants as image
 use Rattle.snap_semantics.specs.declared.refusal.ListingRefusal.TheVariants as listing

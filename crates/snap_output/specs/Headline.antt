@@ -4,7 +4,7 @@
 use Rattle.std.specs.Prelude.{◌≡◌, ℕ, ◌<◌, ◌≤◌, true, List, [], ◌∷◌, length, map, Ok}
 use Rattle.snap_words.specs.Kind.{fits}
 use Rattle.snap_words.specs.declared.kind.KindTag.{KindTag}
-use Rattle.snap_image_format.specs.Assembly.{assembled, listed}
+use Rattle.snap_image.specs.Assembly.{assembled, listed}
 use Rattle.snap_semantics.specs.CanonicalText.{canonical_text}
 use Rattle.snap_semantics.specs.Comments.{Commented, IsCommented, commented_of}
 use Rattle.snap_semantics.specs.Listing.{listing_of}

@@ -3,7 +3,7 @@
 use Rattle.std.specs.Prelude.{◌≡◌, ℕ, ◌<◌, ◌≤◌, ◌⊎◌, true, false, List, [], ◌∷◌, ◌++◌, length, Ok, Err}
 use Rattle.snap_words.specs.Kind.{fits}
 use Rattle.snap_words.specs.declared.shape.WordFault.TheVariants.{BadShape}
-use Rattle.snap_image_format.specs.Assembly.{assembled}
+use Rattle.snap_image.specs.Assembly.{assembled}
 use Rattle.snap_semantics.specs.Listing.{listing_of}
 use Rattle.snap_semantics.specs.Schedule.{Schedule, schedule_of}
 use Rattle.snap_semantics.specs.Source.{Source}

@@ -5,7 +5,7 @@ ghost use Rattle.snap_semantics.specs.declared.fault.Fault.TheVariants.{Refused}
 ghost use Rattle.snap_semantics.specs.declared.refusal.Refusal.{Refusal};
 ghost use Rattle.snap_input.specs.Input.{checked_parts, parted};
 ghost use Rattle.snap_input.specs.Parts.{max_input, parts_of};
-ghost use Rattle.snap_run_output.specs.RunOutput.{end_text};
+ghost use Rattle.snap_output.specs.RunOutput.{end_text};
 ghost use Rattle.snap_output.specs.AtOnce.{found_at_once};
 ghost use Rattle.snap_run_judge.specs.Judged.{AnswersJudged};
 ghost use Rattle.snap_survey.specs.Surveys.{AnswersSurvey};
@@ -13,11 +13,12 @@ ghost use Rattle.snap_output.specs.Output.{AreJudged, clean_of, output_of, run_t
 ghost use Rattle.snap_tasks.specs.declared.task.Task.TheVariants.{Run, Survey};
 
 use crate::debug_task::debug;
+use crate::inputs::{audit, batch, batch_in_threads};
+use crate::run_output::PlannedRun;
+use crate::task::trace_input;
 use snap_certify::certify_input;
 use snap_input::{MAX_INPUT, assemble, list, upgrade};
 use snap_lint::{check_of, lint_of};
-use snap_run_output::{PlannedRun, audit, batch, batch_in_threads};
-use snap_run_trace::trace_input;
 use snap_semantics::{Fault, Refusal};
 use snap_survey::{SurveyOutput, survey_in_threads, survey_input};
 use snap_tasks::{Subject, Task};
@@ -33,7 +34,7 @@ fn run(alloc: Global, subject: Subject, input: &[u8]) -> Result<Vec<u8>, Fault<R
     ensures counted { (r : Refusal) → checked_parts subject 1 (parts_of input.now) ≡ Err r →
         result ≡ Err (Refused r) }
 {
-    snap_run_output::run(alloc, subject, input)
+    crate::inputs::run(alloc, subject, input)
 }
 
 /// Returns the program of a listing and the schedule of a text.
@@ -44,7 +45,7 @@ fn plan(alloc: Global, subject: Subject, input: &[u8]) -> Result<PlannedRun, Fau
     ensures counted { (r : Refusal) → checked_parts subject 1 (parts_of input.now) ≡ Err r →
         result ≡ Err (Refused r) }
 {
-    snap_run_output::plan_input(alloc, subject, input)
+    crate::inputs::plan_input(alloc, subject, input)
 }
 
 /// Returns the output for `input`, which is surveyed, and whether each of its runs is clean. The

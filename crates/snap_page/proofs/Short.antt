@@ -2,9 +2,9 @@
 -- `found_at_once`.
 use Rattle.std.proofs.Common.{◌≡◌, ℕ, Bool, true, false, List, [], ◌∷◌, length, nat_lt, nat_le, nat_eq, ◌&&◌, refl}
 use Rattle.std.specs.Prelude.{Option, Some, None, Result, Ok, Err, option_map, bytes_eq, take, drop, if◌then◌else◌}
-use Rattle.snap_image_format.specs.Image.{signature}
-use Rattle.snap_image_format.specs.ImageCodes.{of_code, versions}
-use Rattle.snap_image_format.specs.declared.image.ImageVersion.{ImageVersion}
+use Rattle.snap_image.specs.Image.{signature}
+use Rattle.snap_image.specs.ImageCodes.{of_code, versions}
+use Rattle.snap_image.specs.declared.image.ImageVersion.{ImageVersion}
 use Rattle.snap_semantics.specs.declared.refusal.ImageRefusal.{ImageRefusal}
 use Rattle.snap_semantics.specs.declared.refusal.ImageRefusal.TheVariants as image
 use Rattle.snap_semantics.specs.declared.refusal.ListingRefusal.TheVariants as listing

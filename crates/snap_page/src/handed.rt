@@ -5,11 +5,11 @@ ghost use Rattle.std.specs.Prelude.{Err, IfOk, Result, codes, length, take};
 ghost use Rattle.snap_semantics.specs.Answers.{Answers};
 ghost use Rattle.snap_semantics.specs.declared.fault.Fault.TheVariants.{Refused};
 ghost use Rattle.snap_semantics.specs.declared.refusal.Refusal.{Refusal};
-ghost use Rattle.snap_refusals.specs.RefusalText.{refusal_line};
+ghost use Rattle.snap_faults.specs.RefusalText.{refusal_line};
 ghost use Rattle.snap_page.specs.Page.{answer_code, answer_text, needs_no_memory, numbered_line};
 
 use itoa::Buffer;
-use snap_refusals::refusal_line;
+use snap_faults::refusal_line;
 use snap_semantics::{Fault, ImageRefusal, ListingRefusal, Refusal};
 use std::alloc::{AllocError, Global};
 

@@ -5,8 +5,8 @@ ghost use Rattle.snap_page.specs.Hunt.{IsHandedHunt, IsHuntable, hunt_asked, hun
 
 use crate::handed::{Handed, handed_refusal, handed_text};
 use snap_chance::{Pace, Plan};
-use snap_failure::{StepBound, Wanted};
 use snap_faults::ProgramFault;
+use snap_hunt::{StepBound, Wanted};
 use snap_hunt_output::{Asked, Hunted};
 use snap_words::Shape;
 use std::alloc::Global;

@@ -13,12 +13,12 @@ use Rattle.snap_semantics.specs.declared.process.Op.{Op}
 use Rattle.snap_semantics.specs.declared.process.Op.TheVariants as op
 use Rattle.snap_runs.specs.Run.{Run, run_over}
 use Rattle.snap_input.specs.Schedules.{schedule_for}
-use Rattle.snap_svg.specs.FrameText.{foot_text, head_text, input_text}
-use Rattle.snap_svg.specs.ShapeText.{shapes_text}
-use Rattle.snap_svg.specs.Window.{Part, most_items}
-use Rattle.snap_svg.specs.declared.frame.Counts as title
-use Rattle.snap_svg.specs.declared.shape.Shape.{Shape}
-use Rattle.snap_svg.specs.declared.shape.Shape.TheVariants as shape
+use Rattle.snap_picture.specs.FrameText.{foot_text, head_text, input_text}
+use Rattle.snap_picture.specs.ShapeText.{shapes_text}
+use Rattle.snap_picture.specs.Window.{Part, most_items}
+use Rattle.snap_picture.specs.declared.frame.Counts as title
+use Rattle.snap_picture.specs.declared.shape.Shape.{Shape}
+use Rattle.snap_picture.specs.declared.shape.Shape.TheVariants as shape
 use Rattle.snap_picture.specs.Shapes.{shapes}
 use Rattle.snap_picture.specs.Crossed.{FailsBy, crossed_at}
 use Rattle.snap_picture.specs.declared.options.Options.{Options}

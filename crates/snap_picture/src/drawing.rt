@@ -12,18 +12,21 @@ ghost use Rattle.snap_picture.specs.Picture.{picture_by, picture_of, picture_tex
 ghost use Rattle.snap_picture.specs.declared.refusal.PictureRefusal.TheVariants as refusal;
 
 use crate::crossed::{crossed_at, wrong_at};
+use crate::frame::{Counts, push_foot, push_head, push_input};
 use crate::options::{Look, Options};
+use crate::print::push_shapes;
 use crate::refusal::PictureRefusal;
+use crate::shape::Shape;
 use crate::shapes;
 use crate::sought::{Sought, count};
+use crate::window::Window;
 use snap_acts::trace;
 use snap_asm_program::Program;
-use snap_draft::Draft;
 use snap_record::{Record, record_over};
 use snap_run_judge::judge_record;
 use snap_sched::Schedule;
 use snap_semantics::{Event, Fault};
-use snap_svg::{Counts, Shape, Window, push_foot, push_head, push_input, push_shapes};
+use snap_text::Draft;
 use snap_words::{Bits, Kind, KindTag, Multi, Seq};
 use std::alloc::{AllocError, Global};
 

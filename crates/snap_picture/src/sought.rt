@@ -3,8 +3,8 @@
 ghost use Rattle.std.specs.Prelude.{◌≡◌};
 ghost use Rattle.snap_picture.specs.Picture.{counted, counts_as, is_update};
 
+use crate::shape::Shape;
 use snap_semantics::Op;
-use snap_svg::Shape;
 
 /// What is counted among shapes.
 #[derive(Clone, Copy)]

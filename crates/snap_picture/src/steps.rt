@@ -4,7 +4,7 @@ ghost use Rattle.std.specs.Prelude.{◌≡◌, ◌≤◌, ◌<◌, ◌+◌, ◌+
 ghost use Rattle.std.specs.Prelude.{IfOk, IfSome, OnOk, drop, length, option_map};
 ghost use Rattle.snap_acts.specs.Searches.{last_before};
 ghost use Rattle.snap_acts.specs.declared.wanted.Wanted.TheVariants as wanted;
-ghost use Rattle.snap_svg.specs.declared.shape.Shape.TheVariants as shape;
+ghost use Rattle.snap_picture.specs.declared.shape.Shape.TheVariants as shape;
 ghost use Rattle.snap_picture.specs.Shapes.{
   bar_of,
   embedded_of,
@@ -21,9 +21,9 @@ ghost use Rattle.snap_picture.specs.Shapes.{
   written_at,
 };
 
+use crate::shape::{Bar, End, Loan, Period, Read, Shape, Span, Spot, Write, Written};
 use snap_acts::{Act, ScanPlaces, Step, Wanted, first_from, last_before, lender_at, source_at};
 use snap_semantics::Op;
-use snap_svg::{Bar, End, Loan, Period, Read, Shape, Span, Spot, Write, Written};
 use snap_words::View;
 use std::alloc::{AllocError, Global};
 

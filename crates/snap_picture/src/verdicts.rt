@@ -4,9 +4,9 @@ ghost use Rattle.std.specs.Prelude.{◌≡◌, ◌++◌, IfOk, OnOk};
 ghost use Rattle.snap_record.specs.Record.{values_after};
 ghost use Rattle.snap_picture.specs.Shapes.{scan_of, values_or_none, verdict_shape, verdict_shapes};
 
+use crate::shape::{Point, Shape, Span};
 use snap_audit::Verdict;
 use snap_record::Record;
-use snap_svg::{Point, Shape, Span};
 use snap_words::{Kind, View};
 use std::alloc::{AllocError, Global};
 

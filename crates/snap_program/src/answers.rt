@@ -1,7 +1,7 @@
 //! `answer`: what snaplab does for its command line, over any source, sink and device for messages,
 //! and its status.
 ghost use Rattle.std.specs.Prelude.{◌≡◌, false, IfOk};
-ghost use Rattle.snap_command_line.specs.Limits.{HasLimits};
+ghost use Rattle.snap_program.specs.Limits.{HasLimits};
 ghost use Rattle.snap_faults.specs.FaultText.{fault_line};
 ghost use Rattle.snap_faults.specs.Faults.{fault_status};
 ghost use Rattle.snap_faults.specs.Names.{view_names};
@@ -13,17 +13,18 @@ ghost use Rattle.snap_program.specs.Answer.{AnswersModelled, AnswersRequest, Ans
 ghost use Rattle.snap_program.specs.Answer.{AnswersTask, SaysTerminal, explained, snaplab};
 ghost use Rattle.snap_program.specs.Answer.{strict_subject, word_status};
 
+use crate::command_line::{CommandLine, Invocation};
+use crate::judge_run::conduct_judge;
+use crate::live_run::conduct_live_keeping;
+use crate::model_run::conduct_model;
 use crate::whole_run::{conduct_keeping, conduct_survey};
-use snap_command_line::{CommandLine, Invocation};
-use snap_devices::{
-    ByteSink, ByteSource, Linearizability, conduct_judge, conduct_live_keeping, conduct_model,
-};
 use snap_explanation::{explanation, history_explanation, layout_of, turn_limit_explanation};
 use snap_faults::{
     Names, ProgramFault, complain, fault_status, help, say_no_memory, say_no_text, tell,
 };
+use snap_judge_task::Linearizability;
 use snap_live::{LiveRefusal, NoGate};
-use snap_streams::say;
+use snap_streams::{ByteSink, ByteSource, say};
 use snap_tasks::{JudgeRequest, Request, Subject, Task};
 use std::alloc::{AllocError, Global};
 use std::sync::Wait;

@@ -3,10 +3,10 @@ ghost use Rattle.std.specs.Prelude.{◌≡◌};
 ghost use Rattle.snap_promela.specs.Model.{is_beyond};
 
 use memchr::memchr;
-use snap_draft::Draft;
 use snap_listing_core::Listing;
 use snap_sched::Scripts;
 use snap_semantics::Name;
+use snap_text::Draft;
 use snap_words::KindTag;
 use std::alloc::{AllocError, Global};
 

@@ -1,11 +1,11 @@
 -- What the prompt has added is said: what a line asks for, where no question was asked.
 use Rattle.std.proofs.Common.{◌≡◌, ◌+◌, ◌-◌, ◌^◌, ◌++◌, ◌∙◌, ℕ, Bool, min, List, Option, None, Result, Ok, Err}
 use Rattle.std.proofs.Common.{OnOk, ap, option_map, refl, subst, sym}
-use Rattle.snap_dialog.specs.Folder.{Kept}
+use Rattle.snap_streams.specs.Folder.{Kept}
 use Rattle.snap_semantics.specs.declared.refusal.CommandRefusal.{CommandRefusal}
-use Rattle.snap_prompt_lines.specs.Ask.{ask_of}
-use Rattle.snap_prompt_lines.specs.SaveForm.{saving_of}
-use Rattle.snap_prompt_lines.specs.declared.ask.Ask.{Ask}
+use Rattle.snap_prompt.specs.Ask.{ask_of}
+use Rattle.snap_prompt.specs.SaveForm.{saving_of}
+use Rattle.snap_prompt.specs.declared.ask.Ask.{Ask}
 use Rattle.snap_prompt.specs.Prompt.{Answer, Prompt, Says, answer_line, answered_to, asked, counted, saved_or_asked}
 use Rattle.snap_prompt.specs.Said.{IsAdded, IsSaid, Said, saved, text, why}
 use Rattle.snap_prompt.specs.Saved.{Saves, outcome_line}

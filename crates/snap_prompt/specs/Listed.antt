@@ -8,7 +8,7 @@ use Rattle.snap_semantics.specs.State.{process_at}
 use Rattle.snap_semantics.specs.declared.instr.Line.{Line}
 use Rattle.snap_semantics.specs.declared.process.Outcome.{Outcome}
 use Rattle.snap_semantics.specs.declared.refusal.CommandRefusal.TheVariants as refusal
-use Rattle.snap_listing_printer.specs.LineTexts.{NumberedText, text_with, written}
+use Rattle.snap_listing.specs.LineTexts.{NumberedText, text_with, written}
 use Rattle.snap_debug.specs.Session.{Session, has_process, state_of}
 use Rattle.snap_prompt.specs.Hints.{refused_line}
 

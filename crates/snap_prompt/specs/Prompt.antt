@@ -1,7 +1,7 @@
 -- A prompt over a debugger's session: what is shown before a line, and what is answered to it.
 use Rattle.std.specs.Prelude.{ℕ, ◌+◌, ◌-◌, ◌^◌, List, [], ◌++◌, length, min, Bool, ◌&&◌, true, false, Option, Some}
 use Rattle.std.specs.Prelude.{None, Result, Ok, Err, codes, decimal, nat_eq, if◌then◌else◌}
-use Rattle.snap_dialog.specs.Dialog.{Next}
+use Rattle.snap_streams.specs.Dialog.{Next}
 use Rattle.snap_semantics.specs.Report.{position_line}
 use Rattle.snap_semantics.specs.Schedule.{Schedule}
 use Rattle.snap_semantics.specs.ScheduleText.{schedule_text}
@@ -14,17 +14,17 @@ use Rattle.snap_debug.specs.Session.{Session, answer, at_position, commanded, op
 use Rattle.snap_debug.specs.Session.{reply_text, session_report, state_of, total}
 use Rattle.snap_debug_commands.specs.declared.command.Command.{Command}
 use Rattle.snap_debug_commands.specs.declared.command.Command.TheVariants as command
-use Rattle.snap_prompt_lines.specs.Edits.{edited, form_of}
-use Rattle.snap_prompt_lines.specs.declared.addition.Addition.{Addition}
-use Rattle.snap_prompt_lines.specs.declared.addition.Addition.TheVariants as addition
+use Rattle.snap_prompt.specs.Edits.{edited, form_of}
+use Rattle.snap_prompt.specs.declared.addition.Addition.{Addition}
+use Rattle.snap_prompt.specs.declared.addition.Addition.TheVariants as addition
 use Rattle.snap_prompt.specs.Reach.{steps_to}
 use Rattle.snap_prompt.specs.declared.goal.Goal.{Goal}
 use Rattle.snap_prompt.specs.declared.goal.Goal.TheVariants as goal
 use Rattle.snap_prompt.specs.declared.goal.NoSteps.{NoSteps}
-use Rattle.snap_prompt_lines.specs.Ask.{ask_of, is_yes}
-use Rattle.snap_prompt_lines.specs.SaveForm.{saving_of}
-use Rattle.snap_prompt_lines.specs.declared.ask.Ask.{Ask}
-use Rattle.snap_prompt_lines.specs.declared.ask.Ask.TheVariants as ask
+use Rattle.snap_prompt.specs.Ask.{ask_of, is_yes}
+use Rattle.snap_prompt.specs.SaveForm.{saving_of}
+use Rattle.snap_prompt.specs.declared.ask.Ask.{Ask}
+use Rattle.snap_prompt.specs.declared.ask.Ask.TheVariants as ask
 use Rattle.snap_prompt.specs.Changed.{moved_text}
 use Rattle.snap_prompt.specs.Explained.{explained, item_or_position}
 use Rattle.snap_prompt.specs.Greeting.{greeting_text}

@@ -3,7 +3,7 @@
 use Rattle.std.specs.Prelude.{◌≡◌, ℕ, List, ◌++◌, Option, Result, Ok, Err, codes}
 use Rattle.std.specs.declared.io.ErrorKind.{ErrorKind}
 use Rattle.std.specs.declared.io.ErrorKind.TheVariants as kind
-use Rattle.snap_dialog.specs.Folder.{Keeps, Kept}
+use Rattle.snap_streams.specs.Folder.{Keeps, Kept}
 
 -- why a file was not written, for a person
 abbrev pub save_reason : ErrorKind → List ℕ

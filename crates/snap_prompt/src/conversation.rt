@@ -1,18 +1,18 @@
 //! `converse`: a whole dialog at the debugger's prompt about a program under a schedule, for each
 //! kind of registers.
 ghost use Rattle.std.specs.Prelude.{◌≡◌, None, IfErr, IfSome, OnErr, OnOk};
-ghost use Rattle.snap_dialog.specs.Dialog.{IsBrokenOff, IsDialog, ShowsTranscript};
-ghost use Rattle.snap_dialog.specs.Dialog.{ShowsTranscriptPart};
-ghost use Rattle.snap_dialog.specs.Failures.{MayEndDialog, failure_of};
-ghost use Rattle.snap_dialog.specs.TypedLines.{typed_lines};
+ghost use Rattle.snap_streams.specs.Dialog.{IsBrokenOff, IsDialog, ShowsTranscript};
+ghost use Rattle.snap_streams.specs.Dialog.{ShowsTranscriptPart};
+ghost use Rattle.snap_streams.specs.Failures.{MayEndDialog, failure_of};
+ghost use Rattle.snap_streams.specs.TypedLines.{typed_lines};
 ghost use Rattle.snap_runs.specs.Run.{run_over};
 ghost use Rattle.snap_prompt.specs.Prompt.{Says, next_line, opened_prompt, prompt_text};
 
 use crate::prompt::Prompt;
 use crate::shows::Shows;
 use snap_asm_program::Program;
-use snap_dialog::{Console, DialogFault, Folder, talk};
 use snap_sched::Schedule;
+use snap_streams::{Console, DialogFault, Folder, talk};
 use snap_words::{Bits, KindTag, Multi, Seq};
 use std::alloc::Global;
 

@@ -1,14 +1,14 @@
 //! What the prompt answers to `why` of an item: why it came out as it did, or that there is no such
 //! item.
 ghost use Rattle.std.specs.Prelude.{◌≡◌, OnOk, map};
-ghost use Rattle.snap_listing_printer.specs.LineTexts.{written};
+ghost use Rattle.snap_listing.specs.LineTexts.{written};
 ghost use Rattle.snap_prompt.specs.Explained.{explained};
 ghost use Rattle.snap_prompt.specs.Prompt.{schedule_of_run};
 ghost use Rattle.snap_prompt.specs.Said.{IsAdded};
 
 use crate::hints::push_refused_line;
 use snap_debug::Session;
-use snap_listing_printer::LineTexts;
+use snap_listing::LineTexts;
 use snap_sched::Schedule;
 use snap_semantics::CommandRefusal;
 use snap_why::push_why;

@@ -6,7 +6,7 @@ ghost use Rattle.snap_prompt.specs.Hints.{refused_steps, registers_text, standin
 
 use crate::NoSteps;
 use snap_debug::{Session, push_refusal};
-use snap_refusals::push_refused;
+use snap_faults::push_refused;
 use snap_semantics::{CommandRefusal, Line, Refusal, ScheduleRefusal};
 use snap_text::{push_number, push_text};
 use snap_words::{Kind, KindTag, Shape};

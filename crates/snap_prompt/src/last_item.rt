@@ -7,13 +7,13 @@ ghost use Rattle.snap_semantics.specs.Readers.{line_of};
 ghost use Rattle.snap_semantics.specs.State.{process_at};
 ghost use Rattle.snap_semantics.specs.Table.{who};
 ghost use Rattle.snap_runs.specs.Run.{state};
-ghost use Rattle.snap_listing_printer.specs.LineTexts.{written};
+ghost use Rattle.snap_listing.specs.LineTexts.{written};
 ghost use Rattle.snap_debug.specs.Session.{Obeys, at_position};
 ghost use Rattle.snap_prompt.specs.Changed.{item_head, item_line, item_text};
 ghost use Rattle.snap_prompt.specs.Changed.{line_run, ran, run_text};
 
 use snap_debug::{Command, Reply, Session};
-use snap_listing_printer::LineTexts;
+use snap_listing::LineTexts;
 use snap_report::outcome_text;
 use snap_semantics::{CommandRefusal, Fault, Outcome};
 use snap_text::{push_number, push_text};

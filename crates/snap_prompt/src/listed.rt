@@ -2,13 +2,13 @@
 //! is, or all of them.
 ghost use Rattle.std.specs.Prelude.{◌≡◌, ◌++◌, OnOk, map};
 ghost use Rattle.snap_words.specs.Shape.{IsOneOf};
-ghost use Rattle.snap_listing_printer.specs.LineTexts.{text_with, written};
+ghost use Rattle.snap_listing.specs.LineTexts.{text_with, written};
 ghost use Rattle.snap_prompt.specs.Listed.{is_near, list_text, pointer_text, marked_line};
 ghost use Rattle.snap_prompt.specs.Listed.{near_line, near_lines, stand_text, text_or_none};
 
 use crate::hints::push_refused_line;
 use snap_debug::Session;
-use snap_listing_printer::LineTexts;
+use snap_listing::LineTexts;
 use snap_report::head_line;
 use snap_semantics::{CommandRefusal, Line};
 use snap_text::push_text;

@@ -3,8 +3,8 @@
 ghost use Rattle.std.specs.Prelude.{◌≡◌};
 ghost use Rattle.snap_prompt.specs.Prompt.{meant, moves};
 
+use crate::ask::Ask;
 use snap_debug::Command;
-use snap_prompt_lines::Ask;
 
 /// Returns whether a command moves.
 pub(crate) fn moves(command: &Command) -> bool

@@ -19,7 +19,10 @@ ghost use Rattle.snap_prompt.specs.Prompt.{with_addition, with_session};
 ghost use Rattle.snap_prompt.specs.Said.{IsAdded, saved};
 ghost use Rattle.snap_prompt.specs.Changed.{item_text, state_text};
 
+use crate::addition::Addition;
+use crate::ask::{Ask, ask_of, is_yes};
 use crate::changed::state_text;
+use crate::edits::edited;
 use crate::explained::push_explained;
 use crate::greeting::push_greeting;
 use crate::help::push_help;
@@ -28,17 +31,17 @@ use crate::last_item::{do_command, go_to, push_item};
 use crate::listed::push_list;
 use crate::meant::{meant, moves};
 use crate::question::Question;
+use crate::save_form::saving_of;
 use crate::saved::push_saved;
 use crate::shows::Shows;
 use crate::{Goal, steps_to};
 use snap_asm_program::Program;
 use snap_debug::{Command, Session};
-use snap_dialog::{Folder, Respondent};
-use snap_listing_printer::LineTexts;
-use snap_prompt_lines::{Addition, Ask, ask_of, edited, is_yes, saving_of};
+use snap_listing::LineTexts;
 use snap_report::{head_lines, position_line};
 use snap_sched::{Schedule, print};
 use snap_semantics::{CommandRefusal, Fault};
+use snap_streams::{Folder, Respondent};
 use snap_text::{push_changes, push_number, push_text};
 use snap_words::{Bits, Kind, Multi, Seq};
 use std::alloc::{AllocError, Global};
@@ -76,7 +79,7 @@ pub struct Prompt<K: Kind, S: Copy> {
 
 impl<K: Kind, S: Copy> Model for Prompt<K, S> {
     ghost use Rattle.std.specs.Prelude.{◌≡◌, map};
-    ghost use Rattle.snap_listing_printer.specs.LineTexts.{written};
+    ghost use Rattle.snap_listing.specs.LineTexts.{written};
     ghost use Rattle.snap_prompt.specs.Prompt.{Prompt, schedule_of_run};
 
     ghost Value = { Prompt };

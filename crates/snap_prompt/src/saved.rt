@@ -2,7 +2,7 @@
 ghost use Rattle.std.specs.Prelude.{◌≡◌, ◌++◌, Err, OnOk};
 ghost use Rattle.snap_prompt.specs.Saved.{Saves, outcome_line, save_reason};
 
-use snap_dialog::Folder;
+use snap_streams::Folder;
 use snap_text::push_text;
 use std::alloc::AllocError;
 use std::io::ErrorKind;

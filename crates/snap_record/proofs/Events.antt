@@ -17,8 +17,8 @@ use Rattle.snap_semantics.specs.declared.process.Outcome.TheVariants as outcomes
 use Rattle.snap_runs.specs.Run.{Run, IsValidRun, state, item, outcome, events_of}
 use Rattle.snap_runs.proofs.Embedding.{next_state}
 use Rattle.snap_record.specs.History.{IsRising, IsWithin}
-use Rattle.snap_history.proofs.Later.{events_after}
-use Rattle.snap_history.proofs.Longer.{join_all}
+use Rattle.snap_record.proofs.Later.{events_after}
+use Rattle.snap_record.proofs.Longer.{join_all}
 
 -- the events of the items after item t
 abbrev pub events_from : Run → ℕ → List Event

@@ -7,7 +7,7 @@ ghost use Rattle.std.specs.List.{AllByRecursion};
 ghost use Rattle.snap_words.specs.Shape.{IsOneOf, max_items};
 ghost use Rattle.snap_semantics.specs.Table.{who};
 ghost use Rattle.snap_runs.specs.Run.{outcome, state, IsValidRun, events_of};
-ghost use Rattle.snap_history.specs.Longer.{with_item, with_items};
+ghost use Rattle.snap_record.specs.Longer.{with_item, with_items};
 ghost use Rattle.snap_record.specs.Record.{collects_of, values_after};
 ghost use Rattle.snap_record.specs.Searches.{scan_collects};
 ghost use Rattle.snap_semantics.specs.declared.event.Event.{Event};
@@ -16,13 +16,13 @@ ghost use Rattle.snap_record.specs.declared.fault.RecordFault.TheVariants.{Full}
 
 use crate::fault::RecordFault;
 use crate::history::{Change, note_collect, note_item, note_outcome, reserve_changes};
+use crate::items::History;
 use crate::roles::{LineRole, new_roles};
 use crate::row::Row;
 use crate::search::{collects_until, scans};
 use crate::step_role::step_role_of;
 use crate::walk::advance;
 use snap_asm_program::Program;
-use snap_history::History;
 use snap_machine::Machine;
 use snap_sched::Items;
 use snap_semantics::{Event, Item, Outcome, who};

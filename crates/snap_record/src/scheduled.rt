@@ -3,8 +3,8 @@ ghost use Rattle.std.specs.Prelude.{◌≡◌, ◌+◌, ◌<◌, ◌≤◌, ◌^
 ghost use Rattle.std.specs.Prelude.{take};
 ghost use Rattle.snap_words.specs.Shape.{max_items};
 
+use crate::items::History;
 use crate::record::Record;
-use snap_history::History;
 use snap_sched::{Items, Schedule};
 use snap_semantics::Item;
 use snap_words::Kind;

@@ -50,10 +50,10 @@ use Rattle.snap_semantics.specs.declared.process.Status.TheVariants.{Idle, Busy,
 use Rattle.snap_regs.specs.Store.{HasColumns, IsOfShape, rows_in}
 use Rattle.snap_regs.proofs.NewRegisters.{IsOfShape-new}
 use Rattle.snap_asm_program.proofs.Declared.{is_row, is_view, is_words, rest_right}
-use Rattle.snap_values.specs.Sizes.{AllSized, AreSized}
-use Rattle.snap_values.proofs.Sizes.{AreSized-initial, AreSized-with_row, AreSized-with_scalar, AreSized-with_view}
-use Rattle.snap_values.proofs.Sizes.{AreSized-with_words, each_length, place_below, view_sized}
-use Rattle.snap_line_effects.proofs.Tuples.{word_suits}
+use Rattle.snap_machine.specs.Sizes.{AllSized, AreSized}
+use Rattle.snap_machine.proofs.Sizes.{AreSized-initial, AreSized-with_row, AreSized-with_scalar, AreSized-with_view}
+use Rattle.snap_machine.proofs.Sizes.{AreSized-with_words, each_length, place_below, view_sized}
+use Rattle.snap_machine.proofs.Tuples.{word_suits}
 
 module _ (s : Source) (shape : Counts) where
   -- The words and the views of the registers are as many and as long as the shape wants.

@@ -6,7 +6,7 @@ use Rattle.snap_judge.specs.Kept.{operation_of}
 use Rattle.snap_judge.specs.Linearizable.{LinearizableFromTheBeginning}
 use Rattle.snap_judge.specs.declared.judgements.Judgement.{Judgement}
 use Rattle.snap_judge.specs.declared.judgements.Judgement.TheVariants as judgement
-use Rattle.snap_judge_output.specs.JudgementText.{NamesEvent}
+use Rattle.snap_history_text.specs.JudgementText.{NamesEvent}
 use Rattle.snap_run_judge.specs.RunHistory.{history_of}
 use Rattle.snap_run_judge.specs.RunJudgement.{IsLinearizabilityOf, IsRunJudgement, word_of}
 

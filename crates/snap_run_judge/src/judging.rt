@@ -1,7 +1,7 @@
 //! Whether the run of a record is linearizable.
 ghost use Rattle.std.specs.Prelude.{◌≡◌, IfOk};
 ghost use Rattle.snap_judge.specs.History.{IsHistory};
-ghost use Rattle.snap_judge_output.specs.JudgementText.{NamesEvent};
+ghost use Rattle.snap_history_text.specs.JudgementText.{NamesEvent};
 ghost use Rattle.snap_runs.specs.Run.{Run};
 ghost use Rattle.snap_run_judge.specs.RunHistory.{IsHistoryOf, history_of};
 ghost use Rattle.snap_run_judge.specs.RunJudgement.{IsLinearizabilityOf, IsRunJudgement, word_of};

@@ -7,8 +7,8 @@ ghost use Rattle.snap_runs.specs.Run.{IsValidRun, run_over};
 ghost use Rattle.snap_runs_of_u.specs.ListingU.{listing_u};
 ghost use Rattle.snap_shipped.specs.Kept.{KeepsPromises};
 
+use snap_asm::load_listing;
 use snap_listing_core::CommentedListing;
-use snap_loader::load_listing;
 use snap_record::{Record, record_over};
 use snap_sched::Schedule;
 use snap_shipped::{listing_u, shipped_runs_keep_promises};

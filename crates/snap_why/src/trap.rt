@@ -4,13 +4,13 @@ ghost use Rattle.std.specs.Prelude.{◌≡◌, ◌++◌, OnOk, map, option_map};
 ghost use Rattle.snap_words.specs.Shape.{IsOneOf};
 ghost use Rattle.snap_semantics.specs.Source.{instr_at};
 ghost use Rattle.snap_semantics.specs.State.{process_at};
-ghost use Rattle.snap_listing_printer.specs.LineTexts.{text_with, written};
+ghost use Rattle.snap_listing.specs.LineTexts.{text_with, written};
 ghost use Rattle.snap_why.specs.Trap.{cause_line, end_line, nested_line, operand_line};
 ghost use Rattle.snap_why.specs.Trap.{text_or_number, trap_line, trap_lines, trouble_of};
 
 use crate::answer::push_process;
 use crate::{Taker, Trouble, line_trouble, push_trouble};
-use snap_listing_printer::LineTexts;
+use snap_listing::LineTexts;
 use snap_machine::Machine;
 use snap_report::outcome_text;
 use snap_semantics::{Activity, Cause, Op, Outcome, Status};

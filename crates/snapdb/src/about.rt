@@ -1,7 +1,7 @@
 //! `talk_about`: the dialog of snapdb at a console about a program under the schedule of a file.
 ghost use Rattle.std.specs.Prelude.{◌≡◌, Err, IfErr, IfSome, None, OnErr, OnOk, Ok};
-ghost use Rattle.snap_dialog.specs.Dialog.{ShowsTranscript, ShowsTranscriptPart};
-ghost use Rattle.snap_dialog.specs.TypedLines.{typed_lines};
+ghost use Rattle.snap_streams.specs.Dialog.{ShowsTranscript, ShowsTranscriptPart};
+ghost use Rattle.snap_streams.specs.TypedLines.{typed_lines};
 ghost use Rattle.snap_input.specs.Schedules.{schedule_for};
 ghost use Rattle.snap_prompt.specs.Prompt.{Says, next_line, opened_prompt, prompt_text};
 ghost use Rattle.snap_runs.specs.Run.{run_over};
@@ -11,10 +11,10 @@ ghost use Rattle.snapdb.specs.Start.{EndsFor};
 ghost use Rattle.snap_faults.specs.declared.fault.ProgramFault.TheVariants.{Refused};
 
 use snap_asm_program::Program;
-use snap_dialog::{Console, Folder};
 use snap_faults::ProgramFault;
 use snap_input::read_schedule;
 use snap_prompt::{Shows, converse};
+use snap_streams::{Console, Folder};
 use std::alloc::Global;
 
 /// Talks at `console` about `program` under `schedule`. What is shown is a transcript of what is

@@ -9,16 +9,15 @@ ghost use Rattle.snapdb.specs.Answer.{AnswersLine, AnswersSession, Shown, called
 ghost use Rattle.snapdb.specs.Talk.{TalksIn};
 
 use crate::about::talk_about;
-use snap_dialog::{Console, Folder};
+use crate::arguments::Session;
+use crate::command_line::CommandLine;
 use snap_faults::{Names, ProgramFault, complain, fault_status, say_no_memory, say_no_text, tell};
-use snap_files::FileSource;
 use snap_input::{program_of, shipped};
 use snap_named_files::{Texts, explanation_in, names_of, read_texts};
 use snap_prompt::Shows;
 use snap_semantics::Refusal;
-use snap_streams::{ByteSink, say};
+use snap_streams::{ByteSink, Console, FileSource, Folder, say};
 use snap_words::KindTag;
-use snapdb_command_line::{CommandLine, Session};
 use std::alloc::{AllocError, Global};
 
 /// What the program is called.

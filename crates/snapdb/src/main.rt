@@ -3,14 +3,14 @@
 
 mod about;
 mod answers;
+mod arguments;
+mod command_line;
 mod system_files;
 
+use crate::command_line::{CommandLine, read_arguments};
 use answers::answer;
-use snap_dialog::Terminal;
-use snap_pipe::{Messages, Piped, end};
 use snap_prompt::Shows;
-use snap_streams::Std;
-use snapdb_command_line::{CommandLine, read_arguments};
+use snap_streams::{Messages, Piped, Std, Terminal, end};
 use std::alloc::AllocError;
 use std::io::IsTerminal;
 use std::process::ExitCode;

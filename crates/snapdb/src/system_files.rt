@@ -4,8 +4,7 @@ ghost use Rattle.std.specs.Fs.{asks_create_new, asks_write};
 ghost use Rattle.std.specs.Io.KnownBytes.{Appends};
 ghost use Rattle.std.specs.IoError.{error_kind};
 
-use snap_dialog::Folder;
-use snap_files::{Disk, FileFault, FileSource};
+use snap_streams::{Disk, FileFault, FileSource, Folder};
 use std::alloc::Global;
 use std::fs::OpenOptions;
 use std::io;

@@ -9,16 +9,16 @@ ghost use Rattle.snapdraw.specs.Drawing.{options_of};
 ghost use Rattle.snap_named_files.specs.Named.{names_of, view_named};
 ghost use Rattle.snap_named_files.specs.Texts.{view_texts};
 
+use crate::arguments::Drawing;
+use crate::command_line::CommandLine;
 use crate::drawing::draw;
 use snap_faults::{
     Names, ProgramFault, complain, fault_status, help, say_no_memory, say_no_text, tell,
 };
-use snap_files::FileSource;
 use snap_named_files::{Texts, explanation_in, names_of, read_texts};
 use snap_picture::Look;
 use snap_semantics::Refusal;
-use snap_streams::{ByteSink, say, write_all};
-use snapdraw_command_line::{CommandLine, Drawing};
+use snap_streams::{ByteSink, FileSource, say, write_all};
 use std::alloc::{AllocError, Global};
 
 /// What the program is called.

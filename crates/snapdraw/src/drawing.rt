@@ -7,6 +7,7 @@ ghost use Rattle.snap_named_files.specs.Texts.{OfShipped, view_texts};
 ghost use Rattle.snap_picture.specs.Picture.{FailsUnder};
 ghost use Rattle.snap_shipped.specs.Shipped.{shipped};
 
+use crate::arguments::Drawing;
 use snap_asm_program::Program;
 use snap_faults::ProgramFault;
 use snap_input::program_of;
@@ -15,7 +16,6 @@ use snap_picture::{Look, Options, PictureRefusal, picture};
 use snap_run_judge::MOST_CONFIGURATIONS;
 use snap_semantics::Fault;
 use snap_words::KindTag;
-use snapdraw_command_line::Drawing;
 use std::alloc::Global;
 
 /// Returns the items that are drawn, of a run that is judged as long as the program judges one.

@@ -2,14 +2,14 @@
 #![tactic(auto)]
 
 mod answers;
+mod arguments;
+mod command_line;
 mod drawing;
 
+use crate::command_line::{CommandLine, read_arguments};
 use answers::answer;
-use snap_files::Disk;
 use snap_picture::{LEGEND, Look, STYLE};
-use snap_pipe::{Messages, Piped, end};
-use snap_streams::Std;
-use snapdraw_command_line::{CommandLine, read_arguments};
+use snap_streams::{Disk, Messages, Piped, Std, end};
 use std::alloc::AllocError;
 use std::io::IsTerminal;
 use std::process::ExitCode;

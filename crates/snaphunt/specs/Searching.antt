@@ -10,13 +10,13 @@ use Rattle.snap_faults.specs.Faults.{of_file}
 use Rattle.snap_faults.specs.declared.fault.ProgramFault.{ProgramFault}
 use Rattle.snap_faults.specs.declared.fault.ProgramFault.TheVariants as fault
 use Rattle.snap_faults.specs.declared.files.Which.TheVariants as which
-use Rattle.snap_files.specs.FileTexts.{IsTextOf}
-use Rattle.snap_files.specs.declared.file_fault.FileFault.{FileFault}
+use Rattle.snap_streams.specs.FileTexts.{IsTextOf}
+use Rattle.snap_streams.specs.declared.file_fault.FileFault.{FileFault}
 use Rattle.snap_hunt_output.specs.Hunted.{IsDue, IsHunted}
 use Rattle.snap_hunt_output.specs.declared.asked.Asked.{Asked}
 use Rattle.snap_hunt_output.specs.declared.hunted.Hunted.{Hunted}
 use Rattle.snap_hunt_output.specs.declared.hunted.Hunted.TheVariants as hunted
-use Rattle.snaphunt_command_line.specs.Search.{Named, File, Shipped}
+use Rattle.snaphunt.specs.Search.{Named, File, Shipped}
 
 -- the bytes that are too many for a listing
 abbrev pub too_many : ℕ

@@ -6,19 +6,19 @@ ghost use Rattle.snap_faults.specs.Names.{of_program, view_names};
 ghost use Rattle.snap_faults.specs.Told.{SaysWhy, TellsMore, exit_status};
 ghost use Rattle.snaphunt.specs.Answer.{AnswersLine, AnswersSearch, HuntsIn, Prints, explained};
 ghost use Rattle.snaphunt.specs.Answer.{hunted_status, names_of};
-ghost use Rattle.snaphunt_command_line.specs.Search.{IsLine, IsSearch, view_listed};
+ghost use Rattle.snaphunt.specs.Search.{IsLine, IsSearch, view_listed};
 
+use crate::arguments::{Listed, Search};
+use crate::command_line::CommandLine;
 use crate::searching::{hunted_text, text_of};
 use snap_explanation::{Layout, explanation};
 use snap_faults::{
     Names, ProgramFault, complain, fault_status, help, say_no_memory, say_no_text, tell,
 };
-use snap_files::FileSource;
 use snap_hunt::Watcher;
 use snap_hunt_output::{Asked, Hunted, hunt_listing};
 use snap_semantics::Refusal;
-use snap_streams::{ByteSink, say, write_all};
-use snaphunt_command_line::{CommandLine, Listed, Search};
+use snap_streams::{ByteSink, FileSource, say, write_all};
 use std::alloc::{AllocError, Global};
 use std::thread::Threads;
 

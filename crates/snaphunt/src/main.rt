@@ -2,18 +2,18 @@
 #![tactic(auto)]
 
 ghost use Rattle.std.specs.Prelude.{IfOk};
-ghost use Rattle.snaphunt_command_line.specs.Search.{IsLine};
+ghost use Rattle.snaphunt.specs.Search.{IsLine};
 
 mod answers;
+mod arguments;
+mod command_line;
 mod progress;
 mod searching;
 
 use crate::answers::answer;
+use crate::command_line::{CommandLine, read_arguments};
 use crate::progress::Progress;
-use snap_files::Disk;
-use snap_pipe::{Messages, Piped, end};
-use snap_streams::Std;
-use snaphunt_command_line::{CommandLine, read_arguments};
+use snap_streams::{Disk, Messages, Piped, Std, end};
 use std::alloc::AllocError;
 use std::io::IsTerminal;
 use std::process::ExitCode;

@@ -4,15 +4,15 @@ ghost use Rattle.std.specs.Prelude.{◌≡◌, ◌++◌, IfOk, Ok, OnOk};
 ghost use Rattle.snap_semantics.specs.Listing.{listing_of};
 ghost use Rattle.snap_shipped.specs.Shipped.{shipped};
 ghost use Rattle.snaphunt.specs.Searching.{GivesText, hunted_text, none_text};
-ghost use Rattle.snaphunt_command_line.specs.Search.{view_listed};
+ghost use Rattle.snaphunt.specs.Search.{view_listed};
 
+use crate::arguments::Listed;
 use snap_faults::{ProgramFault, Which, of_file};
-use snap_files::FileSource;
 use snap_hunt_output::{Asked, Hunted};
 use snap_shipped::{text_b, text_m, text_u};
+use snap_streams::FileSource;
 use snap_text::{push_number, push_text};
 use snap_words::KindTag;
-use snaphunt_command_line::Listed;
 use std::alloc::{AllocError, Global};
 
 /// The bytes that are too many for a listing.

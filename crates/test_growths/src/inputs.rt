@@ -4,9 +4,9 @@ ghost use Rattle.std.specs.Prelude.{◌≡◌, IfOk};
 ghost use Rattle.snap_words.specs.declared.kind.KindTag.TheVariants.{Seq};
 
 use crate::trouble::Trouble;
+use snap_asm::load_listing;
 use snap_asm_program::Program;
 use snap_input::split_parts;
-use snap_loader::load_listing;
 use snap_words::KindTag;
 use std::alloc::Global;
 use std::io::Read;

@@ -8,7 +8,7 @@ use crate::inputs::QUICK;
 use crate::outcomes::tell_outcome;
 use crate::trials::{tell, tried};
 use crate::trouble::Trouble;
-use snap_loader::load_listing;
+use snap_asm::load_listing;
 use snap_machine::Machine;
 use snap_report::report;
 use snap_sched::{Schedule, read};

@@ -2,8 +2,8 @@
 ghost use Rattle.std.specs.Prelude.{◌≡◌, IfOk};
 ghost use Rattle.snap_words.specs.declared.kind.KindTag.TheVariants.{Seq};
 
+use snap_asm::load_listing;
 use snap_asm_program::Program;
-use snap_loader::load_listing;
 use snap_words::KindTag;
 use std::alloc::Global;
 use std::process::Abort;

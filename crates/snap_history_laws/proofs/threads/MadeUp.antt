@@ -15,9 +15,9 @@ use Rattle.snap_semantics.specs.declared.process.Outcome.TheVariants.{Answered, 
 use Rattle.snap_sched.specs.ScriptText.{Script}
 use Rattle.snap_runs.specs.Linearization.{Allows, RunsFrom, after}
 use Rattle.snap_runs.specs.Operation.{Action, Operation, Sees, Sets}
-use Rattle.snap_live_desk.specs.Turns.{own_turn}
-use Rattle.snap_live_desk.specs.declared.seat.Turn.{Turn}
-use Rattle.snap_live_desk.specs.declared.seat_state.OwnTurn.{OwnTurn}
+use Rattle.snap_live.specs.Turns.{own_turn}
+use Rattle.snap_live.specs.declared.seat.Turn.{Turn}
+use Rattle.snap_live.specs.declared.seat_state.OwnTurn.{OwnTurn}
 use Rattle.snap_live.specs.Play.{IsPlay, busy, rest}
 use Rattle.snap_live.specs.Worker.{shown}
 use Rattle.snap_history_laws.specs.threads.ShippedLaws.{IsToldLive, shipped_over}

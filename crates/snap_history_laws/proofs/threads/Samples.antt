@@ -14,8 +14,8 @@ use Rattle.snap_semantics.specs.declared.process.Outcome.TheVariants.{Answered, 
 use Rattle.snap_runs.specs.Linearization.{Allows, RunsFrom, after}
 use Rattle.snap_runs.specs.Operation.{Action, EndedBefore, Operation, Sees, Sets}
 use Rattle.snap_runs.proofs.Order.{Apart, Pairs, all_pairs, keeps_order}
-use Rattle.snap_live_desk.specs.Turns.{own_turn}
-use Rattle.snap_live_desk.specs.declared.seat_state.OwnTurn.{OwnTurn}
+use Rattle.snap_live.specs.Turns.{own_turn}
+use Rattle.snap_live.specs.declared.seat_state.OwnTurn.{OwnTurn}
 use Rattle.snap_history_laws.specs.threads.Told.{IsEnd, IsLinearizableAsTold, IsToldLinearization, IsToldOperation}
 use Rattle.snap_history_laws.specs.threads.Told.{IsToldOutcome, Told, WasTold}
 

@@ -18,10 +18,10 @@ use Rattle.snap_runs.specs.Operation.{Action, Operation, Sees, Sets}
 use Rattle.snap_runs.specs.Run.{IsValidRun, Run}
 use Rattle.snap_runs.proofs.Calls.{item_one}
 use Rattle.snap_shipped.specs.Kept.{NumbersSuffice, RunsKeepPromises}
-use Rattle.snap_live_desk.specs.Turns.{own_turn, run_of, setting_of, turns_of}
-use Rattle.snap_live_desk.specs.declared.seat.Turn.{Turn}
-use Rattle.snap_live_desk.specs.declared.seat_state.OwnTurn.{OwnTurn}
-use Rattle.snap_live_desk.specs.declared.seat_state.Setting.{Setting}
+use Rattle.snap_live.specs.Turns.{own_turn, run_of, setting_of, turns_of}
+use Rattle.snap_live.specs.declared.seat.Turn.{Turn}
+use Rattle.snap_live.specs.declared.seat_state.OwnTurn.{OwnTurn}
+use Rattle.snap_live.specs.declared.seat_state.Setting.{Setting}
 use Rattle.snap_live.specs.LiveRun.{IsLive}
 use Rattle.snap_live.specs.Play.{IsPlay}
 use Rattle.snap_live.specs.Script.{script_at}

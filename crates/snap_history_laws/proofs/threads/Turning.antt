@@ -12,8 +12,8 @@ use Rattle.snap_semantics.specs.declared.process.Item.TheVariants.{Step}
 use Rattle.snap_semantics.specs.declared.process.Outcome.{Outcome}
 use Rattle.snap_runs.specs.Run.{Run, state, item, outcome}
 use Rattle.snap_runs.proofs.Embedding.{next_state}
-use Rattle.snap_live_desk.specs.Turns.{own_turn, put_if, setting_of, turns_from}
-use Rattle.snap_live_desk.specs.declared.seat_state.OwnTurn.{OwnTurn}
+use Rattle.snap_live.specs.Turns.{own_turn, put_if, setting_of, turns_from}
+use Rattle.snap_live.specs.declared.seat_state.OwnTurn.{OwnTurn}
 use Rattle.snap_history_laws.specs.threads.Told.{told_in}
 
 -- the first of a list, or one behind it

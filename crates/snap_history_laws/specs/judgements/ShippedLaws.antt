@@ -8,8 +8,8 @@ use Rattle.snap_sched.specs.ScriptText.{Script}
 use Rattle.snap_runs.specs.Run.{IsValidRun, Run, run_of_items}
 use Rattle.snap_shipped.specs.Kept.{NumbersSuffice}
 use Rattle.snap_shipped.specs.Shipped.{shipped}
-use Rattle.snap_live_desk.specs.Shown.{SeatView}
-use Rattle.snap_live_desk.specs.declared.seat.Turn.{Turn}
+use Rattle.snap_live.specs.Shown.{SeatView}
+use Rattle.snap_live.specs.declared.seat.Turn.{Turn}
 use Rattle.snap_live.specs.LiveRun.{IsLive}
 use Rattle.snap_history_laws.specs.threads.DeskLaws.{IsClosed}
 use Rattle.snap_history_laws.specs.threads.ShippedLaws.{IsShapeFor, shipped_over}

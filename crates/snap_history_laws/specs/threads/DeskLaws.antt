@@ -12,11 +12,11 @@ use Rattle.snap_semantics.specs.declared.process.Outcome.TheVariants.{Called}
 use Rattle.snap_runs.specs.Linearization.{IsLinearizable}
 use Rattle.snap_runs.specs.Operation.{EndedBefore, Operation}
 use Rattle.snap_runs.specs.Run.{IsValidRun, Run}
-use Rattle.snap_live_desk.specs.Closed.{HasSeat}
-use Rattle.snap_live_desk.specs.Shown.{DeskView, IsTurn, Keeps, SeatView, seat_of}
-use Rattle.snap_live_desk.specs.Turns.{setting_of, turns_of}
-use Rattle.snap_live_desk.specs.declared.seat_state.OwnTurn.{OwnTurn}
-use Rattle.snap_live_desk.specs.declared.seat_state.Setting.{Setting}
+use Rattle.snap_live.specs.Closed.{HasSeat}
+use Rattle.snap_live.specs.Shown.{DeskView, IsTurn, Keeps, SeatView, seat_of}
+use Rattle.snap_live.specs.Turns.{setting_of, turns_of}
+use Rattle.snap_live.specs.declared.seat_state.OwnTurn.{OwnTurn}
+use Rattle.snap_live.specs.declared.seat_state.Setting.{Setting}
 use Rattle.snap_history_laws.specs.threads.Told.{IsEnd, IsLinearizableAsTold, IsToldLinearization, Told, told_in}
 
 -- A desk was closed with this record, and these seats were handed in: what is said of them where a desk is closed.

@@ -11,8 +11,8 @@ use Rattle.snap_semantics.specs.declared.process.Outcome.TheVariants.{Answered, 
 use Rattle.snap_runs.specs.Linearization.{KeepsOrder, RunsFrom}
 use Rattle.snap_runs.specs.Operation.{Action, HasEnded, Operation, Sees, Sets}
 use Rattle.snap_runs.specs.Run.{Run}
-use Rattle.snap_live_desk.specs.Turns.{own_turn, setting_of, turns_of}
-use Rattle.snap_live_desk.specs.declared.seat_state.OwnTurn.{OwnTurn}
+use Rattle.snap_live.specs.Turns.{own_turn, setting_of, turns_of}
+use Rattle.snap_live.specs.declared.seat_state.OwnTurn.{OwnTurn}
 
 -- what was told to the thread of each process: its turns, each with its number, its item and what came of it
 abbrev pub Told : Type 0

@@ -4,7 +4,7 @@ use Rattle.std.proofs.Common.{◌≡◌, ◌≤◌, ◌<◌, ◌+◌, ◌-◌, l
 use Rattle.std.specs.List.{list_any}
 use Rattle.snap_debug.specs.Marks.{next_stop}
 use Rattle.snap_debug.specs.Stops.{differs}
-use Rattle.snap_debug_checkpoints.specs.Recording.{IsCheckpoint}
+use Rattle.snap_debug.specs.Recording.{IsCheckpoint}
 use Rattle.snap_debug.proofs.Walks.{no_next, none_differs, walked}
 use Rattle.snap_debug.proofs.stops.next_stop.Goals as goal
 

@@ -2,7 +2,7 @@
 -- line is expected at this line.
 use Rattle.std.proofs.Common.{◌≡◌, length}
 use Rattle.snap_explanation.specs.Explanation.{header_at}
-use Rattle.snap_expected.specs.declared.line_sorts.Header.TheVariants.{Kind}
+use Rattle.snap_explanation.specs.declared.line_sorts.Header.TheVariants.{Kind}
 use Rattle.snap_semantics.specs.Token.{text_lines}
 use Rattle.snap_explanation.proofs.explain.header_at.Given as goal
 

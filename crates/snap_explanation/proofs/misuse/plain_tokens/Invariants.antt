@@ -2,7 +2,7 @@
 -- without their columns.
 use Rattle.std.proofs.Common.{◌≡◌, ◌++◌, map, drop}
 use Rattle.snap_text.specs.Tokens.{view_token}
-use Rattle.snap_expected.specs.Steps.{view_placed_token}
+use Rattle.snap_explanation.specs.Steps.{view_placed_token}
 use Rattle.snap_explanation.specs.Names.{tokens_of_placed}
 use Rattle.snap_explanation.proofs.misuse.plain_tokens.Given as goal
 

@@ -2,7 +2,7 @@
 -- of a header line that is one of `known`, or stands before in the line.
 use Rattle.std.proofs.Common.{◌≡◌, map, length}
 use Rattle.snap_explanation.specs.Names.{first_again}
-use Rattle.snap_expected.specs.Steps.{view_placed_token}
+use Rattle.snap_explanation.specs.Steps.{view_placed_token}
 use Rattle.snap_explanation.proofs.names.first_again.Given as goal
 
 abbrev pub invariant-loop-rest : goal.invariant-loop-rest

@@ -2,7 +2,7 @@
 -- counted from 0; `None` where there are fewer.
 use Rattle.std.proofs.Common.{◌≡◌, map, length}
 use Rattle.snap_explanation.specs.Names.{nth_token}
-use Rattle.snap_expected.specs.Steps.{view_placed_token}
+use Rattle.snap_explanation.specs.Steps.{view_placed_token}
 use Rattle.snap_explanation.proofs.names.nth_token.Given as goal
 
 abbrev pub invariant-loop-rest : goal.invariant-loop-rest

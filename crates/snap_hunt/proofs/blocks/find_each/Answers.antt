@@ -3,8 +3,8 @@
 use Rattle.std.proofs.Common.{◌∙◌, ap, ℕ}
 use Rattle.rayon.specs.Lists.{min_len_base}
 use Rattle.snap_runs.specs.Run.{Run}
-use Rattle.snap_failure.specs.Finding.{Finds}
-use Rattle.snap_failure.specs.declared.failures.Wanted.{Wanted}
+use Rattle.snap_hunt.specs.Finding.{Finds}
+use Rattle.snap_hunt.specs.declared.failures.Wanted.{Wanted}
 use Rattle.snap_hunt.specs.Hunt.{run_of}
 use Rattle.snap_hunt.proofs.Sides.{side_by_side}
 use Rattle.snap_hunt.proofs.blocks.find_each.Goals as goal

@@ -2,8 +2,8 @@
 -- `from` on, that fails.
 use Rattle.std.proofs.Common.{List, Option, subst, sym, ◌∙◌}
 use Rattle.std.specs.List.{AllZip}
-use Rattle.snap_failure.specs.Finding.{Finds}
-use Rattle.snap_failure.specs.declared.failures.Failure.{Failure}
+use Rattle.snap_hunt.specs.Finding.{Finds}
+use Rattle.snap_hunt.specs.declared.failures.Failure.{Failure}
 use Rattle.snap_hunt.specs.Hunt.{run_of}
 use Rattle.snap_hunt.proofs.Sides.{first_of_block}
 use Rattle.snap_hunt.proofs.hunt.in_block.Goals as goal

@@ -2,7 +2,7 @@
 -- comment.
 use Rattle.std.proofs.Common.{◌≡◌, ◌-◌, ◌+◌, List, ℕ, Err, ap, sym, ◌∙◌, arith}
 use Rattle.std.proofs.lemmas.Grind.{common_steps}
-use Rattle.snap_image_format.specs.ImageListing.{comment_bytes_in}
+use Rattle.snap_image.specs.ImageListing.{comment_bytes_in}
 use Rattle.snap_image.specs.DecoderSteps.{onto}
 use Rattle.snap_image.proofs.CommentBytes.{bytes_step, bytes_stop, bytes_end}
 use Rattle.snap_image.proofs.comments.comment_bytes.Goals as goal

@@ -2,7 +2,7 @@
 -- processes.
 use Rattle.std.proofs.Common.{◌≡◌, map, take}
 use Rattle.snap_semantics.specs.Source.{Source}
-use Rattle.snap_values.specs.SeenProcesses.{seen_process}
+use Rattle.snap_machine.specs.SeenProcesses.{seen_process}
 use Rattle.snap_machine.proofs.copies.copy_processes.Given as goal
 
 abbrev pub invariant-loop-process : goal.invariant-loop-process

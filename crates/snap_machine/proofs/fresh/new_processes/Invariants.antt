@@ -2,7 +2,7 @@
 -- `shape` in their initial states.
 use Rattle.std.proofs.Common.{◌≡◌, map, replicate}
 use Rattle.snap_semantics.specs.State.{initial_process}
-use Rattle.snap_values.specs.SeenProcesses.{seen_process}
+use Rattle.snap_machine.specs.SeenProcesses.{seen_process}
 use Rattle.snap_machine.proofs.fresh.new_processes.Given as goal
 
 abbrev pub invariant-loop-k : goal.invariant-loop-k

@@ -4,7 +4,7 @@ use Rattle.std.proofs.Common.{ℕ, List, Result, subst}
 use Rattle.snap_semantics.specs.Answers.{Answers}
 use Rattle.snap_semantics.specs.declared.refusal.Refusal.{Refusal}
 use Rattle.snap_input.specs.Parts.{parts_of}
-use Rattle.snap_run_output.specs.RunOutput.{end_text}
+use Rattle.snap_output.specs.RunOutput.{end_text}
 use Rattle.snap_output.proofs.Ended.{as_performed}
 use Rattle.snap_output.proofs.outputs.plan.Goals as goal
 

@@ -5,7 +5,7 @@ use Rattle.snap_semantics.specs.Answers.{IsRefusal}
 use Rattle.snap_semantics.specs.declared.fault.Fault.{Fault}
 use Rattle.snap_semantics.specs.declared.fault.Fault.TheVariants.{Refused}
 use Rattle.snap_semantics.specs.declared.refusal.CommandRefusal.{CommandRefusal}
-use Rattle.snap_prompt_lines.specs.Ask.{ask_of}
+use Rattle.snap_prompt.specs.Ask.{ask_of}
 use Rattle.snap_prompt.proofs.Added.{asked_is_said, none_named, on_ok}
 use Rattle.snap_prompt.proofs.prompt.Prompt.push_answered.Goals as goal
 

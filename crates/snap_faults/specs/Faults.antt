@@ -5,8 +5,8 @@ use Rattle.snap_streams.specs.declared.dialog_fault.DialogFault.TheVariants as d
 use Rattle.snap_streams.specs.declared.file_fault.FileFault.{FileFault}
 use Rattle.snap_streams.specs.declared.file_fault.FileFault.TheVariants as file
 use Rattle.snap_history_text.specs.declared.refusal.HistoryRefusal.{HistoryRefusal}
-use Rattle.snap_live.specs.declared.refusal.LiveRefusal.{LiveRefusal}
-use Rattle.snap_promela.specs.declared.refusal.ModelRefusal.{ModelRefusal}
+use Rattle.snap_semantics.specs.declared.refusal.LiveRefusal.{LiveRefusal}
+use Rattle.snap_semantics.specs.declared.refusal.ModelRefusal.{ModelRefusal}
 use Rattle.snap_semantics.specs.declared.fault.Fault.{Fault}
 use Rattle.snap_semantics.specs.declared.fault.Fault.TheVariants as given
 use Rattle.snap_semantics.specs.declared.refusal.Refusal.{Refusal}

@@ -8,9 +8,7 @@ ghost use Rattle.snap_faults.specs.declared.fault.ProgramFault.TheVariants.{Memo
 
 use crate::files::Which;
 use snap_history_text::{HistoryFault, HistoryRefusal};
-use snap_live::{LiveFault, LiveRefusal};
-use snap_promela::ModelRefusal;
-use snap_semantics::{Fault, Refusal};
+use snap_semantics::{Fault, LiveRefusal, ModelRefusal, Refusal};
 use snap_streams::{DialogFault, FileFault, Unsent};
 use std::alloc::{AllocError, AllocFailed};
 use std::io::ErrorKind;
@@ -110,10 +108,10 @@ impl From<Fault<Refusal>> for ProgramFault {
     }
 }
 
-impl From<LiveFault> for ProgramFault {
+impl From<Fault<LiveRefusal>> for ProgramFault {
     ghost from_gives = { λ found fault. fault ≡ of_live_fault found };
 
-    fn from(fault: LiveFault) -> ProgramFault {
+    fn from(fault: Fault<LiveRefusal>) -> ProgramFault {
         match fault {
             Fault::Memory => ProgramFault::Memory,
             Fault::Refused(refusal) => ProgramFault::Live(refusal),

@@ -15,8 +15,8 @@ use Rattle.snap_live.specs.declared.worker.Stop.{Stop}
 use Rattle.snap_live.specs.declared.worker.Stop.TheVariants.{TurnLimit, Full, Memory}
 use Rattle.snap_semantics.specs.declared.fault.Fault.{Fault}
 use Rattle.snap_semantics.specs.declared.fault.Fault.TheVariants as fault
-use Rattle.snap_live.specs.declared.refusal.LiveRefusal.{LiveRefusal}
-use Rattle.snap_live.specs.declared.refusal.LiveRefusal.TheVariants as refusal
+use Rattle.snap_semantics.specs.declared.refusal.LiveRefusal.{LiveRefusal}
+use Rattle.snap_semantics.specs.declared.refusal.LiveRefusal.TheVariants as refusal
 use Rattle.snap_semantics.specs.State.{State, initial}
 use Rattle.snap_runs.specs.Run.{Run, IsValidRun}
 use Rattle.snap_words.specs.Shape.{IsOneOf}

@@ -8,8 +8,8 @@ use Rattle.snap_live.specs.declared.seat_state.OwnTurn.{OwnTurn}
 use Rattle.snap_words.specs.Shape.{IsOneOf}
 use Rattle.snap_semantics.specs.declared.fault.Fault.{Fault}
 use Rattle.snap_semantics.specs.declared.fault.Fault.TheVariants.{Memory, Refused}
-use Rattle.snap_live.specs.declared.refusal.LiveRefusal.{LiveRefusal}
-use Rattle.snap_live.specs.declared.refusal.LiveRefusal.TheVariants.{Full, TurnLimit, SeatMissing}
+use Rattle.snap_semantics.specs.declared.refusal.LiveRefusal.{LiveRefusal}
+use Rattle.snap_semantics.specs.declared.refusal.LiveRefusal.TheVariants.{Full, TurnLimit, SeatMissing}
 use Rattle.snap_live.specs.Shown.{SeatView}
 
 -- one of the seats is of this process

@@ -11,8 +11,8 @@ use Rattle.snap_live.specs.declared.seat_state.Setting.{Setting}
 use Rattle.snap_live.specs.declared.seat.Turn.{Turn}
 use Rattle.snap_live.specs.declared.worker.Stop.{Stop}
 use Rattle.snap_live.specs.declared.worker.Stop.TheVariants as stop
-use Rattle.snap_live.specs.declared.refusal.LiveRefusal.{LiveRefusal}
-use Rattle.snap_live.specs.declared.refusal.LiveRefusal.TheVariants.{Full, TurnLimit, SeatMissing}
+use Rattle.snap_semantics.specs.declared.refusal.LiveRefusal.{LiveRefusal}
+use Rattle.snap_semantics.specs.declared.refusal.LiveRefusal.TheVariants.{Full, TurnLimit, SeatMissing}
 use Rattle.snap_live.specs.Turns.{run_of, setting_of, turns_of}
 use Rattle.snap_sched.specs.ScriptText.{Script}
 use Rattle.snap_live.specs.Script.{script_at}

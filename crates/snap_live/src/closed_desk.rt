@@ -12,13 +12,13 @@ ghost use Rattle.snap_live.specs.Turns.{setting_of};
 use crate::desk::Desk;
 use crate::desk_rule::{DeskRule, InitialRecord};
 use crate::held_record::HeldRecord;
-use crate::refusal::{LiveFault, LiveRefusal};
+use crate::refusal::LiveFault;
 use crate::seat::Seat;
 use crate::seat_state::SeatState;
 use crate::steps::{SharedTable, TableSeat, join};
 use atomic_table::Table;
 use snap_record::Record;
-use snap_semantics::Fault;
+use snap_semantics::{Fault, LiveRefusal};
 use snap_words::Kind;
 use std::alloc::Global;
 

@@ -19,6 +19,7 @@ pub use closed_desk::close;
 pub use desk::{Desk, open};
 pub use gate::{Gate, NoGate};
 pub use live_run::{LiveRun, LiveRun as Live, Turns, run_live};
-pub use refusal::{LiveFault, LiveRefusal};
+pub use refusal::LiveFault;
 pub use seat::{Note, Seat, Turn};
 pub use snap_sched::{Script, Scripts};
+pub use snap_semantics::LiveRefusal;

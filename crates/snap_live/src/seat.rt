@@ -12,12 +12,12 @@ ghost use Rattle.snap_live.specs.Turned.{Turned, RefusedAs};
 ghost use Rattle.snap_live.specs.Untaken.{NoTurn};
 
 use crate::desk::Desk;
-use crate::refusal::{LiveFault, LiveRefusal};
+use crate::refusal::LiveFault;
 use crate::steps::{
     SharedTable, TableSeat, catch_up, draw, give, join, publish, serve, split, take, wait,
 };
 use snap_record::{MAX_ITEMS, RecordFault};
-use snap_semantics::{Fault, Item, Op, Outcome};
+use snap_semantics::{Fault, Item, LiveRefusal, Op, Outcome};
 use snap_words::Kind;
 use std::marker::Model;
 use std::sync::Wait;

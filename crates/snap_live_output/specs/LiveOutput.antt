@@ -19,7 +19,7 @@ use Rattle.snap_tasks.specs.declared.subject.Subject.{Subject}
 use Rattle.snap_input.specs.Input.{parted}
 use Rattle.snap_input.specs.Parts.{part, parts_of, max_input}
 use Rattle.snap_live.specs.declared.seat_state.Setting.{Setting}
-use Rattle.snap_live.specs.declared.refusal.LiveRefusal.{LiveRefusal}
+use Rattle.snap_semantics.specs.declared.refusal.LiveRefusal.{LiveRefusal}
 use Rattle.snap_live.specs.LiveRun.{MayFault}
 use Rattle.snap_live.specs.Play.{IsPlay}
 use Rattle.snap_live.specs.Script.{script_at}

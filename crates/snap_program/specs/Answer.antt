@@ -25,7 +25,7 @@ use Rattle.snap_program.specs.TaskRun.{ConductsSurvey, IsOutputOf, RefusesTask}
 use Rattle.snap_explanation.specs.Explanation.{explanation}
 use Rattle.snap_explanation.specs.HistoryExplanation.{history_explanation}
 use Rattle.snap_explanation.specs.LiveExplanation.{turn_limit_explanation}
-use Rattle.snap_live.specs.declared.refusal.LiveRefusal.TheVariants.{TurnLimit}
+use Rattle.snap_semantics.specs.declared.refusal.LiveRefusal.TheVariants.{TurnLimit}
 use Rattle.snap_explanation.specs.Part.{layout_of}
 
 -- the status of a strict survey where all of its output was written: 4 where a run is not clean

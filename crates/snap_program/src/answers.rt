@@ -23,7 +23,8 @@ use snap_faults::{
     Names, ProgramFault, complain, fault_status, help, say_no_memory, say_no_text, tell,
 };
 use snap_judge_task::Linearizability;
-use snap_live::{LiveRefusal, NoGate};
+use snap_live::NoGate;
+use snap_semantics::LiveRefusal;
 use snap_streams::{ByteSink, ByteSource, say};
 use snap_tasks::{JudgeRequest, Request, Subject, Task};
 use std::alloc::{AllocError, Global};

@@ -6,8 +6,8 @@ use Rattle.snap_words.specs.Shape.{Counts}
 use Rattle.snap_semantics.specs.declared.fault.Fault.{Fault}
 use Rattle.snap_semantics.specs.declared.fault.Fault.TheVariants.{Memory, Refused}
 use Rattle.snap_sched.specs.ScriptText.{Script, Scripts}
-use Rattle.snap_promela.specs.declared.refusal.ModelRefusal.{ModelRefusal}
-use Rattle.snap_promela.specs.declared.refusal.ModelRefusal.TheVariants.{TooLarge, BadNumber}
+use Rattle.snap_semantics.specs.declared.refusal.ModelRefusal.{ModelRefusal}
+use Rattle.snap_semantics.specs.declared.refusal.ModelRefusal.TheVariants.{TooLarge, BadNumber}
 
 -- a script of at most 32 operations
 abbrev pub is_short : Script → Bool

@@ -9,10 +9,9 @@ mod monitor;
 mod processes;
 mod puts;
 mod quantifiers;
-mod refusal;
 mod report;
 mod terms;
 mod writer;
 
 pub use model::model_text;
-pub use refusal::ModelRefusal;
+pub use snap_semantics::ModelRefusal;

@@ -3,11 +3,10 @@ ghost use Rattle.std.specs.Prelude.{◌≡◌};
 ghost use Rattle.std.specs.List.{list_all};
 ghost use Rattle.snap_promela.specs.Model.{AnswersModel, has_room, is_short, is_small};
 
-use crate::refusal::ModelRefusal;
 use crate::writer::{Writer, is_beyond};
 use snap_listing_core::Listing;
 use snap_sched::{Script, Scripts};
-use snap_semantics::Fault;
+use snap_semantics::{Fault, ModelRefusal};
 use snap_words::{KindTag, Shape};
 use std::alloc::{AllocError, Global};
 

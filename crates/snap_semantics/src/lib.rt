@@ -18,5 +18,8 @@ pub use instr::{
 pub use items::who;
 pub use name::Name;
 pub use process::{Activity, Cause, Item, Op, Outcome, Reason, Status};
-pub use refusal::{CommandRefusal, ImageRefusal, ListingRefusal, Refusal, ScheduleRefusal};
+pub use refusal::{
+    CommandRefusal, ImageRefusal, ListingRefusal, LiveRefusal, ModelRefusal, Refusal,
+    ScheduleRefusal,
+};
 pub use text::{Sort, Symbol};

@@ -5,7 +5,7 @@ use Rattle.std.specs.Prelude.{All}
 use Rattle.snap_words.specs.Shape.{Counts}
 use Rattle.snap_semantics.specs.declared.fault.Fault.{Fault}
 use Rattle.snap_live.specs.declared.seat_state.Setting.{Setting}
-use Rattle.snap_live.specs.declared.refusal.LiveRefusal.{LiveRefusal}
+use Rattle.snap_semantics.specs.declared.refusal.LiveRefusal.{LiveRefusal}
 use Rattle.snap_live.specs.LiveRun.{MayFault}
 use Rattle.snap_live.specs.Shown.{DeskView, SeatView}
 use Rattle.snap_live.proofs.Workers.{at_desk, nobody_missing, run_ends, run_faults}

@@ -4,6 +4,7 @@ use Rattle.snap_image.specs.declared.image.ImageVersion.{ImageVersion}
 use Rattle.snap_image.specs.Assembly.{assembled, listed, upgraded}
 use Rattle.snap_semantics.specs.CanonicalText.{canonical_text}
 use Rattle.snap_semantics.specs.Comments.{Commented, IsCommented, commented_of}
+use Rattle.snap_semantics.specs.Listing.{max_text}
 use Rattle.snap_image.specs.Image.{CanSay, image_in, image_of}
 use Rattle.snap_image.specs.ImageListing.{commented_in}
 
@@ -17,7 +18,7 @@ ListsBack =
 -- a canonical text that is within the size of a text lists back as itself
 abbrev pub KeepsCanonical : Type 0
 KeepsCanonical =
-    (c : Commented) → IsCommented c → length (canonical_text c) ≤ 65536 →
+    (c : Commented) → IsCommented c → length (canonical_text c) ≤ max_text →
     (assembled (canonical_text c) ≡ Ok (image_of c)) × (listed (image_of c) ≡ Ok (canonical_text c))
 
 -- an image of either version is upgraded to that of the second

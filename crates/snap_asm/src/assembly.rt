@@ -14,6 +14,7 @@ ghost use Rattle.snap_image.specs.declared.image.ImageVersion.{ImageVersion};
 ghost use Rattle.snap_semantics.specs.declared.refusal.ImageRefusal.TheVariants.{NotAnImage};
 ghost use Rattle.snap_semantics.specs.declared.refusal.ImageRefusal.TheVariants.{Version};
 ghost use Rattle.snap_semantics.specs.declared.refusal.ListingRefusal.TheVariants.{TooLong};
+ghost use Rattle.snap_semantics.specs.Listing.{max_text};
 ghost use Rattle.snap_asm.specs.Listed.{HasListing, HaveOneListing};
 
 use snap_asm_program::Program;
@@ -30,7 +31,7 @@ use std::alloc::{AllocError, Global};
 #[tactic(auto, unfolding(snap_image::specs::Assembly::assembled))]
 pub fn assemble(alloc: Global, text: &[u8]) -> Result<Vec<u8>, ListingFault>
     ensures image { Answers (λ image. image.items) result (assembled text.now) }
-    ensures too_long { 65536 < length text.now → result ≡ Err (Refused TooLong) }
+    ensures too_long { max_text < length text.now → result ≡ Err (Refused TooLong) }
 {
     let listing = read(alloc, text)?;
     let image = encode(alloc, &listing)?;

@@ -5,7 +5,7 @@ ghost use Rattle.snap_semantics.specs.Answers.{Answers, refused_as};
 ghost use Rattle.snap_image.specs.Assembly.{assembled, listed, upgraded};
 ghost use Rattle.snap_image.specs.Image.{signature};
 ghost use Rattle.snap_image.specs.ImageCodes.{of_code, versions};
-ghost use Rattle.snap_semantics.specs.Listing.{listing_of};
+ghost use Rattle.snap_semantics.specs.Listing.{listing_of, max_text};
 ghost use Rattle.snap_semantics.specs.declared.fault.Fault.TheVariants.{Refused};
 ghost use Rattle.snap_semantics.specs.declared.refusal.ImageRefusal.TheVariants.{NotAnImage};
 ghost use Rattle.snap_semantics.specs.declared.refusal.ImageRefusal.TheVariants.{Version};
@@ -26,7 +26,8 @@ use std::alloc::Global;
 pub fn assemble(alloc: Global, text: &[u8]) -> Result<Vec<u8>, Fault<Refusal>>
     ensures image { Answers (λ image. image.items) result
         (refused_as refusal.Listing (assembled text.now)) }
-    ensures too_long { 65536 < length text.now → result ≡ Err (Refused (refusal.Listing TooLong)) }
+    ensures too_long { max_text < length text.now →
+        result ≡ Err (Refused (refusal.Listing TooLong)) }
 {
     Ok(snap_asm::assemble(alloc, text)?)
 }

@@ -6,6 +6,7 @@ ghost use Rattle.snap_lint.specs.Check.{check_line, check_of};
 ghost use Rattle.snap_semantics.specs.declared.fault.Fault.TheVariants.{Refused};
 ghost use Rattle.snap_semantics.specs.declared.refusal.ListingRefusal.TheVariants.{TooLong};
 ghost use Rattle.snap_semantics.specs.declared.refusal.Refusal.TheVariants as refusal;
+ghost use Rattle.snap_semantics.specs.Listing.{max_text};
 
 use crate::listing::read_listing;
 use snap_listing::kind_keyword;
@@ -36,7 +37,8 @@ fn check_line(alloc: Global, listing: &Listing) -> Result<Vec<u8>, AllocError>
 #[tactic(auto, unfolding(crate::specs::Check::check_of))]
 pub fn check_of(alloc: Global, text: &[u8]) -> Result<Vec<u8>, Fault<Refusal>>
     ensures output { Answers (λ out. out.items) result (check_of text.now) }
-    ensures too_long { 65536 < length text.now → result ≡ Err (Refused (refusal.Listing TooLong)) }
+    ensures too_long { max_text < length text.now →
+        result ≡ Err (Refused (refusal.Listing TooLong)) }
 {
     let listing = read_listing(alloc, text)?;
     Ok(check_line(alloc, &listing)?)

@@ -5,6 +5,7 @@ ghost use Rattle.snap_semantics.specs.declared.fault.Fault.TheVariants.{Refused}
 ghost use Rattle.snap_semantics.specs.declared.refusal.ListingRefusal.TheVariants.{TooLong};
 ghost use Rattle.snap_semantics.specs.declared.refusal.Refusal.TheVariants as refusal;
 ghost use Rattle.snap_semantics.specs.Answers.{Answers};
+ghost use Rattle.snap_semantics.specs.Listing.{max_text};
 ghost use Rattle.snap_lint.specs.Warnings.{warnings};
 ghost use Rattle.snap_lint.specs.Lint.{concern_text, lint_of, warning_line, warnings_text};
 
@@ -73,7 +74,8 @@ pub fn lint(alloc: Global, listing: &Listing) -> Result<Vec<u8>, AllocError>
 #[tactic(auto, unfolding(crate::specs::Lint::lint_of))]
 pub fn lint_of(alloc: Global, text: &[u8]) -> Result<Vec<u8>, Fault<Refusal>>
     ensures output { Answers (λ out. out.items) result (lint_of text.now) }
-    ensures too_long { 65536 < length text.now → result ≡ Err (Refused (refusal.Listing TooLong)) }
+    ensures too_long { max_text < length text.now →
+        result ≡ Err (Refused (refusal.Listing TooLong)) }
 {
     let listing = read_listing(alloc, text)?;
     Ok(lint(alloc, &listing)?)

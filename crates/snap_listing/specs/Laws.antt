@@ -5,7 +5,7 @@ use Rattle.std.specs.List.{AllByRecursion}
 use Rattle.snap_semantics.specs.CanonicalText.{canonical_text}
 use Rattle.snap_semantics.specs.Comments.{Commented, IsCommented, commented_of}
 use Rattle.snap_semantics.specs.IsListing.{IsListing}
-use Rattle.snap_semantics.specs.Listing.{listing_of}
+use Rattle.snap_semantics.specs.Listing.{listing_of, max_text}
 use Rattle.snap_semantics.specs.Source.{Source}
 use Rattle.snap_semantics.specs.Spelling.{spelled_source}
 use Rattle.snap_semantics.specs.Token.{text_lines}
@@ -22,7 +22,7 @@ ReadsOnlySpelled = (text : List ℕ) (s : Source) → listing_of text ≡ Ok s �
 -- every listing is read from every text that spells it
 abbrev pub ReadsAllSpelled : Type 0
 ReadsAllSpelled =
-    (text : List ℕ) (s : Source) → length text ≤ 65536 → IsListing s → Spells text s → listing_of text ≡ Ok s
+    (text : List ℕ) (s : Source) → length text ≤ max_text → IsListing s → Spells text s → listing_of text ≡ Ok s
 
 -- what is printed of a listing spells it
 abbrev pub PrintsSpelling : Type 0
@@ -36,4 +36,4 @@ ReadsOnlyCommented =
 -- what is printed of a listing is read as that listing with its comments, where it is within the size of a text
 abbrev pub ReadsPrinted : Type 0
 ReadsPrinted =
-    (c : Commented) → IsCommented c → length (canonical_text c) ≤ 65536 → commented_of (canonical_text c) ≡ Ok c
+    (c : Commented) → IsCommented c → length (canonical_text c) ≤ max_text → commented_of (canonical_text c) ≡ Ok c

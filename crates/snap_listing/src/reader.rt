@@ -3,7 +3,7 @@
 ghost use Rattle.std.specs.Prelude.{◌≡◌, ◌<◌, Err, IfOk, drop, length};
 ghost use Rattle.snap_semantics.specs.Answers.{Answers};
 ghost use Rattle.snap_semantics.specs.Comments.{header_lines, commented_of};
-ghost use Rattle.snap_semantics.specs.Listing.{numbered_lines, with_lines};
+ghost use Rattle.snap_semantics.specs.Listing.{max_text, numbered_lines, with_lines};
 ghost use Rattle.snap_semantics.specs.Listing.{listing_of_lines, listing_of};
 ghost use Rattle.snap_listing_core.specs.Fields.{header_source};
 ghost use Rattle.snap_listing.specs.ReaderSteps.{numbered_line, added_line};
@@ -118,7 +118,7 @@ fn header_and_lines(
 #[tactic(auto, using(crate::proofs::TextLength::few_lines), unfolding(snap_semantics::specs::Listing::listing_of))]
 pub fn read_source(alloc: Global, text: &[u8]) -> Result<Listing, ListingFault>
     ensures listing { Answers (λ l. l) result (listing_of text.now) }
-    ensures too_long { 65536 < length text.now → result ≡ Err (Refused TooLong) }
+    ensures too_long { max_text < length text.now → result ≡ Err (Refused TooLong) }
 {
     if text.len() > MOST_BYTES {
         return Err(ListingFault::Refused(ListingRefusal::TooLong));
@@ -150,7 +150,7 @@ fn behind_header(
 #[tactic(auto, using(crate::proofs::ReadComments::with_comments), unfolding(snap_semantics::specs::Comments::commented_of))]
 pub fn read(alloc: Global, text: &[u8]) -> Result<CommentedListing, ListingFault>
     ensures listing { Answers (λ l. l) result (commented_of text.now) }
-    ensures too_long { 65536 < length text.now → result ≡ Err (Refused TooLong) }
+    ensures too_long { max_text < length text.now → result ≡ Err (Refused TooLong) }
 {
     let listing = read_source(alloc, text)?;
     let found = line_comments(alloc, text)?;

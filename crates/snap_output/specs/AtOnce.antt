@@ -9,6 +9,7 @@ use Rattle.snap_semantics.specs.declared.refusal.ImageRefusal.TheVariants as ima
 use Rattle.snap_semantics.specs.declared.refusal.ListingRefusal.TheVariants as listing
 use Rattle.snap_semantics.specs.declared.refusal.Refusal.{Refusal}
 use Rattle.snap_semantics.specs.declared.refusal.Refusal.TheVariants as refusal
+use Rattle.snap_semantics.specs.Listing.{max_text}
 use Rattle.snap_input.specs.Input.{checked_parts}
 use Rattle.snap_input.specs.Parts.{parts_of, max_input}
 use Rattle.snap_input.specs.ManySchedules.{checked_schedules}
@@ -22,7 +23,7 @@ why (Err e) = Some e
 
 -- a text that is too long for a listing
 abbrev pub long_text : List ℕ → Option Refusal
-long_text text = if nat_lt 65536 (length text) then Some (refusal.Listing listing.TooLong) else None
+long_text text = if nat_lt max_text (length text) then Some (refusal.Listing listing.TooLong) else None
 
 abbrev pub unknown_version : Option ImageVersion → Option ImageRefusal
 unknown_version None = Some image.Version

@@ -1,4 +1,4 @@
--- `push_operations` of snap_judge_output (src/operations.rt): what holds at the head of each of its loops. Appends the
+-- `push_operations` of snap_history_text (src/operations.rt): what holds at the head of each of its loops. Appends the
 -- lines of operations.
 use Rattle.std.proofs.Common.{◌≡◌, ◌++◌, drop}
 use Rattle.snap_history_text.specs.JudgementText.{operation_lines}

@@ -1,4 +1,4 @@
--- `push_reports` of snap_run_output (src/batch_output.rt): what holds at the head of each of its loops. Appends
+-- `push_reports` of snap_output (src/batch_output.rt): what holds at the head of each of its loops. Appends
 -- reports, each behind the line of its number.
 use Rattle.std.proofs.Common.{◌≡◌, ◌++◌, ◌+◌, drop}
 use Rattle.snap_batch.specs.Reports.{reports_text}

@@ -1,4 +1,4 @@
--- `trace` of snap_run_trace (src/run_trace.rt): the proof of what its contract says. Returns what each item of the run
+-- `trace` of snap_output (src/run_trace.rt): the proof of what its contract says. Returns what each item of the run
 -- of `program` over `schedule` did, and what it changed.
 use Rattle.std.proofs.Common.{◌≡◌, ◌+◌, ◌++◌, ap, arith, map, sym, ◌∙◌}
 use Rattle.snap_semantics.specs.Source.{Source}

@@ -12,9 +12,8 @@ ghost use Rattle.snap_semantics.specs.declared.process.Item.TheVariants.{Step};
 ghost use Rattle.snap_batch.specs.Courses.{DoesNothing, Takes};
 ghost use Rattle.snap_batch.specs.End.{IsEnd, end_report};
 
-use crate::own_code::OwnCode;
 use snap_asm_program::Program;
-use snap_machine::Machine;
+use snap_machine::{Machine, OwnCode};
 use snap_record::event_of;
 use snap_report::report;
 use snap_sched::Schedule;

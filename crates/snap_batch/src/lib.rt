@@ -7,10 +7,8 @@ ghost use Rattle.std.specs.Prelude.{◌≡◌, IfOk, map};
 ghost use Rattle.snap_batch.specs.End.{end_report};
 
 mod course;
-mod own_code;
 
 pub use course::{Course, run_to_end};
-pub use own_code::OwnCode;
 use rayon::prelude::*;
 use snap_asm_program::Program;
 pub use snap_report::Report;

@@ -4,8 +4,8 @@
 
 mod alone;
 mod blocks;
+mod candidate;
 mod cuts;
-mod draft;
 mod failing;
 mod failures;
 mod follow;

@@ -6,12 +6,12 @@ ghost use Rattle.snap_hunt.specs.Finding.{Finds};
 ghost use Rattle.snap_hunt.specs.Kinds.{kind_of};
 ghost use Rattle.snap_semantics.specs.Answers.{Answers};
 ghost use Rattle.snap_hunt.specs.Hunt.{IsFirst, run_of};
-ghost use Rattle.snap_hunt_output.specs.Asked.{owned};
+ghost use Rattle.snap_hunt_output.specs.HuntRequest.{owned};
 ghost use Rattle.snap_hunt_output.specs.Hunted.{IsDue, IsFaultOf, IsHunted, IsHuntedOf};
 ghost use Rattle.snap_hunt_output.specs.Hunted.{IsNoRefusal, IsPrinted, Says, asked_source};
 
-use crate::asked::{Asked, fits_kind, owned};
 use crate::check::{InputRun, run_in_input};
+use crate::hunt_request::{HuntRequest, fits_kind, owned};
 use crate::input::input_text;
 use snap_asm_program::Program;
 use snap_chance::{Plan, schedule_of};
@@ -52,7 +52,7 @@ fn small_input(
     listing: &[u8],
     program: &Program,
     plan: &Plan,
-    asked: &Asked,
+    asked: &HuntRequest,
     found: &Found,
 ) -> Result<SmallInput, ProgramFault>
     requires { Finds asked.now.wanted (run_of program.now plan.now asked.now.seed found.now.run)
@@ -122,7 +122,7 @@ fn hunted_of(
     listing: &[u8],
     program: &Program,
     plan: &Plan,
-    asked: &Asked,
+    asked: &HuntRequest,
     found: Option<Found>,
 ) -> Result<Hunted, ProgramFault>
     requires plan { plan.now ≡ owned program.now.kind asked.now.plan }
@@ -152,7 +152,7 @@ fn hunt_program<W: Watcher>(
     alloc: Global,
     listing: &[u8],
     program: &Program,
-    asked: &Asked,
+    asked: &HuntRequest,
     watcher: &mut W,
 ) -> Result<Hunted, ProgramFault>
     requires { asked.now.runs < 2 ^ 63 }
@@ -179,7 +179,7 @@ fn hunt_program_alone(
     alloc: Global,
     listing: &[u8],
     program: &Program,
-    asked: &Asked,
+    asked: &HuntRequest,
 ) -> Result<Hunted, ProgramFault>
     requires { asked.now.runs < 2 ^ 63 }
     ensures hunted { IfOk result (IsHuntedOf program.now listing.now asked.now) }
@@ -191,7 +191,11 @@ fn hunt_program_alone(
 }
 
 /// Returns the program of a listing, if the shape fits its kind.
-fn asked_program(alloc: Global, listing: &[u8], asked: &Asked) -> Result<Program, Fault<Refusal>>
+fn asked_program(
+    alloc: Global,
+    listing: &[u8],
+    asked: &HuntRequest,
+) -> Result<Program, Fault<Refusal>>
     ensures { Answers (λ p. p) result (asked_source listing.now asked.now) }
 {
     let program = program_of(alloc, listing)?;
@@ -213,7 +217,7 @@ pub fn hunt_listing<W: Watcher>(
     rt: &(impl Threads + Sync),
     alloc: Global,
     listing: &[u8],
-    asked: &Asked,
+    asked: &HuntRequest,
     watcher: &mut W,
 ) -> Result<Hunted, ProgramFault>
     requires { asked.now.runs < 2 ^ 63 }
@@ -231,7 +235,11 @@ pub fn hunt_listing<W: Watcher>(
 /// The reason why `listing` is refused, as elsewhere or because the shape does not fit its kind;
 /// `Memory` where memory runs out.
 #[tactic(auto, using(crate::proofs::Finding::hunted_by, crate::proofs::Finding::due_by))]
-pub fn hunt_alone(alloc: Global, listing: &[u8], asked: &Asked) -> Result<Hunted, ProgramFault>
+pub fn hunt_alone(
+    alloc: Global,
+    listing: &[u8],
+    asked: &HuntRequest,
+) -> Result<Hunted, ProgramFault>
     requires { asked.now.runs < 2 ^ 63 }
     ensures hunted { IfOk result (IsHunted listing.now asked.now) }
     ensures refused { IfErr result (IsDue listing.now asked.now) }

@@ -7,13 +7,13 @@ ghost use Rattle.snap_why.specs.Answer.{goto_text, lender_lines, lender_of};
 ghost use Rattle.snap_why.specs.Answer.{process_text, scan_lines, taken_lines, taken_or_own};
 ghost use Rattle.snap_why.specs.Answer.{verdict_with, view_lines, writer_lines, written_lines};
 
-use snap_acts::{Borrowed, ScanPlaces, Step, view_taken};
+use snap_acts::{Borrowed, ScanPlaces, TraceStep, view_taken};
 use snap_audit::{Verdict, push_verdict_line};
 use snap_text::{push_number, push_text};
 use std::alloc::AllocError;
 
 /// Returns the item of the step at a place, and 0 if there is none.
-pub(crate) fn item_at(steps: &[Step], place: usize) -> u64
+pub(crate) fn item_at(steps: &[TraceStep], place: usize) -> u64
     ensures { result ≡ (step_at steps.now place).item }
 {
     if place < steps.len() {
@@ -24,7 +24,7 @@ pub(crate) fn item_at(steps: &[Step], place: usize) -> u64
 }
 
 /// Returns the process of the step at a place, and 0 if there is none.
-fn process_at(steps: &[Step], place: usize) -> u32
+fn process_at(steps: &[TraceStep], place: usize) -> u32
     ensures { result ≡ (step_at steps.now place).process }
 {
     if place < steps.len() {
@@ -64,7 +64,7 @@ pub(crate) fn push_goto_line(out: &mut Vec<u8>, what: &[u8], item: u64) -> Resul
 
 /// Appends a scan of an update.
 #[tactic(auto, using(snap_text::proofs::Texts::joined))]
-fn push_scan(out: &mut Vec<u8>, steps: &[Step], scan: ScanPlaces) -> Result<(), AllocError>
+fn push_scan(out: &mut Vec<u8>, steps: &[TraceStep], scan: ScanPlaces) -> Result<(), AllocError>
     ensures { OnOk result (out.new.items ≡ out.old.items ++ scan_lines steps.now scan) }
 {
     push_goto_line(out, b"its scan began", item_at(steps, scan.from))?;
@@ -74,7 +74,7 @@ fn push_scan(out: &mut Vec<u8>, steps: &[Step], scan: ScanPlaces) -> Result<(), 
 /// Appends the scan that saw a view, if it is in the trace.
 fn push_lender(
     out: &mut Vec<u8>,
-    steps: &[Step],
+    steps: &[TraceStep],
     scan: Option<ScanPlaces>,
 ) -> Result<(), AllocError>
     ensures { OnOk result (out.new.items ≡ out.old.items ++ lender_lines steps.now scan) }
@@ -89,7 +89,7 @@ fn push_lender(
 #[tactic(auto, using(snap_text::proofs::Texts::joined))]
 fn push_writer(
     out: &mut Vec<u8>,
-    steps: &[Step],
+    steps: &[TraceStep],
     place: usize,
     lender: Option<ScanPlaces>,
 ) -> Result<(), AllocError>
@@ -104,7 +104,7 @@ fn push_writer(
 #[tactic(auto, unfolding(crate::specs::Answer::written_lines))]
 fn push_written(
     out: &mut Vec<u8>,
-    steps: &[Step],
+    steps: &[TraceStep],
     written: Option<usize>,
     lender: Option<ScanPlaces>,
 ) -> Result<(), AllocError>
@@ -119,7 +119,7 @@ fn push_written(
 
 /// Appends a view that was taken.
 #[tactic(auto, using(snap_text::proofs::Texts::joined))]
-fn push_taken(out: &mut Vec<u8>, steps: &[Step], view: Borrowed) -> Result<(), AllocError>
+fn push_taken(out: &mut Vec<u8>, steps: &[TraceStep], view: Borrowed) -> Result<(), AllocError>
     ensures { OnOk result (out.new.items ≡ out.old.items ++ taken_lines steps.now view) }
 {
     push_goto_line(out, b" took a view", item_at(steps, view.taken))?;
@@ -129,7 +129,7 @@ fn push_taken(out: &mut Vec<u8>, steps: &[Step], view: Borrowed) -> Result<(), A
 /// Appends the borrowed view, or that there is none.
 fn push_taken_or_own(
     out: &mut Vec<u8>,
-    steps: &[Step],
+    steps: &[TraceStep],
     view: Option<Borrowed>,
 ) -> Result<(), AllocError>
     ensures { OnOk result (out.new.items ≡ out.old.items ++ taken_or_own steps.now view) }
@@ -144,7 +144,7 @@ fn push_taken_or_own(
 #[tactic(auto, using(snap_text::proofs::Texts::joined), unfolding(crate::specs::Answer::view_lines))]
 fn push_view(
     out: &mut Vec<u8>,
-    steps: &[Step],
+    steps: &[TraceStep],
     process: u32,
     view: Option<Borrowed>,
 ) -> Result<(), AllocError>
@@ -162,7 +162,7 @@ fn lender_of(view: Option<Borrowed>) -> Option<ScanPlaces>
 }
 
 /// Appends the views that a scan, its lender's scan, and so on took.
-fn push_chain(out: &mut Vec<u8>, steps: &[Step], first: ScanPlaces) -> Result<(), AllocError>
+fn push_chain(out: &mut Vec<u8>, steps: &[TraceStep], first: ScanPlaces) -> Result<(), AllocError>
     requires { first.to ≤ length steps.now }
     ensures { OnOk result (out.new.items ≡ out.old.items
         ++ chain_lines steps.now (Some first) (length steps.now)) }
@@ -196,7 +196,7 @@ fn push_call(out: &mut Vec<u8>, verdict: &Verdict) -> Result<(), AllocError>
 #[tactic(auto, using(snap_text::proofs::Texts::joined), unfolding(crate::specs::Answer::answer_lines))]
 pub(crate) fn push_answer(
     out: &mut Vec<u8>,
-    steps: &[Step],
+    steps: &[TraceStep],
     verdict: &Verdict,
     item: u64,
     point: &[u8],

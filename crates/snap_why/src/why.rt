@@ -16,7 +16,7 @@ ghost use Rattle.snap_why.specs.Why.{nothing_lines, trapped_at, trapped_by};
 use crate::answer::{item_at, push_answer, push_goto_line, verdict_with};
 use crate::point::point_text;
 use crate::trap::push_trap;
-use snap_acts::{Act, Step, Wanted, first_from, last_before, trace};
+use snap_acts::{Act, StepPattern, TraceStep, first_from, last_before, trace};
 use snap_asm_program::Program;
 use snap_audit::{Verdict, audit};
 use snap_listing::LineTexts;
@@ -40,7 +40,7 @@ fn verdicts_over<K: Kind>(
 }
 
 /// Returns the process that a step leaves trapped.
-fn trapped_by(step: &Step) -> Option<u32>
+fn trapped_by(step: &TraceStep) -> Option<u32>
     ensures { result ≡ trapped_by step.now.process step.now.act }
 {
     match &step.act {
@@ -50,7 +50,7 @@ fn trapped_by(step: &Step) -> Option<u32>
 }
 
 /// Returns the process that traps at an item.
-fn trapped_at(steps: &[Step], item: u64) -> Option<u32>
+fn trapped_at(steps: &[TraceStep], item: u64) -> Option<u32>
     requires { item ≤ length steps.now }
     ensures { result ≡ trapped_at steps.now item }
 {
@@ -62,7 +62,7 @@ fn trapped_at(steps: &[Step], item: u64) -> Option<u32>
 }
 
 /// Returns the item of a step.
-fn item_of(step: Option<&Step>) -> Option<u64>
+fn item_of(step: Option<&TraceStep>) -> Option<u64>
     ensures { result ≡ item_of (option_map (λ s. s.now) step.entry) }
 {
     match step {
@@ -72,7 +72,7 @@ fn item_of(step: Option<&Step>) -> Option<u64>
 }
 
 /// Returns the item of the step at a place.
-fn item_there(steps: &[Step], place: Option<usize>) -> Option<u64>
+fn item_there(steps: &[TraceStep], place: Option<usize>) -> Option<u64>
     ensures { result ≡ item_there steps.now place }
 {
     match place {
@@ -82,7 +82,7 @@ fn item_there(steps: &[Step], place: Option<usize>) -> Option<u64>
 }
 
 /// Returns the process that traps at an item of `schedule`, which has such an item.
-fn trapped_in(program: &Program, schedule: &Schedule, steps: &[Step], item: u64) -> Option<u32>
+fn trapped_in(program: &Program, schedule: &Schedule, steps: &[TraceStep], item: u64) -> Option<u32>
     requires steps { steps.now ≡ trace_of (run_over program.now schedule.now) }
     requires within { item ≤ length schedule.now.items }
     requires as_many { item ≤ length steps.now }
@@ -127,12 +127,12 @@ fn push_nothing(out: &mut Vec<u8>, next: Option<u64>, last: Option<u64>) -> Resu
 
 /// Appends that there is nothing to explain of an item, and where there is.
 #[tactic(auto, unfolding(crate::specs::Why::nothing_lines))]
-fn push_nothing_at(out: &mut Vec<u8>, steps: &[Step], item: u64) -> Result<(), AllocError>
+fn push_nothing_at(out: &mut Vec<u8>, steps: &[TraceStep], item: u64) -> Result<(), AllocError>
     requires { item ≤ length steps.now }
     ensures { OnOk result (out.new.items ≡ out.old.items ++ nothing_lines steps.now item) }
 {
-    let next = first_from(steps, item as usize, Wanted::AnswerOrTrap);
-    let last = last_before(steps, item as usize, Wanted::AnswerOrTrap);
+    let next = first_from(steps, item as usize, StepPattern::AnswerOrTrap);
+    let last = last_before(steps, item as usize, StepPattern::AnswerOrTrap);
     push_nothing(out, item_of(next), item_there(steps, last))
 }
 

@@ -1,7 +1,7 @@
 //! Writes what comes of the calls in a scene: the line of an item's outcome, and the report of a
 //! record.
+use crate::scene_fault::SceneFault;
 use crate::trials::{tell, tried};
-use crate::trouble::Trouble;
 use snap_record::Record;
 use snap_report::{outcome_text, report};
 use snap_semantics::Outcome;
@@ -18,7 +18,7 @@ fn outcome_line(alloc: Global, outcome: &Outcome) -> Result<Vec<u8>, AllocError>
 }
 
 /// Writes the outcome of an item.
-pub fn tell_outcome(rt: &HostRuntime, outcome: &Outcome) -> Result<(), Trouble> {
+pub fn tell_outcome(rt: &HostRuntime, outcome: &Outcome) -> Result<(), SceneFault> {
     let line = tried!(rt, outcome_line(rt.alloc(), outcome));
     tell(rt, line.as_slice())
 }

@@ -1,6 +1,6 @@
-//! `Asked`: the input of a hunt; and its plan, suited to the kind of the listing.
+//! `HuntRequest`: the input of a hunt; and its plan, suited to the kind of the listing.
 ghost use Rattle.std.specs.Prelude.{◌≡◌};
-ghost use Rattle.snap_hunt_output.specs.Asked.{fits_kind, owned, owns_words};
+ghost use Rattle.snap_hunt_output.specs.HuntRequest.{fits_kind, owned, owns_words};
 
 use snap_chance::Plan;
 use snap_hunt::Wanted;
@@ -8,7 +8,7 @@ use snap_words::{KindTag, Shape};
 
 /// The plan of a hunt and the failures that it looks for.
 #[derive(Clone, Copy)]
-pub struct Asked {
+pub struct HuntRequest {
     pub plan: Plan,
     pub wanted: Wanted,
     pub seed: u64,

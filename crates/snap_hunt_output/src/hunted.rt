@@ -11,7 +11,7 @@ ghost use Rattle.snap_hunt_output.specs.Hunted.{IsDue, IsFaultOf, IsHunted, IsHu
 ghost use Rattle.snap_hunt_output.specs.Hunted.{IsNoRefusal, IsPrinted, Says, asked_source};
 
 use crate::check::{InputRun, run_in_input};
-use crate::hunt_request::{HuntRequest, fits_kind, owned};
+use crate::hunt_request::{HuntRequest, owned};
 use crate::input::input_text;
 use snap_asm_program::Program;
 use snap_chance::{Plan, schedule_of};
@@ -19,7 +19,7 @@ use snap_faults::ProgramFault;
 use snap_hunt::{
     Failure, Found, Wanted, Watcher, failure_over, first_failing, first_failing_alone, shrunk,
 };
-use snap_input::{MAX_INPUT, program_of};
+use snap_input::{MAX_INPUT, fits, program_of};
 use snap_semantics::{Fault, Refusal};
 use snap_words::WordFault;
 use std::alloc::Global;
@@ -199,7 +199,7 @@ fn asked_program(
     ensures { Answers (λ p. p) result (asked_source listing.now asked.now) }
 {
     let program = program_of(alloc, listing)?;
-    if !fits_kind(program.kind(), asked.plan.shape()) {
+    if !fits(program.kind(), asked.plan.shape()) {
         return Err(Fault::Refused(Refusal::Words(WordFault::BadShape)));
     }
     Ok(program)

@@ -17,7 +17,7 @@ use snap_asm_program::Program;
 use snap_chance::{Plan, schedule_of};
 use snap_faults::ProgramFault;
 use snap_hunt::{
-    Failure, Found, Wanted, Watcher, failure_over, first_failing, first_failing_alone, shrunk,
+    Failure, Found, Hunt, Wanted, Watcher, failure_over, first_failing, first_failing_alone, shrunk,
 };
 use snap_input::{MAX_INPUT, fits, program_of};
 use snap_semantics::{Fault, Refusal};
@@ -160,16 +160,13 @@ fn hunt_program<W: Watcher>(
     ensures fault { IfErr result (IsFaultOf program.now asked.now) }
 {
     let plan = owned(program.kind(), &asked.plan);
-    let found = first_failing(
-        rt,
-        alloc,
+    let hunt = Hunt {
         program,
-        &plan,
-        &asked.wanted,
-        asked.seed,
-        asked.runs,
-        watcher,
-    )?;
+        plan: &plan,
+        wanted: &asked.wanted,
+        seed: asked.seed,
+    };
+    let found = first_failing(rt, alloc, &hunt, asked.runs, watcher)?;
     hunted_of(alloc, listing, program, &plan, asked, found)
 }
 
@@ -186,7 +183,13 @@ fn hunt_program_alone(
     ensures fault { IfErr result (IsFaultOf program.now asked.now) }
 {
     let plan = owned(program.kind(), &asked.plan);
-    let found = first_failing_alone(alloc, program, &plan, &asked.wanted, asked.seed, asked.runs)?;
+    let hunt = Hunt {
+        program,
+        plan: &plan,
+        wanted: &asked.wanted,
+        seed: asked.seed,
+    };
+    let found = first_failing_alone(alloc, &hunt, asked.runs)?;
     hunted_of(alloc, listing, program, &plan, asked, found)
 }
 

@@ -1,5 +1,5 @@
-//! `survey_in_threads`: what the task `survey` writes for an input, whose schedules are read and run
-//! side by side.
+//! `survey_in_threads`: what the task `survey` writes for an input, whose schedules are read and
+//! run side by side.
 ghost use Rattle.std.specs.Prelude.{◌≡◌, ◌≤◌, Err, length};
 ghost use Rattle.snap_semantics.specs.declared.fault.Fault.TheVariants.{Refused};
 ghost use Rattle.snap_semantics.specs.declared.refusal.Refusal.{Refusal};

@@ -263,6 +263,15 @@ def try_without_module(page, count, running):
             other.tab.close()
 
 
+# What `snaplab run --explain` says below the line of the refusal.
+EXPLAINED = """line 25 of the input, line 25 of the listing, column 5:
+    33: finnish
+        ^
+expected an instruction; found `finnish`
+a local is set by `let`, as in `let c = c + 1`
+instructions begin with let, get, bit, look, put, view, each, first, next, if, goto, call, return or finish"""
+
+
 def try_refusals(page, count):
     page.tab.look(**PROJECTOR)
     page.choose(FIRST_IDEA + 2)
@@ -270,11 +279,12 @@ def try_refusals(page, count):
     text = page.value("#listing textarea")
     page.write("listing", text.replace("33: finish", "33: finnish"))
     told = page.text("#listing-refusal")
-    count.check("a refusal names the line of the text, and shows it", "L3 BadLine 25" in told and "line 25 of this text: 33: finnish" in told, told)
+    count.check("a refusal is explained as the program explains it", told == "refused: L3 BadLine 25\n" + EXPLAINED, told)
     inside = page.run("(() => { const b = document.querySelector('#listing .back .bad').getBoundingClientRect(), r = document.getElementById('listing')"
                       ".getBoundingClientRect(); return b.top >= r.top - 2 && b.bottom <= r.bottom + 2; })()")
     page.leave()
-    count.check("what the manual says is folded away", not page.run("document.querySelector('#listing-refusal details').open"))
+    count.check("the line that the explanation names is marked, and in sight", inside and page.run(
+        "[...document.querySelectorAll('.back .bad')].map(e => e.textContent)") == ["33: finnish"])
     dim = page.run("['processes', 'state', 'timeline', 'where'].filter(id => Number(getComputedStyle(document.getElementById(id)).opacity) > .9)")
     count.check("all of the old run is dim", not dim, dim)
     page.write("listing", "\n" * 60 + text.replace("33: finish", "33: finnish"))

@@ -2,3 +2,4 @@
 pub mod Crossed
 pub mod Picture
 pub mod Shapes
+pub mod ShapeLines

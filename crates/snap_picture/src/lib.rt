@@ -7,8 +7,10 @@ mod drawn;
 mod look;
 mod options;
 mod refusal;
+mod shape_lines;
 mod sought;
 mod steps;
+mod told;
 mod verdicts;
 
 pub use drawing::picture;
@@ -16,3 +18,4 @@ pub use drawn::shapes;
 pub use look::{LEGEND, STYLE};
 pub use options::{Look, Options};
 pub use refusal::PictureRefusal;
+pub use told::told_shapes;

@@ -6,7 +6,7 @@ import {outcome, unexplained} from './lessons.js';
 
 const LABEL = 46, RIGHT = 12, GRAIN = 1.5, VALUES = 18, POINTS = 10, LANES = VALUES + POINTS, AXIS = 16;
 const LEAST_WORDS = 22;
-const UPPER = .55;      // of a bar is in its colour and has its words; below it are the marks of its items
+const UPPER = .58;      // of a bar is in its colour and has its words; below it are the marks of its items
 const dark = matchMedia('(prefers-color-scheme: dark)');
 const DIAMOND = [[0, -6], [6, 0], [0, 6], [-6, 0]], TRAP = [[0, -8], [8, 7], [-8, 7]];
 const BOX = [[-4, -4], [4, -4], [4, 4], [-4, 4]];
@@ -42,10 +42,10 @@ function showLane(box, who) {
 const large = () => document.body.classList.contains('present') ? 1.25 : 1;
 
 function highOf(n) {
-    if (large() > 1 && n <= 3) return 36;
+    if (large() > 1 && n <= 3) return 42;
     if (n > 8) return 12;
-    if (document.body.classList.contains('small')) return n <= 3 ? 20 : 14;
-    return n <= 3 ? 30 : n <= 5 ? 24 : 16;
+    if (document.body.classList.contains('small')) return n <= 3 ? 24 : 14;
+    return n <= 3 ? 34 : n <= 5 ? 28 : 16;
 }
 
 // What is drawn of the run; where the texts are refused what was drawn of the run before, which is dim.
@@ -167,13 +167,13 @@ const spanOf = ({from, to, who}) => {
 
 // An operation, its call, and where it is past how it ended.
 function drawBar(bar) {
-    const {left, wide, top, tall} = spanOf(bar), scans = bar.name === 'scan', size = line.high < 24 ? 12 : 14;
+    const {left, wide, top, tall} = spanOf(bar), scans = bar.name === 'scan', size = line.high < 28 ? 12 : 14;
     paint(scans ? 'scan-bar' : 'update-bar', left, top, wide, tall);
     if (line.high >= 16) paint(scans ? 'pale-scan' : 'pale-update', left, top + tall * UPPER, wide, tall * (1 - UPPER));
     Object.assign(pen, {strokeStyle: colour(scans ? 'scan-edge' : 'update-edge'), lineWidth: 1.5});
     if (wide > 3) pen.strokeRect(left + .75, top + .75, wide - 1.5, tall - 1.5);
     if (wide < LEAST_WORDS || line.high < 16) return;
-    write(barWords(bar), 'on-p', left, top, wide - 2, tall * UPPER - 2, size);
+    write(barWords(bar), 'on-p', left, top, wide - 2, tall * UPPER - 1, size);
 }
 
 function barWords({name, word, value, to, rest}) {
@@ -229,8 +229,7 @@ function drawNone(span) {
     pen.setLineDash([6, 4]);
     pen.strokeRect(left + 1, top + 1, Math.max(wide - 2, 1), tall - 2);
     pen.setLineDash([]);
-    const words = 'point none', room = wide - 90;
-    if (room > 40 && line.high >= 16) write(words, 'on-p', left + room, top, 90, tall * UPPER - 2, 12);
+    if (wide > 90 && line.high >= 24) write('point none', 'ink', left, top + tall * UPPER, 90, tall * (1 - UPPER) - 2, 12);
 }
 
 // Crosses an operation out, where it is narrow at its end.
@@ -247,7 +246,8 @@ function drawLoan({who, lender, item, ended}) {
     if (item > line.to) return;
     const x = placeOf(item), y = topOf(who) + line.high / 2, fromX = placeOf(ended);
     const fromY = topOf(lender) + line.high / 2, angle = Math.atan2(y - fromY, x - fromX);
-    const cos = Math.cos(angle), sin = Math.sin(angle), turned = ([dx, dy]) => [dx * cos - dy * sin, dx * sin + dy * cos];
+    const cos = Math.cos(angle), sin = Math.sin(angle);
+    const turned = ([dx, dy]) => [dx * cos - dy * sin, dx * sin + dy * cos];
     stroke('loan', 3, [fromX, fromY], [x - 5 * cos, y - 5 * sin]);
     shape(x, y, [[0, 0], [-11, -6], [-11, 6]].map(turned), 'loan');
     if (ended > line.from) shape(fromX, fromY, BOX, 'loan');

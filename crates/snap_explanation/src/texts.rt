@@ -1,9 +1,11 @@
 //! Says what was expected at a place of a refused input, in words, and what was found there.
 ghost use Rattle.std.specs.Prelude.{◌≡◌};
-ghost use Rattle.snap_draft.specs.Drafted.{Adds};
+ghost use Rattle.snap_text.specs.Drafted.{Adds};
 ghost use Rattle.snap_explanation.specs.Texts.{symbol_words, keyword_words, wanted_words};
 ghost use Rattle.snap_explanation.specs.Texts.{expected_words, found_words, expected_line};
 
+use crate::after::may_pass;
+use crate::expected::{Expected, Keyword};
 use crate::said::{Said, push_said};
 use crate::wording::{
     ACT, AND_ALONE, AND_OR, BEHIND_NAME, BEHIND_THIRD, BIT, COMMAND, COMPARISON, COUNT,
@@ -11,9 +13,8 @@ use crate::wording::{
     LINE_NUMBER, NAME, NUMBER, OPEN_BRACKET, OR, OR_ALONE, PLUS, POSITIVE, QUOTE, QUOTE_END, RANGE,
     REGISTER, RELATION, SCRIPT_ACT, SHOWN, TEST, TUPLE, TURN, VALUE, VIEW_SOURCE, WHERE,
 };
-use snap_draft::Draft;
-use snap_expected::{Keyword, Wanted, may_pass};
 use snap_semantics::{Join, Symbol};
+use snap_text::Draft;
 
 fn symbol_words(symbol: Symbol) -> &'static [u8]
     ensures { result.now ≡ symbol_words symbol }
@@ -52,49 +53,49 @@ fn keyword_words(keyword: Keyword) -> &'static [u8]
     }
 }
 
-/// What is wanted, in words.
-fn wanted_words(wanted: Wanted) -> &'static [u8]
+/// Returns the words for what is wanted.
+fn wanted_words(wanted: Expected) -> &'static [u8]
     ensures { result.now ≡ wanted_words wanted }
 {
     match wanted {
-        Wanted::Symbol(symbol) => symbol_words(symbol),
-        Wanted::Keyword(keyword) => keyword_words(keyword),
-        Wanted::Number => NUMBER,
-        Wanted::LineNumber => LINE_NUMBER,
-        Wanted::Count => COUNT,
-        Wanted::Positive => POSITIVE,
-        Wanted::Turn => TURN,
-        Wanted::Name | Wanted::Names => NAME,
-        Wanted::Index(false) => INDEX,
-        Wanted::Index(true) => INDEX_OR_PLACE,
-        Wanted::Range => RANGE,
-        Wanted::Relation => RELATION,
-        Wanted::KindName => KIND_NAME,
-        Wanted::Instruction => INSTRUCTION,
-        Wanted::Term(_) | Wanted::Expr(_) | Wanted::SecondPart => VALUE,
-        Wanted::PlaceOption(_) => OPEN_BRACKET,
-        Wanted::SumOption(_) => PLUS,
-        Wanted::Condition(_) => COMPARISON,
-        Wanted::FirstJoin(_) => AND_OR,
-        Wanted::SecondJoin(Join::And, _) | Wanted::ThirdJoin(Join::And, _) => AND_ALONE,
-        Wanted::SecondJoin(Join::Or, _) | Wanted::ThirdJoin(Join::Or, _) => OR_ALONE,
-        Wanted::WhereOption => WHERE,
-        Wanted::Target | Wanted::Register => REGISTER,
-        Wanted::Bit => BIT,
-        Wanted::Tuple => TUPLE,
-        Wanted::BehindName => BEHIND_NAME,
-        Wanted::BehindThird => BEHIND_THIRD,
-        Wanted::ViewSource => VIEW_SOURCE,
-        Wanted::Test => TEST,
-        Wanted::Act => ACT,
-        Wanted::ScriptAct => SCRIPT_ACT,
-        Wanted::Command => COMMAND,
-        Wanted::Shown => SHOWN,
+        Expected::Symbol(symbol) => symbol_words(symbol),
+        Expected::Keyword(keyword) => keyword_words(keyword),
+        Expected::Number => NUMBER,
+        Expected::LineNumber => LINE_NUMBER,
+        Expected::Count => COUNT,
+        Expected::Positive => POSITIVE,
+        Expected::Turn => TURN,
+        Expected::Name | Expected::Names => NAME,
+        Expected::Index(false) => INDEX,
+        Expected::Index(true) => INDEX_OR_PLACE,
+        Expected::Range => RANGE,
+        Expected::Relation => RELATION,
+        Expected::KindName => KIND_NAME,
+        Expected::Instruction => INSTRUCTION,
+        Expected::Term(_) | Expected::Expr(_) | Expected::SecondPart => VALUE,
+        Expected::PlaceOption(_) => OPEN_BRACKET,
+        Expected::SumOption(_) => PLUS,
+        Expected::Condition(_) => COMPARISON,
+        Expected::FirstJoin(_) => AND_OR,
+        Expected::SecondJoin(Join::And, _) | Expected::ThirdJoin(Join::And, _) => AND_ALONE,
+        Expected::SecondJoin(Join::Or, _) | Expected::ThirdJoin(Join::Or, _) => OR_ALONE,
+        Expected::WhereOption => WHERE,
+        Expected::Target | Expected::Register => REGISTER,
+        Expected::Bit => BIT,
+        Expected::Tuple => TUPLE,
+        Expected::BehindName => BEHIND_NAME,
+        Expected::BehindThird => BEHIND_THIRD,
+        Expected::ViewSource => VIEW_SOURCE,
+        Expected::Test => TEST,
+        Expected::Act => ACT,
+        Expected::ScriptAct => SCRIPT_ACT,
+        Expected::Command => COMMAND,
+        Expected::Shown => SHOWN,
     }
 }
 
-/// Adds all that may stand next.
-fn push_expected(out: &mut Draft, wanted: &[Wanted])
+/// Appends all that may stand next.
+fn push_expected(out: &mut Draft, wanted: &[Expected])
     ensures { Adds out.old out.new (expected_words wanted.now) }
 {
     let mut rest = wanted;
@@ -109,7 +110,7 @@ fn push_expected(out: &mut Draft, wanted: &[Wanted])
     out.push(END_OF_LINE);
 }
 
-/// Adds what stands at a place.
+/// Appends what stands at a place.
 fn push_found(out: &mut Draft, piece: &[u8])
     ensures { Adds out.old out.new (found_words piece.now) }
 {
@@ -135,9 +136,9 @@ fn push_found(out: &mut Draft, piece: &[u8])
     }
 }
 
-/// Adds what was expected at a place, and what stands there.
+/// Appends what was expected at a place, and what stands there.
 #[tactic(auto, unfolding(crate::specs::Texts::expected_line))]
-pub fn push_expected_line(out: &mut Draft, wanted: &[Wanted], piece: &[u8])
+pub fn push_expected_line(out: &mut Draft, wanted: &[Expected], piece: &[u8])
     ensures { Adds out.old out.new (expected_line wanted.now piece.now) }
 {
     out.push(EXPECTED);

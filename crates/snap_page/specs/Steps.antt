@@ -14,7 +14,7 @@ use Rattle.snap_prompt.specs.Reach.{steps_to}
 use Rattle.snap_prompt.specs.declared.goal.Goal.{Goal}
 use Rattle.snap_prompt.specs.declared.goal.NoSteps.{NoSteps}
 use Rattle.snap_prompt.specs.declared.goal.NoSteps.TheVariants as none
-use Rattle.snap_refusals.specs.RefusalText.{refusal_line}
+use Rattle.snap_faults.specs.RefusalText.{refusal_line}
 use Rattle.snap_page.specs.Page.{numbered_line}
 
 -- the session over a listing's run under a schedule's text, at a position

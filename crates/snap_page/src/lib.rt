@@ -1,6 +1,6 @@
-//! What a page in a browser asks of the program, in one thread: a task on an input, whether a run is
-//! linearizable, why an input is refused, the picture of a run and what it draws, the steps to a line
-//! or to the end of an operation, and a run that fails.
+//! What a page in a browser wants of the program, in one thread: a task on an input, whether a run
+//! is linearizable, why an input is refused, the picture of a run and what it draws, the steps to a
+//! line or to the end of an operation, and a run that fails.
 #![tactic(auto)]
 
 ghost use Rattle.std.specs.Prelude.{◌≡◌, ◌≢◌, ◌<◌, ◌⊎◌, ◌↔◌, ℕ, List, None, Result, Some, length, take};
@@ -15,31 +15,31 @@ ghost use Rattle.snap_picture.specs.declared.refusal.PictureRefusal.{PictureRefu
 ghost use Rattle.snap_semantics.specs.declared.refusal.Refusal.{Refusal};
 ghost use Rattle.snap_hunt_output.specs.declared.hunted.Hunted.{Hunted};
 ghost use Rattle.snap_faults.specs.declared.fault.ProgramFault.{ProgramFault};
-ghost use Rattle.snap_page.specs.declared.asked.Asked.{Asked};
+ghost use Rattle.snap_page.specs.declared.page_request.PageRequest.{PageRequest};
 
 mod answering;
-mod asked;
 mod drawing;
 mod explaining;
 mod handed;
 mod hunting;
+mod page_request;
 mod stepping;
 
 use answering::answer_to;
-use asked::asked_of;
 use drawing::{drawn, handed_picture, told};
 use explaining::explained;
 use handed::{Handed, handed_answer, handed_pushed};
 use hunting::{handed_hunt, hunt_asked};
+use page_request::asked_of;
 use snap_hunt_output::hunt_alone;
 use snap_picture::{LEGEND, Look, STYLE};
 use snap_prompt::Goal;
 use std::alloc::Global;
 use stepping::{handed_steps, steps_asked};
 
-/// Hands a page what is written for an input, or the line that says why nothing is. The task is
-/// that of a subcommand, or `judge`; it runs the listing that is shipped for the kind of a name, or
-/// where the name is empty the one in the input.
+/// Hands a page the output for an input, or the line that says why there is none. The task is that
+/// of a subcommand, or `judge`; it runs the listing that is shipped for the kind of the name
+/// `shipped`, or, if that is empty, the one in the input.
 #[unsafe(no_mangle)]
 #[tactic(auto, using(crate::proofs::Short::needs_none))]
 pub extern "C" fn page_output(
@@ -52,13 +52,16 @@ pub extern "C" fn page_output(
     ensures code { result.code < 5 }
     ensures no_task { result.code ≡ 4 ↔ asked_of subcommand.now shipped.now ≡ None }
     ensures small { result.code ≡ 3 ↔ length room.old < result.len }
-    ensures answer { (a : Asked) → asked_of subcommand.now shipped.now ≡ Some a → result.code < 2 →
+    ensures answer { (a : PageRequest) → asked_of subcommand.now shipped.now ≡ Some a → result.code
+        < 2 →
         (answer : Result (List ℕ) Refusal) × IsAnswerFor a input.now answer
         × (result.code ≡ answer_code answer) × (take result.len room.new ≡ answer_text answer) }
-    ensures needed { (a : Asked) → asked_of subcommand.now shipped.now ≡ Some a → result.code ≡ 3 →
+    ensures needed { (a : PageRequest) → asked_of subcommand.now shipped.now ≡ Some a → result.code
+        ≡ 3 →
         (answer : Result (List ℕ) Refusal) × IsAnswerFor a input.now answer
         × (result.len ≡ length (answer_text answer)) }
-    ensures at_once { (a : Asked) (r : Refusal) → asked_of subcommand.now shipped.now ≡ Some a →
+    ensures at_once { (a : PageRequest) (r : Refusal) → asked_of subcommand.now shipped.now ≡ Some
+        a →
         found_at_once a input.now ≡ Some r →
         result.code ≡ 1 ⊎ result.code ≡ 3 }
 {
@@ -69,8 +72,8 @@ pub extern "C" fn page_output(
     handed_answer(alloc, answer, room)
 }
 
-/// Hands a page what is said of a refused input behind the line that refuses it, for what
-/// `page_output` is asked by the same names; no text where the input is not refused.
+/// Hands a page the explanation of a refused input, which stands behind the line of the refusal that
+/// `page_output` hands for the same names; no text if the input is not refused.
 #[unsafe(no_mangle)]
 pub extern "C" fn page_explanation(
     alloc: Global,
@@ -82,10 +85,10 @@ pub extern "C" fn page_explanation(
     ensures code { result.code < 5 × (result.code ≢ 1) }
     ensures no_task { result.code ≡ 4 ↔ asked_of subcommand.now shipped.now ≡ None }
     ensures small { result.code ≡ 3 ↔ length room.old < result.len }
-    ensures answer { (a : Asked) → asked_of subcommand.now shipped.now ≡ Some a → result.code ≡ 0 →
+    ensures answer { (a : PageRequest) → asked_of subcommand.now shipped.now ≡ Some a → result.code ≡ 0 →
         (answer : Result (List ℕ) Refusal) × IsAnswerFor a input.now answer
         × (take result.len room.new ≡ explained a input.now answer) }
-    ensures needed { (a : Asked) → asked_of subcommand.now shipped.now ≡ Some a → result.code ≡ 3 →
+    ensures needed { (a : PageRequest) → asked_of subcommand.now shipped.now ≡ Some a → result.code ≡ 3 →
         (answer : Result (List ℕ) Refusal) × IsAnswerFor a input.now answer
         × (result.len ≡ length (explained a input.now answer)) }
 {
@@ -165,7 +168,7 @@ pub extern "C" fn page_shapes(
 }
 
 /// Hands a page the picture of a listing's run under a schedule, from one item to another, as the
-/// program that draws gives it, or the line that says why there is none.
+/// program that draws makes it, or the line that says why there is none.
 #[unsafe(no_mangle)]
 pub extern "C" fn page_picture(
     alloc: Global,
@@ -194,8 +197,8 @@ pub extern "C" fn page_picture(
     handed_picture(alloc, answer, room)
 }
 
-/// Hands a page the input of the first run of a seed in which a listing fails, made small, or no text
-/// where none of so many runs fails; or the line that says why there is no hunt.
+/// Hands a page the input of the first run of a seed in which a listing fails, shrunk, or no text
+/// if none of the runs fails; or the line that says why there is no hunt.
 #[unsafe(no_mangle)]
 #[tactic(auto, using(crate::proofs::Answered::hunted))]
 pub extern "C" fn page_hunt(

@@ -17,7 +17,7 @@ use snap_semantics::{Fault, Refusal};
 use snap_words::{Bits, Kind, KindTag, Multi, Seq};
 use std::alloc::Global;
 
-/// The session over a program's run under a schedule's text, at a position.
+/// Returns the session over a program's run under a schedule's text, at a position.
 fn session_at<K: Kind>(
     alloc: Global,
     program: &Program,
@@ -36,7 +36,7 @@ fn session_at<K: Kind>(
     }
 }
 
-/// How many steps lead a process of a program of a kind to a goal, or why none do.
+/// Returns how many steps lead a process of a program of a kind to a goal, or why none do.
 fn steps_of_kind<K: Kind>(
     alloc: Global,
     program: &Program,
@@ -53,7 +53,7 @@ fn steps_of_kind<K: Kind>(
     Ok(steps_to(&session, process, goal)?)
 }
 
-/// How many steps lead a process of a program to a goal, or why none do.
+/// Returns how many steps lead a process of a program to a goal, or why none do.
 fn steps_of(
     alloc: Global,
     program: &Program,
@@ -72,7 +72,13 @@ fn steps_of(
     }
 }
 
-/// How many steps lead a process of a listing's run from a position to a goal, or why none do.
+/// Returns how many steps lead a process of a listing's run from a position to a goal, or why none
+/// do.
+///
+/// # Errors
+///
+/// `Refused` if the listing or the schedule is none, or there is no such position; `Memory` where
+/// memory runs out.
 pub fn steps_asked(
     alloc: Global,
     listing: &[u8],
@@ -88,7 +94,7 @@ pub fn steps_asked(
     steps_of(alloc, &program, schedule, at, process, goal)
 }
 
-/// Why no steps lead there.
+/// Returns why no steps lead there.
 fn no_steps_words(why: NoSteps) -> &'static [u8]
     ensures words { result.now ≡ no_steps_words why }
     ensures short { length result.now < 100 }
@@ -103,7 +109,7 @@ fn no_steps_words(why: NoSteps) -> &'static [u8]
     }
 }
 
-/// Hands a number of steps, or why there is none.
+/// Hands over a number of steps, or why there is none.
 pub fn handed_steps(
     alloc: Global,
     answer: Result<Result<u64, NoSteps>, Fault<Refusal>>,

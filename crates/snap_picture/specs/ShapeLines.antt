@@ -8,19 +8,19 @@ use Rattle.snap_semantics.specs.declared.process.Op.{Op}
 use Rattle.snap_semantics.specs.declared.process.Op.TheVariants as op
 use Rattle.snap_runs.specs.Run.{run_over}
 use Rattle.snap_input.specs.Schedules.{schedule_for}
-use Rattle.snap_svg.specs.ShapeText.{bar_class, bar_span, is_drawn}
-use Rattle.snap_svg.specs.Window.{Part}
-use Rattle.snap_svg.specs.declared.shape.Bar.{Bar}
-use Rattle.snap_svg.specs.declared.shape.End.{End}
-use Rattle.snap_svg.specs.declared.shape.End.TheVariants as ended
-use Rattle.snap_svg.specs.declared.shape.Loan.{Loan}
-use Rattle.snap_svg.specs.declared.shape.Period.{Period}
-use Rattle.snap_svg.specs.declared.shape.Point.{Point}
-use Rattle.snap_svg.specs.declared.shape.Shape.{Shape}
-use Rattle.snap_svg.specs.declared.shape.Shape.TheVariants as shape
-use Rattle.snap_svg.specs.declared.shape.Span.{Span}
-use Rattle.snap_svg.specs.declared.shape.Spot.{Spot}
-use Rattle.snap_svg.specs.declared.shape.Write.{Write}
+use Rattle.snap_picture.specs.ShapeText.{bar_class, bar_span, is_drawn}
+use Rattle.snap_picture.specs.Window.{Part}
+use Rattle.snap_picture.specs.declared.shape.Bar.{Bar}
+use Rattle.snap_picture.specs.declared.shape.End.{End}
+use Rattle.snap_picture.specs.declared.shape.End.TheVariants as ended
+use Rattle.snap_picture.specs.declared.shape.Loan.{Loan}
+use Rattle.snap_picture.specs.declared.shape.Period.{Period}
+use Rattle.snap_picture.specs.declared.shape.Point.{Point}
+use Rattle.snap_picture.specs.declared.shape.Shape.{Shape}
+use Rattle.snap_picture.specs.declared.shape.Shape.TheVariants as shape
+use Rattle.snap_picture.specs.declared.shape.Span.{Span}
+use Rattle.snap_picture.specs.declared.shape.Spot.{Spot}
+use Rattle.snap_picture.specs.declared.shape.Write.{Write}
 use Rattle.snap_picture.specs.Picture.{part_of}
 use Rattle.snap_picture.specs.Shapes.{shapes}
 use Rattle.snap_picture.specs.declared.options.Options.{Options}

@@ -1,7 +1,7 @@
 //! `push_shape_lines`: the shapes of a run as lines of text, in items and processes, as far as they
 //! are in the picture's `Window`.
 ghost use Rattle.std.specs.Prelude.{◌≡◌, ◌++◌};
-ghost use Rattle.snap_draft.specs.Drafted.{Adds};
+ghost use Rattle.snap_text.specs.Drafted.{Adds};
 ghost use Rattle.snap_picture.specs.ShapeLines.{
   bar_line,
   end_words,
@@ -17,13 +17,15 @@ ghost use Rattle.snap_picture.specs.ShapeLines.{
   values_line,
   write_line,
 };
-ghost use Rattle.snap_svg.specs.ShapeText.{bar_class};
+ghost use Rattle.snap_picture.specs.ShapeText.{bar_class};
 
-use snap_draft::Draft;
+use crate::print::is_drawn;
+use crate::shape::{Bar, End, Loan, Period, Point, Shape, Span, Spot, Write};
+use crate::window::Window;
 use snap_semantics::Op;
-use snap_svg::{Bar, End, Loan, Period, Point, Shape, Span, Spot, Window, Write, is_drawn};
+use snap_text::Draft;
 
-/// `NAME I FROM TO`.
+/// Adds `NAME I FROM TO`.
 #[tactic(auto, unfolding(crate::specs::ShapeLines::span_line))]
 fn push_span(out: &mut Draft, name: &[u8], span: Span)
     ensures { Adds out.old out.new (span_line name.now span) }
@@ -32,7 +34,7 @@ fn push_span(out: &mut Draft, name: &[u8], span: Span)
     out.push_numbers(&[u64::from(span.process), span.from, span.to]);
 }
 
-/// `NAME I ITEM LINE`.
+/// Adds `NAME I ITEM LINE`.
 #[tactic(auto, unfolding(crate::specs::ShapeLines::spot_line))]
 fn push_spot(out: &mut Draft, name: &[u8], spot: Spot)
     ensures { Adds out.old out.new (spot_line name.now spot) }
@@ -41,7 +43,7 @@ fn push_spot(out: &mut Draft, name: &[u8], spot: Spot)
     out.push_numbers(&[u64::from(spot.process), spot.item, spot.line]);
 }
 
-/// `values FROM TO V1 .. VW`.
+/// Adds `values FROM TO V1 .. VW`.
 #[tactic(auto, unfolding(crate::specs::ShapeLines::values_line))]
 fn push_values(out: &mut Draft, period: &Period)
     ensures { Adds out.old out.new (values_line period.now) }
@@ -51,7 +53,7 @@ fn push_values(out: &mut Draft, period: &Period)
     out.push_numbers(period.values.as_slice());
 }
 
-/// The word and the value of an update.
+/// Adds the word and the value of an update.
 fn push_op_numbers(out: &mut Draft, op: Op)
     ensures { Adds out.old out.new (op_numbers op) }
 {
@@ -61,7 +63,7 @@ fn push_op_numbers(out: &mut Draft, op: Op)
     }
 }
 
-/// What came of an operation.
+/// Adds what came of an operation.
 #[tactic(auto, unfolding(crate::specs::ShapeLines::end_words))]
 fn push_end(out: &mut Draft, end: &End)
     ensures { Adds out.old out.new (end_words end.now) }
@@ -78,7 +80,7 @@ fn push_end(out: &mut Draft, end: &End)
     }
 }
 
-/// The name of an operation.
+/// Returns the name of an operation.
 fn bar_class(op: Op) -> &'static [u8]
     ensures { result.now ≡ bar_class op }
 {
@@ -88,7 +90,7 @@ fn bar_class(op: Op) -> &'static [u8]
     }
 }
 
-/// `scan I FROM TO END` or `update I FROM TO WORD VALUE END`.
+/// Adds `scan I FROM TO END` or `update I FROM TO WORD VALUE END`.
 #[tactic(auto, unfolding(crate::specs::ShapeLines::bar_line))]
 fn push_bar(out: &mut Draft, bar: &Bar)
     ensures { Adds out.old out.new (bar_line bar.now) }
@@ -103,7 +105,7 @@ fn push_bar(out: &mut Draft, bar: &Bar)
     push_end(out, &bar.end);
 }
 
-/// `write I ITEM LINE WORD V1 .. VW`.
+/// Adds `write I ITEM LINE WORD V1 .. VW`.
 #[tactic(auto, unfolding(crate::specs::ShapeLines::write_line))]
 fn push_write(out: &mut Draft, write: &Write)
     ensures { Adds out.old out.new (write_line write.now) }
@@ -113,7 +115,7 @@ fn push_write(out: &mut Draft, write: &Write)
     out.push_numbers(write.values.as_slice());
 }
 
-/// `loan LENDER ENDED I ITEM LINE`.
+/// Adds `loan LENDER ENDED I ITEM LINE`.
 #[tactic(auto, unfolding(crate::specs::ShapeLines::loan_line))]
 fn push_loan(out: &mut Draft, loan: Loan)
     ensures { Adds out.old out.new (loan_line loan) }
@@ -124,7 +126,7 @@ fn push_loan(out: &mut Draft, loan: Loan)
     out.push_numbers(&[u64::from(taken.process), taken.item, taken.line]);
 }
 
-/// `point I FROM TO ITEM COLLECTS V1 .. VW`.
+/// Adds `point I FROM TO ITEM COLLECTS V1 .. VW`.
 #[tactic(auto, unfolding(crate::specs::ShapeLines::point_line))]
 fn push_point(out: &mut Draft, point: &Point)
     ensures { Adds out.old out.new (point_line point.now) }
@@ -134,14 +136,14 @@ fn push_point(out: &mut Draft, point: &Point)
     out.push_numbers(point.values.as_slice());
 }
 
-/// Whether a test passed.
+/// Returns the name of a test that passed, or of one that did not.
 fn test_name(passed: bool) -> &'static [u8]
     ensures { result.now ≡ test_name passed }
 {
     if passed { b"pass" } else { b"fail" }
 }
 
-/// What a shape is.
+/// Adds what a shape is.
 fn push_words(out: &mut Draft, shape: &Shape)
     ensures { Adds out.old out.new (shape_words shape.now) }
 {

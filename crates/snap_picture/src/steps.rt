@@ -3,8 +3,8 @@
 ghost use Rattle.std.specs.Prelude.{◌≡◌, ◌≤◌, ◌<◌, ◌+◌, ◌++◌, ◌∷◌, []};
 ghost use Rattle.std.specs.Prelude.{IfOk, IfSome, OnOk, drop, length, option_map};
 ghost use Rattle.snap_acts.specs.Searches.{last_before};
-ghost use Rattle.snap_acts.specs.declared.wanted.Wanted.TheVariants as wanted;
-ghost use Rattle.snap_svg.specs.declared.shape.Shape.TheVariants as shape;
+ghost use Rattle.snap_acts.specs.declared.searches.StepPattern.TheVariants as wanted;
+ghost use Rattle.snap_picture.specs.declared.shape.Shape.TheVariants as shape;
 ghost use Rattle.snap_picture.specs.Shapes.{
   bar_of,
   embedded_of,
@@ -21,13 +21,15 @@ ghost use Rattle.snap_picture.specs.Shapes.{
   written_at,
 };
 
-use snap_acts::{Act, ScanPlaces, Step, Wanted, first_from, last_before, lender_at, source_at};
+use crate::shape::{Bar, End, Loan, Period, Read, Shape, Span, Spot, Write, Written};
+use snap_acts::{
+    Act, ScanPlaces, StepPattern, TraceStep, first_from, last_before, lender_at, source_at,
+};
 use snap_semantics::Op;
-use snap_svg::{Bar, End, Loan, Period, Read, Shape, Span, Spot, Write, Written};
 use snap_words::View;
 use std::alloc::{AllocError, Global};
 
-fn spot_of(step: &Step) -> Spot
+fn spot_of(step: &TraceStep) -> Spot
     ensures { result ≡ spot_of step.now }
 {
     Spot {
@@ -37,8 +39,8 @@ fn spot_of(step: &Step) -> Spot
     }
 }
 
-/// The item of a step, and the last item where there is none.
-fn item_or(last: u64, step: Option<&Step>) -> u64
+/// Returns the item of a step, and the last item if there is none.
+fn item_or(last: u64, step: Option<&TraceStep>) -> u64
     ensures { result ≡ item_or last (option_map (λ s. s.now) step.entry) }
 {
     match step {
@@ -47,7 +49,7 @@ fn item_or(last: u64, step: Option<&Step>) -> u64
     }
 }
 
-/// How an operation ended.
+/// Returns how an operation ended.
 fn end_by(alloc: Global, act: &Act) -> Result<End, AllocError>
     ensures { IfOk result (λ e. e ≡ end_by act.now) }
 {
@@ -60,7 +62,7 @@ fn end_by(alloc: Global, act: &Act) -> Result<End, AllocError>
     }
 }
 
-fn end_of(alloc: Global, step: Option<&Step>) -> Result<End, AllocError>
+fn end_of(alloc: Global, step: Option<&TraceStep>) -> Result<End, AllocError>
     ensures { IfOk result (λ e. e ≡ end_of (option_map (λ s. s.now) step.entry)) }
 {
     match step {
@@ -69,17 +71,17 @@ fn end_of(alloc: Global, step: Option<&Step>) -> Result<End, AllocError>
     }
 }
 
-/// The operation that the step before a place called.
+/// Returns the operation that the step before a place called.
 fn bar_of(
     alloc: Global,
-    steps: &[Step],
+    steps: &[TraceStep],
     from: usize,
-    step: &Step,
+    step: &TraceStep,
     op: Op,
 ) -> Result<Bar, AllocError>
     ensures { IfOk result (λ b. b ≡ bar_of (length steps.now) step.now op (drop from steps.now)) }
 {
-    let found = first_from(steps, from, Wanted::End(step.process));
+    let found = first_from(steps, from, StepPattern::End(step.process));
     let end = end_of(alloc, found)?;
     Ok(Bar {
         process: step.process,
@@ -90,11 +92,11 @@ fn bar_of(
     })
 }
 
-/// The scan of an update that the step before a place began.
-fn embedded_of(steps: &[Step], from: usize, step: &Step) -> Span
+/// Returns the scan of an update that the step before a place began.
+fn embedded_of(steps: &[TraceStep], from: usize, step: &TraceStep) -> Span
     ensures { result ≡ embedded_of (length steps.now) step.now (drop from steps.now) }
 {
-    let found = first_from(steps, from, Wanted::Closing(step.process));
+    let found = first_from(steps, from, StepPattern::Closing(step.process));
     Span {
         process: step.process,
         from: step.item,
@@ -102,11 +104,11 @@ fn embedded_of(steps: &[Step], from: usize, step: &Step) -> Span
     }
 }
 
-/// The values from an item on, up to the next write from a place on.
-pub(crate) fn period_of(steps: &[Step], from: usize, item: u64, values: View) -> Shape
+/// Returns the values from an item on, up to the next write from a place on.
+pub(crate) fn period_of(steps: &[TraceStep], from: usize, item: u64, values: View) -> Shape
     ensures { result ≡ period_of (length steps.now) item values (drop from steps.now) }
 {
-    let found = first_from(steps, from, Wanted::Write);
+    let found = first_from(steps, from, StepPattern::Write);
     Shape::Values(Period {
         from: item,
         to: item_or(steps.len() as u64, found),
@@ -114,8 +116,8 @@ pub(crate) fn period_of(steps: &[Step], from: usize, item: u64, values: View) ->
     })
 }
 
-/// Who wrote at a place, if it is one.
-fn written_at(steps: &[Step], place: Option<usize>) -> Option<Written>
+/// Returns who wrote at a place, if there is one.
+fn written_at(steps: &[TraceStep], place: Option<usize>) -> Option<Written>
     requires { IfSome place (λ k. k < length steps.now) }
     ensures { result ≡ written_at steps.now place }
 {
@@ -126,11 +128,11 @@ fn written_at(steps: &[Step], place: Option<usize>) -> Option<Written>
     })
 }
 
-/// Adds an arrow from the lender's scan to the step that takes its view.
+/// Appends an arrow from the lender's scan to the step that takes its view.
 fn push_loan(
     shapes: &mut Vec<Shape>,
-    steps: &[Step],
-    step: &Step,
+    steps: &[TraceStep],
+    step: &TraceStep,
     lender: Option<ScanPlaces>,
 ) -> Result<(), AllocError>
     requires { IfSome lender (λ s. s.to < length steps.now) }
@@ -148,12 +150,12 @@ fn push_loan(
     Ok(())
 }
 
-/// Adds an arrow to the step at a place, where it takes the view of a scan.
+/// Appends an arrow to the step at a place, if it takes the view of a scan.
 fn push_loan_of(
     shapes: &mut Vec<Shape>,
-    steps: &[Step],
+    steps: &[TraceStep],
     k: usize,
-    step: &Step,
+    step: &TraceStep,
 ) -> Result<(), AllocError>
     requires { k < length steps.now }
     ensures { OnOk result (shapes.new.items ≡ shapes.old.items ++ loan_of steps.now k step.now) }
@@ -162,13 +164,13 @@ fn push_loan_of(
     push_loan(shapes, steps, step, lender)
 }
 
-/// Adds the write of a word, behind the values that it leaves.
+/// Appends the write of a word, behind the values that it leaves.
 fn push_write(
     alloc: Global,
     shapes: &mut Vec<Shape>,
-    steps: &[Step],
+    steps: &[TraceStep],
     from: usize,
-    step: &Step,
+    step: &TraceStep,
     word: u64,
     values: &View,
 ) -> Result<(), AllocError>
@@ -185,8 +187,8 @@ fn push_write(
     Ok(())
 }
 
-/// The read of a word by the step at a place.
-fn read_of(steps: &[Step], k: usize, step: &Step, word: u64) -> Shape
+/// Returns the read of a word by the step at a place.
+fn read_of(steps: &[TraceStep], k: usize, step: &TraceStep, word: u64) -> Shape
     requires { k ≤ length steps.now }
     ensures { result ≡ shape.Read (record {
       spot = spot_of step.now;
@@ -194,7 +196,7 @@ fn read_of(steps: &[Step], k: usize, step: &Step, word: u64) -> Shape
       written = written_at steps.now (last_before (wanted.WriteOf word) steps.now k);
     }) }
 {
-    let place = last_before(steps, k, Wanted::WriteOf(word));
+    let place = last_before(steps, k, StepPattern::WriteOf(word));
     Shape::Read(Read {
         spot: spot_of(step),
         word,
@@ -202,7 +204,7 @@ fn read_of(steps: &[Step], k: usize, step: &Step, word: u64) -> Shape
     })
 }
 
-/// Adds a shape.
+/// Appends a shape.
 fn push(shapes: &mut Vec<Shape>, shape: Shape) -> Result<(), AllocError>
     ensures { OnOk result (shapes.new.items ≡ shapes.old.items ++ shape ∷ []) }
 {
@@ -210,13 +212,13 @@ fn push(shapes: &mut Vec<Shape>, shape: Shape) -> Result<(), AllocError>
     Ok(())
 }
 
-/// Adds the operation that the step before a place called.
+/// Appends the operation that the step before a place called.
 fn push_bar(
     alloc: Global,
     shapes: &mut Vec<Shape>,
-    steps: &[Step],
+    steps: &[TraceStep],
     from: usize,
-    step: &Step,
+    step: &TraceStep,
     op: Op,
 ) -> Result<(), AllocError>
     ensures { OnOk result (shapes.new.items ≡ shapes.old.items
@@ -226,13 +228,13 @@ fn push_bar(
     push(shapes, Shape::Operation(bar))
 }
 
-/// Adds what is drawn of a step, which is at this place.
+/// Appends what is drawn of a step, which is at this place.
 fn push_shapes_of(
     alloc: Global,
     shapes: &mut Vec<Shape>,
-    steps: &[Step],
+    steps: &[TraceStep],
     k: usize,
-    step: &Step,
+    step: &TraceStep,
 ) -> Result<(), AllocError>
     requires { k < length steps.now }
     ensures { OnOk result (shapes.new.items ≡ shapes.old.items
@@ -254,12 +256,12 @@ fn push_shapes_of(
     }
 }
 
-/// Adds what is drawn of the step at a place.
+/// Appends what is drawn of the step at a place.
 #[tactic(auto, unfolding(crate::specs::Shapes::shapes_at))]
 fn push_shapes_at(
     alloc: Global,
     shapes: &mut Vec<Shape>,
-    steps: &[Step],
+    steps: &[TraceStep],
     k: usize,
 ) -> Result<(), AllocError>
     requires { k < length steps.now }
@@ -268,11 +270,11 @@ fn push_shapes_at(
     push_shapes_of(alloc, shapes, steps, k, &steps[k])
 }
 
-/// Adds what is drawn of all steps.
+/// Appends what is drawn of all steps.
 pub(crate) fn push_steps(
     alloc: Global,
     shapes: &mut Vec<Shape>,
-    steps: &[Step],
+    steps: &[TraceStep],
 ) -> Result<(), AllocError>
     ensures { OnOk result (shapes.new.items ≡ shapes.old.items
         ++ shapes_to steps.now (length steps.now)) }

@@ -11,17 +11,17 @@ use crate::options::Options;
 use crate::refusal::PictureRefusal;
 use crate::shape_lines::push_shape_lines;
 use crate::shapes;
+use crate::window::Window;
 use snap_acts::trace;
 use snap_asm_program::Program;
-use snap_draft::Draft;
 use snap_record::record_over;
 use snap_sched::Schedule;
 use snap_semantics::Fault;
-use snap_svg::Window;
+use snap_text::Draft;
 use snap_words::{Bits, Kind, KindTag, Multi, Seq};
 use std::alloc::{AllocError, Global};
 
-/// What is drawn of a program's run over a schedule, as far as it is in a window.
+/// Returns what is drawn of a program's run over a schedule, as far as it is in a window.
 fn told_text<K: Kind>(
     alloc: Global,
     program: &Program,
@@ -40,7 +40,7 @@ fn told_text<K: Kind>(
     out.finish()
 }
 
-/// What is drawn of a program of a kind under a schedule.
+/// Returns what is drawn of a program of a kind under a schedule.
 #[tactic(auto, unfolding(crate::specs::ShapeLines::told_of))]
 fn told_of_kind<K: Kind>(
     alloc: Global,
@@ -64,7 +64,8 @@ fn told_of_kind<K: Kind>(
 ///
 /// # Errors
 ///
-/// The schedule is none of the program's, or there are no such items, or too many.
+/// `Refused` if the schedule is none of the program's, or if there are no such items, or too many;
+/// `Memory` where memory runs out.
 pub fn told_shapes(
     alloc: Global,
     program: &Program,

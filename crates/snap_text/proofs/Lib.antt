@@ -16,3 +16,4 @@ pub mod Texts
 pub mod Places
 pub mod Putting
 pub mod Printing
+pub mod TokensFound

@@ -5,8 +5,8 @@ ghost use Rattle.snap_words.specs.declared.kind.KindTag.TheVariants as kind;
 
 use crate::inputs::single;
 use crate::outcomes::{record_report, tell_outcome};
+use crate::scene_fault::SceneFault;
 use crate::trials::{tell, tried};
-use crate::trouble::Trouble;
 use snap_asm_program::Program;
 use snap_live::{Desk, Seat, Turn, close, open};
 use snap_semantics::Op;
@@ -25,15 +25,16 @@ struct Bench {
     ghost same: { All (λ s. s.desk ≡ desk) seats.items },
 }
 
-/// A new desk with one process and one word.
-fn new_bench(alloc: Global, program: &Program) -> Result<Bench, Trouble>
+/// Returns a new desk with one process and one word.
+fn new_bench(alloc: Global, program: &Program) -> Result<Bench, SceneFault>
     requires { program.now.kind ≡ kind.Seq }
 {
     let (desk, seats) = open::<Seq>(alloc, program, Shape::new(1, 1)?)?;
     Ok(Bench { desk, seats })
 }
 
-/// What the seat is to do at a turn of this number: a call where one is due, and a step otherwise.
+/// Returns what the seat is to do at a turn of this number: a call where one is due, and a step
+/// otherwise.
 fn due(number: u64) -> Option<Op> {
     match number {
         1 => Some(Op::Update { word: 1, value: 7 }),
@@ -42,50 +43,50 @@ fn due(number: u64) -> Option<Op> {
     }
 }
 
-/// A turn of the seat. Whatever comes of it, the seat has then asked for one more.
-fn turn<R: Wait>(rt: &R, bench: &mut Bench, number: u64) -> Result<Turn, Trouble> {
+/// Makes a turn of the seat. Whatever comes of it, the seat has asked for one more.
+fn turn<R: Wait>(rt: &R, bench: &mut Bench, number: u64) -> Result<Turn, SceneFault> {
     if bench.seats.is_empty() {
-        return Err(Trouble::Refused);
+        return Err(SceneFault::Refused);
     }
     let seat = &mut bench.seats[0];
     let asked = seat.asked();
     if asked >= 2 * TURNS {
-        return Err(Trouble::Refused);
+        return Err(SceneFault::Refused);
     }
     let answer = match due(number) {
         Some(op) => seat.call(rt, &bench.desk, op),
         None => seat.step(rt, &bench.desk),
     };
     if seat.asked() != asked + 1 {
-        return Err(Trouble::Changed);
+        return Err(SceneFault::Changed);
     }
     Ok(answer?)
 }
 
-/// Takes a turn, and writes its number and what came of it.
+/// Takes a turn, and writes its number and its outcome.
 fn take_turn(
     rt: &HostRuntime,
     threads: &impl Wait,
     bench: &mut Bench,
     number: u64,
-) -> Result<(), Trouble> {
+) -> Result<(), SceneFault> {
     let Turn { number, outcome } = tried!(rt, turn(threads, bench, number));
     print!(rt; "{number} ")?;
     tell_outcome(rt, &outcome)
 }
 
-/// The desk is closed, and the record of all turns is reported.
-fn end(rt: &HostRuntime, bench: Bench) -> Result<(), Trouble> {
+/// Closes the desk, and reports the record of all turns.
+fn end(rt: &HostRuntime, bench: Bench) -> Result<(), SceneFault> {
     let Bench { desk, seats } = bench;
     let Ok(record) = close(desk, seats) else {
-        return Err(Trouble::Changed);
+        return Err(SceneFault::Changed);
     };
     let report = tried!(rt, record_report(rt.alloc(), &record));
     tell(rt, report.as_slice())
 }
 
-/// A desk is opened, its one seat takes its turns, and it is closed.
-pub fn play(rt: &HostRuntime, threads: &impl Wait) -> Result<(), Trouble> {
+/// Opens a desk, lets its one seat take its turns, and closes it.
+pub fn play(rt: &HostRuntime, threads: &impl Wait) -> Result<(), SceneFault> {
     let program = single(rt.alloc())?;
     let mut bench = tried!(rt, new_bench(rt.alloc(), &program));
     for number in 1..=TURNS {

@@ -20,18 +20,19 @@ use Rattle.snap_acts.specs.Searches.{takes_view, writes_word}
 use Rattle.snap_acts.specs.declared.act.Act.{Act}
 use Rattle.snap_acts.specs.declared.act.Act.TheVariants as act
 use Rattle.snap_acts.specs.declared.act.Spot.{Spot}
-use Rattle.snap_acts.specs.declared.act.Step.{Step}
+use Rattle.snap_acts.specs.declared.act.TraceStep.{TraceStep}
 use Rattle.snap_acts.specs.declared.loans.Borrowed.{Borrowed}
 use Rattle.snap_acts.specs.declared.loans.ScanPlaces.{ScanPlaces}
-use Rattle.snap_acts.specs.declared.wanted.Wanted.{Wanted}
-use Rattle.snap_acts.specs.declared.wanted.Wanted.TheVariants as wanted
+use Rattle.snap_acts.specs.declared.searches.StepPattern.{StepPattern}
+use Rattle.snap_acts.specs.declared.searches.StepPattern.TheVariants as wanted
 use Rattle.snap_reading_laws.specs.loans.Held.{HasHandedOn, IsFollowed, handed_view, held, held_if_named}
 use Rattle.snap_reading_laws.proofs.loans.Items.{told}
 use Rattle.snap_reading_laws.proofs.loans.Named.{both_true, numbers_differ}
 use Rattle.snap_reading_laws.proofs.loans.Scans.{found, is_first, scan_is}
 use Rattle.snap_reading_laws.proofs.loans.Went.{Tells, named_view, register, view_in, view_register, word_in}
 
-first_below : (w : Wanted) (ss : List Step) (k count e : ℕ) → first_within w ss k count ≡ Some e → e < k + count
+first_below : (w : StepPattern) (ss : List TraceStep) (k count e : ℕ) → first_within w ss k count ≡ Some e →
+    e < k + count
 first_below w ss k zero e is = absurd cc
 first_below w ss k (suc count) e is = by_first (meets w (step_at ss k)) (first_below w ss (k + 1) count e) is
   where
@@ -41,7 +42,7 @@ first_below w ss k (suc count) e is = by_first (meets w (step_at ss k)) (first_b
     by_first false more is = let less = more is in omega (arith, less)
 
 -- what only such items change stays from the last of them on
-module _ {A : Type 0} (F : ℕ → A) (w : Wanted) (ss : List Step) (most : ℕ)
+module _ {A : Type 0} (F : ℕ → A) (w : StepPattern) (ss : List TraceStep) (most : ℕ)
     (frame : (k : ℕ) → k < most → meets w (step_at ss k) ≡ false → F (suc k) ≡ F k) where
   since : (k g : ℕ) → k ≤ most → last_before w ss k ≡ Some g → F k ≡ F (suc g)
   since zero g within e = absurd cc
@@ -100,7 +101,7 @@ wrote_view j l l' m m' act.Enter e h = absurd cc
 wrote_view j l l' m m' (act.Leave x) e h = absurd cc
 wrote_view j l l' m m' act.Other e h = absurd cc
 
--- and into a register of views
+-- an item that publishes writes into a register of views
 wrote_register : (j : ℕ) (l l' : Locals) (m m' : Memory) (a : Act) → publishes j a ≡ true → Tells l m a m' l' →
     view_register m' j ≡ named_view l (handed_on a)
 wrote_register j l l' m m' (act.Call op) e h = absurd cc
@@ -159,7 +160,7 @@ has_read spot l l' m m' (act.Leave x) e h = absurd cc
 has_read spot l l' m m' act.Other e h = absurd cc
 
 module _ (r : Run) (listing : IsListing r.source) (valid : IsValidRun r) where
-  abbrev ss : List Step
+  abbrev ss : List TraceStep
   ss = trace_of r
 
   abbrev most : ℕ
@@ -221,7 +222,7 @@ module _ (r : Run) (listing : IsListing r.source) (valid : IsValidRun r) where
       (step_at ss w).act at.1 (told r w listing valid less).went.tells
       ∙ sym (held_is (process w) w (handed_on (step_at ss w).act))
 
-  -- and so is a register of views
+  -- a register of views has the view that was written last
   view_written : (j k w : ℕ) → 0 < j → k ≤ most → last_before (wanted.Published j) ss k ≡ Some w →
       view_register (state r k).memory j ≡ handed_view r w
   view_written j k w one within e =
@@ -386,7 +387,7 @@ module _ (r : Run) (listing : IsListing r.source) (valid : IsValidRun r) where
       by_place (Some d) set is =
           (d, around_from i d w (last_before (wanted.Enter i) ss d) s (found (wanted.Sets i x) ss w d set).0 refl is)
 
-  -- it is a whole one
+  -- the lender's scan is a whole one
   lender_scans : (w : ℕ) (s : ScanPlaces) → w < most → lender_at ss (Some w) ≡ Some s →
       (link : ℕ) × FinishedScan r s.process (Some link) (suc s.from) (suc s.to) (handed_view r s.to)
   lender_scans w s within is =
@@ -404,7 +405,7 @@ module _ (r : Run) (listing : IsListing r.source) (valid : IsValidRun r) where
   lender_named i w None s one within is = absurd cc
   lender_named i w (Some x) s one within is = from_lender i w x (set_before ss i x w) s one within refl is
 
-  -- and may end with the view that was written
+  -- the lender's scan may end with the view that was written
   lender_returned : (w : ℕ) (s : ScanPlaces) → w < most → lender_at ss (Some w) ≡ Some s →
       handed_on (step_at ss s.to).act ≡ handed_on (step_at ss w).act → handed_view r w ≡ handed_view r s.to
   lender_returned w s within is same =

@@ -1,8 +1,8 @@
--- `push_why` of snap_why (src/why.rt): the proof of what its contract says.
--- Adds why the scan that an item answered had this answer, or why the process of the item trapped.
+-- `push_why` of snap_why (src/why.rt): the proof of what its contract says. Appends why the scan that item `item`
+-- answered had this answer, or why the process of the item trapped; or that the item did neither, and which item does.
 use Rattle.std.proofs.Common.{◌∙◌, List, ℕ, ap, subst, sym}
 use Rattle.snap_runs.specs.Run.{run_over}
-use Rattle.snap_acts.specs.declared.act.Step.{Step}
+use Rattle.snap_acts.specs.declared.act.TraceStep.{TraceStep}
 use Rattle.snap_why.specs.Answer.{IsPointText}
 use Rattle.snap_why.specs.Why.{trapped_at}
 use Rattle.snap_why.proofs.Told.{answer_is_told, nothing_is_told, on_ok, trap_is_told}
@@ -38,5 +38,5 @@ returns g c =
     c.args.out.now.items c.push_nothing_at.new.out.items
     (c.as_slice-in-None.ensures.value ∙ c.in_ok-steps.ensures)
     (c.as_slice.ensures.value ∙ c.in_ok-verdicts.ensures) c.verdict_with.ensures c.in_default.is
-    (c.trapped_in.ensures.process ∙ ap (λ (xs : List Step). trapped_at xs c.args.item)
+    (c.trapped_in.ensures.process ∙ ap (λ (xs : List TraceStep). trapped_at xs c.args.item)
     (c.as_slice-2.ensures.value ∙ sym c.as_slice-in-None.ensures.value)) c.in-None.is)

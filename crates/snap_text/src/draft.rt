@@ -1,8 +1,17 @@
 //! `Draft`: a text that is put together.
 ghost use Rattle.std.specs.Prelude.{◌≡◌, [], false, true, decimal, MatchResult};
 ghost use Rattle.snap_semantics.specs.Report.{numbers_text};
+ghost use Rattle.snap_semantics.specs.Layout.{line_text};
+ghost use Rattle.snap_semantics.specs.Token.{lines_of};
+ghost use Rattle.snap_text.specs.Changes.{text_between};
 ghost use Rattle.snap_text.specs.Drafted.{Adds};
+ghost use Rattle.snap_text.specs.Owned.{owned_text};
+ghost use Rattle.snap_text.specs.Tokens.{view_tokens};
 
+use crate::changed::push_changes;
+use crate::layout::push_laid_out;
+use crate::lexer::Token;
+use crate::owned::push_owned_lines;
 use crate::push::{push_number, push_numbers, push_text};
 use std::alloc::{AllocError, Global};
 use std::marker::Model;
@@ -35,6 +44,33 @@ impl Draft {
         }
     }
 
+    /// Returns a draft that begins with `text`.
+    pub fn of(text: Vec<u8>) -> Draft
+        ensures text { result.text ≡ text.items }
+        ensures well { result.failed ≡ false }
+    {
+        Draft {
+            bytes: text,
+            failed: false,
+        }
+    }
+
+    /// Makes the draft empty again, in the same memory.
+    pub fn clear(&mut self)
+        ensures text { self.new.text ≡ [] }
+        ensures well { self.new.failed ≡ false }
+    {
+        self.bytes.clear();
+        self.failed = false;
+    }
+
+    /// Notes that memory ran out for a piece that is made elsewhere: the draft has failed.
+    pub fn fail(&mut self, _error: AllocError)
+        ensures { self.new.failed ≡ true }
+    {
+        self.failed = true;
+    }
+
     /// Appends `text`.
     pub fn push(&mut self, text: &[u8])
         ensures { Adds self.old self.new text.now }
@@ -60,6 +96,51 @@ impl Draft {
         if !self.failed {
             self.failed = push_numbers(&mut self.bytes, numbers).is_err();
         }
+    }
+
+    /// Appends the line of `tokens`, laid out.
+    pub fn push_laid_out(&mut self, tokens: &[Token<'_>])
+        ensures { Adds self.old self.new (line_text (view_tokens tokens.now)) }
+    {
+        if !self.failed {
+            self.failed = push_laid_out(&mut self.bytes, tokens).is_err();
+        }
+    }
+
+    /// Appends the lines of `text`, each indented one with its owner: the first two words of the
+    /// line above that is not indented.
+    pub fn push_owned_lines(&mut self, text: &[u8])
+        ensures { Adds self.old self.new (owned_text [] (lines_of text.now)) }
+    {
+        if !self.failed {
+            self.failed = push_owned_lines(&mut self.bytes, text).is_err();
+        }
+    }
+
+    /// Appends what changed from `before` to `after`: each line that went behind `- `, and each
+    /// that came behind `+ `.
+    pub fn push_changes(&mut self, before: &[u8], after: &[u8])
+        ensures { Adds self.old self.new (text_between (lines_of before.now) (lines_of after.now)) }
+    {
+        if !self.failed {
+            self.failed = push_changes(&mut self.bytes, before, after).is_err();
+        }
+    }
+
+    /// Returns the text so far.
+    ///
+    /// # Errors
+    ///
+    /// `AllocError` where memory ran out for one of the pieces.
+    pub fn text(&self) -> Result<&[u8], AllocError>
+        ensures { MatchResult result
+            (λ text. (self.now.failed ≡ false) × (text.now ≡ self.now.text))
+            (λ _. self.now.failed ≡ true) }
+    {
+        if !self.failed {
+            return Ok(self.bytes.as_slice());
+        }
+        Err(AllocError)
     }
 
     /// Returns the whole text.

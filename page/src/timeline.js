@@ -4,11 +4,10 @@ import {$, within} from './elements.js';
 import {goTo, state} from './state.js';
 import {outcome, unexplained} from './lessons.js';
 
-const LABEL = 46, RIGHT = 12, GRAIN = 1.5, VALUES = 18, POINTS = 10, LANES = VALUES + POINTS, AXIS = 16;
+const LABEL = 46, RIGHT = 12, GRAIN = 1.5, VALUES = 18, POINTS = 8, LANES = VALUES + POINTS, AXIS = 16;
 const LEAST_WORDS = 22;
-const UPPER = .58;      // of a bar is in its colour and has its words; below it are the marks of its items
 const dark = matchMedia('(prefers-color-scheme: dark)');
-const DIAMOND = [[0, -6], [6, 0], [0, 6], [-6, 0]], TRAP = [[0, -8], [8, 7], [-8, 7]];
+const DIAMOND = [[0, -5.5], [5.5, 0], [0, 5.5], [-5.5, 0]], TRAP = [[0, -8], [8, 7], [-8, 7]];
 const BOX = [[-4, -4], [4, -4], [4, 4], [-4, 4]];
 export const line = {from: 0, to: 1, width: Infinity, wide: 0, drawn: [], high: 0, n: 0, grain: 0, past: 0, wrong: 0};
 const pen = $('timeline').querySelector('canvas').getContext('2d');
@@ -44,7 +43,7 @@ const large = () => document.body.classList.contains('present') ? 1.25 : 1;
 function highOf(n) {
     if (large() > 1 && n <= 3) return 42;
     if (n > 8) return 12;
-    if (document.body.classList.contains('small')) return n <= 3 ? 24 : 14;
+    if (document.body.classList.contains('small')) return n <= 3 ? 20 : 14;
     return n <= 3 ? 34 : n <= 5 ? 28 : 16;
 }
 
@@ -60,6 +59,9 @@ function pastOf(at) {
         for (const {item} of shapes?.[kind] ?? []) if (item <= at) count++;
     return count;
 }
+
+// So much of a bar is in its colour and has its words; below it are the marks of its items.
+const upper = () => line.high < 24 ? .72 : .58;
 
 const shareOf = item => (item - line.from) / (line.to - line.from);
 export const placeOf = item => LABEL + shareOf(within(item, line.from, line.to)) * (line.wide - LABEL - RIGHT);
@@ -167,13 +169,13 @@ const spanOf = ({from, to, who}) => {
 
 // An operation, its call, and where it is past how it ended.
 function drawBar(bar) {
-    const {left, wide, top, tall} = spanOf(bar), scans = bar.name === 'scan', size = line.high < 28 ? 12 : 14;
+    const {left, wide, top, tall} = spanOf(bar), scans = bar.name === 'scan', size = line.high < 28 ? 11.5 : 14;
     paint(scans ? 'scan-bar' : 'update-bar', left, top, wide, tall);
-    if (line.high >= 16) paint(scans ? 'pale-scan' : 'pale-update', left, top + tall * UPPER, wide, tall * (1 - UPPER));
+    if (line.high >= 16) paint(scans ? 'pale-scan' : 'pale-update', left, top + tall * upper(), wide, tall * (1 - upper()));
     Object.assign(pen, {strokeStyle: colour(scans ? 'scan-edge' : 'update-edge'), lineWidth: 1.5});
     if (wide > 3) pen.strokeRect(left + .75, top + .75, wide - 1.5, tall - 1.5);
     if (wide < LEAST_WORDS || line.high < 16) return;
-    write(barWords(bar), 'on-p', left, top, wide - 2, tall * UPPER - 1, size);
+    write(barWords(bar), 'on-p', left, top, wide - 2, tall * upper() - 1, size);
 }
 
 function barWords({name, word, value, to, rest}) {
@@ -184,7 +186,7 @@ function barWords({name, word, value, to, rest}) {
 
 // The scan of an update.
 function drawInner(span) {
-    const {left, wide, top, tall} = spanOf(span), low = Math.max(tall * (1 - UPPER) - 2, 3);
+    const {left, wide, top, tall} = spanOf(span), low = Math.max(tall * (1 - upper()) - 2, 3);
     pen.globalAlpha = .45;
     paint('scan-bar', left, top + tall - low - 1, wide, low);
     pen.globalAlpha = 1;
@@ -217,7 +219,7 @@ function drawWrite({item, who}) {
 function drawPoint({item, who}) {
     const x = placeOf(item);
     pen.setLineDash([4, 3]);
-    stroke('point', 2.5, [x, VALUES + 4], [x, topOf(who) + 1]);
+    stroke('point', 2.5, [x, VALUES + 3], [x, topOf(who) + 1]);
     pen.setLineDash([]);
     shape(x, VALUES + POINTS / 2 - 1, DIAMOND, 'point');
 }
@@ -229,7 +231,8 @@ function drawNone(span) {
     pen.setLineDash([6, 4]);
     pen.strokeRect(left + 1, top + 1, Math.max(wide - 2, 1), tall - 2);
     pen.setLineDash([]);
-    if (wide > 90 && line.high >= 24) write('point none', 'ink', left, top + tall * UPPER, 90, tall * (1 - UPPER) - 2, 12);
+    if (wide < 90 || line.high < 24 || span.to === line.wrong) return;
+    write('point none', 'ink', left, top + tall * upper(), 90, tall * (1 - upper()) - 2, 12);
 }
 
 // Crosses an operation out, where it is narrow at its end.

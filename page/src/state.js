@@ -9,7 +9,7 @@ import {showIdea} from './lessons.js';
 import {showTexts} from './listing.js';
 import {showState} from './main.js';
 
-const BIG = 300000, QUIET = 120, MOST_ITEMS_DRAWN = 50000, MOST_DRAWN = 20000, MOST_DRAWN_FAST = 2000;
+const BIG = 300000, QUIET = 120, MOST_DRAWN = 20000;
 const MOST_NAMES = 300, MOST_UNDONE = 500, MOST_UNDONE_LETTERS = 3e7, PAUSE = 1500;
 const NO_VERDICTS = {numbers: readVerdicts(''), near: [], none: new Set()};
 export const state = {
@@ -158,15 +158,14 @@ function dropMark(command, refusal) {
     say(`The mark is taken away: ${refusal}`);
 }
 
-// The audit is asked for, when all is quiet, where its run is another one or more scans have ended; what a picture
-// would show, where that is not known of the items around the position; and whether the run is linearizable.
+// The audit is asked for, when all is quiet, where its run is another one or more scans have ended; what is drawn, where
+// that is not known of the items around the position; and whether the run is linearizable.
 function askAudit() {
     clearTimeout(state.timer);
     state.timer = 0;
     const {listing, schedule, operations: {answers}, audited, refusal, shapes, thread} = state;
     const texts = audited?.listing === listing && (audited.schedule === schedule || state.appended);
-    const known = texts && audited.answers === answers, few = (state.report?.total ?? 0) <= MOST_ITEMS_DRAWN;
-    const seen = !few || shapes?.schedule === schedule && isSeen(shapes);
+    const known = texts && audited.answers === answers, seen = shapes?.schedule === schedule && isSeen(shapes);
     if (refusal || known && seen && !isToBeJudged()) return;
     state.timer = setTimeout(async () => {
         state.timer = 0;
@@ -201,9 +200,9 @@ const isSeen = ({from, to}) => from < Math.max(state.at, 1) && to >= Math.min(st
 // What the module draws of the items around the position, all of them where these are few.
 async function askShapes() {
     const {listing, schedule, report, at, run} = state, total = report?.total;
-    if (!total || total > MOST_ITEMS_DRAWN || state.shapes?.schedule === schedule && isSeen(state.shapes)) return;
-    const most = total > MOST_DRAWN ? MOST_DRAWN_FAST : MOST_DRAWN;
-    const from = within(at - (most >> 1), 0, Math.max(total - most, 0)), to = Math.min(from + most, total);
+    if (!total || state.shapes?.schedule === schedule && isSeen(state.shapes)) return;
+    const from = within(at - (MOST_DRAWN >> 1), 0, Math.max(total - MOST_DRAWN, 0));
+    const to = Math.min(from + MOST_DRAWN, total);
     const answer = await aside.ask('shapes', {listing, schedule, from: from + 1, to});
     if (answer?.code !== OUTPUT || run !== state.run) return;
     state.shapes = {...answer.shapes, from, to, schedule};

@@ -44,7 +44,7 @@ function highOf(n) {
     if (large() > 1 && n <= 3) return 42;
     if (n > 8) return 12;
     if (document.body.classList.contains('small')) return n <= 3 ? 20 : 14;
-    return n <= 3 ? 34 : n <= 5 ? 28 : 16;
+    return n <= 2 ? 34 : n <= 3 ? 30 : n <= 5 ? 26 : 16;
 }
 
 // What is drawn of the run; where the texts are refused what was drawn of the run before, which is dim.
@@ -169,7 +169,7 @@ const spanOf = ({from, to, who}) => {
 
 // An operation, its call, and where it is past how it ended.
 function drawBar(bar) {
-    const {left, wide, top, tall} = spanOf(bar), scans = bar.name === 'scan', size = line.high < 28 ? 11.5 : 14;
+    const {left, wide, top, tall} = spanOf(bar), scans = bar.name === 'scan', size = line.high < 28 ? 11.5 : 13.5;
     paint(scans ? 'scan-bar' : 'update-bar', left, top, wide, tall);
     if (line.high >= 16) paint(scans ? 'pale-scan' : 'pale-update', left, top + tall * upper(), wide, tall * (1 - upper()));
     Object.assign(pen, {strokeStyle: colour(scans ? 'scan-edge' : 'update-edge'), lineWidth: 1.5});

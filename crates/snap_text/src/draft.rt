@@ -2,16 +2,11 @@
 ghost use Rattle.std.specs.Prelude.{◌≡◌, [], false, true, decimal, MatchResult};
 ghost use Rattle.snap_semantics.specs.Report.{numbers_text};
 ghost use Rattle.snap_semantics.specs.Layout.{line_text};
-ghost use Rattle.snap_semantics.specs.Token.{lines_of};
-ghost use Rattle.snap_text.specs.Changes.{text_between};
-ghost use Rattle.snap_text.specs.Drafted.{Adds};
-ghost use Rattle.snap_text.specs.Owned.{owned_text};
 ghost use Rattle.snap_text.specs.Tokens.{view_tokens};
+ghost use Rattle.snap_text.specs.Drafted.{Adds};
 
-use crate::changed::push_changes;
 use crate::layout::push_laid_out;
 use crate::lexer::Token;
-use crate::owned::push_owned_lines;
 use crate::push::{push_number, push_numbers, push_text};
 use std::alloc::{AllocError, Global};
 use std::marker::Model;
@@ -44,7 +39,7 @@ impl Draft {
         }
     }
 
-    /// Returns a draft that begins with `text`.
+    /// Returns a draft that goes on behind `text`.
     pub fn of(text: Vec<u8>) -> Draft
         ensures text { result.text ≡ text.items }
         ensures well { result.failed ≡ false }
@@ -55,7 +50,7 @@ impl Draft {
         }
     }
 
-    /// Makes the draft empty again, in the same memory.
+    /// Begins the draft anew, in the same memory.
     pub fn clear(&mut self)
         ensures text { self.new.text ≡ [] }
         ensures well { self.new.failed ≡ false }
@@ -64,7 +59,7 @@ impl Draft {
         self.failed = false;
     }
 
-    /// Notes that memory ran out for a piece that is made elsewhere: the draft has failed.
+    /// Fails, since memory ran out for a piece that was made elsewhere.
     pub fn fail(&mut self, _error: AllocError)
         ensures { self.new.failed ≡ true }
     {
@@ -107,27 +102,7 @@ impl Draft {
         }
     }
 
-    /// Appends the lines of `text`, each indented one with its owner: the first two words of the
-    /// line above that is not indented.
-    pub fn push_owned_lines(&mut self, text: &[u8])
-        ensures { Adds self.old self.new (owned_text [] (lines_of text.now)) }
-    {
-        if !self.failed {
-            self.failed = push_owned_lines(&mut self.bytes, text).is_err();
-        }
-    }
-
-    /// Appends what changed from `before` to `after`: each line that went behind `- `, and each
-    /// that came behind `+ `.
-    pub fn push_changes(&mut self, before: &[u8], after: &[u8])
-        ensures { Adds self.old self.new (text_between (lines_of before.now) (lines_of after.now)) }
-    {
-        if !self.failed {
-            self.failed = push_changes(&mut self.bytes, before, after).is_err();
-        }
-    }
-
-    /// Returns the text so far.
+    /// Returns the text as far as it is put together.
     ///
     /// # Errors
     ///

@@ -8,11 +8,13 @@ use crate::inputs::QUICK;
 use crate::outcomes::tell_outcome;
 use crate::scene_fault::SceneFault;
 use crate::trials::{tell, tried};
+use crate::trouble::Trouble;
 use snap_asm::load_listing;
 use snap_machine::Machine;
 use snap_report::report;
 use snap_sched::{Schedule, read};
 use snap_semantics::{Item, Outcome, who};
+use snap_text::Draft;
 use snap_words::{Bits, KindTag};
 use std::alloc::{AllocError, Global};
 
@@ -53,9 +55,9 @@ fn apply_and_revert(machine: &mut Machine<Bits>, item: Item) -> Result<Outcome, 
 
 /// Returns the report of a machine, with no events.
 fn report_of(alloc: Global, machine: &Machine<Bits>) -> Result<Vec<u8>, AllocError> {
-    let mut text = Vec::new(alloc);
-    report(&mut text, machine, &[], 0, 0)?;
-    Ok(text)
+    let mut text = Draft::new(alloc);
+    report(&mut text, machine, &[], 0, 0);
+    text.finish()
 }
 
 /// Writes the report of a machine.

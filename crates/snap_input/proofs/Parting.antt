@@ -10,7 +10,7 @@ use Rattle.snap_input.specs.ManySchedules.{checked_schedules, over_schedules, pr
 use Rattle.snap_tasks.specs.declared.subject.Subject.{Subject}
 
 -- what a task works on, of parts that were checked
-behind : (checked : Result (Unit {0}) Refusal) → Subject → List (List ℕ) → Result Prepared Refusal
+abbrev behind : (checked : Result (Unit {0}) Refusal) → Subject → List (List ℕ) → Result Prepared Refusal
 behind checked s parts = checked >>= λ there. prepared_parts s parts
 
 later : {A : Type 0} (checked : Result (Unit {0}) Refusal) (listing : Result Source Refusal) (texts : List (List ℕ))

@@ -56,6 +56,7 @@ impl Setup {
         ensures scripts { result.now ≡ self.now.scripts }
         ensures there { AreScripts self.now.scripts }
     {
+        // What `shape` promises: the scripts keep the rules of scripts.
         let _shape = self.scripts.shape();
         &self.scripts
     }

@@ -22,7 +22,7 @@ fn keeps_promises<K: Kind>(schedule: &Schedule)
     ensures promises { KeepsPromises K.TAG (run_over (shipped K.TAG) schedule.now) }
 {
     shipped_runs_keep_promises();
-    // A schedule's rules come with its shape.
+    // What `shape` promises: the schedule keeps the rules of schedules.
     let _shape = schedule.shape();
 }
 

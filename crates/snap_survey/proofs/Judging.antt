@@ -19,7 +19,7 @@ use Rattle.snap_survey.specs.SurveyText.{surveys_text}
 use Rattle.snap_survey.specs.Surveys.{AnswersSurvey, AreSurveysOf, WereJudged, WereJudgedIn, WereJudgedOver, are_clean}
 use Rattle.snap_survey.specs.Surveys.{clean_runs, is_clean, survey_text, surveyed, surveys_over}
 use Rattle.snap_survey.specs.declared.findings.JudgedSurvey.{JudgedSurvey}
-use Rattle.snap_survey.specs.declared.survey_output.SurveyOutput.{SurveyOutput}
+use Rattle.snap_survey.specs.declared.survey_output.Output.{Output}
 use Rattle.snap_tasks.specs.declared.subject.Subject.{Subject}
 
 -- one survey more
@@ -82,7 +82,7 @@ module _ (s : Subject) (parts : List (List ℕ)) (p : Prepared) (is : prepared_s
   unfolding clean_runs
   clean_of judged = on_schedules s parts p (are_clean judged) is
 
-  pub of_input : (result : Result SurveyOutput (Fault Refusal)) →
+  pub of_input : (result : Result Output (Fault Refusal)) →
       AnswersSurvey (WereJudgedOver p.source p.texts) result (λ judged. survey_text judged p.source p.texts)
       (λ judged. are_clean judged p.source p.texts) →
       AnswersSurvey (WereJudgedIn s parts) result (λ judged. surveyed judged s parts)

@@ -1,5 +1,5 @@
-//! `survey_in_threads`: what the task `survey` writes for an input, whose schedules are read and run
-//! side by side.
+//! `survey_in_threads`: what the task `survey` writes for an input, whose schedules are read and
+//! run side by side.
 ghost use Rattle.std.specs.Prelude.{◌≡◌, ◌≤◌, Err, length};
 ghost use Rattle.snap_semantics.specs.declared.fault.Fault.TheVariants.{Refused};
 ghost use Rattle.snap_semantics.specs.declared.refusal.Refusal.{Refusal};
@@ -7,7 +7,7 @@ ghost use Rattle.snap_input.specs.Parts.{max_input, parts_of};
 ghost use Rattle.snap_input.specs.ManySchedules.{checked_schedules};
 ghost use Rattle.snap_survey.specs.Surveys.{AnswersSurvey, WereJudgedIn, clean_runs, surveyed};
 
-use crate::survey_output::{SurveyOutput, survey_runs_in_threads};
+use crate::survey_output::{Output, survey_runs_in_threads};
 use snap_input::prepare_schedules;
 use snap_semantics::{Fault, Refusal};
 use snap_tasks::Subject;
@@ -26,7 +26,7 @@ pub fn survey_in_threads(
     alloc: Global,
     subject: Subject,
     input: &[u8],
-) -> Result<SurveyOutput, Fault<Refusal>>
+) -> Result<Output, Fault<Refusal>>
     requires { length input.now ≤ max_input }
     ensures output { let parts = parts_of input.now in
         AnswersSurvey (WereJudgedIn subject parts) result (λ judged. surveyed judged subject parts)

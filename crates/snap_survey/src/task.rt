@@ -6,7 +6,7 @@ ghost use Rattle.snap_input.specs.Parts.{max_input, parts_of};
 ghost use Rattle.snap_input.specs.ManySchedules.{checked_schedules};
 ghost use Rattle.snap_survey.specs.Surveys.{AnswersSurvey, WereJudgedIn, clean_runs, surveyed};
 
-use crate::survey_output::{SurveyOutput, survey_runs};
+use crate::survey_output::{Output, survey_runs};
 use snap_input::prepare_schedules;
 use snap_semantics::{Fault, Refusal};
 use snap_tasks::Subject;
@@ -19,11 +19,7 @@ use std::alloc::Global;
 ///
 /// `Refused` with the reason why `input` is refused; `Memory` where memory runs out.
 #[tactic(auto, unfolding(crate::specs::Surveys::surveyed, crate::specs::Surveys::clean_runs, snap_input::specs::ManySchedules::prepared_schedules))]
-pub fn survey_input(
-    alloc: Global,
-    subject: Subject,
-    input: &[u8],
-) -> Result<SurveyOutput, Fault<Refusal>>
+pub fn survey_input(alloc: Global, subject: Subject, input: &[u8]) -> Result<Output, Fault<Refusal>>
     requires { length input.now ≤ max_input }
     ensures output { let parts = parts_of input.now in
         AnswersSurvey (WereJudgedIn subject parts) result (λ judged. surveyed judged subject parts)

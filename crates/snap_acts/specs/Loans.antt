@@ -26,7 +26,7 @@ handed_on _ = None
 abbrev pub set_before : List Step → ℕ → Name → ℕ → Option ℕ
 set_before ss i x k = last_before (wanted.Sets i x) ss k
 
--- the same, where there is a local
+-- the item that set a local, if there is one
 abbrev pub set_if_named : List Step → ℕ → Option Name → ℕ → Option ℕ
 set_if_named ss i None k = None
 set_if_named ss i (Some x) k = set_before ss i x k
@@ -58,7 +58,7 @@ source_by ss k i (act.Look j x) = last_before (wanted.Published j) ss k
 source_by ss k i (act.Borrow spot x) = write_read ss (last_before (wanted.ReadInto i spot) ss k)
 source_by ss k i _ = None
 
--- the same of the item at a place
+-- the source of the item at a place
 abbrev pub source_at : List Step → Option ℕ → Option ℕ
 source_at ss None = None
 source_at ss (Some k) = source_by ss k (step_at ss k).process (step_at ss k).act

@@ -14,39 +14,40 @@ pub struct Spot {
 /// process.
 #[derive(Drop)]
 pub enum Act {
-    /// It called an operation.
+    /// The item called an operation.
     Call(Op),
-    /// It answered a scan, by the view in this local.
+    /// The item answered a scan, by the view in this local.
     Answer(View, Option<Name>),
-    /// It ended an update.
+    /// The item ended an update.
     Done,
     Crash,
     Trap,
-    /// It was skipped.
+    /// The item was skipped.
     Skip,
-    /// It wrote a word, after which there are these values; beside the value stood the view in
-    /// this local, where words have views.
+    /// The item wrote a word, after which memory has these values; beside the value stood the view
+    /// in this local, if words have views.
     Write(u64, View, Option<Name>),
-    /// It wrote the view of a process, from this local.
+    /// The item wrote the view of a process, from this local.
     Publish(u64, Name),
-    /// It read a word into this place.
+    /// The item read a word into this place.
     Read(u64, Spot),
-    /// It took the view that a process had written into this local.
+    /// The item took the view that a process had written into this local.
     Look(u64, Name),
-    /// It took the view beside the word at this place into this local.
+    /// The item took the view beside the word at this place into this local.
     Borrow(Spot, Name),
-    /// It made a view of the words that it had read, in this local.
+    /// The item made a view of the words that the process had read, in this local.
     Collect(Name),
-    /// It ended a double collect by a test, which passed or not.
+    /// The item ended a double collect by a test, which passed or not.
     Test(bool),
-    /// It began the scan of an update.
+    /// The item began the scan of an update.
     Enter,
-    /// It ended the scan of an update, which saw the view in this local.
+    /// The item ended the scan of an update, which saw the view in this local.
     Leave(Name),
     Other,
 }
 
-/// An item of a process, the line at which the process stood, 0 where it had none, and what it did.
+/// An item of a process, the line at which the process stood, 0 if it had none, and what the item
+/// did.
 #[derive(Drop)]
 pub struct Step {
     pub process: u32,

@@ -1,6 +1,6 @@
 //! What each item of a run did, as far as a picture shows it: which operation it called or ended,
-//! which register it wrote or read, and whether it tested, or took the view of another process. It
-//! finds the first or the last step of a sort, the view that a step takes, and whose scan saw it.
+//! which register it wrote or read, and whether it tested, or took the view of another process.
+//! Also the first or the last step of a sort, the view that a step takes, and the scan that saw it.
 #![tactic(auto)]
 
 mod act;

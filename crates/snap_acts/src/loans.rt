@@ -1,4 +1,4 @@
-//! `Borrowed`: which view a scan took, where in the trace it was written, and whose scan saw it.
+//! `Borrowed`: which view a scan took, where in the trace it was written, and which scan saw it.
 ghost use Rattle.std.specs.Prelude.{◌≡◌, ◌≤◌, ◌<◌, IfSome, length};
 ghost use Rattle.snap_acts.specs.Loans.{handed_on, lender_at, scan_around, set_before};
 ghost use Rattle.snap_acts.specs.Loans.{set_for, source_at, source_by};
@@ -17,7 +17,7 @@ pub struct ScanPlaces {
     pub to: usize,
 }
 
-/// A view that a scan took: the place at which it did, and, where they are there, the place at
+/// A view that a scan took: the place at which it did, and, if they are in the trace, the place at
 /// which it was written and the scan that saw it.
 #[derive(Clone, Copy)]
 pub struct Borrowed {
@@ -26,7 +26,7 @@ pub struct Borrowed {
     pub lender: Option<ScanPlaces>,
 }
 
-/// The view local whose view an item answers, returns or writes.
+/// Returns the view local whose view an item answers, returns or writes.
 fn handed_on(act: &Act) -> Option<Name>
     ensures { result ≡ handed_on act.now }
 {
@@ -39,7 +39,7 @@ fn handed_on(act: &Act) -> Option<Name>
     }
 }
 
-/// Whether a view is taken that had been written.
+/// Returns whether a view is taken that had been written.
 fn takes_view(act: &Act) -> bool
     ensures { result ≡ takes_view act.now }
 {
@@ -50,7 +50,7 @@ fn takes_view(act: &Act) -> bool
     }
 }
 
-/// The last place before one at which a process set a view local.
+/// Returns the last place before one at which a process set a view local.
 fn set_before(steps: &[Step], process: u32, view: Name, k: usize) -> Option<usize>
     requires { k ≤ length steps.now }
     ensures place { result ≡ set_before steps.now process view k }
@@ -59,7 +59,7 @@ fn set_before(steps: &[Step], process: u32, view: Name, k: usize) -> Option<usiz
     last_before(steps, k, Wanted::Sets(process, view))
 }
 
-/// The place at which the view was set that the item at a place hands on.
+/// Returns the place at which the view was set that the item at a place hands on.
 fn set_for(steps: &[Step], k: usize) -> Option<usize>
     requires { k ≤ length steps.now }
     ensures place { result ≡ set_for steps.now k }
@@ -69,7 +69,7 @@ fn set_for(steps: &[Step], k: usize) -> Option<usize>
     set_before(steps, step.process, handed_on(&step.act)?, k)
 }
 
-/// The word that an item reads.
+/// Returns the word that an item reads.
 fn word_read(act: &Act) -> Option<u64>
     ensures { result ≡ word_read act.now }
 {
@@ -79,7 +79,7 @@ fn word_read(act: &Act) -> Option<u64>
     }
 }
 
-/// The place at which the word was written that the item at a place reads.
+/// Returns the place at which the word was written that the item at a place reads.
 fn write_read(steps: &[Step], place: Option<usize>) -> Option<usize>
     requires { IfSome place (λ k. k < length steps.now) }
     ensures place { result ≡ write_read steps.now place }
@@ -89,7 +89,7 @@ fn write_read(steps: &[Step], place: Option<usize>) -> Option<usize>
     last_before(steps, k, Wanted::WriteOf(word_read(&steps[k].act)?))
 }
 
-/// The place at which the view was written that the item at a place sets.
+/// Returns the place at which the view was written that the item at a place sets.
 fn source_by(steps: &[Step], k: usize, process: u32, act: &Act) -> Option<usize>
     requires { k < length steps.now }
     ensures place { result ≡ source_by steps.now k process act.now }
@@ -105,7 +105,7 @@ fn source_by(steps: &[Step], k: usize, process: u32, act: &Act) -> Option<usize>
     }
 }
 
-/// The place at which the view was written that the item at a place sets.
+/// Returns the place at which the view was written that the item at a place sets.
 pub fn source_at(steps: &[Step], place: Option<usize>) -> Option<usize>
     requires { IfSome place (λ k. k < length steps.now) }
     ensures place { result ≡ source_at steps.now place }
@@ -115,8 +115,8 @@ pub fn source_at(steps: &[Step], place: Option<usize>) -> Option<usize>
     source_by(steps, k, steps[k].process, &steps[k].act)
 }
 
-/// The scan of an update of a process within which a place lies, and which ended before another
-/// place.
+/// Returns the scan of an update of a process within which a place lies, and which ended before
+/// another place.
 fn scan_around(
     steps: &[Step],
     process: u32,
@@ -138,7 +138,7 @@ fn scan_around(
     }
 }
 
-/// The scan that saw the view that was written at a place.
+/// Returns the scan that saw the view that was written at a place.
 pub fn lender_at(steps: &[Step], place: Option<usize>) -> Option<ScanPlaces>
     requires { IfSome place (λ k. k < length steps.now) }
     ensures scan { result ≡ lender_at steps.now place }
@@ -148,7 +148,7 @@ pub fn lender_at(steps: &[Step], place: Option<usize>) -> Option<ScanPlaces>
     scan_around(steps, steps[k].process, k, set_for(steps, k))
 }
 
-/// The place at which a scan took the view that it ends with.
+/// Returns the place at which a scan took the view that it ends with.
 fn taken_in(steps: &[Step], scan: ScanPlaces) -> Option<usize>
     requires { scan.to ≤ length steps.now }
     ensures place { result ≡ taken_in steps.now scan }
@@ -162,7 +162,7 @@ fn taken_in(steps: &[Step], scan: ScanPlaces) -> Option<usize>
     }
 }
 
-/// The view that a scan took and ends with.
+/// Returns the view that a scan took and ends with.
 #[tactic(auto, unfolding(crate::specs::Loans::view_taken))]
 pub fn view_taken(steps: &[Step], scan: ScanPlaces) -> Option<Borrowed>
     requires { scan.to ≤ length steps.now }

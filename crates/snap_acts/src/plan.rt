@@ -30,7 +30,7 @@ pub(crate) enum Plan {
     Other,
 }
 
-/// The word of an update, and 0 in a scan.
+/// Returns the word of an update, and 0 in a scan.
 fn word_of(op: Op) -> u64
     ensures { result ≡ word_of op }
 {
@@ -40,7 +40,7 @@ fn word_of(op: Op) -> u64
     }
 }
 
-/// The scalar of a process that has this name.
+/// Returns the scalar of a process that has this name.
 #[tactic(auto, using(crate::proofs::Scalars::scalar_there, crate::proofs::Scalars::row_there, crate::proofs::Scalars::words_there, crate::proofs::Scalars::view_there, crate::proofs::Scalars::none_there))]
 fn scalar_of<K: Kind>(machine: &Machine<K>, i: u32, name: Name) -> u64
     requires { IsOneOf machine.now.shape.n i }
@@ -55,7 +55,7 @@ fn scalar_of<K: Kind>(machine: &Machine<K>, i: u32, name: Name) -> u64
     }
 }
 
-/// The place that an index stands for, and 0 for the place of a quantifier.
+/// Returns the place that an index stands for, and 0 for the place of a quantifier.
 pub fn index_value<K: Kind>(machine: &Machine<K>, i: u32, op: Op, index: Index) -> u64
     requires { IsOneOf machine.now.shape.n i }
     ensures { result ≡ index_value
@@ -72,7 +72,7 @@ pub fn index_value<K: Kind>(machine: &Machine<K>, i: u32, op: Op, index: Index) 
     }
 }
 
-/// The place of a `words` local that an index stands for.
+/// Returns the place of a `words` local that an index stands for.
 fn spot_of<K: Kind>(machine: &Machine<K>, i: u32, op: Op, words: Name, index: Index) -> Spot
     requires { IsOneOf machine.now.shape.n i }
     ensures { result ≡ spot_of
@@ -84,7 +84,7 @@ fn spot_of<K: Kind>(machine: &Machine<K>, i: u32, op: Op, words: Name, index: In
     }
 }
 
-/// The local with the view that a tuple writes beside its value.
+/// Returns the local with the view that a tuple writes beside its value.
 fn view_beside(tuple: &Tuple) -> Option<Name>
     ensures { result ≡ view_beside tuple.now }
 {
@@ -95,7 +95,7 @@ fn view_beside(tuple: &Tuple) -> Option<Name>
     }
 }
 
-/// What a line is about to do.
+/// Returns what a line is about to do.
 fn plan_of_line<K: Kind>(machine: &Machine<K>, i: u32, op: Op, instr: &Instr) -> Plan
     requires { IsOneOf machine.now.shape.n i }
     ensures { result ≡ plan_of_line
@@ -120,7 +120,7 @@ fn plan_of_line<K: Kind>(machine: &Machine<K>, i: u32, op: Op, instr: &Instr) ->
     }
 }
 
-/// What the line is about to do at which a process stands.
+/// Returns what the line is about to do at which a process stands.
 fn plan_at<K: Kind>(machine: &Machine<K>, i: u32, activity: Activity) -> Plan
     requires { IsOneOf machine.now.shape.n i }
     ensures { result ≡ plan_of_instr
@@ -133,7 +133,7 @@ fn plan_at<K: Kind>(machine: &Machine<K>, i: u32, activity: Activity) -> Plan
     }
 }
 
-/// What an item is about to do.
+/// Returns what an item is about to do.
 pub(crate) fn plan_of<K: Kind>(machine: &Machine<K>, item: Item) -> Plan
     requires { IsOneOf machine.now.shape.n (who item) }
     ensures { result ≡ plan_of machine.now.source machine.now.shape machine.now.state item }

@@ -19,7 +19,7 @@ use snap_walk::{Passed, Walk};
 use snap_words::Kind;
 use std::alloc::{AllocError, Global};
 
-/// Whether a process stands at this line.
+/// Returns whether a process stands at this line.
 fn stands_at(line: Option<u64>, target: u64) -> bool
     ensures { result ≡ stands_at line target }
 {
@@ -29,7 +29,7 @@ fn stands_at(line: Option<u64>, target: u64) -> bool
     }
 }
 
-/// What a step did that was about to do this.
+/// Returns what a step did, by what it was about to do.
 fn stepped<K: Kind>(machine: &Machine<K>, i: u32, plan: Plan) -> Result<Act, AllocError>
     requires { IsOneOf machine.now.shape.n i }
     ensures { IfOk result (λ a. a ≡ stepped plan machine.now.state i) }
@@ -48,7 +48,7 @@ fn stepped<K: Kind>(machine: &Machine<K>, i: u32, plan: Plan) -> Result<Act, All
     }
 }
 
-/// That an item called an operation.
+/// Returns that an item called an operation.
 fn call_act(item: Item) -> Act
     ensures { result ≡ call_act item }
 {
@@ -59,7 +59,7 @@ fn call_act(item: Item) -> Act
     }
 }
 
-/// The view local that a line was about to return.
+/// Returns the view local that a line was about to return.
 fn returned(plan: Plan) -> Option<Name>
     ensures { result ≡ returned plan }
 {
@@ -69,7 +69,7 @@ fn returned(plan: Plan) -> Option<Name>
     }
 }
 
-/// What an item did that was about to do this and came to that.
+/// Returns what an item did, by what it was about to do and its outcome.
 fn act_of<K: Kind>(
     machine: &Machine<K>,
     plan: Plan,
@@ -90,7 +90,7 @@ fn act_of<K: Kind>(
     }
 }
 
-/// A line, and 0 where there is none.
+/// Returns a line, and 0 if there is none.
 fn line_number(line: Option<u64>) -> u64
     ensures { result ≡ line_number line }
 {
@@ -100,7 +100,7 @@ fn line_number(line: Option<u64>) -> u64
     }
 }
 
-/// Does the next item of a run, if there is one: what it did.
+/// Does the next item of a run, if there is one, and returns what it did.
 fn next_step<K: Kind>(walk: &mut Walk<'_, K>) -> Result<Option<Step>, AllocError>
     ensures { IfOk result (λ o. MatchOption o (walk.old.at ≡ length walk.old.run.items)
         (λ step. Tells walk.old step walk.new)) }
@@ -130,7 +130,11 @@ fn next_step<K: Kind>(walk: &mut Walk<'_, K>) -> Result<Option<Step>, AllocError
     }))
 }
 
-/// What each item of a program's run over a schedule did.
+/// Returns what each item of a program's run over a schedule did.
+///
+/// # Errors
+///
+/// `AllocError` where memory runs out.
 pub fn trace<K: Kind>(
     alloc: Global,
     program: &Program,

@@ -27,7 +27,7 @@ pub enum Wanted {
     End(u32),
     /// The end of the scan of an update of a process.
     Leave(u32),
-    /// That, or the end of its operation.
+    /// The end of an operation of a process, or of the scan of its update.
     Closing(u32),
     Write,
     WriteOf(u64),
@@ -43,7 +43,7 @@ pub enum Wanted {
     AnswerOrTrap,
 }
 
-/// Whether an operation ends.
+/// Returns whether an operation ends.
 fn is_end(act: &Act) -> bool
     ensures { result ≡ is_end act.now }
 {
@@ -56,7 +56,7 @@ fn is_end(act: &Act) -> bool
     }
 }
 
-/// Whether the scan of an update ends.
+/// Returns whether the scan of an update ends.
 fn is_leave(act: &Act) -> bool
     ensures { result ≡ is_leave act.now }
 {
@@ -84,7 +84,7 @@ fn writes_word(k: u64, act: &Act) -> bool
     }
 }
 
-/// Whether a word is read into this place.
+/// Returns whether a word is read into this place.
 fn reads_into(spot: &Spot, act: &Act) -> bool
     ensures { result ≡ reads_into spot.now act.now }
 {
@@ -103,7 +103,7 @@ fn publishes(k: u64, act: &Act) -> bool
     }
 }
 
-/// Whether the scan of an update begins.
+/// Returns whether the scan of an update begins.
 fn is_enter(act: &Act) -> bool
     ensures { result ≡ is_enter act.now }
 {
@@ -113,7 +113,7 @@ fn is_enter(act: &Act) -> bool
     }
 }
 
-/// Whether this view local is set.
+/// Returns whether this view local is set.
 fn sets_view(view: &Name, act: &Act) -> bool
     ensures { result ≡ sets_view view.now act.now }
 {
@@ -125,7 +125,7 @@ fn sets_view(view: &Name, act: &Act) -> bool
     }
 }
 
-/// Whether a scan is answered, or a process traps.
+/// Returns whether a scan is answered, or a process traps.
 fn is_answer_or_trap(act: &Act) -> bool
     ensures { result ≡ is_answer_or_trap act.now }
 {
@@ -136,7 +136,7 @@ fn is_answer_or_trap(act: &Act) -> bool
     }
 }
 
-/// Whether a step is what is wanted.
+/// Returns whether a step is as wanted.
 fn meets(wanted: &Wanted, step: &Step) -> bool
     ensures { result ≡ meets wanted.now step.now }
 {
@@ -154,7 +154,7 @@ fn meets(wanted: &Wanted, step: &Step) -> bool
     }
 }
 
-/// The first step from a place on that is what is wanted.
+/// Returns the first step from a place on that is as wanted.
 pub fn first_from(steps: &[Step], from: usize, wanted: Wanted) -> Option<&Step>
     ensures { option_map (λ s. s.now) result ≡ first_meeting wanted (drop from steps.now) }
 {
@@ -168,7 +168,7 @@ pub fn first_from(steps: &[Step], from: usize, wanted: Wanted) -> Option<&Step>
     None
 }
 
-/// The last of the first places at which there is what is wanted.
+/// Returns the last of the first places at which a step is as wanted.
 pub fn last_before(steps: &[Step], count: usize, wanted: Wanted) -> Option<usize>
     requires { count ≤ length steps.now }
     ensures place { result ≡ last_before wanted steps.now count }
@@ -184,7 +184,7 @@ pub fn last_before(steps: &[Step], count: usize, wanted: Wanted) -> Option<usize
     None
 }
 
-/// The first of so many places from one on at which there is what is wanted.
+/// Returns the first of `count` places from `from` on at which a step is as wanted.
 pub fn first_within(steps: &[Step], from: usize, count: usize, wanted: Wanted) -> Option<usize>
     requires { from + count ≤ length steps.now }
     ensures place { result ≡ first_within wanted steps.now from count }

@@ -2,16 +2,16 @@
 -- texts and of images.
 use Rattle.std.proofs.Common.{◌≡◌, ℕ, List, Ok, ap, subst}
 use Rattle.std.specs.Prelude.{Result}
-use Rattle.snap_image_format.specs.declared.image.ImageVersion.TheVariants as version
+use Rattle.snap_image.specs.declared.image.ImageVersion.TheVariants as version
 use Rattle.snap_semantics.specs.declared.refusal.ImageRefusal.{ImageRefusal}
 use Rattle.snap_semantics.specs.declared.refusal.ListingRefusal.{ListingRefusal}
 use Rattle.snap_semantics.specs.Answers.{◌>>=◌}
-use Rattle.snap_image_format.specs.Assembly.{assembled, listed, upgraded}
+use Rattle.snap_image.specs.Assembly.{assembled, listed, upgraded}
 use Rattle.snap_semantics.specs.CanonicalText.{canonical_text}
 use Rattle.snap_semantics.specs.Comments.{Commented, commented_of}
-use Rattle.snap_image_format.specs.Image.{image_in, image_of}
-use Rattle.snap_image_format.specs.ImageListing.{commented_in}
-use Rattle.snap_listing_grammar.specs.Laws.{ReadsOnlyCommented, ReadsPrinted}
+use Rattle.snap_image.specs.Image.{image_in, image_of}
+use Rattle.snap_image.specs.ImageListing.{commented_in}
+use Rattle.snap_listing.specs.Laws.{ReadsOnlyCommented, ReadsPrinted}
 use Rattle.snap_image.specs.Laws.{DecodesAllImages}
 use Rattle.snap_asm.specs.Laws.{KeepsCanonical, ListsBack, Upgrades}
 

@@ -1,11 +1,12 @@
 -- The laws of assembling texts to images, listing images as texts, loading images as programs and upgrading images.
 use Rattle.std.specs.Prelude.{◌≡◌, ℕ, ◌≤◌, List, length, Ok}
-use Rattle.snap_image_format.specs.declared.image.ImageVersion.{ImageVersion}
-use Rattle.snap_image_format.specs.Assembly.{assembled, listed, upgraded}
+use Rattle.snap_image.specs.declared.image.ImageVersion.{ImageVersion}
+use Rattle.snap_image.specs.Assembly.{assembled, listed, upgraded}
 use Rattle.snap_semantics.specs.CanonicalText.{canonical_text}
 use Rattle.snap_semantics.specs.Comments.{Commented, IsCommented, commented_of}
-use Rattle.snap_image_format.specs.Image.{CanSay, image_in, image_of}
-use Rattle.snap_image_format.specs.ImageListing.{commented_in}
+use Rattle.snap_semantics.specs.Listing.{max_text}
+use Rattle.snap_image.specs.Image.{CanSay, image_in, image_of}
+use Rattle.snap_image.specs.ImageListing.{commented_in}
 
 -- what is assembled lists back as the canonical text of the text's listing, loads as that
 -- listing, and is upgraded to itself
@@ -17,7 +18,7 @@ ListsBack =
 -- a canonical text that is within the size of a text lists back as itself
 abbrev pub KeepsCanonical : Type 0
 KeepsCanonical =
-    (c : Commented) → IsCommented c → length (canonical_text c) ≤ 65536 →
+    (c : Commented) → IsCommented c → length (canonical_text c) ≤ max_text →
     (assembled (canonical_text c) ≡ Ok (image_of c)) × (listed (image_of c) ≡ Ok (canonical_text c))
 
 -- an image of either version is upgraded to that of the second

@@ -3,7 +3,7 @@
 use Rattle.std.specs.Prelude.{◌≡◌, ℕ, List}
 use Rattle.snap_semantics.specs.CanonicalText.{canonical_text}
 use Rattle.snap_semantics.specs.Comments.{Commented, IsCommented}
-use Rattle.snap_image_format.specs.Image.{IsImageOf}
+use Rattle.snap_image.specs.Image.{IsImageOf}
 use Rattle.snap_semantics.specs.Source.{Source}
 
 -- a listing has this image, and this canonical text

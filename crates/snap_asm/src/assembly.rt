@@ -3,17 +3,18 @@
 ghost use Rattle.std.specs.Prelude.{◌≡◌, ◌≢◌, ◌<◌, ◌∷◌, ◌++◌};
 ghost use Rattle.std.specs.Prelude.{ℕ, List, IfOk, None, Ok, Err, length, take};
 ghost use Rattle.snap_semantics.specs.Answers.{Answers};
-ghost use Rattle.snap_image_format.specs.Assembly.{assembled, listed, upgraded};
+ghost use Rattle.snap_image.specs.Assembly.{assembled, listed, upgraded};
 ghost use Rattle.snap_semantics.specs.CanonicalText.{canonical_text};
 ghost use Rattle.snap_semantics.specs.Comments.{Commented, IsCommented};
-ghost use Rattle.snap_image_format.specs.Image.{CanSay, image_in, image_of, signature};
-ghost use Rattle.snap_image_format.specs.ImageCodes.{of_code, versions};
-ghost use Rattle.snap_image_format.specs.ImageListing.{listing_of_image};
+ghost use Rattle.snap_image.specs.Image.{CanSay, image_in, image_of, signature};
+ghost use Rattle.snap_image.specs.ImageCodes.{of_code, versions};
+ghost use Rattle.snap_image.specs.ImageListing.{listing_of_image};
 ghost use Rattle.snap_semantics.specs.declared.fault.Fault.TheVariants.{Refused};
-ghost use Rattle.snap_image_format.specs.declared.image.ImageVersion.{ImageVersion};
+ghost use Rattle.snap_image.specs.declared.image.ImageVersion.{ImageVersion};
 ghost use Rattle.snap_semantics.specs.declared.refusal.ImageRefusal.TheVariants.{NotAnImage};
 ghost use Rattle.snap_semantics.specs.declared.refusal.ImageRefusal.TheVariants.{Version};
 ghost use Rattle.snap_semantics.specs.declared.refusal.ListingRefusal.TheVariants.{TooLong};
+ghost use Rattle.snap_semantics.specs.Listing.{max_text};
 ghost use Rattle.snap_asm.specs.Listed.{HasListing, HaveOneListing};
 
 use snap_asm_program::Program;
@@ -22,20 +23,28 @@ use snap_listing::{ListingFault, print, read};
 use snap_listing_core::CommentedListing;
 use std::alloc::{AllocError, Global};
 
-/// The image of the listing that a text is, with its comments, or the first reason why it is none.
-#[tactic(auto, unfolding(snap_image_format::specs::Assembly::assembled))]
+/// Returns the image of the listing that `text` spells, with its comments.
+///
+/// # Errors
+///
+/// `Refused` with the first reason why `text` is no listing; `Memory` where memory runs out.
+#[tactic(auto, unfolding(snap_image::specs::Assembly::assembled))]
 pub fn assemble(alloc: Global, text: &[u8]) -> Result<Vec<u8>, ListingFault>
     ensures image { Answers (λ image. image.items) result (assembled text.now) }
-    ensures too_long { 65536 < length text.now → result ≡ Err (Refused TooLong) }
+    ensures too_long { max_text < length text.now → result ≡ Err (Refused TooLong) }
 {
     let listing = read(alloc, text)?;
     let image = encode(alloc, &listing)?;
     Ok(image)
 }
 
-/// The canonical text of the listing whose image these bytes are, in either version, or the first
-/// reason why they are none: they are refused exactly where no listing has this image.
-#[tactic(auto, unfolding(snap_image_format::specs::Assembly::listed))]
+/// Returns the canonical text of the listing whose image `image` is, in either version.
+///
+/// # Errors
+///
+/// `Refused` exactly if no listing has this image, with the first reason; `Memory` where memory
+/// runs out.
+#[tactic(auto, unfolding(snap_image::specs::Assembly::listed))]
 pub fn list(alloc: Global, image: &[u8]) -> Result<Vec<u8>, ImageFault>
     ensures answer { Answers (λ text. text.items) result (listed image.now) }
     ensures image { IfOk result (λ text. HaveOneListing image.now text.items) }
@@ -50,9 +59,14 @@ pub fn list(alloc: Global, image: &[u8]) -> Result<Vec<u8>, ImageFault>
     Ok(text)
 }
 
-/// The image, in the second version, of the listing whose image these bytes are in either version,
-/// or the first reason why they are none.
-#[tactic(auto, unfolding(snap_image_format::specs::Assembly::upgraded))]
+/// Returns the image, in the second version, of the listing whose image `image` is in either
+/// version.
+///
+/// # Errors
+///
+/// `Refused` exactly if no listing has this image, with the first reason; `Memory` where memory
+/// runs out.
+#[tactic(auto, unfolding(snap_image::specs::Assembly::upgraded))]
 pub fn upgrade(alloc: Global, image: &[u8]) -> Result<Vec<u8>, ImageFault>
     ensures answer { Answers (λ image. image.items) result (upgraded image.now) }
     ensures every { (v : ImageVersion) (c : Commented) → IsCommented c → CanSay v c →
@@ -66,9 +80,13 @@ pub fn upgrade(alloc: Global, image: &[u8]) -> Result<Vec<u8>, ImageFault>
     Ok(upgraded)
 }
 
-/// The program whose image these bytes are, in either version, or the first reason why they are
-/// none: they are refused exactly where no listing has this image.
-#[tactic(auto, unfolding(snap_image_format::specs::ImageListing::listing_of_image))]
+/// Returns the program whose image `image` is, in either version.
+///
+/// # Errors
+///
+/// `Refused` exactly if no listing has this image, with the first reason; `Memory` where memory
+/// runs out.
+#[tactic(auto, unfolding(snap_image::specs::ImageListing::listing_of_image))]
 pub fn load(alloc: Global, image: &[u8]) -> Result<Program, ImageFault>
     ensures answer { Answers (λ p. p) result (listing_of_image image.now) }
     ensures image { IfOk result (λ p. HasListing image.now p) }
@@ -79,17 +97,17 @@ pub fn load(alloc: Global, image: &[u8]) -> Result<Program, ImageFault>
         of_code versions b ≡ None → result ≡ Err (Refused Version) }
 {
     let listing = decode(alloc, image)?;
-    let program = snap_loader::load(alloc, listing.into_listing())?;
+    let program = crate::listing_program::load_listing(alloc, listing.into_listing())?;
     Ok(program)
 }
 
-/// Returns the program of a listing, whose comments are left out: no line does anything by them.
+/// Returns the program of `listing`. Comments are left out, since no line does anything by them.
 ///
 /// # Errors
 ///
-/// Memory ran out.
+/// `AllocError` where memory runs out.
 pub fn program(alloc: Global, listing: &CommentedListing) -> Result<Program, AllocError>
     ensures { IfOk result (λ p. p ≡ listing.now.source) }
 {
-    snap_loader::load(alloc, listing.listing().copy(alloc)?)
+    crate::listing_program::load_listing(alloc, listing.listing().copy(alloc)?)
 }

@@ -99,7 +99,7 @@ module _ (r : Run) (fits : IsValidRun r) where
       let pos : 0 < j = there.0 in
       get_or-set_other calls (k - 1) (j - 1) (suc t) 0 (λ same. differ (omega (arith, same, low, pos))) ∙ h.1 j there
 
-  -- and with the call's item they are right again
+  -- with the call's item set, the last calls are right again
   set_last : (calls : List ℕ) (t k : ℕ) → who (item r (suc t)) ≡ k → outcome r (suc t) ≡ outcomes.Called →
       IsOneOf r.shape.n k → AreLast calls t → AreLast (slice_set calls (k - 1) (suc t)) (suc t)
   set_last calls t k mine is one h = (

@@ -75,11 +75,11 @@ module _ (r : Run) (xs : List Change) (cs : List Caller) (found : List Verdict) 
   its_caller : (d : Caller) → IsCaller r xs (e ∷ left) e.process (get_or cs (e.process - 1) d)
   its_caller d = h.each e.process h.within.0.0 d
 
-  -- its last call is not after the event
+  -- the last call of the process is not after the event
   pub its_order : (d : Caller) → (get_or cs (e.process - 1) d).call ≤ e.item
   its_order d = (its_caller d).past.0
 
-  -- its item is one of the run's
+  -- the item of the event is one of the run's
   pub its_item : e.item ≤ length r.items
   its_item = h.within.0.1
 

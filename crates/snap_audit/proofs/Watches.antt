@@ -26,7 +26,7 @@ use Rattle.snap_runs.specs.Run.{Run, run_of_items, state}
 use Rattle.snap_runs.specs.Scan.{is_stepped}
 use Rattle.snap_runs.specs.StepRoles.{StepRole, is_test, is_write, line_step_role, returned, step_role_at, step_role_in}
 use Rattle.snap_runs.specs.StepRoles.{step_role_of}
-use Rattle.snap_history.specs.Longer.{with_item}
+use Rattle.snap_record.specs.Longer.{with_item}
 use Rattle.snap_record.specs.History.{IsRecord, changes_to, counted}
 use Rattle.snap_record.specs.Roles.{AreRoles, instr_role, role_of}
 use Rattle.snap_record.specs.declared.roles.LineRole.{LineRole}
@@ -44,7 +44,7 @@ returns_write view Scan None = refl
 returns_write view Scan (Some n) = refl
 returns_write view (Update word value) link = refl
 
--- and tests nothing
+-- a line that returns a view tests nothing
 returns_test : (view : List ℕ) (o : Op) (link : Option ℕ) → is_test (returned view o link) ≡ false
 returns_test view Scan None = refl
 returns_test view Scan (Some n) = refl
@@ -73,7 +73,7 @@ instr_told a l (Call n) = (refl, refl)
 instr_told a l (Return x) = (returns_write _ a.op a.link, returns_test _ a.op a.link)
 instr_told a l Finish = (refl, refl)
 
--- and so of a line that may be missing
+-- what the role tells of a line that may be missing
 line_told : (a : Activity) (l : Locals) (i : Option Instr) → (is_write (step_role_at a l i) ≡ is_write_line (role_of i))
     × (is_test (step_role_at a l i) ≡ is_test_line (role_of i))
 line_told a l None = (refl, refl)
@@ -112,7 +112,7 @@ crashed_told s S i was at =
     let l = (process_at S i).locals in
     (ap (λ y. is_write (step_role_in s l y)) at, ap (λ y. is_test (step_role_in s l y)) at)
 
--- so many items were passed
+-- a way passes as many items as it says
 so_many : (w : Way) → w.at ≤ length w.run.items → length (so_far w).items ≡ w.at
 so_many w within = let l = length-take w.at w.run.items in omega (arith, l, within)
 

@@ -55,7 +55,7 @@ pub record IsCaller (r : Run) (xs : List Change) (left : List Event) (i : ℕ) (
   pub past : AllByRecursion (λ (e : Event). c.call ≤ e.item) left
   pub collects_are : c.collects ≡ double_collects r i 0 c.call
 
--- so far these verdicts were found, and these events are left
+-- the verdicts that were found so far, and the events that are left
 pub record Sweeps (r : Run) (xs : List Change) (callers : List Caller) (found : List Verdict)
     (left : List Event) : Type 0 where
   pub goes_on : found ++ by_events r (map (λ (c : Caller). c.call) callers) left ≡ audit r

@@ -20,7 +20,7 @@ pub(crate) struct Caller {
     pub(crate) collects: u64,
 }
 
-/// The next item after this one by which a value may change, or the end if that comes first.
+/// Returns the next item after `item` by which a value may change, or `end` if that comes first.
 fn next_change(changes: &[Change], next: usize, item: u64, end: u64) -> u64
     requires { item < end }
     ensures later { item < result }
@@ -35,8 +35,8 @@ fn next_change(changes: &[Change], next: usize, item: u64, end: u64) -> u64
     }
 }
 
-/// The least of so many items, the first of which is this one, after which the values are a view.
-/// The values are those before that item, with the next change to come.
+/// Returns the least of `count` items from `item` on after which the values are `view`. The given
+/// values are those before that item, with change `next` to come.
 fn find_point(
     values: &mut Row,
     changes: &[Change],
@@ -62,7 +62,7 @@ fn find_point(
 }
 
 impl Caller {
-    /// Before its first call.
+    /// Returns what is kept of a process before its first call.
     pub(crate) fn new(alloc: Global, words: u64) -> Result<Caller, AllocError>
         ensures { IfOk result (λ c. c ≡ fresh words) }
     {
@@ -87,7 +87,7 @@ impl Caller {
         self.collects = collects;
     }
 
-    /// What is found of the scan that it called last, once it is answered.
+    /// Returns the verdict on the last scan that the process called, once it is answered.
     pub(crate) fn verdict(
         &self,
         alloc: Global,

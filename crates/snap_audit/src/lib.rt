@@ -1,5 +1,5 @@
 //! Audits: whether each scan that a record answered has a point, and how many double collects it
-//! took.
+//! made.
 #![tactic(auto)]
 
 ghost use Rattle.snap_runs.specs.Audit.{VerdictsAreOfScans, VerdictsHavePoints};
@@ -16,14 +16,14 @@ pub use sweep::{audit, audit_over};
 pub use text::{audit_text, audit_text_over, push_verdict_line, verdict_line};
 pub use watch::Watch;
 
-/// A verdict is of a finished scan: its point is the least that the scan has, none where it has
+/// A verdict is of a finished scan: its point is the least that the scan has, `None` if it has
 /// none, and its count is that of the scan's double collects.
 #[tactic(auto, using(snap_runs::proofs::Audits::of_scans))]
 pub fn verdicts_are_of_scans()
     ensures { (r : Run) → VerdictsAreOfScans r }
 {}
 
-/// Where each finished scan has a point, each verdict has one.
+/// If each finished scan has a point, each verdict has one.
 #[tactic(auto, using(snap_runs::proofs::Audits::verdicts_have_points))]
 pub fn every_verdict_has_a_point()
     ensures { (r : Run) → HavePoints r → VerdictsHavePoints r }

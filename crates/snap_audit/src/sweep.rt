@@ -20,7 +20,7 @@ use snap_walk::Walk;
 use snap_words::{Kind, Shape};
 use std::alloc::{AllocError, Global};
 
-/// Each process, before its first call.
+/// Returns what is kept of each process before its first call.
 #[tactic(auto, using(snap_machine::proofs::Replicas::one_again))]
 fn new_callers(alloc: Global, shape: Shape) -> Result<Vec<Caller>, AllocError>
     ensures { IfOk result (λ cs. cs.items ≡ replicate shape.n (fresh shape.w)) }
@@ -32,7 +32,7 @@ fn new_callers(alloc: Global, shape: Shape) -> Result<Vec<Caller>, AllocError>
     Ok(callers)
 }
 
-/// Notes an event: a call is kept, and of an answer it is found out whether the scan has a point.
+/// Notes an event: keeps a call, and for an answer finds out whether the scan has a point.
 fn note_event(
     alloc: Global,
     changes: &[Change],
@@ -75,7 +75,7 @@ fn note_event(
     }
 }
 
-/// The verdicts on the answered scans of a run, by what is told of it.
+/// Returns the verdicts on the answered scans of a run, by its changes and its events.
 pub(crate) fn sweep(
     alloc: Global,
     shape: Shape,
@@ -104,9 +104,13 @@ pub(crate) fn sweep(
     Ok(verdicts)
 }
 
-/// Of each scan that was called and has been answered, in the order of the answers: the least item
-/// from its call to its answer after which the values were what it answered, if there is one, and
-/// how many double collects it took.
+/// Returns the verdict on each scan that was called and has been answered, in the order of the
+/// answers: the least item from its call to its answer after which the values were its view, if
+/// there is one, and how many double collects it made.
+///
+/// # Errors
+///
+/// `AllocError` where memory runs out.
 pub fn audit<K: Kind>(alloc: Global, history: &Record<K>) -> Result<Vec<Verdict>, AllocError>
     ensures { IfOk result (λ v. v.items ≡ audit history.now) }
 {
@@ -120,7 +124,12 @@ pub fn audit<K: Kind>(alloc: Global, history: &Record<K>) -> Result<Vec<Verdict>
     )
 }
 
-/// The same of a program's run over a whole schedule, of which no record is kept.
+/// Returns the verdicts of `audit` on the run of `program` over the whole of `schedule`, of which
+/// no record is kept.
+///
+/// # Errors
+///
+/// `AllocError` where memory runs out.
 pub fn audit_over<K: Kind>(
     alloc: Global,
     program: &Program,

@@ -12,7 +12,7 @@ use snap_text::{push_number, push_text};
 use snap_words::Kind;
 use std::alloc::{AllocError, Global};
 
-/// A point, or that there is none.
+/// Appends a point, or that there is none.
 fn point_text(out: &mut Vec<u8>, point: Option<u64>) -> Result<(), AllocError>
     ensures { OnOk result (out.new.items ≡ out.old.items ++ point_text point) }
 {
@@ -22,7 +22,11 @@ fn point_text(out: &mut Vec<u8>, point: Option<u64>) -> Result<(), AllocError>
     }
 }
 
-/// Adds the line `scan I call C answer E point P collects N`.
+/// Appends the line `scan I call C answer E point P collects N`.
+///
+/// # Errors
+///
+/// `AllocError` where memory runs out.
 #[tactic(auto, using(snap_text::proofs::Texts::joined))]
 pub fn push_verdict_line(out: &mut Vec<u8>, verdict: &Verdict) -> Result<(), AllocError>
     ensures { OnOk result (out.new.items ≡ out.old.items ++ verdict_line verdict.now) }
@@ -44,7 +48,7 @@ pub fn push_verdict_line(out: &mut Vec<u8>, verdict: &Verdict) -> Result<(), All
 ///
 /// # Errors
 ///
-/// Memory ran out.
+/// `AllocError` where memory runs out.
 pub fn verdict_line(alloc: Global, verdict: &Verdict) -> Result<Vec<u8>, AllocError>
     ensures { IfOk result (λ line. line.items ≡ verdict_line verdict.now) }
 {
@@ -53,7 +57,7 @@ pub fn verdict_line(alloc: Global, verdict: &Verdict) -> Result<Vec<u8>, AllocEr
     Ok(line)
 }
 
-/// The lines of verdicts.
+/// Appends the lines of verdicts.
 fn verdict_lines(out: &mut Vec<u8>, verdicts: &[Verdict]) -> Result<(), AllocError>
     ensures { OnOk result (out.new.items ≡ out.old.items ++ verdict_lines verdicts.now) }
 {
@@ -63,7 +67,7 @@ fn verdict_lines(out: &mut Vec<u8>, verdicts: &[Verdict]) -> Result<(), AllocErr
     Ok(())
 }
 
-/// The text of verdicts, a line for each.
+/// Returns the text of verdicts, a line for each.
 fn text_of(alloc: Global, verdicts: &[Verdict]) -> Result<Vec<u8>, AllocError>
     ensures { IfOk result (λ out. out.items ≡ verdict_lines verdicts.now) }
 {
@@ -72,7 +76,11 @@ fn text_of(alloc: Global, verdicts: &[Verdict]) -> Result<Vec<u8>, AllocError>
     Ok(out)
 }
 
-/// The audit of a record, a line for each verdict.
+/// Returns the audit of a record, a line for each verdict.
+///
+/// # Errors
+///
+/// `AllocError` where memory runs out.
 pub fn audit_text<K: Kind>(alloc: Global, history: &Record<K>) -> Result<Vec<u8>, AllocError>
     ensures { IfOk result (λ out. out.items ≡ audit_text history.now) }
 {
@@ -80,7 +88,11 @@ pub fn audit_text<K: Kind>(alloc: Global, history: &Record<K>) -> Result<Vec<u8>
     text_of(alloc, verdicts.as_slice())
 }
 
-/// The audit of a program's run over a whole schedule, a line for each verdict.
+/// Returns the audit of a program's run over a whole schedule, a line for each verdict.
+///
+/// # Errors
+///
+/// `AllocError` where memory runs out.
 pub fn audit_text_over<K: Kind>(
     alloc: Global,
     program: &Program,

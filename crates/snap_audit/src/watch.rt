@@ -1,5 +1,5 @@
-//! `Watch`: what an audit has to know of the items that a machine has done on its way through a run.
-//! The items are not kept, as a record keeps them.
+//! `Watch`: what an audit has to know of the items that a machine has done on its way through a
+//! run. The items are not kept, unlike in a record.
 ghost use Rattle.std.specs.Prelude.{◌≡◌, ◌<◌, ◌+◌, ◌++◌, ◌∷◌, IfOk, IsTrue, OnOk};
 ghost use Rattle.std.specs.Prelude.{◌-◌, false, length, map, option_to_list, replicate, slice_index, ◌^◌};
 ghost use Rattle.snap_words.specs.Shape.{IsOneOf};
@@ -18,9 +18,8 @@ ghost use Rattle.snap_audit.specs.Watch.{Watches, is_test_line, is_write_line, s
 
 use crate::sweep::sweep;
 use snap_asm_program::Program;
-use snap_history::event_of;
 use snap_machine::Machine;
-use snap_record::{Change, LineRole, Row, new_roles, note_values, role_in};
+use snap_record::{Change, LineRole, Row, event_of, new_roles, note_values, role_in};
 use snap_runs::Verdict;
 use snap_sched::Schedule;
 use snap_semantics::{Event, Item, Outcome, Status, who};
@@ -44,8 +43,8 @@ pub struct Watch {
     at_events: Vec<u64>,
 }
 
-/// What the line is that an item does of a process that stands so. An item that does none writes no
-/// word, and tests nothing for all.
+/// Returns the role of the line that an item runs, of a process with this status. An item that runs
+/// none writes no word, and tests nothing for all.
 #[inline(always)]
 #[tactic(auto, using(crate::proofs::Watches::busy_told, crate::proofs::Watches::idle_told, crate::proofs::Watches::trapped_told, crate::proofs::Watches::crashed_told))]
 fn item_role(roles: &[LineRole], item: Item, before: Status) -> LineRole
@@ -65,7 +64,7 @@ fn item_role(roles: &[LineRole], item: Item, before: Status) -> LineRole
     }
 }
 
-/// Whether a line writes a word.
+/// Returns whether a line writes a word.
 #[inline(always)]
 fn is_write(role: LineRole) -> bool
     ensures { result ≡ is_write_line role }
@@ -78,14 +77,14 @@ fn is_write(role: LineRole) -> bool
     }
 }
 
-/// Whether there is nothing to note of an item. So it is with most.
+/// Returns whether there is nothing to note of an item, as is the case for most.
 #[inline(always)]
 fn is_quiet(role: LineRole, outcome: &Outcome) -> bool
     ensures write { IsTrue result → is_write_line role ≡ false }
     ensures test { IsTrue result → is_test_line role ≡ false }
     ensures unseen { IsTrue result → outcome.now ≡ Stepped }
 {
-    // The outcome is asked first: the compiler knows it where a line ends.
+    // The outcome is tested first, since the compiler knows it where a line ends.
     match outcome {
         Outcome::Stepped => match role {
             LineRole::Write => false,
@@ -97,8 +96,8 @@ fn is_quiet(role: LineRole, outcome: &Outcome) -> bool
     }
 }
 
-/// Notes the values after the item of this number, which leaves this machine. They stay where it
-/// writes no word.
+/// Notes the values after item number `number`, which leaves `machine`. The values stay as they are
+/// if the item writes no word.
 fn note_changes<K: Kind>(
     now: &mut Row,
     changes: &mut Vec<Change>,
@@ -120,7 +119,7 @@ fn note_changes<K: Kind>(
     Ok(())
 }
 
-/// Counts a double collect, where an item ends one.
+/// Counts a double collect, if an item ends one.
 fn note_test(collects: &mut Vec<u64>, i: u32, role: LineRole, outcome: &Outcome)
     requires process { IsOneOf (length collects.old.items) i }
     requires few { slice_index collects.old.items (i - 1) + 1 < 2 ^ 64 }
@@ -132,7 +131,7 @@ fn note_test(collects: &mut Vec<u64>, i: u32, role: LineRole, outcome: &Outcome)
     }
 }
 
-/// Notes an event of a process, where there is one, and how many double collects it has had.
+/// Notes an event of a process, if there is one, and how many double collects the process has made.
 fn note_event(
     events: &mut Vec<Event>,
     at_events: &mut Vec<u64>,
@@ -152,7 +151,7 @@ fn note_event(
     Ok(())
 }
 
-/// So many zeros.
+/// Returns `count` zeros.
 fn zeros(alloc: Global, count: u64) -> Result<Vec<u64>, AllocError>
     ensures { IfOk result (λ v. v.items ≡ replicate count 0) }
 {
@@ -160,7 +159,11 @@ fn zeros(alloc: Global, count: u64) -> Result<Vec<u64>, AllocError>
 }
 
 impl Watch {
-    /// Before the first item of a program's run over a schedule.
+    /// Returns a watch before the first item of the run of `program` over a schedule.
+    ///
+    /// # Errors
+    ///
+    /// `AllocError` where memory runs out.
     pub fn new(alloc: Global, program: &Program, schedule: &Schedule) -> Result<Watch, AllocError>
         ensures { IfOk result
             (Watches (record { run = run_over program.now schedule.now; at = 0 })) }
@@ -182,7 +185,7 @@ impl Watch {
     ///
     /// # Errors
     ///
-    /// There is no memory for it.
+    /// `AllocError` where memory runs out.
     #[inline(always)]
     pub fn note<K: Kind>(&mut self, walk: &Walk<'_, K>, passed: Passed) -> Result<(), AllocError>
         requires passed { (w : Way) × Watches w self.old × Passes w passed walk.now }
@@ -231,7 +234,7 @@ impl Watch {
     ///
     /// # Errors
     ///
-    /// There is no memory for them.
+    /// `AllocError` where memory runs out.
     pub fn verdicts(&self, alloc: Global) -> Result<Vec<Verdict>, AllocError>
         requires { (w : Way) × Watches w self.now }
         ensures { IfOk result (λ v. (w : Way) → Watches w self.now → v.items ≡ audit (so_far w)) }

@@ -20,7 +20,7 @@ use Rattle.snap_semantics.specs.State.{State, initial, process_at}
 use Rattle.snap_semantics.specs.Table.{done, step, who}
 use Rattle.snap_sched.specs.Segments.{segment_items}
 use Rattle.snap_sched.specs.declared.segments.Segment.{Segment}
-use Rattle.snap_history.proofs.Longer.{after_append, events_append}
+use Rattle.snap_record.proofs.Longer.{after_append, events_append}
 use Rattle.snap_batch.specs.Courses.{DoesNothing, Takes}
 use Rattle.snap_batch.specs.declared.course.Course.{Course}
 
@@ -99,7 +99,7 @@ trapped_does_nothing s n S x i e a is stands =
     subst (DoesNothing s n S) (sym is)
     (skipped s n S (Step i) reason.Trapped (ap (step s n S i (process_at S i)) stands))
 
--- and of one that has crashed
+-- a step of a process that has crashed does nothing
 pub crashed_does_nothing : (s : Source) (n : Counts) (S : State) (x : Item) (i : ℕ) (was : Option Activity) →
     x ≡ Step i → (process_at S i).status ≡ Crashed was → DoesNothing s n S x
 crashed_does_nothing s n S x i was is stands =
@@ -143,7 +143,7 @@ next_fits s n all left left' r c x k h next is some =
     (first_fits (λ x. IsOneOf n.n (who x)) k x (flat_map segment_items left') some
     (subst (λ xs. AllByRecursion (λ x. IsOneOf n.n (who x)) xs) (in_front left left' r x k next is) h.fits))
 
--- and there is a number for it, as often as it comes
+-- there is a number for the next item, as often as it comes
 pub next_few : {K W : Type 0} (s : Source) (n : Counts) (all : List Item) (left left' : List Segment) (r : Segment)
     (c : Course K W) (x : Item) (k : ℕ) → Going s n all c (flat_map segment_items left) → left ≡ r ∷ left' →
     replicate k x ≡ segment_items r → c.done + k ≤ 1000000

@@ -9,7 +9,7 @@ use Rattle.snap_semantics.specs.Source.{Source}
 use Rattle.snap_semantics.specs.State.{initial}
 use Rattle.snap_batch.specs.End.{end_report}
 
--- it is of the machine at the end, and of all events
+-- the report is of the machine at the end, and of all events
 pub end_reported : (l : Source) (s : Schedule) →
     report_text l.kind (after l s.shape (initial l s.shape) s.items) (events l s.shape (initial l s.shape) 1 s.items)
     (length s.items) (length s.items) ≡ end_report l s

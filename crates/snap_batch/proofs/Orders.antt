@@ -27,7 +27,7 @@ gathered {S = S} {R = R} {E = E} f schedules answers (Ok v) each all =
     all.2 ∙ in_order E f schedules all.0 (subst P all.1 each)
 gathered f schedules answers (Err e) each all = tt
 
--- the same of a chain over references that show the schedules, whose closure has its program by another way
+-- a chain side by side over references that show the schedules, whose closure has its program by another way
 pub side_by_side : {P S R E : Type 0} (f : P → S → R) (held program : P) → held ≡ program
     → (seen : List (Bor S)) (schedules : List S) → map (λ (z : Bor S). z.now) seen ≡ schedules
     → (answers : List (Result R E)) (result : Result (Vec R Global) E)

@@ -14,24 +14,24 @@ ghost use Rattle.snap_batch.specs.End.{IsEnd, end_report};
 
 use crate::own_code::OwnCode;
 use snap_asm_program::Program;
-use snap_history::event_of;
 use snap_machine::Machine;
+use snap_record::event_of;
 use snap_report::report;
 use snap_sched::Schedule;
 use snap_semantics::{Event, Item, Outcome, Status, who};
 use snap_words::Kind;
 use std::alloc::{AllocError, Global};
 
-/// A machine, and what callers saw of the items that it has done.
+/// A machine, and what callers saw of the items that were done.
 pub struct Course<K: Kind> {
     pub machine: Machine<OwnCode<K>>,
     pub events: Vec<Event>,
-    /// How many items it has done.
+    /// How many items are done.
     pub done: u64,
 }
 
 impl<K: Kind> Drop for Course<K> {
-    // Written out, so that it is proved here and not once more wherever one is dropped.
+    // A drop that is written out is one call: it is proved once, and not again at each drop.
     fn drop(self) {
         let Course {
             machine: _,
@@ -41,8 +41,8 @@ impl<K: Kind> Drop for Course<K> {
     }
 }
 
-/// Whether an item is a step of a process that is not busy: it does nothing, however often it
-/// comes.
+/// Returns whether an item is a step of a process that is not busy, which does nothing, however
+/// often it comes.
 fn is_idle_step<K: Kind>(machine: &Machine<K>, item: Item) -> bool
     requires { IsOneOf machine.now.shape.n (who item) }
     ensures { result ≡ true →
@@ -75,7 +75,7 @@ impl<K: Kind> Course<K> {
         self.note(item, outcome)
     }
 
-    /// Notes what callers see of the item that was done last.
+    /// Notes what callers see of the last item that was done.
     fn note(&mut self, item: Item, outcome: Outcome) -> Result<(), AllocError>
         ensures events { OnOk result (self.new.events.items ≡ self.old.events.items
             ++ event_of self.old.done item outcome) }
@@ -88,7 +88,7 @@ impl<K: Kind> Course<K> {
         Ok(())
     }
 
-    /// Does an item more, so many times.
+    /// Does an item `count` times more.
     #[inline(always)]
     fn take_times(&mut self, item: Item, count: u64) -> Result<(), AllocError>
         requires process { 0 < count → IsOneOf self.old.machine.shape.n (who item) }
@@ -106,7 +106,11 @@ impl<K: Kind> Course<K> {
         Ok(())
     }
 
-    /// Adds the report of the end of the schedule that it has gone through.
+    /// Appends the report of the end of the schedule.
+    ///
+    /// # Errors
+    ///
+    /// `AllocError` where memory runs out.
     #[tactic(auto, using(crate::proofs::Ends::end_reported))]
     pub fn push_report(&self, out: &mut Vec<u8>) -> Result<(), AllocError>
         ensures { (l : Source) (s : Schedule) → IsEnd l s self.now →
@@ -122,7 +126,11 @@ impl<K: Kind> Course<K> {
     }
 }
 
-/// A program over a whole schedule.
+/// Runs `program` over the whole of `schedule`, and returns its course.
+///
+/// # Errors
+///
+/// `AllocError` where memory runs out.
 pub fn run_to_end<K: Kind>(
     alloc: Global,
     program: &Program,

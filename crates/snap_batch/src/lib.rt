@@ -19,7 +19,7 @@ use snap_words::{Bits, Kind, KindTag, Multi, Seq};
 use std::alloc::{AllocError, Global};
 use std::thread::Threads;
 
-/// The report of the end of a schedule, over registers of a kind.
+/// Returns the report of the end of a schedule, over registers of a kind.
 fn report_of<K: Kind>(
     alloc: Global,
     program: &Program,
@@ -34,7 +34,7 @@ fn report_of<K: Kind>(
     Ok(Report::of(text))
 }
 
-/// The report of the end of a schedule.
+/// Returns the report of the end of a schedule.
 fn end_report(alloc: Global, program: &Program, schedule: &Schedule) -> Result<Report, AllocError>
     ensures { IfOk result (λ report. report ≡ end_report program.now schedule.now) }
 {
@@ -45,8 +45,12 @@ fn end_report(alloc: Global, program: &Program, schedule: &Schedule) -> Result<R
     }
 }
 
-/// The report of each schedule's end, in the order of the schedules, whichever thread made it and
-/// when.
+/// Returns the report of the end of each of `schedules`, in their order, whichever thread made it
+/// and when.
+///
+/// # Errors
+///
+/// `AllocError` where memory runs out.
 pub fn batch(
     rt: &(impl Threads + Sync),
     alloc: Global,
@@ -55,8 +59,8 @@ pub fn batch(
 ) -> Result<Vec<Report>, AllocError>
     ensures { IfOk result (λ reports. reports.items ≡ map (end_report program.now) schedules.now) }
 {
-    // Each schedule is worth a thread; a chain of rayon's runs in one thread where it is short,
-    // unless it is told so.
+    // Each schedule is worth a thread. A chain of rayon runs in one thread if it is short, unless
+    // it is told otherwise.
     let reports: Result<Vec<Report>, AllocError> = schedules
         .par_iter()
         .with_min_len(1)
@@ -70,7 +74,11 @@ pub fn batch(
     reports
 }
 
-/// The same in one thread.
+/// Returns the report of the end of each of `schedules`, in their order, made in one thread.
+///
+/// # Errors
+///
+/// `AllocError` where memory runs out.
 pub fn batch_alone(
     alloc: Global,
     program: &Program,

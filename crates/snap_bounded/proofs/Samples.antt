@@ -13,7 +13,7 @@ use Rattle.snap_runs.specs.Promises.{row_place}
 use Rattle.snap_runs_of_b.specs.ListingB as listing
 use Rattle.snap_runs_of_b.specs.Promises.{run_of}
 
--- so many steps of a process
+-- a number of steps of a process
 abbrev pub times : ℕ → ℕ → List Item
 times count i = replicate count (Step i)
 

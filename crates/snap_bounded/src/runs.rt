@@ -7,8 +7,8 @@ ghost use Rattle.snap_runs.specs.Run.{IsValidRun, run_over};
 ghost use Rattle.snap_runs_of_b.specs.ListingB.{listing_b};
 ghost use Rattle.snap_shipped.specs.Kept.{KeepsPromises};
 
+use snap_asm::load_listing;
 use snap_listing_core::CommentedListing;
-use snap_loader::load;
 use snap_record::{Record, record_over};
 use snap_sched::Schedule;
 use snap_shipped::{listing_b, shipped_runs_keep_promises};
@@ -19,14 +19,14 @@ use std::alloc::{AllocError, Global};
 ///
 /// # Errors
 ///
-/// Memory ran out.
+/// `AllocError` where memory runs out.
 pub fn listing(alloc: Global) -> Result<CommentedListing, AllocError>
     ensures { IfOk result (λ l. l ≡ uncommented listing_b) }
 {
     CommentedListing::uncommented(alloc, listing_b(alloc)?)
 }
 
-/// What is promised of the run over a schedule.
+/// The run of B over a schedule keeps what is promised of it.
 fn keeps_promises(schedule: &Schedule)
     requires { fits kind.Bits schedule.now.shape ≡ true }
     ensures fits { IsValidRun (run_over listing_b schedule.now) }
@@ -37,7 +37,12 @@ fn keeps_promises(schedule: &Schedule)
     let _shape = schedule.shape();
 }
 
-/// The record of B over a schedule, whatever its interleaving: a run that keeps all promises.
+/// Returns the record of B over a schedule, whatever its interleaving: a run that keeps all
+/// promises.
+///
+/// # Errors
+///
+/// `AllocError` where memory runs out.
 pub fn run(alloc: Global, schedule: &Schedule) -> Result<Record<Bits>, AllocError>
     requires { fits kind.Bits schedule.now.shape ≡ true }
     ensures record { IfOk result (λ r. r ≡ run_over listing_b schedule.now) }
@@ -45,6 +50,6 @@ pub fn run(alloc: Global, schedule: &Schedule) -> Result<Record<Bits>, AllocErro
     ensures promises { KeepsPromises kind.Bits (run_over listing_b schedule.now) }
 {
     keeps_promises(schedule);
-    let program = load(alloc, listing_b(alloc)?)?;
+    let program = load_listing(alloc, listing_b(alloc)?)?;
     record_over(alloc, &program, schedule)
 }

@@ -16,15 +16,15 @@ use Rattle.snap_runs.specs.Run.{Run, IsValidRun, item as item_at, state}
 use Rattle.snap_runs.proofs.Calls.{item_one}
 use Rattle.snap_runs.proofs.Computing.{other_number, same_number}
 use Rattle.snap_record.specs.Roles.{AreRoles}
-use Rattle.snap_certification.specs.Certification.{at_line, changes, ended, executed, finding_or, found_at, lacks}
-use Rattle.snap_certification.specs.Certification.{progress, progress_after, seen_item, stepped, unwritten, writes, written}
-use Rattle.snap_certification.specs.declared.found.Finding.{Finding}
-use Rattle.snap_certification.specs.declared.found.Finding.TheVariants as finding
-use Rattle.snap_certification.specs.declared.found.Lack.TheVariants as lack
-use Rattle.snap_certification.specs.declared.found.Missing.{Missing}
-use Rattle.snap_certification.specs.declared.found.Progress.{Progress}
-use Rattle.snap_certification.specs.declared.found.SeenItem.{SeenItem}
-use Rattle.snap_certification.specs.declared.found.UpdateWrite.{UpdateWrite}
+use Rattle.snap_certify.specs.Certification.{at_line, changes, ended, executed, finding_or, found_at, lacks}
+use Rattle.snap_certify.specs.Certification.{progress, progress_after, seen_item, stepped, unwritten, writes, written}
+use Rattle.snap_certify.specs.declared.found.Finding.{Finding}
+use Rattle.snap_certify.specs.declared.found.Finding.TheVariants as finding
+use Rattle.snap_certify.specs.declared.found.Lack.TheVariants as lack
+use Rattle.snap_certify.specs.declared.found.Missing.{Missing}
+use Rattle.snap_certify.specs.declared.found.Progress.{Progress}
+use Rattle.snap_certify.specs.declared.found.SeenItem.{SeenItem}
+use Rattle.snap_certify.specs.declared.found.UpdateWrite.{UpdateWrite}
 use Rattle.snap_certify.specs.Finding.{AreProgress, Finds, Notes, WritesWord, fresh, so_far, with_found}
 use Rattle.snap_certify.specs.declared.finder.Finder.{Finder}
 

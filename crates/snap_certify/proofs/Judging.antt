@@ -6,11 +6,11 @@ use Rattle.snap_semantics.specs.Source.{Source}
 use Rattle.snap_semantics.specs.declared.fault.Fault.{Fault}
 use Rattle.snap_semantics.specs.declared.refusal.Refusal.{Refusal}
 use Rattle.snap_runs.specs.Run.{Run, run_over}
-use Rattle.snap_certification.specs.Certification.{Evidence, certification_of, seen_certification}
-use Rattle.snap_certification.specs.declared.certificate.Certification.{Certification}
-use Rattle.snap_certification.specs.declared.certificate.Certification.TheVariants as certification
-use Rattle.snap_certification.specs.declared.certificate.Certified.{Certified}
-use Rattle.snap_certification.specs.declared.found.Missing.{Missing}
+use Rattle.snap_certify.specs.Certification.{Evidence, certification_of, seen_certification}
+use Rattle.snap_certify.specs.declared.certificate.Certification.{Certification}
+use Rattle.snap_certify.specs.declared.certificate.Certification.TheVariants as certification
+use Rattle.snap_certify.specs.declared.certificate.Certified.{Certified}
+use Rattle.snap_certify.specs.declared.found.Missing.{Missing}
 use Rattle.snap_judge.specs.declared.judgements.Judgement.{Judgement}
 use Rattle.snap_run_judge.specs.Judged.{AnswersJudged}
 use Rattle.snap_run_judge.specs.RunHistory.{history_of}
@@ -33,7 +33,7 @@ certified_text r e text is same = (
   same ∙ ap text_of is ∙ sym (append-nil (text_of (certification_of r))),
 )
 
--- and else the run was
+-- the text of a run that is not certified, and the verdict that the run was judged to have
 pub judged_text : (r : Run) (m : Missing) (text out : List ℕ) → Err m ≡ certification_of r → text ≡ text_of (Err m) →
     ((j : Judgement) × IsRunJudgement most_configurations r j × (out ≡ text ++ verdict_text (history_of r) j)) →
     IsCertificateText r out
@@ -44,7 +44,7 @@ judged_text r m text out is same h = (
       ∙ ap (λ (t : List ℕ). text_of (certification_of r) ++ t) (sym (append-nil (verdict_text (history_of r) h.0))),
 )
 
--- where this certification is one
+-- what is written where the certification is a certificate
 pub when_certified : (r : Run) (c : Certification) (found : Certified) (text : List ℕ) →
     c ≡ certification.Certified found → seen_certification c ≡ certification_of r →
     text ≡ text_of (seen_certification c) → IsCertificateText r text
@@ -52,7 +52,7 @@ when_certified r c found text is exact same =
     certified_text r (record { line = found.line; writes = found.writes.items; points = found.points.items }) text
     (sym (ap seen_certification is) ∙ exact) (same ∙ ap text_of (ap seen_certification is))
 
--- and where it is none
+-- what is written where something is missing
 pub when_missing : (r : Run) (c : Certification) (m : Missing) (text out : List ℕ) →
     c ≡ certification.Missing m → seen_certification c ≡ certification_of r →
     text ≡ text_of (seen_certification c) →
@@ -73,7 +73,7 @@ over_schedule l text s out read h = (
   ap (λ (r : Result Schedule Refusal). r >>= λ x. Ok (certificate_text h.0 (run_over l x))) read ∙ ap Ok (sym h.2),
 )
 
--- and that of an input
+-- the certification of an input, where that of its texts is known
 module _ {X : Type 0} (view : X → List ℕ) (subject : Subject) (parts found texts : List (List ℕ)) (l : Source)
     (are_counted : counted_parts subject 1 parts ≡ Ok found) (is_listing : listing_for subject found ≡ Ok l)
     (are_texts : texts ≡ texts_for subject found) where

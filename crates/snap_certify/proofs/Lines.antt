@@ -27,9 +27,9 @@ use Rattle.snap_runs.specs.StepRoles.{is_write, line_step_role, returned, step_r
 use Rattle.snap_runs.specs.Update.{goes_on}
 use Rattle.snap_runs.proofs.Embedding.{next_state}
 use Rattle.snap_record.proofs.Recording.{stay_when}
-use Rattle.snap_certification.specs.Certification.{at_line, changes, changing_line, executed, is_put, putting_line}
-use Rattle.snap_certification.specs.Certification.{line_or, seen_item, stepping, write_line}
-use Rattle.snap_certification.proofs.Findings.{equal_from, found_at_step}
+use Rattle.snap_certify.specs.Certification.{at_line, changes, changing_line, executed, is_put, putting_line}
+use Rattle.snap_certify.specs.Certification.{line_or, seen_item, stepping, write_line}
+use Rattle.snap_certify.proofs.Findings.{equal_from, found_at_step}
 use Rattle.snap_certify.specs.Finding.{WritesWord}
 
 -- a line `return` writes no word
@@ -111,7 +111,7 @@ pub dry_line : (r : Run) (line t : ℕ) → WritesWord r.source line →
     at_line line (executed (seen_item r (suc t))) ≡ false
 dry_line r line t word dry = item_elsewhere r.source line word r.shape (state r t) (item_at r (suc t)) dry
 
--- and changes no value
+-- an item that writes no word changes no value
 pub dry_values : (r : Run) (t : ℕ) → t < length r.items →
     is_write (step_role_of r.source (state r t) (item_at r (suc t))) ≡ false → changes (seen_item r (suc t)) ≡ false
 dry_values r t below dry =

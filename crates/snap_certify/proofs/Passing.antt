@@ -16,10 +16,10 @@ use Rattle.snap_record.specs.Roles.{AreRoles}
 use Rattle.snap_record.specs.declared.roles.LineRole.{LineRole}
 use Rattle.snap_walk.specs.Walk.{Passes, Way}
 use Rattle.snap_walk.specs.declared.passed.Passed.{Passed}
-use Rattle.snap_certification.specs.Certification.{at_line, changes, changing_line, executed, seen_item, stepping}
-use Rattle.snap_certification.specs.declared.found.Progress.{Progress}
-use Rattle.snap_certification.specs.declared.found.SeenItem.{SeenItem}
-use Rattle.snap_certification.proofs.Findings.{equal_numbers}
+use Rattle.snap_certify.specs.Certification.{at_line, changes, changing_line, executed, seen_item, stepping}
+use Rattle.snap_certify.specs.declared.found.Progress.{Progress}
+use Rattle.snap_certify.specs.declared.found.SeenItem.{SeenItem}
+use Rattle.snap_certify.proofs.Findings.{equal_numbers}
 use Rattle.snap_audit.specs.Watch.{Watches}
 use Rattle.snap_audit.specs.declared.watch.Watch.{Watch}
 use Rattle.snap_certify.specs.Finding.{Finds, Notes, all_of, changed_line, fresh, seen_write}
@@ -39,7 +39,7 @@ still_values x still = by (bytes_eq x.values_before x.values_after) refl still
     by true is none = sym (equal_numbers x.values_before x.values_after is)
     by false is none = absurd cc
 
--- that writes no word, whatever the state
+-- an item writes no word, whatever the state
 abbrev pub WritesNone : List LineRole → Item → Status → Type 0
 WritesNone roles x status =
     (s : Source) (S : State) → AreRoles s roles → status ≡ (process_at S (who x)).status →
@@ -53,7 +53,7 @@ module _ (w w' : Way) (p : Passed) (d : Passes w p w') where
   left_by : (vs : List ℕ) → vs ≡ values (state w'.run w'.at) → vs ≡ values (state w.run (suc w.at))
   left_by vs is = is ∙ ap (λ (v : Way). values (state v.run v.at)) d.way
 
-  -- it is seen so
+  -- an item that was passed is seen as the definitions see it
   pub seen_passed : (a : Activity) (vs ws : List ℕ) → stepping p.item p.before ≡ Some a →
       vs ≡ values (state w.run w.at) → ws ≡ values (state w'.run w'.at) →
       seen_write (who p.item) a p.outcome vs ws ≡ next
@@ -68,7 +68,7 @@ module _ (w w' : Way) (p : Passed) (d : Passes w p w') where
       ∙ ap (λ (x : Item). seen x (stepping x (process_at (before w.run (suc w.at)) (who x)).status)
       (outcome_at w.run (suc w.at)) (values (state w.run w.at)) (values (state w.run (suc w.at)))) d.item
 
-  -- it writes no word
+  -- an item that was passed writes no word
   passed_dry : (roles : List LineRole) → AreRoles w.run.source roles → WritesNone roles p.item p.before →
       is_write (step_role_of w.run.source (state w.run w.at) (item_at w.run (suc w.at))) ≡ false
   passed_dry roles are none =
@@ -119,7 +119,7 @@ pub found_all : (r : Run) (w : Way) (f : Finder) → w.run ≡ r → Finds w.run
 found_all r w f run found over =
     subst (λ (s : Run). Finds s (length s.items) f) run (subst (λ n. Finds w.run n f) over found)
 
--- and so is what an audit has to know
+-- what an audit has to know is known at the end
 pub watched_all : (r : Run) (w : Way) (x : Watch) → w.run ≡ r → Watches w x → w.at ≡ length w.run.items →
     Watches (all_of r) x
 watched_all r w x run h over =
@@ -138,7 +138,7 @@ changed x is =
     sym (ap (λ b. let o : Option (Option ℕ) = if b then Some (option_map (λ (a : Activity). a.line) (executed x))
     else None in o) is)
 
--- So far no item has changed the values.
+-- No item passed so far has changed the values.
 pub record Seeks (r : Run) (w : Way) (vs : List ℕ) : Type 0 where
   pub run : w.run ≡ r
   pub values : vs ≡ values (state w.run w.at)

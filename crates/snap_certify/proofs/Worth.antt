@@ -7,11 +7,11 @@ use Rattle.snap_semantics.specs.Schedule.{Schedule}
 use Rattle.snap_semantics.specs.Source.{Source}
 use Rattle.snap_runs.specs.Linearization.{IsLinearizable}
 use Rattle.snap_runs.specs.Run.{Run, IsValidRun, run_of_items, run_over}
-use Rattle.snap_certification.specs.Certificate.{IsCertificate}
-use Rattle.snap_certification.specs.Certification.{CertifiedHasCertificate, Evidence, certificate_of, certification_of}
-use Rattle.snap_certification.specs.Certification.{write_line, writes}
-use Rattle.snap_certification.specs.declared.found.Missing.{Missing}
-use Rattle.snap_certification.specs.declared.found.UpdateWrite.{UpdateWrite}
+use Rattle.snap_certify.specs.Certificate.{IsCertificate}
+use Rattle.snap_certify.specs.Certification.{CertifiedHasCertificate, Evidence, certificate_of, certification_of}
+use Rattle.snap_certify.specs.Certification.{write_line, writes}
+use Rattle.snap_certify.specs.declared.found.Missing.{Missing}
+use Rattle.snap_certify.specs.declared.found.UpdateWrite.{UpdateWrite}
 use Rattle.snap_certify.specs.Finding.{pointed, so_far}
 
 -- what was found of all items of a run

@@ -14,13 +14,13 @@ use Rattle.snap_runs.specs.Audit.{audit}
 use Rattle.snap_runs.specs.Run.{Run, IsValidRun, run_over, state}
 use Rattle.snap_record.specs.Roles.{AreRoles}
 use Rattle.snap_walk.specs.Walk.{Way}
-use Rattle.snap_certification.specs.Certification.{Evidence, changes, executed, found_at, is_put, points}
-use Rattle.snap_certification.specs.Certification.{progress, progress_after, with_finding, writes}
-use Rattle.snap_certification.specs.declared.found.Finding.{Finding}
-use Rattle.snap_certification.specs.declared.found.Missing.{Missing}
-use Rattle.snap_certification.specs.declared.found.Progress.{Progress}
-use Rattle.snap_certification.specs.declared.found.SeenItem.{SeenItem}
-use Rattle.snap_certification.specs.declared.found.UpdateWrite.{UpdateWrite}
+use Rattle.snap_certify.specs.Certification.{Evidence, changes, executed, found_at, is_put, points}
+use Rattle.snap_certify.specs.Certification.{progress, progress_after, with_finding, writes}
+use Rattle.snap_certify.specs.declared.found.Finding.{Finding}
+use Rattle.snap_certify.specs.declared.found.Missing.{Missing}
+use Rattle.snap_certify.specs.declared.found.Progress.{Progress}
+use Rattle.snap_certify.specs.declared.found.SeenItem.{SeenItem}
+use Rattle.snap_certify.specs.declared.found.UpdateWrite.{UpdateWrite}
 use Rattle.snap_certify.specs.declared.finder.Finder.{Finder}
 use Rattle.snap_certify.specs.declared.sight.Sight.{Sight}
 

@@ -22,11 +22,11 @@ certify_listing judged l schedule = do
 abbrev pub certificates_text : List Judgement → Source → List (List ℕ) → Result (List ℕ) Refusal
 certificates_text judged l texts = certify_listing judged l (part 0 texts)
 
--- This was judged for the certification of the run of a listing over a schedule.
+-- What was judged for the certification of the run of a listing over a schedule.
 abbrev pub WasJudgedOver : Source → List ℕ → List Judgement → Type 0
 WasJudgedOver l schedule judged = (s : Schedule) → schedule_for l schedule ≡ Ok s → WasJudged (run_over l s) judged
 
--- This was judged for the certification that an input asks for.
+-- What was judged for the certification of an input.
 abbrev pub WasJudgedIn : Subject → List (List ℕ) → List Judgement → Type 0
 WasJudgedIn subject parts judged =
     (l : Source) → listing_for subject parts ≡ Ok l → WasJudgedOver l (part 0 (texts_for subject parts)) judged

@@ -4,8 +4,8 @@ ghost use Rattle.std.specs.Prelude.{◌≡◌, IfOk, IsOk, Ok};
 ghost use Rattle.snap_runs.specs.Linearization.{IsLinearizable};
 ghost use Rattle.snap_runs.specs.Audit.{audit};
 ghost use Rattle.snap_runs.specs.Run.{Run, run_over};
-ghost use Rattle.snap_certification.specs.Certificate.{IsCertificate};
-ghost use Rattle.snap_certification.specs.Certification.{
+ghost use Rattle.snap_certify.specs.Certificate.{IsCertificate};
+ghost use Rattle.snap_certify.specs.Certification.{
   Evidence,
   certificate_of,
   certification_of,
@@ -16,19 +16,19 @@ ghost use Rattle.snap_certification.specs.Certification.{
 };
 ghost use Rattle.snap_certify.specs.Finding.{pointed};
 
+use crate::certificate::{Certification, Certified};
+use crate::certificates::certified_has_certificate;
+use crate::found::{Lack, Missing, UpdateWrite};
 use crate::line::write_line;
 use crate::pass::find;
 use snap_asm_program::Program;
-use snap_certification::{
-    Certification, Certified, Lack, Missing, UpdateWrite, certified_has_certificate,
-};
 use snap_record::Record;
 use snap_runs::Verdict;
 use snap_sched::Schedule;
 use snap_words::Kind;
 use std::alloc::{AllocError, Global};
 
-/// Whether a scan has its point: without one it lacks it at its answer.
+/// Checks that a scan has its point; without one, a point is missing at its answer.
 fn point_of(verdict: &Verdict) -> Result<(), Missing>
     ensures { result ≡ point_of verdict.now verdict.now.point }
 {
@@ -43,7 +43,7 @@ fn point_of(verdict: &Verdict) -> Result<(), Missing>
     }
 }
 
-/// Whether each scan has its point.
+/// Checks that each scan has its point.
 fn points(verdicts: &[Verdict]) -> Result<(), Missing>
     ensures { result ≡ points verdicts.now }
 {
@@ -53,7 +53,8 @@ fn points(verdicts: &[Verdict]) -> Result<(), Missing>
     Ok(())
 }
 
-/// What a run is certified by whose updates write so, where each scan has its point.
+/// Returns the certificate of these writes and verdicts, if each scan has its point, or what is
+/// missing.
 fn pointed(line: u64, writes: Vec<UpdateWrite>, verdicts: Vec<Verdict>) -> Certification
     ensures { (r : Run) → verdicts.items ≡ audit r →
         seen_certification result ≡ pointed r line writes.items }
@@ -68,7 +69,7 @@ fn pointed(line: u64, writes: Vec<UpdateWrite>, verdicts: Vec<Verdict>) -> Certi
     }
 }
 
-/// The certification of the run of a program over a schedule.
+/// Returns the certification of the run of a program over a schedule.
 pub(crate) fn certification_over<K: Kind>(
     alloc: Global,
     program: &Program,
@@ -91,7 +92,7 @@ pub(crate) fn certification_over<K: Kind>(
     }
 }
 
-/// The certification of a record.
+/// Returns the certification of a record.
 fn conclude<K: Kind>(alloc: Global, history: &Record<K>) -> Result<Certification, AllocError>
     ensures { IfOk result (λ c. seen_certification c ≡ certification_of history.now) }
 {
@@ -99,9 +100,13 @@ fn conclude<K: Kind>(alloc: Global, history: &Record<K>) -> Result<Certification
     certification_over::<K>(alloc, history.machine().program(), &schedule)
 }
 
-/// What a record is certified by, or the first thing that is missing: of the writes, in the order
-/// of the items, and then of the points, in the order of the answers. A certified run has a
+/// Returns what a record is certified by, or the first thing that is missing: of the writes, in the
+/// order of the items, and then of the points, in the order of the answers. A certified run has a
 /// certificate, and is linearizable.
+///
+/// # Errors
+///
+/// `AllocError` where memory runs out.
 pub fn certify<K: Kind>(alloc: Global, history: &Record<K>) -> Result<Certification, AllocError>
     ensures exact { IfOk result (λ c. seen_certification c ≡ certification_of history.now) }
     ensures certificate { IfOk result (λ c. (e : Evidence) → seen_certification c ≡ Ok e →

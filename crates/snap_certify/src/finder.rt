@@ -6,7 +6,7 @@ ghost use Rattle.snap_words.specs.Shape.{IsOneOf};
 ghost use Rattle.snap_semantics.specs.State.{values};
 ghost use Rattle.snap_semantics.specs.declared.process.Outcome.TheVariants.{Finished};
 ghost use Rattle.snap_runs.specs.Run.{run_over};
-ghost use Rattle.snap_certification.specs.Certification.{
+ghost use Rattle.snap_certify.specs.Certification.{
   at_line,
   changes,
   ended,
@@ -18,8 +18,8 @@ ghost use Rattle.snap_certification.specs.Certification.{
   unwritten,
   written,
 };
-ghost use Rattle.snap_certification.specs.declared.found.Progress.{Progress};
-ghost use Rattle.snap_certification.specs.declared.found.SeenItem.{SeenItem};
+ghost use Rattle.snap_certify.specs.declared.found.Progress.{Progress};
+ghost use Rattle.snap_certify.specs.declared.found.SeenItem.{SeenItem};
 ghost use Rattle.snap_certify.specs.Finding.{
   Finds,
   Notes,
@@ -32,9 +32,9 @@ ghost use Rattle.snap_certify.specs.Finding.{
   with_found,
 };
 
+use crate::found::{Finding, Lack, Missing, Progress, UpdateWrite};
 use crate::sight::{Sight, changes, executed};
 use snap_asm_program::Program;
-use snap_certification::{Finding, Lack, Missing, Progress, UpdateWrite};
 use snap_machine::Machine;
 use snap_record::{LineRole, new_roles};
 use snap_sched::Schedule;
@@ -42,7 +42,7 @@ use snap_semantics::{Activity, Op, Outcome};
 use snap_words::{Kind, Shape, View};
 use std::alloc::{AllocError, Global};
 
-/// This is missing at item `t`.
+/// Returns the finding that something is missing at item `t`.
 fn lacks(lack: Lack, t: u64, item: &Sight<'_>, progress: Progress) -> Finding
     ensures { result ≡ lacks lack t (seen_sight item.now) progress }
 {
@@ -54,7 +54,7 @@ fn lacks(lack: Lack, t: u64, item: &Sight<'_>, progress: Progress) -> Finding
     })
 }
 
-/// Whether these values are others with one of them set, where there is such a place.
+/// Returns whether `now` are the values `past` with one of them set, if there is such a place.
 fn is_set(
     alloc: Global,
     now: &[u64],
@@ -72,7 +72,7 @@ fn is_set(
     Ok(now == wanted.as_slice())
 }
 
-/// What is written by item `t`, which executes the line under an operation.
+/// Returns what is written by item `t`, which executes the line under an operation.
 fn written(
     alloc: Global,
     t: u64,
@@ -101,7 +101,7 @@ fn written(
     }))
 }
 
-/// What is found of item `t` that does not execute the line.
+/// Returns what is found of item `t` that does not execute the line.
 fn unwritten(t: u64, item: &Sight<'_>, progress: Progress) -> Finding
     ensures { result ≡ unwritten t (seen_sight item.now) progress }
 {
@@ -112,7 +112,7 @@ fn unwritten(t: u64, item: &Sight<'_>, progress: Progress) -> Finding
     }
 }
 
-/// What is found of item `t` by what it executes.
+/// Returns what is found of item `t` by what it executes.
 fn stepped(
     alloc: Global,
     line: u64,
@@ -131,7 +131,7 @@ fn stepped(
     }
 }
 
-/// What is found of item `t` as the end of an update.
+/// Returns what is found of item `t` as the end of an update.
 fn ended(t: u64, item: &Sight<'_>, progress: Progress) -> Finding
     ensures { result ≡ ended t (seen_sight item.now) progress (seen_sight item.now).outcome }
 {
@@ -141,7 +141,7 @@ fn ended(t: u64, item: &Sight<'_>, progress: Progress) -> Finding
     }
 }
 
-/// What is found at item `t`, where its process was so far before it.
+/// Returns what is found at item `t`, by the progress of its process before it.
 fn found_at(
     alloc: Global,
     line: u64,
@@ -157,7 +157,7 @@ fn found_at(
     }
 }
 
-/// Whether a line is executed.
+/// Returns whether a line is executed.
 fn at_line(line: u64, activity: Option<Activity>) -> bool
     ensures { result ≡ at_line line activity }
 {
@@ -167,7 +167,7 @@ fn at_line(line: u64, activity: Option<Activity>) -> bool
     }
 }
 
-/// How far a process is after its item `t`.
+/// Returns the progress of a process after its item `t`.
 fn progress_after(line: u64, t: u64, item: &Sight<'_>, progress: Progress) -> Progress
     ensures { result ≡ progress_after line t (seen_sight item.now) progress }
 {
@@ -184,7 +184,7 @@ fn progress_after(line: u64, t: u64, item: &Sight<'_>, progress: Progress) -> Pr
 }
 
 /// The writes that were found so far, in the order of their items, where updates write at a line;
-/// or the first thing that is missing, behind which nothing is looked for.
+/// or the first thing that is missing, behind which nothing is sought.
 pub(crate) struct Finder {
     alloc: Global,
     pub(crate) line: u64,
@@ -199,7 +199,7 @@ pub(crate) struct Finder {
 }
 
 impl Drop for Finder {
-    // Written out, so that it is proved here and not once more wherever one is dropped.
+    // A drop that is written out is one call: it is proved once, and not again at each drop.
     fn drop(self) {
         let Finder {
             alloc: _,
@@ -213,7 +213,7 @@ impl Drop for Finder {
     }
 }
 
-/// Each process before its first call.
+/// Returns the progress of each process before its first call.
 fn new_progress(alloc: Global, shape: Shape) -> Result<Vec<Progress>, AllocError>
     ensures { IfOk result (λ ps. ps.items ≡ replicate shape.n fresh) }
 {
@@ -225,8 +225,8 @@ fn new_progress(alloc: Global, shape: Shape) -> Result<Vec<Progress>, AllocError
 }
 
 impl Finder {
-    /// Before the first item of a program's run over a schedule, where updates write at a line and
-    /// the values are these.
+    /// Returns a finder before the first item of the run of `program` over `schedule`, where
+    /// updates write at `line` and the values are `values`.
     pub(crate) fn new(
         alloc: Global,
         program: &Program,
@@ -251,7 +251,7 @@ impl Finder {
         })
     }
 
-    /// Adds a finding, where nothing is missing yet.
+    /// Adds a finding, if nothing is missing yet.
     fn add(&mut self, found: Finding) -> Result<(), AllocError>
         ensures line { self.new.line ≡ self.old.line }
         ensures roles { self.new.roles ≡ self.old.roles }
@@ -271,8 +271,8 @@ impl Finder {
         Ok(())
     }
 
-    /// Notes the item of this number, a step of a process at a line that writes a word, which leaves
-    /// this machine.
+    /// Notes item number `number`, a step of a process at a line that writes a word, which leaves
+    /// `machine`.
     pub(crate) fn note_write<K: Kind>(
         &mut self,
         machine: &Machine<K>,
@@ -305,8 +305,8 @@ impl Finder {
         self.add(found)
     }
 
-    /// Notes that an update of a process ends at the item of this number. Without its write that is
-    /// missing.
+    /// Notes that an update of a process ends at item number `number`. If it has not written, its
+    /// write is missing.
     fn end(&mut self, number: u64, process: u32)
         requires { IsOneOf (length self.old.progress.items) process }
         ensures line { self.new.line ≡ self.old.line }
@@ -330,7 +330,7 @@ impl Finder {
         });
     }
 
-    /// Notes the item of this number, which changes no value and does not execute the line.
+    /// Notes item number `number`, which changes no value and does not execute the line.
     #[inline(always)]
     pub(crate) fn note_other(&mut self, number: u64, process: u32, outcome: &Outcome)
         requires { IsOneOf (length self.old.progress.items) process }

@@ -1,9 +1,12 @@
-//! Certifications: what a record is certified by, or the first thing that is missing for a
-//! certificate; and what the task `certify` writes of it, in the order of linearization points.
+//! What a run is certified by, or what is missing; a run that has a certificate is linearizable,
+//! whatever its listing.
 #![tactic(auto)]
 
+mod certificate;
+mod certificates;
 mod certification;
 mod finder;
+mod found;
 mod line;
 mod order;
 mod pass;
@@ -12,11 +15,13 @@ mod sight;
 mod task;
 mod text;
 
-pub use certification::certify;
-pub use program::certify_program;
-pub use snap_certification::{
-    Certification, Certified, Lack, Missing, UpdateWrite, certified_exactly,
-    certified_has_certificate,
+pub use certificate::{Certification, Certified};
+pub use certificates::{
+    certified_by_points, certified_exactly, certified_has_certificate, certified_has_places,
+    certified_is_linearizable, points_certify,
 };
+pub use certification::certify;
+pub use found::{Finding, Lack, Missing, Progress, SeenItem, UpdateWrite};
+pub use program::certify_program;
 pub use task::certify_input;
 pub use text::certification_text;

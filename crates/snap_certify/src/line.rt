@@ -5,7 +5,7 @@ ghost use Rattle.snap_semantics.specs.State.{values};
 ghost use Rattle.snap_runs.specs.Run.{run_over, state};
 ghost use Rattle.snap_record.specs.Roles.{AreRoles};
 ghost use Rattle.snap_walk.specs.Walk.{Passes, Way};
-ghost use Rattle.snap_certification.specs.Certification.{
+ghost use Rattle.snap_certify.specs.Certification.{
   changing_line,
   is_put,
   putting_line,
@@ -23,8 +23,8 @@ use snap_walk::{Passed, Walk};
 use snap_words::Kind;
 use std::alloc::{AllocError, Global};
 
-/// The line that the item executes which was passed last on the way, where it changes the values,
-/// which were these before it.
+/// Returns the line that the last passed item executes, if it changes the values, which were `past`
+/// before it.
 fn changed_line<K: Kind>(
     walk: &Walk<'_, K>,
     roles: &[LineRole],
@@ -53,7 +53,7 @@ fn changed_line<K: Kind>(
     }
 }
 
-/// The line of the first item that changes the values, which a walk finds that goes up to there.
+/// Returns the line of the first item that changes the values, found by a walk up to that item.
 fn changing_line<K: Kind>(
     alloc: Global,
     program: &Program,
@@ -75,7 +75,7 @@ fn changing_line<K: Kind>(
     Ok(None)
 }
 
-/// Whether a line writes a word.
+/// Returns whether a line writes a word.
 fn is_put(instr: &Instr) -> bool
     ensures { result ≡ is_put instr.now }
 {
@@ -85,7 +85,7 @@ fn is_put(instr: &Instr) -> bool
     }
 }
 
-/// The number of the first line that writes a word, and 0 where none does.
+/// Returns the number of the first line that writes a word, and 0 where none does.
 fn putting_line(lines: &[Line]) -> u64
     ensures { result ≡ putting_line lines.now }
 {
@@ -97,8 +97,8 @@ fn putting_line(lines: &[Line]) -> u64
     0
 }
 
-/// The line at which updates write in the run of a program over a schedule: that of the first item
-/// that changes the values, and where none does, the first line that writes a word.
+/// Returns the line at which updates write in the run of a program over a schedule: that of the
+/// first item that changes the values, and if none does, the first line that writes a word.
 #[tactic(auto, using(crate::proofs::Lines::chosen, crate::proofs::Lines::putting_writes))]
 pub(crate) fn write_line<K: Kind>(
     alloc: Global,

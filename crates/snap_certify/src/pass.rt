@@ -40,8 +40,8 @@ fn notice<K: Kind>(
     }
 }
 
-/// What is found of the items of a program's run over a schedule, where updates write at a line; and
-/// what an audit has to know of them.
+/// Returns what is found of the items of the run of `program` over `schedule`, where updates write
+/// at `line`; and what an audit has to know of them.
 pub(crate) fn find<K: Kind>(
     alloc: Global,
     program: &Program,

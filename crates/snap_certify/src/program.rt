@@ -5,10 +5,10 @@ ghost use Rattle.snap_run_judge.specs.Judged.{AnswersJudged};
 ghost use Rattle.snap_certify.specs.CertificationText.{IsCertificateText};
 ghost use Rattle.snap_certify.specs.Output.{WasJudgedOver, certify_listing};
 
+use crate::certificate::Certification;
 use crate::certification::certification_over;
 use crate::text::{text_of, with_verdict};
 use snap_asm_program::Program;
-use snap_certification::Certification;
 use snap_input::schedule_for;
 use snap_record::record_over;
 use snap_sched::Schedule;
@@ -16,7 +16,7 @@ use snap_semantics::{Fault, Refusal};
 use snap_words::{Bits, Kind, KindTag, Multi, Seq};
 use std::alloc::{AllocError, Global};
 
-/// What the run of a program under a schedule is certified by.
+/// Returns what the run of a program under a schedule is certified by.
 fn certify_run<K: Kind>(
     alloc: Global,
     program: &Program,
@@ -37,7 +37,7 @@ fn certify_run<K: Kind>(
     }
 }
 
-/// What the run of a program of a kind is certified by.
+/// Returns what the run of a program of a kind is certified by.
 #[tactic(auto, unfolding(crate::specs::Output::certify_listing))]
 fn certify_kind<K: Kind>(
     alloc: Global,
@@ -52,7 +52,11 @@ fn certify_kind<K: Kind>(
     Ok(certify_run::<K>(alloc, program, &schedule)?)
 }
 
-/// What the run of a program under a schedule is certified by, or what is missing.
+/// Returns what the run of `program` under `schedule` is certified by, or what is missing.
+///
+/// # Errors
+///
+/// `Refused` with the reason why `schedule` is refused; `Memory` where memory runs out.
 pub fn certify_program(
     alloc: Global,
     program: &Program,

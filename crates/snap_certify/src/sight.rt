@@ -1,12 +1,12 @@
 //! `Sight`: an item as a certification sees it, with the values before and after it; and which
-//! items are seen so.
+//! items are seen as such.
 ghost use Rattle.std.specs.Prelude.{◌≡◌, false, IfSome, None, option_map, Some};
 ghost use Rattle.snap_semantics.specs.Source.{Source};
 ghost use Rattle.snap_semantics.specs.State.{State, process_at};
 ghost use Rattle.snap_semantics.specs.Table.{who};
 ghost use Rattle.snap_runs.specs.StepRoles.{is_write, step_role_of};
 ghost use Rattle.snap_record.specs.Roles.{AreRoles};
-ghost use Rattle.snap_certification.specs.Certification.{changes, executed, stepping};
+ghost use Rattle.snap_certify.specs.Certification.{changes, executed, stepping};
 ghost use Rattle.snap_certify.specs.Finding.{seen_sight};
 
 use snap_record::{LineRole, role_in};
@@ -16,23 +16,24 @@ use snap_semantics::{Activity, Item, Outcome, Status};
 #[derive(Drop)]
 pub(crate) struct Sight<'a> {
     pub(crate) process: u32,
-    /// What the process is at before the item, where it is busy and the item is a step.
+    /// The activity of the process before the item, if it is busy and the item is a step.
     pub(crate) activity: Option<Activity>,
     pub(crate) outcome: &'a Outcome,
     /// The values before the item.
     pub(crate) values_before: &'a [u64],
-    /// The values after it.
+    /// The values after the item.
     pub(crate) values_after: &'a [u64],
 }
 
-/// Whether an item changes the values.
+/// Returns whether an item changes the values.
 pub(crate) fn changes(item: &Sight<'_>) -> bool
     ensures { result ≡ changes (seen_sight item.now) }
 {
     item.values_before != item.values_after
 }
 
-/// What an item executes: what its step finds the process at, where that goes on.
+/// Returns what an item executes: the activity at which a step finds its process, if the process
+/// goes on.
 pub(crate) fn executed(item: &Sight<'_>) -> Option<Activity>
     ensures { result ≡ executed (seen_sight item.now) }
 {
@@ -42,15 +43,15 @@ pub(crate) fn executed(item: &Sight<'_>) -> Option<Activity>
     }
 }
 
-/// The line that an item executes.
+/// Returns the line that an item executes.
 pub(crate) fn executed_line(item: &Sight<'_>) -> Option<u64>
     ensures { result ≡ option_map (λ a. a.line) (executed (seen_sight item.now)) }
 {
     Some(executed(item)?.line)
 }
 
-/// What an item finds its process at, which stands so, where it is a step at a line that writes a
-/// word. Another item writes none.
+/// Returns the activity at which an item finds its process, if it is a step at a line that writes a
+/// word. No other item writes one.
 #[inline(always)]
 pub(crate) fn writing(roles: &[LineRole], item: Item, before: Status) -> Option<Activity>
     ensures some { IfSome result (λ a. stepping item before ≡ Some a) }

@@ -14,7 +14,7 @@ use snap_semantics::{Fault, Refusal};
 use snap_tasks::Subject;
 use std::alloc::Global;
 
-/// Where the operations of a program under the schedule that a text is took place, or what is
+/// Returns where the operations of a program under the schedule of a text took place, or what is
 /// missing.
 fn certify_texts(
     alloc: Global,
@@ -29,7 +29,11 @@ fn certify_texts(
     certify_program(alloc, program, texts[0])
 }
 
-/// The certification of a listing under a schedule.
+/// Returns the certification of a listing under a schedule.
+///
+/// # Errors
+///
+/// `Refused` with the reason why `input` is refused; `Memory` where memory runs out.
 #[tactic(auto, unfolding(snap_input::specs::Input::parted))]
 pub fn certify_input(
     alloc: Global,

@@ -1,8 +1,8 @@
 //! `certification_text`: the printed certification of a run, a line for each operation in the order
 //! of linearization points, or the line of what is missing and a verdict on the run.
 ghost use Rattle.std.specs.Prelude.{◌≡◌, ◌++◌, IfOk, OnOk, codes, drop};
-ghost use Rattle.snap_draft.specs.Drafted.{Adds};
-ghost use Rattle.snap_certification.specs.Certification.{seen_certification};
+ghost use Rattle.snap_text.specs.Drafted.{Adds};
+ghost use Rattle.snap_certify.specs.Certification.{seen_certification};
 ghost use Rattle.snap_certify.specs.CertificationText.{
   IsCertificateText,
   in_order,
@@ -24,15 +24,14 @@ ghost use Rattle.snap_run_judge.specs.VerdictText.{verdict_text};
 
 use crate::order::{in_order, point_item};
 use crate::{Certification, Lack, Missing, UpdateWrite, certify};
-use snap_draft::Draft;
 use snap_record::Record;
 use snap_run_judge::{MOST_CONFIGURATIONS, judge_record, push_verdict};
 use snap_runs::Verdict;
-use snap_text::{push_number, push_text};
+use snap_text::{Draft, push_number, push_text};
 use snap_words::Kind;
 use std::alloc::{AllocError, Global};
 
-/// `update I call C place T word W value V`.
+/// Appends `update I call C place T word W value V`.
 fn update_line(out: &mut Draft, write: &UpdateWrite)
     ensures { Adds out.old out.new (update_line write.now) }
 {
@@ -49,7 +48,7 @@ fn update_line(out: &mut Draft, write: &UpdateWrite)
     out.push(b"\n");
 }
 
-/// `scan I call C place T answer E`.
+/// Appends `scan I call C place T answer E`.
 fn scan_line(out: &mut Draft, verdict: &Verdict)
     ensures { Adds out.old out.new (scan_line verdict.now) }
 {
@@ -64,7 +63,7 @@ fn scan_line(out: &mut Draft, verdict: &Verdict)
     out.push(b"\n");
 }
 
-/// The lines of the writes from a place on.
+/// Appends the lines of the writes from a place on.
 fn update_lines(out: &mut Draft, writes: &[UpdateWrite], from: usize)
     ensures { Adds out.old out.new (update_lines (drop from writes.now)) }
 {
@@ -75,7 +74,7 @@ fn update_lines(out: &mut Draft, writes: &[UpdateWrite], from: usize)
     }
 }
 
-/// The lines of the next writes up to an item, and which write comes then.
+/// Returns the lines of the next writes up to an item, and which write comes then.
 fn writes_until(out: &mut Draft, writes: &[UpdateWrite], next: usize, item: u64) -> usize
     ensures text { Adds out.old out.new
         (update_lines (writes_until item (drop next writes.now))) }
@@ -92,7 +91,7 @@ fn writes_until(out: &mut Draft, writes: &[UpdateWrite], next: usize, item: u64)
     k
 }
 
-/// The lines of writes and scans, in the order of their places.
+/// Appends the lines of writes and scans, in the order of their places.
 fn places_text(out: &mut Draft, writes: &[UpdateWrite], scans: &[Verdict])
     ensures { Adds out.old out.new (places_text writes.now scans.now) }
 {
@@ -104,7 +103,7 @@ fn places_text(out: &mut Draft, writes: &[UpdateWrite], scans: &[Verdict])
     update_lines(out, writes, next);
 }
 
-/// What is missing, in words.
+/// Appends what is missing, in words.
 fn lack_text(out: &mut Vec<u8>, lack: Lack) -> Result<(), AllocError>
     ensures { OnOk result (out.new.items ≡ out.old.items ++ lack_text lack) }
 {
@@ -118,7 +117,7 @@ fn lack_text(out: &mut Vec<u8>, lack: Lack) -> Result<(), AllocError>
     }
 }
 
-/// `: WHAT`.
+/// Appends `: WHAT`.
 #[tactic(auto, using(snap_text::proofs::Texts::joined))]
 fn reason_text(out: &mut Vec<u8>, lack: Lack) -> Result<(), AllocError>
     ensures { OnOk result (out.new.items ≡ out.old.items ++ reason_text lack) }
@@ -128,7 +127,7 @@ fn reason_text(out: &mut Vec<u8>, lack: Lack) -> Result<(), AllocError>
     push_text(out, b"\n")
 }
 
-/// `process I call C item T: WHAT`.
+/// Appends `process I call C item T: WHAT`.
 #[tactic(auto, using(snap_text::proofs::Texts::joined))]
 fn missing_line(out: &mut Vec<u8>, missing: &Missing) -> Result<(), AllocError>
     ensures { OnOk result (out.new.items ≡ out.old.items ++ missing_line missing.now) }
@@ -142,7 +141,7 @@ fn missing_line(out: &mut Vec<u8>, missing: &Missing) -> Result<(), AllocError>
     reason_text(out, missing.lack)
 }
 
-/// The text of a certified run: its operations in the order of their places.
+/// Returns the text of a certified run: its operations in the order of their places.
 fn certified_text(
     alloc: Global,
     writes: &[UpdateWrite],
@@ -157,7 +156,7 @@ fn certified_text(
     out.finish()
 }
 
-/// The text of what is missing.
+/// Returns the text of what is missing.
 fn missing_text(alloc: Global, missing: &Missing) -> Result<Vec<u8>, AllocError>
     ensures { IfOk result (λ out. out.items ≡ missing_line missing.now) }
 {
@@ -166,7 +165,7 @@ fn missing_text(alloc: Global, missing: &Missing) -> Result<Vec<u8>, AllocError>
     Ok(out)
 }
 
-/// The text of a certification.
+/// Returns the text of a certification.
 pub(crate) fn text_of(alloc: Global, certification: &Certification) -> Result<Vec<u8>, AllocError>
     ensures { IfOk result (λ out. out.items ≡ text_of (seen_certification certification.now)) }
 {
@@ -179,7 +178,7 @@ pub(crate) fn text_of(alloc: Global, certification: &Certification) -> Result<Ve
     }
 }
 
-/// A text, and behind it the verdict on the run of a record.
+/// Returns `text`, and behind it the verdict on the run of `history`.
 #[tactic(auto, using(snap_text::proofs::Texts::joined))]
 pub(crate) fn with_verdict<K: Kind>(
     alloc: Global,
@@ -196,8 +195,12 @@ pub(crate) fn with_verdict<K: Kind>(
     Ok(out)
 }
 
-/// What a record is certified by, a line for each operation in the order of places; or what is
-/// missing, in one line, and then whether the run is linearizable all the same.
+/// Returns what a record is certified by, a line for each operation in the order of places; or what
+/// is missing, in one line, and then whether the run is linearizable all the same.
+///
+/// # Errors
+///
+/// `AllocError` where memory runs out.
 pub fn certification_text<K: Kind>(
     alloc: Global,
     history: &Record<K>,

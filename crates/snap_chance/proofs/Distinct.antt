@@ -16,7 +16,7 @@ either_first true false n = refl
 either_first false true n = refl
 either_first false false n = refl
 
--- it does not matter where a process is put in
+-- the place at which a process is put in does not matter
 times_with : (i k : ℕ) (m : Mover) (xs : List Mover) → times_in i (insert xs k m) ≡ times_in i (m ∷ xs)
 times_with i zero m xs = refl
 times_with i (suc k) m [] = refl
@@ -38,7 +38,7 @@ apart true c i n is lt =
     absurd (omega (arith, same))
 apart false c i n is lt = refl
 
--- those that come later are not in it
+-- the processes that come later are not in the order yet
 not_yet : (p : Plan) (i c : ℕ) (s : Stream) → c < i → times_in i (order_of p c s).0 ≡ 0
 not_yet p i zero s lt = refl
 not_yet p i (suc c) s lt =

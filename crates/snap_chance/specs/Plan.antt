@@ -16,7 +16,7 @@ pub record Plan : Type 0 where
   pub repeated : ℕ
   pub depth : Option ℕ
 
--- There are processes and words, and so few turns that a schedule has room for them.
+-- A plan has processes and words, and few enough turns for a schedule.
 pub record IsPlan (p : Plan) : Type 0 where
   pub shape : IsShape p.shape.n p.shape.w
   pub few : p.turns ≤ 7500

@@ -39,11 +39,11 @@ abbrev pub times_in : (i : ℕ) → List Mover → ℕ
 times_in i [] = 0
 times_in i (m ∷ order) = if nat_eq m.process i then suc (times_in i order) else times_in i order
 
--- So no two processes have the same priority: each stands in the order once.
+-- No two processes have the same priority: each stands in the order once.
 abbrev pub HasDistinctPriorities : Plan → Stream → Type 0
 HasDistinctPriorities p s = (i : ℕ) → IsOneOf p.shape.n i → times_in i (order_of p p.shape.n s).0 ≡ 1
 
--- so many turns at which the process that moves is lowered
+-- a number of turns at which the process that moves is lowered
 abbrev pub changes_of : Plan → ℕ → Stream → List ℕ × Stream
 changes_of p zero s = ([], s)
 changes_of p (suc count) s =

@@ -4,7 +4,7 @@ ghost use Rattle.snap_chance.specs.Draws.{draws};
 
 use rand_core::Rng;
 
-/// What is drawn for a turn: a number for each of its choices.
+/// The random numbers for one turn, one for each of its choices.
 #[derive(Clone, Copy)]
 pub(crate) struct Draws {
     pub(crate) process: u64,
@@ -17,7 +17,7 @@ pub(crate) struct Draws {
     pub(crate) length: u64,
 }
 
-/// Draws for a turn.
+/// Draws the numbers for a turn.
 pub(crate) fn draw<R: Rng>(rng: &mut R) -> Draws
     ensures { (result, R.stream rng.new) ≡ draws (R.stream rng.old) }
 {

@@ -19,7 +19,7 @@ use snap_sched::Items;
 use snap_semantics::Op;
 use std::alloc::{AllocError, Global};
 
-/// A process that is asked for an operation, and takes so many steps.
+/// Returns the turn in which a process calls `op` and takes `steps` steps.
 fn asked_turn(process: u32, op: Op, steps: u64) -> Turn
     ensures { result ≡ asked_turn process op steps }
 {
@@ -30,7 +30,7 @@ fn asked_turn(process: u32, op: Op, steps: u64) -> Turn
     }
 }
 
-/// A burst of steps of a process.
+/// Returns a burst of steps of a process.
 fn burst_move(plan: &Plan, run: u64, turn: u64, process: u32, draws: &Draws) -> Turn
     ensures { result ≡ burst_move plan.now run turn process draws.now }
 {
@@ -41,7 +41,7 @@ fn burst_move(plan: &Plan, run: u64, turn: u64, process: u32, draws: &Draws) -> 
     )
 }
 
-/// A few steps of the process that scans in this run, or an update of another one.
+/// Returns a few steps of the process that scans in this run, or an update of another one.
 fn role_move(plan: &Plan, run: u64, turn: u64, process: u32, draws: &Draws) -> Turn
     ensures { result ≡ role_move plan.now run turn process draws.now }
 {
@@ -56,7 +56,7 @@ fn role_move(plan: &Plan, run: u64, turn: u64, process: u32, draws: &Draws) -> T
     }
 }
 
-/// A turn of a process.
+/// Returns a turn of a process.
 fn move_of(plan: &Plan, run: u64, turn: u64, process: u32, draws: &Draws) -> Turn
     ensures { result ≡ move_at plan.now.pace plan.now run turn process draws.now }
 {
@@ -76,7 +76,7 @@ fn move_of(plan: &Plan, run: u64, turn: u64, process: u32, draws: &Draws) -> Tur
     }
 }
 
-/// Adds a turn of the first in the order.
+/// Appends a turn of the first process in the order.
 #[tactic(auto, using(crate::proofs::Moving::move_short))]
 fn push_move(
     items: &mut Items,
@@ -103,7 +103,7 @@ fn push_move(
     push_asked(items, &move_of(plan, run, turn, process, draws))
 }
 
-/// The turns of a plan, one after another, by an order and the turns at which it changes.
+/// Returns the turns of a plan, one after another, by an order and the turns at which it changes.
 fn moves_of<R: Rng>(
     alloc: Global,
     rng: &mut R,
@@ -129,7 +129,7 @@ fn moves_of<R: Rng>(
     Ok(items)
 }
 
-/// The turns of a plan, one after another, by priorities.
+/// Returns the turns of a plan, one after another, by priorities.
 pub(crate) fn prioritized<R: Rng>(
     alloc: Global,
     rng: &mut R,

@@ -7,7 +7,7 @@ ghost use Rattle.snap_chance.specs.Plan.{IsPlan, with_depth, with_owned};
 use snap_words::Shape;
 use std::marker::Model;
 
-/// The most turns of a schedule. A turn is at most 129 items.
+/// The most turns of a schedule. A turn has at most 129 items.
 pub const MAX_TURNS: u64 = 7_500;
 
 /// How processes take turns.
@@ -17,14 +17,14 @@ pub enum Pace {
     Coins,
     /// Steps of one process side by side: 1 to 128, short bursts as often as long ones.
     Bursts,
-    /// One process scans, a few steps at a time. Between them all processes make updates, most of
-    /// them whole.
+    /// One process scans, a few steps at a time, while all processes make updates in between, most
+    /// of them whole.
     Interruptions,
-    /// One process scans, one to four steps at a time. Between them two others make two updates,
-    /// whole.
+    /// One process scans, one to four steps at a time, while two others make two whole updates in
+    /// between.
     Rounds,
-    /// One process updates, in parts, and another one scans, in parts. A third updates and scans
-    /// between them, most often whole, so that its scans tell what the others left.
+    /// One process updates, in parts, and another one scans, in parts, while a third updates and
+    /// scans in between, most often whole, so that its scans witness what the others have done.
     Witnesses,
     /// One process updates, now to the end and now to somewhere near it, while another one scans, a
     /// part at a time, behind an update of its own.
@@ -33,8 +33,8 @@ pub enum Pace {
     Mixed,
 }
 
-/// How schedules are made. There are processes and words, and so few turns that a schedule has room
-/// for them.
+/// How schedules are made: a plan has at least one process and one word, and few enough turns for a
+/// schedule.
 #[derive(Clone, Copy)]
 pub struct Plan {
     shape: Shape,
@@ -83,9 +83,9 @@ impl Model for Plan {
 }
 
 impl Plan {
-    /// A plan of so many turns, in which processes update any words. Of a thousand turns, so many
-    /// are crashes. In half of the schedules values are from 0 to the last number; in the others,
-    /// and in all where it is 0, no two updates have the same value.
+    /// Returns a plan of `turns` turns, in which processes update any words, and of a thousand
+    /// turns `crashes` are crashes. In half of the schedules values are from 0 to `repeated`; in
+    /// the others, and in all if `repeated` is 0, no two updates have the same value.
     pub fn new(shape: Shape, pace: Pace, turns: u64, crashes: u64, repeated: u32) -> Plan
         requires shape { IsShape shape.n shape.w }
         requires few { turns ≤ 7500 }
@@ -110,22 +110,23 @@ impl Plan {
         }
     }
 
-    /// The same plan, in which each process updates the word of its own number, where that is said.
+    /// Returns the same plan, in which each process updates the word of its own number if `owns`
+    /// says so.
     pub fn with_owned(&self, owns: bool) -> Plan
         ensures { result ≡ with_owned owns self.now }
     {
         Plan { owns, ..*self }
     }
 
-    /// The same plan, in which priorities decide who moves, to this depth, where one is said: the
-    /// process that moves is lowered at one turn fewer than that.
+    /// Returns the same plan, in which priorities decide who moves, to the depth `depth` if there
+    /// is one: the process that moves is lowered at one turn fewer than `depth`.
     pub fn with_depth(&self, depth: Option<u64>) -> Plan
         ensures { result ≡ with_depth depth self.now }
     {
         Plan { depth, ..*self }
     }
 
-    /// The numbers of processes and of words.
+    /// Returns the numbers of processes and of words.
     pub fn shape(&self) -> Shape
         ensures shape { result ≡ self.now.shape }
         ensures plan { IsPlan self.now }
@@ -133,21 +134,21 @@ impl Plan {
         self.shape
     }
 
-    /// Whether each process updates the word of its own number.
+    /// Returns whether each process updates the word of its own number.
     pub fn owns(&self) -> bool
         ensures { result ≡ self.now.owns }
     {
         self.owns
     }
 
-    /// How processes take turns.
+    /// Returns how processes take turns.
     pub fn pace(&self) -> Pace
         ensures { result ≡ self.now.pace }
     {
         self.pace
     }
 
-    /// How many turns a schedule has.
+    /// Returns how many turns a schedule has.
     pub fn turns(&self) -> u64
         ensures turns { result ≡ self.now.turns }
         ensures plan { IsPlan self.now }
@@ -155,21 +156,21 @@ impl Plan {
         self.turns
     }
 
-    /// Of a thousand turns, how many are crashes.
+    /// Returns how many of a thousand turns are crashes.
     pub fn crashes(&self) -> u64
         ensures { result ≡ self.now.crashes }
     {
         self.crashes
     }
 
-    /// The greatest of the values that are repeated.
+    /// Returns the greatest of the values that are repeated.
     pub fn repeated(&self) -> u32
         ensures { result ≡ self.now.repeated }
     {
         self.repeated
     }
 
-    /// To which depth priorities decide who moves, if they do.
+    /// Returns to which depth priorities decide who moves, if they do.
     pub fn depth(&self) -> Option<u64>
         ensures { result ≡ self.now.depth }
     {

@@ -9,14 +9,14 @@ use crate::plan::Plan;
 use rand_core::Rng;
 use std::alloc::{AllocError, Global};
 
-/// A process that has turns left, and how many.
+/// A process that has turns left, and how many it has.
 #[derive(Clone, Copy)]
 pub(crate) struct Mover {
     pub(crate) process: u32,
     pub(crate) left: u64,
 }
 
-/// How many turns each process has.
+/// Returns how many turns each process has.
 fn share(plan: &Plan) -> u64
     ensures { result ≡ share plan.now }
 {
@@ -24,7 +24,7 @@ fn share(plan: &Plan) -> u64
     (plan.turns() + (count - 1)) / count
 }
 
-/// The processes in an order, the one that moves first before the others.
+/// Returns the processes in a random order, the one that moves first before the others.
 pub(crate) fn order_of<R: Rng>(
     alloc: Global,
     rng: &mut R,
@@ -50,7 +50,7 @@ pub(crate) fn order_of<R: Rng>(
     Ok(order)
 }
 
-/// So many turns at which the process that moves is lowered.
+/// Returns `count` random turns, at which the process that moves is lowered.
 pub(crate) fn changes_of<R: Rng>(
     alloc: Global,
     rng: &mut R,
@@ -68,7 +68,7 @@ pub(crate) fn changes_of<R: Rng>(
     Ok(changes)
 }
 
-/// Lowers the process that moves, where this is one of the turns for it.
+/// Lowers the process that moves, if `turn` is one of `changes`.
 pub(crate) fn lower_at(order: &mut Vec<Mover>, changes: &[u64], turn: u64)
     ensures { order.new.items ≡ lowered_at turn changes.now order.old.items }
 {
@@ -77,7 +77,7 @@ pub(crate) fn lower_at(order: &mut Vec<Mover>, changes: &[u64], turn: u64)
     }
 }
 
-/// Takes a turn off the process that has moved.
+/// Takes one turn from the process that has moved.
 pub(crate) fn pass(order: &mut Vec<Mover>)
     ensures { order.new.items ≡ passed order.old.items }
 {

@@ -12,14 +12,14 @@ use rand_xoshiro::SplitMix64;
 use snap_sched::{Items, Schedule};
 use std::alloc::{AllocError, Global};
 
-/// Where the generator of a run starts.
+/// Returns where the generator of a run starts.
 fn start_of(seed: u64, run: u64) -> u64
     ensures { result ≡ start_of seed run }
 {
     SplitMix64::seed_from_u64(seed).next_u64().wrapping_add(run)
 }
 
-/// The turns of a plan, one after another.
+/// Returns the turns of a plan, one after another.
 fn turns_of<R: Rng>(alloc: Global, rng: &mut R, plan: &Plan, run: u64) -> Result<Items, AllocError>
     ensures items { IfOk result (λ items. items
         ≡ turns_from plan.now run 1 plan.now.turns (R.stream rng.old)) }
@@ -34,7 +34,7 @@ fn turns_of<R: Rng>(alloc: Global, rng: &mut R, plan: &Plan, run: u64) -> Result
     Ok(items)
 }
 
-/// The items of a run.
+/// Returns the items of a run.
 fn items_of<R: Rng>(alloc: Global, rng: &mut R, plan: &Plan, run: u64) -> Result<Items, AllocError>
     ensures items { IfOk result (λ items. items
         ≡ items_by plan.now.depth plan.now run (R.stream rng.old)) }
@@ -47,7 +47,12 @@ fn items_of<R: Rng>(alloc: Global, rng: &mut R, plan: &Plan, run: u64) -> Result
     }
 }
 
-/// The schedule that a seed and the number of a run give by a plan. Each number has its own.
+/// Returns the schedule that `seed` and the number of a run give by `plan`. Each run has a random
+/// sequence of its own.
+///
+/// # Errors
+///
+/// `AllocError` where memory runs out.
 #[tactic(auto, unfolding(crate::specs::Chance::schedule_of))]
 pub fn schedule_of(alloc: Global, seed: u64, run: u64, plan: &Plan) -> Result<Schedule, AllocError>
     ensures { IfOk result (λ s. s ≡ schedule_of seed run plan.now) }

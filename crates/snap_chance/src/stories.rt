@@ -29,8 +29,8 @@ pub(crate) enum Extent {
     Any,
 }
 
-/// What happens at one turn of a story: which of its processes moves, by a number from 0 on, whether
-/// it updates where it calls something, or scans, and how far it goes.
+/// One turn of a story: which of its processes moves, by a number from 0 on, whether an operation
+/// that it calls is an update or a scan, and how far it goes.
 #[derive(Clone, Copy)]
 pub(crate) struct Scene {
     pub(crate) number: u64,
@@ -38,7 +38,7 @@ pub(crate) struct Scene {
     pub(crate) extent: Extent,
 }
 
-/// An update, as far as that.
+/// Returns the scene of an update that goes as far as `extent`.
 fn update_scene(number: u64, extent: Extent) -> Scene
     ensures { result ≡ update_scene number extent }
 {
@@ -49,7 +49,7 @@ fn update_scene(number: u64, extent: Extent) -> Scene
     }
 }
 
-/// A scan, as far as that.
+/// Returns the scene of a scan that goes as far as `extent`.
 fn scan_scene(number: u64, extent: Extent) -> Scene
     ensures { result ≡ scan_scene number extent }
 {
@@ -60,7 +60,8 @@ fn scan_scene(number: u64, extent: Extent) -> Scene
     }
 }
 
-/// Process 0 updates and process 1 scans, in parts; process 2 updates between them, and then scans.
+/// Returns the scenes of witnesses: process 0 updates and process 1 scans, in parts; process 2
+/// updates in between, and then scans.
 fn witness_scenes() -> [Scene; 8]
     ensures { result ≡ witness_scenes }
 {
@@ -76,8 +77,9 @@ fn witness_scenes() -> [Scene; 8]
     ]
 }
 
-/// Process 0 comes near the end of an update. Process 1 makes an update of its own, and begins a
-/// scan, which goes on bit by bit while process 0 ends its update and makes another one.
+/// Returns the scenes of a duel. Process 0 comes near the end of an update. Process 1 makes an
+/// update of its own, and begins a scan, which goes on bit by bit while process 0 ends its update
+/// and makes another one.
 fn duel_scenes() -> [Scene; 10]
     ensures { result ≡ duel_scenes }
 {
@@ -95,7 +97,7 @@ fn duel_scenes() -> [Scene; 10]
     ]
 }
 
-/// How many steps an extent is, where an update takes so many.
+/// Returns how many steps an extent is, of an update of `whole` steps.
 fn extent_of(extent: Extent, whole: u64, draws: &Draws) -> u64
     requires some { 24 ≤ whole }
     requires few { whole ≤ 128 }
@@ -117,7 +119,8 @@ fn extent_of(extent: Extent, whole: u64, draws: &Draws) -> u64
     }
 }
 
-/// What a process is asked for in a scene: an update, of a value that no other has, or a scan.
+/// Returns the operation that a process calls in a scene: an update, of a value that no other has,
+/// or a scan.
 fn scene_op(plan: &Plan, turn: u64, process: u32, updates: bool, draws: &Draws) -> Op
     ensures { result ≡ scene_op plan.now turn process updates draws.now }
 {
@@ -131,7 +134,7 @@ fn scene_op(plan: &Plan, turn: u64, process: u32, updates: bool, draws: &Draws) 
     }
 }
 
-/// The turn of a scene.
+/// Returns the turn of a scene.
 fn scene_turn(plan: &Plan, run: u64, turn: u64, scene: Scene, draws: &Draws) -> Turn
     requires { scene.number ≤ 2 }
     ensures { result ≡ scene_turn plan.now run turn scene draws.now }
@@ -144,7 +147,7 @@ fn scene_turn(plan: &Plan, run: u64, turn: u64, scene: Scene, draws: &Draws) -> 
     }
 }
 
-/// A turn with witnesses.
+/// Returns a turn with witnesses.
 pub(crate) fn witness_turn(plan: &Plan, run: u64, turn: u64, draws: &Draws) -> Turn
     ensures { result ≡ witness_turn plan.now run turn draws.now }
 {
@@ -152,7 +155,7 @@ pub(crate) fn witness_turn(plan: &Plan, run: u64, turn: u64, draws: &Draws) -> T
     scene_turn(plan, run, turn, scenes[(turn % 8) as usize], draws)
 }
 
-/// A turn of a duel.
+/// Returns a turn of a duel.
 pub(crate) fn duel_turn(plan: &Plan, run: u64, turn: u64, draws: &Draws) -> Turn
     ensures { result ≡ duel_turn plan.now run turn draws.now }
 {

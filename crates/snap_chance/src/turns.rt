@@ -35,7 +35,7 @@ use snap_sched::Items;
 use snap_semantics::Op;
 use std::alloc::AllocError;
 
-/// A turn of a process: what it is asked for, if anything, and how many steps it takes then.
+/// A turn of a process: the operation that it calls, if any, and how many steps it takes then.
 #[derive(Clone, Copy)]
 pub(crate) struct Turn {
     pub(crate) process: u32,
@@ -43,21 +43,21 @@ pub(crate) struct Turn {
     pub(crate) steps: u64,
 }
 
-/// The process that is drawn for a turn.
+/// Returns the process that is drawn for a turn.
 fn process_of(plan: &Plan, draws: &Draws) -> u32
     ensures { result ≡ process_of plan.now draws.now }
 {
     (draws.process % u64::from(plan.shape().process_count())) as u32 + 1
 }
 
-/// How many steps a burst is.
+/// Returns how many steps a burst is.
 pub(crate) fn burst_of(draws: &Draws) -> u64
     ensures { result ≡ burst_of draws.now }
 {
     draws.length % (1 << (draws.scale % 8)) + 1
 }
 
-/// The word that an update of a process sets.
+/// Returns the word that an update of a process sets.
 pub(crate) fn word_of(plan: &Plan, process: u32, draws: &Draws) -> u64
     ensures { result ≡ word_of plan.now process draws.now }
 {
@@ -68,14 +68,14 @@ pub(crate) fn word_of(plan: &Plan, process: u32, draws: &Draws) -> u64
     }
 }
 
-/// Whether the values of a run repeat.
+/// Returns whether the values of a run repeat.
 fn repeats(plan: &Plan, run: u64) -> bool
     ensures { result ≡ repeats plan.now run }
 {
     plan.repeated() > 0 && run / 2 % 2 == 1
 }
 
-/// The value that the update of a turn sets.
+/// Returns the value that the update of a turn sets.
 fn value_of(plan: &Plan, run: u64, turn: u64, draws: &Draws) -> u64
     ensures { result ≡ value_of plan.now run turn draws.now }
 {
@@ -86,7 +86,7 @@ fn value_of(plan: &Plan, run: u64, turn: u64, draws: &Draws) -> u64
     }
 }
 
-/// The update of a turn.
+/// Returns the update of a turn.
 pub(crate) fn update_of(plan: &Plan, run: u64, turn: u64, process: u32, draws: &Draws) -> Op
     ensures { result ≡ update_of plan.now run turn process draws.now }
 {
@@ -96,7 +96,7 @@ pub(crate) fn update_of(plan: &Plan, run: u64, turn: u64, process: u32, draws: &
     }
 }
 
-/// The operation of a turn.
+/// Returns the operation of a turn.
 pub(crate) fn operation_of(plan: &Plan, run: u64, turn: u64, process: u32, draws: &Draws) -> Op
     ensures { result ≡ operation_of plan.now run turn process draws.now }
 {
@@ -107,7 +107,7 @@ pub(crate) fn operation_of(plan: &Plan, run: u64, turn: u64, process: u32, draws
     }
 }
 
-/// One step, before which one turn in eight calls an operation.
+/// Returns a turn of one step, before which one turn in eight calls an operation.
 fn coin_turn(plan: &Plan, run: u64, turn: u64, draws: &Draws) -> Turn
     ensures { result ≡ coin_turn plan.now run turn draws.now }
 {
@@ -124,7 +124,7 @@ fn coin_turn(plan: &Plan, run: u64, turn: u64, draws: &Draws) -> Turn
     }
 }
 
-/// A burst of steps, before which one turn in two calls an operation.
+/// Returns a burst of steps, before which one turn in two calls an operation.
 fn burst_turn(plan: &Plan, run: u64, turn: u64, draws: &Draws) -> Turn
     ensures { result ≡ burst_turn plan.now run turn draws.now }
 {
@@ -141,14 +141,14 @@ fn burst_turn(plan: &Plan, run: u64, turn: u64, draws: &Draws) -> Turn
     }
 }
 
-/// The process whose scans are interrupted in a run.
+/// Returns the process whose scans are interrupted in a run.
 pub(crate) fn interrupted_process(plan: &Plan, run: u64) -> u32
     ensures { result ≡ interrupted_process plan.now run }
 {
     (run / 2 % u64::from(plan.shape().process_count())) as u32 + 1
 }
 
-/// A few steps of the process that scans.
+/// Returns a few steps of the process that scans.
 pub(crate) fn scanning_turn(plan: &Plan, run: u64, draws: &Draws) -> Turn
     ensures { result ≡ scanning_turn plan.now run draws.now }
 {
@@ -164,7 +164,8 @@ pub(crate) fn scanning_turn(plan: &Plan, run: u64, draws: &Draws) -> Turn
     }
 }
 
-/// How many steps make an update whole, where nothing comes between them and the processes are few.
+/// Returns how many steps make an update whole, where nothing comes between them and the processes
+/// are few.
 pub(crate) fn whole_update(plan: &Plan) -> u64
     ensures value { result ≡ whole_update plan.now }
     ensures some { 24 ≤ result }
@@ -173,7 +174,7 @@ pub(crate) fn whole_update(plan: &Plan) -> u64
     (24 * u64::from(plan.shape().process_count())).min(128)
 }
 
-/// An update, whole or its first part.
+/// Returns an update, whole or its first part.
 pub(crate) fn updating_turn(plan: &Plan, run: u64, turn: u64, draws: &Draws) -> Turn
     ensures { result ≡ updating_turn plan.now run turn draws.now }
 {
@@ -191,7 +192,7 @@ pub(crate) fn updating_turn(plan: &Plan, run: u64, turn: u64, draws: &Draws) -> 
     }
 }
 
-/// A turn of the process that scans, or one that interrupts it.
+/// Returns a turn of the process that scans, or of one that interrupts its scan.
 fn interrupted_turn(plan: &Plan, run: u64, turn: u64, draws: &Draws) -> Turn
     ensures { result ≡ interrupted_turn plan.now run turn draws.now }
 {
@@ -202,7 +203,7 @@ fn interrupted_turn(plan: &Plan, run: u64, turn: u64, draws: &Draws) -> Turn
     }
 }
 
-/// A process of the rounds of a run: number 0 scans, 1 and 2 update.
+/// Returns a process of the rounds of a run: number 0 scans, and numbers 1 and 2 update.
 pub(crate) fn round_process(plan: &Plan, run: u64, number: u64) -> u32
     requires { number ≤ 2 }
     ensures { result ≡ round_process plan.now run number }
@@ -210,7 +211,7 @@ pub(crate) fn round_process(plan: &Plan, run: u64, number: u64) -> u32
     ((run / 8 + number) % u64::from(plan.shape().process_count())) as u32 + 1
 }
 
-/// The value that an update of a round sets.
+/// Returns the value that an update of a round sets.
 fn round_value(plan: &Plan, run: u64, turn: u64) -> u64
     ensures { result ≡ round_value plan.now run turn }
 {
@@ -221,7 +222,7 @@ fn round_value(plan: &Plan, run: u64, turn: u64) -> u64
     }
 }
 
-/// A scan, where none is going on, and a few of its steps.
+/// Returns a turn of the process that scans: a call if no scan is going on, and a few steps.
 fn round_scan(plan: &Plan, run: u64, draws: &Draws) -> Turn
     ensures { result ≡ round_scan plan.now run draws.now }
 {
@@ -232,7 +233,7 @@ fn round_scan(plan: &Plan, run: u64, draws: &Draws) -> Turn
     }
 }
 
-/// A whole update of one of two processes.
+/// Returns a whole update of one of two processes.
 fn round_update(plan: &Plan, run: u64, turn: u64, draws: &Draws) -> Turn
     ensures { result ≡ round_update plan.now run turn draws.now }
 {
@@ -247,7 +248,7 @@ fn round_update(plan: &Plan, run: u64, turn: u64, draws: &Draws) -> Turn
     }
 }
 
-/// A turn of a round.
+/// Returns a turn of a round.
 fn round_turn(plan: &Plan, run: u64, turn: u64, draws: &Draws) -> Turn
     ensures { result ≡ round_turn plan.now run turn draws.now }
 {
@@ -258,7 +259,7 @@ fn round_turn(plan: &Plan, run: u64, turn: u64, draws: &Draws) -> Turn
     }
 }
 
-/// A turn of a run of each kind in turn, by the number of the run.
+/// Returns a turn of a run of each kind in turn, by the number of the run.
 fn mixed_turn(plan: &Plan, run: u64, turn: u64, draws: &Draws) -> Turn
     ensures { result ≡ mixed_turn plan.now run turn draws.now }
 {
@@ -276,7 +277,7 @@ fn mixed_turn(plan: &Plan, run: u64, turn: u64, draws: &Draws) -> Turn
     }
 }
 
-/// A turn that is no crash.
+/// Returns a turn that is no crash.
 fn turn_of(plan: &Plan, run: u64, turn: u64, draws: &Draws) -> Turn
     ensures { result ≡ turn_of plan.now run turn draws.now }
 {
@@ -291,7 +292,7 @@ fn turn_of(plan: &Plan, run: u64, turn: u64, draws: &Draws) -> Turn
     }
 }
 
-/// Adds what a process is asked for, and its steps.
+/// Appends the call of a turn, if it has one, and its steps.
 pub(crate) fn push_asked(items: &mut Items, turn: &Turn) -> Result<(), AllocError>
     requires few { length items.old + 129 < 2 ^ 32 }
     requires short { turn.now.steps ≤ 128 }
@@ -304,7 +305,7 @@ pub(crate) fn push_asked(items: &mut Items, turn: &Turn) -> Result<(), AllocErro
     items.push_steps(turn.process, turn.steps)
 }
 
-/// Adds a turn.
+/// Appends a turn.
 #[tactic(auto, using(crate::proofs::Turning::turn_short))]
 pub(crate) fn push_turn(
     items: &mut Items,

@@ -8,7 +8,7 @@ use Rattle.snap_words.specs.Word.{Word}
 use Rattle.snap_semantics.specs.Readers.{Contents, WordContents, BitContents, ViewContents}
 use Rattle.snap_debug.specs.Marks.{same_contents, same_word}
 
--- both hold
+-- both parts of a true conjunction are true
 pub both : (a b : Bool) → (a && b) ≡ true → (a ≡ true) × (b ≡ true)
 both true b h = (refl, h)
 both false b h = absurd cc
@@ -61,7 +61,7 @@ word_is x y h =
     record { datum = y.datum; seq = y.seq; id = y.id; toggle = y.toggle; handshakes = y.handshakes; view = k } in w)
     view
 
--- so are contents
+-- contents that compare equal are equal
 pub contents_are : (x y : Option Contents) → same_contents x y ≡ true → x ≡ y
 contents_are (Some (WordContents x)) (Some (WordContents y)) h =
     ap (λ (w : Word). Some (WordContents w)) (word_is x y h)
@@ -82,7 +82,7 @@ contents_are None (Some (BitContents y)) h = absurd cc
 contents_are None (Some (ViewContents y)) h = absurd cc
 contents_are None None h = refl
 
--- and each has the fields of itself
+-- a list compares equal to itself
 bytes_same : (xs : List ℕ) → bytes_eq xs xs ≡ true
 bytes_same xs = (bytes_eq-Decides xs xs).1 refl
 

@@ -13,8 +13,8 @@ use Rattle.snap_debug.specs.Marks.{Marks, mark_count, reaches, changes, contents
 use Rattle.snap_debug.specs.Marks.{is_stop, next_stop, last_stop, same_contents}
 use Rattle.snap_debug.specs.Stops.{differs, or_before, stands_at, stops_between}
 use Rattle.snap_debug.proofs.Contents.{contents_are, contents_same}
-use Rattle.snap_debug_checkpoints.specs.Recording.{IsCheckpoint}
-use Rattle.snap_debug_checkpoints.specs.declared.checkpoint.Checkpoint.{Checkpoint}
+use Rattle.snap_debug.specs.Recording.{IsCheckpoint}
+use Rattle.snap_debug.specs.declared.checkpoint.Checkpoint.{Checkpoint}
 use Rattle.snap_debug_commands.specs.declared.command.Breakpoint.{Breakpoint}
 
 -- whether process i stands at a breakpoint
@@ -31,7 +31,7 @@ stop_is r m t S T i before after process =
     ∙ ap (λ k. stops_between (state r t) (state r (suc t)) k m) (process ∙ ap (λ k. who (item r k)) e)
     ∙ ap (is_stop r m) (sym e)
 
--- and so they do between a machine that was stepped and the one before it
+-- stops agree between a machine that was stepped and the one before it
 pub stop_between : {K W : Type 0} (r : Run) (m : Marks) (before after next : Checkpoint K W) (i : ℕ) →
     IsCheckpoint r before → IsCheckpoint r next → next.position ≡ after.position + 1 →
     after.position ≡ before.position → i ≡ who (item r (after.position + 1)) →
@@ -62,7 +62,7 @@ no_next r m t (suc more) h =
     let e : suc t + more ≡ t + suc more = omega arith in
     ap (λ b. if b then suc t else next_stop r m (suc t) more) (no_stop r m (suc t) h) ∙ no_next r m (suc t) more h ∙ e
 
--- and back to its beginning
+-- without marks there is no last stop back to the beginning
 pub no_last : (r : Run) (m : Marks) (t : ℕ) → mark_count m ≡ 0 → last_stop r m t ≡ 0
 no_last r m zero h = refl
 no_last r m (suc t) h = ap (λ b. if b then t else last_stop r m t) (no_stop r m t h) ∙ no_last r m t h
@@ -78,13 +78,13 @@ next_by r m t e stop lt is =
     ∙ ap (λ k. if is_stop r m k then k else next_stop r m k left) here
     ∙ ap (λ b. if b then t + 1 else next_stop r m (t + 1) left) (sym is)
 
--- it is a stop
+-- the next item is a stop
 pub next_here : (r : Run) (m : Marks) (t e : ℕ) (stop : Bool) → t < e → stop ≡ is_stop r m (t + 1) → stop ≡ true →
     next_stop r m t (e - t) ≡ t + 1
 next_here r m t e stop lt is met =
     next_by r m t e stop lt is ∙ ap (λ b. if b then t + 1 else next_stop r m (t + 1) (e - (t + 1))) met
 
--- it is none
+-- the next item is no stop
 pub next_later : (r : Run) (m : Marks) (t e : ℕ) (stop : Bool) → t < e → stop ≡ is_stop r m (t + 1) → stop ≡ false →
     next_stop r m t (e - t) ≡ next_stop r m (t + 1) (e - (t + 1))
 next_later r m t e stop lt is no_stop_here =

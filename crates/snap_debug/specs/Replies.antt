@@ -13,7 +13,7 @@ abbrev pub last_of : Run → ℕ → Option (ℕ × Outcome)
 last_of r zero = None
 last_of r (suc t) = Some (who (item r (suc t)), outcome r (suc t))
 
--- and its line
+-- the last item and its line
 abbrev pub last_text : Option (ℕ × Outcome) → List ℕ
 last_text None = codes "last none\n"
 last_text (Some o) = codes "last " ++ decimal o.0 ++ codes " " ++ outcome_text o.1 ++ codes "\n"

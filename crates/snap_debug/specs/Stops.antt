@@ -8,7 +8,7 @@ use Rattle.snap_semantics.specs.State.{State, process_at}
 use Rattle.snap_runs.specs.Run.{Run}
 use Rattle.snap_runs.specs.Update.{is_at}
 use Rattle.snap_debug.specs.Marks.{Marks, contents_at, same_contents}
-use Rattle.snap_debug_checkpoints.specs.Recording.{IsCheckpoint}
+use Rattle.snap_debug.specs.Recording.{IsCheckpoint}
 use Rattle.snap_debug_commands.specs.declared.command.Breakpoint.{Breakpoint}
 use Rattle.snap_debug.specs.declared.stops.Walk.{Walk}
 
@@ -29,7 +29,7 @@ abbrev pub or_before : Option ℕ → ℕ → ℕ
 or_before None t = t
 or_before (Some t) before = t
 
--- both machines of a walk stand at one position of a run
+-- the machines of a walk stand at one position of a run
 pub record AreAt {K W : Type 0} (r : Run) (w : Walk K W) : Type 0 where
   pub before : IsCheckpoint r w.before
   pub after : IsCheckpoint r w.after

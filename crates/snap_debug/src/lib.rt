@@ -1,13 +1,20 @@
-//! The debugger: commands, and sessions over a listing and a schedule.
+//! A debugger's session over a listing and a schedule, which goes back by checkpoints.
 #![tactic(auto)]
 
+mod checkpoint;
+mod followed;
 mod marks;
+mod recording;
 mod reply;
+mod reversible_machine;
 mod session;
 mod stops;
 
+pub use checkpoint::Checkpoint;
 pub use marks::{MAX_MARKS, Marks};
+pub use recording::Recording;
 pub use reply::Reply;
+pub use reversible_machine::{DoneItem, ReversibleMachine};
 pub use session::Session;
 pub use snap_debug_commands::{
     Breakpoint, Command, CommandRefusal, DebugFault, commands_are_spelled, fault_line,

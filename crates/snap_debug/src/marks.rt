@@ -36,7 +36,7 @@ pub struct Marks {
 }
 
 impl Drop for Marks {
-    // Written out, so that it is proved here and not once more wherever one is dropped.
+    // A drop that is written out is one call: it is proved once, and not again at each drop.
     fn drop(self) {
         let Marks {
             breaks: _,
@@ -53,14 +53,14 @@ impl Model for Marks {
     ghost view = { λ m. record { breaks = m.breaks.items; watches = m.watches.items } };
 }
 
-/// Whether these are one breakpoint.
+/// Returns whether two breakpoints are the same.
 fn same_breakpoint(a: Breakpoint, b: Breakpoint) -> bool
     ensures { result ≡ same_breakpoint a b }
 {
     a.process == b.process && a.line == b.line
 }
 
-/// Whether these are one bank.
+/// Returns whether two banks are the same.
 fn same_bank(a: Bank, b: Bank) -> bool
     ensures { result ≡ same_bank a b }
 {
@@ -70,14 +70,14 @@ fn same_bank(a: Bank, b: Bank) -> bool
     }
 }
 
-/// Whether these are one register.
+/// Returns whether two registers are the same.
 fn same_address(a: Address, b: Address) -> bool
     ensures { result ≡ same_address a b }
 {
     same_bank(a.bank, b.bank) && a.i == b.i && a.j == b.j
 }
 
-/// The breakpoints but this one.
+/// Returns a copy of `breaks` without `b`.
 fn breaks_without(
     alloc: Global,
     breaks: &[Breakpoint],
@@ -95,7 +95,7 @@ fn breaks_without(
     Ok(kept)
 }
 
-/// The registers but this one.
+/// Returns a copy of `watches` without `a`.
 fn watches_without(
     alloc: Global,
     watches: &[Address],
@@ -112,14 +112,14 @@ fn watches_without(
     Ok(kept)
 }
 
-/// Whether a breakpoint is among these.
+/// Returns whether one of `breaks` is `b`.
 fn has_break(breaks: &[Breakpoint], b: Breakpoint) -> bool
     ensures { result ≡ list_any (same_breakpoint b) breaks.now }
 {
     breaks.iter().any(|c| same_breakpoint(b, *c))
 }
 
-/// Whether a register is among these.
+/// Returns whether one of `watches` is `a`.
 fn has_watch(watches: &[Address], a: Address) -> bool
     ensures { result ≡ list_any (same_address a) watches.now }
 {
@@ -127,7 +127,7 @@ fn has_watch(watches: &[Address], a: Address) -> bool
 }
 
 impl Marks {
-    /// None.
+    /// Returns no marks.
     pub fn new(alloc: Global) -> Marks
         ensures { result ≡ no_marks }
     {
@@ -137,28 +137,32 @@ impl Marks {
         }
     }
 
-    /// The breakpoints.
+    /// Returns the breakpoints.
     pub fn breaks(&self) -> &[Breakpoint]
         ensures { result.now ≡ self.now.breaks }
     {
         self.breaks.as_slice()
     }
 
-    /// The watched registers.
+    /// Returns the watched registers.
     pub fn watches(&self) -> &[Address]
         ensures { result.now ≡ self.now.watches }
     {
         self.watches.as_slice()
     }
 
-    /// How many there are.
+    /// Returns how many marks there are.
     pub fn count(&self) -> usize
         ensures { result ≡ mark_count self.now }
     {
         self.breaks.len() + self.watches.len()
     }
 
-    /// Equal marks.
+    /// Returns a copy.
+    ///
+    /// # Errors
+    ///
+    /// `AllocError` where memory runs out.
     pub fn copy(&self, alloc: Global) -> Result<Marks, AllocError>
         ensures { IfOk result (λ m. m ≡ self.now) }
     {
@@ -168,7 +172,11 @@ impl Marks {
         })
     }
 
-    /// These and a breakpoint, where it is not set yet.
+    /// Returns a copy with the breakpoint `b`, if it is not set yet.
+    ///
+    /// # Errors
+    ///
+    /// `Refused` with `TooManyMarks` where there is no room for it; `Memory` where memory runs out.
     pub fn with_break(&self, alloc: Global, b: Breakpoint) -> Result<Marks, Fault<CommandRefusal>>
         ensures marks { Answers (λ m. m) result (with_break self.now b) }
         ensures full { (r : CommandRefusal) → with_break self.now b ≡ Err r →
@@ -185,7 +193,11 @@ impl Marks {
         Ok(marks)
     }
 
-    /// These and a watched register, where it is not set yet.
+    /// Returns a copy with the watched register `a`, if it is not set yet.
+    ///
+    /// # Errors
+    ///
+    /// `Refused` with `TooManyMarks` where there is no room for it; `Memory` where memory runs out.
     pub fn with_watch(&self, alloc: Global, a: Address) -> Result<Marks, Fault<CommandRefusal>>
         ensures marks { Answers (λ m. m) result (with_watch self.now a) }
         ensures full { (r : CommandRefusal) → with_watch self.now a ≡ Err r →
@@ -202,7 +214,11 @@ impl Marks {
         Ok(marks)
     }
 
-    /// These but a breakpoint.
+    /// Returns a copy without the breakpoint `b`.
+    ///
+    /// # Errors
+    ///
+    /// `AllocError` where memory runs out.
     pub fn without_break(&self, alloc: Global, b: Breakpoint) -> Result<Marks, AllocError>
         ensures { IfOk result (λ m. m ≡ without_break self.now b) }
     {
@@ -212,7 +228,11 @@ impl Marks {
         })
     }
 
-    /// These but a watched register.
+    /// Returns a copy without the watched register `a`.
+    ///
+    /// # Errors
+    ///
+    /// `AllocError` where memory runs out.
     pub fn without_watch(&self, alloc: Global, a: Address) -> Result<Marks, AllocError>
         ensures { IfOk result (λ m. m ≡ without_watch self.now a) }
     {

@@ -35,7 +35,7 @@ impl Model for Reply {
 }
 
 impl Reply {
-    /// Its bytes.
+    /// Returns the bytes of the reply.
     pub fn as_slice(&self) -> &[u8]
         ensures { result.now ≡ self.now }
     {
@@ -43,7 +43,7 @@ impl Reply {
     }
 }
 
-/// `marks M`.
+/// Returns `marks M`.
 #[tactic(auto, using(snap_text::proofs::Texts::joined))]
 pub(crate) fn marks_reply(alloc: Global, marks: &Marks) -> Result<Reply, AllocError>
     ensures { IfOk result (λ r. r ≡ marks_line marks.now) }
@@ -55,7 +55,7 @@ pub(crate) fn marks_reply(alloc: Global, marks: &Marks) -> Result<Reply, AllocEr
     Ok(Reply { text })
 }
 
-/// The line of a position.
+/// Returns the line of a position.
 pub(crate) fn position_reply(alloc: Global, position: u64, total: u64) -> Result<Reply, AllocError>
     ensures { IfOk result (λ r. r ≡ position_line position total) }
 {
@@ -64,7 +64,7 @@ pub(crate) fn position_reply(alloc: Global, position: u64, total: u64) -> Result
     Ok(Reply { text })
 }
 
-/// The line of a register.
+/// Returns the line of a register.
 pub(crate) fn register_reply<K: Kind>(
     alloc: Global,
     machine: &Machine<K>,
@@ -78,7 +78,7 @@ pub(crate) fn register_reply<K: Kind>(
     Ok(Reply { text })
 }
 
-/// The lines of a process.
+/// Returns the lines of a process.
 pub(crate) fn process_reply<K: Kind>(
     alloc: Global,
     machine: &Machine<K>,
@@ -93,7 +93,7 @@ pub(crate) fn process_reply<K: Kind>(
     Ok(Reply { text })
 }
 
-/// The line of the values.
+/// Returns the line of the values.
 pub(crate) fn values_reply<K: Kind>(
     alloc: Global,
     machine: &Machine<K>,
@@ -105,7 +105,7 @@ pub(crate) fn values_reply<K: Kind>(
     Ok(Reply { text })
 }
 
-/// How many events there are, and their lines.
+/// Returns how many events there are, and their lines.
 #[tactic(auto, using(snap_text::proofs::Texts::joined))]
 pub(crate) fn events_reply(alloc: Global, events: &[Event]) -> Result<Reply, AllocError>
     ensures { IfOk result (λ r. r ≡ events_text events.now) }
@@ -118,7 +118,7 @@ pub(crate) fn events_reply(alloc: Global, events: &[Event]) -> Result<Reply, All
     Ok(Reply { text })
 }
 
-/// The last item's process, and what came of it.
+/// Appends the last item's process, and its outcome.
 #[tactic(auto, using(snap_text::proofs::Texts::joined))]
 fn last_text(out: &mut Vec<u8>, last: &Option<(u32, Outcome)>) -> Result<(), AllocError>
     ensures { OnOk result (out.new.items ≡ out.old.items ++ last_text last.now) }
@@ -135,7 +135,7 @@ fn last_text(out: &mut Vec<u8>, last: &Option<(u32, Outcome)>) -> Result<(), All
     }
 }
 
-/// The line of the position, the last item and where the processes stand.
+/// Returns the line of the position, the last item and where the processes stand.
 #[tactic(auto, using(snap_text::proofs::Texts::joined))]
 pub(crate) fn where_reply<K: Kind>(
     alloc: Global,

@@ -19,17 +19,18 @@ ghost use Rattle.snap_debug.specs.Session.{
   reopened,
   with_marks,
 };
-ghost use Rattle.snap_debug_checkpoints.specs.Recording.{IsReversible, start};
+ghost use Rattle.snap_debug.specs.Recording.{IsReversible, start};
 ghost use Rattle.snap_debug_commands.specs.declared.command.Command.TheVariants as command;
 
 use crate::marks::Marks;
+use crate::recording::Recording;
 use crate::reply::{
     Reply, events_reply, marks_reply, position_reply, process_reply, register_reply, values_reply,
     where_reply,
 };
+use crate::reversible_machine::ReversibleMachine;
 use crate::stops::{last_stop, next_stop};
 use snap_asm_program::Program;
-use snap_debug_checkpoints::{Recording, ReversibleMachine};
 use snap_debug_commands::{Breakpoint, Command};
 use snap_machine::Machine;
 use snap_report::{Report, report};
@@ -39,8 +40,8 @@ use snap_words::{Address, Kind};
 use std::alloc::{AllocError, Global};
 use std::marker::Model;
 
-/// A schedule with marks, followed as far as it was asked for, and the machine at a position, which
-/// has the last item at hand.
+/// A schedule with marks, followed as far as was needed, and the machine at a position, which has
+/// the last item at hand.
 pub struct Session<K: Kind> {
     alloc: Global,
     marks: Marks,
@@ -49,7 +50,7 @@ pub struct Session<K: Kind> {
 }
 
 impl<K: Kind> Drop for Session<K> {
-    // Written out, so that it is proved here and not once more wherever one is dropped.
+    // A drop that is written out is one call: it is proved once, and not again at each drop.
     fn drop(self) {
         let Session {
             alloc: _,
@@ -63,7 +64,7 @@ impl<K: Kind> Drop for Session<K> {
 impl<K: Kind> Model for Session<K> {
     ghost use Rattle.std.specs.Prelude.{◌<◌, ◌≤◌};
     ghost use Rattle.snap_debug.specs.Session.{Session};
-    ghost use Rattle.snap_debug_checkpoints.specs.Recording.{IsReversible, start};
+    ghost use Rattle.snap_debug.specs.Recording.{IsReversible, start};
 
     ghost Value = { Session };
 
@@ -78,7 +79,8 @@ impl<K: Kind> Model for Session<K> {
         × (0 < s.here.current.position → start s.here < s.here.current.position) };
 }
 
-/// Brings a machine to a position that is recorded. Where there is no memory for that, it stays.
+/// Brings a machine to a position that is recorded. If memory runs out, the machine stays where it
+/// was.
 fn bring_to<K: Kind>(
     alloc: Global,
     here: &mut ReversibleMachine<K>,
@@ -101,7 +103,11 @@ fn bring_to<K: Kind>(
 }
 
 impl<K: Kind> Session<K> {
-    /// Before the first item of a schedule, with no marks.
+    /// Returns a session before the first item of `schedule`, with no marks.
+    ///
+    /// # Errors
+    ///
+    /// `AllocError` where memory runs out.
     pub fn open(
         alloc: Global,
         program: &Program,
@@ -113,7 +119,11 @@ impl<K: Kind> Session<K> {
         Session::over(alloc, program, schedule.copy(alloc)?)
     }
 
-    /// Before the first item of a schedule, which it takes, with no marks.
+    /// Returns a session before the first item of `schedule`, with no marks.
+    ///
+    /// # Errors
+    ///
+    /// `AllocError` where memory runs out.
     pub fn over(
         alloc: Global,
         program: &Program,
@@ -132,8 +142,12 @@ impl<K: Kind> Session<K> {
         })
     }
 
-    /// The program over another schedule, which it takes, before its first item,
-    /// with the marks of this session.
+    /// Returns a session of the program over another schedule, before its first item, with the
+    /// marks of this session.
+    ///
+    /// # Errors
+    ///
+    /// `AllocError` where memory runs out.
     pub fn over_again(&self, schedule: Schedule) -> Result<Session<K>, AllocError>
         ensures { IfOk result (λ s. s ≡ reopened (run_over self.now.run.source schedule) self.now) }
     {
@@ -142,7 +156,7 @@ impl<K: Kind> Session<K> {
         Ok(session)
     }
 
-    /// How many items lie before.
+    /// Returns the position: how many items lie before it.
     pub fn position(&self) -> u64
         ensures position { result ≡ self.now.position }
         ensures within { result ≤ length self.now.run.items }
@@ -150,14 +164,14 @@ impl<K: Kind> Session<K> {
         self.here.current.position
     }
 
-    /// How many items there are.
+    /// Returns how many items there are.
     pub fn total(&self) -> u64
         ensures { result ≡ length self.now.run.items }
     {
         self.recording.total()
     }
 
-    /// The program that runs.
+    /// Returns the program that runs.
     pub fn program(&self) -> &Program
         ensures value { result.now ≡ self.now.run.source }
         ensures kind { self.now.run.source.kind ≡ K.TAG }
@@ -165,7 +179,7 @@ impl<K: Kind> Session<K> {
         self.here.current.machine.program()
     }
 
-    /// The machine at the position.
+    /// Returns the machine at the position.
     pub fn machine(&self) -> &Machine<K>
         ensures { result.now ≡ machine_of self.now }
     {
@@ -186,7 +200,7 @@ impl<K: Kind> Session<K> {
         Ok(reply)
     }
 
-    /// The first stop after the position, and the end where there is none.
+    /// Returns the first stop after the position, and the end if there is none.
     fn next_stop(&mut self) -> Result<u64, AllocError>
         ensures stop { let s = self.old in IfOk result (λ t. t ≡ next_stop s.run s.marks s.position
             (length s.run.items - s.position)) }
@@ -196,7 +210,7 @@ impl<K: Kind> Session<K> {
         next_stop(&mut self.recording, &self.here.current, &self.marks)
     }
 
-    /// So many items on, at most to the end.
+    /// Goes on by `count` items, at most to the end.
     fn step(&mut self, count: u64) -> Result<Reply, Fault<CommandRefusal>>
         ensures obeys { Obeys (λ r. r) result self.old (command.Step count) self.new }
         ensures refuses { RefusesFirst result self.old (command.Step count) }
@@ -206,7 +220,7 @@ impl<K: Kind> Session<K> {
         Ok(self.move_to(position)?)
     }
 
-    /// So many items back, at most to the beginning.
+    /// Goes back by `count` items, at most to the beginning.
     fn back(&mut self, count: u64) -> Result<Reply, Fault<CommandRefusal>>
         ensures obeys { Obeys (λ r. r) result self.old (command.Back count) self.new }
         ensures refuses { RefusesFirst result self.old (command.Back count) }
@@ -215,7 +229,7 @@ impl<K: Kind> Session<K> {
         Ok(self.move_to(position)?)
     }
 
-    /// To a position, where there is one.
+    /// Goes to a position, if there is one.
     fn goto(&mut self, position: u64) -> Result<Reply, Fault<CommandRefusal>>
         ensures obeys { Obeys (λ r. r) result self.old (command.Goto position) self.new }
         ensures refuses { RefusesFirst result self.old (command.Goto position) }
@@ -226,7 +240,7 @@ impl<K: Kind> Session<K> {
         Ok(self.move_to(position)?)
     }
 
-    /// The last stop before the position, and 0 where there is none.
+    /// Returns the last stop before the position, and 0 if there is none.
     fn last_stop(&self) -> Result<u64, AllocError>
         ensures stop { let s = self.now in IfOk result (λ t. t
             ≡ last_stop s.run s.marks s.position) }
@@ -235,7 +249,7 @@ impl<K: Kind> Session<K> {
         last_stop(&self.recording, self.position(), &self.marks)
     }
 
-    /// On to the next stop.
+    /// Goes on to the next stop.
     fn run(&mut self) -> Result<Reply, Fault<CommandRefusal>>
         ensures obeys { Obeys (λ r. r) result self.old command.Run self.new }
         ensures refuses { RefusesFirst result self.old command.Run }
@@ -244,7 +258,7 @@ impl<K: Kind> Session<K> {
         Ok(self.move_to(stop)?)
     }
 
-    /// Back to the last stop.
+    /// Goes back to the last stop.
     fn reverse_run(&mut self) -> Result<Reply, Fault<CommandRefusal>>
         ensures obeys { Obeys (λ r. r) result self.old command.ReverseRun self.new }
         ensures refuses { RefusesFirst result self.old command.ReverseRun }
@@ -253,7 +267,7 @@ impl<K: Kind> Session<K> {
         Ok(self.move_to(stop)?)
     }
 
-    /// The process of this number, where there is one.
+    /// Returns the process of this number, if there is one.
     fn process(&self, i: u64) -> Option<u32>
         ensures { result ≡ (if has_process self.now i then Some i else None) }
     {
@@ -264,7 +278,7 @@ impl<K: Kind> Session<K> {
         }
     }
 
-    /// Whether there is this process, and this line.
+    /// Checks that the process and the line of a breakpoint exist.
     fn check_breakpoint(&self, b: Breakpoint) -> Result<(), CommandRefusal>
         ensures { result ≡ checked_breakpoint self.now b }
     {
@@ -277,7 +291,7 @@ impl<K: Kind> Session<K> {
         Ok(())
     }
 
-    /// Whether there is this register.
+    /// Checks that a register exists.
     fn check_register(&self, a: Address) -> Result<(), CommandRefusal>
         ensures { result ≡ checked_register self.now a }
     {
@@ -287,7 +301,8 @@ impl<K: Kind> Session<K> {
         }
     }
 
-    /// Takes these marks for its own, and answers how many there are.
+    /// Sets `marks` in place of the present ones, and returns the reply that says how many there
+    /// are.
     fn take_marks(&mut self, marks: Marks) -> Result<Reply, AllocError>
         ensures taken { IfOk result (λ reply. self.new ≡ with_marks marks self.old) }
         ensures reply { IfOk result (λ reply. reply ≡ marks_line marks) }
@@ -328,7 +343,7 @@ impl<K: Kind> Session<K> {
         Ok(self.take_marks(marks)?)
     }
 
-    /// Watches a register no more.
+    /// Removes a watched register.
     fn clear_watch(&mut self, a: Address) -> Result<Reply, Fault<CommandRefusal>>
         ensures obeys { Obeys (λ r. r) result self.old (command.Unwatch a) self.new }
         ensures refuses { RefusesFirst result self.old (command.Unwatch a) }
@@ -374,7 +389,11 @@ impl<K: Kind> Session<K> {
         Ok(events_reply(self.alloc, self.recording.events(self.position()))?)
     }
 
-    /// The last item's process, and what came of it, where there is one.
+    /// Returns the last item's process and its outcome, if there is one.
+    ///
+    /// # Errors
+    ///
+    /// `AllocError` where memory runs out.
     pub fn last(&self) -> Result<Option<(u32, Outcome)>, AllocError>
         ensures { IfOk result (λ last. last ≡ last_of self.now.run self.now.position) }
     {
@@ -386,7 +405,7 @@ impl<K: Kind> Session<K> {
         Ok(Some((who(self.recording.item(position - 1)), outcome)))
     }
 
-    /// Shows where the session and the processes stand.
+    /// Shows the position of the session and the status of the processes.
     fn show_where(&self) -> Result<Reply, Fault<CommandRefusal>>
         ensures obeys { Obeys (λ r. r) result self.now command.Where self.now }
         ensures refuses { RefusesFirst result self.now command.Where }
@@ -401,8 +420,12 @@ impl<K: Kind> Session<K> {
         )?)
     }
 
-    /// Does a command, and answers it. A command that is refused, and one for which there is no
-    /// memory, leaves all as it was.
+    /// Does a command, and returns its reply.
+    ///
+    /// # Errors
+    ///
+    /// `Refused` with the reason why the command cannot be done; `Memory` where memory runs out.
+    /// The session is as it was then.
     pub fn command(&mut self, command: &Command) -> Result<Reply, Fault<CommandRefusal>>
         ensures obeys { Obeys (λ r. r) result self.old command.now self.new }
         ensures refuses { RefusesFirst result self.old command.now }
@@ -425,7 +448,11 @@ impl<K: Kind> Session<K> {
         }
     }
 
-    /// The report of the position.
+    /// Returns the report of the position.
+    ///
+    /// # Errors
+    ///
+    /// `AllocError` where memory runs out.
     pub fn report(&self) -> Result<Report, AllocError>
         ensures { IfOk result (λ t. t ≡ report_at self.now.run self.now.position) }
     {

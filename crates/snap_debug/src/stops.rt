@@ -11,10 +11,11 @@ ghost use Rattle.snap_runs.specs.Run.{item};
 ghost use Rattle.snap_runs.specs.Update.{is_at};
 ghost use Rattle.snap_debug.specs.Marks.{is_stop, last_stop, next_stop, same_contents, same_word};
 ghost use Rattle.snap_debug.specs.Stops.{AreAt, differs, or_before, stands_at, stops_between};
-ghost use Rattle.snap_debug_checkpoints.specs.Recording.{IsCheckpoint};
+ghost use Rattle.snap_debug.specs.Recording.{IsCheckpoint};
 
+use crate::checkpoint::Checkpoint;
 use crate::marks::Marks;
-use snap_debug_checkpoints::{Checkpoint, Recording};
+use crate::recording::Recording;
 use snap_debug_commands::Breakpoint;
 use snap_machine::{Contents, Machine};
 use snap_semantics::Status;
@@ -28,7 +29,7 @@ pub struct Walk<K: Kind> {
 }
 
 impl<K: Kind> Drop for Walk<K> {
-    // Written out, so that it is proved here and not once more wherever one is dropped.
+    // A drop that is written out is one call: it is proved once, and not again at each drop.
     fn drop(self) {
         let Walk {
             before: _,
@@ -37,14 +38,14 @@ impl<K: Kind> Drop for Walk<K> {
     }
 }
 
-/// Whether these are the same numbers.
+/// Returns whether two lists of numbers are the same.
 fn same_numbers(xs: &[u64], ys: &[u64]) -> bool
     ensures { result ≡ bytes_eq xs.now ys.now }
 {
     xs == ys
 }
 
-/// Whether two words have the same fields.
+/// Returns whether two words have the same fields.
 fn same_word<K: Kind>(x: &K::Word, y: &K::Word) -> bool
     ensures { result ≡ same_word (K.as_word x.now) (K.as_word y.now) }
 {
@@ -56,7 +57,7 @@ fn same_word<K: Kind>(x: &K::Word, y: &K::Word) -> bool
         && same_numbers(view_of::<K>(x), view_of::<K>(y))
 }
 
-/// Whether two registers have the same contents.
+/// Returns whether two registers have the same contents.
 fn same_contents<K: Kind>(x: Contents<'_, K>, y: Contents<'_, K>) -> bool
     ensures { result ≡ same_contents (Some (seen_contents K.as_word x.entry))
         (Some (seen_contents K.as_word y.entry)) }
@@ -80,7 +81,7 @@ fn same_contents<K: Kind>(x: Contents<'_, K>, y: Contents<'_, K>) -> bool
     }
 }
 
-/// Whether a register has other contents in another machine.
+/// Returns whether a register has other contents in another machine.
 fn differs<K: Kind>(before: &Machine<K>, after: &Machine<K>, address: Address) -> bool
     ensures { result ≡ differs before.now.state after.now.state address }
 {
@@ -96,7 +97,7 @@ fn differs<K: Kind>(before: &Machine<K>, after: &Machine<K>, address: Address) -
     }
 }
 
-/// Whether one of these registers does.
+/// Returns whether one of `watches` differs between two machines.
 fn any_differs<K: Kind>(before: &Machine<K>, after: &Machine<K>, watches: &[Address]) -> bool
     ensures { result ≡ list_any (differs before.now.state after.now.state) watches.now }
 {
@@ -108,7 +109,7 @@ fn any_differs<K: Kind>(before: &Machine<K>, after: &Machine<K>, watches: &[Addr
     false
 }
 
-/// Whether a process is busy at a line.
+/// Returns whether a process is busy at a line.
 fn is_at(line: u64, status: &Status) -> bool
     ensures { result ≡ is_at line status.now }
 {
@@ -120,14 +121,14 @@ fn is_at(line: u64, status: &Status) -> bool
     }
 }
 
-/// Whether process `i`, which stands so, is at the line of a breakpoint for it.
+/// Returns whether process `i`, of this status, is at the line of the breakpoint `b` for it.
 fn stands_at(i: u32, status: &Status, b: Breakpoint) -> bool
     ensures { result ≡ stands_at i status.now b }
 {
     u64::from(i) == b.process && is_at(b.line, status)
 }
 
-/// Whether it is at one of these.
+/// Returns whether process `i`, of this status, is at the line of one of `breaks`.
 fn any_stands_at(i: u32, status: &Status, breaks: &[Breakpoint]) -> bool
     ensures { result ≡ list_any (stands_at i status.now) breaks.now }
 {
@@ -139,7 +140,7 @@ fn any_stands_at(i: u32, status: &Status, breaks: &[Breakpoint]) -> bool
     false
 }
 
-/// Whether marks stop at an item of process `i` that leads from one machine to the other.
+/// Returns whether marks stop at an item of process `i` that leads from one machine to the other.
 fn stops_between<K: Kind>(before: &Machine<K>, after: &Machine<K>, i: u32, marks: &Marks) -> bool
     requires { IsOneOf after.now.shape.n i }
     ensures { result ≡ stops_between before.now.state after.now.state i marks.now }
@@ -148,7 +149,7 @@ fn stops_between<K: Kind>(before: &Machine<K>, after: &Machine<K>, i: u32, marks
         || any_differs(before, after, marks.watches())
 }
 
-/// Does the next item at a position, and answers whose it is.
+/// Does the next item at a position, and returns its process.
 fn pass_item<K: Kind>(
     recording: &Recording<K>,
     current: &mut Checkpoint<K>,
@@ -165,7 +166,7 @@ fn pass_item<K: Kind>(
 }
 
 impl<K: Kind> Walk<K> {
-    /// From a machine at a position on.
+    /// Returns a walk from `start` on.
     fn new(start: &Checkpoint<K>) -> Result<Walk<K>, AllocError>
         ensures before { IfOk result (λ w. w.before ≡ start.now) }
         ensures after { IfOk result (λ w. w.after ≡ start.now) }
@@ -176,7 +177,7 @@ impl<K: Kind> Walk<K> {
         })
     }
 
-    /// Does the next item, and answers whether marks stop at it.
+    /// Does the next item, and returns whether marks stop at it.
     fn step(&mut self, recording: &Recording<K>, marks: &Marks) -> Result<bool, AllocError>
         requires walk { AreAt recording.now.run self.old }
         requires reached { self.old.before.position < recording.now.reached }
@@ -193,9 +194,13 @@ impl<K: Kind> Walk<K> {
     }
 }
 
-/// The first stop after a position, and the end where there is none. Up to the first stop the
+/// Returns the first stop after a position, and the end if there is none. Up to the first stop the
 /// watched registers are as they were at that position, so that its machine serves as the one
 /// before each item.
+///
+/// # Errors
+///
+/// `AllocError` where memory runs out.
 pub fn next_stop<K: Kind>(
     recording: &mut Recording<K>,
     here: &Checkpoint<K>,
@@ -224,14 +229,14 @@ pub fn next_stop<K: Kind>(
     Ok(total)
 }
 
-/// The position of the later stop.
+/// Returns the position of the later stop.
 fn later(stop: bool, t: u64, last: Option<u64>) -> Option<u64>
     ensures { result ≡ (if stop then Some t else last) }
 {
     if stop { Some(t) } else { last }
 }
 
-/// The last stop on the way of two machines to a position, where there is one.
+/// Returns the last stop on the way of two machines to a position, if there is one.
 fn last_on_way<K: Kind>(
     walk: &mut Walk<K>,
     recording: &Recording<K>,
@@ -253,7 +258,7 @@ fn last_on_way<K: Kind>(
     Ok(last)
 }
 
-/// The last stop between a checkpoint and a position, where there is one.
+/// Returns the last stop between a checkpoint and a position, if there is one.
 fn last_between<K: Kind>(
     recording: &Recording<K>,
     start: &Checkpoint<K>,
@@ -271,8 +276,12 @@ fn last_between<K: Kind>(
     last_on_way(&mut walk, recording, position, marks)
 }
 
-/// The last stop before a position, and 0 where there is none: sought from checkpoint to
+/// Returns the last stop before a position, and 0 if there is none, sought from checkpoint to
 /// checkpoint, the last first.
+///
+/// # Errors
+///
+/// `AllocError` where memory runs out.
 pub fn last_stop<K: Kind>(
     recording: &Recording<K>,
     position: u64,

@@ -238,7 +238,7 @@ line_found e (Some ts) c s h =
     let is = command_found ts c (fitting e (command_form ts) c h) in
     (ap (λ (us : List Token). let o : Option (List Token) = Some us in o) is.0, is.1 s)
 
--- so many commands, spelled by these lines
+-- a number of commands, spelled by these lines
 abbrev AreSpelled : ℕ → List TextLine → List Command → Type 0
 AreSpelled count lines cs =
     (count + length cs ≤ 10000) × AllByRecursion FitsCommand cs

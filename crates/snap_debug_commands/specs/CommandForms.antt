@@ -71,7 +71,7 @@ moving_form ts =
     (or_else (option_map (λ end. command.Run) (keyword_form (codes "run") ts))
     (option_map (λ end. command.ReverseRun) (keyword_form (codes "rrun") ts)))))
 
--- those that set and take away marks
+-- the commands that set and take away marks
 unfoldable pub marking_form : List Token → Option Command
 marking_form ts =
     or_else (option_map (λ b. command.Break b) (breakpoint_form (codes "break") ts))
@@ -79,7 +79,7 @@ marking_form ts =
     (or_else (option_map (λ a. command.Watch a) (register_form (codes "watch") ts))
     (option_map (λ a. command.Unwatch a) (register_form (codes "unwatch") ts))))
 
--- those that show
+-- the commands that show
 unfoldable pub showing_form : List Token → Option Command
 showing_form ts =
     or_else (option_map (λ a. command.ShowRegister a) (register_form (codes "show") ts))

@@ -43,7 +43,7 @@ FitsCommand command.Values = ⊤
 FitsCommand command.Events = ⊤
 FitsCommand command.Where = ⊤
 
--- so many commands that can stand in a text
+-- commands that can stand in a text, few enough for one
 abbrev pub AreCommands : List Command → Type 0
 AreCommands cs = (length cs ≤ 10000) × AllByRecursion FitsCommand cs
 

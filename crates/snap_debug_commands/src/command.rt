@@ -1,8 +1,9 @@
-//! `Command`: what the debugger is asked, such as steps on or back, breakpoints, or what a register
+//! `Command`: a command of the debugger, such as steps on or back, breakpoints, or what a register
 //! has.
 use snap_words::Address;
 
-/// A line at which a process is to stop. Both are as they were written: neither need be there.
+/// A line at which a process is to stop. The process and the line are as they were written, and
+/// need not exist.
 #[derive(Clone, Copy, PartialEq, Eq)]
 pub struct Breakpoint {
     pub process: u64,
@@ -12,9 +13,9 @@ pub struct Breakpoint {
 /// A command of the debugger.
 #[derive(Clone, Copy, PartialEq, Eq)]
 pub enum Command {
-    /// So many items on.
+    /// A number of items on.
     Step(u64),
-    /// So many items back.
+    /// A number of items back.
     Back(u64),
     /// To a position.
     Goto(u64),

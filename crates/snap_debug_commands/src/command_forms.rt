@@ -20,7 +20,7 @@ use crate::command::{Breakpoint, Command};
 use snap_text::{Token, end_at, keyword_at, number_at};
 use snap_words::{Address, Bank};
 
-/// A keyword alone.
+/// Reads `keyword` alone.
 #[tactic(auto, unfolding(crate::specs::CommandForms::keyword_form))]
 pub fn keyword_form(keyword: &[u8], tokens: &[Token<'_>]) -> Option<()>
     ensures { Finds (λ end. end) result (keyword_form keyword.now (view_tokens tokens.now)) }
@@ -29,7 +29,7 @@ pub fn keyword_form(keyword: &[u8], tokens: &[Token<'_>]) -> Option<()>
     end_at(rest)
 }
 
-/// A keyword and a number.
+/// Reads `keyword` and a number.
 #[tactic(auto, unfolding(crate::specs::CommandForms::number_form))]
 pub fn number_form(keyword: &[u8], tokens: &[Token<'_>]) -> Option<u64>
     ensures { Finds (λ number. number) result (number_form keyword.now (view_tokens tokens.now)) }
@@ -40,7 +40,7 @@ pub fn number_form(keyword: &[u8], tokens: &[Token<'_>]) -> Option<u64>
     Some(number)
 }
 
-/// A keyword and two numbers.
+/// Reads `keyword` and two numbers.
 #[tactic(auto, unfolding(crate::specs::CommandForms::numbers_form))]
 pub fn numbers_form(keyword: &[u8], tokens: &[Token<'_>]) -> Option<(u64, u64)>
     ensures { Finds (λ numbers. numbers) result
@@ -53,7 +53,7 @@ pub fn numbers_form(keyword: &[u8], tokens: &[Token<'_>]) -> Option<(u64, u64)>
     Some((i, j))
 }
 
-/// `r K` or `v I`.
+/// Reads `r K` or `v I`.
 #[tactic(auto, unfolding(crate::specs::CommandForms::place_form))]
 fn place_form(keyword: &[u8], bank: Bank, tokens: &[Token<'_>]) -> Option<Address>
     ensures { Finds (λ address. address) result
@@ -63,7 +63,7 @@ fn place_form(keyword: &[u8], bank: Bank, tokens: &[Token<'_>]) -> Option<Addres
     Some(Address { bank, i, j: 0 })
 }
 
-/// `q I J` or `p I J`.
+/// Reads `q I J` or `p I J`.
 #[tactic(auto, unfolding(crate::specs::CommandForms::bit_form))]
 fn bit_form(keyword: &[u8], bank: Bank, tokens: &[Token<'_>]) -> Option<Address>
     ensures { Finds (λ address. address) result
@@ -73,7 +73,7 @@ fn bit_form(keyword: &[u8], bank: Bank, tokens: &[Token<'_>]) -> Option<Address>
     Some(Address { bank, i, j })
 }
 
-/// A register.
+/// Reads a register.
 #[tactic(auto, unfolding(crate::specs::CommandForms::address_form))]
 fn address_form(tokens: &[Token<'_>]) -> Option<Address>
     ensures { Finds (λ address. address) result (address_form (view_tokens tokens.now)) }
@@ -90,7 +90,7 @@ fn address_form(tokens: &[Token<'_>]) -> Option<Address>
     place_form(b"v", Bank::V, tokens)
 }
 
-/// A keyword and a process with one of its lines.
+/// Reads a keyword and a process with one of its lines.
 #[tactic(auto, unfolding(crate::specs::CommandForms::breakpoint_form))]
 fn breakpoint_form(keyword: &[u8], tokens: &[Token<'_>]) -> Option<Breakpoint>
     ensures { Finds (λ breakpoint. breakpoint) result
@@ -100,7 +100,7 @@ fn breakpoint_form(keyword: &[u8], tokens: &[Token<'_>]) -> Option<Breakpoint>
     Some(Breakpoint { process, line })
 }
 
-/// A keyword and a register.
+/// Reads a keyword and a register.
 #[tactic(auto, unfolding(crate::specs::CommandForms::register_form))]
 fn register_form(keyword: &[u8], tokens: &[Token<'_>]) -> Option<Address>
     ensures { Finds (λ address. address) result
@@ -110,7 +110,7 @@ fn register_form(keyword: &[u8], tokens: &[Token<'_>]) -> Option<Address>
     address_form(rest)
 }
 
-/// The commands that move.
+/// Reads a command that moves.
 #[tactic(auto, unfolding(crate::specs::CommandForms::moving_form))]
 fn moving_form(tokens: &[Token<'_>]) -> Option<Command>
     ensures { Finds (λ command. command) result (moving_form (view_tokens tokens.now)) }
@@ -131,7 +131,7 @@ fn moving_form(tokens: &[Token<'_>]) -> Option<Command>
     Some(Command::ReverseRun)
 }
 
-/// The commands that set and take away marks.
+/// Reads a command that sets or takes away marks.
 #[tactic(auto, unfolding(crate::specs::CommandForms::marking_form))]
 fn marking_form(tokens: &[Token<'_>]) -> Option<Command>
     ensures { Finds (λ command. command) result (marking_form (view_tokens tokens.now)) }
@@ -149,7 +149,7 @@ fn marking_form(tokens: &[Token<'_>]) -> Option<Command>
     Some(Command::Unwatch(address))
 }
 
-/// The commands that show.
+/// Reads a command that shows.
 #[tactic(auto, unfolding(crate::specs::CommandForms::showing_form))]
 fn showing_form(tokens: &[Token<'_>]) -> Option<Command>
     ensures { Finds (λ command. command) result (showing_form (view_tokens tokens.now)) }
@@ -170,7 +170,7 @@ fn showing_form(tokens: &[Token<'_>]) -> Option<Command>
     Some(Command::Where)
 }
 
-/// The command that a line is, where it is one.
+/// Reads a command; `None` where `tokens` are no form of one.
 #[tactic(auto, unfolding(crate::specs::CommandForms::command_form))]
 pub fn command_form(tokens: &[Token<'_>]) -> Option<Command>
     ensures { Finds (λ command. command) result (command_form (view_tokens tokens.now)) }

@@ -2,7 +2,7 @@
 //! spells them, and what is written is read.
 ghost use Rattle.snap_debug_commands.specs.CommandLaws.{ReadsSpelled, ReadsWritten};
 
-/// A text is read as commands just where it spells them, one a line.
+/// A text is read as commands exactly if it spells them, one a line.
 pub fn commands_are_spelled()
     ensures { ReadsSpelled }
 {}

@@ -10,7 +10,7 @@ use snap_text::{Token, push_laid_out};
 use snap_words::{Address, Bank};
 use std::alloc::AllocError;
 
-/// Adds the line of a keyword and a process with one of its lines.
+/// Appends the line of a keyword and a process with one of its lines.
 fn push_breakpoint(
     out: &mut Vec<u8>,
     keyword: &[u8],
@@ -29,7 +29,7 @@ fn push_breakpoint(
     )
 }
 
-/// Adds the line of a keyword and a register.
+/// Appends the line of a keyword and a register.
 fn push_register(out: &mut Vec<u8>, keyword: &[u8], address: &Address) -> Result<(), AllocError>
     ensures { OnOk result (out.new.items ≡ out.old.items ++ line_text (Identifier keyword.now
         ∷ spelled_address address.now)) }
@@ -45,7 +45,11 @@ fn push_register(out: &mut Vec<u8>, keyword: &[u8], address: &Address) -> Result
     }
 }
 
-/// Adds the line of a command.
+/// Appends the line of `command`.
+///
+/// # Errors
+///
+/// `AllocError` where memory runs out.
 pub fn push_command(out: &mut Vec<u8>, command: &Command) -> Result<(), AllocError>
     ensures { OnOk result (out.new.items ≡ out.old.items
         ++ line_text (spelled_command command.now)) }

@@ -19,7 +19,7 @@ const MAX_BYTES: usize = 1_048_576;
 /// The most commands that a text may have.
 const MAX_COMMANDS: usize = 10_000;
 
-/// What a line asks for.
+/// Returns the command on a line.
 fn command_at(line: &TokenLine<'_>) -> Result<Command, CommandRefusal>
     ensures { result ≡ command_at (view_line line.now) }
 {
@@ -32,7 +32,7 @@ fn command_at(line: &TokenLine<'_>) -> Result<Command, CommandRefusal>
     }
 }
 
-/// What a line asks for, behind so many commands.
+/// Returns the command on a line, behind `count` commands.
 fn admitted_at(count: usize, line: &TokenLine<'_>) -> Result<Command, CommandRefusal>
     ensures { result ≡ admitted_at count (view_line line.now) }
 {
@@ -42,7 +42,11 @@ fn admitted_at(count: usize, line: &TokenLine<'_>) -> Result<Command, CommandRef
     command_at(line)
 }
 
-/// Reads commands.
+/// Reads the commands that `text` spells.
+///
+/// # Errors
+///
+/// `Refused` with the first reason why `text` spells no commands; `Memory` where memory runs out.
 pub fn read_commands(alloc: Global, text: &[u8]) -> Result<Vec<Command>, Fault<CommandRefusal>>
     ensures commands { Answers (λ commands. commands.items) result (commands_of text.now) }
     ensures too_long { 1048576 < length text.now → result ≡ Err (Refused TooLong) }

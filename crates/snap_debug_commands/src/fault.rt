@@ -1,5 +1,5 @@
-//! Why commands could not be read, or a command could not be done.
+//! `DebugFault`: why commands were not read, or a command was not done.
 use snap_semantics::{CommandRefusal, Fault};
 
-/// Why there is no reply: memory ran out, or a command is refused.
+/// Why a command has no reply: memory ran out, or the command is refused.
 pub type DebugFault = Fault<CommandRefusal>;

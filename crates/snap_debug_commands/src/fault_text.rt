@@ -7,7 +7,11 @@ use snap_semantics::{CommandRefusal, Fault};
 use snap_text::{push_number, push_text};
 use std::alloc::{AllocError, Global};
 
-/// Adds the code of a refusal, its name and its number.
+/// Appends the code of a refusal, its name and its number.
+///
+/// # Errors
+///
+/// `AllocError` where memory runs out.
 pub fn push_refusal(out: &mut Vec<u8>, refusal: &CommandRefusal) -> Result<(), AllocError>
     ensures { OnOk result (out.new.items ≡ out.old.items ++ refusal_text refusal.now) }
 {
@@ -25,7 +29,11 @@ pub fn push_refusal(out: &mut Vec<u8>, refusal: &CommandRefusal) -> Result<(), A
     }
 }
 
-/// Adds the line that says why a command is refused.
+/// Appends the line that says why a command is refused.
+///
+/// # Errors
+///
+/// `AllocError` where memory runs out.
 pub fn push_refusal_line(out: &mut Vec<u8>, refusal: &CommandRefusal) -> Result<(), AllocError>
     ensures { OnOk result (out.new.items ≡ out.old.items ++ refusal_line refusal.now) }
 {
@@ -34,7 +42,11 @@ pub fn push_refusal_line(out: &mut Vec<u8>, refusal: &CommandRefusal) -> Result<
     push_text(out, b"\n")
 }
 
-/// The line that says why there is no reply.
+/// Returns the line that says why there is no reply.
+///
+/// # Errors
+///
+/// `AllocError` where memory runs out.
 pub fn fault_line(alloc: Global, fault: &Fault<CommandRefusal>) -> Result<Vec<u8>, AllocError>
     ensures { IfOk result (λ line. line.items ≡ fault_text fault.now) }
 {

@@ -1,4 +1,4 @@
-//! Debugger commands: read, written, and why they are refused.
+//! Debugger commands: how they are read and written, and why they are refused.
 #![tactic(auto)]
 
 mod command;

@@ -3,8 +3,8 @@
 use Rattle.std.proofs.Common.{◌≡◌, ℕ, List, [], ◌∷◌, ◌++◌, length, map, refl, sym, ap, ◌∙◌, append-nil}
 use Rattle.std.proofs.lemmas.List.{length-map}
 use Rattle.snap_semantics.specs.Token.{Token, TextLine}
-use Rattle.snap_expected.specs.Steps.{view_placed_token, placed_tokens}
-use Rattle.snap_expected.specs.declared.pieces.PlacedToken as token
+use Rattle.snap_explanation.specs.Steps.{view_placed_token, placed_tokens}
+use Rattle.snap_explanation.specs.declared.pieces.PlacedToken as token
 use Rattle.snap_text.specs.Tokens.{view_token}
 use Rattle.snap_explanation.specs.Names.{words_before, tokens_of_placed}
 use Rattle.snap_explanation.specs.Part.{lines_before}

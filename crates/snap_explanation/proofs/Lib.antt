@@ -1,4 +1,6 @@
 -- The proofs of snap_explanation, by their modules.
+pub mod Fronts
+pub mod Stays
 pub mod Counts
 pub mod Cuts
 pub mod Grown

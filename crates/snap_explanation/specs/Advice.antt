@@ -3,14 +3,14 @@ use Rattle.std.specs.Prelude.{ℕ, Bool, true, false, List, [], ◌∷◌, Optio
 use Rattle.std.specs.List.{list_all}
 use Rattle.snap_semantics.specs.declared.text.Symbol.TheVariants as symbol
 use Rattle.snap_semantics.specs.Token.{Token, is_digit, is_lexeme_byte}
-use Rattle.snap_expected.specs.declared.sorts.LineSort.{LineSort}
-use Rattle.snap_expected.specs.declared.sorts.LineSort.TheVariants as line
-use Rattle.snap_expected.specs.declared.wanted.Keyword.TheVariants as keyword
-use Rattle.snap_expected.specs.declared.wanted.Wanted.{Wanted}
-use Rattle.snap_expected.specs.declared.wanted.Wanted.TheVariants as wanted
-use Rattle.snap_expected.specs.After.{may_pass}
-use Rattle.snap_expected.specs.Pieces.{PlacedToken}
-use Rattle.snap_expected.specs.Tests.{is_symbol, is_identifier, is_name, is_line}
+use Rattle.snap_explanation.specs.declared.line_sorts.LineSort.{LineSort}
+use Rattle.snap_explanation.specs.declared.line_sorts.LineSort.TheVariants as line
+use Rattle.snap_explanation.specs.declared.wanted.Keyword.TheVariants as keyword
+use Rattle.snap_explanation.specs.declared.wanted.Wanted.{Wanted}
+use Rattle.snap_explanation.specs.declared.wanted.Wanted.TheVariants as wanted
+use Rattle.snap_explanation.specs.After.{may_pass}
+use Rattle.snap_explanation.specs.Pieces.{PlacedToken}
+use Rattle.snap_explanation.specs.Tests.{is_symbol, is_identifier, is_name, is_line}
 use Rattle.snap_explanation.specs.declared.wording.TheConstants.{END_HINTS, INDEX_HINTS, SUM_HINTS, JOIN_HINTS}
 use Rattle.snap_explanation.specs.declared.wording.TheConstants.{NAME_HINTS}
 use Rattle.snap_explanation.specs.declared.wording.TheConstants.{VALUE_HINTS, INSTRUCTION_HINTS, HEADERS, RESERVED}

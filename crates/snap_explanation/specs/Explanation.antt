@@ -15,12 +15,12 @@ use Rattle.snap_semantics.specs.declared.refusal.ScheduleRefusal.{ScheduleRefusa
 use Rattle.snap_semantics.specs.declared.refusal.ScheduleRefusal.TheVariants as schedule
 use Rattle.snap_semantics.specs.Source.{Source}
 use Rattle.snap_semantics.specs.Token.{TextLine, text_lines}
-use Rattle.snap_expected.specs.declared.sorts.Header.{Header}
-use Rattle.snap_expected.specs.declared.sorts.Header.TheVariants as header
-use Rattle.snap_expected.specs.declared.sorts.LineSort.{LineSort}
-use Rattle.snap_expected.specs.declared.sorts.LineSort.TheVariants as line
-use Rattle.snap_expected.specs.Lost.{Place, lost_in}
-use Rattle.snap_expected.specs.Pieces.{PlacedToken, PlacedTokens, placed_of}
+use Rattle.snap_explanation.specs.declared.line_sorts.Header.{Header}
+use Rattle.snap_explanation.specs.declared.line_sorts.Header.TheVariants as header
+use Rattle.snap_explanation.specs.declared.line_sorts.LineSort.{LineSort}
+use Rattle.snap_explanation.specs.declared.line_sorts.LineSort.TheVariants as line
+use Rattle.snap_explanation.specs.Lost.{Place, lost_in}
+use Rattle.snap_explanation.specs.Pieces.{PlacedToken, PlacedTokens, placed_of}
 use Rattle.snap_explanation.specs.declared.layout.Layout.{Layout}
 use Rattle.snap_explanation.specs.declared.layout.Layout.TheVariants as layout
 use Rattle.snap_explanation.specs.declared.names.Numbered.{Numbered}

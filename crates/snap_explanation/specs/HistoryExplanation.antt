@@ -4,7 +4,7 @@ use Rattle.std.specs.Prelude.{ℕ, List, ◌++◌}
 use Rattle.snap_semantics.specs.Token.{text_lines}
 use Rattle.snap_history_text.specs.declared.refusal.HistoryRefusal.{HistoryRefusal}
 use Rattle.snap_history_text.specs.declared.refusal.HistoryRefusal.TheVariants as history
-use Rattle.snap_expected.specs.declared.sorts.LineSort.TheVariants.{Shape}
+use Rattle.snap_explanation.specs.declared.line_sorts.LineSort.TheVariants.{Shape}
 use Rattle.snap_explanation.specs.declared.part.PartName.TheVariants as name
 use Rattle.snap_explanation.specs.declared.wording.TheConstants.{LONG_HISTORY, EVENT_FORMS, NO_PROCESS, NOT_RISING}
 use Rattle.snap_explanation.specs.declared.wording.TheConstants.{NO_WORD, BUSY, CRASHED, NOT_CALLED, BAD_VIEW}

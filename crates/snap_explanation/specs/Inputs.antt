@@ -9,7 +9,7 @@ use Rattle.snap_semantics.specs.declared.refusal.Refusal.TheVariants as refusal
 use Rattle.snap_semantics.specs.Token.{Token, TextLine, begins_with, lines_of, text_lines}
 use Rattle.snap_input.specs.Parts.{ends_part, part, parts_of}
 use Rattle.snap_tasks.specs.declared.subject.Subject.TheVariants as subject
-use Rattle.snap_expected.specs.Tests.{is_word}
+use Rattle.snap_explanation.specs.Tests.{is_word}
 use Rattle.snap_explanation.specs.declared.layout.Layout.{Layout}
 use Rattle.snap_explanation.specs.declared.layout.Layout.TheVariants as layout
 use Rattle.snap_explanation.specs.declared.layout.Texts.TheVariants as texts
@@ -44,7 +44,7 @@ lines_behind before (p ∷ ps) = lines_through before p ∷ lines_behind (lines_
 abbrev pub separators : List (List ℕ) → List ℕ
 separators parts = take (length (lines_behind 0 parts) - 1) (lines_behind 0 parts)
 
--- where they are: the first eight
+-- the words of where the lines `%` are: the first eight
 unfoldable pub separator_words : List ℕ → List ℕ
 separator_words ks =
     if nat_eq (length ks) 0 then NO_SEPARATOR.now else SEPARATORS.now ++ numbers_text (take 8 ks) ++ LINE_END.now

@@ -1,4 +1,10 @@
 -- The definitions of snap_explanation, by their modules.
+pub mod Tests
+pub mod After
+pub mod Lost
+pub mod Pieces
+pub mod Steps
+pub mod Laws
 pub mod Part
 pub mod Spot
 pub mod Texts

@@ -12,7 +12,7 @@ use Rattle.snap_semantics.specs.Rules.{or_else}
 use Rattle.snap_semantics.specs.Source.{Source}
 use Rattle.snap_semantics.specs.Spelling.{kind_keyword}
 use Rattle.snap_semantics.specs.Uses.{Use, Named, BankUse, TupleUse, kind_has, sort_of}
-use Rattle.snap_expected.specs.Pieces.{PlacedToken}
+use Rattle.snap_explanation.specs.Pieces.{PlacedToken}
 use Rattle.snap_explanation.specs.Names.{letters_of, nearest, tokens_of_placed}
 use Rattle.snap_explanation.specs.Sorts.{is_sort, of_sort}
 use Rattle.snap_explanation.specs.TokenUses.{use_at, slot_after}
@@ -40,7 +40,7 @@ abbrev pub right_or : Source → PlacedToken → Slot → Option Use → Result 
 right_or s t next None = Ok next
 right_or s t next (Some u) = if is_right s u then Ok next else Err (record { token = t; spoken = u })
 
--- the same at a token with these behind it
+-- what the next name is behind a token, with the tokens behind it
 unfoldable pub step_at : Source → Instr → Slot → PlacedToken → List PlacedToken → Result Slot Misuse
 step_at s i here t ts = right_or s t (slot_after here t.token) (use_at i here t.token (tokens_of_placed ts))
 

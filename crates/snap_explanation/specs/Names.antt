@@ -6,9 +6,9 @@ use Rattle.std.specs.List.{list_any}
 use Rattle.snap_semantics.specs.Listing.{is_bad_name}
 use Rattle.snap_semantics.specs.ListingForms.{is_reserved}
 use Rattle.snap_semantics.specs.Token.{Token, Identifier, Number, Sign, TextLine}
-use Rattle.snap_expected.specs.Pieces.{PlacedToken}
+use Rattle.snap_explanation.specs.Pieces.{PlacedToken}
 use Rattle.snap_semantics.specs.Rules.{or_else}
-use Rattle.snap_expected.specs.Tests.{is_identifier, is_word}
+use Rattle.snap_explanation.specs.Tests.{is_identifier, is_word}
 use Rattle.snap_explanation.specs.declared.names.Numbered.{Numbered}
 
 -- tokens without their columns
@@ -119,7 +119,7 @@ common_len [] bs = 0
 common_len (a ∷ more) [] = 0
 common_len (a ∷ more) (b ∷ bs) = if nat_eq a b then common_len more bs + 1 else 0
 
--- the same but for the first letter: put in, left out, or another one
+-- two words are the same but for the first letter: put in, left out, or another one
 abbrev pub is_same_later : List ℕ → List ℕ → Bool
 is_same_later xs ys = bytes_eq (drop 1 xs) (drop 1 ys) || (bytes_eq (drop 1 xs) ys || bytes_eq xs (drop 1 ys))
 

@@ -2,7 +2,7 @@
 use Rattle.std.specs.Prelude.{ℕ, ◌+◌, ◌-◌, ◌^◌, List, [], ◌∷◌, ◌++◌, take, drop, replicate, Option, Some}
 use Rattle.std.specs.Prelude.{None, nat_eq, nat_le, decimal, if◌then◌else◌}
 use Rattle.snap_semantics.specs.Token.{lines_of}
-use Rattle.snap_expected.specs.Pieces.{PlacedToken, piece_len}
+use Rattle.snap_explanation.specs.Pieces.{PlacedToken, piece_len}
 use Rattle.snap_explanation.specs.declared.part.PartName.{PartName}
 use Rattle.snap_explanation.specs.declared.part.PartName.TheVariants as name
 use Rattle.snap_explanation.specs.declared.wording.TheConstants.{LINE, OF_THE_INPUT, OF, COLUMN, PLACE_END, MARGIN}

@@ -3,11 +3,11 @@ use Rattle.std.specs.Prelude.{ℕ, true, false, List, [], ◌∷◌, ◌++◌, i
 use Rattle.snap_semantics.specs.declared.instr.Join.TheVariants.{And, Or}
 use Rattle.snap_semantics.specs.declared.text.Symbol.{Symbol}
 use Rattle.snap_semantics.specs.Layout.{symbol_text}
-use Rattle.snap_expected.specs.declared.wanted.Keyword.{Keyword}
-use Rattle.snap_expected.specs.declared.wanted.Wanted.{Wanted}
-use Rattle.snap_expected.specs.declared.wanted.Wanted.TheVariants as wanted
-use Rattle.snap_expected.specs.After.{may_pass}
-use Rattle.snap_expected.specs.Tests.{keyword_text}
+use Rattle.snap_explanation.specs.declared.wanted.Keyword.{Keyword}
+use Rattle.snap_explanation.specs.declared.wanted.Wanted.{Wanted}
+use Rattle.snap_explanation.specs.declared.wanted.Wanted.TheVariants as wanted
+use Rattle.snap_explanation.specs.After.{may_pass}
+use Rattle.snap_explanation.specs.Tests.{keyword_text}
 use Rattle.snap_explanation.specs.declared.wording.TheConstants.{EXPECTED, OR, FOUND, END_OF_LINE, NUMBER}
 use Rattle.snap_explanation.specs.declared.wording.TheConstants.{LINE_NUMBER, COUNT, POSITIVE, TURN, NAME, INDEX}
 use Rattle.snap_explanation.specs.declared.wording.TheConstants.{RANGE, RELATION, KIND_NAME, INSTRUCTION, VALUE}

@@ -17,7 +17,7 @@ use Rattle.snap_semantics.specs.declared.text.Symbol.TheVariants as symbol
 use Rattle.snap_semantics.specs.ListingForms.{is_reserved, field_of_keyword}
 use Rattle.snap_semantics.specs.Token.{Token, Identifier, Number, Sign}
 use Rattle.snap_semantics.specs.Uses.{Use, Named, BankUse, FieldUse, HandshakeUse, ViewUse, TupleUse}
-use Rattle.snap_expected.specs.Tests.{is_symbol}
+use Rattle.snap_explanation.specs.Tests.{is_symbol}
 use Rattle.snap_explanation.specs.declared.token_uses.Slot.{Slot}
 use Rattle.snap_explanation.specs.declared.token_uses.Slot.TheVariants as slot
 

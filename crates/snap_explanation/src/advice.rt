@@ -3,28 +3,30 @@ ghost use Rattle.std.specs.Prelude.{◌≡◌, map};
 ghost use Rattle.std.specs.List.{list_all};
 ghost use Rattle.snap_semantics.specs.Token.{is_digit};
 ghost use Rattle.snap_text.specs.Tokens.{view_token};
-ghost use Rattle.snap_expected.specs.Steps.{view_placed_token};
+ghost use Rattle.snap_explanation.specs.Steps.{view_placed_token};
 ghost use Rattle.snap_explanation.specs.Advice.{passes, firm, hints, otherwise, is_act};
 ghost use Rattle.snap_explanation.specs.Advice.{advice, first_word};
 ghost use Rattle.snap_explanation.specs.Advice.{numbered_advice, form_advice, stray_advice};
 ghost use Rattle.snap_explanation.specs.Said.{view_row};
 
+use crate::after::may_pass;
+use crate::line_sorts::LineSort;
 use crate::names::letters_of;
+use crate::pieces::{PlacedToken, is_lexeme_byte};
 use crate::tables::{by_byte, by_word};
+use crate::tests::{is_identifier, is_line, is_name, is_symbol};
+use crate::wanted::{Keyword, Wanted};
 use crate::wording::{
     BYTE_HINTS, COMMAND_FORMS, COMMANDS, COMPARISON_HINTS, END_HINTS, HEADERS, INDEX_HINTS,
     INSTRUCTION_FORMS, INSTRUCTION_HINTS, INSTRUCTIONS, ITEM, JOIN_HINTS, LEXEME_HINTS, LOCAL,
     NAME_HINTS, NAMES, NUMBERED, REGISTERS, RESERVED, SCRIPT, SHAPE, SUM_HINTS, TARGET,
     VALUE_HINTS, VALUES, WRONG_NUMBER,
 };
-use snap_expected::{
-    Keyword, LineSort, PlacedToken, Wanted, is_identifier, is_lexeme_byte, is_line, is_name,
-    is_symbol, may_pass,
-};
 use snap_semantics::Symbol;
 use snap_text::Token;
 
-/// Whether advice is of what stands behind this: where names may follow, it is of names.
+/// Returns whether the advice is of what stands behind `wanted`: where names may follow, it is of
+/// names.
 fn passes(wanted: Wanted) -> bool
     ensures { result ≡ passes wanted }
 {
@@ -34,7 +36,7 @@ fn passes(wanted: Wanted) -> bool
     }
 }
 
-/// The first that has to stand there, where one has to.
+/// Returns the first part that has to stand there, if one has to.
 fn firm(wanted: &[Wanted]) -> Option<Wanted>
     ensures { result ≡ firm wanted.now }
 {
@@ -48,7 +50,7 @@ fn firm(wanted: &[Wanted]) -> Option<Wanted>
     None
 }
 
-/// The table of what is advised at a piece, where this has to stand.
+/// Returns the table of the advice at a piece, where `wanted` has to stand.
 fn hints(wanted: Option<Wanted>) -> &'static [(&'static [u8], &'static [u8])]
     ensures { map view_row result.now ≡ hints wanted }
 {
@@ -65,7 +67,7 @@ fn hints(wanted: Option<Wanted>) -> &'static [(&'static [u8], &'static [u8])]
     }
 }
 
-/// What is advised at a token of which that table says nothing.
+/// Returns the advice at a token of which the table says nothing.
 fn otherwise(wanted: Option<Wanted>, token: &Token<'_>) -> &'static [u8]
     ensures { result.now ≡ otherwise wanted (view_token token.now) }
 {
@@ -89,7 +91,7 @@ fn otherwise(wanted: Option<Wanted>, token: &Token<'_>) -> &'static [u8]
     }
 }
 
-/// Whether what a process does in a schedule has to stand there, or nothing.
+/// Returns whether what a process does in a schedule has to stand there, or nothing.
 fn is_act(wanted: &[Wanted]) -> bool
     ensures { result ≡ is_act wanted.now }
 {
@@ -99,7 +101,8 @@ fn is_act(wanted: &[Wanted]) -> bool
     }
 }
 
-/// What is advised at a token that does not go on with what is wanted, and at the piece that it is.
+/// Returns the advice at a token that does not go on with what is wanted, and at the piece that it
+/// is.
 pub fn advice(wanted: &[Wanted], token: &Token<'_>, piece: &[u8]) -> &'static [u8]
     ensures { result.now ≡ advice wanted.now (view_token token.now) piece.now }
 {
@@ -110,7 +113,7 @@ pub fn advice(wanted: &[Wanted], token: &Token<'_>, piece: &[u8]) -> &'static [u
     by_word(hints(wanted), otherwise(wanted, token), piece)
 }
 
-/// The first token, where it is a word; else nothing.
+/// Returns the first token if it is a word, and an empty text otherwise.
 fn first_word<'a>(tokens: &[PlacedToken<'a>]) -> &'a [u8]
     ensures { result.now ≡ first_word (map view_placed_token tokens.now) }
 {
@@ -120,8 +123,8 @@ fn first_word<'a>(tokens: &[PlacedToken<'a>]) -> &'a [u8]
     }
 }
 
-/// What is advised of the form of a numbered line: of that of its instruction, where its number and
-/// a colon stand before it.
+/// Returns the advice on the form of a numbered line: that on its instruction, if a number and a
+/// colon stand before it.
 fn numbered_advice(tokens: &[PlacedToken<'_>]) -> &'static [u8]
     ensures { result.now ≡ numbered_advice (map view_placed_token tokens.now) }
 {
@@ -137,7 +140,7 @@ fn numbered_advice(tokens: &[PlacedToken<'_>]) -> &'static [u8]
     }
 }
 
-/// What is advised of the form of a line of a sort, by its tokens.
+/// Returns the advice on the form of a line of a sort, by its tokens.
 pub fn form_advice(sort: LineSort, tokens: &[PlacedToken<'_>]) -> &'static [u8]
     ensures { result.now ≡ form_advice sort (map view_placed_token tokens.now) }
 {
@@ -151,14 +154,14 @@ pub fn form_advice(sort: LineSort, tokens: &[PlacedToken<'_>]) -> &'static [u8]
     }
 }
 
-/// Whether all of these are digits.
+/// Returns whether each byte of `piece` is a digit.
 fn all_digits(piece: &[u8]) -> bool
     ensures { result ≡ list_all is_digit piece.now }
 {
     piece.iter().all(|b| b'0' <= *b && *b <= b'9')
 }
 
-/// What is advised of a piece that is no token.
+/// Returns the advice on a piece that is no token.
 pub fn stray_advice(piece: &[u8]) -> &'static [u8]
     ensures { result.now ≡ stray_advice piece.now }
 {

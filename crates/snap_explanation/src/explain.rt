@@ -1,9 +1,9 @@
-//! `explanation`: what is said of a refused input after the line that refuses it, for each kind of
+//! `explanation`: the text on a refused input after the line that refuses it, for each kind of
 //! refusal.
 ghost use Rattle.std.specs.Prelude.{◌≡◌, IfOk, OnOk, drop, map, option_map};
 ghost use Rattle.snap_semantics.specs.Token.{text_lines};
-ghost use Rattle.snap_draft.specs.Drafted.{Adds};
-ghost use Rattle.snap_expected.specs.Steps.{view_placed, view_placed_token, view_lost};
+ghost use Rattle.snap_text.specs.Drafted.{Adds};
+ghost use Rattle.snap_explanation.specs.Steps.{view_placed, view_placed_token, view_lost};
 ghost use Rattle.snap_explanation.specs.Explanation.{token_advice, piece_of, stray_words};
 ghost use Rattle.snap_explanation.specs.Explanation.{stray_text};
 ghost use Rattle.snap_explanation.specs.Explanation.{lost_text};
@@ -19,7 +19,7 @@ ghost use Rattle.snap_explanation.specs.Explanation.{schedule_explained, command
 ghost use Rattle.snap_explanation.specs.Explanation.{image_explained};
 ghost use Rattle.snap_explanation.specs.Explanation.{too_many_spot, leading_spot, part_explained};
 ghost use Rattle.snap_explanation.specs.Explanation.{explanation};
-ghost use Rattle.snap_expected.specs.declared.sorts.Header.TheVariants.{Kind};
+ghost use Rattle.snap_explanation.specs.declared.line_sorts.Header.TheVariants.{Kind};
 ghost use Rattle.snap_semantics.specs.declared.refusal.ListingRefusal.TheVariants.{BadHeader};
 ghost use Rattle.snap_explanation.specs.Names.{first_such, is_bad, leading_line, nth_token};
 ghost use Rattle.snap_explanation.specs.Sorts.{kind_in};
@@ -28,12 +28,15 @@ ghost use Rattle.snap_explanation.specs.Views.{view_declared, view_misuse, view_
 use crate::advice::{advice, form_advice, stray_advice};
 use crate::inputs::{push_order_advice, push_parts};
 use crate::layout::{Layout, Texts};
+use crate::line_sorts::{Header, LineSort};
+use crate::lost::{LostPlace, lost_in};
 use crate::misuse::{Misuse, push_misuse, wrong_in_line};
 use crate::names::{
     Declared, Numbered, declared_at, first_again, first_bad, first_led, last_before, leading_line,
     letters_of, name_count, nth_token, one_too_many, words_before,
 };
 use crate::part::{Part, part_place};
+use crate::pieces::{PlacedToken, PlacedTokens, placed_tokens};
 use crate::said::{Said, push_said};
 use crate::sorts::{Names, kind_in, names_in};
 use crate::spot::{column_of, piece_at, push_line_spot, push_spot, text_of};
@@ -44,15 +47,11 @@ use crate::wording::{
     NO_FIT, NO_PROCESS, NO_SUCH_LINE, NO_TOKEN, NUMBERS_RISE, QUOTE, QUOTE_END, RISING,
     SECOND_CRASH, TOO_MANY, WRONG,
 };
-use snap_draft::Draft;
-use snap_expected::{
-    Header, LineSort, LostPlace, PlacedToken, PlacedTokens, lost_in, placed_tokens,
-};
 use snap_semantics::{CommandRefusal, ImageRefusal, ListingRefusal, Refusal, ScheduleRefusal};
-use snap_text::{TextLines, Token};
+use snap_text::{Draft, TextLines, Token};
 use std::alloc::{AllocError, Global};
 
-/// Adds what is no token, and what is advised of it.
+/// Appends what is no token, and the advice on it.
 #[tactic(auto, unfolding(crate::specs::Explanation::stray_words))]
 fn push_stray_words<'a>(out: &mut Draft, piece: &'a [u8], advice: &'a [u8])
     ensures { Adds out.old out.new (stray_words piece.now advice.now) }
@@ -68,7 +67,7 @@ fn push_stray_words<'a>(out: &mut Draft, piece: &'a [u8], advice: &'a [u8])
     );
 }
 
-/// Adds what is said of a byte that begins no token.
+/// Appends the text on a byte that begins no token.
 #[tactic(auto, unfolding(crate::specs::Explanation::stray_text))]
 fn push_stray(out: &mut Draft, part: &Part<'_>, line: u64, column: usize)
     ensures { Adds out.old out.new (stray_text (view_part part.now) line column) }
@@ -78,7 +77,7 @@ fn push_stray(out: &mut Draft, part: &Part<'_>, line: u64, column: usize)
     push_stray_words(out, piece, stray_advice(piece));
 }
 
-/// What stands at a token, which may be the end of the line.
+/// Returns what stands at a token, which may be the end of the line.
 fn piece_of<'a>(text: &'a [u8], token: Option<PlacedToken<'_>>) -> &'a [u8]
     ensures { result.now ≡ piece_of text.now (option_map view_placed_token token.entry) }
 {
@@ -88,7 +87,7 @@ fn piece_of<'a>(text: &'a [u8], token: Option<PlacedToken<'_>>) -> &'a [u8]
     }
 }
 
-/// What is advised at a token, which is this piece.
+/// Returns the advice at a token, which is this piece.
 fn token_advice(place: &LostPlace, token: Option<PlacedToken<'_>>, piece: &[u8]) -> &'static [u8]
     ensures { result.now ≡ token_advice (view_lost place.now)
         (option_map view_placed_token token.entry) piece.now }
@@ -99,7 +98,7 @@ fn token_advice(place: &LostPlace, token: Option<PlacedToken<'_>>, piece: &[u8])
     }
 }
 
-/// Adds what is said of a line that is lost at a place.
+/// Appends the text on a line that is lost at a place.
 #[tactic(auto, unfolding(crate::specs::Explanation::lost_text))]
 fn push_lost(
     out: &mut Draft,
@@ -122,7 +121,7 @@ fn push_lost(
     out.push(form_advice(sort, tokens));
 }
 
-/// Adds what is said of a line with a byte that begins no token, or else of one that is lost.
+/// Appends the text on a line with a byte that begins no token, or else of one that is lost.
 #[tactic(auto, using(crate::proofs::Counts::same_tokens))]
 fn push_placed_form(
     alloc: Global,
@@ -147,7 +146,7 @@ fn push_placed_form(
     Ok(())
 }
 
-/// What is advised of a refused line of which each token is as expected.
+/// Returns the advice on a refused line of which each token is as expected.
 fn unlost_advice(sort: LineSort) -> &'static [u8]
     ensures { result.now ≡ unlost_advice sort }
 {
@@ -157,7 +156,7 @@ fn unlost_advice(sort: LineSort) -> &'static [u8]
     }
 }
 
-/// Adds what is said of a line that has not the form of its sort.
+/// Appends the text on a line that has not the form of its sort.
 #[tactic(auto, unfolding(crate::specs::Explanation::form_text))]
 pub(crate) fn push_form(
     alloc: Global,
@@ -172,7 +171,7 @@ pub(crate) fn push_form(
     push_placed_form(alloc, out, part, sort, line, &placed)
 }
 
-/// Adds a place at a token, where there is one, and what is said of it.
+/// Appends a place at a token, if there is one, and the text on it.
 fn push_token_spot(
     out: &mut Draft,
     part: &Part<'_>,
@@ -190,7 +189,7 @@ fn push_token_spot(
     out.push(said);
 }
 
-/// The tokens of a line of a part.
+/// Returns the tokens of a line of a part.
 #[tactic(auto, unfolding(crate::specs::Explanation::placed_line))]
 fn placed_line<'a>(
     alloc: Global,
@@ -204,7 +203,7 @@ fn placed_line<'a>(
     Ok(tokens)
 }
 
-/// Token `index` of a line, from 0.
+/// Returns token `index` of a line, counted from 0.
 fn token_at<'a>(
     alloc: Global,
     part: &Part<'a>,
@@ -218,7 +217,7 @@ fn token_at<'a>(
     Ok(nth_token(index, tokens.as_slice()))
 }
 
-/// The header line behind this one; the last one stays.
+/// Returns the header line behind `header`; the last one stays.
 fn next_header(header: Header) -> Header
     ensures { result ≡ next_header header }
 {
@@ -233,7 +232,7 @@ fn next_header(header: Header) -> Header
     }
 }
 
-/// Which header line is expected at this line.
+/// Returns which header line is expected at this line.
 fn header_at(alloc: Global, line: u64, text: &[u8]) -> Result<Header, AllocError>
     ensures { IfOk result (λ header. header ≡ header_at Kind line (text_lines text.now)) }
 {
@@ -248,7 +247,7 @@ fn header_at(alloc: Global, line: u64, text: &[u8]) -> Result<Header, AllocError
     Ok(header)
 }
 
-/// The number of the first line with tokens; 1 where there is none.
+/// Returns the number of the first line with tokens; 1 if there is none.
 pub(crate) fn first_number(alloc: Global, text: &[u8]) -> Result<u64, AllocError>
     ensures { IfOk result (λ line. line ≡ first_number (text_lines text.now)) }
 {
@@ -258,7 +257,7 @@ pub(crate) fn first_number(alloc: Global, text: &[u8]) -> Result<u64, AllocError
     }
 }
 
-/// Adds what is said of a token that is not right.
+/// Appends the text on a token that is not right.
 fn push_misuse_spot(
     out: &mut Draft,
     part: &Part<'_>,
@@ -279,7 +278,7 @@ fn push_misuse_spot(
     }
 }
 
-/// Adds what is said of a line that speaks of what is not right, where names are declared.
+/// Appends the text on a line that uses what it may not, where names are declared.
 #[tactic(auto, unfolding(crate::specs::Explanation::names_spot))]
 fn push_names_spot(
     alloc: Global,
@@ -297,7 +296,7 @@ fn push_names_spot(
     Ok(())
 }
 
-/// Adds what is said of a line that speaks of what is not right, behind these words of a header.
+/// Appends the text on a line that uses what it may not, behind these words of a header.
 fn push_words_spot(
     alloc: Global,
     out: &mut Draft,
@@ -321,7 +320,7 @@ fn push_words_spot(
     }
 }
 
-/// Adds what is said of a line that speaks of what is not right.
+/// Appends the text on a line that uses what it may not.
 #[tactic(auto, unfolding(crate::specs::Explanation::uses_spot))]
 fn push_uses_spot(
     alloc: Global,
@@ -335,7 +334,7 @@ fn push_uses_spot(
     push_words_spot(alloc, out, part, line, words.as_slice())
 }
 
-/// Adds where a name is declared.
+/// Appends where a name is declared.
 fn push_declared<'a>(out: &mut Draft, name: &'a [u8], found: Option<Declared<'a>>)
     ensures { Adds out.old out.new (declared_text name.now (option_map view_declared found.entry)) }
 {
@@ -356,7 +355,7 @@ fn push_declared<'a>(out: &mut Draft, name: &'a [u8], found: Option<Declared<'a>
     }
 }
 
-/// Adds where the name at a token is declared.
+/// Appends where the name at a token is declared.
 fn push_again(
     alloc: Global,
     out: &mut Draft,
@@ -375,7 +374,7 @@ fn push_again(
     Ok(())
 }
 
-/// Adds what is said of a name that is declared before.
+/// Appends the text on a name that is declared before.
 #[tactic(auto, unfolding(crate::specs::Explanation::again_spot))]
 fn push_again_spot(
     alloc: Global,
@@ -392,7 +391,7 @@ fn push_again_spot(
     push_again(alloc, out, part, token)
 }
 
-/// The number at a token.
+/// Returns the number at a token.
 fn number_at_token(token: Option<PlacedToken<'_>>) -> u64
     ensures { result ≡ number_at_token (option_map view_placed_token token.entry) }
 {
@@ -407,7 +406,7 @@ fn number_at_token(token: Option<PlacedToken<'_>>) -> u64
     }
 }
 
-/// Adds that a number is not above the one before.
+/// Appends that a number is not above the one before.
 #[tactic(auto, unfolding(crate::specs::Explanation::rising_text))]
 fn push_rising(out: &mut Draft, number: u64, last: Numbered)
     ensures { Adds out.old out.new (rising_text number last) }
@@ -426,7 +425,7 @@ fn push_rising(out: &mut Draft, number: u64, last: Numbered)
     );
 }
 
-/// Adds what is said of a number that is not above the one before.
+/// Appends the text on a number that is not above the one before.
 #[tactic(auto, unfolding(crate::specs::Explanation::rising_spot))]
 fn push_rising_spot(
     alloc: Global,
@@ -443,7 +442,7 @@ fn push_rising_spot(
     Ok(())
 }
 
-/// Adds what is said of a target that is no line.
+/// Appends the text on a target that is no line.
 fn push_leading_spot(
     alloc: Global,
     out: &mut Draft,
@@ -461,7 +460,7 @@ fn push_leading_spot(
     Ok(())
 }
 
-/// The first token behind the first one that may not be declared as a name.
+/// Returns the first token behind the first one that may not be declared as a name.
 fn first_bad_behind<'a>(tokens: &[PlacedToken<'a>]) -> Option<PlacedToken<'a>>
     ensures { option_map view_placed_token result
         ≡ first_such is_bad (drop 1 (map view_placed_token tokens.now)) }
@@ -472,7 +471,7 @@ fn first_bad_behind<'a>(tokens: &[PlacedToken<'a>]) -> Option<PlacedToken<'a>>
     }
 }
 
-/// Adds what is said of a name that may not be declared.
+/// Appends the text on a name that may not be declared.
 fn push_bad_spot(
     alloc: Global,
     out: &mut Draft,
@@ -489,7 +488,7 @@ fn push_bad_spot(
     Ok(())
 }
 
-/// Adds what is said of a line that has a name too many, or is one too many.
+/// Appends the text on a line that has a name too many, or is one too many.
 fn push_too_many(
     alloc: Global,
     out: &mut Draft,
@@ -505,7 +504,7 @@ fn push_too_many(
     Ok(())
 }
 
-/// Adds what is said of a line that is refused at token `index`, from 0.
+/// Appends the text on a line that is refused at token `index`, from 0.
 fn push_token(
     alloc: Global,
     out: &mut Draft,
@@ -523,7 +522,7 @@ fn push_token(
     Ok(())
 }
 
-/// Adds what is said of a header line that is not the one expected.
+/// Appends the text on a header line that is not the one expected.
 #[tactic(auto, unfolding(crate::specs::Explanation::listing_explained))]
 fn push_header(alloc: Global, out: &mut Draft, part: &Part<'_>, line: u64) -> Result<(), AllocError>
     ensures { OnOk result (Adds out.old out.new
@@ -533,7 +532,7 @@ fn push_header(alloc: Global, out: &mut Draft, part: &Part<'_>, line: u64) -> Re
     push_form(alloc, out, part, LineSort::Header(header), line)
 }
 
-/// Adds what is said of a refused listing.
+/// Appends the text on a refused listing.
 #[tactic(auto, unfolding(crate::specs::Explanation::listing_explained))]
 fn push_listing(
     alloc: Global,
@@ -560,7 +559,7 @@ fn push_listing(
     Ok(())
 }
 
-/// The sort of the lines behind the shape.
+/// Returns the sort of the lines behind the shape.
 fn item_sort(layout: Layout) -> LineSort
     ensures { result ≡ item_sort layout }
 {
@@ -570,7 +569,7 @@ fn item_sort(layout: Layout) -> LineSort
     }
 }
 
-/// Adds what is said of a refused schedule.
+/// Appends the text on a refused schedule.
 #[tactic(auto, unfolding(crate::specs::Explanation::schedule_explained))]
 fn push_schedule(
     alloc: Global,
@@ -597,7 +596,7 @@ fn push_schedule(
     Ok(())
 }
 
-/// Adds what is said of a refused part.
+/// Appends the text on a refused part.
 #[tactic(auto, unfolding(crate::specs::Explanation::part_explained))]
 fn push_part(
     alloc: Global,
@@ -627,7 +626,7 @@ fn push_part(
     }
 }
 
-/// The rule of listings that is broken.
+/// Returns the rule of listings that is broken.
 fn rule(refusal: &ListingRefusal) -> &'static [u8]
     ensures { result.now ≡ rule refusal.now }
 {
@@ -643,7 +642,7 @@ fn rule(refusal: &ListingRefusal) -> &'static [u8]
     }
 }
 
-/// Adds what is said of bytes that are no image of a listing.
+/// Appends the text on bytes that are no image of a listing.
 fn push_image(out: &mut Draft, refusal: &ImageRefusal)
     ensures { Adds out.old out.new (image_explained refusal.now) }
 {
@@ -667,7 +666,7 @@ fn push_image(out: &mut Draft, refusal: &ImageRefusal)
     }
 }
 
-/// Adds what is said of a refused input behind the line that refuses it.
+/// Appends the text on a refused input behind the line that refuses it.
 #[tactic(auto, unfolding(crate::specs::Explanation::explanation))]
 fn push_explanation(
     alloc: Global,
@@ -696,7 +695,11 @@ fn push_explanation(
     push_order_advice(alloc, out, layout, input, refusal)
 }
 
-/// What is said of a refused input behind the line that refuses it.
+/// Returns the text on a refused input behind the line that refuses it.
+///
+/// # Errors
+///
+/// `AllocError` where memory runs out.
 pub fn explanation(
     alloc: Global,
     layout: Layout,

@@ -1,9 +1,8 @@
-//! `history_explanation`: what is said of an input that is no history, after the line that refuses
-//! it.
+//! `history_explanation`: the text on an input that is no history, after the line that refuses it.
 ghost use Rattle.std.specs.Prelude.{◌≡◌, IfOk, OnOk};
 ghost use Rattle.snap_semantics.specs.Token.{text_lines};
-ghost use Rattle.snap_draft.specs.Drafted.{Adds};
-ghost use Rattle.snap_expected.specs.declared.sorts.LineSort.TheVariants.{Shape};
+ghost use Rattle.snap_text.specs.Drafted.{Adds};
+ghost use Rattle.snap_explanation.specs.declared.line_sorts.LineSort.TheVariants.{Shape};
 ghost use Rattle.snap_explanation.specs.Explanation.{first_number, form_text};
 ghost use Rattle.snap_explanation.specs.HistoryExplanation.{history_explanation, history_part};
 ghost use Rattle.snap_explanation.specs.HistoryExplanation.{line_said};
@@ -11,17 +10,17 @@ ghost use Rattle.snap_explanation.specs.Spot.{line_spot};
 ghost use Rattle.snap_explanation.specs.Views.{view_part};
 
 use crate::explain::{first_number, push_form};
+use crate::line_sorts::LineSort;
 use crate::part::{Part, PartName};
 use crate::spot::push_line_spot;
 use crate::wording::{
     BAD_VIEW, BUSY, CRASHED, EVENT_FORMS, LONG_HISTORY, NO_PROCESS, NO_WORD, NOT_CALLED, NOT_RISING,
 };
-use snap_draft::Draft;
-use snap_expected::LineSort;
 use snap_history_text::HistoryRefusal;
+use snap_text::Draft;
 use std::alloc::{AllocError, Global};
 
-/// The history that an input is.
+/// Returns the history that an input spells.
 fn history_part(input: &[u8]) -> Part<'_>
     ensures { view_part result ≡ history_part input.now }
 {
@@ -32,7 +31,7 @@ fn history_part(input: &[u8]) -> Part<'_>
     }
 }
 
-/// Adds a line, and what is said of it.
+/// Appends a line, and the text on it.
 #[tactic(auto, unfolding(crate::specs::HistoryExplanation::line_said))]
 fn push_line_said(out: &mut Draft, part: &Part<'_>, line: u64, said: &[u8])
     ensures { Adds out.old out.new (line_said (view_part part.now) line said.now) }
@@ -41,7 +40,7 @@ fn push_line_said(out: &mut Draft, part: &Part<'_>, line: u64, said: &[u8])
     out.push(said);
 }
 
-/// Adds what is said of a shape that is none.
+/// Appends the text on a shape that is none.
 fn push_shape(alloc: Global, out: &mut Draft, part: &Part<'_>) -> Result<(), AllocError>
     ensures { OnOk result (Adds out.old out.new
         (form_text (view_part part.now) Shape (first_number (text_lines part.now.text.now)))) }
@@ -50,7 +49,7 @@ fn push_shape(alloc: Global, out: &mut Draft, part: &Part<'_>) -> Result<(), All
     push_form(alloc, out, part, LineSort::Shape, line)
 }
 
-/// Adds what is said of an input that is no history.
+/// Appends the text on an input that is no history.
 #[tactic(auto, unfolding(crate::specs::HistoryExplanation::history_explanation))]
 fn push_history(
     alloc: Global,
@@ -76,7 +75,11 @@ fn push_history(
     Ok(())
 }
 
-/// What is said of an input that is no history behind the line that refuses it.
+/// Returns the text on an input that is no history behind the line that refuses it.
+///
+/// # Errors
+///
+/// `AllocError` where memory runs out.
 pub fn history_explanation(
     alloc: Global,
     input: &[u8],

@@ -2,7 +2,7 @@
 //! place.
 ghost use Rattle.std.specs.Prelude.{◌≡◌, IfOk, OnOk, map, option_map, take};
 ghost use Rattle.snap_semantics.specs.Token.{begins_with, lines_of, text_lines};
-ghost use Rattle.snap_draft.specs.Drafted.{Adds};
+ghost use Rattle.snap_text.specs.Drafted.{Adds};
 ghost use Rattle.snap_input.specs.Parts.{ends_part, parts_of};
 ghost use Rattle.snap_text.specs.Tokens.{view_tokens};
 ghost use Rattle.snap_explanation.specs.Inputs.{parts_words, lines_behind, separators};
@@ -18,24 +18,23 @@ use crate::names::same_word;
 use crate::part::{lines_through, part_at};
 use crate::said::{Said, push_said};
 use crate::spot::{line_of, split_line};
+use crate::tests::is_word;
 use crate::wording::{
     ALONE, COMMANDS_ALONE, FILES_SWAPPED, LINE, LINE_END, LISTING_AND_COMMANDS,
     LISTING_AND_SCHEDULE, LISTING_AND_SCHEDULES, LISTING_AND_SCRIPTS, NEAR, NO_LISTING,
     NO_SEPARATOR, SCHEDULE_ALONE, SCHEDULES_ALONE, SCRIPTS_ALONE, SEPARATORS, SHIPPED, SWAPPED,
     WHOLE_INPUT,
 };
-use snap_draft::Draft;
-use snap_expected::is_word;
 use snap_input::split_parts;
 use snap_semantics::{ListingRefusal, Refusal};
 use snap_tasks::Subject;
-use snap_text::{TextLines, Token};
+use snap_text::{Draft, TextLines, Token};
 use std::alloc::{AllocError, Global};
 
 /// The most lines `%` that are told.
 const MOST: usize = 8;
 
-/// The parts that an input has, in words.
+/// Returns the parts that an input has, in words.
 fn parts_words(layout: Layout) -> &'static [u8]
     ensures { result.now ≡ parts_words layout }
 {
@@ -56,7 +55,7 @@ fn parts_words(layout: Layout) -> &'static [u8]
     }
 }
 
-/// The lines behind parts.
+/// Returns the lines behind parts.
 fn lines_behind(alloc: Global, parts: &[&[u8]]) -> Result<Vec<u64>, AllocError>
     ensures { IfOk result (λ lines. lines.items ≡ lines_behind 0 (map (λ p. p.now) parts.now)) }
 {
@@ -69,7 +68,7 @@ fn lines_behind(alloc: Global, parts: &[&[u8]]) -> Result<Vec<u64>, AllocError>
     Ok(lines)
 }
 
-/// The first ones of some lines.
+/// Returns the first ones of some lines.
 #[tactic(auto, using(crate::proofs::Cuts::front_cut))]
 fn first_lines(lines: &[u64]) -> &[u64]
     ensures { result.now ≡ take 8 lines.now }
@@ -77,7 +76,7 @@ fn first_lines(lines: &[u64]) -> &[u64]
     &lines[..MOST.min(lines.len())]
 }
 
-/// Adds where the lines `%` of an input are, the first ones of them.
+/// Appends where the lines `%` of an input are, the first ones of them.
 #[tactic(auto, unfolding(crate::specs::Inputs::separator_words))]
 fn push_separators(out: &mut Draft, lines: &[u64])
     ensures { Adds out.old out.new (separator_words lines.now) }
@@ -91,7 +90,7 @@ fn push_separators(out: &mut Draft, lines: &[u64])
     }
 }
 
-/// Whether a line parts an input.
+/// Returns whether a line parts an input.
 fn ends_part(line: &[u8]) -> bool
     ensures { result ≡ ends_part line.now }
 {
@@ -101,7 +100,7 @@ fn ends_part(line: &[u8]) -> bool
         || same_word(line, b"%\r")
 }
 
-/// The number of the first line that begins with `%` and has more; 0 where there is none.
+/// Returns the number of the first line that begins with `%` and has more; 0 if there is none.
 fn near_separator(input: &[u8]) -> u64
     ensures { result ≡ near_separator 1 (lines_of input.now) }
 {
@@ -118,7 +117,7 @@ fn near_separator(input: &[u8]) -> u64
     0
 }
 
-/// Adds which line is nearly `%` alone, where one is.
+/// Appends which line is nearly `%` alone, if one is.
 fn push_near(out: &mut Draft, number: u64)
     ensures { Adds out.old out.new (near_words number) }
 {
@@ -130,7 +129,7 @@ fn push_near(out: &mut Draft, number: u64)
     }
 }
 
-/// The lines behind the parts of an input.
+/// Returns the lines behind the parts of an input.
 fn part_ends(alloc: Global, input: &[u8]) -> Result<Vec<u64>, AllocError>
     ensures { IfOk result (λ lines. lines.items ≡ lines_behind 0 (parts_of input.now)) }
 {
@@ -138,7 +137,11 @@ fn part_ends(alloc: Global, input: &[u8]) -> Result<Vec<u64>, AllocError>
     lines_behind(alloc, parts.as_slice())
 }
 
-/// Adds how many parts are taken, and where the lines `%` are.
+/// Appends how many parts are taken, and where the lines `%` are.
+///
+/// # Errors
+///
+/// `AllocError` where memory runs out.
 #[tactic(auto, unfolding(crate::specs::Inputs::parts_explained))]
 pub fn push_parts(
     alloc: Global,
@@ -156,7 +159,7 @@ pub fn push_parts(
     Ok(())
 }
 
-/// Whether the first token of a line is this word.
+/// Returns whether the first token of a line is this word.
 fn first_is(word: &[u8], tokens: &Option<Vec<Token<'_>>>) -> bool
     ensures { result ≡ first_is word.now (option_map (λ ts. view_tokens ts.items) tokens.now) }
 {
@@ -169,7 +172,7 @@ fn first_is(word: &[u8], tokens: &Option<Vec<Token<'_>>>) -> bool
     }
 }
 
-/// Whether the first line with tokens begins with this word.
+/// Returns whether the first line with tokens begins with this word.
 fn is_front(alloc: Global, word: &[u8], text: &[u8]) -> Result<bool, AllocError>
     ensures { IfOk result (λ is. is ≡ is_front word.now (text_lines text.now)) }
 {
@@ -191,7 +194,7 @@ fn is_schedule(alloc: Global, text: &[u8]) -> Result<bool, AllocError>
     is_front(alloc, b"shape", text)
 }
 
-/// What is said where the first part is to be a listing.
+/// Returns the text where the first part is to be a listing.
 fn first_part_advice(alloc: Global, parts: &[&[u8]]) -> Result<&'static [u8], AllocError>
     ensures { IfOk result (λ text. text.now ≡ first_part_advice (map (λ p. p.now) parts.now)) }
 {
@@ -205,7 +208,7 @@ fn first_part_advice(alloc: Global, parts: &[&[u8]]) -> Result<&'static [u8], Al
     }
 }
 
-/// What is said where the first part is to be no listing.
+/// Returns the text where the first part is to be no listing.
 fn no_listing_advice(alloc: Global, parts: &[&[u8]]) -> Result<&'static [u8], AllocError>
     ensures { IfOk result (λ text. text.now ≡ no_listing_advice (map (λ p. p.now) parts.now)) }
 {
@@ -216,7 +219,7 @@ fn no_listing_advice(alloc: Global, parts: &[&[u8]]) -> Result<&'static [u8], Al
     }
 }
 
-/// The text line that has not its form.
+/// Returns the text line that lacks its form.
 fn formless_line<'a>(refusal: &ListingRefusal, input: &'a [u8]) -> &'a [u8]
     ensures { result.now ≡ formless_line refusal.now (lines_of input.now) }
 {
@@ -226,7 +229,7 @@ fn formless_line<'a>(refusal: &ListingRefusal, input: &'a [u8]) -> &'a [u8]
     }
 }
 
-/// Whether the first byte is this one.
+/// Returns whether the first of `bytes` is `byte`.
 fn begins_with(byte: u8, bytes: &[u8]) -> bool
     ensures { result ≡ begins_with byte bytes.now }
 {
@@ -236,7 +239,7 @@ fn begins_with(byte: u8, bytes: &[u8]) -> bool
     }
 }
 
-/// What is said where the whole input is to be a listing.
+/// Returns the text where the whole input is to be a listing.
 fn whole_advice(
     alloc: Global,
     input: &[u8],
@@ -251,14 +254,14 @@ fn whole_advice(
     }
 }
 
-/// What is said of a named file with the front of another part.
+/// Returns the text on a named file with the front of another part.
 fn swapped_advice(swapped: bool) -> &'static [u8]
     ensures { result.now ≡ swapped_advice swapped }
 {
     if swapped { FILES_SWAPPED } else { b"" }
 }
 
-/// What is said of a part that stands in another one's place.
+/// Returns the text on a part that stands in another one's place.
 #[tactic(auto, unfolding(crate::specs::Inputs::order_advice))]
 fn order_advice(
     alloc: Global,
@@ -288,7 +291,11 @@ fn order_advice(
     }
 }
 
-/// Adds what is said of a part that stands in another one's place.
+/// Appends the text on a part that stands in another one's place.
+///
+/// # Errors
+///
+/// `AllocError` where memory runs out.
 pub fn push_order_advice(
     alloc: Global,
     out: &mut Draft,

@@ -32,7 +32,7 @@ pub enum Layout {
     Parts(Subject, Texts),
 }
 
-/// What the input consists of where this is judged.
+/// Returns the layout of an input that is judged.
 fn judged_layout(source: JudgeSource) -> Layout
     ensures { result ≡ judged_layout source }
 {
@@ -42,7 +42,7 @@ fn judged_layout(source: JudgeSource) -> Layout
     }
 }
 
-/// What the input consists of where this is asked for.
+/// Returns the layout of the input of `request`.
 pub fn layout_of(request: &Request) -> Layout
     ensures { result ≡ layout_of request.now }
 {

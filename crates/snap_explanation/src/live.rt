@@ -5,15 +5,15 @@ ghost use Rattle.snap_explanation.specs.LiveExplanation.{turn_limit_explanation}
 
 use crate::said::{Said, push_said};
 use crate::wording::{NOT_DONE, SCRIPT_OF};
-use snap_draft::Draft;
+use snap_text::Draft;
 use std::alloc::{AllocError, Global};
 
-/// Returns what is said behind the line that refuses a live run, where the script of this process
-/// was not done within its turns.
+/// Returns the text behind the line that refuses a live run, because the script of `process` was
+/// not done within its turns.
 ///
 /// # Errors
 ///
-/// There is no memory for it.
+/// `AllocError` where memory runs out.
 pub fn turn_limit_explanation(alloc: Global, process: u32) -> Result<Vec<u8>, AllocError>
     ensures { IfOk result (λ text. text.items ≡ turn_limit_explanation process) }
 {

@@ -1,10 +1,10 @@
 //! The first token of a numbered line that is not as the kind and the declared names of the listing
-//! have it, and what is said of it.
+//! have it, and the text on it.
 ghost use Rattle.std.specs.Prelude.{◌≡◌, Ok, Err, IfOk, IfErr, map, option_map};
 ghost use Rattle.snap_semantics.specs.Spelling.{kind_keyword};
 ghost use Rattle.snap_text.specs.Tokens.{view_token};
-ghost use Rattle.snap_draft.specs.Drafted.{Adds};
-ghost use Rattle.snap_expected.specs.Steps.{view_placed_token};
+ghost use Rattle.snap_text.specs.Drafted.{Adds};
+ghost use Rattle.snap_explanation.specs.Steps.{view_placed_token};
 ghost use Rattle.snap_explanation.specs.Misuse.{is_right, step_at, first_wrong, wrong_in_line};
 ghost use Rattle.snap_explanation.specs.Misuse.{sort_words, declared_words, usage, some_name};
 ghost use Rattle.snap_explanation.specs.Misuse.{some_words, name_text, banks_words, fields_words};
@@ -14,6 +14,7 @@ ghost use Rattle.snap_explanation.specs.Views.{view_names, view_use, view_misuse
 ghost use Rattle.snap_explanation.specs.declared.token_uses.Slot.TheVariants.{Value};
 
 use crate::names::{letters_of, nearest};
+use crate::pieces::PlacedToken;
 use crate::said::{Said, push_said};
 use crate::sorts::{Names, is_sort, of_sort, sort_of};
 use crate::token_uses::{Slot, Use, slot_after, use_at};
@@ -23,23 +24,20 @@ use crate::wording::{
     QUOTE_END, REGISTERS_OF, ROW_USE, SEQ_BANKS, SEQ_FIELDS, SEQ_TUPLE, TUPLE_OF, VIEW_USE, WHILE,
     WORDS_OF, WORDS_USE,
 };
-use snap_draft::Draft;
-use snap_expected::PlacedToken;
-use snap_listing_forms::line_form;
-use snap_listing_rules::{has_bank, has_field, has_handshakes, has_view, same_kind};
+use snap_listing::{has_bank, has_field, has_handshakes, has_view, line_form, same_kind};
 use snap_semantics::{Instr, Sort};
-use snap_text::Token;
+use snap_text::{Draft, Token};
 use snap_words::KindTag;
 use std::alloc::{AllocError, Global};
 
-/// A token that is not right, and what it speaks of.
+/// A token that is not right, and what it stands for.
 #[derive(Clone, Copy)]
 pub struct Misuse<'a> {
     pub token: PlacedToken<'a>,
     pub spoken: Use<'a>,
 }
 
-/// Whether what a token speaks of is right in a listing.
+/// Returns whether a listing has what a token stands for.
 fn is_right(names: &Names<'_>, spoken: Use<'_>) -> bool
     ensures { result ≡ is_right (view_names names.now) (view_use spoken.entry) }
 {
@@ -53,7 +51,7 @@ fn is_right(names: &Names<'_>, spoken: Use<'_>) -> bool
     }
 }
 
-/// What the next name is behind a token with these behind it, or that token where it is not right.
+/// Returns what the next name is behind a token, or that token if it is not right.
 #[tactic(auto, using(crate::proofs::Counts::same_tokens), unfolding(crate::specs::Misuse::step_at))]
 fn step_at<'a>(
     names: &Names<'_>,
@@ -81,7 +79,7 @@ fn step_at<'a>(
     }
 }
 
-/// The first token of a line with this instruction that is not right.
+/// Returns the first token of a line with this instruction that is not right.
 fn first_wrong<'a>(
     names: &Names<'_>,
     instr: &Instr,
@@ -102,7 +100,7 @@ fn first_wrong<'a>(
     None
 }
 
-/// Tokens without their columns.
+/// Returns the tokens without their columns.
 fn plain_tokens<'a>(alloc: Global, tokens: &[PlacedToken<'a>]) -> Result<Vec<Token<'a>>, AllocError>
     ensures { IfOk result (λ plain. map view_token plain.items
         ≡ tokens_of_placed (map view_placed_token tokens.now)) }
@@ -114,7 +112,11 @@ fn plain_tokens<'a>(alloc: Global, tokens: &[PlacedToken<'a>]) -> Result<Vec<Tok
     Ok(plain)
 }
 
-/// The first token of a line that is not right in a listing.
+/// Returns the first token of a line that is not right in a listing.
+///
+/// # Errors
+///
+/// `AllocError` where memory runs out.
 pub fn wrong_in_line<'a>(
     alloc: Global,
     names: &Names<'_>,
@@ -130,7 +132,7 @@ pub fn wrong_in_line<'a>(
     }
 }
 
-/// What a name of a sort is.
+/// Returns what a name of a sort is.
 fn sort_words(sort: Sort) -> &'static [u8]
     ensures { result.now ≡ sort_words sort }
 {
@@ -142,7 +144,7 @@ fn sort_words(sort: Sort) -> &'static [u8]
     }
 }
 
-/// What a name is.
+/// Returns what a name is.
 fn declared_words(found: Option<Sort>) -> &'static [u8]
     ensures { result.now ≡ declared_words found }
 {
@@ -152,7 +154,7 @@ fn declared_words(found: Option<Sort>) -> &'static [u8]
     }
 }
 
-/// How names of a sort are used; nothing of a number.
+/// Returns how names of a sort are used; nothing of a number.
 fn usage(found: Option<Sort>) -> &'static [u8]
     ensures { result.now ≡ usage found }
 {
@@ -164,7 +166,7 @@ fn usage(found: Option<Sort>) -> &'static [u8]
     }
 }
 
-/// A name that is near, or else any.
+/// Returns a name that is near, or else any.
 fn some_name<'a>(word: &[u8], names: &[&'a [u8]]) -> Option<&'a [u8]>
     ensures { option_map (λ w. w.now) result ≡ some_name word.now (map (λ w. w.now) names.now) }
 {
@@ -175,7 +177,7 @@ fn some_name<'a>(word: &[u8], names: &[&'a [u8]]) -> Option<&'a [u8]>
     }
 }
 
-/// Adds that the sort belongs here, and a name of it, where there is one.
+/// Appends that the sort belongs here, and a name of it, if there is one.
 fn push_some(out: &mut Draft, name: Option<&[u8]>)
     ensures { Adds out.old out.new (some_words (option_map (λ w. w.now) name.entry)) }
 {
@@ -188,7 +190,7 @@ fn push_some(out: &mut Draft, name: Option<&[u8]>)
     }
 }
 
-/// Adds what is said of a name that is of another sort, or of none.
+/// Appends the text on a name that is of another sort, or of none.
 #[tactic(auto, unfolding(crate::specs::Misuse::name_text))]
 fn push_name_text(
     out: &mut Draft,
@@ -214,7 +216,7 @@ fn push_name_text(
     out.push(usage(found));
 }
 
-/// The name of a kind.
+/// Returns the name of a kind.
 fn kind_keyword(kind: KindTag) -> &'static [u8]
     ensures { result.now ≡ kind_keyword kind }
 {
@@ -225,7 +227,7 @@ fn kind_keyword(kind: KindTag) -> &'static [u8]
     }
 }
 
-/// The registers of a kind, and that there is no other.
+/// Returns the registers of a kind, and that there is no other.
 fn banks_words(kind: KindTag) -> &'static [u8]
     ensures { result.now ≡ banks_words kind }
 {
@@ -236,7 +238,7 @@ fn banks_words(kind: KindTag) -> &'static [u8]
     }
 }
 
-/// The fields of the words of a kind, and that they have no other.
+/// Returns the fields of the words of a kind, and that they have no other.
 fn fields_words(kind: KindTag) -> &'static [u8]
     ensures { result.now ≡ fields_words kind }
 {
@@ -247,7 +249,7 @@ fn fields_words(kind: KindTag) -> &'static [u8]
     }
 }
 
-/// The parts of a tuple of a kind.
+/// Returns the parts of a tuple of a kind.
 fn tuple_words(kind: KindTag) -> &'static [u8]
     ensures { result.now ≡ tuple_words kind }
 {
@@ -258,7 +260,7 @@ fn tuple_words(kind: KindTag) -> &'static [u8]
     }
 }
 
-/// Adds what registers or words of a kind are or have, and that they have not what a word says.
+/// Appends what registers or words of a kind are or have, and that they lack what a word says.
 fn push_lack<'a>(
     out: &mut Draft,
     front: &'a [u8],
@@ -282,7 +284,7 @@ fn push_lack<'a>(
     );
 }
 
-/// Adds what is said of a token that is not right.
+/// Appends the text on a token that is not right.
 pub fn push_misuse(out: &mut Draft, names: &Names<'_>, misuse: &Misuse<'_>)
     ensures { Adds out.old out.new (misuse_text (view_names names.now) (view_misuse misuse.now)) }
 {

@@ -4,7 +4,7 @@ ghost use Rattle.std.specs.Prelude.{◌≡◌, ◌≤◌, ◌++◌, IfOk, OnOk, 
 ghost use Rattle.std.specs.Prelude.{option_map};
 ghost use Rattle.snap_semantics.specs.Token.{text_lines};
 ghost use Rattle.snap_text.specs.Tokens.{view_token, view_tokens};
-ghost use Rattle.snap_expected.specs.Steps.{view_placed_token};
+ghost use Rattle.snap_explanation.specs.Steps.{view_placed_token};
 ghost use Rattle.snap_explanation.specs.Names.{words_of, words_of_line, words_before, is_among};
 ghost use Rattle.snap_explanation.specs.Names.{letters_of, nth_token, first_such, is_bad};
 ghost use Rattle.snap_explanation.specs.Names.{first_again};
@@ -16,8 +16,9 @@ ghost use Rattle.snap_explanation.specs.Names.{begins_with_number, leads_to, lin
 ghost use Rattle.snap_explanation.specs.Names.{leading_line};
 ghost use Rattle.snap_explanation.specs.Views.{view_declared};
 
-use snap_expected::{PlacedToken, is_identifier, is_word};
-use snap_listing_rules::is_reserved;
+use crate::pieces::PlacedToken;
+use crate::tests::{is_identifier, is_word};
+use snap_listing::is_reserved;
 use snap_text::{TextLines, Token};
 use std::alloc::{AllocError, Global};
 
@@ -30,7 +31,11 @@ const TOO_MANY: usize = 33;
 /// The most letters of a name.
 const NAME_LETTERS: usize = 8;
 
-/// The identifiers of the header lines of a listing's text before this line.
+/// Returns the identifiers of the header lines of a listing's text before this line.
+///
+/// # Errors
+///
+/// `AllocError` where memory runs out.
 pub fn words_before(alloc: Global, line: u64, text: &[u8]) -> Result<Vec<&[u8]>, AllocError>
     ensures { IfOk result (λ words. map (λ w. w.now) words.items
         ≡ words_before line 7 (text_lines text.now)) }
@@ -52,7 +57,7 @@ pub fn words_before(alloc: Global, line: u64, text: &[u8]) -> Result<Vec<&[u8]>,
     Ok(words)
 }
 
-/// Adds the identifiers among tokens.
+/// Appends the identifiers among tokens.
 fn push_words<'a>(words: &mut Vec<&'a [u8]>, tokens: &[Token<'a>]) -> Result<(), AllocError>
     ensures { OnOk result (map (λ w. w.now) words.new.items
         ≡ map (λ w. w.now) words.old.items ++ words_of (view_tokens tokens.now)) }
@@ -67,7 +72,7 @@ fn push_words<'a>(words: &mut Vec<&'a [u8]>, tokens: &[Token<'a>]) -> Result<(),
     Ok(())
 }
 
-/// The letters of a word.
+/// Returns the letters of a word.
 pub fn letters_of<'a>(token: &Token<'a>) -> &'a [u8]
     ensures { result.now ≡ letters_of (view_token token.now) }
 {
@@ -77,7 +82,7 @@ pub fn letters_of<'a>(token: &Token<'a>) -> &'a [u8]
     }
 }
 
-/// Token `index`, from 0.
+/// Returns token `index`, counted from 0; `None` where there are fewer.
 pub fn nth_token<'a>(index: usize, tokens: &[PlacedToken<'a>]) -> Option<PlacedToken<'a>>
     ensures { option_map view_placed_token result
         ≡ nth_token index (map view_placed_token tokens.now) }
@@ -94,14 +99,14 @@ pub fn nth_token<'a>(index: usize, tokens: &[PlacedToken<'a>]) -> Option<PlacedT
     None
 }
 
-/// Whether two words are the same.
+/// Returns whether two words are the same.
 pub fn same_word(one: &[u8], other: &[u8]) -> bool
     ensures { result ≡ bytes_eq one.now other.now }
 {
     one == other
 }
 
-/// Whether a word is one of these.
+/// Returns whether a word is one of `words`.
 pub fn is_among(word: &[u8], words: &[&[u8]]) -> bool
     ensures { result ≡ is_among word.now (map (λ w. w.now) words.now) }
 {
@@ -115,7 +120,7 @@ pub fn is_among(word: &[u8], words: &[&[u8]]) -> bool
     false
 }
 
-/// Whether a token may not be declared as a name.
+/// Returns whether a token may not be declared as a name.
 fn is_bad(token: &Token<'_>) -> bool
     ensures { result ≡ is_bad (view_token token.now) }
 {
@@ -125,7 +130,7 @@ fn is_bad(token: &Token<'_>) -> bool
     }
 }
 
-/// The first token that may not be declared as a name.
+/// Returns the first token that may not be declared as a name.
 pub fn first_bad<'a>(tokens: &[PlacedToken<'a>]) -> Option<PlacedToken<'a>>
     ensures { option_map view_placed_token result
         ≡ first_such is_bad (map view_placed_token tokens.now) }
@@ -140,7 +145,11 @@ pub fn first_bad<'a>(tokens: &[PlacedToken<'a>]) -> Option<PlacedToken<'a>>
     None
 }
 
-/// The first name that is one of these, or stands before.
+/// Returns the first name of a header line that is one of `known`, or stands before in the line.
+///
+/// # Errors
+///
+/// `AllocError` where memory runs out.
 pub fn first_again<'a>(
     known: Vec<&'a [u8]>,
     tokens: &[PlacedToken<'a>],
@@ -162,7 +171,7 @@ pub fn first_again<'a>(
     Ok(None)
 }
 
-/// How many of the words of header lines are names.
+/// Returns how many of the words of header lines are names.
 pub fn name_count(words: &[&[u8]]) -> usize
     ensures value { result ≡ name_count (map (λ w. w.now) words.now) }
     ensures within { result ≤ length words.now }
@@ -178,8 +187,8 @@ pub fn name_count(words: &[&[u8]]) -> usize
     count
 }
 
-/// The first name too many of a header line, with so many names before the line; the number of
-/// another line.
+/// Returns the first name too many of a header line, with `count` names before the line; on any
+/// other line, its number.
 pub fn one_too_many<'a>(count: usize, tokens: &[PlacedToken<'a>]) -> Option<PlacedToken<'a>>
     ensures { option_map view_placed_token result
         ≡ one_too_many count (map view_placed_token tokens.now) }
@@ -203,7 +212,7 @@ pub struct Declared<'a> {
     pub keyword: &'a [u8],
 }
 
-/// A line of words, where it has this name behind the first one.
+/// Returns a line of words, if it has this name behind the first word.
 fn declared_in<'a>(line: u64, name: &[u8], words: &[&'a [u8]]) -> Option<Declared<'a>>
     ensures { option_map view_declared result
         ≡ declared_in line name.now (map (λ w. w.now) words.now) }
@@ -217,7 +226,7 @@ fn declared_in<'a>(line: u64, name: &[u8], words: &[&'a [u8]]) -> Option<Declare
     }
 }
 
-/// The words of a line.
+/// Returns the words of a line.
 fn words_of_line<'a>(
     alloc: Global,
     tokens: &Option<Vec<Token<'a>>>,
@@ -232,7 +241,11 @@ fn words_of_line<'a>(
     Ok(words)
 }
 
-/// The first line of a text that has a name behind another word.
+/// Returns the first line of a text that has a name behind another word.
+///
+/// # Errors
+///
+/// `AllocError` where memory runs out.
 pub fn declared_at<'a>(
     alloc: Global,
     name: &[u8],
@@ -258,7 +271,7 @@ pub struct Numbered {
     pub number: u64,
 }
 
-/// The number at the front of a line.
+/// Returns the number at the front of a line.
 fn front_number(tokens: &Option<Vec<Token<'_>>>) -> u64
     ensures { result ≡ front_number (option_map (λ ts. view_tokens ts.items) tokens.now) }
 {
@@ -271,7 +284,11 @@ fn front_number(tokens: &Option<Vec<Token<'_>>>) -> u64
     }
 }
 
-/// The last line of a text before this one, and the number at its front.
+/// Returns the last numbered line of a text before line `line`, and the number at its front.
+///
+/// # Errors
+///
+/// `AllocError` where memory runs out.
 pub fn last_before(alloc: Global, line: u64, text: &[u8]) -> Result<Numbered, AllocError>
     ensures { IfOk result (λ last. last
         ≡ last_before line (record { line = 0; number = 0 }) (text_lines text.now)) }
@@ -290,7 +307,7 @@ pub fn last_before(alloc: Global, line: u64, text: &[u8]) -> Result<Numbered, Al
     Ok(last)
 }
 
-/// How many letters at the front of two words are the same.
+/// Returns how many letters at the front of two words are the same.
 fn common_len(one: &[u8], other: &[u8]) -> usize
     ensures value { result ≡ common_len one.now other.now }
     ensures within { (result ≤ length one.now) × (result ≤ length other.now) }
@@ -314,7 +331,7 @@ fn common_len(one: &[u8], other: &[u8]) -> usize
     len
 }
 
-/// A word without its first letter.
+/// Returns a word without its first letter.
 fn later(word: &[u8]) -> &[u8]
     ensures { result.now ≡ drop 1 word.now }
 {
@@ -324,7 +341,8 @@ fn later(word: &[u8]) -> &[u8]
     }
 }
 
-/// Whether two words are the same but for the first letter: put in, left out, or another one.
+/// Returns whether two words are the same but for the first letter: put in, left out, or another
+/// one.
 fn is_same_later(one: &[u8], other: &[u8]) -> bool
     ensures { result ≡ is_same_later one.now other.now }
 {
@@ -333,7 +351,7 @@ fn is_same_later(one: &[u8], other: &[u8]) -> bool
         || same_word(one, later(other))
 }
 
-/// Whether two words are one letter away.
+/// Returns whether two words are one letter away.
 fn is_near(one: &[u8], other: &[u8]) -> bool
     ensures { result ≡ is_near one.now other.now }
 {
@@ -341,7 +359,7 @@ fn is_near(one: &[u8], other: &[u8]) -> bool
     is_same_later(&one[len..], &other[len..])
 }
 
-/// The first of these words that is one letter away and not reserved.
+/// Returns the first of `words` that is one letter away and not reserved.
 pub fn nearest<'a>(word: &[u8], words: &[&'a [u8]]) -> Option<&'a [u8]>
     ensures { option_map (λ w. w.now) result ≡ nearest word.now (map (λ w. w.now) words.now) }
 {
@@ -355,7 +373,7 @@ pub fn nearest<'a>(word: &[u8], words: &[&'a [u8]]) -> Option<&'a [u8]>
     None
 }
 
-/// Whether a word leads to a line.
+/// Returns whether a word leads to a line.
 fn is_leading(token: &Token<'_>) -> bool
     ensures { result ≡ is_leading (view_token token.now) }
 {
@@ -365,7 +383,7 @@ fn is_leading(token: &Token<'_>) -> bool
         || is_word(b"update", token)
 }
 
-/// Whether a token is this number.
+/// Returns whether a token is this number.
 fn is_number(number: u64, token: &Token<'_>) -> bool
     ensures { result ≡ is_number number (view_token token.now) }
 {
@@ -375,7 +393,7 @@ fn is_number(number: u64, token: &Token<'_>) -> bool
     }
 }
 
-/// The first token, where it is this number.
+/// Returns the first token, if it is this number.
 fn number_there<'a>(number: u64, tokens: &[PlacedToken<'a>]) -> Option<PlacedToken<'a>>
     ensures { option_map view_placed_token result
         ≡ number_there number (map view_placed_token tokens.now) }
@@ -386,7 +404,7 @@ fn number_there<'a>(number: u64, tokens: &[PlacedToken<'a>]) -> Option<PlacedTok
     }
 }
 
-/// The number of a line to which the word before it leads, where it is this one.
+/// Returns the number of a line to which the word before it leads, if it is `number`.
 pub fn first_led<'a>(number: u64, tokens: &[PlacedToken<'a>]) -> Option<PlacedToken<'a>>
     ensures { option_map view_placed_token result
         ≡ first_led number (map view_placed_token tokens.now) }
@@ -403,7 +421,7 @@ pub fn first_led<'a>(number: u64, tokens: &[PlacedToken<'a>]) -> Option<PlacedTo
     None
 }
 
-/// Whether the first token is this number.
+/// Returns whether the first token is this number.
 fn begins_with_number(number: u64, tokens: &[Token<'_>]) -> bool
     ensures { result ≡ begins_with_number number (view_tokens tokens.now) }
 {
@@ -413,7 +431,7 @@ fn begins_with_number(number: u64, tokens: &[Token<'_>]) -> bool
     }
 }
 
-/// Whether tokens lead to this line.
+/// Returns whether tokens lead to this line.
 fn leads_to(number: u64, tokens: &[Token<'_>]) -> bool
     ensures { result ≡ leads_to number (view_tokens tokens.now) }
 {
@@ -427,7 +445,11 @@ fn leads_to(number: u64, tokens: &[Token<'_>]) -> bool
     false
 }
 
-/// The number of the first text line that leads to this line; 0 where there is none.
+/// Returns the number of the first text line that leads to line `number`; 0 if there is none.
+///
+/// # Errors
+///
+/// `AllocError` where memory runs out.
 pub fn leading_line(alloc: Global, number: u64, text: &[u8]) -> Result<u64, AllocError>
     ensures { IfOk result (λ line. line ≡ leading_line number (text_lines text.now)) }
 {

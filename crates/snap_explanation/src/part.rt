@@ -38,7 +38,7 @@ pub struct Part<'a> {
     pub text: &'a [u8],
 }
 
-/// The number of the first part behind the listing, from 0.
+/// Returns the number of the first part behind the listing, from 0.
 fn first_text(subject: Subject) -> usize
     ensures value { result ≡ first_text subject }
     ensures small { result ≤ 1 }
@@ -49,7 +49,8 @@ fn first_text(subject: Subject) -> usize
     }
 }
 
-/// Whether a schedule is not refused: for its form, or for its shape where shapes are refused.
+/// Returns whether a schedule is not refused: for its form, or for its shape where shapes are
+/// refused.
 fn is_taken(alloc: Global, shapes: bool, text: &[u8]) -> Result<bool, AllocError>
     ensures { IfOk result (λ taken. taken ≡ is_taken shapes (schedule_of text.now)) }
 {
@@ -63,7 +64,7 @@ fn is_taken(alloc: Global, shapes: bool, text: &[u8]) -> Result<bool, AllocError
     }
 }
 
-/// The number of the first schedule that is refused, from 0.
+/// Returns the number of the first schedule that is refused, from 0.
 fn refused_schedule(alloc: Global, shapes: bool, texts: &[&[u8]]) -> Result<usize, AllocError>
     ensures value { IfOk result (λ k. k ≡ refused_schedule shapes 0 (map (λ t. t.now) texts.now)) }
     ensures within { IfOk result (λ k. k ≤ length texts.now) }
@@ -78,7 +79,7 @@ fn refused_schedule(alloc: Global, shapes: bool, texts: &[&[u8]]) -> Result<usiz
     Ok(index)
 }
 
-/// Which of the texts behind the listing is refused, from 0.
+/// Returns which of the texts behind the listing is refused, from 0.
 fn text_index(
     alloc: Global,
     texts: Texts,
@@ -96,7 +97,7 @@ fn text_index(
     }
 }
 
-/// What the refused text behind the listing is.
+/// Returns what the refused text behind the listing is.
 fn text_name(texts: Texts, refusal: &Refusal, index: usize) -> PartName
     requires { index < 2 ^ 63 }
     ensures { result ≡ text_name texts refusal.now index }
@@ -109,14 +110,14 @@ fn text_name(texts: Texts, refusal: &Refusal, index: usize) -> PartName
     }
 }
 
-/// How many lines stand behind others, a part and the line `%` behind it.
+/// Returns how many lines stand behind others, a part and the line `%` behind it.
 pub fn lines_through(before: u64, part: &[u8]) -> u64
     ensures { result ≡ lines_through before part.now }
 {
     before.saturating_add(line_count(part)).saturating_add(1)
 }
 
-/// How many lines stand before part `index`.
+/// Returns how many lines stand before part `index`.
 #[tactic(auto, using(crate::proofs::Counts::none_before))]
 fn lines_before(index: usize, parts: &[&[u8]]) -> u64
     ensures { result ≡ lines_before index 0 (map (λ p. p.now) parts.now) }
@@ -133,7 +134,7 @@ fn lines_before(index: usize, parts: &[&[u8]]) -> u64
     before
 }
 
-/// Part `index`, from 0; empty where there is none.
+/// Returns part `index`, counted from 0; an empty part if there are fewer.
 pub fn part_at<'a>(parts: &[&'a [u8]], index: usize) -> &'a [u8]
     ensures { result.now ≡ part index (map (λ p. p.now) parts.now) }
 {
@@ -144,7 +145,7 @@ pub fn part_at<'a>(parts: &[&'a [u8]], index: usize) -> &'a [u8]
     }
 }
 
-/// The parts behind the listing.
+/// Returns the parts behind the listing.
 fn texts_behind<'a, 'b>(subject: Subject, parts: &'a [&'b [u8]]) -> &'a [&'b [u8]]
     ensures { map (λ p. p.now) result.now ≡ texts_for subject (map (λ p. p.now) parts.now) }
 {
@@ -154,7 +155,7 @@ fn texts_behind<'a, 'b>(subject: Subject, parts: &'a [&'b [u8]]) -> &'a [&'b [u8
     }
 }
 
-/// The part of an input with parts that is refused.
+/// Returns the part of an input with parts that is refused.
 fn part_place_in<'a>(
     alloc: Global,
     subject: Subject,
@@ -181,7 +182,7 @@ fn part_place_in<'a>(
     })
 }
 
-/// An input without parts.
+/// Returns an input without parts.
 fn whole_part(name: PartName, input: &[u8]) -> Part<'_>
     ensures { view_part result ≡ whole_part name input.now }
 {
@@ -192,7 +193,11 @@ fn whole_part(name: PartName, input: &[u8]) -> Part<'_>
     }
 }
 
-/// The part of an input that is refused.
+/// Returns the part of an input that is refused.
+///
+/// # Errors
+///
+/// `AllocError` where memory runs out.
 pub fn part_place<'a>(
     alloc: Global,
     layout: Layout,

@@ -1,11 +1,11 @@
 //! `Said`: a piece of an explanation.
-ghost use Rattle.snap_draft.specs.Drafted.{Adds};
+ghost use Rattle.snap_text.specs.Drafted.{Adds};
 ghost use Rattle.snap_explanation.specs.Said.{shown_byte, shown, said_cut, said_text, said};
 ghost use Rattle.std.specs.Prelude.{◌≡◌, replicate};
 
 use crate::spot::front;
 use crate::wording::CUT;
-use snap_draft::Draft;
+use snap_text::Draft;
 
 /// The most bytes of a piece that are shown.
 const PIECE: usize = 40;
@@ -20,11 +20,11 @@ pub enum Said<'a> {
     /// A piece of a line, as it is shown: its first bytes, and a sign where there are more.
     Piece(&'a [u8]),
     Number(u64),
-    /// So many spaces.
+    /// A number of spaces.
     Spaces(usize),
 }
 
-/// A byte as it is shown.
+/// Returns a byte in the form in which it is shown.
 fn shown_byte(byte: u8) -> u8
     ensures { result ≡ shown_byte byte }
 {
@@ -37,7 +37,7 @@ fn shown_byte(byte: u8) -> u8
     }
 }
 
-/// Adds bytes as they are shown.
+/// Appends bytes as they are shown.
 fn push_shown(out: &mut Draft, bytes: &[u8])
     ensures { Adds out.old out.new (shown bytes.now) }
 {
@@ -46,7 +46,7 @@ fn push_shown(out: &mut Draft, bytes: &[u8])
     }
 }
 
-/// Adds spaces.
+/// Appends spaces.
 fn push_spaces(out: &mut Draft, count: usize)
     ensures { Adds out.old out.new (replicate count 32) }
 {
@@ -57,7 +57,7 @@ fn push_spaces(out: &mut Draft, count: usize)
     }
 }
 
-/// Adds a piece of a line as it is shown.
+/// Appends a piece of a line as it is shown.
 fn push_cut(out: &mut Draft, bytes: &[u8])
     ensures { Adds out.old out.new (said_cut bytes.now) }
 {
@@ -67,7 +67,7 @@ fn push_cut(out: &mut Draft, bytes: &[u8])
     }
 }
 
-/// Adds a piece.
+/// Appends a piece.
 fn push_piece(out: &mut Draft, piece: Said<'_>)
     ensures { Adds out.old out.new (said_text piece.entry) }
 {
@@ -80,7 +80,7 @@ fn push_piece(out: &mut Draft, piece: Said<'_>)
     }
 }
 
-/// Adds pieces, one behind the other.
+/// Appends pieces, one behind the other.
 pub fn push_said(out: &mut Draft, pieces: &[Said<'_>])
     ensures { Adds out.old out.new (said pieces.now) }
 {

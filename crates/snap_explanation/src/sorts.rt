@@ -7,7 +7,7 @@ ghost use Rattle.snap_explanation.specs.Sorts.{source_in, of_sort};
 ghost use Rattle.snap_explanation.specs.Views.{view_names};
 
 use crate::names::{is_among, same_word};
-use snap_listing_rules::is_reserved;
+use snap_listing::is_reserved;
 use snap_semantics::Sort;
 use snap_words::KindTag;
 use std::alloc::{AllocError, Global};
@@ -22,7 +22,7 @@ pub struct Names<'a> {
 }
 
 impl Drop for Names<'_> {
-    // Written out, so that it is proved here and not once more wherever one is dropped.
+    // A drop that is written out is one call: it is proved once, and not again at each drop.
     fn drop(self) {
         let Names {
             kind: _,
@@ -34,7 +34,7 @@ impl Drop for Names<'_> {
     }
 }
 
-/// The sort that a header line declares, by its first word.
+/// Returns the sort that a header line declares, by its first word.
 fn sort_of_keyword(word: &[u8]) -> Option<Sort>
     ensures { result ≡ sort_of_keyword word.now }
 {
@@ -51,7 +51,7 @@ fn sort_of_keyword(word: &[u8]) -> Option<Sort>
     }
 }
 
-/// Whether there is a sort, and it is this one.
+/// Returns whether there is a sort, and it is `wanted`.
 pub fn is_sort(wanted: Sort, found: Option<Sort>) -> bool
     ensures { result ≡ is_sort wanted found }
 {
@@ -61,7 +61,7 @@ pub fn is_sort(wanted: Sort, found: Option<Sort>) -> bool
     }
 }
 
-/// The names of a sort among the words of header lines.
+/// Returns the names of a sort among the words of header lines.
 fn names_of<'a>(
     alloc: Global,
     wanted: Sort,
@@ -86,7 +86,7 @@ fn names_of<'a>(
     Ok(names)
 }
 
-/// The kind that a word is.
+/// Returns the kind that a word is.
 fn kind_of_keyword(word: &[u8]) -> Option<KindTag>
     ensures { result ≡ kind_of_keyword word.now }
 {
@@ -101,7 +101,7 @@ fn kind_of_keyword(word: &[u8]) -> Option<KindTag>
     }
 }
 
-/// The kind that the words of the first header line say.
+/// Returns the kind that the words of the first header line say.
 pub fn kind_in(words: &[&[u8]]) -> Option<KindTag>
     ensures { result ≡ kind_in (map (λ w. w.now) words.now) }
 {
@@ -111,7 +111,11 @@ pub fn kind_in(words: &[&[u8]]) -> Option<KindTag>
     }
 }
 
-/// The names that the words of header lines declare.
+/// Returns the names that the words of header lines declare.
+///
+/// # Errors
+///
+/// `AllocError` where memory runs out.
 pub fn names_in<'a>(
     alloc: Global,
     kind: KindTag,
@@ -129,7 +133,7 @@ pub fn names_in<'a>(
     })
 }
 
-/// The sort of a declared name.
+/// Returns the sort of a declared name.
 pub fn sort_of(names: &Names<'_>, word: &[u8]) -> Option<Sort>
     ensures { result ≡ sort_of (view_names names.now) word.now }
 {
@@ -146,7 +150,7 @@ pub fn sort_of(names: &Names<'_>, word: &[u8]) -> Option<Sort>
     }
 }
 
-/// The names of one sort.
+/// Returns the names of one sort.
 pub fn of_sort<'a, 'b>(names: &'a Names<'b>, sort: Sort) -> &'a [&'b [u8]]
     ensures { map (λ w. w.now) result.now ≡ of_sort (view_names names.now) sort }
 {

@@ -1,9 +1,8 @@
-//! `push_spot`: shows a place of a refused input: where it is, its line, and a mark under its
-//! column.
+//! `push_spot`: a place of a refused input: where it is, its line, and a mark under its column.
 ghost use Rattle.std.specs.Prelude.{◌≡◌, ◌≤◌, ◌<◌, length, option_map, take, drop, ◌∷◌};
 ghost use Rattle.snap_semantics.specs.Token.{lines_of};
-ghost use Rattle.snap_draft.specs.Drafted.{Adds};
-ghost use Rattle.snap_expected.specs.Steps.{view_placed_token};
+ghost use Rattle.snap_text.specs.Drafted.{Adds};
+ghost use Rattle.snap_explanation.specs.Steps.{view_placed_token};
 ghost use Rattle.snap_explanation.specs.Spot.{nth_line, text_of, comment_start, piece_at};
 ghost use Rattle.snap_explanation.specs.Spot.{column_of};
 ghost use Rattle.snap_explanation.specs.Spot.{part_name_text, line_of_input, line_place, window};
@@ -11,21 +10,21 @@ ghost use Rattle.snap_explanation.specs.Spot.{column_words, mark, marked, spot, 
 ghost use Rattle.snap_explanation.specs.Views.{view_part};
 
 use crate::part::{Part, PartName};
+use crate::pieces::{PlacedToken, piece_len};
 use crate::said::{Said, push_said};
 use crate::wording::{
     COLUMN, LINE, LINE_END, MARGIN, MARK, NTH_SCHEDULE, OF, OF_THE_INPUT, PLACE_END, THE_COMMANDS,
     THE_HISTORY, THE_LISTING, THE_SCHEDULE, THE_SCRIPTS,
 };
-use snap_draft::Draft;
-use snap_expected::{PlacedToken, piece_len};
+use snap_text::Draft;
 
 /// The most bytes of a line that are shown.
 const WINDOW: usize = 72;
 
-/// The most bytes of them before the marked column.
+/// The most bytes of a line before the marked column.
 const BEFORE_MARK: usize = 60;
 
-/// How many bytes of a line stand before its comment.
+/// Returns how many bytes of a line stand before its comment.
 fn comment_start(line: &[u8]) -> usize
     ensures value { result ≡ comment_start line.now }
     ensures within { result ≤ length line.now }
@@ -37,7 +36,7 @@ fn comment_start(line: &[u8]) -> usize
     len
 }
 
-/// The front of some bytes, at most so many.
+/// Returns the front of `bytes`, at most `most` of them.
 #[tactic(auto, using(crate::proofs::Cuts::front_cut))]
 pub fn front(bytes: &[u8], most: usize) -> &[u8]
     ensures { result.now ≡ take most bytes.now }
@@ -45,7 +44,7 @@ pub fn front(bytes: &[u8], most: usize) -> &[u8]
     &bytes[..most.min(bytes.len())]
 }
 
-/// What stands behind so many bytes.
+/// Returns what stands behind the first `count` bytes.
 #[tactic(auto, using(crate::proofs::Cuts::behind_cut))]
 fn behind(bytes: &[u8], count: usize) -> &[u8]
     ensures { result.now ≡ drop count bytes.now }
@@ -53,7 +52,7 @@ fn behind(bytes: &[u8], count: usize) -> &[u8]
     &bytes[count.min(bytes.len())..]
 }
 
-/// The piece in a column; none behind the line.
+/// Returns the piece in a column; none behind the line.
 pub fn piece_at(column: usize, line: &[u8]) -> &[u8]
     ensures { result.now ≡ piece_at column line.now }
 {
@@ -61,7 +60,7 @@ pub fn piece_at(column: usize, line: &[u8]) -> &[u8]
     front(rest, piece_len(rest))
 }
 
-/// The column of a token; behind the last one that of the end of the line.
+/// Returns the column of a token; behind the last one that of the end of the line.
 pub fn column_of(line: &[u8], token: Option<PlacedToken<'_>>) -> usize
     ensures { result ≡ column_of line.now (option_map view_placed_token token.entry) }
 {
@@ -71,7 +70,7 @@ pub fn column_of(line: &[u8], token: Option<PlacedToken<'_>>) -> usize
     }
 }
 
-/// Adds what a part is.
+/// Appends what a part is.
 fn push_part_name(out: &mut Draft, name: PartName)
     ensures { Adds out.old out.new (part_name_text name) }
 {
@@ -90,7 +89,7 @@ fn push_part_name(out: &mut Draft, name: PartName)
     }
 }
 
-/// The number of a line of the input that stands so many lines behind others.
+/// Returns the number in the input of line `line`, which stands behind `before` others.
 fn line_of_input(before: u64, line: u64) -> u64
     ensures { result ≡ line_of_input before line }
 {
@@ -101,7 +100,7 @@ fn line_of_input(before: u64, line: u64) -> u64
     }
 }
 
-/// Adds where a line of a part stands.
+/// Appends where a line of a part stands.
 #[tactic(auto, unfolding(crate::specs::Spot::line_place))]
 fn push_line_place(out: &mut Draft, part: &Part<'_>, line: u64)
     ensures { Adds out.old out.new (line_place (view_part part.now) line) }
@@ -119,7 +118,7 @@ fn push_line_place(out: &mut Draft, part: &Part<'_>, line: u64)
     push_part_name(out, part.name);
 }
 
-/// Adds a column.
+/// Appends a column.
 #[tactic(auto, unfolding(crate::specs::Spot::column_words))]
 fn push_column_words(out: &mut Draft, column: usize)
     ensures { Adds out.old out.new (column_words column) }
@@ -134,7 +133,7 @@ fn push_column_words(out: &mut Draft, column: usize)
     );
 }
 
-/// Adds a line of text around a column.
+/// Appends a line of text around a column.
 #[tactic(auto, unfolding(crate::specs::Spot::window))]
 fn push_window(out: &mut Draft, text: &[u8], column: usize)
     ensures { Adds out.old out.new (window text.now column) }
@@ -146,7 +145,7 @@ fn push_window(out: &mut Draft, text: &[u8], column: usize)
     );
 }
 
-/// Adds a mark under a column.
+/// Appends a mark under a column.
 #[tactic(auto, unfolding(crate::specs::Spot::mark))]
 fn push_mark(out: &mut Draft, column: usize)
     ensures { Adds out.old out.new (mark column) }
@@ -160,7 +159,7 @@ fn push_mark(out: &mut Draft, column: usize)
     );
 }
 
-/// Adds a line around a column, marked.
+/// Appends a line around a column, marked.
 #[tactic(auto, unfolding(crate::specs::Spot::marked))]
 fn push_marked(out: &mut Draft, text: &[u8], column: usize)
     ensures { Adds out.old out.new (marked text.now column) }
@@ -169,7 +168,7 @@ fn push_marked(out: &mut Draft, text: &[u8], column: usize)
     push_mark(out, column);
 }
 
-/// Adds a place: where it stands, its line, and a mark under its column.
+/// Appends a place: where it stands, its line, and a mark under its column.
 #[tactic(auto, unfolding(crate::specs::Spot::spot))]
 pub fn push_spot(out: &mut Draft, part: &Part<'_>, line: u64, column: usize)
     ensures { Adds out.old out.new (spot (view_part part.now) line column) }
@@ -179,7 +178,7 @@ pub fn push_spot(out: &mut Draft, part: &Part<'_>, line: u64, column: usize)
     push_marked(out, text_of(part, line), column);
 }
 
-/// Adds a line as a place, where no column of it is one.
+/// Appends a line as a place, if no column of it is one.
 #[tactic(auto, unfolding(crate::specs::Spot::line_spot))]
 pub fn push_line_spot(out: &mut Draft, part: &Part<'_>, line: u64)
     ensures { Adds out.old out.new (line_spot (view_part part.now) line) }
@@ -189,7 +188,7 @@ pub fn push_line_spot(out: &mut Draft, part: &Part<'_>, line: u64)
     push_window(out, text_of(part, line), 1);
 }
 
-/// The first line, without its line feed, and the lines behind it.
+/// Returns the first line, without its line feed, and the lines behind it.
 pub fn split_line(bytes: &[u8]) -> (&[u8], &[u8])
     requires { 0 < length bytes.now }
     ensures lines { lines_of bytes.now ≡ result.0.now ∷ lines_of result.1.now }
@@ -205,7 +204,7 @@ pub fn split_line(bytes: &[u8]) -> (&[u8], &[u8])
     (bytes, &bytes[bytes.len()..])
 }
 
-/// The line of this number, from 1; empty where there is none.
+/// Returns line number `number`, counted from 1; an empty line if there is none.
 pub fn line_of(text: &[u8], number: u64) -> &[u8]
     ensures { result.now ≡ nth_line number (lines_of text.now) }
 {
@@ -222,7 +221,7 @@ pub fn line_of(text: &[u8], number: u64) -> &[u8]
     &[]
 }
 
-/// A line of a part.
+/// Returns a line of a part.
 pub fn text_of<'a>(part: &Part<'a>, line: u64) -> &'a [u8]
     ensures { result.now ≡ text_of (view_part part.now) line }
 {

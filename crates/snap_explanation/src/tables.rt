@@ -2,7 +2,7 @@
 ghost use Rattle.std.specs.Prelude.{◌≡◌, map};
 ghost use Rattle.snap_explanation.specs.Said.{view_row, view_range, by_word, by_byte};
 
-/// What is said in the first row of a piece, or else this.
+/// Returns the text in the first row of a piece, or else this.
 pub fn by_word(
     table: &[(&[u8], &'static [u8])],
     otherwise: &'static [u8],
@@ -18,7 +18,7 @@ pub fn by_word(
     otherwise
 }
 
-/// What is said in the first range with a byte.
+/// Returns the text in the first range with a byte.
 pub fn by_byte(table: &[(u8, u8, &'static [u8])], byte: u8) -> &'static [u8]
     ensures { result.now ≡ by_byte (map view_range table.now) byte }
 {

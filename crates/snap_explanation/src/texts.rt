@@ -1,19 +1,20 @@
 //! Says what was expected at a place of a refused input, in words, and what was found there.
 ghost use Rattle.std.specs.Prelude.{◌≡◌};
-ghost use Rattle.snap_draft.specs.Drafted.{Adds};
+ghost use Rattle.snap_text.specs.Drafted.{Adds};
 ghost use Rattle.snap_explanation.specs.Texts.{symbol_words, keyword_words, wanted_words};
 ghost use Rattle.snap_explanation.specs.Texts.{expected_words, found_words, expected_line};
 
+use crate::after::may_pass;
 use crate::said::{Said, push_said};
+use crate::wanted::{Keyword, Wanted};
 use crate::wording::{
     ACT, AND_ALONE, AND_OR, BEHIND_NAME, BEHIND_THIRD, BIT, COMMAND, COMPARISON, COUNT,
     END_OF_LINE, EXPECTED, FOUND, INDEX, INDEX_OR_PLACE, INSTRUCTION, KIND_NAME, LINE_END,
     LINE_NUMBER, NAME, NUMBER, OPEN_BRACKET, OR, OR_ALONE, PLUS, POSITIVE, QUOTE, QUOTE_END, RANGE,
     REGISTER, RELATION, SCRIPT_ACT, SHOWN, TEST, TUPLE, TURN, VALUE, VIEW_SOURCE, WHERE,
 };
-use snap_draft::Draft;
-use snap_expected::{Keyword, Wanted, may_pass};
 use snap_semantics::{Join, Symbol};
+use snap_text::Draft;
 
 fn symbol_words(symbol: Symbol) -> &'static [u8]
     ensures { result.now ≡ symbol_words symbol }
@@ -52,7 +53,7 @@ fn keyword_words(keyword: Keyword) -> &'static [u8]
     }
 }
 
-/// What is wanted, in words.
+/// Returns the words for what is wanted.
 fn wanted_words(wanted: Wanted) -> &'static [u8]
     ensures { result.now ≡ wanted_words wanted }
 {
@@ -93,7 +94,7 @@ fn wanted_words(wanted: Wanted) -> &'static [u8]
     }
 }
 
-/// Adds all that may stand next.
+/// Appends all that may stand next.
 fn push_expected(out: &mut Draft, wanted: &[Wanted])
     ensures { Adds out.old out.new (expected_words wanted.now) }
 {
@@ -109,7 +110,7 @@ fn push_expected(out: &mut Draft, wanted: &[Wanted])
     out.push(END_OF_LINE);
 }
 
-/// Adds what stands at a place.
+/// Appends what stands at a place.
 fn push_found(out: &mut Draft, piece: &[u8])
     ensures { Adds out.old out.new (found_words piece.now) }
 {
@@ -135,7 +136,7 @@ fn push_found(out: &mut Draft, piece: &[u8])
     }
 }
 
-/// Adds what was expected at a place, and what stands there.
+/// Appends what was expected at a place, and what stands there.
 #[tactic(auto, unfolding(crate::specs::Texts::expected_line))]
 pub fn push_expected_line(out: &mut Draft, wanted: &[Wanted], piece: &[u8])
     ensures { Adds out.old out.new (expected_line wanted.now piece.now) }

@@ -1,8 +1,8 @@
-//! What each token of a numbered line speaks of, as the tokens beside it decide.
+//! What each token of a numbered line stands for, as the tokens beside it decide.
 ghost use Rattle.std.specs.Prelude.{◌≡◌, option_map, length};
 ghost use Rattle.snap_semantics.specs.ListingForms.{field_of_keyword};
 ghost use Rattle.snap_text.specs.Tokens.{view_token};
-ghost use Rattle.snap_expected.specs.Steps.{placed_tokens};
+ghost use Rattle.snap_explanation.specs.Steps.{placed_tokens};
 ghost use Rattle.snap_explanation.specs.TokenUses.{opens_with, ends_with_view, has_row, lone_sort};
 ghost use Rattle.snap_explanation.specs.TokenUses.{sort_at, field_use, word_use, tuple_kind};
 ghost use Rattle.snap_explanation.specs.TokenUses.{tuple_use, use_at, is_view_word, is_words_word};
@@ -10,9 +10,10 @@ ghost use Rattle.snap_explanation.specs.TokenUses.{slot_of_word, slot_inside, sl
 ghost use Rattle.snap_explanation.specs.Views.{view_use};
 
 use crate::names::same_word;
+use crate::pieces::PlacedToken;
 use crate::spot::front;
-use snap_expected::{PlacedToken, is_symbol};
-use snap_listing_rules::is_reserved;
+use crate::tests::is_symbol;
+use snap_listing::is_reserved;
 use snap_semantics::{Instr, Sort, Symbol, Tuple};
 use snap_text::Token;
 use snap_words::{Bank, Field, KindTag};
@@ -25,7 +26,7 @@ const NAME_LETTERS: usize = 9;
 pub enum Slot {
     /// A row before `[`, else a scalar, or the view at the end.
     Value,
-    /// The same behind a comma, where a tuple may have its row.
+    /// A name behind a comma, where a tuple may have its row.
     Part,
     /// A `words` local.
     Words,
@@ -46,7 +47,7 @@ pub enum Use<'a> {
     Tuple(KindTag),
 }
 
-/// Whether the first token is this symbol.
+/// Returns whether the first token is this symbol.
 fn opens_with(symbol: Symbol, tokens: &[PlacedToken<'_>]) -> bool
     ensures { result ≡ opens_with symbol (placed_tokens tokens.now) }
 {
@@ -56,7 +57,7 @@ fn opens_with(symbol: Symbol, tokens: &[PlacedToken<'_>]) -> bool
     }
 }
 
-/// Whether so many tokens stand behind the view that ends an instruction.
+/// Returns whether `behind` tokens stand behind the view that ends an instruction.
 fn ends_with_view(instr: &Instr, behind: usize) -> bool
     ensures { result ≡ ends_with_view instr.now behind }
 {
@@ -67,8 +68,8 @@ fn ends_with_view(instr: &Instr, behind: usize) -> bool
     }
 }
 
-/// Whether so many tokens may stand behind the row of a tuple: more than a comma, the view and the
-/// bracket.
+/// Returns whether `behind` tokens may stand behind the row of a tuple: more than a comma, the view
+/// and the bracket.
 fn has_row(instr: &Instr, behind: usize) -> bool
     ensures { result ≡ has_row instr.now behind }
 {
@@ -78,7 +79,7 @@ fn has_row(instr: &Instr, behind: usize) -> bool
     }
 }
 
-/// The sort of a name alone.
+/// Returns the sort of a name alone.
 fn lone_sort(instr: &Instr, behind: usize) -> Sort
     ensures { result ≡ lone_sort instr.now behind }
 {
@@ -89,7 +90,7 @@ fn lone_sort(instr: &Instr, behind: usize) -> Sort
     }
 }
 
-/// The sort that a name has to have, with these tokens behind it.
+/// Returns the sort that a name has to have, with the tokens `behind`.
 #[tactic(auto, using(crate::proofs::Counts::placed_length))]
 fn sort_at(instr: &Instr, slot: Slot, behind: &[PlacedToken<'_>]) -> Sort
     ensures { result ≡ sort_at instr.now slot (placed_tokens behind.now) }
@@ -117,7 +118,7 @@ fn sort_at(instr: &Instr, slot: Slot, behind: &[PlacedToken<'_>]) -> Sort
     }
 }
 
-/// The field of one number that a word is.
+/// Returns the field of one number that a word is.
 fn field_of_keyword(word: &[u8]) -> Option<Field>
     ensures { result ≡ field_of_keyword word.now }
 {
@@ -134,7 +135,7 @@ fn field_of_keyword(word: &[u8]) -> Option<Field>
     }
 }
 
-/// A field, but for the `data` of a view.
+/// Returns a field, but for the `data` of a view.
 fn field_use(field: Option<Field>, instr: &Instr) -> Option<Use<'static>>
     ensures { option_map view_use result ≡ field_use field instr.now }
 {
@@ -144,7 +145,7 @@ fn field_use(field: Option<Field>, instr: &Instr) -> Option<Use<'static>>
     }
 }
 
-/// What a reserved word speaks of.
+/// Returns what a reserved word stands for.
 fn word_use(instr: &Instr, word: &[u8], behind: &[PlacedToken<'_>]) -> Option<Use<'static>>
     ensures { option_map view_use result
         ≡ word_use instr.now word.now (placed_tokens behind.now) }
@@ -168,7 +169,7 @@ fn word_use(instr: &Instr, word: &[u8], behind: &[PlacedToken<'_>]) -> Option<Us
     }
 }
 
-/// The kind that has this tuple.
+/// Returns the kind that has this tuple.
 fn tuple_kind(tuple: &Tuple) -> KindTag
     ensures { result ≡ tuple_kind tuple.now }
 {
@@ -179,7 +180,7 @@ fn tuple_kind(tuple: &Tuple) -> KindTag
     }
 }
 
-/// What a round bracket speaks of that opens a tuple.
+/// Returns what a round bracket stands for that opens a tuple.
 fn tuple_use(slot: Slot, instr: &Instr) -> Option<Use<'static>>
     ensures { option_map view_use result ≡ tuple_use slot instr.now }
 {
@@ -189,7 +190,7 @@ fn tuple_use(slot: Slot, instr: &Instr) -> Option<Use<'static>>
     }
 }
 
-/// What a token speaks of, with these behind it.
+/// Returns what a token stands for, with the tokens `behind`.
 pub fn use_at<'a>(
     instr: &Instr,
     slot: Slot,
@@ -212,14 +213,14 @@ pub fn use_at<'a>(
     }
 }
 
-/// Whether a view stands behind a word.
+/// Returns whether a view stands behind a word.
 fn is_view_word(word: &[u8]) -> bool
     ensures { result ≡ is_view_word word.now }
 {
     same_word(word, b"look") || same_word(word, b"return") || same_word(word, b"view")
 }
 
-/// Whether a `words` local stands behind a word.
+/// Returns whether a `words` local stands behind a word.
 fn is_words_word(word: &[u8]) -> bool
     ensures { result ≡ is_words_word word.now }
 {
@@ -231,7 +232,7 @@ fn is_words_word(word: &[u8]) -> bool
         || same_word(word, b"hand")
 }
 
-/// What stands behind a reserved word.
+/// Returns what stands behind a reserved word.
 fn slot_of_word(word: &[u8]) -> Slot
     ensures { result ≡ slot_of_word word.now }
 {
@@ -244,7 +245,7 @@ fn slot_of_word(word: &[u8]) -> Slot
     }
 }
 
-/// What stands behind a round bracket.
+/// Returns what stands behind a round bracket.
 fn slot_inside(slot: Slot) -> Slot
     ensures { result ≡ slot_inside slot }
 {
@@ -254,7 +255,7 @@ fn slot_inside(slot: Slot) -> Slot
     }
 }
 
-/// What the next name is, behind a token.
+/// Returns what the next name is, behind a token.
 pub fn slot_after(slot: Slot, token: &Token<'_>) -> Slot
     ensures { result ≡ slot_after slot (view_token token.now) }
 {

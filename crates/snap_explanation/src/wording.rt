@@ -1,5 +1,5 @@
 //! Each sentence of an explanation, written once, and the tables that say at which piece of a line
-//! a sentence stands. Definitions name them.
+//! a sentence stands. The definitions name these sentences.
 
 // Words between pieces.
 pub const QUOTE: &[u8] = b"`";
@@ -169,13 +169,13 @@ pub const INDEX_HINTS: &[(&[u8], &[u8])] = &[(
     b"an index is one number or one name: write `let j = j + 1` in a line before\n",
 )];
 
-/// The same where `=` has to stand.
+/// The advice where `=` has to stand, by piece.
 pub const SUM_HINTS: &[(&[u8], &[u8])] = &[(b"+", ONE_MORE)];
 
-/// The same where comparisons end.
+/// The advice where comparisons end, by piece.
 pub const JOIN_HINTS: &[(&[u8], &[u8])] = &[(b"and", JOINED), (b"or", JOINED)];
 
-/// The same where a name has to stand.
+/// The advice where a name has to stand, by piece.
 pub const NAME_HINTS: &[(&[u8], &[u8])] = &[
     (b"r", BANKS),
     (b"v", BANKS),
@@ -183,7 +183,7 @@ pub const NAME_HINTS: &[(&[u8], &[u8])] = &[
     (b"p", BANKS),
 ];
 
-/// The same where a value has to stand.
+/// The advice where a value has to stand, by piece.
 pub const VALUE_HINTS: &[(&[u8], &[u8])] = &[
     (b"+", ONE_MORE),
     (b"=", EQUALITY),
@@ -194,7 +194,7 @@ pub const VALUE_HINTS: &[(&[u8], &[u8])] = &[
     (b"view", SET_VIEW),
 ];
 
-/// The same where a comparison has to stand.
+/// The advice where a comparison has to stand, by piece.
 pub const COMPARISON_HINTS: &[(&[u8], &[u8])] = &[
     (b"=", EQUALITY),
     (b"r", READ_WORD),
@@ -204,7 +204,7 @@ pub const COMPARISON_HINTS: &[(&[u8], &[u8])] = &[
     (b"view", SET_VIEW),
 ];
 
-/// The same where an instruction has to stand.
+/// The advice where an instruction has to stand, by piece.
 pub const INSTRUCTION_HINTS: &[(&[u8], &[u8])] = &[
     (b"for", LOOP),
     (b"while", LOOP),
@@ -217,7 +217,7 @@ pub const INSTRUCTION_HINTS: &[(&[u8], &[u8])] = &[
     (b"p", WRITTEN),
 ];
 
-/// The same where nothing more may stand.
+/// The advice where nothing more may stand, by piece.
 pub const END_HINTS: &[(&[u8], &[u8])] = &[
     (
         b"+",
@@ -366,8 +366,8 @@ pub const LEXEME_HINTS: &[(u8, u8, &[u8])] = &[
     ),
 ];
 
-/// What is advised of another byte that begins no token, by the range of bytes that has it. One
-/// outside of ASCII is the first one of a character in UTF-8, or of a text in UTF-16.
+/// The advice on a byte that begins no token, by the range of bytes that has it. A byte outside of
+/// ASCII is the first one of a character in UTF-8, or of a text in UTF-16.
 pub const BYTE_HINTS: &[(u8, u8, &[u8])] = &[
     (
         b'>',

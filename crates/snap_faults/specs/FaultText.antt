@@ -1,13 +1,13 @@
 -- `fault_line`: what a program says for a fault, with the name of the file that it is about, where there is one.
 use Rattle.std.specs.Prelude.{ℕ, List, ◌++◌, codes}
-use Rattle.snap_files.specs.FileTexts.{reason}
+use Rattle.snap_streams.specs.FileTexts.{reason}
 use Rattle.snap_history_text.specs.declared.refusal.HistoryRefusal.{HistoryRefusal}
 use Rattle.snap_history_text.specs.declared.refusal.HistoryRefusal.TheVariants as history
-use Rattle.snap_live_desk.specs.declared.refusal.LiveRefusal.{LiveRefusal}
-use Rattle.snap_live_desk.specs.declared.refusal.LiveRefusal.TheVariants as live
-use Rattle.snap_promela.specs.declared.refusal.ModelRefusal.{ModelRefusal}
-use Rattle.snap_promela.specs.declared.refusal.ModelRefusal.TheVariants as model
-use Rattle.snap_refusals.specs.RefusalText.{numbered, refused_text}
+use Rattle.snap_semantics.specs.declared.refusal.LiveRefusal.{LiveRefusal}
+use Rattle.snap_semantics.specs.declared.refusal.LiveRefusal.TheVariants as live
+use Rattle.snap_semantics.specs.declared.refusal.ModelRefusal.{ModelRefusal}
+use Rattle.snap_semantics.specs.declared.refusal.ModelRefusal.TheVariants as model
+use Rattle.snap_faults.specs.RefusalText.{numbered, refused_text}
 use Rattle.snap_semantics.specs.declared.refusal.Refusal.{Refusal}
 use Rattle.snap_semantics.specs.declared.refusal.Refusal.TheVariants as refusal
 use Rattle.snap_faults.specs.Names.{Names, file_of, front}
@@ -42,7 +42,7 @@ abbrev pub refused_file : Refusal → Which
 refused_file (refusal.Listing r) = which.Listing
 refused_file _ = which.Schedule
 
--- that a file, or an input that has no name, is refused
+-- the words that a file, or an input that has no name, is refused
 abbrev pub refused_in : Names → Which → Refusal → List ℕ
 refused_in n w r = front n.program (file_of n w) ++ refused_text r
 

@@ -1,12 +1,12 @@
 -- The faults of what a program does, as faults of the program; and the status that it ends with for one.
 use Rattle.std.specs.Prelude.{ℕ}
-use Rattle.snap_dialog.specs.declared.fault.DialogFault.{DialogFault}
-use Rattle.snap_dialog.specs.declared.fault.DialogFault.TheVariants as dialog
-use Rattle.snap_files.specs.declared.fault.FileFault.{FileFault}
-use Rattle.snap_files.specs.declared.fault.FileFault.TheVariants as file
+use Rattle.snap_streams.specs.declared.dialog_fault.DialogFault.{DialogFault}
+use Rattle.snap_streams.specs.declared.dialog_fault.DialogFault.TheVariants as dialog
+use Rattle.snap_streams.specs.declared.file_fault.FileFault.{FileFault}
+use Rattle.snap_streams.specs.declared.file_fault.FileFault.TheVariants as file
 use Rattle.snap_history_text.specs.declared.refusal.HistoryRefusal.{HistoryRefusal}
-use Rattle.snap_live_desk.specs.declared.refusal.LiveRefusal.{LiveRefusal}
-use Rattle.snap_promela.specs.declared.refusal.ModelRefusal.{ModelRefusal}
+use Rattle.snap_semantics.specs.declared.refusal.LiveRefusal.{LiveRefusal}
+use Rattle.snap_semantics.specs.declared.refusal.ModelRefusal.{ModelRefusal}
 use Rattle.snap_semantics.specs.declared.fault.Fault.{Fault}
 use Rattle.snap_semantics.specs.declared.fault.Fault.TheVariants as given
 use Rattle.snap_semantics.specs.declared.refusal.Refusal.{Refusal}

@@ -38,7 +38,7 @@ abbrev pub SaysWhy : {A : Type 0} → Names → (why : ProgramFault → List ℕ
 SaysWhy names why (Ok done) errors errors_after = errors ≡ errors_after
 SaysWhy names why (Err f) errors errors_after = TellsMore names f (why f) errors errors_after
 
--- The same, with nothing behind the line.
+-- A fault is said, with nothing behind its line.
 abbrev pub SaysFault : {A : Type 0} → Names → Result A ProgramFault → (errors errors_after : SinkState) → Type 0
 SaysFault names (Ok done) errors errors_after = errors ≡ errors_after
 SaysFault names (Err f) errors errors_after = Tells names f errors errors_after

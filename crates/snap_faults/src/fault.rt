@@ -1,5 +1,5 @@
-//! `ProgramFault`: why a program did not do what was asked of it, or not all of it; `fault_status`
-//! is the status that it ends with then.
+//! `ProgramFault`: why a program did not do what it was called for, or not all of it;
+//! `fault_status` is the status that it ends with then.
 ghost use Rattle.std.specs.Prelude.{◌≡◌};
 ghost use Rattle.snap_faults.specs.Faults.{fault_status, of_dialog_fault, of_file};
 ghost use Rattle.snap_faults.specs.Faults.{of_history_fault};
@@ -7,18 +7,14 @@ ghost use Rattle.snap_faults.specs.Faults.{of_input_fault, of_live_fault, of_mod
 ghost use Rattle.snap_faults.specs.declared.fault.ProgramFault.TheVariants.{Memory, Write};
 
 use crate::files::Which;
-use snap_dialog::DialogFault;
-use snap_files::FileFault;
 use snap_history_text::{HistoryFault, HistoryRefusal};
-use snap_live_desk::{LiveFault, LiveRefusal};
-use snap_promela::ModelRefusal;
-use snap_semantics::{Fault, Refusal};
-use snap_streams::Unsent;
+use snap_semantics::{Fault, LiveRefusal, ModelRefusal, Refusal};
+use snap_streams::{DialogFault, FileFault, Unsent};
 use std::alloc::{AllocError, AllocFailed};
 use std::io::ErrorKind;
 use thiserror::Error;
 
-/// Why a program did not do what was asked of it, or not all of it.
+/// Why a program did not do what it was called for, or not all of it.
 #[derive(Clone, Copy, Debug, PartialEq, Eq, Error)]
 pub enum ProgramFault {
     #[error("out of memory")]
@@ -32,10 +28,10 @@ pub enum ProgramFault {
     /// The input is no history.
     #[error("{0}")]
     History(HistoryRefusal),
-    /// No model holds what the input asks for.
+    /// No model holds what the input says.
     #[error("{0}")]
     Model(ModelRefusal),
-    /// A run of so many items has not those that are to be drawn.
+    /// A run of this many items lacks those that are to be drawn.
     #[error("a run of {0} items has no such items")]
     NoSuchItems(u64),
     /// More items than a picture has.
@@ -52,7 +48,7 @@ pub enum ProgramFault {
     Unread(Which, ErrorKind),
     #[error("the input could not be read")]
     Read,
-    /// The output could not be written after so many bytes.
+    /// The output could not be written after this many bytes.
     #[error("the output could not be written after {0} bytes")]
     Write(u64),
     /// A dialog could not be shown.
@@ -74,7 +70,7 @@ pub fn fault_status(fault: &ProgramFault) -> u8
     }
 }
 
-/// Why a file was not read, as a fault of the program.
+/// Returns why a file was not read, as a fault of the program.
 pub fn of_file(which: Which, fault: FileFault) -> ProgramFault
     ensures { result ≡ of_file which fault }
 {
@@ -112,10 +108,10 @@ impl From<Fault<Refusal>> for ProgramFault {
     }
 }
 
-impl From<LiveFault> for ProgramFault {
+impl From<Fault<LiveRefusal>> for ProgramFault {
     ghost from_gives = { λ found fault. fault ≡ of_live_fault found };
 
-    fn from(fault: LiveFault) -> ProgramFault {
+    fn from(fault: Fault<LiveRefusal>) -> ProgramFault {
         match fault {
             Fault::Memory => ProgramFault::Memory,
             Fault::Refused(refusal) => ProgramFault::Live(refusal),

@@ -8,12 +8,10 @@ ghost use Rattle.snap_faults.specs.declared.fault.ProgramFault.TheVariants.{Unre
 
 use crate::fault::ProgramFault;
 use crate::files::{Names, Which};
-use snap_files::reason;
+use crate::refusal_text::{push_numbered, push_refused};
 use snap_history_text::HistoryRefusal;
-use snap_live_desk::LiveRefusal;
-use snap_promela::ModelRefusal;
-use snap_refusals::{push_numbered, push_refused};
-use snap_semantics::Refusal;
+use snap_semantics::{LiveRefusal, ModelRefusal, Refusal};
+use snap_streams::reason;
 use snap_text::push_text;
 use std::alloc::{AllocError, Global};
 use std::io::ErrorKind;
@@ -58,7 +56,7 @@ fn push_model_refusal(out: &mut Vec<u8>, refusal: &ModelRefusal) -> Result<(), A
     }
 }
 
-/// The name of a file.
+/// Returns the name of a file.
 fn file_of<'a>(names: &Names<'a>, which: Which) -> Option<&'a str>
     ensures { option_map (λ name. name.now) result ≡ file_of (view_names names.now) which }
 {
@@ -68,7 +66,7 @@ fn file_of<'a>(names: &Names<'a>, which: Which) -> Option<&'a str>
     }
 }
 
-/// Adds the front of a line that speaks of a file, where it has a name.
+/// Appends the front of a line about a file, with its name if it has one.
 #[tactic(auto, using(snap_text::proofs::Texts::joined))]
 fn push_front(out: &mut Vec<u8>, program: &str, file: Option<&str>) -> Result<(), AllocError>
     ensures { OnOk result (out.new.items
@@ -85,7 +83,7 @@ fn push_front(out: &mut Vec<u8>, program: &str, file: Option<&str>) -> Result<()
     }
 }
 
-/// Which of the files is refused so.
+/// Returns which of the files the refusal is of.
 fn refused_file(refusal: &Refusal) -> Which
     ensures { result ≡ refused_file refusal.now }
 {
@@ -95,7 +93,7 @@ fn refused_file(refusal: &Refusal) -> Which
     }
 }
 
-/// Adds that a file, or an input that has no name, is refused.
+/// Appends that a file, or an input that has no name, is refused.
 #[tactic(auto, using(snap_text::proofs::Texts::joined))]
 fn push_refused_in(
     out: &mut Vec<u8>,
@@ -110,7 +108,7 @@ fn push_refused_in(
     push_refused(out, refusal)
 }
 
-/// Adds why a file was not read.
+/// Appends why a file was not read.
 #[tactic(auto, using(snap_text::proofs::Texts::joined))]
 fn push_unread(
     out: &mut Vec<u8>,
@@ -125,7 +123,7 @@ fn push_unread(
     push_text(out, reason(kind).as_bytes())
 }
 
-/// Adds that what a hunt found is not that of its input.
+/// Appends that what a hunt found is not that of its input.
 #[tactic(auto, using(snap_text::proofs::Texts::joined))]
 fn push_unsaid(out: &mut Vec<u8>, program: &str) -> Result<(), AllocError>
     ensures { OnOk result (out.new.items ≡ out.old.items
@@ -135,7 +133,7 @@ fn push_unsaid(out: &mut Vec<u8>, program: &str) -> Result<(), AllocError>
     push_text(out, b": the run that was found is not that of the input")
 }
 
-/// Adds what is said for a fault.
+/// Appends the text on a fault.
 #[tactic(auto, using(snap_text::proofs::Texts::joined))]
 fn push_fault(out: &mut Vec<u8>, names: &Names<'_>, fault: &ProgramFault) -> Result<(), AllocError>
     ensures { OnOk result (out.new.items
@@ -175,12 +173,12 @@ fn push_fault(out: &mut Vec<u8>, names: &Names<'_>, fault: &ProgramFault) -> Res
     }
 }
 
-/// Returns the line that a program says for a fault, with the name of the file that it is about,
-/// where there is one.
+/// Returns the line that a program says for `fault`, with the name of the file that it is about, if
+/// there is one.
 ///
 /// # Errors
 ///
-/// There is no memory for it.
+/// `AllocError` where memory runs out.
 pub fn fault_line(
     alloc: Global,
     names: &Names<'_>,

@@ -9,7 +9,7 @@ pub enum Which {
     Schedule,
 }
 
-/// What a program is called, and the names of its files, where it has such a file.
+/// What a program is called, and the names of its files, for each file that it has.
 #[derive(Clone, Copy)]
 pub struct Names<'a> {
     pub program: &'a str,
@@ -18,7 +18,7 @@ pub struct Names<'a> {
 }
 
 impl<'a> Names<'a> {
-    /// A program that names no files.
+    /// Returns a program that names no files.
     pub fn of_program(program: &'a str) -> Names<'a>
         ensures { view_names result ≡ of_program program.now }
     {

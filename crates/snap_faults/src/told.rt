@@ -1,4 +1,4 @@
-//! `tell`: says why a program did not do what was asked of it, and what explains that.
+//! `tell`: says why a program did not do what it was called for, and what explains that.
 ghost use Rattle.std.specs.Prelude.{◌≡◌, ◌++◌, IfOk, false};
 ghost use Rattle.snap_faults.specs.FaultText.{fault_line};
 ghost use Rattle.snap_faults.specs.Faults.{fault_status};
@@ -58,7 +58,7 @@ pub fn complain<E: ByteSink>(alloc: Global, names: &Names<'_>, fault: &ProgramFa
     }
 }
 
-/// The line of a fault, and more behind it.
+/// Returns the line of a fault, and more behind it.
 fn longer_line(
     alloc: Global,
     names: &Names<'_>,
@@ -91,8 +91,8 @@ fn say_more<E: ByteSink>(
     }
 }
 
-/// Says a fault, with more behind its line where there is memory for that, and returns the status
-/// for it.
+/// Says a fault on `errors`, with `more` behind its line if there is memory for that, and returns
+/// the status for the fault.
 pub fn tell<E: ByteSink>(
     alloc: Global,
     names: &Names<'_>,
@@ -109,7 +109,7 @@ pub fn tell<E: ByteSink>(
     fault_status(fault)
 }
 
-/// Writes help, or the version, says where that cannot be done, and returns the status of it.
+/// Writes help or the version to `sink`, says on `errors` if that fails, and returns the status.
 pub fn help<W: ByteSink, E: ByteSink>(
     alloc: Global,
     names: &Names<'_>,

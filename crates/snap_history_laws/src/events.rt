@@ -3,7 +3,7 @@
 ghost use Rattle.snap_history_laws.specs.events.EventLaws.{EventsTellOperations};
 
 /// The events of a run of any listing are the calls and the ends of its operations, and nothing
-/// that did not happen: so what is proved of operations, as that they are linearizable, is said of
+/// that did not happen. What is proved of operations, such as that they are linearizable, holds of
 /// the events that are printed.
 pub fn events_tell_operations()
     ensures { EventsTellOperations }

@@ -17,22 +17,22 @@ ghost use Rattle.snap_history_laws.specs.judgements.ThreadLaws.{ThreadsAreToldTh
 use crate::events::events_tell_operations;
 use crate::threads::operations_are_told;
 use snap_judge::linearizable_from_the_beginning;
-use snap_listing_grammar::what_is_read_is_spelled;
+use snap_listing::what_is_read_is_spelled;
 use snap_live::Gate;
 use snap_record::Record;
 use snap_run_judge::runs_have_histories;
 use snap_shipped::{shipped_runs_keep_promises, text_b, text_m, text_u};
 use snap_words::Kind;
 
-/// The history of a run of any listing tells of its operations and of no others, and so it has the
-/// same linearizations.
+/// The history of a run of any listing has its operations and no others, and therefore the same
+/// linearizations.
 pub fn runs_are_told_by_their_histories()
     ensures { RunsAreToldByTheirHistories }
 {
     events_tell_operations();
 }
 
-/// The events of a run of any listing tell of each call and each end once.
+/// The events of a run of any listing have each call and each end once.
 pub fn runs_tell_each_once()
     ensures { RunsTellEachOnce }
 {
@@ -40,9 +40,9 @@ pub fn runs_tell_each_once()
     runs_have_histories();
 }
 
-/// What is judged of the history of a run is so of the run: an order of its operations is a
-/// linearization of it, and the item of an event at which the history fails is one at which the run
-/// fails.
+/// What is judged of the history of a run holds of the run: an order of its operations is a
+/// linearization of the run, and the item of an event at which the history fails is one at which
+/// the run fails.
 pub fn judgements_are_of_runs()
     ensures { JudgementsAreOfRuns }
 {
@@ -52,8 +52,8 @@ pub fn judgements_are_of_runs()
     linearizable_from_the_beginning();
 }
 
-/// What is judged of the history of a record is so of its run, of which the events tell each call
-/// and each end once.
+/// What is judged of the history of a record holds of its run, whose events have each call and each
+/// end once.
 pub fn judgements_are_of_records<K: Kind>(kept: &Record<K>)
     ensures judged { (most : ℕ) (j : Judgement) → IsRunJudgement most kept.now j →
         IsSoOf kept.now j }
@@ -66,8 +66,8 @@ pub fn judgements_are_of_records<K: Kind>(kept: &Record<K>)
     runs_tell_each_once();
 }
 
-/// What the threads of a run are told, each of its own process, and the history of the run tell of
-/// the same operations.
+/// What the threads of a run hear, each of its own process, has the same operations as the history
+/// of the run.
 pub fn threads_are_told_the_history()
     ensures { ThreadsAreToldTheHistory }
 {
@@ -97,14 +97,16 @@ pub fn shipped_runs_are_seen_linearizable()
     shipped_runs_keep_promises();
 }
 
-/// So is the history of what is kept at a desk of U, B or M, whatever the threads did.
+/// The history of what is kept at a desk of U, B or M is linearizable, and no judgement of it says
+/// otherwise, whatever the threads did.
 pub fn closed_desks_are_seen_linearizable()
     ensures { ClosedDesksAreSeenLinearizable }
 {
     shipped_runs_are_seen_linearizable();
 }
 
-/// So is the history of a live run of U, B or M, whatever its gate answered.
+/// The history of a live run of U, B or M is linearizable, and no judgement of it says otherwise,
+/// whatever its gate answered.
 pub fn live_runs_are_seen_linearizable<G: Gate>(gate: &G)
     ensures { LiveRunsAreSeenLinearizable (G.may_answer gate.now) }
 {

@@ -1,4 +1,5 @@
-//! What the events of a run, its history and its threads tell of its operations; and that the runs of U, B and M, live ones too, are linearizable as told, and hunts find nothing in them.
+//! What the events of a run, its history and its threads tell of its operations; and that the runs
+//! of U, B and M, live ones too, are linearizable as told, and hunts find nothing in them.
 #![tactic(auto)]
 
 mod events;

@@ -11,7 +11,7 @@ pub fn live_runs_are_cut()
 {}
 
 /// What is printed of a live run before its report, read as a schedule, has the items of that run:
-/// the run over it is the same, and so is its report.
+/// the run over that schedule is the same, and its report too.
 pub fn live_runs_are_read_again()
     ensures { LiveRunsAreReadAgain }
 {
@@ -20,7 +20,7 @@ pub fn live_runs_are_read_again()
 }
 
 /// What is printed of a live run before its report, run over the same listing, prints the report of
-/// the live run, byte for byte. It is one part of an input.
+/// the live run, byte for byte. What is printed is one part of an input.
 pub fn live_runs_are_run_again()
     ensures { LiveRunsAreRunAgain }
 {

@@ -1,4 +1,4 @@
-//! What threads are told of their operations, and in which order these could have taken place.
+//! What threads hear of their operations, and in which order these could have taken place.
 ghost use Rattle.snap_history_laws.specs.threads.RunLaws.{LinearizationsAreTold, OperationsAreTold};
 ghost use Rattle.snap_history_laws.specs.threads.DeskLaws.{DesksTellLinearizations, NotesOrderOperations};
 ghost use Rattle.snap_history_laws.specs.threads.DeskLaws.{SeatsAreToldTheRecord, SeatsOwnWhatTheySaw};
@@ -8,20 +8,19 @@ ghost use Rattle.snap_history_laws.specs.threads.ShippedLaws.{LiveRunsAreLineari
 use snap_live::Gate;
 use snap_shipped::shipped_runs_keep_promises;
 
-/// The operations of a run are those of which its threads are told.
+/// The operations of a run are those of which its threads hear.
 #[tactic(auto, using(crate::proofs::threads::Operations::operations_are_told))]
 pub fn operations_are_told()
     ensures { OperationsAreTold }
 {}
 
-/// A list of operations is a linearization of a run where it is one of what the threads are told,
-/// and only there.
+/// A list of operations is a linearization of a run exactly if it is one of what the threads hear.
 #[tactic(auto, using(crate::proofs::threads::Linear::linearizations_are_told))]
 pub fn linearizations_are_told()
     ensures { LinearizationsAreTold }
 {}
 
-/// The seats of a closed desk were told the turns of its record, each those of its process.
+/// The seats of a closed desk have the turns of its record, each those of its process.
 #[tactic(auto, using(crate::proofs::threads::Closing::seats_are_told))]
 pub fn seats_are_told_the_record()
     ensures { SeatsAreToldTheRecord }

@@ -26,7 +26,7 @@ pub noted : (xs : List code.Caller) (y : code.Caller) (e : Event) → view_calle
 noted xs y e is =
     map-set view_caller xs (e.process - 1) y ∙ ap (slice_set (view_callers xs) (e.process - 1)) is
 
--- and there are as many as before
+-- there are as many processes as before the event
 pub still_as_many : (xs ys : List code.Caller) (e : Event) → view_callers ys ≡ callers_behind (view_callers xs) e →
     length ys ≡ length xs
 still_as_many xs ys e h =

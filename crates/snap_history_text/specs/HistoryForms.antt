@@ -20,7 +20,7 @@ spelled_what (what.Answer view) = Identifier (codes "answer") ∷ map (λ x. Num
 spelled_what what.Done = Identifier (codes "done") ∷ []
 spelled_what what.Crash = Identifier (codes "crash") ∷ []
 
--- and how an event is, with its number
+-- how an event is spelled, with its number
 abbrev pub spelled_event : Event → List Token
 spelled_event e = Identifier (codes "event") ∷ Number e.item ∷ Number e.process ∷ spelled_what e.what
 

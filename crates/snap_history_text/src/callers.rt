@@ -18,7 +18,7 @@ pub enum Caller {
     Gone,
 }
 
-/// Why a process may not come to this in a line, where it may not.
+/// Returns why `what` may not come next for its process in line `line`; `None` where it may.
 pub fn wrong_turn(
     shape: Shape,
     line: u64,
@@ -45,7 +45,11 @@ pub fn wrong_turn(
     }
 }
 
-/// What each of `n` processes is at before the first event.
+/// Returns what each of `n` processes is at before the first event.
+///
+/// # Errors
+///
+/// `AllocError` where memory runs out.
 #[tactic(auto, using(crate::proofs::Noted::one_more))]
 pub fn free_callers(alloc: Global, n: u64) -> Result<Vec<Caller>, AllocError>
     ensures { IfOk result (λ callers. view_callers callers.items ≡ replicate n Free) }
@@ -57,7 +61,7 @@ pub fn free_callers(alloc: Global, n: u64) -> Result<Vec<Caller>, AllocError>
     Ok(callers)
 }
 
-/// What a process is at behind its event.
+/// Returns what a process is at behind its event.
 fn caller_after(what: &Happening) -> Caller
     ensures { view_caller result ≡ caller_after what.now }
 {

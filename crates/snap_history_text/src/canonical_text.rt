@@ -12,7 +12,7 @@ use snap_text::{Token, push_laid_out};
 use snap_words::Shape;
 use std::alloc::{AllocError, Global};
 
-/// Adds the line of an event that is told by a word.
+/// Appends the line of an event that has a word alone.
 fn push_mark(out: &mut Vec<u8>, item: u64, process: u64, word: &[u8]) -> Result<(), AllocError>
     ensures { OnOk result (out.new.items ≡ out.old.items ++ line_text
         (Identifier (codes "event") ∷ Number item ∷ Number process ∷ Identifier word.now ∷ [])) }
@@ -28,7 +28,7 @@ fn push_mark(out: &mut Vec<u8>, item: u64, process: u64, word: &[u8]) -> Result<
     )
 }
 
-/// Adds the line of an update's call.
+/// Appends the line of an update's call.
 fn push_update(
     out: &mut Vec<u8>,
     item: u64,
@@ -53,7 +53,7 @@ fn push_update(
     )
 }
 
-/// Adds the line of an answer.
+/// Appends the line of an answer.
 #[tactic(auto, using(crate::proofs::Tokens::one_number))]
 fn push_answer(
     alloc: Global,
@@ -77,7 +77,7 @@ fn push_answer(
     push_laid_out(out, tokens.as_slice())
 }
 
-/// Adds the line of an event.
+/// Appends the line of an event.
 fn push_event(alloc: Global, out: &mut Vec<u8>, event: &Event) -> Result<(), AllocError>
     ensures { OnOk result (out.new.items ≡ out.old.items
         ++ line_text (spelled_event event.now)) }
@@ -95,7 +95,7 @@ fn push_event(alloc: Global, out: &mut Vec<u8>, event: &Event) -> Result<(), All
     }
 }
 
-/// Adds the lines of events.
+/// Appends the lines of events.
 fn push_events(alloc: Global, out: &mut Vec<u8>, events: &[Event]) -> Result<(), AllocError>
     ensures { OnOk result (out.new.items ≡ out.old.items
         ++ lines_text (map spelled_event events.now)) }
@@ -106,7 +106,7 @@ fn push_events(alloc: Global, out: &mut Vec<u8>, events: &[Event]) -> Result<(),
     Ok(())
 }
 
-/// Adds the line of a shape: `shape N W`.
+/// Appends the line of a shape: `shape N W`.
 fn push_shape(out: &mut Vec<u8>, shape: Shape) -> Result<(), AllocError>
     ensures { OnOk result (out.new.items ≡ out.old.items ++ line_text (spelled_shape shape)) }
 {
@@ -124,7 +124,7 @@ fn push_shape(out: &mut Vec<u8>, shape: Shape) -> Result<(), AllocError>
 ///
 /// # Errors
 ///
-/// Memory ran out.
+/// `AllocError` where memory runs out.
 pub fn print(alloc: Global, history: &History) -> Result<Vec<u8>, AllocError>
     ensures { IfOk result (λ text. text.items ≡ history_text history.now) }
 {

@@ -1,8 +1,8 @@
-//! `EventForm`: what a line of a history tells.
+//! `EventForm`: the form of a line of a history.
 use snap_semantics::Happening;
 
-/// An event as a line tells it, whether or not it may come there: its number, where the line has
-/// it, its process, and what that comes to.
+/// An event as a line has it, whether or not it may come there: its number, if the line has it, its
+/// process, and what happens to the process.
 #[derive(Drop)]
 pub struct EventForm {
     pub number: Option<u64>,

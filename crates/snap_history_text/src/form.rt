@@ -13,14 +13,14 @@ use snap_text::{Token, end_at, keyword_at, number_at};
 use snap_words::{Shape, View};
 use std::alloc::{AllocError, Global};
 
-/// The shape of these counts, where they are one.
+/// Returns the shape of these counts; `None` unless both are 1 to `MAX_COUNT`.
 fn shape_of(n: u64, w: u64) -> Option<Shape>
     ensures { Finds (λ s. s) result (shape_of n w) }
 {
     Shape::new(n, w).ok()
 }
 
-/// `shape N W`.
+/// Reads `shape N W`.
 #[tactic(auto, unfolding(snap_semantics::specs::ScheduleForms::shape_form))]
 pub fn shape_form(tokens: &[Token<'_>]) -> Option<Shape>
     ensures { Finds (λ s. s) result (shape_form (view_tokens tokens.now)) }
@@ -32,7 +32,7 @@ pub fn shape_form(tokens: &[Token<'_>]) -> Option<Shape>
     shape_of(n, w)
 }
 
-/// `scan`.
+/// Reads `scan`.
 #[tactic(auto, unfolding(crate::specs::HistoryForms::scan_form))]
 fn scan_form(tokens: &[Token<'_>]) -> Option<Op>
     ensures { Finds (λ x. x) result (scan_form (view_tokens tokens.now)) }
@@ -42,7 +42,7 @@ fn scan_form(tokens: &[Token<'_>]) -> Option<Op>
     Some(Op::Scan)
 }
 
-/// `update K X`.
+/// Reads `update K X`.
 #[tactic(auto, unfolding(crate::specs::HistoryForms::update_form))]
 fn update_form(tokens: &[Token<'_>]) -> Option<Op>
     ensures { Finds (λ x. x) result (update_form (view_tokens tokens.now)) }
@@ -54,7 +54,7 @@ fn update_form(tokens: &[Token<'_>]) -> Option<Op>
     Some(Op::Update { word, value })
 }
 
-/// `scan` or `update K X`.
+/// Reads `scan` or `update K X`.
 #[tactic(auto, unfolding(crate::specs::HistoryForms::call_form))]
 fn call_form(tokens: &[Token<'_>]) -> Option<Op>
     ensures { Finds (λ x. x) result (call_form (view_tokens tokens.now)) }
@@ -65,7 +65,7 @@ fn call_form(tokens: &[Token<'_>]) -> Option<Op>
     update_form(tokens)
 }
 
-/// A keyword alone.
+/// Reads a keyword alone.
 #[tactic(auto, unfolding(crate::specs::HistoryForms::mark_form))]
 fn mark_form(word: &[u8], tokens: &[Token<'_>]) -> Option<()>
     ensures { Finds (λ x. x) result (mark_form word.now (view_tokens tokens.now)) }
@@ -74,7 +74,7 @@ fn mark_form(word: &[u8], tokens: &[Token<'_>]) -> Option<()>
     end_at(rest)
 }
 
-/// The numbers that the tokens are, where each is one.
+/// Reads numbers to the end of the tokens; `None` where one of them is no number.
 fn values_of(alloc: Global, tokens: &[Token<'_>]) -> Result<Option<Vec<u64>>, AllocError>
     ensures { IfOk result (λ found. Finds (λ xs. xs.items) found
         (values_of (view_tokens tokens.now))) }
@@ -89,7 +89,7 @@ fn values_of(alloc: Global, tokens: &[Token<'_>]) -> Result<Option<Vec<u64>>, Al
     Ok(Some(values))
 }
 
-/// `answer V1 .. Vw`.
+/// Reads `answer V1 .. Vw`.
 #[tactic(auto, unfolding(crate::specs::HistoryForms::answer_form))]
 fn answer_form(alloc: Global, tokens: &[Token<'_>]) -> Result<Option<View>, AllocError>
     ensures { IfOk result (λ found. Finds (λ x. x) found
@@ -104,7 +104,7 @@ fn answer_form(alloc: Global, tokens: &[Token<'_>]) -> Result<Option<View>, Allo
     }
 }
 
-/// What a process comes to, as its line tells it behind the process.
+/// Reads what happens to a process, behind its number.
 #[tactic(auto, unfolding(crate::specs::HistoryForms::what_form))]
 fn what_form(alloc: Global, tokens: &[Token<'_>]) -> Result<Option<Happening>, AllocError>
     ensures { IfOk result (λ found. Finds (λ x. x) found (what_form (view_tokens tokens.now))) }
@@ -124,7 +124,7 @@ fn what_form(alloc: Global, tokens: &[Token<'_>]) -> Result<Option<Happening>, A
     }
 }
 
-/// A process and what it comes to.
+/// Reads a process and what happens to it.
 #[tactic(auto, unfolding(crate::specs::HistoryForms::plain_form))]
 fn plain_form(
     alloc: Global,
@@ -147,7 +147,7 @@ fn plain_form(
     }
 }
 
-/// `event T`, a process, and what it comes to.
+/// Reads `event T`, a process, and what happens to it.
 #[tactic(auto, unfolding(crate::specs::HistoryForms::numbered_form))]
 fn numbered_form(alloc: Global, tokens: &[Token<'_>]) -> Result<Option<EventForm>, AllocError>
     ensures { IfOk result (λ found. Finds (λ x. x) found
@@ -162,7 +162,11 @@ fn numbered_form(alloc: Global, tokens: &[Token<'_>]) -> Result<Option<EventForm
     plain_form(alloc, Some(number), rest)
 }
 
-/// The form that a line is.
+/// Reads the form that a line is.
+///
+/// # Errors
+///
+/// `AllocError` where memory runs out.
 #[tactic(auto, unfolding(crate::specs::HistoryForms::event_form))]
 pub fn event_form(alloc: Global, tokens: &[Token<'_>]) -> Result<Option<EventForm>, AllocError>
     ensures { IfOk result (λ found. Finds (λ x. x) found (event_form (view_tokens tokens.now))) }

@@ -24,7 +24,7 @@ use std::alloc::Global;
 /// The most bytes of the text of a history.
 pub const MAX_BYTES: usize = 16_777_216;
 
-/// The number of an event behind one with the number `last`: the one that its line tells, or the
+/// Returns the number of the event behind one with the number `last`: the one on its line, or the
 /// next one.
 fn number_behind(last: u64, number: Option<u64>) -> Option<u64>
     ensures { result ≡ number_behind last number }
@@ -36,7 +36,7 @@ fn number_behind(last: u64, number: Option<u64>) -> Option<u64>
     }
 }
 
-/// Whether the word that is to be updated is there.
+/// Returns whether the word that is to be updated is there.
 fn has_word(shape: Shape, what: &Happening) -> bool
     ensures { result ≡ has_word shape what.now }
 {
@@ -46,7 +46,7 @@ fn has_word(shape: Shape, what: &Happening) -> bool
     }
 }
 
-/// The event that the form of a line is.
+/// Returns the event of the form of a line.
 fn event_of(
     shape: Shape,
     last: u64,
@@ -83,7 +83,7 @@ fn event_of(
     }
 }
 
-/// The event that a line is.
+/// Returns the event of a line.
 fn line_event(
     alloc: Global,
     shape: Shape,
@@ -108,7 +108,7 @@ fn line_event(
     }
 }
 
-/// The event of the next line.
+/// Reads the event of the next line.
 fn next_event(
     alloc: Global,
     shape: Shape,
@@ -126,7 +126,7 @@ fn next_event(
     }
 }
 
-/// The shape that the first line is.
+/// Reads the shape that the first line is.
 fn first_shape(alloc: Global, lines: &mut TextLines<'_>) -> Result<Shape, HistoryFault>
     ensures { Answers (λ s. (s, lines.new)) result (first_shape lines.old) }
 {
@@ -143,7 +143,7 @@ fn first_shape(alloc: Global, lines: &mut TextLines<'_>) -> Result<Shape, Histor
     }
 }
 
-/// The events of the lines.
+/// Reads the events of the lines.
 fn events_of(
     alloc: Global,
     shape: Shape,
@@ -163,11 +163,11 @@ fn events_of(
     Ok(events)
 }
 
-/// Reads a history.
+/// Reads the history that `text` spells.
 ///
 /// # Errors
 ///
-/// The first reason why the text is none, or that memory ran out.
+/// The first reason why `text` is no history, or `Memory` where memory runs out.
 pub fn read(alloc: Global, text: &[u8]) -> Result<History, HistoryFault>
     ensures answer { Answers (λ h. h) result (history_of text.now) }
     ensures history { IfOk result (λ h. IsHistory h) }

@@ -1,4 +1,10 @@
 -- The proofs of snap_hunt, by their modules.
+pub mod Traps
+pub mod Products
+pub mod Watching
+pub mod Operations
+pub mod Judging
+pub mod Alike
 pub mod Ranges
 pub mod Numbers
 pub mod Cutting

@@ -9,9 +9,9 @@ use Rattle.rayon.proofs.ToStd.{slice-AllZip}
 use Rattle.snap_runs.proofs.Computing.{lt_from, not_lt}
 use Rattle.snap_semantics.specs.Source.{Source}
 use Rattle.snap_chance.specs.Plan.{Plan}
-use Rattle.snap_failure.specs.Finding.{Finds}
-use Rattle.snap_failure.specs.declared.failures.Failure.{Failure}
-use Rattle.snap_failure.specs.declared.failures.Wanted.{Wanted}
+use Rattle.snap_hunt.specs.Finding.{Finds}
+use Rattle.snap_hunt.specs.declared.failures.Failure.{Failure}
+use Rattle.snap_hunt.specs.declared.failures.Wanted.{Wanted}
 use Rattle.snap_hunt.specs.Hunt.{IsFirst, IsFirstIn, NothingBefore, run_of}
 use Rattle.snap_hunt.specs.declared.found.Found.{Found}
 
@@ -41,7 +41,7 @@ gathered {S = S} {R = R} {E = E} Q xs answers (Ok v) each all =
     subst (λ (ys : List R). AllZip Q xs ys) (sym all.2) (in_order E Q xs all.0 (subst P all.1 each))
 gathered Q xs answers (Err e) each all = tt
 
--- the same of a chain over references that show the items, whose closure has what it reads by another way
+-- a chain side by side over references that show the items, whose closure has what it reads by another way
 pub side_by_side : {P S R E : Type 0} (Q : P → S → R → Type 0) (held read : P) → held ≡ read
     → (seen : List (Bor S)) (xs : List S) → map (λ (z : Bor S). z.now) seen ≡ xs
     → (answers : List (Result R E)) (result : Result (Vec R Global) E)
@@ -120,7 +120,7 @@ none_more l p w seed from to None none first is = λ j le lt. decide j lt (below
   decide j lt (inl below) = none j (omega arith) below
   decide j lt (inr after) = first j after lt
 
--- and the first of a block, with nothing before it, is the first of all
+-- the first failure of a block, with nothing before it, is the first of all
 pub found_first : (l : Source) (p : Plan) (w : Wanted) (seed from to end : ℕ) (r : Option Found) → to ≤ end →
     NothingBefore l p w seed 0 from → IsFirst l p w seed from to r → is_some r ≡ true → IsFirst l p w seed 0 end r
 found_first l p w seed from to end None inside none first some = absurd cc

@@ -5,9 +5,9 @@ use Rattle.snap_semantics.specs.Source.{Source}
 use Rattle.snap_runs.specs.Run.{Run, run_over}
 use Rattle.snap_chance.specs.Chance.{schedule_of}
 use Rattle.snap_chance.specs.Plan.{Plan}
-use Rattle.snap_failure.specs.Finding.{Finds}
-use Rattle.snap_failure.specs.declared.failures.Failure.{Failure}
-use Rattle.snap_failure.specs.declared.failures.Wanted.{Wanted}
+use Rattle.snap_hunt.specs.Finding.{Finds}
+use Rattle.snap_hunt.specs.declared.failures.Failure.{Failure}
+use Rattle.snap_hunt.specs.declared.failures.Wanted.{Wanted}
 use Rattle.snap_hunt.specs.declared.found.Found.{Found}
 
 -- run k of a listing, by a plan

@@ -1,16 +1,16 @@
-//! `first_failing_alone`: the first run that fails, of those that a seed gives, made one after another
-//! in one thread.
+//! `first_failing_alone`: the first run that fails, of the runs that a seed gives, made one after
+//! another in one thread.
 ghost use Rattle.std.specs.Prelude.{◌+◌, ◌-◌, ◌<◌, ◌≤◌, ◌^◌, IfOk};
 ghost use Rattle.snap_hunt.specs.Hunt.{IsFirst};
 
 use crate::blocks::find;
+use crate::failures::Wanted;
 use crate::found::Found;
 use snap_asm_program::Program;
 use snap_chance::Plan;
-use snap_failure::Wanted;
 use std::alloc::{AllocError, Global};
 
-/// The run of this number, where it fails.
+/// Returns run number `run`, if it fails.
 #[tactic(auto, using(crate::proofs::Sides::alone))]
 fn in_run(
     alloc: Global,
@@ -29,12 +29,13 @@ fn in_run(
     }
 }
 
-/// Returns the first run that fails, of so many that the seed gives, and what fails in it; none where
-/// nothing is found in any of them. It is the run that `first_failing` finds, without threads.
+/// Returns the first run that fails, of the first `runs` that `seed` gives, and what fails in it;
+/// `None` where no failure is found in any of them. The answer is that of `first_failing`, without
+/// threads.
 ///
 /// # Errors
 ///
-/// There is no memory for them.
+/// `AllocError` where memory runs out.
 pub fn first_failing_alone(
     alloc: Global,
     program: &Program,

@@ -3,21 +3,22 @@
 ghost use Rattle.std.specs.Prelude.{◌≡◌, ◌+◌, ◌-◌, ◌^◌, ◌<◌, ◌≤◌, ℕ, IfOk};
 ghost use Rattle.std.specs.Prelude.{IfNone, IfSome, None, Some, length, slice_index_or};
 ghost use Rattle.std.specs.List.{AllZip, range_with_len};
-ghost use Rattle.snap_failure.specs.Finding.{Finds};
+ghost use Rattle.snap_hunt.specs.Finding.{Finds};
 ghost use Rattle.snap_hunt.specs.Hunt.{IsFirstIn, run_of};
 
+use crate::failures::{Failure, Wanted};
 use crate::found::Found;
+use crate::over::failure_over;
 use rayon::prelude::*;
 use snap_asm_program::Program;
 use snap_chance::{Plan, schedule_of};
-use snap_failure::{Failure, Wanted, failure_over};
 use std::alloc::{AllocError, Global};
 use std::thread::Threads;
 
 /// How many runs a thread makes at least, once it was started.
 const FEW: usize = 64;
 
-/// What fails in the run of this number.
+/// Returns what fails in the run of this number.
 #[tactic(auto, using(crate::proofs::Runs::found_over))]
 pub(crate) fn find(
     alloc: Global,
@@ -33,7 +34,7 @@ pub(crate) fn find(
     failure_over(alloc, program, &schedule, wanted)
 }
 
-/// So many numbers, the first of which is this one.
+/// Returns `count` numbers, the first of which is `from`.
 pub(crate) fn numbers(alloc: Global, from: u64, count: u64) -> Result<Vec<u64>, AllocError>
     requires { from + count < 2 ^ 64 }
     ensures { IfOk result (λ v. v.items ≡ range_with_len from count) }
@@ -45,7 +46,7 @@ pub(crate) fn numbers(alloc: Global, from: u64, count: u64) -> Result<Vec<u64>, 
     Ok(numbers)
 }
 
-/// What fails in the runs of these numbers, whichever thread made each and when.
+/// Returns what fails in the runs of these numbers, whichever thread made each and when.
 pub(crate) fn find_each(
     rt: &(impl Threads + Sync),
     alloc: Global,
@@ -71,8 +72,8 @@ pub(crate) fn find_each(
     found
 }
 
-/// The first of these that is a failure, with the number of its run. They are those of the runs from
-/// this one on.
+/// Returns the first failure of `found`, the failures of the runs from `from` on, with the number
+/// of its run.
 pub(crate) fn first_of(from: u64, found: &[Option<Failure>]) -> Option<Found>
     requires { from + length found.now < 2 ^ 64 }
     ensures { IsFirstIn from found.now result }

@@ -13,12 +13,12 @@ use std::alloc::{AllocError, Global};
 /// Some of the items of a draft.
 #[derive(Clone, Copy)]
 pub(crate) enum Cut {
-    /// So many items, from a place on.
+    /// A number of items, from a place on.
     Segment {
         at: usize,
         count: usize,
     },
-    /// So many items of a process, behind so many of its own.
+    /// A number of items of a process, behind the first of its own.
     Turns {
         process: u32,
         from: usize,
@@ -26,14 +26,14 @@ pub(crate) enum Cut {
     },
 }
 
-/// The items of a schedule.
+/// Returns the items of a schedule.
 pub(crate) fn items_of(alloc: Global, schedule: &Schedule) -> Result<Vec<Item>, AllocError>
     ensures { IfOk result (λ v. v.items ≡ schedule.now.items) }
 {
     schedule.items().iter().collect(alloc)
 }
 
-/// Adds an item.
+/// Appends an item.
 fn push_item(items: &mut Items, item: Item) -> Result<(), AllocError>
     requires { length items.old + 1 < 2 ^ 32 }
     ensures { OnOk result (items.new ≡ items.old ++ item ∷ []) }
@@ -45,7 +45,7 @@ fn push_item(items: &mut Items, item: Item) -> Result<(), AllocError>
     }
 }
 
-/// The schedule of these items.
+/// Returns the schedule of these items.
 pub(crate) fn schedule_with(
     alloc: Global,
     shape: Shape,
@@ -61,7 +61,7 @@ pub(crate) fn schedule_with(
     Ok(Schedule::new(shape, all))
 }
 
-/// The items behind so many of them at a place.
+/// Returns the items behind `count` of them at place `at`.
 #[tactic(auto, using(crate::proofs::Cutting::past_end))]
 fn behind(items: &[Item], at: usize, count: usize) -> &[Item]
     requires { at ≤ length items.now }
@@ -74,7 +74,7 @@ fn behind(items: &[Item], at: usize, count: usize) -> &[Item]
     }
 }
 
-/// What is left of items without so many of them at a place.
+/// Returns a copy of the items without `count` of them at place `at`.
 pub(crate) fn without(
     alloc: Global,
     items: &[Item],
@@ -89,7 +89,7 @@ pub(crate) fn without(
     Ok(left)
 }
 
-/// What is left of items without so many items of a process, behind so many of its own.
+/// Returns a copy of the items without `count` items of a process, behind its first `from`.
 fn without_turns(
     alloc: Global,
     items: &[Item],
@@ -109,7 +109,7 @@ fn without_turns(
     Ok(left)
 }
 
-/// What a cut leaves of items.
+/// Returns what a cut leaves of items.
 pub(crate) fn left_by(alloc: Global, items: &[Item], cut: Cut) -> Result<Vec<Item>, AllocError> {
     match cut {
         Cut::Segment { at, count } => without(alloc, items, at.min(items.len()), count),

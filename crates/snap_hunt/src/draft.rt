@@ -12,14 +12,14 @@ use snap_semantics::{Item, Op, who};
 use snap_words::{MAX_ITEMS, Shape};
 use std::alloc::{AllocError, Global};
 
-/// A shape and items. Whether they are a schedule is seen when they are tried.
+/// A shape and items, which are known to be a schedule only once they are tried.
 #[derive(Drop)]
 pub(crate) struct Draft {
     pub(crate) shape: Shape,
     pub(crate) items: Vec<Item>,
 }
 
-/// The draft that a schedule is.
+/// Returns the draft of a schedule.
 pub(crate) fn draft_of(alloc: Global, schedule: &Schedule) -> Result<Draft, AllocError>
     ensures { IfOk result (λ d. drawn d ≡ schedule.now) }
 {
@@ -29,7 +29,7 @@ pub(crate) fn draft_of(alloc: Global, schedule: &Schedule) -> Result<Draft, Allo
     })
 }
 
-/// Whether the numbers of an operation have 64 bits, as they do.
+/// Returns whether the numbers of an operation have 64 bits, as they do.
 fn fits_words(op: Op) -> bool
     ensures { IsTrue result → FitsWords op }
 {
@@ -39,7 +39,7 @@ fn fits_words(op: Op) -> bool
     }
 }
 
-/// Whether the numbers of an item have 64 bits, as they do.
+/// Returns whether the numbers of an item have 64 bits, as they do.
 fn fits_item(item: Item) -> bool
     ensures { IsTrue result → FitsItem item }
 {
@@ -49,7 +49,7 @@ fn fits_item(item: Item) -> bool
     }
 }
 
-/// Whether a shape has the process of an item.
+/// Returns whether a shape has the process of an item.
 pub(crate) fn has_process(shape: Shape, item: Item) -> bool
     ensures { IsTrue result → IsOneOf shape.n (who item) }
 {
@@ -57,7 +57,7 @@ pub(crate) fn has_process(shape: Shape, item: Item) -> bool
     1 <= process && u64::from(process) <= shape.n()
 }
 
-/// Whether a schedule of a shape may have each of these items.
+/// Returns whether a schedule of `shape` may have each of `items`.
 fn may_have_all(shape: Shape, items: &[Item]) -> bool
     ensures processes { IsTrue result
         → AllByRecursion (λ x. IsOneOf shape.n (who x)) items.now }
@@ -71,7 +71,7 @@ fn may_have_all(shape: Shape, items: &[Item]) -> bool
     true
 }
 
-/// Whether these are the items of a schedule of a shape.
+/// Returns whether `items` are the items of a schedule of `shape`.
 pub(crate) fn is_schedule(shape: Shape, items: &[Item]) -> bool
     ensures { IsTrue result → IsSchedule (record { shape = shape; items = items.now }) }
 {
@@ -80,7 +80,7 @@ pub(crate) fn is_schedule(shape: Shape, items: &[Item]) -> bool
         && may_have_all(shape, items)
 }
 
-/// Whether a draft has no more processes, words and items than another.
+/// Returns whether a draft has no more processes, words and items than another.
 pub(crate) fn is_within(draft: &Draft, other: &Draft) -> bool
     ensures { IsTrue result → IsWithin (drawn draft.now) (drawn other.now) }
 {

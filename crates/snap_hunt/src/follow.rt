@@ -10,7 +10,7 @@ use snap_semantics::{Index, Instr, Item, Name, Range, who};
 use snap_words::{Bits, Kind, KindTag, Multi, Seq, Shape};
 use std::alloc::{AllocError, Global};
 
-/// Does an item, where the machine has its process.
+/// Does an item, if the machine has its process.
 fn apply<K: Kind>(machine: &mut Machine<K>, item: Item) -> Result<(), AllocError> {
     if has_process(machine.shape(), item) {
         let _outcome = machine.apply(item)?;
@@ -18,7 +18,7 @@ fn apply<K: Kind>(machine: &mut Machine<K>, item: Item) -> Result<(), AllocError
     Ok(())
 }
 
-/// The line at which the process of an item is.
+/// Returns the line at which the process of an item stands.
 fn line<K: Kind>(machine: &Machine<K>, item: Item) -> Option<u64> {
     if has_process(machine.shape(), item) {
         machine.line(who(item))
@@ -27,7 +27,7 @@ fn line<K: Kind>(machine: &Machine<K>, item: Item) -> Option<u64> {
     }
 }
 
-/// The local that an index is.
+/// Returns the local that an index is.
 fn scalar_of(index: Index) -> Option<Name> {
     match index {
         Index::Scalar(name) => Some(name),
@@ -35,7 +35,7 @@ fn scalar_of(index: Index) -> Option<Name> {
     }
 }
 
-/// The local that has the number of the process or the word that a line is about.
+/// Returns the local that has the number of the process or the word that a line is about.
 fn numbered_by(instr: &Instr) -> Option<(Range, Name)> {
     match instr {
         Instr::Get(_, _, j) => Some((Range::Words, scalar_of(*j)?)),
@@ -48,13 +48,13 @@ fn numbered_by(instr: &Instr) -> Option<(Range, Name)> {
     }
 }
 
-/// The line that the process of an item executes next.
+/// Returns the line that the process of an item executes next.
 fn instr<'a, K: Kind>(machine: &'a Machine<K>, item: Item) -> Option<&'a Instr> {
     let number = line(machine, item)?;
     machine.program().listing().instr(number)
 }
 
-/// The value of a local of the process of an item.
+/// Returns the value of a local of the process of an item.
 fn scalar<K: Kind>(machine: &Machine<K>, item: Item, name: Name) -> Option<u64> {
     if !has_process(machine.shape(), item) {
         return None;
@@ -65,7 +65,7 @@ fn scalar<K: Kind>(machine: &Machine<K>, item: Item, name: Name) -> Option<u64> 
     }
 }
 
-/// Whether a place is the one that is gone.
+/// Returns whether a place is the one that is gone.
 fn is_gone(number: u64, gone: Option<Place>) -> bool {
     match gone {
         Some(place) => place.number == number,
@@ -73,7 +73,7 @@ fn is_gone(number: u64, gone: Option<Place>) -> bool {
     }
 }
 
-/// Whether the line that the process of an item executes next is about what is gone.
+/// Returns whether the line that the process of an item executes next is about what is gone.
 fn is_about_gone<K: Kind>(machine: &Machine<K>, item: Item, gone: Gone) -> Option<bool> {
     let (range, name) = numbered_by(instr(machine, item)?)?;
     let number = scalar(machine, item, name)?;
@@ -83,8 +83,8 @@ fn is_about_gone<K: Kind>(machine: &Machine<K>, item: Item, gone: Gone) -> Optio
     }
 }
 
-/// Whether a machine is to go along with an item. It goes along with a step where its own process
-/// is at the same line, and the line is not about what is gone.
+/// Returns whether a machine is to go along with an item. It goes along with a step if its own
+/// process is at the same line, and the line is not about what is gone.
 fn goes_along<K: Kind>(
     leader: &Machine<K>,
     item: Item,
@@ -101,7 +101,7 @@ fn goes_along<K: Kind>(
     }
 }
 
-/// Does an item of a run, and its own in the one that goes along, where it does.
+/// Does an item of a run, and its own in the one that goes along, if it does.
 fn follow_item<K: Kind>(
     leader: &mut Machine<K>,
     machine: &mut Machine<K>,
@@ -118,7 +118,7 @@ fn follow_item<K: Kind>(
     apply(leader, item)
 }
 
-/// The items of the run that goes along with these.
+/// Returns the items of the run that goes along with `all`.
 fn follow_items<K: Kind>(
     alloc: Global,
     leader: &mut Machine<K>,
@@ -133,7 +133,7 @@ fn follow_items<K: Kind>(
     Ok(items)
 }
 
-/// The same for a kind.
+/// Returns the items of the run that goes along with that of a draft, for a kind.
 fn followed_in<K: Kind>(
     alloc: Global,
     program: &Program,
@@ -154,9 +154,9 @@ fn followed_in<K: Kind>(
     )
 }
 
-/// The items of a run of a smaller shape that goes along with that of a draft, line by line. It
-/// waits where the draft is at what is gone: in loops over the processes, for one, which end sooner
-/// here.
+/// Returns the items of a run of a smaller shape that goes along with that of a draft, line by
+/// line. The smaller run waits while the draft is at what is gone, for instance in loops over the
+/// processes, which end sooner in the smaller run.
 pub(crate) fn followed(
     alloc: Global,
     program: &Program,

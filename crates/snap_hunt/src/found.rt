@@ -1,5 +1,5 @@
 //! `Found`: a run that fails, by its number, and what fails in it.
-use snap_failure::Failure;
+use crate::failures::Failure;
 
 /// A run that fails, by its number, and what fails in it.
 #[derive(Clone, Copy)]

@@ -1,29 +1,29 @@
-//! `first_failing`: the first run that fails, of those that a seed gives; and `Watcher`, which is
-//! told how far the hunt has come.
+//! `first_failing`: the first run that fails, of the runs that a seed gives; and `Watcher`, which
+//! hears how far the hunt has come.
 ghost use Rattle.std.specs.Prelude.{◌≡◌, ◌+◌, ◌-◌, ◌<◌, ◌≤◌, ◌^◌, IfOk};
 ghost use Rattle.snap_hunt.specs.Hunt.{IsFirst};
 
 use crate::blocks::{find_each, first_of, numbers};
+use crate::failures::Wanted;
 use crate::found::Found;
 use snap_asm_program::Program;
 use snap_chance::Plan;
-use snap_failure::Wanted;
 use std::alloc::{AllocError, Global};
 use std::thread::Threads;
 
-/// How many runs are made before it is looked whether one has failed.
+/// How many runs are made before a test whether one has failed.
 const BLOCK: u64 = 1_024;
 
 /// Who is told how far a hunt has come.
 pub trait Watcher {
-    /// So many runs were made, of so many, none of which failed.
+    /// Hears that `runs` runs of `all` were made, none of which failed.
     fn tried(&mut self, runs: u64, all: u64);
 
-    /// The hunt is over.
+    /// Hears that the hunt is over.
     fn ended(&mut self);
 }
 
-/// The first of so many runs, from this one on, that fails.
+/// Returns the first of `count` runs, from `from` on, that fails.
 #[tactic(auto, using(crate::proofs::Sides::first_of_block, crate::proofs::Sides::as_many))]
 fn in_block(
     rt: &(impl Threads + Sync),
@@ -43,7 +43,7 @@ fn in_block(
     Ok(first_of(from, found.as_slice()))
 }
 
-/// The first run that fails, block by block.
+/// Returns the first run that fails, block by block.
 fn first_in_blocks<W: Watcher>(
     rt: &(impl Threads + Sync),
     alloc: Global,
@@ -70,12 +70,12 @@ fn first_in_blocks<W: Watcher>(
     Ok(None)
 }
 
-/// Returns the first run that fails, of so many that the seed gives, and what fails in it; none where
-/// nothing is found in any of them.
+/// Returns the first run that fails, of the first `runs` that `seed` gives, and what fails in it;
+/// `None` where no failure is found in any of them.
 ///
 /// # Errors
 ///
-/// There is no memory for them.
+/// `AllocError` where memory runs out.
 pub fn first_failing<W: Watcher>(
     rt: &(impl Threads + Sync),
     alloc: Global,

@@ -1,23 +1,34 @@
-//! The first run that fails, of those that a seed gives, and schedules whose runs fail, made small.
+//! What fails in a run, the first run that fails of those that a seed gives, and schedules whose
+//! runs fail, shrunk.
 #![tactic(auto)]
 
 mod alone;
 mod blocks;
 mod cuts;
 mod draft;
+mod failing;
+mod failures;
 mod follow;
 mod found;
 mod hunt;
+mod judged;
 mod narrow;
+mod operations;
 mod orders;
+mod over;
 mod parts;
 mod passes;
 mod places;
 mod shrink;
+mod step_bounds;
+mod steps;
 mod trials;
 mod values;
 
 pub use alone::first_failing_alone;
+pub use failures::{Failure, FailureKind, OwnSteps, StepBound, Wanted};
 pub use found::Found;
 pub use hunt::{Watcher, first_failing};
+pub use operations::steps_are_of_operations;
+pub use over::failure_over;
 pub use shrink::shrunk;

@@ -8,7 +8,7 @@ use crate::places::{Gone, all_gone, shape_left};
 use crate::trials::Shrinker;
 use std::alloc::AllocError;
 
-/// Whether a draft has fewer processes or words than another, and no more of anything.
+/// Returns whether a draft has fewer processes or words than another, and more of nothing.
 fn is_narrower(draft: &Draft, other: &Draft) -> bool
     ensures within { IsTrue result → IsWithin (drawn draft.now) (drawn other.now) }
     ensures fewer { IsTrue result → draft.now.shape.n + draft.now.shape.w
@@ -19,7 +19,7 @@ fn is_narrower(draft: &Draft, other: &Draft) -> bool
 }
 
 impl Shrinker<'_> {
-    /// A draft without a process or a word, where its run fails.
+    /// Returns a draft without a process or a word, if its run fails.
     fn without_place(&self, kept: &Draft, gone: Gone) -> Result<Option<Draft>, AllocError>
         ensures { IfOk result (λ found.
             IfSome found (Narrows self.now.program.now self.now.wanted.now (drawn kept.now))) }
@@ -36,7 +36,7 @@ impl Shrinker<'_> {
         }
     }
 
-    /// A draft of fewer processes or words whose run fails, where one is found.
+    /// Returns a draft of fewer processes or words whose run fails, if one is found.
     pub(crate) fn narrower(&self, kept: &Draft, owns: bool) -> Result<Option<Draft>, AllocError>
         ensures { IfOk result (λ found.
             IfSome found (Narrows self.now.program.now self.now.wanted.now (drawn kept.now))) }

@@ -1,5 +1,5 @@
-//! Puts the items of a failing schedule in another order, in which it changes less often from
-//! process to process; each process keeps the order of its own items.
+//! Orders of the items of a failing schedule that change less often from process to process; each
+//! process keeps the order of its own items.
 ghost use Rattle.std.specs.Prelude.{◌≤◌, length, IfSome};
 
 use snap_semantics::{Item, who};
@@ -13,7 +13,7 @@ struct Gap {
     to: usize,
 }
 
-/// Where the items of one process that stand at a place end.
+/// Returns where the items of one process that stand at a place end.
 fn turn_end(items: &[Item], at: usize) -> usize
     requires { at ≤ length items.now }
     ensures after { at ≤ result }
@@ -26,7 +26,7 @@ fn turn_end(items: &[Item], at: usize) -> usize
     end
 }
 
-/// The first place from this one on with an item of a process.
+/// Returns the first place from `from` on with an item of a process.
 fn next_turn(items: &[Item], from: usize, process: u32) -> Option<usize>
     ensures after { IfSome result (λ k. from ≤ k) }
     ensures inside { IfSome result (λ k. k ≤ length items.now) }
@@ -39,7 +39,7 @@ fn next_turn(items: &[Item], from: usize, process: u32) -> Option<usize>
     None
 }
 
-/// The gap behind the items of one process that begin at a place.
+/// Returns the gap behind the items of one process that begin at a place.
 fn gap_behind(items: &[Item], at: usize) -> Option<Gap>
     ensures { IfSome result (λ gap. (at ≤ gap.from) × (gap.from ≤ gap.to)
         × (gap.to ≤ length items.now)) }
@@ -52,7 +52,8 @@ fn gap_behind(items: &[Item], at: usize) -> Option<Gap>
     Some(Gap { from, to })
 }
 
-/// Items of which two neighbouring segments are exchanged: up to a place, and from it on.
+/// Returns a copy of the items in which two neighbouring segments are exchanged: up to place
+/// `middle`, and from it on.
 fn exchanged(
     alloc: Global,
     items: &[Item],
@@ -71,7 +72,8 @@ fn exchanged(
     Ok(other)
 }
 
-/// The next items of a process are taken to those that begin at a place.
+/// Returns a copy of the items in which the next items of a process stand directly behind those of
+/// the same process at a place.
 pub(crate) fn with_next_sooner(
     alloc: Global,
     items: &[Item],
@@ -83,7 +85,8 @@ pub(crate) fn with_next_sooner(
     }
 }
 
-/// The items of a process that begin at a place are taken to its next ones.
+/// Returns a copy of the items in which those of a process that begin at a place stand directly
+/// before its next ones.
 pub(crate) fn with_turn_later(
     alloc: Global,
     items: &[Item],
@@ -95,7 +98,7 @@ pub(crate) fn with_turn_later(
     }
 }
 
-/// How often an item is of another process than the one before it.
+/// Returns how often an item is of another process than the one before it.
 pub(crate) fn switches(items: &[Item]) -> usize {
     let mut count: usize = 0;
     for k in 1..items.len() {

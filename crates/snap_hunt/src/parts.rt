@@ -1,5 +1,5 @@
-//! Which items of a failing schedule are tried to be left out together, as `Cut`s: those of a
-//! process, of an operation, or of a segment.
+//! Which items of a failing schedule are left out together, as `Cut`s: those of a process, of an
+//! operation, or of a segment.
 ghost use Rattle.std.specs.Prelude.{◌<◌};
 
 use crate::cuts::Cut;
@@ -7,7 +7,7 @@ use snap_semantics::{Item, who};
 use snap_words::Shape;
 use std::alloc::{AllocError, Global};
 
-/// The items of each process.
+/// Returns the items of each process.
 pub(crate) fn processes(alloc: Global, shape: Shape) -> Result<Vec<Cut>, AllocError> {
     let mut cuts = Vec::new(alloc);
     for k in 0..shape.process_count() {
@@ -20,12 +20,12 @@ pub(crate) fn processes(alloc: Global, shape: Shape) -> Result<Vec<Cut>, AllocEr
     Ok(cuts)
 }
 
-/// How many of the items are those of a process.
+/// Returns how many of the items are those of a process.
 pub(crate) fn turns_of(items: &[Item], process: u32) -> usize {
     items.iter().filter(|item| who(**item) == process).count()
 }
 
-/// How many items of a process stand before its next call.
+/// Returns how many items of a process stand before its next call.
 fn turns_to_call(items: &[Item], process: u32) -> usize {
     let mut turns: usize = 0;
     for item in items {
@@ -37,8 +37,8 @@ fn turns_to_call(items: &[Item], process: u32) -> usize {
     turns
 }
 
-/// The operation that the item at a place calls, where it is a call: its process's items up to its
-/// next call.
+/// Returns the operation that the item at a place calls, if it is a call: its process's items up to
+/// its next call.
 fn operation_at(items: &[Item], at: usize) -> Option<Cut> {
     let (before, rest) = items.split_at_checked(at)?;
     let (call, behind) = rest.split_first()?;
@@ -52,7 +52,7 @@ fn operation_at(items: &[Item], at: usize) -> Option<Cut> {
     })
 }
 
-/// The operations that are called.
+/// Returns the operations that are called.
 pub(crate) fn operations(alloc: Global, items: &[Item]) -> Result<Vec<Cut>, AllocError> {
     let mut cuts = Vec::new(alloc);
     for at in 0..items.len() {
@@ -63,7 +63,7 @@ pub(crate) fn operations(alloc: Global, items: &[Item]) -> Result<Vec<Cut>, Allo
     Ok(cuts)
 }
 
-/// The segments of so many items, one behind another.
+/// Returns the segments of `size` items, one behind another.
 pub(crate) fn segments(alloc: Global, items: &[Item], size: usize) -> Result<Vec<Cut>, AllocError>
     requires { 0 < size }
 {
@@ -76,7 +76,7 @@ pub(crate) fn segments(alloc: Global, items: &[Item], size: usize) -> Result<Vec
     Ok(cuts)
 }
 
-/// Adds the segments of so many items of a process, which has so many.
+/// Appends the segments of `size` items of a process, which has `turns` items.
 fn push_turns(
     cuts: &mut Vec<Cut>,
     process: u32,
@@ -97,7 +97,7 @@ fn push_turns(
     Ok(())
 }
 
-/// The segments of so many items of each process, whatever stands between them.
+/// Returns the segments of `size` items of each process, whatever stands between them.
 pub(crate) fn turns(
     alloc: Global,
     shape: Shape,

@@ -1,5 +1,5 @@
 //! The passes that shrink a failing schedule: they leave items out, bring those of a process
-//! together, and make values plain. After each the run still fails.
+//! together, and make values plain. After each of them the run still fails.
 ghost use Rattle.std.specs.Prelude.{◌<◌, IfOk};
 ghost use Rattle.snap_hunt.specs.Shrinking.{Fails, IsSmall, Shrinks, drawn};
 
@@ -13,7 +13,7 @@ use snap_semantics::Item;
 use std::alloc::AllocError;
 
 impl Shrinker<'_> {
-    /// These items, where they are fewer and their run fails.
+    /// Returns `items`, if they are fewer and their run fails, or else `kept`.
     #[tactic(auto, using(crate::proofs::Cutting::itself))]
     fn fewer(&self, kept: Draft, items: Vec<Item>) -> Result<Draft, AllocError>
         requires { Fails self.now.program.now self.now.wanted.now kept.shape kept.items.items }
@@ -28,8 +28,7 @@ impl Shrinker<'_> {
         }
     }
 
-    /// Leaves out each of these parts without which the run still fails, from the last to the
-    /// first.
+    /// Leaves out each of `cuts` without which the run still fails, from the last to the first.
     #[tactic(auto, using(crate::proofs::Cutting::itself, crate::proofs::Cutting::onward))]
     fn drop_cuts(&self, draft: Draft, cuts: &[Cut]) -> Result<Draft, AllocError>
         requires { Fails self.now.program.now self.now.wanted.now draft.shape draft.items.items }
@@ -57,7 +56,7 @@ impl Shrinker<'_> {
         self.drop_cuts(fewer, called.as_slice())
     }
 
-    /// Leaves out segments of so many items, of all and of each process.
+    /// Leaves out segments of `size` items, of all and of each process.
     #[tactic(auto, using(crate::proofs::Cutting::itself, crate::proofs::Cutting::onward))]
     fn drop_segments_of(&self, draft: Draft, size: usize) -> Result<Draft, AllocError>
         requires fails { Fails self.now.program.now self.now.wanted.now draft.shape draft.items.items }
@@ -74,7 +73,7 @@ impl Shrinker<'_> {
         self.drop_cuts(fewer, own.as_slice())
     }
 
-    /// Leaves out segments of at least so many items, long ones first.
+    /// Leaves out segments of at least `least` items, long ones first.
     #[tactic(auto, using(crate::proofs::Cutting::itself, crate::proofs::Cutting::onward))]
     pub(crate) fn drop_segments(&self, draft: Draft, least: usize) -> Result<Draft, AllocError>
         requires fails { Fails self.now.program.now self.now.wanted.now draft.shape draft.items.items }
@@ -108,8 +107,8 @@ impl Shrinker<'_> {
         Ok(Draft { shape, items })
     }
 
-    /// These items, where there are some, they change less often from process to process, and their
-    /// run fails.
+    /// Returns `items`, if there are some that change less often from process to process and whose
+    /// run fails, or else `kept`.
     #[tactic(auto, using(crate::proofs::Cutting::itself))]
     fn calmer(&self, kept: Draft, items: Option<Vec<Item>>) -> Result<Draft, AllocError>
         requires { Fails self.now.program.now self.now.wanted.now kept.shape kept.items.items }
@@ -161,7 +160,7 @@ impl Shrinker<'_> {
         Ok(kept)
     }
 
-    /// Gives updates plain values, where the run still fails.
+    /// Makes the values of updates plain, if the run still fails.
     pub(crate) fn make_plain(&self, draft: Draft) -> Result<Draft, AllocError>
         requires { Fails self.now.program.now self.now.wanted.now draft.shape draft.items.items }
         ensures { IfOk result (λ d.

@@ -1,5 +1,5 @@
-//! `Gone`: a process or a word that a failing schedule's shape may do without, and shapes and items
-//! without it.
+//! `Gone`: a process or a word that the shape of a failing schedule may do without, and shapes and
+//! items without it.
 ghost use Rattle.std.specs.Prelude.{◌≤◌};
 
 use snap_semantics::{Item, Op};
@@ -7,7 +7,7 @@ use snap_words::Shape;
 use std::alloc::{AllocError, Global};
 
 /// A process or a word that is left out. What is done by it, or to it, is left out too, or falls to
-/// another one.
+/// another one, its heir.
 #[derive(Clone, Copy)]
 pub(crate) struct Place {
     pub(crate) number: u64,
@@ -21,7 +21,7 @@ pub(crate) struct Gone {
     pub(crate) word: Option<Place>,
 }
 
-/// A place of so many that is left out, with each heir.
+/// Appends a place of `count` that is left out, with each heir.
 fn push_heirs(places: &mut Vec<Place>, number: u64, count: u64) -> Result<(), AllocError> {
     places.push(Place { number, heir: None })?;
     for k in 0..count {
@@ -35,7 +35,7 @@ fn push_heirs(places: &mut Vec<Place>, number: u64, count: u64) -> Result<(), Al
     Ok(())
 }
 
-/// Each of so many places that may be left out, with each heir.
+/// Returns each of `count` places that may be left out, with each heir.
 fn places(alloc: Global, count: u64) -> Result<Vec<Place>, AllocError> {
     let mut places = Vec::new(alloc);
     for k in 0..count {
@@ -44,7 +44,7 @@ fn places(alloc: Global, count: u64) -> Result<Vec<Place>, AllocError> {
     Ok(places)
 }
 
-/// Adds the words that may be left out by themselves.
+/// Appends the words that may be left out by themselves.
 fn push_words(all: &mut Vec<Gone>, words: &[Place]) -> Result<(), AllocError> {
     for word in words {
         all.push(Gone {
@@ -55,7 +55,8 @@ fn push_words(all: &mut Vec<Gone>, words: &[Place]) -> Result<(), AllocError> {
     Ok(())
 }
 
-/// What may be left out of a shape: a process, with its word where it owns one, else also a word.
+/// Returns what may be left out of a shape: a process, with its word if it owns one, or else also a
+/// word.
 pub(crate) fn all_gone(alloc: Global, shape: Shape, owns: bool) -> Result<Vec<Gone>, AllocError> {
     let mut all = Vec::new(alloc);
     for place in places(alloc, shape.n())?.as_slice() {
@@ -70,19 +71,19 @@ pub(crate) fn all_gone(alloc: Global, shape: Shape, owns: bool) -> Result<Vec<Go
     Ok(all)
 }
 
-/// A count, without the place that is gone.
+/// Returns a count, without the place that is gone.
 fn count_left(count: u64, gone: Option<Place>) -> u64 {
     count.saturating_sub(u64::from(gone.is_some()))
 }
 
-/// A shape without what is gone.
+/// Returns a shape without what is gone.
 pub(crate) fn shape_left(shape: Shape, gone: Gone) -> Option<Shape> {
     let n = count_left(shape.n(), gone.process);
     let w = count_left(shape.w(), gone.word);
     Shape::new(n, w).ok()
 }
 
-/// The number of another place once one is gone.
+/// Returns the number of another place once one is gone.
 fn closed_up(number: u64, gone: Place) -> u64
     ensures { result ≤ number }
 {
@@ -93,7 +94,7 @@ fn closed_up(number: u64, gone: Place) -> u64
     }
 }
 
-/// The number of a place once one is gone: where it is that one, the number of its heir.
+/// Returns the number of a place once one is gone; for that one, the number of its heir.
 fn number_left(number: u64, gone: Option<Place>) -> Option<u64> {
     match gone {
         Some(gone) if gone.number == number => Some(closed_up(gone.heir?, gone)),
@@ -102,12 +103,12 @@ fn number_left(number: u64, gone: Option<Place>) -> Option<u64> {
     }
 }
 
-/// The number of a process.
+/// Returns the number of a process.
 fn process_left(process: u32, gone: Gone) -> Option<u32> {
     u32::try_from(number_left(u64::from(process), gone.process)?).ok()
 }
 
-/// An operation without what is gone; none where it is an update of a word with no heir.
+/// Returns an operation without what is gone; `None` for an update of a word with no heir.
 fn op_left(op: Op, gone: Gone) -> Option<Op> {
     match op {
         Op::Scan => Some(Op::Scan),
@@ -118,7 +119,7 @@ fn op_left(op: Op, gone: Gone) -> Option<Op> {
     }
 }
 
-/// An item without what is gone; none where it is of a process or a word with no heir.
+/// Returns an item without what is gone; `None` for one of a process or a word with no heir.
 pub(crate) fn item_left(item: Item, gone: Gone) -> Option<Item> {
     match item {
         Item::Step(process) => Some(Item::Step(process_left(process, gone)?)),

@@ -1,20 +1,21 @@
-//! `shrunk`: makes a schedule whose run fails small, until no item of it can be left out.
+//! `shrunk`: shrinks a schedule whose run fails, until no item of it can be left out.
 ghost use Rattle.std.specs.Prelude.{IfOk};
 ghost use Rattle.snap_hunt.specs.Shrinking.{Fails, IsShrunk, drawn};
 
 use crate::cuts::schedule_with;
 use crate::draft::{Draft, draft_of};
+use crate::failures::Wanted;
 use crate::trials::Shrinker;
 use snap_asm_program::Program;
-use snap_failure::Wanted;
 use snap_sched::Schedule;
 use std::alloc::{AllocError, Global};
 
-/// Segments of at least so many items are left out first: a long schedule gets short soon.
+/// Segments of at least this many items are left out first, so that a long schedule gets short
+/// soon.
 const LONG: usize = 256;
 
 impl Shrinker<'_> {
-    /// Each way once, single items last.
+    /// Shrinks a draft in each way once, single items last.
     #[tactic(auto, using(crate::proofs::Cutting::onward, crate::proofs::Cutting::onward_small))]
     fn made_smaller(&self, draft: Draft) -> Result<Draft, AllocError>
         requires { Fails self.now.program.now self.now.wanted.now draft.shape draft.items.items }
@@ -30,7 +31,7 @@ impl Shrinker<'_> {
         self.drop_items(plain)
     }
 
-    /// Each way, until they lead to no fewer items.
+    /// Shrinks a draft in each way, until none leads to fewer items.
     #[tactic(auto, using(crate::proofs::Cutting::onward, crate::proofs::Cutting::onward_small))]
     fn made_small(&self, draft: Draft) -> Result<Draft, AllocError>
         requires { Fails self.now.program.now self.now.wanted.now draft.shape draft.items.items }
@@ -47,9 +48,13 @@ impl Shrinker<'_> {
     }
 }
 
-/// Returns a schedule whose run fails too, of no more processes, words and items than this one.
+/// Returns a schedule whose run fails too, of no more processes, words and items than `schedule`.
 /// Without any one of its items the run does not fail. `owns` says whether each process has a word
-/// of its own, which goes when it goes.
+/// of its own, which is left out with the process.
+///
+/// # Errors
+///
+/// `AllocError` where memory runs out.
 #[tactic(auto, using(crate::proofs::Cutting::onward, crate::proofs::Cutting::onward_small))]
 pub fn shrunk(
     alloc: Global,

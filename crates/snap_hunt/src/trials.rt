@@ -7,8 +7,9 @@ ghost use Rattle.snap_hunt.specs.Shrinking.{drawn, without};
 
 use crate::cuts::{schedule_with, without};
 use crate::draft::{Draft, is_schedule, is_within};
+use crate::failures::Wanted;
+use crate::over::failure_over;
 use snap_asm_program::Program;
-use snap_failure::{Wanted, failure_over};
 use snap_semantics::Item;
 use snap_words::Shape;
 use std::alloc::{AllocError, Global};
@@ -22,7 +23,7 @@ pub(crate) struct Shrinker<'a> {
 }
 
 impl Shrinker<'_> {
-    /// Whether anything fails in the run over these items.
+    /// Returns whether anything fails in the run over `items`.
     #[tactic(auto, using(crate::proofs::Cutting::told))]
     fn fails_with(&self, shape: Shape, items: &[Item]) -> Result<bool, AllocError>
         requires { IsSchedule (record { shape = shape; items = items.now }) }
@@ -33,7 +34,7 @@ impl Shrinker<'_> {
         Ok(failure_over(self.alloc, self.program, &schedule, self.wanted)?.is_some())
     }
 
-    /// Whether a draft is a schedule whose run fails.
+    /// Returns whether a draft is a schedule whose run fails.
     #[tactic(auto, using(crate::proofs::Cutting::fails_by))]
     pub(crate) fn still_fails(&self, draft: &Draft) -> Result<bool, AllocError>
         ensures { IfOk result (λ b. IsTrue b
@@ -46,7 +47,7 @@ impl Shrinker<'_> {
         self.fails_with(draft.shape, draft.items.as_slice())
     }
 
-    /// Another draft, where it is no larger than this one and its run fails; else this one.
+    /// Returns `other` if it is no larger than `kept` and its run fails, or else `kept`.
     #[tactic(auto, using(crate::proofs::Cutting::itself))]
     pub(crate) fn better(&self, kept: Draft, other: Draft) -> Result<Draft, AllocError>
         requires { Fails self.now.program.now self.now.wanted.now kept.shape kept.items.items }
@@ -60,7 +61,7 @@ impl Shrinker<'_> {
         }
     }
 
-    /// The first item without which the run still fails.
+    /// Returns the first item without which the run still fails.
     #[tactic(auto, using(crate::proofs::Cutting::left_schedule, crate::proofs::Cutting::told_so, crate::proofs::Cutting::told_not))]
     pub(crate) fn removable(
         &self,

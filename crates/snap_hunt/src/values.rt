@@ -3,7 +3,7 @@
 use snap_semantics::{Item, Op};
 use std::alloc::{AllocError, Global};
 
-/// The number of a value, as values come first; 0 keeps its own.
+/// Returns the number of a value, as values come first; 0 keeps its own.
 fn number_of(seen: &mut Vec<u64>, value: u64) -> Result<u64, AllocError> {
     if value == 0 {
         return Ok(0);
@@ -17,7 +17,7 @@ fn number_of(seen: &mut Vec<u64>, value: u64) -> Result<u64, AllocError> {
     Ok(seen.len() as u64)
 }
 
-/// An item with the number of its value in place of that.
+/// Returns an item with the number of its value in place of the value.
 fn with_plain_value(seen: &mut Vec<u64>, item: Item) -> Result<Item, AllocError> {
     match item {
         Item::Call(process, Op::Update { word, value }) => {
@@ -28,7 +28,7 @@ fn with_plain_value(seen: &mut Vec<u64>, item: Item) -> Result<Item, AllocError>
     }
 }
 
-/// Items with the numbers 1, 2 and so on as values: the same for the same, and 0 for 0.
+/// Returns the items with the numbers 1, 2 and so on as values: the same for the same, and 0 for 0.
 pub(crate) fn with_plain_values(alloc: Global, items: &[Item]) -> Result<Vec<Item>, AllocError> {
     let mut seen = Vec::new(alloc);
     let mut plain = Vec::new(alloc);

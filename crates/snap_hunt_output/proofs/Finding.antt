@@ -16,12 +16,12 @@ use Rattle.snap_semantics.specs.Source.{Source}
 use Rattle.snap_runs.specs.Run.{Run, run_over}
 use Rattle.snap_chance.specs.Chance.{schedule_of}
 use Rattle.snap_chance.specs.Plan.{Plan}
-use Rattle.snap_failure.specs.Finding.{Finds}
-use Rattle.snap_failure.specs.Kinds.{kind_of, with_only}
-use Rattle.snap_failure.specs.declared.failures.Failure.{Failure}
-use Rattle.snap_failure.specs.declared.failures.FailureKind.{FailureKind}
-use Rattle.snap_failure.specs.declared.failures.Wanted.{Wanted}
-use Rattle.snap_failure.proofs.Alike.{alike}
+use Rattle.snap_hunt.specs.Finding.{Finds}
+use Rattle.snap_hunt.specs.Kinds.{kind_of, with_only}
+use Rattle.snap_hunt.specs.declared.failures.Failure.{Failure}
+use Rattle.snap_hunt.specs.declared.failures.FailureKind.{FailureKind}
+use Rattle.snap_hunt.specs.declared.failures.Wanted.{Wanted}
+use Rattle.snap_hunt.proofs.Alike.{alike}
 use Rattle.snap_hunt.specs.Hunt.{IsFirst, run_of}
 use Rattle.snap_hunt.specs.Shrinking.{Fails, FailsWith, IsShrunk}
 use Rattle.snap_hunt.specs.declared.found.Found.{Found}
@@ -85,7 +85,7 @@ pub hunted_by : (text : List ℕ) (a : Asked) (l : Source) (h : Hunted) →
     asked_source text a ≡ Ok l → IsHuntedOf l text a h → IsHunted text a h
 hunted_by text a l h is hunted = record { listing = l; is = is; hunted = hunted }
 
--- that none of the runs fails
+-- none of the runs fails
 pub none_by : (l : Source) (a : Asked) (p : Plan) (r : Option Found) → p ≡ owned l.kind a.plan →
     IsFirst l p a.wanted a.seed 0 a.runs r → r ≡ None → IsFirstOf l a None
 none_by l a p r plan first none =

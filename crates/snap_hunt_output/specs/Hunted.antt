@@ -12,11 +12,11 @@ use Rattle.snap_semantics.specs.declared.refusal.Refusal.TheVariants as refusal
 use Rattle.snap_runs.specs.Run.{Run, run_over}
 use Rattle.snap_chance.specs.Chance.{schedule_of}
 use Rattle.snap_chance.specs.Plan.{Plan}
-use Rattle.snap_failure.specs.Finding.{Finds}
-use Rattle.snap_failure.specs.Kinds.{kind_of, with_only}
-use Rattle.snap_failure.specs.declared.failures.Failure.{Failure}
-use Rattle.snap_failure.specs.declared.failures.FailureKind.{FailureKind}
-use Rattle.snap_failure.specs.declared.failures.Wanted.{Wanted}
+use Rattle.snap_hunt.specs.Finding.{Finds}
+use Rattle.snap_hunt.specs.Kinds.{kind_of, with_only}
+use Rattle.snap_hunt.specs.declared.failures.Failure.{Failure}
+use Rattle.snap_hunt.specs.declared.failures.FailureKind.{FailureKind}
+use Rattle.snap_hunt.specs.declared.failures.Wanted.{Wanted}
 use Rattle.snap_hunt.specs.Hunt.{IsFirst}
 use Rattle.snap_hunt.specs.declared.found.Found.{Found}
 use Rattle.snap_hunt.specs.Shrinking.{IsShrunk}
@@ -47,8 +47,8 @@ pub record IsPrinted (l : Source) (p : Plan) (text : List ℕ) (a : Asked) (k : 
 abbrev pub Says : Wanted → List ℕ → Failure → Type 0
 Says w input f = (r : Run) × (run_in_input input ≡ Ok r) × Finds w r (Some f)
 
--- This is the first run that fails, and the input is the text of a small schedule in whose run a failure of the same
--- kind is found. Read as the debugger reads it, it has a run that fails so.
+-- A run is the first one that fails, and the input is the text of a small schedule in whose run a failure of the same
+-- kind is found. Read as the debugger reads it, the input has a run that fails so.
 pub record IsFound (l : Source) (text : List ℕ) (a : Asked) (k : ℕ) (f : Failure) (input : List ℕ) : Type 0 where
   pub found : Failure
   pub first : IsFirstOf l a (Some (record { run = k; failure = found }))

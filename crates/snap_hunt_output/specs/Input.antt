@@ -9,9 +9,9 @@ use Rattle.snap_report.specs.OutcomeText.{outcome_text}
 use Rattle.snap_audit.specs.VerdictText.{verdict_line}
 use Rattle.snap_debug_commands.specs.CommandForms.{spelled_command}
 use Rattle.snap_debug_commands.specs.declared.command.Command.TheVariants.{Goto}
-use Rattle.snap_failure.specs.declared.failures.Failure.{Failure}
-use Rattle.snap_failure.specs.declared.failures.Failure.TheVariants as failure
-use Rattle.snap_failure.specs.declared.failures.OwnSteps.{OwnSteps}
+use Rattle.snap_hunt.specs.declared.failures.Failure.{Failure}
+use Rattle.snap_hunt.specs.declared.failures.Failure.TheVariants as failure
+use Rattle.snap_hunt.specs.declared.failures.OwnSteps.{OwnSteps}
 
 -- whether the last line of a text has its line feed
 abbrev pub ends_line : List ℕ → Bool

@@ -1,12 +1,12 @@
-//! `Asked`: what a hunt is asked for; and its plan, suited to the kind of the listing.
+//! `Asked`: the input of a hunt; and its plan, suited to the kind of the listing.
 ghost use Rattle.std.specs.Prelude.{◌≡◌};
 ghost use Rattle.snap_hunt_output.specs.Asked.{fits_kind, owned, owns_words};
 
 use snap_chance::Plan;
-use snap_failure::Wanted;
+use snap_hunt::Wanted;
 use snap_words::{KindTag, Shape};
 
-/// What a hunt is asked for.
+/// The plan of a hunt and the failures that it looks for.
 #[derive(Clone, Copy)]
 pub struct Asked {
     pub plan: Plan,
@@ -15,7 +15,7 @@ pub struct Asked {
     pub runs: u64,
 }
 
-/// Whether a kind has a word for each process.
+/// Returns whether a kind has a word for each process.
 fn owns_words(kind: KindTag) -> bool
     ensures { result ≡ owns_words kind }
 {
@@ -25,14 +25,14 @@ fn owns_words(kind: KindTag) -> bool
     }
 }
 
-/// Whether a shape fits a kind.
+/// Returns whether a shape fits a kind.
 pub(crate) fn fits_kind(kind: KindTag, shape: Shape) -> bool
     ensures { result ≡ fits_kind kind shape }
 {
     !owns_words(kind) || shape.n() == shape.w()
 }
 
-/// The plan for the listings of a kind.
+/// Returns the plan for the listings of a kind.
 pub(crate) fn owned(kind: KindTag, plan: &Plan) -> Plan
     ensures { result ≡ owned kind plan.now }
 {

@@ -1,5 +1,5 @@
-//! `run_in_input`: the run that an input asks for, which is read as the debugger reads it; a hunt
-//! looks in it for what it is to print.
+//! `run_in_input`: the run of an input, which is read as the debugger reads it; a hunt looks in it
+//! for what it is to print.
 ghost use Rattle.std.specs.Prelude.{◌≡◌, ◌<◌, ◌≤◌, length, map};
 ghost use Rattle.snap_runs.specs.Run.{run_over};
 ghost use Rattle.snap_semantics.specs.Answers.{Answers, refused_as};
@@ -34,7 +34,7 @@ fn commands_in(alloc: Global, text: &[u8]) -> Result<Vec<Command>, Fault<Refusal
     Ok(read_commands(alloc, text)?)
 }
 
-/// The schedule that a text is, for a program, where another text has commands.
+/// Returns the schedule of a text, for a program, where another text has commands.
 #[tactic(auto, unfolding(crate::specs::Check::run_under))]
 fn schedule_under(
     alloc: Global,
@@ -50,7 +50,7 @@ fn schedule_under(
     Ok(schedule)
 }
 
-/// The same of the texts behind a listing.
+/// Returns the schedule of the texts behind a listing.
 fn schedule_in_texts(
     alloc: Global,
     program: &Program,
@@ -63,11 +63,12 @@ fn schedule_in_texts(
     schedule_under(alloc, program, texts[0], texts[1])
 }
 
-/// Returns the run that an input asks for: a listing, a schedule and debugger commands.
+/// Returns the run of `input`: a listing, a schedule and debugger commands.
 ///
 /// # Errors
 ///
-/// The input is refused as the debugger refuses it, or there is no memory for it.
+/// `Refused` with the reason for which the debugger refuses `input`; `Memory` where memory runs
+/// out.
 #[tactic(auto, unfolding(snap_input::specs::Input::parted, crate::specs::Check::run_in_input))]
 pub fn run_in_input(alloc: Global, input: &[u8]) -> Result<InputRun, Fault<Refusal>>
     requires { length input.now ≤ 16777216 }

@@ -2,8 +2,8 @@
 //! that does, with the input of a small run that fails too.
 ghost use Rattle.std.specs.Prelude.{◌≡◌, ◌<◌, ◌^◌, IfErr, IfOk, OnOk, Some};
 ghost use Rattle.snap_runs.specs.Run.{run_over};
-ghost use Rattle.snap_failure.specs.Finding.{Finds};
-ghost use Rattle.snap_failure.specs.Kinds.{kind_of};
+ghost use Rattle.snap_hunt.specs.Finding.{Finds};
+ghost use Rattle.snap_hunt.specs.Kinds.{kind_of};
 ghost use Rattle.snap_semantics.specs.Answers.{Answers};
 ghost use Rattle.snap_hunt.specs.Hunt.{IsFirst, run_of};
 ghost use Rattle.snap_hunt_output.specs.Asked.{owned};
@@ -15,9 +15,10 @@ use crate::check::{InputRun, run_in_input};
 use crate::input::input_text;
 use snap_asm_program::Program;
 use snap_chance::{Plan, schedule_of};
-use snap_failure::{Failure, Wanted, failure_over};
 use snap_faults::ProgramFault;
-use snap_hunt::{Found, Watcher, first_failing, first_failing_alone, shrunk};
+use snap_hunt::{
+    Failure, Found, Wanted, Watcher, failure_over, first_failing, first_failing_alone, shrunk,
+};
 use snap_input::{MAX_INPUT, program_of};
 use snap_semantics::{Fault, Refusal};
 use snap_words::WordFault;
@@ -29,7 +30,7 @@ use std::thread::Threads;
 pub enum Hunted {
     /// None of the runs fails.
     NoneFails,
-    /// This run is the first that fails. The input has a small run that fails so.
+    /// This run is the first that fails. The input has a small run that fails in the same way.
     Fails {
         run: u64,
         failure: Failure,
@@ -44,7 +45,7 @@ struct SmallInput {
     input: Vec<u8>,
 }
 
-/// The input of a small run that fails in the same way as the one that was found.
+/// Returns the input of a small run that fails in the same way as the one that was found.
 #[tactic(auto, using(crate::proofs::Finding::fails_over, crate::proofs::Finding::printed_by))]
 fn small_input(
     alloc: Global,
@@ -75,7 +76,7 @@ fn small_input(
     }
 }
 
-/// Sees that this is what fails in the run of a program over a schedule.
+/// Checks that `failure` is what fails in the run.
 fn check_run(
     alloc: Global,
     read: &InputRun,
@@ -113,8 +114,8 @@ fn check(
     }
 }
 
-/// What a hunt comes to in which this is the first run that fails, or none does: a small run that
-/// fails too, as an input.
+/// Returns the result of a hunt whose first failing run is this one, or that has none: a small run
+/// that fails too, as an input.
 #[tactic(auto, using(crate::proofs::Finding::fault_by, crate::proofs::Finding::found_by, crate::proofs::Finding::none_by))]
 fn hunted_of(
     alloc: Global,
@@ -144,8 +145,8 @@ fn hunted_of(
     })
 }
 
-/// The first of the runs of a program that fails, as an input of a small run that fails too;
-/// or that none of them does.
+/// Returns the first of the runs of a program that fails, as an input of a small run that fails
+/// too; or that none of them does.
 fn hunt_program<W: Watcher>(
     rt: &(impl Threads + Sync),
     alloc: Global,
@@ -172,7 +173,8 @@ fn hunt_program<W: Watcher>(
     hunted_of(alloc, listing, program, &plan, asked, found)
 }
 
-/// The same without threads.
+/// Returns the first of the runs of a program that fails, as an input of a small run that fails
+/// too, or that none does, found without threads.
 fn hunt_program_alone(
     alloc: Global,
     listing: &[u8],
@@ -188,7 +190,7 @@ fn hunt_program_alone(
     hunted_of(alloc, listing, program, &plan, asked, found)
 }
 
-/// The program of a listing that is asked for, where the shape fits its kind.
+/// Returns the program of a listing, if the shape fits its kind.
 fn asked_program(alloc: Global, listing: &[u8], asked: &Asked) -> Result<Program, Fault<Refusal>>
     ensures { Answers (λ p. p) result (asked_source listing.now asked.now) }
 {
@@ -199,9 +201,13 @@ fn asked_program(alloc: Global, listing: &[u8], asked: &Asked) -> Result<Program
     Ok(program)
 }
 
-/// The first of the runs of a listing that fails, as an input of a small run that fails too; or
-/// that none of them does. A listing is refused as it is elsewhere, and where the shape does not
-/// fit its kind.
+/// Returns the first of the runs of `listing` that fails, as an input of a small run that fails
+/// too; or that none of them does.
+///
+/// # Errors
+///
+/// The reason why `listing` is refused, as elsewhere or because the shape does not fit its kind;
+/// `Memory` where memory runs out.
 #[tactic(auto, using(crate::proofs::Finding::hunted_by, crate::proofs::Finding::due_by))]
 pub fn hunt_listing<W: Watcher>(
     rt: &(impl Threads + Sync),
@@ -218,12 +224,12 @@ pub fn hunt_listing<W: Watcher>(
     hunt_program(rt, alloc, listing, &program, asked, watcher)
 }
 
-/// Returns what a hunt comes to that is made in one thread, which is what `hunt_listing` returns.
+/// Returns what `hunt_listing` returns, found in one thread.
 ///
 /// # Errors
 ///
-/// The listing is refused as it is elsewhere, and where the shape does not fit its kind; or there is
-/// no memory.
+/// The reason why `listing` is refused, as elsewhere or because the shape does not fit its kind;
+/// `Memory` where memory runs out.
 #[tactic(auto, using(crate::proofs::Finding::hunted_by, crate::proofs::Finding::due_by))]
 pub fn hunt_alone(alloc: Global, listing: &[u8], asked: &Asked) -> Result<Hunted, ProgramFault>
     requires { asked.now.runs < 2 ^ 63 }

@@ -6,21 +6,21 @@ ghost use Rattle.snap_hunt_output.specs.Input.{listing_part, order_line, run_not
 
 use snap_audit::push_verdict_line;
 use snap_debug_commands::{Command, push_command};
-use snap_failure::{Failure, OwnSteps};
+use snap_hunt::{Failure, OwnSteps};
 use snap_report::outcome_text;
 use snap_sched::{Schedule, print};
 use snap_semantics::Outcome;
 use snap_text::{push_number, push_text};
 use std::alloc::{AllocError, Global};
 
-/// Whether the last line of a text has its line feed.
+/// Returns whether the last line of a text has its line feed.
 fn ends_line(text: &[u8]) -> bool
     ensures { result ≡ ends_line text.now }
 {
     !text.is_empty() && text[text.len() - 1] == b'\n'
 }
 
-/// The text of a listing, with a line feed behind its last line.
+/// Appends the text of a listing, with a line feed behind its last line.
 fn push_listing(out: &mut Vec<u8>, listing: &[u8]) -> Result<(), AllocError>
     ensures { OnOk result (out.new.items ≡ out.old.items ++ listing_part listing.now) }
 {
@@ -31,7 +31,7 @@ fn push_listing(out: &mut Vec<u8>, listing: &[u8]) -> Result<(), AllocError>
     push_text(out, b"\n")
 }
 
-/// `scan I call C step N item T`, or `update` where it is one.
+/// Appends `scan I call C step N item T`, or `update` if it is one.
 #[tactic(auto, using(snap_text::proofs::Texts::joined))]
 fn steps_line(out: &mut Vec<u8>, process: u32, item: u64, own: &OwnSteps) -> Result<(), AllocError>
     ensures { OnOk result (out.new.items ≡ out.old.items ++ steps_line process item own.now) }
@@ -48,7 +48,7 @@ fn steps_line(out: &mut Vec<u8>, process: u32, item: u64, own: &OwnSteps) -> Res
     push_text(out, b"\n")
 }
 
-/// `not linearizable: event T process I`.
+/// Appends `not linearizable: event T process I`.
 #[tactic(auto, using(snap_text::proofs::Texts::joined))]
 fn order_line(out: &mut Vec<u8>, process: u32, item: u64) -> Result<(), AllocError>
     ensures { OnOk result (out.new.items ≡ out.old.items ++ order_line process item) }
@@ -60,8 +60,8 @@ fn order_line(out: &mut Vec<u8>, process: u32, item: u64) -> Result<(), AllocErr
     push_text(out, b"\n")
 }
 
-/// What fails: the event at which a run is not linearizable any more, a verdict as an audit has it,
-/// the trap of a process, or a step too many.
+/// Appends what fails: the event at which a run stops being linearizable, a verdict as an audit has
+/// it, the trap of a process, or a step too many.
 #[tactic(auto, using(snap_text::proofs::Texts::joined))]
 pub(crate) fn failure_line(out: &mut Vec<u8>, failure: &Failure) -> Result<(), AllocError>
     ensures { OnOk result (out.new.items ≡ out.old.items ++ failure_line failure.now) }
@@ -87,7 +87,7 @@ pub(crate) fn failure_line(out: &mut Vec<u8>, failure: &Failure) -> Result<(), A
     }
 }
 
-/// `# run K of seed S: FAILURE`.
+/// Appends `# run K of seed S: FAILURE`.
 #[tactic(auto, using(snap_text::proofs::Texts::joined))]
 fn run_note(out: &mut Vec<u8>, seed: u64, run: u64, failure: &Failure) -> Result<(), AllocError>
     ensures { OnOk result (out.new.items ≡ out.old.items ++ run_note seed run failure.now) }
@@ -100,7 +100,8 @@ fn run_note(out: &mut Vec<u8>, seed: u64, run: u64, failure: &Failure) -> Result
     failure_line(out, failure)
 }
 
-/// A listing, a schedule whose run fails so, and a command that goes to its last item.
+/// Returns an input: a listing, a schedule whose run fails, and a command that goes to its last
+/// item.
 #[tactic(auto, using(snap_text::proofs::Texts::joined))]
 pub(crate) fn input_text(
     alloc: Global,

@@ -4,8 +4,8 @@ use Rattle.std.proofs.Common.{◌≡◌, ℕ, ◌+◌, ◌-◌, ◌<◌, ◌≤�
 use Rattle.std.proofs.lemmas.List.{append-nil}
 use Rattle.snap_semantics.specs.declared.refusal.ImageRefusal.{ImageRefusal}
 use Rattle.snap_semantics.specs.Answers.{◌>>=◌}
-use Rattle.snap_image_format.specs.ImageForms.{Rest, Read}
-use Rattle.snap_image_format.specs.ImageListing.{comment_byte_in, comment_bytes_in}
+use Rattle.snap_image.specs.ImageForms.{Rest, Read}
+use Rattle.snap_image.specs.ImageListing.{comment_byte_in, comment_bytes_in}
 use Rattle.snap_image.specs.DecoderSteps.{onto}
 use Rattle.snap_image.proofs.Names.{onto_cons}
 

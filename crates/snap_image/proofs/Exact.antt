@@ -1,18 +1,18 @@
 -- Bytes are decoded exactly where they are the image of a listing.
 use Rattle.std.proofs.Common.{◌≡◌, ℕ, List, ◌∷◌, Result, Ok, Err, IfOk, Fits, w8, slice_index_or, sym, ap, ◌∙◌, subst}
 use Rattle.snap_semantics.specs.declared.fault.Fault.{Fault}
-use Rattle.snap_image_format.specs.declared.image.ImageVersion.{ImageVersion}
+use Rattle.snap_image.specs.declared.image.ImageVersion.{ImageVersion}
 use Rattle.snap_semantics.specs.declared.instr.Line.{Line}
 use Rattle.snap_semantics.specs.declared.refusal.ImageRefusal.{ImageRefusal}
 use Rattle.snap_semantics.specs.Answers.{Answers}
 use Rattle.snap_semantics.specs.Comments.{Comment, Commented, IsCommented}
-use Rattle.snap_image_format.specs.Image.{CanSay, IsImageOf, image_in}
-use Rattle.snap_image_format.specs.ImageForms.{Rest}
-use Rattle.snap_image_format.specs.ImageListing.{commented_in, ended, head_in, lines_in}
+use Rattle.snap_image.specs.Image.{CanSay, IsImageOf, image_in}
+use Rattle.snap_image.specs.ImageForms.{Rest}
+use Rattle.snap_image.specs.ImageListing.{commented_in, ended, head_in, lines_in}
 use Rattle.snap_semantics.specs.Listing.{checked_targets, line_targets, with_lines}
 use Rattle.snap_semantics.specs.Source.{Source}
-use Rattle.snap_image_format.proofs.AgainListing.{decodes_all}
-use Rattle.snap_image_format.proofs.SaidListing.{decodes_only, are_bytes, decoded_is_listing}
+use Rattle.snap_image.proofs.AgainListing.{decodes_all}
+use Rattle.snap_image.proofs.SaidListing.{decodes_only, are_bytes, decoded_is_listing}
 
 pub only_images : (bytes : List ℕ) → ((i : ℕ) → Fits w8 (slice_index_or bytes i 0)) →
     (answer : Result Commented (Fault ImageRefusal)) →

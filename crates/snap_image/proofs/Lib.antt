@@ -1,4 +1,24 @@
 -- The proofs of snap_image, by their modules.
+pub mod FormNeeds
+pub mod Heads
+pub mod ImageSamples
+pub mod CommentSamples
+pub mod AgainComments
+pub mod AgainForms
+pub mod AgainInstrs
+pub mod AgainListing
+pub mod AgainParts
+pub mod Distinct
+pub mod FormUses
+pub mod ImageBytes
+pub mod Parts
+pub mod SaidComments
+pub mod SaidForms
+pub mod SaidInstrs
+pub mod SaidListing
+pub mod Shorts
+pub mod Slots
+pub mod Tables
 pub mod CommentBytes
 pub mod Exact
 pub mod LineSteps

@@ -3,13 +3,13 @@
 use Rattle.std.proofs.Common.{◌≡◌, ℕ, ◌+◌, ◌-◌, ◌<◌, ◌≤◌, suc, List, [], ◌∷◌, ◌++◌, Result, Ok, Err, sym, ap, ◌∙◌}
 use Rattle.std.proofs.Common.{append_assoc, refl, arith}
 use Rattle.std.proofs.lemmas.List.{append-nil}
-use Rattle.snap_image_format.specs.declared.image.ImageVersion.{ImageVersion}
+use Rattle.snap_image.specs.declared.image.ImageVersion.{ImageVersion}
 use Rattle.snap_semantics.specs.declared.instr.Line.{Line}
 use Rattle.snap_semantics.specs.declared.refusal.ImageRefusal.{ImageRefusal}
 use Rattle.snap_semantics.specs.Answers.{◌>>=◌, IsRefusal}
 use Rattle.snap_semantics.specs.Comments.{Comment}
-use Rattle.snap_image_format.specs.ImageForms.{Rest, Read}
-use Rattle.snap_image_format.specs.ImageListing.{behind_line_in, line_in, lines_in}
+use Rattle.snap_image.specs.ImageForms.{Rest, Read}
+use Rattle.snap_image.specs.ImageListing.{behind_line_in, line_in, lines_in}
 use Rattle.snap_semantics.specs.Source.{Source}
 use Rattle.snap_semantics.specs.declared.fault.Fault.{Fault}
 use Rattle.snap_semantics.specs.declared.fault.Fault.TheVariants as fault

@@ -5,8 +5,8 @@ use Rattle.std.proofs.Common.{sym, ap, ◌∙◌, append_assoc, arith}
 use Rattle.std.proofs.lemmas.List.{append-nil, length-append}
 use Rattle.snap_semantics.specs.declared.refusal.ImageRefusal.{ImageRefusal}
 use Rattle.snap_semantics.specs.Answers.{◌>>=◌}
-use Rattle.snap_image_format.specs.ImageForms.{Rest, Read, byte_in}
-use Rattle.snap_image_format.specs.ImageListing.{letter, letters_in, name_in, names_in}
+use Rattle.snap_image.specs.ImageForms.{Rest, Read, byte_in}
+use Rattle.snap_image.specs.ImageListing.{letter, letters_in, name_in, names_in}
 use Rattle.snap_semantics.specs.Source.{Name}
 use Rattle.snap_image.specs.DecoderSteps.{onto}
 

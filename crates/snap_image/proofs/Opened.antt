@@ -2,13 +2,13 @@
 use Rattle.std.proofs.Common.{◌≡◌, ◌≢◌, ℕ, Bool, true, false, List, ◌∷◌, ◌++◌, take, Option, None, Ok, Err, bytes_eq}
 use Rattle.std.proofs.Common.{if◌then◌else◌, refl, ap, ◌∙◌}
 use Rattle.std.proofs.lemmas.Slice.Eq.{bytes_eq-Decides}
-use Rattle.snap_image_format.specs.declared.image.ImageVersion.{ImageVersion}
+use Rattle.snap_image.specs.declared.image.ImageVersion.{ImageVersion}
 use Rattle.snap_semantics.specs.declared.refusal.ImageRefusal.TheVariants.{NotAnImage, Version}
 use Rattle.snap_semantics.specs.Answers.{◌>>=◌}
-use Rattle.snap_image_format.specs.Image.{signature}
-use Rattle.snap_image_format.specs.ImageCodes.{of_code, versions}
-use Rattle.snap_image_format.specs.ImageForms.{Rest}
-use Rattle.snap_image_format.specs.ImageListing.{known_version, version_in}
+use Rattle.snap_image.specs.Image.{signature}
+use Rattle.snap_image.specs.ImageCodes.{of_code, versions}
+use Rattle.snap_image.specs.ImageForms.{Rest}
+use Rattle.snap_image.specs.ImageListing.{known_version, version_in}
 use Rattle.snap_image.specs.Head.{opened}
 
 not_true : (b : Bool) → (b ≡ true → ⊥) → b ≡ false

@@ -1,13 +1,13 @@
 -- The steps of the decoder of images, as definitions: the
 -- lines that were read with their comments, and one line more.
 use Rattle.std.specs.Prelude.{ℕ, List, [], ◌∷◌, ◌++◌, map, Result, Ok, Err}
-use Rattle.snap_image_format.specs.declared.image.ImageVersion.{ImageVersion}
+use Rattle.snap_image.specs.declared.image.ImageVersion.{ImageVersion}
 use Rattle.snap_semantics.specs.declared.instr.Line.{Line}
 use Rattle.snap_semantics.specs.declared.refusal.ImageRefusal.{ImageRefusal}
 use Rattle.snap_semantics.specs.Answers.{◌>>=◌}
 use Rattle.snap_semantics.specs.Comments.{Comment}
-use Rattle.snap_image_format.specs.ImageForms.{Rest, Read}
-use Rattle.snap_image_format.specs.ImageListing.{behind_line_in, line_in}
+use Rattle.snap_image.specs.ImageForms.{Rest, Read}
+use Rattle.snap_image.specs.ImageListing.{behind_line_in, line_in}
 use Rattle.snap_semantics.specs.Source.{Source}
 use Rattle.snap_listing_core.specs.Fields.{seen_comment}
 use Rattle.snap_image.specs.declared.lines.CommentedLines.{CommentedLines}

@@ -1,9 +1,9 @@
 -- How an image begins (`opened`): with its signature and its version; and the names of the tables before one.
 use Rattle.std.specs.Prelude.{ℕ, List, ◌++◌}
-use Rattle.snap_image_format.specs.declared.image.ImageVersion.{ImageVersion}
+use Rattle.snap_image.specs.declared.image.ImageVersion.{ImageVersion}
 use Rattle.snap_semantics.specs.Answers.{◌>>=◌}
-use Rattle.snap_image_format.specs.ImageForms.{Read}
-use Rattle.snap_image_format.specs.ImageListing.{signature_in, version_in}
+use Rattle.snap_image.specs.ImageForms.{Read}
+use Rattle.snap_image.specs.ImageListing.{signature_in, version_in}
 use Rattle.snap_semantics.specs.Source.{Name}
 use Rattle.snap_image.specs.declared.head.EarlierNames.{EarlierNames}
 

@@ -1,4 +1,15 @@
 -- The definitions of snap_image, by their modules.
+pub mod HasForm
+pub mod Operands
+pub mod ImageCodes
+pub mod Image
+pub mod ImageForms
+pub mod ImageInstrs
+pub mod ImageListing
+pub mod Assembly
+pub mod Widths
+pub mod Laws
+pub mod Reads
 pub mod Head
 pub mod DecoderSteps
-pub use Rattle.snap_image_format.specs.Laws
+pub use Rattle.snap_image.specs.Laws

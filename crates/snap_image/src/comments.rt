@@ -1,19 +1,19 @@
-//! `behind_line`: reads the comment of a line from
-//! an image, where the image's version has comments.
+//! `behind_line`: reads the comment of a line from an image, if the image's version has comments.
 ghost use Rattle.std.specs.Prelude.{Some};
 ghost use Rattle.snap_semantics.specs.Answers.{Answers};
-ghost use Rattle.snap_image_format.specs.ImageListing.{comment_byte_in, comment_bytes_in};
-ghost use Rattle.snap_image_format.specs.ImageListing.{some_comment_in, comment_in, behind_line_in};
+ghost use Rattle.snap_image.specs.ImageListing.{comment_byte_in, comment_bytes_in};
+ghost use Rattle.snap_image.specs.ImageListing.{some_comment_in, comment_in, behind_line_in};
 ghost use Rattle.snap_listing_core.specs.Fields.{seen_comment};
-ghost use Rattle.snap_image_format.specs.Reads.{Reads};
+ghost use Rattle.snap_image.specs.Reads.{Reads};
 
+use crate::cursor::Cursor;
 use crate::fault::ImageFault;
-use snap_image_format::{Cursor, ImageVersion};
+use crate::image::ImageVersion;
 use snap_semantics::ImageRefusal;
 use std::alloc::Global;
 
-/// A byte of a comment: any but the line feed.
-#[tactic(auto, unfolding(snap_image_format::specs::ImageListing::comment_byte_in))]
+/// Reads a byte of a comment: any byte but the line feed.
+#[tactic(auto, unfolding(snap_image::specs::ImageListing::comment_byte_in))]
 fn comment_byte(cursor: &mut Cursor<'_>) -> Result<u8, ImageRefusal>
     ensures { Reads result cursor.new (comment_byte_in cursor.old) }
 {
@@ -26,7 +26,7 @@ fn comment_byte(cursor: &mut Cursor<'_>) -> Result<u8, ImageRefusal>
     }
 }
 
-/// So many bytes of a comment.
+/// Reads `count` bytes of a comment.
 fn comment_bytes(alloc: Global, count: u64, cursor: &mut Cursor<'_>) -> Result<Vec<u8>, ImageFault>
     ensures { Answers (λ bytes. (bytes.items, cursor.new)) result
         (comment_bytes_in count cursor.old) }
@@ -39,8 +39,8 @@ fn comment_bytes(alloc: Global, count: u64, cursor: &mut Cursor<'_>) -> Result<V
     Ok(bytes)
 }
 
-/// A comment behind the number of its bytes.
-#[tactic(auto, unfolding(snap_image_format::specs::ImageListing::some_comment_in))]
+/// Reads a comment, which stands behind the number of its bytes.
+#[tactic(auto, unfolding(snap_image::specs::ImageListing::some_comment_in))]
 fn some_comment(alloc: Global, cursor: &mut Cursor<'_>) -> Result<Vec<u8>, ImageFault>
     ensures { Answers (λ bytes. (Some bytes.items, cursor.new)) result
         (some_comment_in cursor.old) }
@@ -49,8 +49,8 @@ fn some_comment(alloc: Global, cursor: &mut Cursor<'_>) -> Result<Vec<u8>, Image
     comment_bytes(alloc, count, cursor)
 }
 
-/// A comment, or none.
-#[tactic(auto, unfolding(snap_image_format::specs::ImageListing::comment_in))]
+/// Reads a comment, or that there is none.
+#[tactic(auto, unfolding(snap_image::specs::ImageListing::comment_in))]
 fn comment(alloc: Global, cursor: &mut Cursor<'_>) -> Result<Option<Vec<u8>>, ImageFault>
     ensures { Answers (λ c. (seen_comment c, cursor.new)) result (comment_in cursor.old) }
 {
@@ -61,7 +61,11 @@ fn comment(alloc: Global, cursor: &mut Cursor<'_>) -> Result<Option<Vec<u8>>, Im
     }
 }
 
-/// What stands behind a line: in the second version its comment.
+/// Reads what stands behind a line: nothing in the first version, a comment or none in the second.
+///
+/// # Errors
+///
+/// `Refused` where the bytes at the cursor are no comment; `Memory` where memory runs out.
 pub fn behind_line(
     alloc: Global,
     version: ImageVersion,

@@ -1,14 +1,14 @@
-//! `decode`: the listing whose image these bytes are, with
-//! its comments, or the first reason why they are no image.
+//! `decode`: the listing whose image some bytes are, with its comments, or the first reason why
+//! they are no image.
 ghost use Rattle.std.specs.Prelude.{◌≡◌, ◌≢◌, ℕ, List, ◌∷◌, ◌++◌, IfOk, None, Ok, Err, take};
 ghost use Rattle.snap_semantics.specs.Answers.{Answers};
 ghost use Rattle.snap_semantics.specs.Comments.{Commented, IsCommented};
-ghost use Rattle.snap_image_format.specs.Image.{CanSay, IsImageOf, image_in, signature};
-ghost use Rattle.snap_image_format.specs.ImageCodes.{of_code, versions};
-ghost use Rattle.snap_image_format.specs.ImageListing.{commented_in};
+ghost use Rattle.snap_image.specs.Image.{CanSay, IsImageOf, image_in, signature};
+ghost use Rattle.snap_image.specs.ImageCodes.{of_code, versions};
+ghost use Rattle.snap_image.specs.ImageListing.{commented_in};
 ghost use Rattle.snap_semantics.specs.Listing.{checked_targets, line_targets};
 ghost use Rattle.snap_semantics.specs.declared.fault.Fault.TheVariants.{Refused};
-ghost use Rattle.snap_image_format.specs.declared.image.ImageVersion.{ImageVersion};
+ghost use Rattle.snap_image.specs.declared.image.ImageVersion.{ImageVersion};
 ghost use Rattle.snap_semantics.specs.declared.refusal.ImageRefusal.{ImageRefusal};
 ghost use Rattle.snap_semantics.specs.declared.refusal.ImageRefusal.TheVariants.{NotAnImage};
 ghost use Rattle.snap_semantics.specs.declared.refusal.ImageRefusal.TheVariants.{Version};
@@ -17,12 +17,12 @@ ghost use Rattle.snap_image.specs.Head.{opened};
 use crate::fault::ImageFault;
 use crate::head::head;
 use crate::lines::lines;
+use snap_listing::{checked_target, checked_targets};
 use snap_listing_core::{CommentedListing, Header, Listing};
-use snap_listing_rules::{checked_target, checked_targets};
 use snap_semantics::{ImageRefusal, Line, ListingRefusal};
 use std::alloc::Global;
 
-/// Each target has to be a line.
+/// Checks that each target is a line.
 fn targets(header: &Header, lines: &[Line]) -> Result<(), ListingRefusal>
     ensures { result ≡ checked_targets lines.now (header.now.scan ∷ header.now.update
         ∷ line_targets lines.now) }
@@ -32,9 +32,8 @@ fn targets(header: &Header, lines: &[Line]) -> Result<(), ListingRefusal>
     checked_targets(lines)
 }
 
-/// The listing whose image these bytes are, with its comments, or the first reason why they are
-/// none.
-#[tactic(auto, unfolding(snap_image_format::specs::ImageListing::commented_in))]
+/// Decodes `image`, or returns the first reason why it is no image of a listing.
+#[tactic(auto, unfolding(snap_image::specs::ImageListing::commented_in))]
 fn decoded(alloc: Global, image: &[u8]) -> Result<CommentedListing, ImageFault>
     ensures answer { Answers (λ l. l) result (commented_in image.now) }
     ensures opened { (e : ImageRefusal) → opened image.now ≡ Err e → result ≡ Err (Refused e) }
@@ -51,9 +50,13 @@ fn decoded(alloc: Global, image: &[u8]) -> Result<CommentedListing, ImageFault>
     }
 }
 
-/// The listing whose image these bytes are, with its comments, or the first reason why they are
-/// none: it is refused exactly where no listing has this image in either version. Takes memory for
-/// the listing and its comments alone.
+/// Decodes `image`, and returns the listing whose image it is, with its comments. Memory is
+/// allocated for the listing and its comments alone.
+///
+/// # Errors
+///
+/// `Refused` exactly if no listing has this image in either version, with the first reason;
+/// `Memory` where memory runs out.
 pub fn decode(alloc: Global, image: &[u8]) -> Result<CommentedListing, ImageFault>
     ensures answer { Answers (λ l. l) result (commented_in image.now) }
     ensures image { IfOk result (λ l. IsImageOf image.now l) }

@@ -2,20 +2,22 @@
 //! its version, its kind, its names by sort, its entries.
 ghost use Rattle.std.specs.Prelude.{◌≡◌, ◌≤◌, [], ◌++◌, Err, IfOk};
 ghost use Rattle.snap_semantics.specs.Answers.{Answers};
-ghost use Rattle.snap_image_format.specs.ImageListing.{version_in, letter, letters_in, length_in};
-ghost use Rattle.snap_image_format.specs.ImageListing.{new_name, name_in, names_in, few_names};
-ghost use Rattle.snap_image_format.specs.ImageListing.{table_in, line_count_in, head_in};
+ghost use Rattle.snap_image.specs.ImageListing.{version_in, letter, letters_in, length_in};
+ghost use Rattle.snap_image.specs.ImageListing.{new_name, name_in, names_in, few_names};
+ghost use Rattle.snap_image.specs.ImageListing.{table_in, line_count_in, head_in};
 ghost use Rattle.snap_semantics.specs.Uses.{is_among};
 ghost use Rattle.snap_listing_core.specs.Fields.{header_source};
 ghost use Rattle.snap_semantics.specs.declared.fault.Fault.TheVariants.{Refused};
 ghost use Rattle.snap_semantics.specs.declared.refusal.ImageRefusal.{ImageRefusal};
 ghost use Rattle.snap_image.specs.Head.{known_names, opened};
-ghost use Rattle.snap_image_format.specs.Reads.{Reads};
+ghost use Rattle.snap_image.specs.Reads.{Reads};
 
+use crate::codes::with_code;
+use crate::cursor::Cursor;
 use crate::fault::ImageFault;
-use snap_image_format::{Cursor, ImageVersion, with_code};
+use crate::image::ImageVersion;
+use snap_listing::{is_among, is_reserved};
 use snap_listing_core::Header;
-use snap_listing_rules::{is_among, is_reserved};
 use snap_semantics::{ImageRefusal, ListingRefusal, Name};
 use snap_words::KindTag;
 use std::alloc::Global;
@@ -34,8 +36,8 @@ struct EarlierNames<'a> {
     words: &'a [Name],
 }
 
-/// The version.
-#[tactic(auto, unfolding(snap_image_format::specs::ImageListing::version_in))]
+/// Reads the version.
+#[tactic(auto, unfolding(snap_image::specs::ImageListing::version_in))]
 fn version(cursor: &mut Cursor<'_>) -> Result<ImageVersion, ImageRefusal>
     ensures { Reads result cursor.new (version_in cursor.old) }
 {
@@ -46,7 +48,7 @@ fn version(cursor: &mut Cursor<'_>) -> Result<ImageVersion, ImageRefusal>
     }
 }
 
-/// A byte of a name has to be a letter.
+/// Checks that a byte of a name is a letter.
 fn checked_letter(byte: u8) -> Result<(), ImageRefusal>
     ensures { result ≡ letter byte }
 {
@@ -57,7 +59,7 @@ fn checked_letter(byte: u8) -> Result<(), ImageRefusal>
     }
 }
 
-/// So many letters.
+/// Reads a name of `count` letters.
 fn letters(count: usize, cursor: &mut Cursor<'_>) -> Result<Name, ImageRefusal>
     requires { count ≤ 9 }
     ensures { Reads result cursor.new (letters_in count cursor.old) }
@@ -71,8 +73,8 @@ fn letters(count: usize, cursor: &mut Cursor<'_>) -> Result<Name, ImageRefusal>
     Ok(Name::of(&letters[..count]))
 }
 
-/// How long a name is: 1 to 8.
-#[tactic(auto, unfolding(snap_image_format::specs::ImageListing::length_in))]
+/// Reads how long a name is, 1 to 8.
+#[tactic(auto, unfolding(snap_image::specs::ImageListing::length_in))]
 fn name_length(cursor: &mut Cursor<'_>) -> Result<usize, ImageRefusal>
     ensures read { Reads result cursor.new (length_in cursor.old) }
     ensures short { IfOk result (λ count. count ≤ 8) }
@@ -85,7 +87,7 @@ fn name_length(cursor: &mut Cursor<'_>) -> Result<usize, ImageRefusal>
     }
 }
 
-/// Whether a name is declared in a table before this one.
+/// Returns whether a name is declared in a table before this one.
 fn is_known(letters: &[u8], known: EarlierNames<'_>) -> bool
     ensures { result ≡ is_among letters.now (known_names known.entry) }
 {
@@ -94,7 +96,7 @@ fn is_known(letters: &[u8], known: EarlierNames<'_>) -> bool
         || is_among(letters, known.words)
 }
 
-/// A name that may be declared behind these.
+/// Checks that `name` may be declared behind `known` and `names`.
 fn checked_name(known: EarlierNames<'_>, names: &[Name], name: &Name) -> Result<(), ImageRefusal>
     ensures { result ≡ new_name (known_names known.entry ++ names.now) name.now }
 {
@@ -107,8 +109,8 @@ fn checked_name(known: EarlierNames<'_>, names: &[Name], name: &Name) -> Result<
     }
 }
 
-/// A name behind its length, which none of these is.
-#[tactic(auto, unfolding(snap_image_format::specs::ImageListing::name_in))]
+/// Reads a name behind its length, which is none of `known` and `names`.
+#[tactic(auto, unfolding(snap_image::specs::ImageListing::name_in))]
 fn name(
     known: EarlierNames<'_>,
     names: &[Name],
@@ -122,7 +124,7 @@ fn name(
     Ok(name)
 }
 
-/// So many names.
+/// Reads `count` names.
 fn names(
     alloc: Global,
     count: u8,
@@ -140,7 +142,7 @@ fn names(
     Ok(names)
 }
 
-/// So many names more than these.
+/// Checks that `count` more names may be declared.
 fn checked_count(known: EarlierNames<'_>, count: u8) -> Result<(), ImageRefusal>
     ensures { result ≡ few_names (known_names known.entry) count }
 {
@@ -152,8 +154,8 @@ fn checked_count(known: EarlierNames<'_>, count: u8) -> Result<(), ImageRefusal>
     }
 }
 
-/// The names of a sort behind their count, at most 32 with those before them.
-#[tactic(auto, unfolding(snap_image_format::specs::ImageListing::table_in))]
+/// Reads the names of a sort behind their count, at most 32 with those before them.
+#[tactic(auto, unfolding(snap_image::specs::ImageListing::table_in))]
 fn table(
     alloc: Global,
     known: EarlierNames<'_>,
@@ -167,7 +169,7 @@ fn table(
     names(alloc, count, known, cursor)
 }
 
-/// The scalars.
+/// Reads the names of the scalars.
 fn scalar_table(alloc: Global, cursor: &mut Cursor<'_>) -> Result<Vec<Name>, ImageFault>
     ensures { Answers (λ names. (names.items, cursor.new)) result (table_in [] cursor.old) }
 {
@@ -179,7 +181,7 @@ fn scalar_table(alloc: Global, cursor: &mut Cursor<'_>) -> Result<Vec<Name>, Ima
     table(alloc, known, cursor)
 }
 
-/// The rows.
+/// Reads the names of the rows.
 #[tactic(auto, using(crate::proofs::Names::known_scalars))]
 fn row_table(
     alloc: Global,
@@ -197,7 +199,7 @@ fn row_table(
     table(alloc, known, cursor)
 }
 
-/// The `words` locals.
+/// Reads the names of the `words` locals.
 #[tactic(auto, using(crate::proofs::Names::known_rows))]
 fn words_table(
     alloc: Global,
@@ -216,8 +218,8 @@ fn words_table(
     table(alloc, known, cursor)
 }
 
-/// How many lines there are: at most 200.
-#[tactic(auto, unfolding(snap_image_format::specs::ImageListing::line_count_in))]
+/// Reads how many lines there are, at most 200.
+#[tactic(auto, unfolding(snap_image::specs::ImageListing::line_count_in))]
 fn line_count(cursor: &mut Cursor<'_>) -> Result<u64, ImageRefusal>
     ensures { Reads result cursor.new (line_count_in cursor.old) }
 {
@@ -229,8 +231,14 @@ fn line_count(cursor: &mut Cursor<'_>) -> Result<u64, ImageRefusal>
     }
 }
 
-/// The version, what stands before the lines, how many lines follow, and what is left.
-#[tactic(auto, unfolding(snap_image_format::specs::ImageListing::head_in))]
+/// Reads what stands before the lines of `image`: its version, its header and how many lines
+/// follow; and returns what is left too.
+///
+/// # Errors
+///
+/// `Refused` with the first reason why the bytes are no such beginning; `Memory` where memory runs
+/// out.
+#[tactic(auto, unfolding(snap_image::specs::ImageListing::head_in))]
 pub fn head(
     alloc: Global,
     image: &[u8],

@@ -1,16 +1,28 @@
-//! Images of listings: encoded and decoded, and their laws.
+//! Images of listings: the format with its codes, encoded and decoded, and its laws.
 #![tactic(auto)]
 
+mod codes;
 mod comments;
+mod conditions;
+mod cursor;
 mod decoder;
+mod encoder;
 mod fault;
 mod head;
+mod image;
+mod instrs;
+mod laws;
 mod lines;
+mod terms;
 
+pub use codes::{Coded, with_code};
+pub use cursor::Cursor;
 pub use decoder::decode;
+pub use encoder::encode;
 pub use fault::ImageFault;
-pub use snap_image_encoder::encode;
-pub use snap_image_format::{
+pub use image::{ExprTag, ImageVersion, InstrTag, TermTag};
+pub use instrs::instr;
+pub use laws::{
     images_are_bytes, more_than_an_image_is_refused, what_is_decoded_is_an_image,
     what_is_encoded_is_decoded,
 };

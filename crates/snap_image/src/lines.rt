@@ -1,18 +1,19 @@
 //! `lines`: reads the lines of an image, each with its comment (`CommentedLines`).
 ghost use Rattle.std.specs.Prelude.{◌≡◌};
 ghost use Rattle.snap_semantics.specs.Answers.{Answers};
-ghost use Rattle.snap_image_format.specs.Image.{is_number_in};
-ghost use Rattle.snap_image_format.specs.ImageListing.{new_number, line_in, lines_in};
+ghost use Rattle.snap_image.specs.Image.{is_number_in};
+ghost use Rattle.snap_image.specs.ImageListing.{new_number, line_in, lines_in};
 ghost use Rattle.snap_listing_core.specs.Fields.{header_source};
-ghost use Rattle.snap_image_format.specs.Reads.{Reads};
+ghost use Rattle.snap_image.specs.Reads.{Reads};
 ghost use Rattle.snap_image.specs.DecoderSteps.{added_line, listed};
 
 use crate::comments::behind_line;
+use crate::cursor::Cursor;
 use crate::fault::ImageFault;
-use snap_image_format::{Cursor, ImageVersion};
-use snap_image_operands::instr;
+use crate::image::ImageVersion;
+use crate::instrs::instr;
+use snap_listing::{is_line_number, push_line_copy};
 use snap_listing_core::Header;
-use snap_listing_rules::{is_line_number, push_line_copy};
 use snap_semantics::{ImageRefusal, Line, ListingRefusal};
 use std::alloc::Global;
 
@@ -26,7 +27,7 @@ pub struct CommentedLines {
     pub comments: Vec<Option<Vec<u8>>>,
 }
 
-/// Whether a version has this line number.
+/// Returns whether a version has this line number.
 fn is_number_in(version: ImageVersion, number: u64) -> bool
     ensures { result ≡ is_number_in version number }
 {
@@ -36,7 +37,7 @@ fn is_number_in(version: ImageVersion, number: u64) -> bool
     }
 }
 
-/// A line number of a version, above the last one.
+/// Checks a line number of a version, which is to be above `last`.
 fn checked_number(
     version: ImageVersion,
     line: u64,
@@ -54,8 +55,8 @@ fn checked_number(
     }
 }
 
-/// The line of this place, behind line number `last`.
-#[tactic(auto, unfolding(snap_image_format::specs::ImageListing::line_in))]
+/// Reads line `line`, counted from 1, behind line number `last`.
+#[tactic(auto, unfolding(snap_image::specs::ImageListing::line_in))]
 fn line_at(
     header: &Header,
     version: ImageVersion,
@@ -72,7 +73,8 @@ fn line_at(
     Ok(Line { number, instr })
 }
 
-/// Adds the line of this place with its comment, and gives its number.
+/// Reads line `line`, counted from 1, with its comment, appends both, and returns the line's
+/// number.
 fn add_line(
     alloc: Global,
     header: &Header,
@@ -95,7 +97,12 @@ fn add_line(
     }
 }
 
-/// So many lines, with their comments.
+/// Reads `count` lines, with their comments.
+///
+/// # Errors
+///
+/// `Refused` with the first reason why the bytes at the cursor are no such lines; `Memory` where
+/// memory runs out.
 pub fn lines(
     alloc: Global,
     header: &Header,

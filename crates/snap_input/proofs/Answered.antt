@@ -7,7 +7,7 @@ use Rattle.snap_semantics.specs.Answers.{◌>>=◌, refused_as}
 pub same_answer : {A E : Type 0} (answer : Result A E) (x y : A) → answer ≡ Ok x → answer ≡ Ok y → y ≡ x
 same_answer answer x y is_x is_y = cc
 
--- both steps of two succeed
+-- two steps of which both succeed
 module _ {A B E : Type 0} where
   pub both : (first : Result A E) (second : A → Result B E) (found : B) → (first >>= second) ≡ Ok found →
       (x : A) × (first ≡ Ok x) × (second x ≡ Ok found)
@@ -26,7 +26,7 @@ pub within : {A E : Type 0} (over : Bool) (r : E) (answer : Result A E) (found :
 within true r answer found e = absurd cc
 within false r answer found e = e
 
--- and what passes a test
+-- a step that passes a test
 pub passed : {A E : Type 0} (passes : Bool) (r : E) (x found : A) →
     (if passes then Ok x else Err r) ≡ Ok found → (passes ≡ true) × (x ≡ found)
 passed true r x found e = (refl, cc)

@@ -1,19 +1,19 @@
 -- The program that is loaded from the image of a listing's text is that listing; and such an image is never refused.
 use Rattle.std.proofs.Common.{◌≡◌, ℕ, List, Result, Ok, Err, drop, refl, ◌∙◌, ap, subst}
 use Rattle.snap_semantics.specs.Answers.{◌>>=◌, refused_as, IsRefusal}
-use Rattle.snap_image_format.specs.Assembly.{assembled}
+use Rattle.snap_image.specs.Assembly.{assembled}
 use Rattle.snap_semantics.specs.Comments.{Commented, commented_of, header_lines, line_comments}
-use Rattle.snap_image_format.specs.Image.{image_of}
-use Rattle.snap_image_format.specs.ImageListing.{commented_in, listing_of_image}
+use Rattle.snap_image.specs.Image.{image_of}
+use Rattle.snap_image.specs.ImageListing.{commented_in, listing_of_image}
 use Rattle.snap_semantics.specs.Listing.{listing_of}
 use Rattle.snap_semantics.specs.Source.{Source}
 use Rattle.snap_semantics.specs.Token.{lines_of}
-use Rattle.snap_image_format.specs.declared.image.ImageVersion.TheVariants as version
+use Rattle.snap_image.specs.declared.image.ImageVersion.TheVariants as version
 use Rattle.snap_semantics.specs.declared.refusal.ImageRefusal.{ImageRefusal}
 use Rattle.snap_semantics.specs.declared.refusal.ListingRefusal.{ListingRefusal}
 use Rattle.snap_semantics.specs.declared.refusal.Refusal.{Refusal}
 use Rattle.snap_semantics.specs.declared.refusal.Refusal.TheVariants as refusal
-use Rattle.snap_listing_grammar.specs.Laws.{ReadsOnlyCommented}
+use Rattle.snap_listing.specs.Laws.{ReadsOnlyCommented}
 use Rattle.snap_image.specs.Laws.{DecodesAllImages}
 use Rattle.snap_input.proofs.Answered.{same_answer}
 use Rattle.snap_semantics.specs.declared.fault.Fault.{Fault}

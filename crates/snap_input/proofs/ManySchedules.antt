@@ -28,7 +28,7 @@ module _ {X A : Type 0} (view : X → A) (result : Result X (Fault Refusal))
   pub of_schedules : Answers view result (text l texts) → Answers view result (over_schedules s parts text)
   of_schedules h = subst (Answers view result) (sym over_texts) h
 
-  -- and so it is where a fault may be another
+  -- the schedules are read even where a fault may be another
   pub if_schedules : IfOk result (λ x. text l texts ≡ Ok (view x)) →
       IfOk result (λ x. over_schedules s parts text ≡ Ok (view x))
   if_schedules h =

@@ -38,7 +38,7 @@ gathered l texts answers (Ok v) each all =
     subst (λ (schedules : List Schedule). schedules_for l (map (λ text. text.now) texts) ≡ Ok schedules) (sym all.2) read
 gathered l texts answers (Err e) each all = tt
 
--- the same of a chain over references that show the texts, whose closure has its program by another way
+-- a chain side by side over references that show the texts, whose closure has its program by another way
 pub side_by_side : (held program : Source) → held ≡ program →
     (seen : List (Bor (Bor (List ℕ)))) (texts : List (Bor (List ℕ))) →
     map (λ (z : Bor (Bor (List ℕ))). z.now) seen ≡ texts →

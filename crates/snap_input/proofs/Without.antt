@@ -69,7 +69,7 @@ front_byte b (x ∷ bytes) more lacks ends =
       | false ↦ onto_front b (full_lines (x ∷ bytes ++ more)) lacks.0 (first_otherwise x (bytes ++ more) lacks.1.0)
     ]
 
--- such lines end no part
+-- lines without the sign end no part
 lines_go_on : (bytes more : List ℕ) → LacksSign bytes → EndsLine bytes →
     parts_of (bytes ++ more) ≡ onto_part bytes (parts_of more)
 lines_go_on [] more lacks ends = sym (onto_none (full_lines more))

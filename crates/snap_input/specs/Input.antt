@@ -20,7 +20,7 @@ abbrev pub texts_for : Subject → List (List ℕ) → List (List ℕ)
 texts_for subject.FirstPart parts = drop 1 parts
 texts_for (subject.Shipped g) parts = parts
 
--- so many texts behind the listing
+-- the number of texts behind the listing, checked
 abbrev pub checked_parts : Subject → (count : ℕ) → List (List ℕ) → Result (Unit {0}) Refusal
 checked_parts s count parts =
     if nat_eq (length (texts_for s parts)) count then Ok tt else Err (refusal.WrongParts (length parts))

@@ -10,7 +10,11 @@ use snap_tasks::Subject;
 /// The most schedules behind one listing.
 const MAX_SCHEDULES: usize = 4096;
 
-/// Whether 1 to 4,096 texts stand behind the listing.
+/// Checks that 1 to 4,096 texts stand behind the listing.
+///
+/// # Errors
+///
+/// `WrongParts` where another number of them does.
 pub fn check_schedules(subject: Subject, input: &[u8]) -> Result<(), Refusal>
     requires { length input.now ≤ max_input }
     ensures { result ≡ checked_schedules subject (parts_of input.now) }

@@ -2,10 +2,10 @@
 //! of a listing's text.
 ghost use Rattle.std.specs.Prelude.{◌≡◌, ◌≢◌, ◌<◌, ℕ, List, ◌∷◌, ◌++◌, None, Err, length, take};
 ghost use Rattle.snap_semantics.specs.Answers.{Answers, refused_as};
-ghost use Rattle.snap_image_format.specs.Assembly.{assembled, listed, upgraded};
-ghost use Rattle.snap_image_format.specs.Image.{signature};
-ghost use Rattle.snap_image_format.specs.ImageCodes.{of_code, versions};
-ghost use Rattle.snap_semantics.specs.Listing.{listing_of};
+ghost use Rattle.snap_image.specs.Assembly.{assembled, listed, upgraded};
+ghost use Rattle.snap_image.specs.Image.{signature};
+ghost use Rattle.snap_image.specs.ImageCodes.{of_code, versions};
+ghost use Rattle.snap_semantics.specs.Listing.{listing_of, max_text};
 ghost use Rattle.snap_semantics.specs.declared.fault.Fault.TheVariants.{Refused};
 ghost use Rattle.snap_semantics.specs.declared.refusal.ImageRefusal.TheVariants.{NotAnImage};
 ghost use Rattle.snap_semantics.specs.declared.refusal.ImageRefusal.TheVariants.{Version};
@@ -18,16 +18,25 @@ use snap_listing::what_is_read_with_comments_is_a_listing;
 use snap_semantics::{Fault, Refusal};
 use std::alloc::Global;
 
-/// The image of a listing's text.
+/// Returns the image of the listing that `text` spells.
+///
+/// # Errors
+///
+/// `Refused` with the first reason why `text` is no listing; `Memory` where memory runs out.
 pub fn assemble(alloc: Global, text: &[u8]) -> Result<Vec<u8>, Fault<Refusal>>
     ensures image { Answers (λ image. image.items) result
         (refused_as refusal.Listing (assembled text.now)) }
-    ensures too_long { 65536 < length text.now → result ≡ Err (Refused (refusal.Listing TooLong)) }
+    ensures too_long { max_text < length text.now →
+        result ≡ Err (Refused (refusal.Listing TooLong)) }
 {
     Ok(snap_asm::assemble(alloc, text)?)
 }
 
-/// The text of a listing's image.
+/// Returns the text of the listing whose image is `image`.
+///
+/// # Errors
+///
+/// `Refused` with the first reason why `image` is no image; `Memory` where memory runs out.
 pub fn list(alloc: Global, image: &[u8]) -> Result<Vec<u8>, Fault<Refusal>>
     ensures text { Answers (λ text. text.items) result
         (refused_as refusal.Image (listed image.now)) }
@@ -40,7 +49,11 @@ pub fn list(alloc: Global, image: &[u8]) -> Result<Vec<u8>, Fault<Refusal>>
     Ok(snap_asm::list(alloc, image)?)
 }
 
-/// The image, in the version that is written, of a listing's image.
+/// Returns the image, in the version that is written, of the listing whose image is `image`.
+///
+/// # Errors
+///
+/// `Refused` with the first reason why `image` is no image; `Memory` where memory runs out.
 pub fn upgrade(alloc: Global, image: &[u8]) -> Result<Vec<u8>, Fault<Refusal>>
     ensures image { Answers (λ image. image.items) result
         (refused_as refusal.Image (upgraded image.now)) }
@@ -53,8 +66,12 @@ pub fn upgrade(alloc: Global, image: &[u8]) -> Result<Vec<u8>, Fault<Refusal>>
     Ok(snap_asm::upgrade(alloc, image)?)
 }
 
-/// The program of a listing's text, loaded from its image, which is never refused: what is read is
-/// a listing, and the image of every listing is decoded as that listing.
+/// Returns the program of the listing that `text` spells, loaded from its image, which is never
+/// refused: what is read is a listing, and the image of every listing is decoded as that listing.
+///
+/// # Errors
+///
+/// `Refused` with the first reason why `text` is no listing; `Memory` where memory runs out.
 pub fn program_of(alloc: Global, text: &[u8]) -> Result<Program, Fault<Refusal>>
     ensures { Answers (λ p. p) result (refused_as refusal.Listing (listing_of text.now)) }
 {

@@ -12,8 +12,12 @@ use snap_semantics::{Fault, Refusal};
 use std::alloc::Global;
 use std::thread::Threads;
 
-/// Reads schedules whose shapes fit a program, side by side. A fault that is answered need not be
-/// that of the first text.
+/// Reads schedules whose shapes fit `program`, side by side.
+///
+/// # Errors
+///
+/// `Refused` with a reason why one of the texts is refused, which need not be the first; `Memory`
+/// where memory runs out.
 pub fn read_side_by_side(
     rt: &(impl Threads + Sync),
     alloc: Global,

@@ -12,7 +12,11 @@ use snap_semantics::{Fault, Refusal};
 use snap_words::{Bits, Kind, KindTag, Multi, Seq};
 use std::alloc::Global;
 
-/// Reads schedules whose shapes fit the kind of a program.
+/// Reads schedules whose shapes fit the kind of `program`.
+///
+/// # Errors
+///
+/// `Refused` with the reason why the first text that is refused is; `Memory` where memory runs out.
 pub fn schedules_for<K: Kind>(
     alloc: Global,
     program: &Program,
@@ -29,7 +33,11 @@ pub fn schedules_for<K: Kind>(
     Ok(schedules)
 }
 
-/// Reads schedules whose shapes fit a program, one after another.
+/// Reads schedules whose shapes fit `program`, one after another.
+///
+/// # Errors
+///
+/// `Refused` with the reason why the first text that is refused is; `Memory` where memory runs out.
 pub fn read_schedules(
     alloc: Global,
     program: &Program,
@@ -45,7 +53,11 @@ pub fn read_schedules(
     }
 }
 
-/// Reads a schedule whose shape fits a program.
+/// Reads a schedule whose shape fits `program`.
+///
+/// # Errors
+///
+/// `Refused` with the reason why `text` is refused; `Memory` where memory runs out.
 pub fn read_schedule(
     alloc: Global,
     program: &Program,

@@ -15,7 +15,7 @@ use std::alloc::Global;
 /// The most bytes that an input may have.
 pub const MAX_INPUT: usize = 16_777_216;
 
-/// How many texts of so many parts stand behind the listing.
+/// Returns how many of `parts` parts are texts behind the listing.
 pub fn count_texts(subject: Subject, parts: usize) -> usize
     requires { 0 < parts }
     ensures { (ps : List (List ℕ)) → parts ≡ length ps → result ≡ length (texts_for subject ps) }
@@ -26,7 +26,7 @@ pub fn count_texts(subject: Subject, parts: usize) -> usize
     }
 }
 
-/// Whether so many texts stand behind the listing.
+/// Checks that `count` texts stand behind the listing.
 fn check_parts(subject: Subject, count: usize, input: &[u8]) -> Result<(), Refusal>
     requires { length input.now ≤ max_input }
     ensures { result ≡ checked_parts subject count (parts_of input.now) }
@@ -39,8 +39,13 @@ fn check_parts(subject: Subject, count: usize, input: &[u8]) -> Result<(), Refus
     }
 }
 
-/// The parts of an input that has so many texts behind the listing. Another number of parts is
-/// found before they are collected.
+/// Returns the parts of `input`, which has `count` texts behind the listing. The parts are counted
+/// before they are collected.
+///
+/// # Errors
+///
+/// `Refused` with `WrongParts` where there is another number of them; `Memory` where memory runs
+/// out.
 pub fn parts_for(
     alloc: Global,
     subject: Subject,

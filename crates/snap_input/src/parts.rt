@@ -7,7 +7,7 @@ ghost use Rattle.snap_input.specs.Parts.{ends_part, onto_part, parts_of};
 use memchr::{memchr, memrchr};
 use std::alloc::{AllocError, Global};
 
-/// The length of the first line, with its line feed.
+/// Returns the length of the first line, with its line feed.
 fn first_line_len(bytes: &[u8]) -> usize
     ensures within { result ≤ length bytes.now }
     ensures some { 0 < length bytes.now → 0 < result }
@@ -24,8 +24,9 @@ fn first_line_len(bytes: &[u8]) -> usize
     len
 }
 
-/// The length of the whole lines at the front before the first `%`, or of all bytes where there is
-/// none: no line of these ends a part. Most of an input is a schedule, which has none.
+/// Returns the length of the whole lines at the front before the first `%`, or of all bytes if
+/// there is none: none of these lines ends a part. Most of an input is a schedule, which has no
+/// `%`.
 fn plain_len(bytes: &[u8]) -> usize
     ensures within { result ≤ length bytes.now }
     ensures plain { ends_part (take result bytes.now) ≡ false }
@@ -41,7 +42,8 @@ fn plain_len(bytes: &[u8]) -> usize
     }
 }
 
-/// The length of the first piece: of the lines before the first `%`, or of the line that has it.
+/// Returns the length of the first piece: of the lines before the first `%`, or of the line that
+/// has it.
 fn first_piece_len(bytes: &[u8]) -> usize
     ensures within { result ≤ length bytes.now }
     ensures some { 0 < length bytes.now → 0 < result }
@@ -58,7 +60,7 @@ fn first_piece_len(bytes: &[u8]) -> usize
     }
 }
 
-/// Whether the piece is the line `%` alone.
+/// Returns whether the piece is the line `%` alone.
 fn is_separator(piece: &[u8]) -> bool
     ensures { result ≡ ends_part piece.now }
 {
@@ -68,7 +70,8 @@ fn is_separator(piece: &[u8]) -> bool
         || piece == b"%\r".as_slice()
 }
 
-/// How many lines of an input end a part: one less than it has parts. It takes no memory.
+/// Returns how many lines of `input` end a part, one less than the number of parts. No memory is
+/// allocated.
 pub fn count_separators(input: &[u8]) -> usize
     ensures parts { result + 1 ≡ length (parts_of input.now) }
     ensures few { result ≤ length input.now }
@@ -85,7 +88,11 @@ pub fn count_separators(input: &[u8]) -> usize
     count
 }
 
-/// The parts of an input.
+/// Returns the parts of an input.
+///
+/// # Errors
+///
+/// `AllocError` where memory runs out.
 pub fn split_parts(alloc: Global, input: &[u8]) -> Result<Vec<&[u8]>, AllocError>
     ensures { IfOk result (λ parts. map (λ part. part.now) parts.items ≡ parts_of input.now) }
 {

@@ -19,7 +19,11 @@ fn read_schedule(alloc: Global, text: &[u8]) -> Result<Schedule, Fault<Refusal>>
     Ok(snap_sched::read(alloc, text)?)
 }
 
-/// Reads a schedule whose shape fits the kind of a program.
+/// Reads a schedule whose shape fits the kind of `program`.
+///
+/// # Errors
+///
+/// `Refused` with the reason why `text` is refused; `Memory` where memory runs out.
 #[tactic(auto, unfolding(crate::specs::Schedules::schedule_for))]
 pub fn schedule_for<K: Kind>(
     alloc: Global,

@@ -7,15 +7,19 @@ ghost use Rattle.snap_shipped.specs.Shipped.{shipped};
 ghost use Rattle.snap_tasks.specs.declared.subject.Subject.TheVariants.{FirstPart};
 
 use crate::images::program_of;
+use snap_asm::load_listing;
 use snap_asm_program::Program;
-use snap_loader::load;
 use snap_semantics::{Fault, Refusal};
 use snap_shipped::{listing_b, listing_m, listing_u};
 use snap_tasks::Subject;
 use snap_words::KindTag;
 use std::alloc::{AllocError, Global};
 
-/// The program of the listing that is shipped for a kind.
+/// Returns the program of the listing that is shipped for a kind.
+///
+/// # Errors
+///
+/// `AllocError` where memory runs out.
 pub fn shipped(alloc: Global, kind: KindTag) -> Result<Program, AllocError>
     ensures { IfOk result (λ p. p ≡ shipped kind) }
 {
@@ -24,10 +28,15 @@ pub fn shipped(alloc: Global, kind: KindTag) -> Result<Program, AllocError>
         KindTag::Bits => listing_b(alloc)?,
         KindTag::Multi => listing_m(alloc)?,
     };
-    load(alloc, listing)
+    load_listing(alloc, listing)
 }
 
-/// The program that a task runs.
+/// Returns the program that a task runs.
+///
+/// # Errors
+///
+/// `Refused` with the reason why the listing of the first part is refused; `Memory` where memory
+/// runs out.
 pub fn program_for(
     alloc: Global,
     subject: Subject,
@@ -42,7 +51,7 @@ pub fn program_for(
     }
 }
 
-/// The parts behind the listing.
+/// Returns the parts behind the listing.
 pub fn texts_for<'a, 'b>(subject: Subject, parts: &'a [&'b [u8]]) -> &'a [&'b [u8]]
     requires { subject ≡ FirstPart → 0 < length parts.now }
     ensures { map (λ part. part.now) result.now

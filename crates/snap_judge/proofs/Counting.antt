@@ -91,7 +91,7 @@ within_by n w kept_step.Waits o is e = absurd (waits_not_call o e)
 are_within : (n w : ℕ) (steps : List KeptStep) → AreSteps n w steps → AreWithin n (steps_kept steps)
 are_within n w steps are t o e = within_by n w (get_or steps t kept_step.Waits) o (are t) (sym (step_at steps t) ∙ e)
 
--- The same place is reached by orders of the same length.
+-- The same configuration is reached by orders of the same length.
 pub same_length : (n w : ℕ) (steps : List KeptStep) (order order' : List ℕ) (c c' : Config) → AreSteps n w steps →
     HasCounts n w c → HasCounts n w c' → IsReached steps order c → IsReached steps order' c' →
     seen_as steps c ≡ seen_as steps c' → length order ≡ length order'

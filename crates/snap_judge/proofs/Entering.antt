@@ -194,7 +194,7 @@ module _ (steps : List KeptStep) (node node' : Node) (order order' : List ℕ) (
   same_slots : length node'.config.slots.items ≡ length node.config.slots.items
   same_slots = ap (λ (x : Config). length x.slots.items) config
 
-  -- It has tried the update that ends, and no place more.
+  -- The search has tried the update that ends, and no place more.
   pub has_begun : IsTried steps node → node'.next ≡ node.next → node.begun ≡ false → node'.begun ≡ true →
       HasTried steps node node' order order' e
   has_begun tried next was now =

@@ -27,7 +27,7 @@ pub record OpenCall (h : History) (p i : ℕ) (o : Op) : Type 0 where
   pub called : Contains h.events (event i call (what.Call o))
   pub quiet : (e : Event) → Contains h.events e → e.process ≡ i → call < e.item → p ≤ e.item
 
--- These are the events from number p on, and what the processes are at then.
+-- The events from number p on, and what the processes are at then.
 pub record Suffix (h : History) (p : ℕ) (callers : ℕ → Caller) (es : List Event) : Type 0 where
   pub inside : (e : Event) → Contains es e → Contains h.events e × (p ≤ e.item)
   pub all : (e : Event) → Contains h.events e → p ≤ e.item → Contains es e

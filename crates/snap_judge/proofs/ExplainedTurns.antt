@@ -47,7 +47,7 @@ pub record IsOver (h : History) (p : ℕ) : Type 0 where
   pub called : (y : Operation) → IsOperationOf h y → y.call < p
   pub ended : (y : Operation) (t : ℕ) → IsOperationOf h y → y.end ≡ Some t → t < p
 
--- These steps are all that comes from this number on.
+-- The steps are all that come from this number on.
 abbrev pub Goes : History → List Step → ℕ → Type 0
 Goes h [] p = IsOver h p
 Goes h (x ∷ xs) p = (q : ℕ) × Turned h p q x × Goes h xs q

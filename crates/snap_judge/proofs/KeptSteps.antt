@@ -33,7 +33,7 @@ found_here i k es e lt is its before =
     ∙ ap (λ (t : Bool). if t then Some x else next_of i (drop (k + 1) es)) (eq-eqb x.process i same)
     ∙ ap Some (sym is)
 
--- and where that is one of another process
+-- an event of the process is found behind one of another process
 pub found_later : (i k : ℕ) (es : List Event) (e : Event) → k < length es → e ≡ get_or es k e → (e.process ≡ i → ⊥) →
     next_of i (drop k es) ≡ next_of i es → next_of i (drop (k + 1) es) ≡ next_of i es
 found_later i k es e lt is other before =

@@ -132,7 +132,7 @@ module _ (steps : List KeptStep) (numbered : AreNumbered steps) where
           (sym (slot_at steps c.slots.items p) ∙ ap (λ (S : List Slot). get_or S p Free) slots
           ∙ slot_at steps c'.slots.items p)
 
--- and the same are seen as the same one
+-- configurations that are the same are seen as the same one
 pub same_seen : (steps : List KeptStep) (c c' : Config) → IsSameConfig c c' → seen_as steps c ≡ seen_as steps c'
 same_seen steps c c' same =
     same_parts (seen_as steps c) (seen_as steps c') (ap (λ (m : ℕ). drop m (steps_kept steps)) (sym same.position))
@@ -187,7 +187,7 @@ module _ (n w : ℕ) (steps : List KeptStep) (are : AreSteps n w steps) (numbere
   abbrev pub seen_node : Node → Configuration
   seen_node node = seen_as steps node.config
 
-  -- those that have failed
+  -- a configuration that has failed differs from the others that have
   from_one : (x : Config) (ys : List Config) → IsMet n w steps x → All (IsMet n w steps) ys →
       AllByRecursion (λ (y : Config). (config_eq.ghosts).eq x y ≡ false) ys → All (Differ (seen x)) (map seen ys)
   from_one x [] met all none = λ k d lt. absurd (omega (arith, lt))
@@ -207,7 +207,7 @@ module _ (n w : ℕ) (steps : List KeptStep) (are : AreSteps n w steps) (numbere
       (from_one x xs (All-head (IsMet n w steps) x xs all) (All-tail (IsMet n w steps) x xs all) distinct.0)
       (failed_pairs xs (All-tail (IsMet n w steps) x xs all) distinct.1)
 
-  -- those of the nodes, before these
+  -- the configurations of the nodes, before the others, differ pairwise
   nodes_pairs : (order : List ℕ) (nodes : List Node) (rest : List Configuration) → All (IsNode n w steps order) nodes →
       AllPairs Deeper nodes → ((node : Node) → Contains nodes node → All (Differ (seen_node node)) rest) →
       AllPairs Differ rest → AllPairs Differ (map seen_node nodes ++ rest)

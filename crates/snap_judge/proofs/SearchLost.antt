@@ -19,13 +19,13 @@ EndsNext p (Calls o ∷ xs) = (p ≡ o.process - 1 → ⊥) × EndsNext p xs
 EndsNext p (Ends i ∷ xs) = (p ≡ i - 1) ⊎ EndsNext p xs
 EndsNext p (Waits ∷ xs) = EndsNext p xs
 
--- It is called by one of these events, number t, and ends after that.
+-- An operation is called by one of these events, number t, and ends after that.
 pub record CalledLater (s : Operation) (xs : List Step) : Type 0 where
   pub t : ℕ
   pub call : get_or xs t Waits ≡ Calls s
   pub ends : EndsNext (s.process - 1) (drop (suc t) xs)
 
--- It has to take place yet: it is open, or is called later; and it ends.
+-- An operation has to take place yet: it is open, or is called later; and it ends.
 abbrev pub IsDue : Operation → List Step → List Slot → Type 0
 IsDue s xs S = ((at S (s.process - 1) ≡ Open s) × EndsNext (s.process - 1) xs) ⊎ CalledLater s xs
 
@@ -167,7 +167,7 @@ module _ (k x : ℕ) (s : Operation) (wants : Wants k x s) where
   never_due S (inl due) = due.1
   never_due S (inr later) = no_call later.t later.call
 
-  -- Then nothing explains what is left.
+  -- Once an operation is lost, nothing explains what is left.
   pub lost_for_good : (ms : List Move) (xs : List Step) (V : List ℕ) (S : List Slot) → IsLost xs V S →
       Explains ms xs V S → ⊥
   lost_for_good [] [] V S h e = never_due S h.due

@@ -13,7 +13,7 @@ use Rattle.snap_judge.proofs.SearchSlots.{at, one_open, Apart, IsThere, place_of
 use Rattle.snap_judge.proofs.SearchSlots.{passes_by, may_pass, passed_with, nothing_passes, turned, still_open, opened}
 use Rattle.snap_words.specs.Shape.{IsOneOf}
 
--- It is a scan.
+-- The operation is a scan.
 abbrev pub IsScan : Operation → Type 0
 IsScan o = (view : List ℕ) × (o.action ≡ Sees view)
 

@@ -27,7 +27,7 @@ take_behind x xs V S o apart is allows e = (
   ),
 )
 
--- Then what can be explained can be explained with the event passed first.
+-- What can be explained can be explained with a clear event passed first.
 pub pass_now : (ms : List Move) (x : Step) (xs : List Step) (V : List ℕ) (S : List Slot) → IsClear x S →
     Explains ms (x ∷ xs) V S → CanBeExplained xs V (passed S x)
 pass_now [] x xs V S clear e = absurd e

@@ -98,7 +98,7 @@ may_pass (Ends i) S p s apart may =
     (may.0, get_or-set_other S p (i - 1) s Free (turned apart) ∙ may.1)
 may_pass Waits S p s apart may = tt
 
--- and back
+-- what may pass with a slot set may pass before
 pub may_pass_back : (x : Step) (S : List Slot) (p : ℕ) (s : Slot) → Apart x p → MayPass (set S p s) x → MayPass S x
 may_pass_back (Calls o) S p s apart may = sym (get_or-set_other S p (o.process - 1) s Free (turned apart)) ∙ may
 may_pass_back (Ends i) S p s apart may =

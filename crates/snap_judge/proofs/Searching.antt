@@ -56,7 +56,7 @@ tried_last n w steps d front node fails =
     subst (IsTried steps) (get_or-append_seam front node [] d)
     (subst (FailsBehind n w steps d (front ++ node ∷ [])) (one_longer front node) fails)
 
--- the same of all nodes, where there is a node at all
+-- what holds of all nodes holds of the last one, where there is a node at all
 pub left_of : (n w : ℕ) (steps : List KeptStep) (nodes : List Node) → Node →
     ((d : Node) → FailsBehind n w steps d nodes (length nodes)) → OnlyNodesLeft n w steps nodes
 left_of n w steps nodes node behind =
@@ -235,7 +235,7 @@ module _ (n w : ℕ) (steps : List KeptStep) (order order' : List ℕ) (front : 
           (ap (λ (x : Node). x.depth) (get_or-append_seam front node' [] d)) in
           let deep = has.deep in let depth = has.depth in omega (arith, same, deep, depth)
 
-  -- it has tried one place more, where nothing explains the rest from there
+  -- the node has tried one place more, where nothing explains the rest from there
   pub retried_tried : (Can steps e.config → ⊥) → IsTried steps node'
   retried_tried fails = has.tried fails
 

@@ -46,7 +46,7 @@ IsUnwanted steps c word value =
     (q j : ℕ) → slice_index_or c.slots.items q kept_slot.Free ≡ kept_slot.Open j →
     Wants (word - 1) value (called_at steps j) → ⊥
 
--- This update is open, of a word that there is.
+-- An update is open, of a word that there is.
 pub record IsChoice (steps : List KeptStep) (c : Config) (u : OpenUpdate) : Type 0 where
   pub within : u.place < length c.slots.items
   pub is : slice_index_or c.slots.items u.place kept_slot.Free ≡ kept_slot.Open u.call

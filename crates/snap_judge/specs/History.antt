@@ -26,7 +26,7 @@ caller_after (what.Answer view) = Free
 caller_after what.Done = Free
 caller_after what.Crash = Gone
 
--- Its next event may be this one: it calls where it is free, and what it called ends as it has to.
+-- The next event of a process may be this one: it calls if it is free, and what it called ends as it has to.
 abbrev pub MayCome : Counts → Caller → Happening → Type 0
 MayCome shape Free (what.Call op.Scan) = Unit {0}
 MayCome shape Free (what.Call (op.Update word value)) = IsOneOf shape.w word
@@ -40,7 +40,7 @@ MayCome shape caller happening = ⊥
 abbrev pub with_caller : (ℕ → Caller) → ℕ → Caller → ℕ → Caller
 with_caller callers i caller j = if j == i then caller else callers j
 
--- These events may come one after another, from what the processes are at.
+-- Events may come one after another, from what the processes are at.
 abbrev pub MayFollow : Counts → (ℕ → Caller) → List Event → Type 0
 MayFollow shape callers [] = Unit {0}
 MayFollow shape callers (e ∷ es) =

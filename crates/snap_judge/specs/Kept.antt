@@ -52,7 +52,7 @@ rest_of steps c = drop c.position (steps_kept steps)
 abbrev pub slots_of : List KeptStep → Config → List Slot
 slots_of steps c = map (slot_of steps) c.slots.items
 
--- where it stands, and where one stands before the first of the steps
+-- a configuration as the definitions see it, with what is left of the steps
 abbrev pub seen_as : List KeptStep → Config → Configuration
 seen_as steps c = record { left = rest_of steps c; values = c.values.items; slots = slots_of steps c }
 
@@ -152,7 +152,7 @@ IsStuck steps c =
     (c.position < length steps)
     × MayNotPass (slots_of steps c) (step_of_kept (slice_index_or steps c.position kept_step.Waits))
 
--- They are the same but for where they stand in memory.
+-- Two configurations are the same but for where they stand in memory.
 pub record IsSameConfig (c c' : Config) : Type 0 where
   pub position : c'.position ≡ c.position
   pub values : c'.values.items ≡ c.values.items

@@ -16,7 +16,7 @@ abbrev pub called_as : Action → Op
 called_as (Sets word value) = op.Update word value
 called_as (Sees view) = op.Scan
 
--- and how it ends
+-- how an action ends
 abbrev pub ends_as : Action → Happening
 ends_as (Sets word value) = what.Done
 ends_as (Sees view) = what.Answer view
@@ -36,7 +36,7 @@ CameToEnd es i c None (Sets word value) =
 -- a scan that has not ended has seen no view
 CameToEnd es i c None (Sees view) = ⊥
 
--- It is an operation that the history tells of: it was called, and it ended so.
+-- An operation is one of the history: it was called, and has ended as it says.
 pub record IsOperationOf (h : History) (o : Operation) : Type 0 where
   pub called : Contains h.events (event o.process o.call (what.Call (called_as o.action)))
   pub came : CameToEnd h.events o.process o.call o.end o.action
@@ -54,7 +54,7 @@ pub record IsLinearizationOf (h : History) (os : List Operation) : Type 0 where
   -- the object runs them, from w zeros on, with these answers
   pub runs : RunsFrom (replicate h.shape.w 0) os
 
--- There is one.
+-- A history has a linearization.
 abbrev pub IsLinearizableHistory : History → Type 0
 IsLinearizableHistory h = (os : List Operation) × IsLinearizationOf h os
 

@@ -125,7 +125,8 @@ OnlyNodesLeft n w steps nodes =
 abbrev pub NothingLeft : List KeptStep → Trail → Type 0
 NothingLeft steps trail = OnlyNodesLeft trail.processes trail.words steps trail.nodes.items
 
--- It is the end of the history; or it is not the same as any of these that have failed, and an end comes next.
+-- A search that goes on is at the end of the history, or at a configuration that is none of those that have failed and
+-- at which an end comes next.
 abbrev pub IsAlive : List KeptStep → (failed : List Config) → Entered → Type 0
 IsAlive steps failed e = e.at_end ≡ false →
     (HasSame failed e.config → ⊥)
@@ -140,7 +141,7 @@ pub record IsAt (steps : List KeptStep) (trail : Trail) (e : Entered) : Type 0 w
   pub alive : IsAlive steps trail.failed.keys e
   pub left : (Can steps e.config → ⊥) → NothingLeft steps trail
 
--- It was the last node of the trail, and what it has tried is known; it is not the same as what has failed.
+-- The node was the last one of the trail, what it has tried is known, and it is none of those that have failed.
 pub record HasNode (steps : List KeptStep) (trail : Trail) (node : Node) : Type 0 where
   pub nodes : AreNodes trail.processes trail.words steps trail.order.items (trail.nodes.items ++ node ∷ [])
   pub tried : IsTried steps node

@@ -1,4 +1,4 @@
-//! A search passes the steps that it can pass.
+//! How a search passes steps.
 ghost use Rattle.std.specs.Prelude.{◌≡◌, ◌+◌, ◌-◌, ◌<◌, true, false, slice_index_or, length, IfOk, OnOk, suc};
 ghost use Rattle.snap_judge.specs.Kept.{AreSteps, GoesOn, IsCallOf, IsConfig, IsSettled, IsStuck, KeepsCounts};
 ghost use Rattle.snap_judge.specs.declared.config.Step.TheVariants as kept_step;
@@ -7,8 +7,8 @@ use crate::config::{Config, Slot, Step};
 use crate::scans::take_scans;
 use std::alloc::AllocError;
 
-/// Passes the step that is next, the call of an operation of the process at this place. Returns
-/// whether it may pass.
+/// Passes the next step, the call of an operation of the process at `place`, and returns whether it
+/// may pass.
 fn pass_call(
     steps: &[Step],
     config: &mut Config,
@@ -40,8 +40,8 @@ fn pass_call(
     }
 }
 
-/// Passes the step that is next, the end of what the process at this place called. Returns whether
-/// it may pass.
+/// Passes the next step, the end of what the process at `place` called, and returns whether it may
+/// pass.
 fn pass_end(steps: &[Step], config: &mut Config, order: &Vec<usize>, place: usize) -> bool
     requires config { IsConfig steps.now config.old }
     requires next { config.old.position < length steps.now }
@@ -67,7 +67,7 @@ fn pass_end(steps: &[Step], config: &mut Config, order: &Vec<usize>, place: usiz
     }
 }
 
-/// Passes the step that is next. Returns whether it may pass.
+/// Passes the next step, and returns whether it may pass.
 fn pass_step(
     steps: &[Step],
     config: &mut Config,
@@ -97,7 +97,11 @@ fn pass_step(
     }
 }
 
-/// Passes each step that is next, while it may pass. Returns whether all have passed.
+/// Passes steps as long as they may pass, and returns whether all have passed.
+///
+/// # Errors
+///
+/// `AllocError` where memory runs out.
 pub fn advance(
     steps: &[Step],
     config: &mut Config,

@@ -32,8 +32,8 @@ fn enter(
     Ok(Entered { config, at_end })
 }
 
-/// Tries the open update at the next place of a node that has to be tried. Returns what the search
-/// has come to, or that each has been tried: then nothing explains the rest from there.
+/// Tries the open update at the next place of a node that has to be tried, and returns where the
+/// search has come to; `None` where each was tried, so that nothing explains the rest from there.
 fn try_place(
     steps: &[Step],
     node: &mut Node,
@@ -60,8 +60,12 @@ fn try_place(
 }
 
 /// Tries the open update that is next at a node: first the one that ends, which mostly explains
-/// more than the others, and then each by its place. Returns what the search has come to, or that
-/// each has been tried: then nothing explains the rest from there.
+/// more than the others, and then each by its place. Returns where the search has come to; `None`
+/// where each was tried, so that nothing explains the rest from there.
+///
+/// # Errors
+///
+/// `AllocError` where memory runs out.
 pub fn try_next(
     steps: &[Step],
     node: &mut Node,

@@ -9,7 +9,7 @@ ghost use Rattle.snap_judge.specs.declared.config.Slot.TheVariants as kept_slot;
 use crate::config::{Config, OpenUpdate, Slot, Step};
 use crate::operation::Action;
 
-/// Whether step `call` calls an update of this word.
+/// Returns whether step `call` calls an update of this word.
 fn sets_word(steps: &[Step], call: usize, word: u64) -> bool
     requires { call < length steps.now }
     ensures { result ≡ false →
@@ -25,7 +25,7 @@ fn sets_word(steps: &[Step], call: usize, word: u64) -> bool
     }
 }
 
-/// Whether step `call` calls a scan that sees this value in the word at this place.
+/// Returns whether step `call` calls a scan that sees this value in the word at this place.
 fn sees_value(steps: &[Step], call: usize, place: usize, value: u64) -> bool
     requires { call < length steps.now }
     ensures { result ≡ false → Wants place value (called_at steps.now call) → ⊥ }
@@ -43,7 +43,7 @@ fn sees_value(steps: &[Step], call: usize, place: usize, value: u64) -> bool
     }
 }
 
-/// Whether an update of this word is open at another place.
+/// Returns whether an update of this word is open at another place.
 fn has_rival(steps: &[Step], config: &Config, place: usize, word: u64) -> bool
     requires { IsConfig steps.now config.now }
     ensures { result ≡ false → IsAlone steps.now config.now place word }
@@ -59,7 +59,7 @@ fn has_rival(steps: &[Step], config: &Config, place: usize, word: u64) -> bool
     false
 }
 
-/// Whether an open scan sees this value in this word.
+/// Returns whether an open scan sees this value in this word.
 fn is_wanted(steps: &[Step], config: &Config, word: u64, value: u64) -> bool
     requires { IsConfig steps.now config.now }
     ensures { result ≡ false → IsUnwanted steps.now config.now word value }
@@ -74,7 +74,7 @@ fn is_wanted(steps: &[Step], config: &Config, word: u64, value: u64) -> bool
     false
 }
 
-/// Returns the word and the value of the update that step `call` calls, where it calls one.
+/// Returns the word and the value of the update that step `call` calls; `None` where it calls none.
 fn called_update(steps: &[Step], call: usize) -> Option<(u64, u64)>
     requires { call < length steps.now }
     ensures some { IfSome result (λ u. (called_at steps.now call).action ≡ Sets u.0 u.1) }
@@ -90,7 +90,7 @@ fn called_update(steps: &[Step], call: usize) -> Option<(u64, u64)>
     }
 }
 
-/// Returns the update that is open at this place, where one is.
+/// Returns the update that is open at `place`; `None` where none is.
 pub fn open_update(steps: &[Step], config: &Config, place: usize) -> Option<OpenUpdate>
     requires config { IsConfig steps.now config.now }
     requires steps { AreSteps (length config.now.slots.items) (length config.now.values.items)
@@ -114,8 +114,8 @@ pub fn open_update(steps: &[Step], config: &Config, place: usize) -> Option<Open
     }
 }
 
-/// Returns the update that is open at this place, where it has to be tried before the end of the
-/// process at the place `ending`.
+/// Returns the update that is open at `place`, if it has to be tried before the end of the process
+/// at the place `ending`.
 fn choice_at(steps: &[Step], config: &Config, ending: usize, place: usize) -> Option<OpenUpdate>
     requires config { IsConfig steps.now config.now }
     requires steps { AreSteps (length config.now.slots.items) (length config.now.values.items)

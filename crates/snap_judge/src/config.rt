@@ -8,7 +8,7 @@ use std::alloc::AllocError;
 /// An event as a search sees it.
 #[derive(Drop)]
 pub enum Step {
-    /// The call of an operation, with the end that it comes to.
+    /// The call of an operation, with its end.
     Calls(Operation),
     /// The end of what the process called.
     Ends(u32),
@@ -16,7 +16,7 @@ pub enum Step {
     Waits,
 }
 
-/// What a process has open, by the step that called it.
+/// The open operation of a process, by the step that called it.
 #[derive(Clone, Copy, PartialEq, Eq, Hash)]
 pub enum Slot {
     Free,
@@ -44,7 +44,11 @@ pub struct OpenUpdate {
 }
 
 impl Config {
-    /// A copy.
+    /// Returns a copy.
+    ///
+    /// # Errors
+    ///
+    /// `AllocError` where memory runs out.
     pub fn copy(&self) -> Result<Config, AllocError>
         ensures { IfOk result (λ c. IsSameConfig self.now c) }
     {
@@ -56,9 +60,9 @@ impl Config {
     }
 }
 
-/// A configuration before the end of what the process at the place `ending` called, which has not
-/// taken place: it is reached by the first `depth` operations of an order. Each open update at a
-/// place before `next` that has to be tried has been; the one that ends is tried first of all, and
+/// A configuration before the end of the operation of the process at the place `ending`, which has
+/// not taken place. The first `depth` operations of an order lead there. Each open update at a
+/// place before `next` that has to be tried was tried; the one that ends is tried first of all, and
 /// `begun` says that it was.
 #[derive(Drop)]
 pub struct Node {

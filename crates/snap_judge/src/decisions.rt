@@ -17,7 +17,7 @@ use std::alloc::{AllocError, Global};
 /// What is decided of the first events of a history.
 #[derive(Drop)]
 pub enum Decision {
-    /// They are linearizable, in this order of the operations.
+    /// The operations are linearizable, in this order.
     Linearizable(Vec<Operation>),
     NotLinearizable,
     Undecided,
@@ -85,7 +85,7 @@ fn operation_at(alloc: Global, steps: &[Step], call: usize) -> Result<Operation,
     }
 }
 
-/// Returns the operations that these steps call, in this order.
+/// Returns the operations that the steps of `order` call, in this order.
 fn operations(alloc: Global, steps: &[Step], order: &[usize]) -> Result<Vec<Operation>, AllocError>
     ensures { IfOk result (λ os. map operation_of os.items ≡ map (called_at steps.now) order.now) }
 {
@@ -98,6 +98,10 @@ fn operations(alloc: Global, steps: &[Step], order: &[usize]) -> Result<Vec<Oper
 }
 
 /// Decides whether the first `count` events of the history are linearizable.
+///
+/// # Errors
+///
+/// `AllocError` where memory runs out.
 pub fn decide(
     alloc: Global,
     history: &History,

@@ -12,15 +12,18 @@ use std::alloc::{AllocError, Global};
 /// What is said of a history.
 #[derive(Drop)]
 pub enum Judgement {
-    /// It is linearizable: its operations could have taken place one after another in this order.
+    /// The history is linearizable: its operations could have taken place one after another in this
+    /// order.
     Linearizable(Vec<Operation>),
-    /// It is not linearizable up to this event, counted from 1; up to the event before it is.
+    /// The history is not linearizable up to this event, counted from 1; up to the event before it
+    /// is.
     NotLinearizable(usize),
-    /// The search has not decided whether it is linearizable up to this event, counted from 1.
+    /// The search has not decided whether the history is linearizable up to this event, counted
+    /// from 1.
     Undecided(usize),
 }
 
-/// Seeks the event at which a history fails that is not linearizable: each time in the middle of
+/// Finds the event at which a history that is not linearizable fails, each time in the middle of
 /// the events between one up to which it is linearizable and one up to which it is not.
 fn failure(alloc: Global, history: &History, most: usize) -> Result<Judgement, AllocError>
     requires history { IsHistory history.now }
@@ -40,15 +43,15 @@ fn failure(alloc: Global, history: &History, most: usize) -> Result<Judgement, A
     Ok(Judgement::NotLinearizable(fails))
 }
 
-/// Judges whether a history is linearizable, and where it is not, at which event it fails.
+/// Judges whether `history` is linearizable, and if it is not, at which event it fails.
 ///
 /// A search keeps a list of at most `most` configurations, no two of them the same, for the whole
-/// history, and so for each beginning of it that is tried. What more of them would decide is
-/// answered as undecided.
+/// history, and again for each beginning of it that is tried. What more configurations would decide
+/// is answered as undecided.
 ///
 /// # Errors
 ///
-/// There is no memory for it.
+/// `AllocError` where memory runs out.
 pub fn judge(alloc: Global, history: &History, most: usize) -> Result<Judgement, AllocError>
     requires { IsHistory history.now }
     ensures { IfOk result (IsJudgement most history.now) }

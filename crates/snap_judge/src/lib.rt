@@ -21,7 +21,7 @@ pub use history::History;
 pub use judgements::{Judgement, judge};
 pub use operation::{Action, Operation};
 
-/// The moves that explain a history take a linearization of it, and each linearization is taken by
+/// The moves that explain a history make a linearization of it, and each linearization is made by
 /// such moves.
 pub fn histories_are_explained()
     ensures { HistoriesAreExplained }

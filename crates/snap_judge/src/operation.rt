@@ -1,4 +1,4 @@
-//! `Operation`: what a process asked for, from the call to the end.
+//! `Operation`: an operation of a process, from its call to its end.
 use snap_words::View;
 
 /// What an operation does.
@@ -10,8 +10,8 @@ pub enum Action {
     Sees(View),
 }
 
-/// An operation: the process that called it, the numbers of the events of its call and of its end,
-/// where it has ended, and what it does.
+/// An operation: the process that called it, the numbers of the events of its call and, if it has
+/// ended, of its end, and what it does.
 #[derive(Drop)]
 pub struct Operation {
     pub process: u32,

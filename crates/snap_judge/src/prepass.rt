@@ -8,7 +8,7 @@ use crate::operation::{Action, Operation};
 use snap_semantics::{Event, Happening, Op};
 use std::alloc::{AllocError, Global};
 
-/// Returns the first of these events that is one of the process.
+/// Returns the first of `events` that is one of the process.
 fn next_event(process: u32, events: &[Event]) -> Option<&Event>
     ensures { MatchOption result (next_of process events.now ≡ None)
         (λ e. next_of process events.now ≡ Some e.now) }
@@ -21,8 +21,7 @@ fn next_event(process: u32, events: &[Event]) -> Option<&Event>
     None
 }
 
-/// Returns the number of the event at which an update of the process ends, which these events
-/// follow.
+/// Returns the number of the event among `rest` at which an update of the process ends.
 fn end_of_update(process: u32, rest: &[Event]) -> Option<u64>
     ensures { result ≡ update_end (next_of process rest.now) }
 {
@@ -37,7 +36,7 @@ fn end_of_update(process: u32, rest: &[Event]) -> Option<u64>
     }
 }
 
-/// Returns the step that calls a scan of the process at event `call`, which these events follow.
+/// Returns the step that calls a scan of the process at event `call`, which `rest` follow.
 fn call_of_scan(alloc: Global, process: u32, call: u64, rest: &[Event]) -> Result<Step, AllocError>
     ensures { IfOk result (λ s. step_of_kept s ≡ scan_step process call (next_of process rest.now)) }
 {
@@ -60,7 +59,7 @@ fn call_of_scan(alloc: Global, process: u32, call: u64, rest: &[Event]) -> Resul
     }
 }
 
-/// Returns the step of an event that these events follow.
+/// Returns the step of an event that `rest` follow.
 fn step_at(alloc: Global, event: &Event, rest: &[Event]) -> Result<Step, AllocError>
     ensures { IfOk result (λ s. step_of_kept s
         ≡ step_of event.now.process event.now.item event.now.what rest.now) }
@@ -82,12 +81,13 @@ fn step_at(alloc: Global, event: &Event, rest: &[Event]) -> Result<Step, AllocEr
     }
 }
 
-/// Returns the step of each of these events. An operation is sought from its call to the next event
-/// of its process alone, so that each event is looked at once for each process at most.
+/// Returns the steps of `events`, one for each. The end of an operation is sought among the events
+/// up to the next one of its process alone, so that each event is looked at at most once for each
+/// process.
 ///
 /// # Errors
 ///
-/// There is no memory for them.
+/// `AllocError` where memory runs out.
 pub fn steps_of(alloc: Global, events: &[Event]) -> Result<Vec<Step>, AllocError>
     ensures { IfOk result (λ s. steps_kept s.items ≡ steps_of events.now) }
 {

@@ -1,4 +1,4 @@
-//! Scans that take place as soon as they can.
+//! Scans, which take place as soon as they can.
 ghost use Rattle.std.specs.Prelude.{◌≡◌, ◌<◌, ◌↔◌, IsTrue, OnOk, length};
 ghost use Rattle.snap_runs.specs.Operation.{Sees};
 ghost use Rattle.snap_judge.specs.Kept.{ChangesSlotAlone, ChangesSlotsAlone, GoesOn, IsConfig, IsSettled, IsSettledAt, called_at};
@@ -7,7 +7,7 @@ use crate::config::{Config, Slot, Step};
 use crate::operation::Action;
 use std::alloc::AllocError;
 
-/// Whether step `call` calls a scan that sees these values.
+/// Returns whether step `call` calls a scan that sees `values`.
 fn sees(steps: &[Step], call: usize, values: &[u64]) -> bool
     requires { call < length steps.now }
     ensures { IsTrue result ↔ ((called_at steps.now call).action ≡ Sees values.now) }
@@ -21,7 +21,7 @@ fn sees(steps: &[Step], call: usize, values: &[u64]) -> bool
     }
 }
 
-/// Lets the scan that is open at this place take place, if it sees the values that are there.
+/// Lets the scan that is open at `place` take place, if it sees the values at that time.
 fn take_scan(
     steps: &[Step],
     config: &mut Config,
@@ -44,7 +44,11 @@ fn take_scan(
     Ok(())
 }
 
-/// Lets each open scan take place that sees the values that are there.
+/// Lets each open scan take place that sees the current values.
+///
+/// # Errors
+///
+/// `AllocError` where memory runs out.
 pub fn take_scans(
     steps: &[Step],
     config: &mut Config,

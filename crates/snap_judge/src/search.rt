@@ -13,7 +13,7 @@ use crate::config::{Config, Entered, Found, Node, Slot, Step};
 use std::alloc::{AllocError, Global};
 use std::collections::HashSet;
 
-/// Where a search of the histories of this many processes and words is: the nodes at which it has
+/// Where a search of the histories of a number of processes and words is: the nodes at which it has
 /// chosen, the configurations from which nothing explains the rest, and the operations that have
 /// taken place, by the steps that call them.
 #[derive(Drop)]
@@ -25,7 +25,7 @@ struct Trail {
     order: Vec<usize>,
 }
 
-/// Returns the place of the process whose end this step is, where it is an end.
+/// Returns the place of the process whose end the step at `position` is; `None` where it is no end.
 fn ending_at(steps: &[Step], position: usize) -> Option<usize>
     requires position { position < length steps.now }
     requires process { (i : ℕ) → slice_index_or steps.now position kept_step.Waits
@@ -42,8 +42,8 @@ fn ending_at(steps: &[Step], position: usize) -> Option<usize>
     }
 }
 
-/// Whether nothing explains the rest from what the search has come to, as is known already: the
-/// same configuration has failed before, or the next step is no end.
+/// Returns whether it is known that nothing explains the rest from where the search has come to:
+/// the same configuration has failed before, or the next step is no end.
 fn is_dead(steps: &[Step], failed: &HashSet<Config>, entered: &Entered) -> bool
     requires config { IsConfig steps.now entered.now.config }
     requires stuck { entered.now.at_end ≡ false → IsStuck steps.now entered.now.config }
@@ -92,8 +92,8 @@ fn start(alloc: Global, steps: &[Step], trail: &mut Trail) -> Result<Option<Ente
     Ok(Some(entered))
 }
 
-/// Tries what is next at a node that was the last one. Returns what the search has come to, or that
-/// each has been tried: then nothing explains the rest from the nodes that are left.
+/// Tries what is next at a node that was the last one, and returns where the search has come to;
+/// `None` where each was tried, so that nothing explains the rest from the nodes that are left.
 fn retry(steps: &[Step], trail: &mut Trail, mut node: Node) -> Result<Option<Entered>, AllocError>
     requires trail { IsTrail steps.now trail.old }
     requires node { HasNode steps.now trail.old node }
@@ -115,8 +115,8 @@ fn retry(steps: &[Step], trail: &mut Trail, mut node: Node) -> Result<Option<Ent
     Ok(None)
 }
 
-/// Goes back to the last node at which something is left to try, and tries it. Returns what the
-/// search has come to, or that nothing explains the history.
+/// Goes back to the last node at which something is left to try, and tries it; returns where the
+/// search has come to, or `None` where nothing explains the history.
 fn descend(steps: &[Step], trail: &mut Trail) -> Result<Option<Entered>, AllocError>
     requires trail { IsTrail steps.now trail.old }
     requires left { NothingLeft steps.now trail.old }
@@ -160,7 +160,7 @@ fn enter_node(steps: &[Step], trail: &mut Trail, entered: Entered) -> Result<(),
     Ok(())
 }
 
-/// Goes on from what the search has come to. Returns what it comes to next, or that nothing
+/// Goes on from `entered`, and returns where the search comes to next, or `None` where nothing
 /// explains the history.
 fn go_on(steps: &[Step], trail: &mut Trail, entered: Entered) -> Result<Option<Entered>, AllocError>
     requires trail { IsTrail steps.now trail.old }
@@ -178,15 +178,13 @@ fn go_on(steps: &[Step], trail: &mut Trail, entered: Entered) -> Result<Option<E
     descend(steps, trail)
 }
 
-/// Searches for an order in which all operations take place. It keeps at most so many
-/// configurations, and no two that are the same: those at which it has a choice left, and those
-/// from which nothing explains the rest.
-///
-/// Returns that it has not decided where there are more of them.
+/// Searches for an order in which all operations take place. The search keeps at most `most`
+/// configurations, no two of them the same: those at which it has a choice left, and those from
+/// which nothing explains the rest; it returns that it has not decided if there are more.
 ///
 /// # Errors
 ///
-/// Fails when there is no memory.
+/// `AllocError` where memory runs out.
 pub fn search(
     alloc: Global,
     steps: &[Step],

@@ -24,6 +24,10 @@ fn put(config: &mut Config, update: OpenUpdate)
 }
 
 /// Lets an open update take place, and then each scan that sees the values.
+///
+/// # Errors
+///
+/// `AllocError` where memory runs out.
 pub fn take_update(
     steps: &[Step],
     config: &mut Config,

@@ -11,7 +11,7 @@ use Rattle.snap_judge.specs.History.{Busy, Caller, Free, Gone, History, IsHistor
 use Rattle.snap_judge.specs.History.{caller_after, with_caller}
 use Rattle.snap_judge.specs.Linearizable.{event, up_to}
 use Rattle.snap_judge.proofs.ExplainedNext.{Rises}
-use Rattle.snap_judge_output.specs.JudgementText.{last_of}
+use Rattle.snap_history_text.specs.JudgementText.{last_of}
 use Rattle.snap_judge_reasons.specs.RightAnswers.{answering}
 
 follow_take : (shape : Counts) (callers : ℕ → Caller) (k : ℕ) (es : List Event) → MayFollow shape callers es →

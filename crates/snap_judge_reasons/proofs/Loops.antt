@@ -20,7 +20,7 @@ all_taken P xs i le all x has = all_contained P x xs (subst (All P) (take_all i 
 pub all_of : {X : Type 0} (P : X → Type 0) (xs : List X) (i : ℕ) → length xs ≤ i → All P (take i xs) → All P xs
 all_of P xs i le all = subst (All P) (take_all i xs le) all
 
--- and of one more
+-- what holds of the first i elements and of one more
 pub more : {X : Type 0} (P : X → Type 0) (xs : List X) (i : ℕ) (x : X) → i < length xs → x ≡ get_or xs i x →
     All P (take i xs) → P x → All P (take (i + 1) xs)
 more P xs i x lt is all here = All-more P xs i x lt all (subst P is here)

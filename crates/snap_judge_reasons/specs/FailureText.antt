@@ -18,7 +18,7 @@ asked_text i (action.Sees view) = codes "scan of process " ++ decimal i
 abbrev pub operation_name : Operation → List ℕ
 operation_name o = asked_text o.process o.action ++ codes " (event " ++ decimal o.call ++ codes ")"
 
--- that the first operation took place before the second one, on these grounds
+-- the text that the first operation took place before the second one, on these grounds
 abbrev pub grounds_text : Grounds → (first second : Operation) → List ℕ
 grounds_text grounds.Ended first second =
     operation_name first ++ codes " ended before " ++ operation_name second ++ codes " was called"

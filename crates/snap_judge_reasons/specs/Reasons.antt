@@ -71,7 +71,7 @@ AreGrounds h grounds.Saw first second = HasSeen h.events first second
 AreGrounds h grounds.Missed first second = HasMissed h first second
 AreGrounds h (grounds.Unset word value) first second = (second ≡ first) × ShowsUnset h.events word value first
 
--- Both are operations of the history, and the first one took place before the second one, on the grounds that are told.
+-- Two operations of the history, the first of which took place before the second one on the grounds that are given.
 pub record IsReason (h : History) (r : Reason) : Type 0 where
   pub first : IsOperationOf h (operation_of r.first)
   pub second : IsOperationOf h (operation_of r.second)
@@ -82,7 +82,7 @@ abbrev pub IsChain : History → (from : Operation) → List Reason → (to : Op
 IsChain h from [] to = from ≡ to
 IsChain h from (r ∷ rs) to = (operation_of r.first ≡ from) × IsReason h r × IsChain h (operation_of r.second) rs to
 
--- They are a chain from an operation back to it, and there is at least one.
+-- Reasons are a chain from an operation back to it, and there is at least one.
 abbrev pub IsCircle : History → List Reason → Type 0
 IsCircle h [] = ⊥
 IsCircle h (r ∷ rs) = IsChain h (operation_of r.first) (r ∷ rs) (operation_of r.first)

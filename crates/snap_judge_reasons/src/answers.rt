@@ -5,7 +5,7 @@ ghost use Rattle.snap_words.specs.Shape.{IsOneOf};
 ghost use Rattle.snap_semantics.specs.declared.event.Happening.TheVariants as what;
 ghost use Rattle.snap_judge.specs.History.{IsHistory};
 ghost use Rattle.snap_judge.specs.Linearizable.{IsLinearizableHistory};
-ghost use Rattle.snap_judge_output.specs.JudgementText.{last_of};
+ghost use Rattle.snap_history_text.specs.JudgementText.{last_of};
 ghost use Rattle.snap_judge_reasons.specs.RightAnswers.{AreRightAnswers, AreRightNext, IsRightNext};
 ghost use Rattle.snap_judge_reasons.specs.RightAnswers.{followed_by, most_answers};
 
@@ -19,7 +19,7 @@ use std::alloc::{AllocError, Global};
 /// How many answers are told of at most.
 const MOST_ANSWERS: usize = 8;
 
-/// How many views are tried at most, and how many events of histories are judged for them.
+/// The most views that are tried, and the most events of histories that are judged for them.
 const MOST_VIEWS: usize = 64;
 
 const MOST_EVENTS: usize = 400_000;
@@ -27,7 +27,7 @@ const MOST_EVENTS: usize = 400_000;
 /// How many turns of a search an event may take.
 const TURNS_PER_EVENT: usize = 8;
 
-/// Returns how many views are tried behind so many events, each in how many turns.
+/// Returns how many views are tried behind `count` events, and in how many turns each.
 fn bounds(count: usize, most: usize) -> Bounds {
     Bounds {
         views: (MOST_EVENTS / count.saturating_add(1)).min(MOST_VIEWS),
@@ -38,8 +38,8 @@ fn bounds(count: usize, most: usize) -> Bounds {
     }
 }
 
-/// Whether the history with this answer behind it, of this process and at this event number, is
-/// judged to be linearizable.
+/// Returns whether the history with this answer behind it, of this process and at this event
+/// number, is judged to be linearizable.
 fn is_right(
     alloc: Global,
     front: &mut History,
@@ -66,14 +66,14 @@ fn is_right(
     }
 }
 
-/// Whether the view has these values.
+/// Returns whether `view` has `values`.
 fn is_view(view: &View, values: &[u64]) -> bool
     ensures { result ≡ false → view.now ≡ values.now → ⊥ }
 {
     view.as_slice() == values
 }
 
-/// Whether the view is one of these.
+/// Returns whether one of `views` has `values`.
 fn is_among(views: &[View], values: &[u64]) -> bool
     ensures { result ≡ false → All (λ view. view ≡ values.now → ⊥) views.now }
 {
@@ -85,8 +85,8 @@ fn is_among(views: &[View], values: &[u64]) -> bool
     false
 }
 
-/// Returns the view of these values, if it is as long as others and would be right as the next
-/// answer, in the event that is given with another answer.
+/// Returns the view of `values`, if it is as long as others and would be right as the next answer,
+/// in the event that is given with another answer.
 fn right_view(
     alloc: Global,
     front: &mut History,
@@ -111,7 +111,7 @@ fn right_view(
     }
 }
 
-/// Adds the view of these values, if it would be right as the next answer and is not there.
+/// Adds the view of `values`, if it would be right as the next answer and is not among `views`.
 fn add_right(
     alloc: Global,
     front: &mut History,
@@ -190,15 +190,16 @@ fn answers(
     right_ones(alloc, &mut front, event, &tried.views, bounds.turns)
 }
 
-/// Returns answers that would have been right at event number `count` of the history, counted from
-/// 1: at most eight, no two the same, and none where that event is no answer. Each of them is judged
-/// in at most `most` turns of a search.
+/// Returns answers that would have been right at event number `count` of `history`, counted from 1:
+/// at most eight, no two of them the same, and none where that event is no answer. Each of them is
+/// judged in at most `most` turns of a search.
 ///
-/// There may be others. The more events stand before it, the fewer answers are tried.
+/// Further answers may have been right. The more events stand before event `count`, the fewer
+/// answers are tried.
 ///
 /// # Errors
 ///
-/// There is no memory for them.
+/// `AllocError` where memory runs out.
 pub fn right_answers(
     alloc: Global,
     history: &History,

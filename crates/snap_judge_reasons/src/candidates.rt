@@ -1,4 +1,4 @@
-//! Answers that may have been right, to be tried: nothing is said of them.
+//! Answers that may have been right, to be tried. Nothing is proved of them.
 ghost use Rattle.snap_judge.specs.History.{IsHistory};
 
 use crate::operations::operations_of;
@@ -12,7 +12,7 @@ pub struct Bounds {
     pub turns: usize,
 }
 
-/// Views without one that stands twice, at most so many.
+/// Views, no two of them the same, at most a given number.
 #[derive(Drop)]
 pub struct Candidates {
     pub views: Vec<Vec<u64>>,
@@ -20,7 +20,7 @@ pub struct Candidates {
 }
 
 impl Candidates {
-    /// None yet, of at most `most`.
+    /// Returns no views, with room for at most `most`.
     fn new(alloc: Global, most: usize) -> Candidates {
         Candidates {
             views: Vec::new(alloc),
@@ -28,12 +28,12 @@ impl Candidates {
         }
     }
 
-    /// Whether there is room for no more.
+    /// Returns whether there is no more room.
     fn is_full(&self) -> bool {
         self.views.len() >= self.most
     }
 
-    /// Adds a copy of these values, unless they are there or there is no room.
+    /// Adds a copy of `values`, unless they are there or there is no room.
     fn add(&mut self, alloc: Global, values: &[u64]) -> Result<(), AllocError> {
         if self.is_full() || self.views.iter().any(|view| view.as_slice() == values) {
             return Ok(());
@@ -43,7 +43,7 @@ impl Candidates {
     }
 }
 
-/// Whether an operation ended before event number `call`.
+/// Returns whether an operation ended before event number `call`.
 fn ended_before(operation: &Operation, call: u64) -> bool {
     match operation.end {
         Some(end) => end < call,
@@ -63,7 +63,7 @@ fn needed(order: &[Operation], call: u64) -> usize {
     needed
 }
 
-/// Sets a word, counted from 1, where there is one.
+/// Sets a word, counted from 1, if there is one.
 fn set(values: &mut Vec<u64>, word: u64, value: u64) {
     if let Some(place) = values.get_mut(word.wrapping_sub(1) as usize) {
         *place = value;
@@ -78,7 +78,7 @@ fn take(values: &mut Vec<u64>, operation: &Operation) {
 }
 
 /// Adds the values that stood in the words from the call of the scan on, while the operations took
-/// place in this order. Returns the last ones.
+/// place in this order, and returns the last ones.
 fn add_held(
     alloc: Global,
     candidates: &mut Candidates,
@@ -100,7 +100,7 @@ fn add_held(
     Ok(values)
 }
 
-/// Adds each of these views with the word set to the value.
+/// Adds each of the views with the word set to the value.
 fn set_in_each(
     alloc: Global,
     candidates: &mut Candidates,
@@ -123,7 +123,7 @@ fn set_in_each(
     Ok(())
 }
 
-/// Whether an operation that is called at this event is one of these.
+/// Returns whether an operation that is called at event `call` is one of `order`.
 fn is_among(order: &[Operation], call: u64) -> bool {
     order.iter().any(|operation| operation.call == call)
 }
@@ -148,7 +148,8 @@ fn add_open(
     Ok(())
 }
 
-/// Adds the view that was answered with 0, or with the value of one update, in the word of it.
+/// Adds the view that was answered with 0, or with the value of one update, in the word of that
+/// update.
 fn add_exchanged(
     alloc: Global,
     candidates: &mut Candidates,
@@ -173,7 +174,7 @@ fn add_exchanged(
     Ok(())
 }
 
-/// Returns the event number at which a process called what it called last.
+/// Returns the event number of the last call of `process`.
 fn last_call(all: &[Operation], process: u32) -> u64 {
     for operation in all.iter().rev() {
         if operation.process == process {
@@ -183,8 +184,12 @@ fn last_call(all: &[Operation], process: u32) -> u64 {
     0
 }
 
-/// Returns views that the scan that a process called last in this history may have seen, in place of
-/// `view`, if it ends next.
+/// Returns views that the last scan of `process` in this history may have seen, in place of `view`,
+/// if it ends next.
+///
+/// # Errors
+///
+/// `AllocError` where memory runs out.
 pub fn propose(
     alloc: Global,
     front: &History,

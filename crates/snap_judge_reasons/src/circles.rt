@@ -7,7 +7,7 @@ use crate::grounds::{is_reason, is_same};
 use crate::reason::Reason;
 use snap_judge::{History, Operation};
 
-/// Whether the reasons are a chain from one operation to another.
+/// Returns whether the reasons are a chain from one operation to another.
 fn is_chain(
     history: &History,
     operations: &[Operation],
@@ -28,8 +28,8 @@ fn is_chain(
     is_same(at, to)
 }
 
-/// Whether the reasons are a circle. An update that a scan saw in place of another one is sought
-/// among the operations.
+/// Returns whether the reasons are a circle. An update that a scan saw in place of another one is
+/// sought among the operations.
 pub fn is_circle(history: &History, operations: &[Operation], reasons: &[Reason]) -> bool
     ensures { result ≡ true → IsCircle history.now reasons.now }
 {

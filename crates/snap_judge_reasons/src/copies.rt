@@ -44,6 +44,10 @@ fn copy_of_events(alloc: Global, events: &[Event]) -> Result<Vec<Event>, AllocEr
 }
 
 /// Returns a history of the first `count` events.
+///
+/// # Errors
+///
+/// `AllocError` where memory runs out.
 pub fn first_events(alloc: Global, history: &History, count: usize) -> Result<History, AllocError>
     requires { count ≤ length history.now.events }
     ensures { IfOk result (λ h. h ≡ up_to count history.now) }
@@ -69,6 +73,10 @@ fn copy_of_action(alloc: Global, action: &Action) -> Result<Action, AllocError>
 }
 
 /// Returns a copy of the operation.
+///
+/// # Errors
+///
+/// `AllocError` where memory runs out.
 pub fn copy_of_operation(alloc: Global, operation: &Operation) -> Result<Operation, AllocError>
     ensures { IfOk result (λ o. operation_of o ≡ operation_of operation.now) }
 {

@@ -2,18 +2,18 @@
 ghost use Rattle.std.specs.Prelude.{◌≡◌, ◌++◌, IfOk, codes, decimal};
 ghost use Rattle.snap_judge.specs.declared.operation.Operation.{Operation};
 ghost use Rattle.snap_judge_reasons.specs.declared.reason.Grounds.TheVariants as grounds;
-ghost use Rattle.snap_draft.specs.Drafted.{Adds};
+ghost use Rattle.snap_text.specs.Drafted.{Adds};
 ghost use Rattle.snap_judge_reasons.specs.FailureText.{answer_line, answer_lines, asked_text};
 ghost use Rattle.snap_judge_reasons.specs.FailureText.{failure_text, grounds_text, operation_name};
 ghost use Rattle.snap_judge_reasons.specs.FailureText.{reason_line, reason_lines};
 
 use crate::reason::{Grounds, Reason};
-use snap_draft::Draft;
 use snap_judge::{Action, Operation};
+use snap_text::Draft;
 use snap_words::View;
 use std::alloc::{AllocError, Global};
 
-/// Adds what the process was asked for.
+/// Appends the call of a process.
 fn push_asked(draft: &mut Draft, process: u32, action: &Action)
     ensures { Adds draft.old draft.new (asked_text process action.now) }
 {
@@ -31,7 +31,7 @@ fn push_asked(draft: &mut Draft, process: u32, action: &Action)
     }
 }
 
-/// Adds an operation, by what was asked for and the event of its call.
+/// Appends an operation, by its call and the event of that call.
 fn push_name(draft: &mut Draft, operation: &Operation)
     ensures { Adds draft.old draft.new (operation_name operation.now) }
 {
@@ -41,7 +41,7 @@ fn push_name(draft: &mut Draft, operation: &Operation)
     draft.push(b")");
 }
 
-/// Adds that the first operation ended before the second one was called.
+/// Appends that the first operation ended before the second one was called.
 fn push_ended(draft: &mut Draft, first: &Operation, second: &Operation)
     ensures { Adds draft.old draft.new
         (grounds_text grounds.Ended first.now second.now) }
@@ -52,7 +52,7 @@ fn push_ended(draft: &mut Draft, first: &Operation, second: &Operation)
     draft.push(b" was called");
 }
 
-/// Adds that the scan saw the update.
+/// Appends that the scan saw the update.
 fn push_saw(draft: &mut Draft, update: &Operation, scan: &Operation)
     ensures { Adds draft.old draft.new (grounds_text grounds.Saw update.now scan.now) }
 {
@@ -61,7 +61,7 @@ fn push_saw(draft: &mut Draft, update: &Operation, scan: &Operation)
     push_name(draft, update);
 }
 
-/// Adds that the scan did not see the update.
+/// Appends that the scan did not see the update.
 fn push_missed(draft: &mut Draft, scan: &Operation, update: &Operation)
     ensures { Adds draft.old draft.new (grounds_text grounds.Missed scan.now update.now) }
 {
@@ -70,7 +70,7 @@ fn push_missed(draft: &mut Draft, scan: &Operation, update: &Operation)
     push_name(draft, update);
 }
 
-/// Adds a word and a value behind a text.
+/// Appends a word and a value behind a text.
 fn push_setting(draft: &mut Draft, text: &[u8], word: u64, value: u64)
     ensures { Adds draft.old draft.new
         (text.now ++ decimal word ++ codes " " ++ decimal value) }
@@ -81,7 +81,7 @@ fn push_setting(draft: &mut Draft, text: &[u8], word: u64, value: u64)
     draft.push_number(value);
 }
 
-/// Adds that the scan saw the value in the word, and that no update sets it.
+/// Appends that the scan saw the value in the word, and that no update sets it.
 fn push_unset(draft: &mut Draft, scan: &Operation, word: u64, value: u64)
     ensures { (other : Operation) → Adds draft.old draft.new
         (grounds_text (grounds.Unset word value) scan.now other) }
@@ -95,7 +95,7 @@ fn push_unset(draft: &mut Draft, scan: &Operation, word: u64, value: u64)
     draft.push(b" was called before it ended");
 }
 
-/// Adds why the first operation took place before the second one.
+/// Appends why the first operation took place before the second one.
 fn push_grounds(draft: &mut Draft, reason: &Reason)
     ensures { Adds draft.old draft.new
         (grounds_text reason.now.grounds reason.now.first reason.now.second) }
@@ -108,7 +108,7 @@ fn push_grounds(draft: &mut Draft, reason: &Reason)
     }
 }
 
-/// Adds the line of a reason.
+/// Appends the line of a reason.
 fn push_reason(draft: &mut Draft, reason: &Reason)
     ensures { Adds draft.old draft.new (reason_line reason.now) }
 {
@@ -117,7 +117,7 @@ fn push_reason(draft: &mut Draft, reason: &Reason)
     draft.push(b"\n");
 }
 
-/// Adds the lines of reasons.
+/// Appends the lines of reasons.
 fn push_reasons(draft: &mut Draft, reasons: &[Reason])
     ensures { Adds draft.old draft.new (reason_lines reasons.now) }
 {
@@ -126,7 +126,7 @@ fn push_reasons(draft: &mut Draft, reasons: &[Reason])
     }
 }
 
-/// Adds the line of an answer.
+/// Appends the line of an answer.
 fn push_answer(draft: &mut Draft, view: &View)
     ensures { Adds draft.old draft.new (answer_line view.now) }
 {
@@ -135,7 +135,7 @@ fn push_answer(draft: &mut Draft, view: &View)
     draft.push(b"\n");
 }
 
-/// Adds the lines of answers.
+/// Appends the lines of answers.
 fn push_answers(draft: &mut Draft, views: &[View])
     ensures { Adds draft.old draft.new (answer_lines views.now) }
 {
@@ -149,7 +149,7 @@ fn push_answers(draft: &mut Draft, views: &[View])
 ///
 /// # Errors
 ///
-/// Memory ran out.
+/// `AllocError` where memory runs out.
 pub fn failure_text(
     alloc: Global,
     views: &[View],

@@ -38,17 +38,16 @@ fn circle_at(alloc: Global, history: &History, end: u64) -> Result<Option<Vec<Re
     }
 }
 
-/// Returns why no order explains the history up to its event number `count`, counted from 1: a
-/// shortest circle of reasons on which the operation lies that ends there. Returns `None` where
-/// there is none.
+/// Returns why no order explains `history` up to its event number `count`, counted from 1: a
+/// shortest circle of reasons through the operation that ends there; `None` where there is none.
 ///
-/// Where no value stands twice in a word, none is set to 0, and each word has one process that
-/// updates it, there is one at the event at which a history fails. That is not proved, nor that the
-/// circle is a shortest one; that it is one is.
+/// If no value stands twice in a word, none is set to 0, and each word has one process that updates
+/// it, then there is such a circle at the event at which a history fails. Neither that nor that the
+/// circle is a shortest one is proved; that it is a circle of reasons is proved.
 ///
 /// # Errors
 ///
-/// There is no memory for them.
+/// `AllocError` where memory runs out.
 pub fn reasons(
     alloc: Global,
     history: &History,

@@ -1,4 +1,4 @@
-//! The operations of a history, and what is asked of them where reasons are sought.
+//! The operations of a history, and what a search for reasons looks up in them.
 use crate::operations::operations_of;
 use snap_judge::{Action, History, Operation};
 use std::alloc::{AllocError, Global};
@@ -11,8 +11,8 @@ struct Setting {
     value: u64,
 }
 
-/// The operations in the order of their calls; which of them alone sets a word to a value, where
-/// one alone does; the updates of each word; and for each operation the scans that saw it.
+/// The operations in the order of their calls; which of them alone sets a word to a value, if one
+/// alone does; the updates of each word; and for each operation the scans that saw it.
 #[derive(Drop)]
 pub struct Graph {
     pub operations: Vec<Operation>,
@@ -21,8 +21,8 @@ pub struct Graph {
     pub seen_by: Vec<Vec<usize>>,
 }
 
-/// What a value in a word tells: that it stood there from the beginning, which operation alone sets
-/// it, that none does, or nothing, where more than one may have set it.
+/// Where a value in a word comes from: from the beginning, from one operation alone, from none, or,
+/// if more than one may have set it, from an unknown one.
 #[derive(Clone, Copy)]
 pub enum Origin {
     Beginning,
@@ -40,7 +40,7 @@ fn lists(alloc: Global, count: usize) -> Result<Vec<Vec<usize>>, AllocError> {
     Ok(lists)
 }
 
-/// Adds a number to the list at a place, if there is one.
+/// Appends a number to the list at a place, if there is one.
 fn add(lists: &mut Vec<Vec<usize>>, place: usize, number: usize) -> Result<(), AllocError> {
     if let Some(list) = lists.get_mut(place) {
         list.push(number)?;
@@ -50,6 +50,10 @@ fn add(lists: &mut Vec<Vec<usize>>, place: usize, number: usize) -> Result<(), A
 
 impl Graph {
     /// Returns the graph of a history.
+    ///
+    /// # Errors
+    ///
+    /// `AllocError` where memory runs out.
     pub fn of(alloc: Global, history: &History) -> Result<Graph, AllocError> {
         let operations = operations_of(alloc, history.shape.n() as usize, &history.events)?;
         let seen_by = lists(alloc, operations.len())?;
@@ -65,7 +69,7 @@ impl Graph {
         Ok(graph)
     }
 
-    /// Returns what the operation at a place sets, if it is an update.
+    /// Returns the word and the value that the operation at `place` sets, if it is an update.
     fn setting(&self, place: usize) -> Option<Setting> {
         let Some(operation) = self.operations.get(place) else {
             return None;
@@ -103,7 +107,7 @@ impl Graph {
         Ok(())
     }
 
-    /// Returns what a value in the word at a place tells.
+    /// Returns where a value in the word at a place comes from.
     pub fn origin(&self, word: usize, value: u64) -> Origin {
         let setting = Setting {
             word: (word as u64).wrapping_add(1),

@@ -2,7 +2,7 @@
 //! history: of the operations called after an end, and of the updates of a word that a scan did not
 //! see, those that have been reached are the last ones, and none of them is looked at again.
 //!
-//! Nothing is proved of what it finds: `is_circle` tests it.
+//! Nothing is proved of what the search finds: `is_circle` tests it.
 use crate::copies::copy_of_operation;
 use crate::graph::{Graph, Origin};
 use crate::reason::{Grounds, Reason};
@@ -27,7 +27,7 @@ struct Search {
     unmissed: Vec<usize>,
 }
 
-/// Notes that an operation is reached, unless it was before.
+/// Notes that an operation is reached, unless it was reached before.
 fn reach(search: &mut Search, place: usize, parent: Parent) -> Result<(), AllocError> {
     if let Some(reached) = search.parents.get_mut(place) {
         if reached.is_none() {
@@ -38,7 +38,7 @@ fn reach(search: &mut Search, place: usize, parent: Parent) -> Result<(), AllocE
     Ok(())
 }
 
-/// Reaches each operation that was called after the end of the one at this place.
+/// Reaches each operation that was called after the end of the one at `place`.
 fn reach_later(
     graph: &Graph,
     search: &mut Search,
@@ -59,7 +59,7 @@ fn reach_later(
     Ok(())
 }
 
-/// Reaches each scan that saw the update at this place.
+/// Reaches each scan that saw the update at `place`.
 fn reach_seeing(graph: &Graph, search: &mut Search, place: usize) -> Result<(), AllocError> {
     if let Some(scans) = graph.seen_by.get(place) {
         for scan in scans {
@@ -117,7 +117,7 @@ fn reach_missed(
     Ok(())
 }
 
-/// Reaches each update that the scan at this place did not see.
+/// Reaches each update that the scan at `place` did not see.
 fn reach_unseen(
     graph: &Graph,
     search: &mut Search,
@@ -132,7 +132,7 @@ fn reach_unseen(
     Ok(())
 }
 
-/// Reaches each operation that took place after the one at this place.
+/// Reaches each operation that took place after the one at `place`.
 fn go_on(graph: &Graph, search: &mut Search, place: usize) -> Result<(), AllocError> {
     let Some(operation) = graph.operations.get(place) else {
         return Ok(());
@@ -146,7 +146,7 @@ fn go_on(graph: &Graph, search: &mut Search, place: usize) -> Result<(), AllocEr
     }
 }
 
-/// Whether the operation at this place has been reached.
+/// Returns whether the operation at this place has been reached.
 fn is_reached(search: &Search, place: usize) -> bool {
     match search.parents.get(place) {
         Some(parent) => parent.is_some(),
@@ -154,7 +154,7 @@ fn is_reached(search: &Search, place: usize) -> bool {
     }
 }
 
-/// Reaches operations from the one at this place on, until it is itself reached.
+/// Reaches operations from the one at `start` on, until it is itself reached.
 fn reach_back(alloc: Global, graph: &Graph, start: usize) -> Result<Search, AllocError> {
     let mut unmissed = Vec::new(alloc);
     for updates in &graph.updates {
@@ -195,7 +195,7 @@ fn reason(
     })
 }
 
-/// Returns the reasons that lead from the operation at this place back to it.
+/// Returns the reasons that lead from the operation at `start` back to it.
 fn circle(
     alloc: Global,
     graph: &Graph,
@@ -238,8 +238,12 @@ fn unset(graph: &Graph, view: &[u64]) -> Option<Grounds> {
     None
 }
 
-/// Returns a shortest circle of reasons on which the operation at this place lies; no reasons, where
-/// there is none.
+/// Returns a shortest circle of reasons through the operation at `start`; no reasons if there is
+/// none.
+///
+/// # Errors
+///
+/// `AllocError` where memory runs out.
 pub fn shortest_circle(
     alloc: Global,
     graph: &Graph,

@@ -15,7 +15,7 @@ use crate::reason::{Grounds, Reason};
 use snap_judge::{Action, History, Operation};
 use snap_semantics::{Event, Happening, Op};
 
-/// Whether an operation of this action is called so.
+/// Returns whether an operation of this action is called so.
 fn is_call(happening: &Happening, action: &Action) -> bool
     ensures { result ≡ true → happening.now ≡ what.Call (called_as (action_of action.now)) }
 {
@@ -37,7 +37,7 @@ fn is_call(happening: &Happening, action: &Action) -> bool
     }
 }
 
-/// Whether an operation of this action ends so.
+/// Returns whether an operation of this action ends so.
 fn is_end(happening: &Happening, action: &Action) -> bool
     ensures { result ≡ true → happening.now ≡ ends_as (action_of action.now) }
 {
@@ -55,7 +55,7 @@ fn is_end(happening: &Happening, action: &Action) -> bool
     }
 }
 
-/// Whether the operation is called in these events.
+/// Returns whether the operation is called in `events`.
 fn is_called(events: &[Event], operation: &Operation) -> bool
     ensures { result ≡ true → Contains events.now
         (event operation.now.process operation.now.call
@@ -72,7 +72,7 @@ fn is_called(events: &[Event], operation: &Operation) -> bool
     false
 }
 
-/// Whether the operation ends at event number `end` in these events.
+/// Returns whether the operation ends at event number `end` in `events`.
 fn ends_at(events: &[Event], operation: &Operation, end: u64) -> bool
     ensures { result ≡ true → Contains events.now
         (event operation.now.process end (ends_as (action_of operation.now.action))) }
@@ -88,7 +88,8 @@ fn ends_at(events: &[Event], operation: &Operation, end: u64) -> bool
     false
 }
 
-/// Whether the process comes to nothing after event number `call` and before event number `end`.
+/// Returns whether the process comes to nothing after event number `call` and before event number
+/// `end`.
 fn is_quiet(events: &[Event], process: u32, call: u64, end: u64) -> bool
     ensures { result ≡ true → (e : Event) → Contains events.now e → e.process ≡ process
         → call < e.item → e.item < end → ⊥ }
@@ -101,7 +102,7 @@ fn is_quiet(events: &[Event], process: u32, call: u64, end: u64) -> bool
     true
 }
 
-/// Whether the event is one of the process after event number `call`, and no crash.
+/// Returns whether the event is one of the process after event number `call`, and no crash.
 fn is_step_after(event: &Event, process: u32, call: u64) -> bool
     ensures { result ≡ false → event.now.process ≡ process → call < event.now.item
         → event.now.what ≡ what.Crash }
@@ -112,7 +113,7 @@ fn is_step_after(event: &Event, process: u32, call: u64) -> bool
     }
 }
 
-/// Whether the process comes to nothing but crashes after event number `call`.
+/// Returns whether the process comes to nothing but crashes after event number `call`.
 fn only_crashes(events: &[Event], process: u32, call: u64) -> bool
     ensures { result ≡ true → (e : Event) → Contains events.now e → e.process ≡ process
         → call < e.item → e.what ≡ what.Crash }
@@ -125,7 +126,7 @@ fn only_crashes(events: &[Event], process: u32, call: u64) -> bool
     true
 }
 
-/// Whether the operation, once it is called, comes to an end at event number `end`.
+/// Returns whether the operation, once it is called, comes to an end at event number `end`.
 fn came_to(events: &[Event], operation: &Operation, end: u64) -> bool
     ensures { result ≡ true → CameToEnd events.now operation.now.process operation.now.call
         (Some end) (action_of operation.now.action) }
@@ -138,7 +139,7 @@ fn came_to(events: &[Event], operation: &Operation, end: u64) -> bool
     false
 }
 
-/// Whether the operation, once it is called, comes to its end, or remains open.
+/// Returns whether the operation, once it is called, comes to its end, or remains open.
 fn came_to_end(events: &[Event], operation: &Operation) -> bool
     ensures { result ≡ true → CameToEnd events.now operation.now.process operation.now.call
         operation.now.end (action_of operation.now.action) }
@@ -152,14 +153,14 @@ fn came_to_end(events: &[Event], operation: &Operation) -> bool
     }
 }
 
-/// Whether the history tells of the operation.
+/// Returns whether the operation is one of the history.
 fn is_operation(history: &History, operation: &Operation) -> bool
     ensures { result ≡ true → IsOperationOf history.now (operation_of operation.now) }
 {
     is_called(&history.events, operation) && came_to_end(&history.events, operation)
 }
 
-/// Whether the event calls an update of this word to this value.
+/// Returns whether the event calls an update of this word to this value.
 fn sets(event: &Event, word: u64, value: u64) -> bool
     ensures { IsTrue result ↔ (event.now.what ≡ what.Call (op.Update word value)) }
 {
@@ -174,7 +175,7 @@ fn sets(event: &Event, word: u64, value: u64) -> bool
     }
 }
 
-/// Whether no update that is called sets the word to the value.
+/// Returns whether no update that is called sets the word to the value.
 fn is_never_set(events: &[Event], word: u64, value: u64) -> bool
     ensures { result ≡ true → IsNeverSet events.now word value }
 {
@@ -186,7 +187,7 @@ fn is_never_set(events: &[Event], word: u64, value: u64) -> bool
     true
 }
 
-/// Whether another event than number `call` calls an update of this word to this value.
+/// Returns whether another event than number `call` calls an update of this word to this value.
 fn sets_elsewhere(event: &Event, call: u64, word: u64, value: u64) -> bool
     ensures { result ≡ false → event.now.what ≡ what.Call (op.Update word value)
         → event.now.item ≡ call }
@@ -194,8 +195,8 @@ fn sets_elsewhere(event: &Event, call: u64, word: u64, value: u64) -> bool
     event.item != call && sets(event, word, value)
 }
 
-/// Whether no update that is called sets the word to the value, but for the one that is called at
-/// event number `call`.
+/// Returns whether no update that is called sets the word to the value, but for the one that is
+/// called at event number `call`.
 fn is_set_only_at(events: &[Event], call: u64, word: u64, value: u64) -> bool
     ensures { result ≡ true → IsSetOnlyAt events.now call word value }
 {
@@ -218,7 +219,7 @@ fn shown(view: &[u64], word: u64) -> Option<u64>
     }
 }
 
-/// Whether the first operation ended before the second one was called.
+/// Returns whether the first operation ended before the second one was called.
 fn ended_before(first: &Operation, second: &Operation) -> bool
     ensures { result ≡ true → EndedBefore (operation_of first.now) (operation_of second.now) }
 {
@@ -228,7 +229,7 @@ fn ended_before(first: &Operation, second: &Operation) -> bool
     }
 }
 
-/// Whether the scan saw the update.
+/// Returns whether the scan saw the update.
 fn has_seen(events: &[Event], update: &Operation, scan: &Operation) -> bool
     ensures { result ≡ true → HasSeen events.now (operation_of update.now)
         (operation_of scan.now) }
@@ -244,14 +245,14 @@ fn has_seen(events: &[Event], update: &Operation, scan: &Operation) -> bool
         && is_set_only_at(events, update.call, *word, *value)
 }
 
-/// Whether the value is 0, which no update sets the word to.
+/// Returns whether the value is 0, which no update sets the word to.
 fn stood_from_the_beginning(events: &[Event], word: u64, value: u64) -> bool
     ensures { result ≡ true → (value ≡ 0) × IsNeverSet events.now word 0 }
 {
     value == 0 && is_never_set(events, word, 0)
 }
 
-/// Whether the operation is an update of this word to this value.
+/// Returns whether the operation is an update of this word to this value.
 fn is_update(operation: &Operation, word: u64, value: u64) -> bool
     ensures { result ≡ true → (operation_of operation.now).action ≡ Sets word value }
 {
@@ -264,8 +265,8 @@ fn is_update(operation: &Operation, word: u64, value: u64) -> bool
     }
 }
 
-/// Whether this earlier operation alone sets the word to the value, and had ended when the update
-/// was called.
+/// Returns whether this earlier operation alone sets the word to the value, and had ended when the
+/// update was called.
 fn stood_from(
     history: &History,
     word: u64,
@@ -285,8 +286,8 @@ fn stood_from(
     false
 }
 
-/// Whether the value stood in the word before the update, and not again. The update that set it is
-/// sought among the operations.
+/// Returns whether the value stood in the word before the update, and not again. The update that
+/// set it is sought among the operations.
 fn stood_before(
     history: &History,
     operations: &[Operation],
@@ -307,7 +308,7 @@ fn stood_before(
     false
 }
 
-/// Whether the scan did not see the update.
+/// Returns whether the scan did not see the update.
 fn has_missed(
     history: &History,
     operations: &[Operation],
@@ -329,7 +330,7 @@ fn has_missed(
     }
 }
 
-/// Whether the scan shows this value in the word, not 0, and no update sets it.
+/// Returns whether the scan shows this value in the word, not 0, and no update sets it.
 fn shows_unset(events: &[Event], word: u64, value: u64, scan: &Operation) -> bool
     ensures { result ≡ true → ShowsUnset events.now word value (operation_of scan.now) }
 {
@@ -339,7 +340,7 @@ fn shows_unset(events: &[Event], word: u64, value: u64, scan: &Operation) -> boo
     value != 0 && shown(view.as_slice(), word) == Some(value) && is_never_set(events, word, value)
 }
 
-/// Whether two actions are the same.
+/// Returns whether two actions are the same.
 fn is_same_action(one: &Action, other: &Action) -> bool
     ensures { result ≡ true → action_of one.now ≡ action_of other.now }
 {
@@ -358,7 +359,7 @@ fn is_same_action(one: &Action, other: &Action) -> bool
     }
 }
 
-/// Whether two operations are the same.
+/// Returns whether two operations are the same.
 pub fn is_same(one: &Operation, other: &Operation) -> bool
     ensures { result ≡ true → operation_of one.now ≡ operation_of other.now }
 {
@@ -368,7 +369,7 @@ pub fn is_same(one: &Operation, other: &Operation) -> bool
         && is_same_action(&one.action, &other.action)
 }
 
-/// Whether the history gives the grounds of the reason.
+/// Returns whether the history gives the grounds of the reason.
 fn are_grounds(history: &History, operations: &[Operation], reason: &Reason) -> bool
     ensures { result ≡ true → AreGrounds history.now reason.now.grounds
         (operation_of reason.now.first) (operation_of reason.now.second) }
@@ -384,8 +385,8 @@ fn are_grounds(history: &History, operations: &[Operation], reason: &Reason) -> 
     }
 }
 
-/// Whether the history gives this reason. An update that a scan saw in place of another one is
-/// sought among the operations.
+/// Returns whether the history gives this reason. An update that a scan saw in place of another one
+/// is sought among the operations.
 pub fn is_reason(history: &History, operations: &[Operation], reason: &Reason) -> bool
     ensures { result ≡ true → IsReason history.now reason.now }
 {

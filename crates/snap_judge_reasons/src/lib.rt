@@ -1,4 +1,4 @@
-//! What is told of a history that is not linearizable: answers that would have been right where it
+//! Explanations of a history that is not linearizable: answers that would have been right where it
 //! fails, and why no order explains the one that was given.
 #![tactic(auto)]
 

@@ -1,10 +1,10 @@
-//! The operations that a list of events tells of.
+//! The operations of a list of events.
 use snap_judge::{Action, Operation};
 use snap_semantics::{Event, Happening, Op};
 use snap_words::View;
 use std::alloc::{AllocError, Global};
 
-/// The operations in the order of their calls, and which of them each process called last.
+/// The operations in the order of their calls, and the last operation of each process.
 #[derive(Drop)]
 struct Operations {
     all: Vec<Operation>,
@@ -25,7 +25,7 @@ fn called(alloc: Global, event: &Event, op: Op) -> Operation {
     }
 }
 
-/// Adds an operation that a process calls.
+/// Appends an operation that a process calls.
 fn open(
     alloc: Global,
     operations: &mut Operations,
@@ -39,7 +39,7 @@ fn open(
     Ok(())
 }
 
-/// Ends what a process called last.
+/// Ends the last operation of a process.
 fn close(operations: &mut Operations, event: &Event, seen: Option<View>) {
     let Some(last) = operations.last.get(event.process as usize) else {
         return;
@@ -63,8 +63,12 @@ fn enter(alloc: Global, operations: &mut Operations, event: &Event) -> Result<()
     Ok(())
 }
 
-/// Returns the operations of so many processes that these events tell of, in the order of their
-/// calls; a scan that has no answer sees no words.
+/// Returns the operations of `processes` processes in `events`, in the order of their calls; a scan
+/// that has no answer sees no words.
+///
+/// # Errors
+///
+/// `AllocError` where memory runs out.
 pub fn operations_of(
     alloc: Global,
     processes: usize,

@@ -14,7 +14,8 @@ pub enum Grounds {
     Unset { word: u64, value: u64 },
 }
 
-/// Two operations, of which the first one took place before the second one, and on which grounds.
+/// Two operations, of which the first one took place before the second one, and the grounds for
+/// that.
 #[derive(Drop)]
 pub struct Reason {
     pub grounds: Grounds,

@@ -6,7 +6,7 @@ use Rattle.snap_judge.specs.Judgement.{IsJudgement}
 use Rattle.snap_judge.specs.Linearizable.{up_to}
 use Rattle.snap_judge.specs.declared.judgements.Judgement.{Judgement}
 use Rattle.snap_judge.specs.declared.judgements.Judgement.TheVariants as judgement
-use Rattle.snap_judge_output.specs.JudgementText.{NamesEvent}
+use Rattle.snap_history_text.specs.JudgementText.{NamesEvent}
 use Rattle.snap_judge_reasons.specs.FailureText.{failure_text}
 use Rattle.snap_judge_reasons.specs.Reasons.{IsCircle}
 use Rattle.snap_judge_reasons.specs.RightAnswers.{AreRightAnswers}
@@ -33,7 +33,7 @@ pub told_why : (h : History) (k : ℕ) (views : List (List ℕ)) (rs : List Reas
     AreRightAnswers h k views → IsCircle (up_to k h) rs → text ≡ failure_text views rs → TellsWhy h k text
 told_why h k views rs text right is there = (views, rs, right, circle (up_to k h) rs is, there)
 
--- and of right answers alone
+-- what is told of right answers alone
 pub told_answers : (h : History) (k : ℕ) (views : List (List ℕ)) (text : List ℕ) →
     AreRightAnswers h k views → text ≡ failure_text views [] → TellsWhy h k text
 told_answers h k views text right there = (views, [], right, tt, there)

@@ -7,7 +7,7 @@ use Rattle.snap_judge.specs.Linearizable.{up_to}
 use Rattle.snap_judge.specs.declared.judgements.Judgement.{Judgement}
 use Rattle.snap_judge.specs.declared.judgements.Judgement.TheVariants as judgement
 use Rattle.snap_judge.specs.declared.operation.Operation.{Operation}
-use Rattle.snap_judge_output.specs.JudgementText.{operation_lines}
+use Rattle.snap_history_text.specs.JudgementText.{operation_lines}
 use Rattle.snap_judge_reasons.specs.FailureText.{failure_text}
 use Rattle.snap_judge_reasons.specs.Reasons.{IsCircle}
 use Rattle.snap_judge_reasons.specs.RightAnswers.{AreRightAnswers}
@@ -29,7 +29,7 @@ abbrev pub WasBefore : (most : ℕ) → History → (k : ℕ) → (text longer :
 WasBefore most h k text longer =
     (j : Judgement) × IsJudgement most (up_to (k - 1) h) j × (longer ≡ text ++ before_text j)
 
--- These are a circle of reasons, or there is none.
+-- Reasons are a circle, or there are none.
 abbrev pub IsCircleOrNone : History → List Reason → Type 0
 IsCircleOrNone h [] = Unit {0}
 IsCircleOrNone h (r ∷ rs) = IsCircle h (r ∷ rs)

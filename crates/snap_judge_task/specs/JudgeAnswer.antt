@@ -3,7 +3,7 @@ use Rattle.std.specs.Prelude.{◌≡◌, ℕ, List, Result, Ok, Err, ⊤}
 use Rattle.snap_judge.specs.History.{History}
 use Rattle.snap_judge.specs.Judgement.{IsJudgement}
 use Rattle.snap_judge.specs.declared.judgements.Judgement.{Judgement}
-use Rattle.snap_judge_output.specs.JudgementText.{judgement_text}
+use Rattle.snap_history_text.specs.JudgementText.{judgement_text}
 use Rattle.snap_run_judge.specs.RunJudgement.{word_of}
 use Rattle.snap_run_judge.specs.declared.linearizability.Linearizability.{Linearizability}
 use Rattle.snap_tasks.specs.declared.judge_request.JudgeRequest.{JudgeRequest}
@@ -22,15 +22,15 @@ AnswersHistory s input (Err (fault.Refused f)) = judged s input ≡ Err (fault.R
 AnswersHistory s input (Err (fault.History f)) = judged s input ≡ Err (fault.History f)
 AnswersHistory s input (Err _) = ⊥
 
--- There is a judgement of the history that is so; the text is what is written of it, with an order of what was before
--- where the history fails; and the word is that for the judgement.
+-- A judgement of the history tells the text and the word: the text is what is written of it, with an order of what was
+-- before where the history fails; and the word is that for the judgement.
 pub record TellsOf (most : ℕ) (h : History) (text : List ℕ) (word : Linearizability) : Type 0 where
   pub judgement : Judgement
   pub is_so : IsJudgement most h judgement
   pub written : IsMore most h judgement (judgement_text h judgement) text
   pub word_for_it : word ≡ word_of judgement
 
--- They are so of what an input gives to be judged.
+-- The text and the word are so of what an input gives to be judged.
 abbrev pub IsJudged : JudgeRequest → (input text : List ℕ) → Linearizability → Type 0
 IsJudged r input text word = (h : History) × (judged r.source input ≡ Ok h) × TellsOf r.most h text word
 

@@ -1,5 +1,4 @@
-//! `push_more`: what is said of a history that is not linearizable, behind the event at which it
-//! fails.
+//! `push_more`: the text on a history that is not linearizable, behind the event at which it fails.
 ghost use Rattle.std.specs.Prelude.{◌≡◌, ◌++◌, IfOk, OnOk, length};
 ghost use Rattle.snap_words.specs.Shape.{IsOneOf};
 ghost use Rattle.snap_judge.specs.History.{IsHistory};
@@ -7,13 +6,13 @@ ghost use Rattle.snap_judge.specs.Judgement.{IsJudgement};
 ghost use Rattle.snap_judge_task.specs.Failing.{Fails, IsMore, TellsWhy, WasBefore, before_text};
 ghost use Rattle.snap_judge_task.specs.Failing.{order_text};
 
+use snap_history_text::push_operations;
 use snap_judge::{History, Judgement, Operation, judge};
-use snap_judge_output::push_operations;
 use snap_judge_reasons::{failure_text, reasons, right_answers};
 use snap_text::push_text;
 use std::alloc::{AllocError, Global};
 
-/// Adds an order of what was before an event, where it has operations.
+/// Appends an order of what was before an event, if it has operations.
 #[tactic(auto, using(snap_text::proofs::Texts::joined))]
 fn push_order(out: &mut Vec<u8>, order: &[Operation]) -> Result<(), AllocError>
     ensures { OnOk result (out.new.items ≡ out.old.items ++ order_text order.now) }
@@ -25,7 +24,7 @@ fn push_order(out: &mut Vec<u8>, order: &[Operation]) -> Result<(), AllocError>
     push_operations(out, order)
 }
 
-/// Adds the order that was found of what was before an event.
+/// Appends the order that was found of what was before an event.
 fn push_found(out: &mut Vec<u8>, judgement: &Judgement) -> Result<(), AllocError>
     ensures { OnOk result (out.new.items ≡ out.old.items ++ before_text judgement.now) }
 {
@@ -35,7 +34,7 @@ fn push_found(out: &mut Vec<u8>, judgement: &Judgement) -> Result<(), AllocError
     }
 }
 
-/// Adds an order of what was before this event, counted from 1.
+/// Appends an order of what was before this event, counted from 1.
 #[tactic(auto, using(snap_judge::proofs::KeptSteps::history_up_to, crate::proofs::Named::was_before))]
 fn push_before(
     alloc: Global,
@@ -72,7 +71,7 @@ fn failing_text(
     }
 }
 
-/// Adds an order of what was before the event at which a history fails, and why it fails there.
+/// Appends an order of what was before the event at which a history fails, and why it fails there.
 fn push_failing(
     alloc: Global,
     out: &mut Vec<u8>,
@@ -89,11 +88,11 @@ fn push_failing(
     push_text(out, why.as_slice())
 }
 
-/// Adds what more is said of a judgement of this history.
+/// Appends the text on a judgement of `history`, behind its verdict.
 ///
 /// # Errors
 ///
-/// There is no memory for it.
+/// `AllocError` where memory runs out.
 pub fn push_more(
     alloc: Global,
     out: &mut Vec<u8>,

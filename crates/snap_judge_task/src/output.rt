@@ -1,4 +1,4 @@
-//! `judge_input`: what is written for an input that is to be judged, and whether what it gives is
+//! `judge_input`: the output for an input that is to be judged, and whether its run or history is
 //! linearizable.
 ghost use Rattle.std.specs.Prelude.{◌≡◌, Err, IfOk, Some};
 ghost use Rattle.snap_judge.specs.History.{IsHistory};
@@ -9,20 +9,20 @@ ghost use Rattle.snap_faults.specs.declared.fault.ProgramFault.{ProgramFault};
 use crate::failing::push_more;
 use crate::run_history::history_in;
 use snap_faults::ProgramFault;
+use snap_history_text::judgement_text;
 use snap_judge::{History, judge};
-use snap_judge_output::judgement_text;
 use snap_run_judge::{Linearizability, word_of};
 use snap_tasks::{JudgeRequest, JudgeSource};
 use std::alloc::{AllocError, Global};
 
-/// What is written of what was judged, and the word for it.
+/// The output of a judgement, and the word for it.
 #[derive(Drop)]
 pub struct JudgeOutput {
     pub text: Vec<u8>,
     pub word: Linearizability,
 }
 
-/// What is written of a history, by a search that keeps at most so many configurations.
+/// Returns the output on a history, by a search that keeps at most `most` configurations.
 #[tactic(auto, using(crate::proofs::Named::names_event))]
 fn told(alloc: Global, history: History, most: u64) -> Result<JudgeOutput, AllocError>
     requires { IsHistory history }
@@ -35,7 +35,7 @@ fn told(alloc: Global, history: History, most: u64) -> Result<JudgeOutput, Alloc
     Ok(JudgeOutput { text, word })
 }
 
-/// The history that is judged.
+/// Returns the history that is judged.
 #[tactic(auto, using(crate::proofs::AtOnce::of_run, crate::proofs::AtOnce::of_history))]
 fn judged(alloc: Global, source: JudgeSource, input: &[u8]) -> Result<History, ProgramFault>
     ensures value { AnswersHistory source input.now result }
@@ -48,12 +48,11 @@ fn judged(alloc: Global, source: JudgeSource, input: &[u8]) -> Result<History, P
     }
 }
 
-/// What is written for an input that is to be judged, and the word for it; or why it gives nothing
-/// to be judged.
+/// Returns the output for `input`, which is to be judged, and the word for the judgement.
 ///
 /// # Errors
 ///
-/// The first reason for which the input is refused, or that memory ran out.
+/// The first reason for which `input` is refused, or `Memory` where memory runs out.
 pub fn judge_input(
     alloc: Global,
     request: &JudgeRequest,

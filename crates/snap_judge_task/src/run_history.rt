@@ -1,4 +1,4 @@
-//! `history_in`: the history of the run that an input asks for, of a listing under a schedule.
+//! `history_in`: the history of the run of an input, of a listing under a schedule.
 ghost use Rattle.std.specs.Prelude.{◌≡◌, ◌≤◌, ◌<◌, Err, IfOk, length, map};
 ghost use Rattle.snap_semantics.specs.Answers.{Answers};
 ghost use Rattle.snap_semantics.specs.declared.fault.Fault.TheVariants.{Refused};
@@ -22,7 +22,7 @@ use snap_tasks::Subject;
 use snap_words::{Bits, Kind, KindTag, Multi, Seq};
 use std::alloc::{AllocError, Global};
 
-/// The history of the run of a program under a schedule.
+/// Returns the history of the run of a program under a schedule.
 fn history_over<K: Kind>(
     alloc: Global,
     program: &Program,
@@ -37,7 +37,7 @@ fn history_over<K: Kind>(
     history_of(alloc, &record)
 }
 
-/// The history of the run of a program of a kind under the schedule that a text is.
+/// Returns the history of the run of a program of a kind under the schedule of a text.
 #[tactic(auto, unfolding(crate::specs::Judged::run_history))]
 fn history_of_kind<K: Kind>(
     alloc: Global,
@@ -52,7 +52,7 @@ fn history_of_kind<K: Kind>(
     Ok(history_over::<K>(alloc, program, &schedule)?)
 }
 
-/// The history of the run of a program under the schedule that a text is.
+/// Returns the history of the run of a program under the schedule of a text.
 fn run_history(alloc: Global, program: &Program, schedule: &[u8]) -> Result<History, Fault<Refusal>>
     ensures value { Answers (λ h. h) result (run_history program.now schedule.now) }
     ensures history { IfOk result (λ h. IsHistory h) }
@@ -64,7 +64,7 @@ fn run_history(alloc: Global, program: &Program, schedule: &[u8]) -> Result<Hist
     }
 }
 
-/// The same, of the first of these texts.
+/// Returns the history of the run under the schedule of the first text.
 fn history_of_texts(
     alloc: Global,
     program: &Program,
@@ -78,7 +78,7 @@ fn history_of_texts(
     run_history(alloc, program, texts[0])
 }
 
-/// The history of the run that the parts of an input ask for.
+/// Returns the history of the run of the parts of an input.
 #[tactic(auto, unfolding(snap_input::specs::Input::parted))]
 fn history_for(alloc: Global, subject: Subject, input: &[u8]) -> Result<History, Fault<Refusal>>
     requires { length input.now ≤ max_input }
@@ -94,8 +94,12 @@ fn history_for(alloc: Global, subject: Subject, input: &[u8]) -> Result<History,
     history_of_texts(alloc, &program, texts)
 }
 
-/// The history of the run that an input asks for: of its listing, or the shipped one, under the
+/// Returns the history of the run of `input`: of its listing, or the shipped one, under the
 /// schedule behind it.
+///
+/// # Errors
+///
+/// `Refused` with the reason why `input` is refused; `Memory` where memory runs out.
 #[tactic(auto, unfolding(crate::specs::Judged::history_in))]
 pub fn history_in(alloc: Global, subject: Subject, input: &[u8]) -> Result<History, Fault<Refusal>>
     ensures value { Answers (λ h. h) result (history_in subject input.now) }

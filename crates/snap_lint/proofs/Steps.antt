@@ -242,7 +242,7 @@ module _ (s : Source) (listing : IsListing s) (k : ℕ) (i : Instr) (here : inst
       may_go_on (way_of (mode_of o link)) i ≡ true → Keeps s k o (on (following s.lines k) (Goes m l link))
   goes_on link m l stand may = after_line link m l (following s.lines k) stand may refl
 
-  -- where it jumps
+  -- a line that jumps goes to its target
   goes_to : (link : Option ℕ) (m : Memory) (l : Locals) (target : ℕ) → MayStand s o link k → jump i ≡ Some target →
       has_line s.lines target ≡ true → Keeps s k o (Ok (Goes m l link target))
   unfolding Keeps

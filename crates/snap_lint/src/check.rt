@@ -6,6 +6,7 @@ ghost use Rattle.snap_lint.specs.Check.{check_line, check_of};
 ghost use Rattle.snap_semantics.specs.declared.fault.Fault.TheVariants.{Refused};
 ghost use Rattle.snap_semantics.specs.declared.refusal.ListingRefusal.TheVariants.{TooLong};
 ghost use Rattle.snap_semantics.specs.declared.refusal.Refusal.TheVariants as refusal;
+ghost use Rattle.snap_semantics.specs.Listing.{max_text};
 
 use crate::listing::read_listing;
 use snap_listing::kind_keyword;
@@ -14,7 +15,7 @@ use snap_semantics::{Fault, Refusal};
 use snap_text::{push_number, push_text};
 use std::alloc::{AllocError, Global};
 
-/// The kind of a listing, and how many numbered lines it has.
+/// Returns the kind of a listing, and how many numbered lines it has.
 #[tactic(auto, using(snap_text::proofs::Texts::joined))]
 fn check_line(alloc: Global, listing: &Listing) -> Result<Vec<u8>, AllocError>
     ensures { IfOk result (λ line. line.items ≡ check_line listing.now) }
@@ -28,11 +29,16 @@ fn check_line(alloc: Global, listing: &Listing) -> Result<Vec<u8>, AllocError>
     Ok(line)
 }
 
-/// What is said of a text that is a listing, or why it is none.
+/// Returns the line that the task `check` writes of `text`.
+///
+/// # Errors
+///
+/// `Refused` with the first reason why `text` is no listing; `Memory` where memory runs out.
 #[tactic(auto, unfolding(crate::specs::Check::check_of))]
 pub fn check_of(alloc: Global, text: &[u8]) -> Result<Vec<u8>, Fault<Refusal>>
     ensures output { Answers (λ out. out.items) result (check_of text.now) }
-    ensures too_long { 65536 < length text.now → result ≡ Err (Refused (refusal.Listing TooLong)) }
+    ensures too_long { max_text < length text.now →
+        result ≡ Err (Refused (refusal.Listing TooLong)) }
 {
     let listing = read_listing(alloc, text)?;
     Ok(check_line(alloc, &listing)?)

@@ -8,15 +8,15 @@ pub enum Concern {
     OffEnd,
     /// A `call` within a `call`.
     Nested,
-    /// A `return` or `finish` where the operation does not end so.
+    /// A `return` or `finish` that does not end such an operation.
     BadEnd,
-    /// A register of another process.
+    /// A write to a register of another process.
     Owner,
-    /// Control never comes to it.
+    /// Control never comes to the line.
     Unreached,
-    /// No way leads from it to an end.
+    /// No way leads from the line to an end.
     Endless,
-    /// It may finish an update that has written no word.
+    /// The line may finish an update that has written no word.
     NoWrite,
 }
 

@@ -26,7 +26,7 @@ pub struct Edge {
     pub to: u64,
 }
 
-/// Whether the line behind this one may come next.
+/// Returns whether the line behind an instruction may come next.
 pub fn may_go_on(way: Way, instr: &Instr) -> bool
     ensures { result ≡ may_go_on way instr.now }
 {
@@ -40,7 +40,7 @@ pub fn may_go_on(way: Way, instr: &Instr) -> bool
     }
 }
 
-/// The line to which an instruction may jump. A `call` is none.
+/// Returns the line to which an instruction may jump; `None` for a `call`.
 pub fn jump(instr: &Instr) -> Option<u64>
     ensures { result ≡ jump instr.now }
 {
@@ -54,7 +54,7 @@ pub fn jump(instr: &Instr) -> Option<u64>
     }
 }
 
-/// The line behind a line, where it may come next and is there.
+/// Returns the line behind `line`, if there is one and it may come next.
 fn line_after(listing: &Listing, way: Way, line: &Line) -> Option<u64>
     ensures { result ≡ line_after listing.now.lines way line.now }
 {
@@ -65,7 +65,7 @@ fn line_after(listing: &Listing, way: Way, line: &Line) -> Option<u64>
     }
 }
 
-/// Adds the edge to a line, where there is one.
+/// Appends the edge to a line, if there is one.
 fn push_edge(edges: &mut Vec<Edge>, from: u64, to: Option<u64>) -> Result<(), AllocError>
     ensures { OnOk result (edges.new.items ≡ edges.old.items ++ edge_to from to) }
 {
@@ -75,7 +75,11 @@ fn push_edge(edges: &mut Vec<Edge>, from: u64, to: Option<u64>) -> Result<(), Al
     Ok(())
 }
 
-/// Which line leads to which, on this way.
+/// Returns the edges from each line to those that may come next, on this way.
+///
+/// # Errors
+///
+/// `AllocError` where memory runs out.
 pub fn edges(alloc: Global, listing: &Listing, way: Way) -> Result<Vec<Edge>, AllocError>
     ensures { IfOk result (λ v. v.items ≡ edges listing.now.lines way) }
 {
@@ -88,8 +92,8 @@ pub fn edges(alloc: Global, listing: &Listing, way: Way) -> Result<Vec<Edge>, Al
     Ok(edges)
 }
 
-/// Returns whether a call comes back without a write, where an instruction is one: it is to one of
-/// these lines.
+/// Returns whether an instruction is a call to one of the lines `silent`, and so may come back
+/// without a write.
 fn comes_back(silent: &[u64], instr: &Instr) -> bool
     ensures { result ≡ comes_back silent.now instr.now }
 {
@@ -99,8 +103,12 @@ fn comes_back(silent: &[u64], instr: &Instr) -> bool
     }
 }
 
-/// Returns which line leads to which in an update that has written no word, where a call to one of
-/// these lines comes back without a write.
+/// Returns the edges of an update that has written no word, where calls to the lines `silent` may
+/// come back without a write.
+///
+/// # Errors
+///
+/// `AllocError` where memory runs out.
 pub fn unwritten_edges(
     alloc: Global,
     listing: &Listing,
@@ -120,7 +128,11 @@ pub fn unwritten_edges(
     Ok(edges)
 }
 
-/// The edges, each the other way round.
+/// Returns the edges, each the other way round.
+///
+/// # Errors
+///
+/// `AllocError` where memory runs out.
 pub fn turned(alloc: Global, edges: &[Edge]) -> Result<Vec<Edge>, AllocError>
     ensures { IfOk result (λ v. v.items ≡ turned edges.now) }
 {

@@ -26,7 +26,7 @@ use snap_semantics::{Instr, Line};
 use std::alloc::{AllocError, Global};
 use std::marker::Model;
 
-/// The lines to which control may come, by what the process is at; and those from which it may end.
+/// The lines to which control may come in each mode, and those from which it may come to an end.
 pub struct Flow {
     scan: Vec<u64>,
     scan_call: Vec<u64>,
@@ -38,7 +38,7 @@ pub struct Flow {
 }
 
 impl Drop for Flow {
-    // Written out, so that it is proved here and not once more wherever one is dropped.
+    // A drop that is written out is one call: it is proved once, and not again at each drop.
     fn drop(self) {
         let Flow {
             scan: _,
@@ -62,7 +62,11 @@ impl Model for Flow {
 }
 
 impl Flow {
-    /// The flow of control through a listing.
+    /// Returns the flow of control through `listing`.
+    ///
+    /// # Errors
+    ///
+    /// `AllocError` where memory runs out.
     pub fn of(alloc: Global, listing: &Listing) -> Result<Flow, AllocError>
         ensures { IfOk result (λ f. f ≡ reach_of listing.now) }
     {
@@ -79,7 +83,7 @@ impl Flow {
         })
     }
 
-    /// Whether control may come to a line in a mode.
+    /// Returns whether control may come to `line` in `mode`.
     pub fn reaches(&self, mode: Mode, line: u64) -> bool
         ensures { result ≡ is_in (lines_in self.now mode) line }
     {
@@ -91,7 +95,7 @@ impl Flow {
         }
     }
 
-    /// Whether a way leads from a line to an end, in a mode.
+    /// Returns whether a way leads from `line` to an end, in `mode`.
     pub fn leads_out(&self, mode: Mode, line: u64) -> bool
         ensures { result ≡ is_in (out_in self.now mode) line }
     {
@@ -101,7 +105,7 @@ impl Flow {
         }
     }
 
-    /// Whether an update may come to a line before it has written a word.
+    /// Returns whether an update may come to `line` before it has written a word.
     pub fn is_unwritten(&self, line: u64) -> bool
         ensures { result ≡ is_in self.now.unwritten line }
     {
@@ -109,7 +113,7 @@ impl Flow {
     }
 }
 
-/// The lines that are reached from a line on a way.
+/// Returns the lines that are reached from a line on a way.
 fn reached_from(
     alloc: Global,
     listing: &Listing,
@@ -123,7 +127,7 @@ fn reached_from(
     reached(alloc, listing.lines(), edges.as_slice(), &[start])
 }
 
-/// The lines to which the marked lines call.
+/// Returns the lines to which the marked lines call.
 fn callees(alloc: Global, lines: &[Line], marks: &[u64]) -> Result<Vec<u64>, AllocError>
     ensures { IfOk result (λ v. v.items ≡ callees lines.now marks.now) }
 {
@@ -138,7 +142,7 @@ fn callees(alloc: Global, lines: &[Line], marks: &[u64]) -> Result<Vec<u64>, All
     Ok(callees)
 }
 
-/// The lines that are reached within the calls of the marked lines.
+/// Returns the lines that are reached within the calls of the marked lines.
 fn reached_by_calls(alloc: Global, listing: &Listing, marks: &[u64]) -> Result<Vec<u64>, AllocError>
     ensures { IfOk result (λ v. v.items ≡ reached listing.now.lines
         (edges listing.now.lines Within) (callees listing.now.lines marks.now)) }
@@ -192,21 +196,21 @@ fn reached_unwritten(alloc: Global, listing: &Listing) -> Result<Vec<u64>, Alloc
     )
 }
 
-/// Whether a line may have no line behind it where one is to come next.
+/// Returns whether a line may have no line behind it although one is to come next.
 pub fn may_run_off(listing: &Listing, way: Way, line: &Line) -> bool
     ensures { result ≡ may_run_off listing.now.lines way line.now }
 {
     may_go_on(way, &line.instr) && listing.following(line.number).is_none()
 }
 
-/// Whether an operation or a call may end at a line, or trap there.
+/// Returns whether an operation or a call may end at a line, or trap there.
 fn is_end(listing: &Listing, way: Way, line: &Line) -> bool
     ensures { result ≡ is_end listing.now.lines way line.now }
 {
     may_run_off(listing, way, line) || (!may_go_on(way, &line.instr) && jump(&line.instr).is_none())
 }
 
-/// The lines at which an operation or a call may end.
+/// Returns the lines at which an operation or a call may end.
 fn ends(alloc: Global, listing: &Listing, way: Way) -> Result<Vec<u64>, AllocError>
     ensures { IfOk result (λ v. v.items ≡ numbers_where
         (is_end listing.now.lines way) listing.now.lines) }
@@ -221,7 +225,7 @@ fn ends(alloc: Global, listing: &Listing, way: Way) -> Result<Vec<u64>, AllocErr
     Ok(ends)
 }
 
-/// The lines from which a way leads to an end.
+/// Returns the lines from which a way leads to an end.
 fn leading_out(alloc: Global, listing: &Listing, way: Way) -> Result<Vec<u64>, AllocError>
     ensures { IfOk result (λ v. v.items ≡ leading_out listing.now.lines way) }
 {

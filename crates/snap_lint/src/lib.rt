@@ -24,19 +24,19 @@ pub use line_warnings::warnings;
 pub use mode::{Mode, Way};
 pub use text::{lint, lint_of};
 
-/// Whatever the schedule: a process that has trapped, at the end of the listing, at a call within
-/// a call, at an end that its operation does not have or at a register of another process, stands
-/// at a line that is warned of for it.
+/// A process that has trapped at the end of the listing, at a call within a call, at an end that
+/// its operation does not have or at a register of another process, stands at a line with a warning
+/// of that cause, whatever the schedule.
 pub fn traps_are_warned_of()
     ensures { TrapsAreWarnedOf }
 {}
 
-/// Where nothing is warned of for such a cause, no run of any schedule traps with it.
+/// If no line has a warning of such a cause, no run of any schedule traps for it.
 pub fn silent_never_traps()
     ensures { SilentNeverTraps }
 {}
 
-/// Exactly the lines are reached to which a way leads, line by line, from a start.
+/// The lines that are reached are exactly those to which a way leads, line by line, from a start.
 #[tactic(auto, using(crate::proofs::Ways::reached_by_ways))]
 pub fn reached_by_ways()
     ensures { ReachedByWays }

@@ -1,4 +1,4 @@
-//! `warnings`: the lint, which warns line by line of what a listing may run into.
+//! `warnings`: the lint, which reports line by line what a listing may run into.
 ghost use Rattle.std.specs.Prelude.{◌≡◌, ◌++◌, ◌&&◌, not, IfOk, OnOk};
 ghost use Rattle.std.specs.List.{flat_map, list_any};
 ghost use Rattle.snap_lint.specs.Flow.{lines_in, out_in};
@@ -20,10 +20,10 @@ use snap_listing_core::Listing;
 use snap_semantics::{Instr, Line};
 use std::alloc::{AllocError, Global};
 
-/// What a process can be at.
+/// The modes of a process.
 const MODES: [Mode; 4] = [Mode::Scan, Mode::ScanCall, Mode::Update, Mode::UpdateCall];
 
-/// What a line can be warned of, in the order of the warnings.
+/// The concerns of a line, in the order of the warnings.
 const CONCERNS: [Concern; 7] = [
     Concern::OffEnd,
     Concern::Nested,
@@ -34,7 +34,7 @@ const CONCERNS: [Concern; 7] = [
     Concern::NoWrite,
 ];
 
-/// Whether control comes to a line in a mode, and no way leads on from it to an end.
+/// Returns whether control comes to a line in a mode, and no way leads on from it to an end.
 fn is_endless_in(flow: &Flow, mode: Mode, line: u64) -> bool
     ensures { result ≡ (is_in (lines_in flow.now mode) line
         && not (is_in (out_in flow.now mode) line)) }
@@ -42,7 +42,7 @@ fn is_endless_in(flow: &Flow, mode: Mode, line: u64) -> bool
     flow.reaches(mode, line) && !flow.leads_out(mode, line)
 }
 
-/// Whether control comes to a line in a mode, and it may trap so.
+/// Returns whether control comes to a line in a mode, and the line may trap for this concern.
 fn may_trap_in(listing: &Listing, flow: &Flow, concern: Concern, mode: Mode, line: &Line) -> bool
     ensures { result ≡ (is_in (lines_in flow.now mode) line.now.number
         && may_trap listing.now concern mode line.now) }
@@ -50,14 +50,14 @@ fn may_trap_in(listing: &Listing, flow: &Flow, concern: Concern, mode: Mode, lin
     flow.reaches(mode, line.number) && may_trap(listing, concern, mode, line)
 }
 
-/// Whether control never comes to a line.
+/// Returns whether control never comes to a line.
 fn is_unreached(flow: &Flow, line: u64) -> bool
     ensures { result ≡ not (list_any (λ m. is_in (lines_in flow.now m) line) modes) }
 {
     !MODES.iter().any(|mode| flow.reaches(*mode, line))
 }
 
-/// Whether control comes to a line in some mode, and no way leads on from it to an end.
+/// Returns whether control comes to a line in some mode, and no way leads on from it to an end.
 fn is_endless(flow: &Flow, line: u64) -> bool
     ensures { result ≡ list_any
         (λ m. is_in (lines_in flow.now m) line && not (is_in (out_in flow.now m) line)) modes }
@@ -65,7 +65,7 @@ fn is_endless(flow: &Flow, line: u64) -> bool
     MODES.iter().any(|mode| is_endless_in(flow, *mode, line))
 }
 
-/// Whether a line may trap so in some mode.
+/// Returns whether a line may trap for this concern in some mode.
 fn may_trap_somehow(listing: &Listing, flow: &Flow, concern: Concern, line: &Line) -> bool
     ensures { result ≡ is_reached_in flow.now
         (λ m. may_trap listing.now concern m line.now) line.now }
@@ -75,7 +75,7 @@ fn may_trap_somehow(listing: &Listing, flow: &Flow, concern: Concern, line: &Lin
         .any(|mode| may_trap_in(listing, flow, concern, *mode, line))
 }
 
-/// Whether a line is warned of.
+/// Returns whether a line has a warning of this concern.
 fn is_warned_of(listing: &Listing, flow: &Flow, line: &Line, concern: Concern) -> bool
     ensures { result ≡ is_warned_of listing.now flow.now line.now concern }
 {
@@ -87,7 +87,7 @@ fn is_warned_of(listing: &Listing, flow: &Flow, line: &Line, concern: Concern) -
     }
 }
 
-/// Adds a warning of a line, where it is warned of.
+/// Appends the warning of a line, if it has one of this concern.
 fn push_warning(
     warnings: &mut Vec<Warning>,
     listing: &Listing,
@@ -105,7 +105,7 @@ fn push_warning(
     Ok(())
 }
 
-/// Adds the warnings of a line for these concerns.
+/// Appends the warnings of a line, of those of `concerns`.
 fn push_line_warnings(
     warnings: &mut Vec<Warning>,
     listing: &Listing,
@@ -122,7 +122,11 @@ fn push_line_warnings(
     Ok(())
 }
 
-/// The warnings of a listing, in the order of its lines.
+/// Returns the warnings of a listing, in the order of its lines.
+///
+/// # Errors
+///
+/// `AllocError` where memory runs out.
 #[tactic(auto, unfolding(crate::specs::Warnings::warnings))]
 pub fn warnings(alloc: Global, listing: &Listing) -> Result<Vec<Warning>, AllocError>
     ensures { IfOk result (λ v. v.items ≡ warnings listing.now) }

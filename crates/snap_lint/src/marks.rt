@@ -7,14 +7,14 @@ use crate::edges::Edge;
 use snap_semantics::Line;
 use std::alloc::{AllocError, Global};
 
-/// Whether a number is among these.
+/// Returns whether `number` is one of `numbers`.
 pub fn is_in(numbers: &[u64], number: u64) -> bool
     ensures { result ≡ is_in numbers.now number }
 {
     numbers.iter().any(|other| number == *other)
 }
 
-/// Whether an edge leads to this line from a marked one.
+/// Returns whether an edge leads to this line from a marked one.
 fn is_led_to(edges: &[Edge], marks: &[u64], number: u64) -> bool
     ensures { result ≡ is_led_to edges.now marks.now number }
 {
@@ -23,7 +23,7 @@ fn is_led_to(edges: &[Edge], marks: &[u64], number: u64) -> bool
         .any(|edge| edge.to == number && is_in(marks, edge.from))
 }
 
-/// The marks of the next round.
+/// Returns the marks of the next round.
 fn next_marks(
     alloc: Global,
     lines: &[Line],
@@ -42,7 +42,11 @@ fn next_marks(
     Ok(next)
 }
 
-/// The lines that are reached from these starts.
+/// Returns the lines that are reached from `starts` along `edges`.
+///
+/// # Errors
+///
+/// `AllocError` where memory runs out.
 #[tactic(auto, unfolding(crate::specs::Marks::reached))]
 pub fn reached(
     alloc: Global,

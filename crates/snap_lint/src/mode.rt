@@ -3,7 +3,7 @@
 ghost use Rattle.std.specs.Prelude.{◌≡◌};
 ghost use Rattle.snap_lint.specs.Flow.{is_unwritten, is_within, way_of};
 
-/// What a process is at, as far as control goes.
+/// The mode of a process: its operation, and whether it is within a call.
 #[derive(Clone, Copy, PartialEq, Eq)]
 pub enum Mode {
     /// A scan, outside its calls.
@@ -49,7 +49,7 @@ impl Way {
 }
 
 impl Mode {
-    /// The way that control goes in this mode.
+    /// Returns the way that control goes in this mode.
     pub fn way(self) -> Way
         ensures { result ≡ way_of self }
     {

@@ -5,6 +5,7 @@ ghost use Rattle.snap_semantics.specs.declared.fault.Fault.TheVariants.{Refused}
 ghost use Rattle.snap_semantics.specs.declared.refusal.ListingRefusal.TheVariants.{TooLong};
 ghost use Rattle.snap_semantics.specs.declared.refusal.Refusal.TheVariants as refusal;
 ghost use Rattle.snap_semantics.specs.Answers.{Answers};
+ghost use Rattle.snap_semantics.specs.Listing.{max_text};
 ghost use Rattle.snap_lint.specs.Warnings.{warnings};
 ghost use Rattle.snap_lint.specs.Lint.{concern_text, lint_of, warning_line, warnings_text};
 
@@ -15,7 +16,7 @@ use snap_semantics::{Fault, Refusal};
 use snap_text::{push_number, push_text};
 use std::alloc::{AllocError, Global};
 
-/// What is said of a line.
+/// Returns what is said of a line.
 fn concern_text(concern: Concern) -> &'static [u8]
     ensures { result.now ≡ concern_text concern }
 {
@@ -30,7 +31,7 @@ fn concern_text(concern: Concern) -> &'static [u8]
     }
 }
 
-/// Adds the line of a warning.
+/// Appends the line of a warning.
 #[tactic(auto, using(snap_text::proofs::Texts::joined))]
 fn push_warning(out: &mut Vec<u8>, warning: &Warning) -> Result<(), AllocError>
     ensures { OnOk result (out.new.items ≡ out.old.items ++ warning_line warning.now) }
@@ -42,7 +43,7 @@ fn push_warning(out: &mut Vec<u8>, warning: &Warning) -> Result<(), AllocError>
     push_text(out, b"\n")
 }
 
-/// The lines of warnings.
+/// Returns the lines of warnings.
 fn warnings_text(alloc: Global, warnings: &[Warning]) -> Result<Vec<u8>, AllocError>
     ensures { IfOk result (λ out. out.items ≡ warnings_text warnings.now) }
 {
@@ -53,7 +54,11 @@ fn warnings_text(alloc: Global, warnings: &[Warning]) -> Result<Vec<u8>, AllocEr
     Ok(out)
 }
 
-/// The text of the warnings of a listing.
+/// Returns the text of the warnings of `listing`.
+///
+/// # Errors
+///
+/// `AllocError` where memory runs out.
 pub fn lint(alloc: Global, listing: &Listing) -> Result<Vec<u8>, AllocError>
     ensures { IfOk result (λ out. out.items ≡ warnings_text (warnings listing.now)) }
 {
@@ -61,11 +66,16 @@ pub fn lint(alloc: Global, listing: &Listing) -> Result<Vec<u8>, AllocError>
     warnings_text(alloc, warnings.as_slice())
 }
 
-/// What is warned of in a text that is a listing, or why it is none.
+/// Returns the text of the warnings of the listing that `text` spells.
+///
+/// # Errors
+///
+/// `Refused` with the first reason why `text` is no listing; `Memory` where memory runs out.
 #[tactic(auto, unfolding(crate::specs::Lint::lint_of))]
 pub fn lint_of(alloc: Global, text: &[u8]) -> Result<Vec<u8>, Fault<Refusal>>
     ensures output { Answers (λ out. out.items) result (lint_of text.now) }
-    ensures too_long { 65536 < length text.now → result ≡ Err (Refused (refusal.Listing TooLong)) }
+    ensures too_long { max_text < length text.now →
+        result ≡ Err (Refused (refusal.Listing TooLong)) }
 {
     let listing = read_listing(alloc, text)?;
     Ok(lint(alloc, &listing)?)

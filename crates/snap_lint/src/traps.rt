@@ -17,14 +17,14 @@ use snap_listing_core::Listing;
 use snap_semantics::{Index, Instr, Line};
 use snap_words::{Bank, KindTag};
 
-/// Whether an instruction may call within a call.
+/// Returns whether an instruction may call within a call.
 fn may_nest(mode: Mode, instr: &Instr) -> bool
     ensures { result ≡ may_nest mode instr.now }
 {
     matches!(instr, Instr::Call(_)) && mode.way() == Way::Within
 }
 
-/// Whether an instruction may end an operation that does not end so.
+/// Returns whether an instruction may end an operation that it cannot end.
 fn may_end_badly(mode: Mode, instr: &Instr) -> bool
     ensures { result ≡ may_end_badly mode instr.now }
 {
@@ -35,21 +35,21 @@ fn may_end_badly(mode: Mode, instr: &Instr) -> bool
     }
 }
 
-/// Whether every process may write the registers of a bank.
+/// Returns whether every process may write the registers of a bank.
 fn is_shared(kind: KindTag, bank: Bank) -> bool
     ensures { result ≡ is_shared kind bank }
 {
     kind == KindTag::Multi && bank == Bank::R
 }
 
-/// Whether a register is its process's to write, as its first index is written.
+/// Returns whether a register is its process's to write, as its first index is written.
 fn is_own(kind: KindTag, bank: Bank, index: &Index) -> bool
     ensures { result ≡ is_own kind bank index.now }
 {
     is_shared(kind, bank) || matches!(index, Index::Me)
 }
 
-/// Whether an instruction writes a register that may be another process's.
+/// Returns whether an instruction writes a register that may be another process's.
 fn may_write_others(kind: KindTag, instr: &Instr) -> bool
     ensures { result ≡ may_write_others kind instr.now }
 {
@@ -61,7 +61,7 @@ fn may_write_others(kind: KindTag, instr: &Instr) -> bool
     }
 }
 
-/// Whether a line may trap so in a mode.
+/// Returns whether a line may trap for this concern in `mode`.
 pub fn may_trap(listing: &Listing, concern: Concern, mode: Mode, line: &Line) -> bool
     ensures { result ≡ may_trap listing.now concern mode line.now }
 {

@@ -13,11 +13,11 @@ Answer = Result Source ListingRefusal
 same_source : (l m : Source) → (let r : Answer = Ok l in r) ≡ Ok m → l ≡ m
 same_source l m h = cc
 
--- it is a listing
+-- a text that is read is a listing
 pub is_listing_text : (text : List ℕ) (s : Source) → listing_of text ≡ Ok s → IsListingText text
 is_listing_text text s is = subst (λ (r : Answer). MatchResult r (λ l. Unit {0}) (λ e. ⊥)) (sym is) tt
 
--- and no other is read
+-- a text is read as one listing alone
 pub same_listing : (text : List ℕ) (s l : Source) → listing_of text ≡ Ok s → listing_of text ≡ Ok l → l ≡ s
 same_listing text s l is read = same_source l s (sym read ∙ is)
 

@@ -8,7 +8,7 @@ use Rattle.snap_semantics.specs.Listing.{listing_of}
 use Rattle.snap_semantics.specs.Source.{Source}
 use Rattle.snap_semantics.specs.Token.{lines_of}
 use Rattle.snap_listing_core.specs.Fields.{seen_comment, commented}
-use Rattle.snap_listing_grammar.proofs.OnlyCommented.{read_is_commented}
+use Rattle.snap_listing.proofs.OnlyCommented.{read_is_commented}
 
 -- the comments behind those of the header, and the listing
 pub with_comments : (text : List ℕ) (s : Source) (found comments : List (Option (Vec ℕ Global))) →

@@ -15,14 +15,15 @@ ghost use Rattle.snap_text.specs.Lines.{view_line};
 ghost use Rattle.snap_text.specs.Tokens.{Finds, view_tokens};
 
 use crate::fault::ListingFault;
+use crate::rules::{is_line_number, is_reserved};
+use crate::uses::is_among;
 use snap_listing_core::Header;
-use snap_listing_rules::{is_among, is_line_number, is_reserved};
 use snap_semantics::{ListingRefusal, Name};
 use snap_text::{TextLines, Token, TokenLine, end_at, identifier_at, keyword_at, number_at};
 use snap_words::KindTag;
 use std::alloc::Global;
 
-/// The kind that an identifier names.
+/// Returns the kind that an identifier names.
 fn kind_of_keyword(word: &[u8]) -> Option<KindTag>
     ensures { result ≡ kind_of_keyword word.now }
 {
@@ -37,7 +38,7 @@ fn kind_of_keyword(word: &[u8]) -> Option<KindTag>
     }
 }
 
-/// `kind seq`, and so `bit` and `multi`.
+/// Reads `kind seq`, `kind bit` or `kind multi`.
 #[tactic(auto, unfolding(snap_semantics::specs::HeaderForms::kind_form))]
 fn kind_form(tokens: &[Token<'_>]) -> Option<KindTag>
     ensures { Finds (λ x. x) result (kind_form (view_tokens tokens.now)) }
@@ -49,7 +50,7 @@ fn kind_form(tokens: &[Token<'_>]) -> Option<KindTag>
     Some(kind)
 }
 
-/// The letters of an identifier.
+/// Returns the letters of an identifier.
 fn letters_of<'a>(token: Token<'a>) -> &'a [u8]
     ensures { result.now ≡ letters_of token.entry }
 {
@@ -59,7 +60,7 @@ fn letters_of<'a>(token: Token<'a>) -> &'a [u8]
     }
 }
 
-/// Whether all tokens are identifiers.
+/// Returns whether all tokens are identifiers.
 fn are_identifiers(tokens: &[Token<'_>]) -> bool
     ensures { result ≡ list_all is_identifier tokens.now }
 {
@@ -68,7 +69,7 @@ fn are_identifiers(tokens: &[Token<'_>]) -> bool
         .all(|token| matches!(token, Token::Identifier(_)))
 }
 
-/// A keyword and identifiers: the identifiers.
+/// Reads a keyword and identifiers, and returns the identifiers.
 #[tactic(auto, using(crate::proofs::Names::words_found, crate::proofs::Names::words_missed), unfolding(snap_semantics::specs::HeaderForms::names_form))]
 fn names_form<'a, 'b>(keyword: &[u8], tokens: &'a [Token<'b>]) -> Option<&'a [Token<'b>]>
     ensures { Finds (λ words. map letters_of words.now) result
@@ -82,7 +83,7 @@ fn names_form<'a, 'b>(keyword: &[u8], tokens: &'a [Token<'b>]) -> Option<&'a [To
     }
 }
 
-/// A keyword and a line number.
+/// Reads a keyword and a line number.
 #[tactic(auto, unfolding(snap_semantics::specs::HeaderForms::entry_form))]
 fn entry_form(keyword: &[u8], tokens: &[Token<'_>]) -> Option<u64>
     ensures { Finds (λ x. x) result (entry_form keyword.now (view_tokens tokens.now)) }
@@ -97,7 +98,8 @@ fn entry_form(keyword: &[u8], tokens: &[Token<'_>]) -> Option<u64>
     }
 }
 
-/// The next header line, which has to be there.
+/// Reads the next header line; `after` is the number of the line that is missing where there is
+/// none.
 fn next_header<'a>(
     alloc: Global,
     after: u64,
@@ -111,7 +113,7 @@ fn next_header<'a>(
     }
 }
 
-/// The line of the kind, and its number.
+/// Reads the line of the kind, and returns its number too.
 fn kind_line(
     alloc: Global,
     after: u64,
@@ -130,7 +132,7 @@ fn kind_line(
     }
 }
 
-/// The line of an entry, and its number.
+/// Reads the line of an entry, and returns its number too.
 fn entry_line(
     alloc: Global,
     after: u64,
@@ -151,14 +153,15 @@ fn entry_line(
     }
 }
 
-/// Whether an identifier may not be declared.
+/// Returns whether an identifier may not be declared.
 fn is_bad_name(word: &[u8]) -> bool
     ensures { result ≡ is_bad_name word.now }
 {
     word.len() > 8 || is_reserved(word)
 }
 
-/// The name that an identifier of a header line declares, behind those that are declared already.
+/// Returns the name that an identifier of a header line declares, behind those that are declared
+/// already.
 fn new_name(line: u64, known: &[Name], word: &[u8]) -> Result<Name, ListingRefusal>
     ensures { result ≡ new_name line known.now word.now }
 {
@@ -173,8 +176,8 @@ fn new_name(line: u64, known: &[Name], word: &[u8]) -> Result<Name, ListingRefus
     }
 }
 
-/// The names that the identifiers of a header line declare; they join those that are declared
-/// already.
+/// Returns the names that the identifiers of a header line declare, and adds them to the names that
+/// are declared already.
 fn new_names(
     alloc: Global,
     line: u64,
@@ -194,7 +197,7 @@ fn new_names(
     Ok(names)
 }
 
-/// The line of a sort of locals; its names join those that are declared already.
+/// Reads the line of a sort of locals, and adds its names to those that are declared already.
 fn names_line(
     alloc: Global,
     after: u64,
@@ -217,7 +220,12 @@ fn names_line(
     }
 }
 
-/// The header. Where the lines are used up, the line that is missing is line `after`.
+/// Reads the header of a listing. Where a header line is missing, `after` is the number of the line
+/// that is refused.
+///
+/// # Errors
+///
+/// `Refused` with the first reason why the lines are no header; `Memory` where memory runs out.
 #[tactic(auto, unfolding(snap_semantics::specs::Listing::header_of))]
 pub fn header_of(
     alloc: Global,

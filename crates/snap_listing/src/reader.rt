@@ -3,7 +3,7 @@
 ghost use Rattle.std.specs.Prelude.{◌≡◌, ◌<◌, Err, IfOk, drop, length};
 ghost use Rattle.snap_semantics.specs.Answers.{Answers};
 ghost use Rattle.snap_semantics.specs.Comments.{header_lines, commented_of};
-ghost use Rattle.snap_semantics.specs.Listing.{numbered_lines, with_lines};
+ghost use Rattle.snap_semantics.specs.Listing.{max_text, numbered_lines, with_lines};
 ghost use Rattle.snap_semantics.specs.Listing.{listing_of_lines, listing_of};
 ghost use Rattle.snap_listing_core.specs.Fields.{header_source};
 ghost use Rattle.snap_listing.specs.ReaderSteps.{numbered_line, added_line};
@@ -12,10 +12,11 @@ ghost use Rattle.snap_semantics.specs.declared.refusal.ListingRefusal.TheVariant
 ghost use Rattle.snap_text.specs.Lines.{view_line};
 
 use crate::fault::ListingFault;
+use crate::forms::line_form;
 use crate::header::header_of;
+use crate::targets::{checked_target, checked_targets, push_line_copy};
+use crate::uses::checked_uses;
 use snap_listing_core::{CommentedListing, Header, Listing};
-use snap_listing_forms::line_form;
-use snap_listing_rules::{checked_target, checked_targets, checked_uses, push_line_copy};
 use snap_semantics::{Line, ListingRefusal};
 use snap_text::{TextLines, TokenLine, line_comments, line_count};
 use std::alloc::{AllocError, Global};
@@ -29,7 +30,7 @@ const MOST_LINES: usize = 200;
 /// The lines of the header.
 const HEADER_LINES: usize = 7;
 
-/// The numbered line that a text line is, behind line number `last`, with so many lines before it.
+/// Reads the numbered line that `text` is, behind line number `last`, with `count` lines before it.
 fn numbered_line(
     header: &Header,
     last: u64,
@@ -54,7 +55,7 @@ fn numbered_line(
     Ok(line)
 }
 
-/// Adds the numbered line that a text line is, and gives its number.
+/// Appends the numbered line that `text` is, and returns its number.
 fn add_line(
     header: &Header,
     last: u64,
@@ -73,7 +74,7 @@ fn add_line(
     }
 }
 
-/// The numbered lines behind the header.
+/// Reads the numbered lines behind the header.
 fn numbered_lines(
     alloc: Global,
     header: &Header,
@@ -90,8 +91,8 @@ fn numbered_lines(
     Ok(lines)
 }
 
-/// The header and the numbered lines of a text. Where its lines are used up, the line behind them
-/// is line `after`.
+/// Reads the header and the numbered lines of a text. Where a header line is missing, `after` is
+/// the number of the line that is refused.
 #[tactic(auto, unfolding(snap_semantics::specs::Listing::listing_of_lines))]
 fn header_and_lines(
     alloc: Global,
@@ -109,15 +110,15 @@ fn header_and_lines(
     Ok((header, lines))
 }
 
-/// Returns the listing that a text is, without its comments.
+/// Reads the listing that `text` spells, without its comments.
 ///
 /// # Errors
 ///
-/// `Refused` has the first reason why the text is no listing; `Memory`: memory ran out.
+/// `Refused` with the first reason why `text` is no listing; `Memory` where memory runs out.
 #[tactic(auto, using(crate::proofs::TextLength::few_lines), unfolding(snap_semantics::specs::Listing::listing_of))]
 pub fn read_source(alloc: Global, text: &[u8]) -> Result<Listing, ListingFault>
     ensures listing { Answers (λ l. l) result (listing_of text.now) }
-    ensures too_long { 65536 < length text.now → result ≡ Err (Refused TooLong) }
+    ensures too_long { max_text < length text.now → result ≡ Err (Refused TooLong) }
 {
     if text.len() > MOST_BYTES {
         return Err(ListingFault::Refused(ListingRefusal::TooLong));
@@ -128,7 +129,7 @@ pub fn read_source(alloc: Global, text: &[u8]) -> Result<Listing, ListingFault>
     Ok(Listing::of(header, lines))
 }
 
-/// The comments of the lines behind those of the header.
+/// Returns the comments of the lines behind those of the header.
 fn behind_header(
     alloc: Global,
     mut comments: Vec<Option<Vec<u8>>>,
@@ -141,15 +142,15 @@ fn behind_header(
     comments.split_off(HEADER_LINES)
 }
 
-/// Returns the listing that a text is, with the comments of its numbered lines.
+/// Reads the listing that `text` spells, with the comments of its numbered lines.
 ///
 /// # Errors
 ///
-/// `Refused` has the first reason why the text is no listing; `Memory`: memory ran out.
+/// `Refused` with the first reason why `text` is no listing; `Memory` where memory runs out.
 #[tactic(auto, using(crate::proofs::ReadComments::with_comments), unfolding(snap_semantics::specs::Comments::commented_of))]
 pub fn read(alloc: Global, text: &[u8]) -> Result<CommentedListing, ListingFault>
     ensures listing { Answers (λ l. l) result (commented_of text.now) }
-    ensures too_long { 65536 < length text.now → result ≡ Err (Refused TooLong) }
+    ensures too_long { max_text < length text.now → result ≡ Err (Refused TooLong) }
 {
     let listing = read_source(alloc, text)?;
     let found = line_comments(alloc, text)?;

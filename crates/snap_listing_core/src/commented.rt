@@ -15,7 +15,7 @@ pub struct CommentedListing {
 }
 
 impl Drop for CommentedListing {
-    // Written out, so that it is proved here and not once more wherever one is dropped.
+    // A drop that is written out is one call: it is proved once, and not again at each drop.
     fn drop(self) {
         let CommentedListing {
             listing: _,
@@ -36,7 +36,7 @@ impl Model for CommentedListing {
 }
 
 impl CommentedListing {
-    /// The listing with these comments.
+    /// Returns `listing` with these comments.
     pub fn of(listing: Listing, comments: Vec<Option<Vec<u8>>>) -> CommentedListing
         requires { IsCommented (commented listing comments.items) }
         ensures { result ≡ commented listing comments.items }
@@ -44,11 +44,11 @@ impl CommentedListing {
         CommentedListing { listing, comments }
     }
 
-    /// Returns the listing with no comment on any of its lines.
+    /// Returns `listing` with no comment on any of its lines.
     ///
     /// # Errors
     ///
-    /// Memory ran out.
+    /// `AllocError` where memory runs out.
     #[tactic(auto, using(crate::proofs::Uncommented::commented_is))]
     pub fn uncommented(alloc: Global, listing: Listing) -> Result<CommentedListing, AllocError>
         ensures { IfOk result (λ l. l ≡ uncommented listing) }
@@ -57,11 +57,11 @@ impl CommentedListing {
         Ok(CommentedListing::of(listing, comments))
     }
 
-    /// Returns an equal listing, with equal comments.
+    /// Returns a copy, with its comments.
     ///
     /// # Errors
     ///
-    /// Memory ran out.
+    /// `AllocError` where memory runs out.
     pub fn copy(&self, alloc: Global) -> Result<CommentedListing, AllocError>
         ensures { IfOk result (λ l. l ≡ self.now) }
     {
@@ -69,14 +69,14 @@ impl CommentedListing {
         Ok(CommentedListing::of(self.listing.copy(alloc)?, comments))
     }
 
-    /// The listing alone.
+    /// Returns the listing without its comments.
     pub fn listing(&self) -> &Listing
         ensures { result.now ≡ self.now.source }
     {
         &self.listing
     }
 
-    /// The listing alone, kept.
+    /// Returns the listing without its comments.
     pub fn into_listing(self) -> Listing
         ensures { result ≡ self.source }
     {
@@ -87,7 +87,8 @@ impl CommentedListing {
         listing
     }
 
-    /// The comments of its lines, in their order. With the listing they keep the rules of comments.
+    /// Returns the comments of the lines, in their order. Together with the listing they keep the
+    /// rules of comments.
     pub fn comments(&self) -> &[Option<Vec<u8>>]
         ensures comments { map seen_comment result.now ≡ self.now.comments }
         ensures rules { IsCommented self.now }
@@ -96,7 +97,7 @@ impl CommentedListing {
     }
 }
 
-/// Returns no comment for each of these lines.
+/// Returns as many comments as `lines`, all of them `None`.
 fn no_comments(alloc: Global, lines: &[Line]) -> Result<Vec<Option<Vec<u8>>>, AllocError>
     ensures { IfOk result (λ comments. map seen_comment comments.items ≡ map no_comment lines.now) }
 {
@@ -107,7 +108,7 @@ fn no_comments(alloc: Global, lines: &[Line]) -> Result<Vec<Option<Vec<u8>>>, Al
     Ok(comments)
 }
 
-/// Returns equal comments.
+/// Returns copies of `comments`.
 fn copy_comments(
     alloc: Global,
     comments: &[Option<Vec<u8>>],
@@ -122,7 +123,7 @@ fn copy_comments(
     Ok(copies)
 }
 
-/// Returns an equal comment, where there is one.
+/// Returns a copy of `comment`.
 fn copy_comment(alloc: Global, comment: &Option<Vec<u8>>) -> Result<Option<Vec<u8>>, AllocError>
     ensures { IfOk result (λ copy. seen_comment copy ≡ seen_comment comment.now) }
 {

@@ -1,4 +1,4 @@
-//! What a listing is.
+//! Listings: their types, and the definition of the rules that they keep.
 #![tactic(auto)]
 
 mod commented;

@@ -7,15 +7,15 @@ use Rattle.snap_semantics.specs.declared.process.Item.TheVariants.{Step, Call, C
 use Rattle.snap_semantics.specs.declared.process.Op.{Op}
 use Rattle.snap_semantics.specs.declared.process.Outcome.{Outcome}
 use Rattle.snap_semantics.specs.declared.process.Outcome.TheVariants as outcome
-use Rattle.snap_live_desk.specs.declared.seat_state.OwnTurn.{OwnTurn}
-use Rattle.snap_live_desk.specs.declared.seat.Turn.{Turn}
+use Rattle.snap_live.specs.declared.seat_state.OwnTurn.{OwnTurn}
+use Rattle.snap_live.specs.declared.seat.Turn.{Turn}
 use Rattle.snap_live.specs.declared.worker.Sequel.{Sequel}
 use Rattle.snap_live.specs.declared.worker.Sequel.TheVariants as sequel
-use Rattle.snap_live_desk.specs.Turns.{own_turn}
+use Rattle.snap_live.specs.Turns.{own_turn}
 use Rattle.snap_live.specs.Sequels.{sequel_of}
 use Rattle.snap_sched.specs.ScriptText.{Script}
 use Rattle.snap_live.specs.Script.{crashes_behind}
-use Rattle.snap_live_desk.specs.Shown.{DeskView, SeatView}
+use Rattle.snap_live.specs.Shown.{DeskView, SeatView}
 use Rattle.snap_live.specs.Worker.{Made, Kept}
 use Rattle.snap_live.specs.Play.{IsDue, IsCrash, IsBegun, Due, rest, busy, over, Does}
 use Rattle.snap_live.specs.Play.{Moves, Plays, Leaves, after_call, after_step}

@@ -8,30 +8,30 @@ use Rattle.std.specs.List.{AllByRecursion}
 use mathlib.Core.Logic.{dite}
 use native.Mathlib.Decide.{ℕ_discrete}
 use Rattle.snap_semantics.specs.declared.process.Item.{Item}
-use Rattle.snap_live_desk.specs.declared.seat_state.Setting.{Setting}
-use Rattle.snap_live_desk.specs.declared.seat_state.OwnTurn.{OwnTurn}
-use Rattle.snap_live_desk.specs.declared.seat.Turn.{Turn}
+use Rattle.snap_live.specs.declared.seat_state.Setting.{Setting}
+use Rattle.snap_live.specs.declared.seat_state.OwnTurn.{OwnTurn}
+use Rattle.snap_live.specs.declared.seat.Turn.{Turn}
 use Rattle.snap_live.specs.declared.worker.Stop.{Stop}
 use Rattle.snap_live.specs.declared.worker.Stop.TheVariants.{TurnLimit, Full, Memory}
 use Rattle.snap_semantics.specs.declared.fault.Fault.{Fault}
 use Rattle.snap_semantics.specs.declared.fault.Fault.TheVariants as fault
-use Rattle.snap_live_desk.specs.declared.refusal.LiveRefusal.{LiveRefusal}
-use Rattle.snap_live_desk.specs.declared.refusal.LiveRefusal.TheVariants as refusal
+use Rattle.snap_semantics.specs.declared.refusal.LiveRefusal.{LiveRefusal}
+use Rattle.snap_semantics.specs.declared.refusal.LiveRefusal.TheVariants as refusal
 use Rattle.snap_semantics.specs.State.{State, initial}
 use Rattle.snap_runs.specs.Run.{Run, IsValidRun}
 use Rattle.snap_words.specs.Shape.{IsOneOf}
 use Rattle.snap_semantics.specs.Table.{who, done}
-use Rattle.snap_live_desk.specs.Turns.{run_of, setting_of, own_turn, put_if, turns_of, turns_from}
+use Rattle.snap_live.specs.Turns.{run_of, setting_of, own_turn, put_if, turns_of, turns_from}
 use Rattle.snap_live.specs.Play.{IsPlay, IsBegun}
 use Rattle.snap_sched.specs.ScriptText.{Script}
 use Rattle.snap_live.specs.Script.{script_at}
-use Rattle.snap_live_desk.specs.Shown.{DeskView, SeatView, Keeps, seat_of, seats_of}
-use Rattle.snap_live_desk.specs.Closed.{HasSeat, IsLeastMissing, NamesMissing}
+use Rattle.snap_live.specs.Shown.{DeskView, SeatView, Keeps, seat_of, seats_of}
+use Rattle.snap_live.specs.Closed.{HasSeat, IsLeastMissing, NamesMissing}
 use Rattle.snap_live.specs.Worker.{shown, IsLetOn, MayGoOn, MayNotGoOn, Stopped, Ended, WorkedView, IsWorked}
 use Rattle.snap_live.specs.LiveRun.{turns_at, Played, IsLive, IsPart, GivesUp, MayFault, or_first, first_stop}
 use Rattle.snap_live.specs.LiveRun.{then_first, fault_of, AllWorked}
-use Rattle.snap_live_desk.proofs.Joins.{prefix_length}
-use Rattle.snap_live_desk.proofs.Gathered.{has_at}
+use Rattle.snap_live.proofs.Joins.{prefix_length}
+use Rattle.snap_live.proofs.Gathered.{has_at}
 use Rattle.snap_live.proofs.Handles.{at_last, at_left, map_at, map_length, any_default}
 
 -- new seats

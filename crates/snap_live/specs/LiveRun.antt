@@ -7,24 +7,24 @@ use Rattle.snap_semantics.specs.declared.process.Item.{Item}
 use Rattle.snap_semantics.specs.declared.fault.Fault.{Fault}
 use Rattle.snap_semantics.specs.declared.fault.Fault.TheVariants as fault
 use Rattle.snap_runs.specs.Run.{Run, IsValidRun}
-use Rattle.snap_live_desk.specs.declared.seat_state.Setting.{Setting}
-use Rattle.snap_live_desk.specs.declared.seat.Turn.{Turn}
+use Rattle.snap_live.specs.declared.seat_state.Setting.{Setting}
+use Rattle.snap_live.specs.declared.seat.Turn.{Turn}
 use Rattle.snap_live.specs.declared.worker.Stop.{Stop}
 use Rattle.snap_live.specs.declared.worker.Stop.TheVariants as stop
-use Rattle.snap_live_desk.specs.declared.refusal.LiveRefusal.{LiveRefusal}
-use Rattle.snap_live_desk.specs.declared.refusal.LiveRefusal.TheVariants.{Full, TurnLimit, SeatMissing}
-use Rattle.snap_live_desk.specs.Turns.{run_of, setting_of, turns_of}
+use Rattle.snap_semantics.specs.declared.refusal.LiveRefusal.{LiveRefusal}
+use Rattle.snap_semantics.specs.declared.refusal.LiveRefusal.TheVariants.{Full, TurnLimit, SeatMissing}
+use Rattle.snap_live.specs.Turns.{run_of, setting_of, turns_of}
 use Rattle.snap_sched.specs.ScriptText.{Script}
 use Rattle.snap_live.specs.Script.{script_at}
 use Rattle.snap_live.specs.Play.{IsPlay, IsBegun}
-use Rattle.snap_live_desk.specs.Shown.{DeskView}
+use Rattle.snap_live.specs.Shown.{DeskView}
 use Rattle.snap_live.specs.Worker.{shown, IsLetOn, MayGoOn, MayNotGoOn, WorkedView, IsWorked}
 
 -- the turns of process k + 1
 abbrev pub turns_at : List (List Turn) → ℕ → List Turn
 turns_at turns k = slice_index_or turns k []
 
--- these are the turns of a process in the record, and they are a play of its script, each after the gate
+-- The turns of a process in the record, which are a play of its script, each after the gate.
 pub record Played (may : ℕ → ℕ → Bool → Type 0) (base : Setting) (items : List Item) (process : ℕ) (script : Script)
     (limit : ℕ) (turns : List Turn) : Type 0 where
   pub told : turns ≡ map shown (turns_of base process items)

@@ -7,13 +7,13 @@ use Rattle.snap_words.specs.Shape.{IsOneOf, max_items}
 use Rattle.snap_semantics.specs.declared.process.Item.{Item}
 use Rattle.snap_semantics.specs.declared.process.Op.{Op}
 use Rattle.snap_semantics.specs.declared.process.Outcome.{Outcome}
-use Rattle.snap_live_desk.specs.declared.seat_state.OwnTurn.{OwnTurn}
-use Rattle.snap_live_desk.specs.declared.seat.Turn.{Turn}
+use Rattle.snap_live.specs.declared.seat_state.OwnTurn.{OwnTurn}
+use Rattle.snap_live.specs.declared.seat.Turn.{Turn}
 use Rattle.snap_live.specs.declared.worker.Sequel.{Sequel}
 use Rattle.snap_live.specs.declared.worker.Stop.{Stop}
 use Rattle.snap_live.specs.declared.worker.Stop.TheVariants.{TurnLimit, Full, Memory}
-use Rattle.snap_live_desk.specs.Turns.{turns_of, own_turn}
-use Rattle.snap_live_desk.specs.Shown.{DeskView, SeatView}
+use Rattle.snap_live.specs.Turns.{turns_of, own_turn}
+use Rattle.snap_live.specs.Shown.{DeskView, SeatView}
 use Rattle.snap_sched.specs.ScriptText.{Script}
 use Rattle.snap_live.specs.Play.{Due, rest, over, IsPlay, IsBegun}
 use Rattle.snap_live.specs.Sequels.{sequel_of}

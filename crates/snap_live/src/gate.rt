@@ -1,12 +1,13 @@
-//! `Gate`: what workers of a live run ask before each turn, whether their process may make it.
+//! `Gate`: whether a process may make its next turn, as the workers of a live run ask before each
+//! turn.
 ghost use Rattle.std.specs.Prelude.{◌≡◌, ℕ, Bool, true};
 
 /// Lets processes on, turn by turn.
 pub trait Gate: Sync {
-    /// What it may answer to which process at which turn.
+    /// What the gate may answer to which process at which turn.
     ghost may_answer: { Self → ℕ → ℕ → Bool → Type 0 };
 
-    /// Whether this process may make its next turn, which has this number, counted from 1.
+    /// Returns whether `process` may make turn number `turn`, its next one, counted from 1.
     fn enter(&self, process: u32, turn: u64) -> bool
         ensures { may_answer self.now process turn result };
 }

@@ -4,21 +4,24 @@ ghost use Rattle.std.specs.Prelude.{◌≡◌, ◌+◌, ◌-◌, ◌*◌, ◌^�
 ghost use Rattle.std.specs.Prelude.{ℕ, length, vec_len, All, map};
 ghost use Rattle.std.specs.Prelude.{slice_index_or, IfOk, IfErr, Some, None};
 ghost use Rattle.snap_words.specs.Shape.{IsOneOf, max_items};
-ghost use Rattle.snap_live_desk.specs.declared.seat_state.Setting.{Setting};
+ghost use Rattle.snap_live.specs.declared.seat_state.Setting.{Setting};
 ghost use Rattle.snap_live.specs.Script.{script_at};
-ghost use Rattle.snap_live_desk.specs.Shown.{seat_of, seats_of};
+ghost use Rattle.snap_live.specs.Shown.{seat_of, seats_of};
 ghost use Rattle.snap_live.specs.Worker.{HasRoom, IsWorked, WorkedView};
 ghost use Rattle.snap_live.specs.LiveRun.{AllWorked, IsLive, MayFault};
 ghost use Rattle.snap_live.specs.LiveRun.{first_stop, then_first, fault_of};
 
+use crate::closed_desk::close;
+use crate::desk::{Desk, open};
 use crate::gate::Gate;
+use crate::refusal::LiveFault;
+use crate::seat::{Seat, Turn};
 use crate::start_gate::StartGate;
 use crate::worker::{Stop, Worked, work};
 use snap_asm_program::Program;
-use snap_live_desk::{Desk, LiveFault, LiveRefusal, Seat, Turn, close, open};
 use snap_record::{MAX_ITEMS, Record};
 use snap_sched::{Script, Scripts};
-use snap_semantics::Fault;
+use snap_semantics::{Fault, LiveRefusal};
 use snap_words::Kind;
 use std::alloc::{AllocError, Global};
 use std::marker::Model;
@@ -35,7 +38,7 @@ pub struct Turns {
 
 impl Model for Turns {
     ghost use Rattle.std.specs.Prelude.{List};
-    ghost use Rattle.snap_live_desk.specs.declared.seat.Turn.{Turn};
+    ghost use Rattle.snap_live.specs.declared.seat.Turn.{Turn};
 
     ghost Value = { List Turn };
 
@@ -43,14 +46,14 @@ impl Model for Turns {
 }
 
 impl Turns {
-    /// These turns.
+    /// Returns a list of these turns.
     pub fn of(turns: Vec<Turn>) -> Turns
         ensures { result ≡ turns.items }
     {
         Turns { turns }
     }
 
-    /// The turns as a slice.
+    /// Returns the turns as a slice.
     pub fn as_slice(&self) -> &[Turn]
         ensures { result.now ≡ self.now }
     {
@@ -67,7 +70,7 @@ pub struct LiveRun<K: Kind> {
 }
 
 impl<K: Kind> Drop for LiveRun<K> {
-    // Written out, so that it is proved here and not once more wherever one is dropped.
+    // A drop that is written out is one call: it is proved once, and not again at each drop.
     fn drop(self) {
         let LiveRun { kept: _, turns: _ } = self;
     }
@@ -121,7 +124,7 @@ fn start<'s, E, K: Kind, G: Gate, R: Threads + Wait + Sync>(
     Ok(child)
 }
 
-/// The script of a process.
+/// Returns the script of a process.
 fn script_of(scripts: &Scripts, process: u32) -> &Script
     requires { IsOneOf (length scripts.now.scripts) process }
     ensures { result.now ≡ script_at scripts.now.scripts (process - 1) }
@@ -156,8 +159,8 @@ fn start_all<'s, E, K: Kind, G: Gate, R: Threads + Wait + Sync>(
     Ok(handles)
 }
 
-/// All workers at once, each in a thread of its own. All are joined before an answer, and there is
-/// room for what they hand back.
+/// Runs all workers at once, each in a thread of its own, and joins them. There is room for what
+/// they hand back.
 fn run_all<K: Kind, G: Gate, R: Threads + Wait + Sync>(
     rt: &R,
     alloc: Global,
@@ -197,7 +200,7 @@ fn run_all<K: Kind, G: Gate, R: Threads + Wait + Sync>(
     )
 }
 
-/// Joins all workers, for which there is room. Each kept its promise.
+/// Joins all workers, for which there is room. Each of them kept its promise.
 fn joined<K: Kind, G: Gate, R: Threads>(
     rt: &R,
     handles: Vec<PromisedHandle<Worked<K>, WorkerPromise<K, G>>>,
@@ -217,8 +220,8 @@ fn joined<K: Kind, G: Gate, R: Threads>(
     worked
 }
 
-/// Room for what all workers hand back: once they have begun, nothing is asked for but the threads
-/// and what the desk takes.
+/// The room for what all workers hand back: once they have begun, nothing is allocated but the
+/// threads and what the desk takes.
 #[derive(Drop)]
 struct Room<K: Kind> {
     worked: Vec<Worked<K>>,
@@ -226,7 +229,7 @@ struct Room<K: Kind> {
     turns: Vec<Turns>,
 }
 
-/// Room for so many workers.
+/// Returns room for `count` workers.
 fn room_for<K: Kind>(alloc: Global, count: usize) -> Result<Room<K>, AllocError>
     ensures worked { IfOk result (λ r. HasRoom count r.worked) }
     ensures seats { IfOk result (λ r. HasRoom count r.seats) }
@@ -248,7 +251,7 @@ struct WorkerResults<K: Kind> {
     stop: Option<(u32, Stop)>,
 }
 
-/// What the workers hand back, put together. There is room for it.
+/// Puts what the workers hand back together. There is room for it.
 fn results_of<K: Kind>(
     worked: Vec<Worked<K>>,
     mut seats: Vec<Seat<K>>,
@@ -273,7 +276,7 @@ fn results_of<K: Kind>(
     }
 }
 
-/// What a worker hands back, one by one.
+/// Returns the parts of what a worker hands back.
 fn parts_of<K: Kind>(worked: Worked<K>) -> (Seat<K>, Turns, Option<Stop>)
     ensures { (result.0 ≡ worked.seat) × (result.1 ≡ worked.turns) × (result.2 ≡ worked.stop) }
 {
@@ -281,7 +284,7 @@ fn parts_of<K: Kind>(worked: Worked<K>) -> (Seat<K>, Turns, Option<Stop>)
     (seat, Turns::of(turns), stop)
 }
 
-/// The stop that was found before, or else this one.
+/// Returns the stop that was found before, or else `stop`.
 fn then_first(found: Option<(u32, Stop)>, process: u32, stop: Option<Stop>) -> Option<(u32, Stop)>
     ensures { result ≡ then_first found process stop }
 {
@@ -294,9 +297,13 @@ fn then_first(found: Option<(u32, Stop)>, process: u32, stop: Option<Stop>) -> O
     }
 }
 
-/// Plays all scripts at once at a new desk, a worker in a thread for each process, and each with at
-/// most so many turns, for each of which it asks the gate. Workers begin together, unless some come
-/// late. All have ended before there is an answer.
+/// Plays all scripts at once at a new desk, with a worker in a thread for each process. Each worker
+/// makes at most `limit` turns, and asks `gate` before each of them. Workers begin together, unless
+/// some come late. All have ended when the function returns.
+///
+/// # Errors
+///
+/// `Memory` where memory runs out, or no thread could be started.
 pub fn run_live<K: Kind, G: Gate, R: Threads + Wait + Sync>(
     rt: &R,
     alloc: Global,
@@ -327,7 +334,7 @@ pub fn run_live<K: Kind, G: Gate, R: Threads + Wait + Sync>(
     }
 }
 
-/// The fault of the whole run.
+/// Returns the fault of the whole run.
 fn fault_of(process: u32, stop: Stop) -> LiveFault
     ensures { result ≡ fault_of process stop }
 {

@@ -14,7 +14,8 @@ const MOST_LOOKS: u32 = 10_000;
 /// processors than workers, and a short script is done before its worker loses its own.
 const FIRST_TURNS: u64 = 8;
 
-/// Lets workers on as another gate does, and to their first turn once all of them are there.
+/// A gate that lets workers on as another gate does, and to their first turn once all of them are
+/// there.
 #[derive(Drop)]
 pub(crate) struct StartGate<'g, G> {
     pub(crate) gate: &'g G,
@@ -23,7 +24,7 @@ pub(crate) struct StartGate<'g, G> {
 }
 
 impl<'g, G> StartGate<'g, G> {
-    /// Before this gate, for a worker of each script that has a turn to make.
+    /// Returns a gate in front of `gate`, for a worker of each script that has a turn to make.
     pub(crate) fn of(gate: &'g G, scripts: &[Script]) -> StartGate<'g, G>
         ensures { result.gate.now ≡ gate.now }
     {
@@ -34,7 +35,7 @@ impl<'g, G> StartGate<'g, G> {
         }
     }
 
-    /// Nobody waits any longer: not all workers will come.
+    /// Lets workers go on at once, since not all of them will come.
     pub(crate) fn call_off(&self) {
         self.there.fetch_add(self.workers, Ordering::SeqCst);
     }
@@ -64,7 +65,7 @@ impl<'g, G: Gate> Gate for StartGate<'g, G> {
     }
 }
 
-/// How many of these scripts have an operation.
+/// Returns how many of `scripts` have an operation.
 fn busy_count(scripts: &[Script]) -> u64 {
     scripts
         .iter()

@@ -2,15 +2,17 @@
 ghost use Rattle.std.specs.Prelude.{◌≡◌, ◌+◌, ◌^◌, ◌<◌, ◌≤◌, [], true, length, drop, IfOk, IfErr};
 ghost use Rattle.snap_words.specs.Shape.{max_items};
 ghost use Rattle.snap_semantics.specs.Table.{who};
-ghost use Rattle.snap_live_desk.specs.Shown.{IsTurn, StaysWith, seat_of};
-ghost use Rattle.snap_live_desk.specs.Untaken.{NoTurn};
+ghost use Rattle.snap_live.specs.Shown.{IsTurn, StaysWith, seat_of};
+ghost use Rattle.snap_live.specs.Untaken.{NoTurn};
 ghost use Rattle.snap_live.specs.Script.{crashes_behind};
 ghost use Rattle.snap_live.specs.Play.{Leaves, rest, busy, over, IsPlay, IsBegun};
 ghost use Rattle.snap_live.specs.Sequels.{sequel_of};
 ghost use Rattle.snap_live.specs.Worker.{Kept, Made, NoFurther, Stopped, after_operation, IsWorked};
 
+use crate::desk::Desk;
 use crate::gate::Gate;
-use snap_live_desk::{Desk, LiveFault, Seat, Turn};
+use crate::refusal::LiveFault;
+use crate::seat::{Seat, Turn};
 use snap_record::MAX_ITEMS;
 use snap_sched::Script;
 use snap_semantics::{Fault, Item, Outcome};
@@ -52,7 +54,7 @@ enum Sequel {
     Skipped,
 }
 
-/// What an outcome means for the rest of a script.
+/// Returns what an outcome means for the rest of a script.
 fn sequel_of(outcome: &Outcome) -> Sequel
     ensures { result ≡ sequel_of outcome.now }
 {
@@ -67,7 +69,7 @@ fn sequel_of(outcome: &Outcome) -> Sequel
     }
 }
 
-/// Whether the crash comes at the next turn.
+/// Returns whether the crash comes at the next turn.
 fn crashes_now<K: Kind>(script: &Script, seat: &Seat<K>) -> bool
     requires { seat.now.asked < 2 ^ 32 }
     ensures { result ≡ crashes_behind script.now.crash seat.now.asked }
@@ -78,7 +80,7 @@ fn crashes_now<K: Kind>(script: &Script, seat: &Seat<K>) -> bool
     }
 }
 
-/// The turn of a seat with an item of its process.
+/// Makes the turn of a seat with an item of its process.
 fn take_turn<K: Kind, R: Wait>(
     rt: &R,
     desk: &Desk<K>,
@@ -99,7 +101,7 @@ fn take_turn<K: Kind, R: Wait>(
     }
 }
 
-/// A turn, if the gate lets the process on.
+/// Makes a turn, if the gate lets the process on.
 fn play_turn<K: Kind, G: Gate, R: Wait>(
     rt: &R,
     desk: &Desk<K>,
@@ -143,7 +145,7 @@ fn play_turn<K: Kind, G: Gate, R: Wait>(
     }
 }
 
-/// The crash, at its turn.
+/// Plays the crash, at its turn.
 fn play_crash<K: Kind, G: Gate, R: Wait>(
     rt: &R,
     desk: &Desk<K>,
@@ -171,7 +173,8 @@ fn play_crash<K: Kind, G: Gate, R: Wait>(
     Ok(())
 }
 
-/// Steps up to the end of the operation that was called last. True where nothing follows it.
+/// Plays steps up to the end of the last operation that was called, and returns true if nothing
+/// follows it.
 fn play_steps<K: Kind, G: Gate, R: Wait>(
     rt: &R,
     desk: &Desk<K>,
@@ -209,7 +212,7 @@ fn play_steps<K: Kind, G: Gate, R: Wait>(
     Err(Stop::TurnLimit)
 }
 
-/// The operation at this place of the script. True where nothing follows it.
+/// Plays the operation at place `at` of the script, and returns true if nothing follows it.
 fn play_operation<K: Kind, G: Gate, R: Wait>(
     rt: &R,
     desk: &Desk<K>,
@@ -246,7 +249,7 @@ fn play_operation<K: Kind, G: Gate, R: Wait>(
     }
 }
 
-/// The whole script.
+/// Plays the whole script.
 fn play<K: Kind, G: Gate, R: Wait>(
     rt: &R,
     desk: &Desk<K>,
@@ -273,7 +276,7 @@ fn play<K: Kind, G: Gate, R: Wait>(
     Ok(())
 }
 
-/// The worker of one seat.
+/// Plays the script of one seat.
 pub(crate) fn work<K: Kind, G: Gate, R: Wait>(
     rt: &R,
     alloc: Global,

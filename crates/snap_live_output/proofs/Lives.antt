@@ -4,10 +4,10 @@ use Rattle.std.proofs.Common.{◌≡◌, ℕ, ◌≤◌, Bool, List, length, ◌
 use Rattle.snap_semantics.specs.Source.{Source}
 use Rattle.snap_sched.specs.ScriptText.{AreScripts, Scripts}
 use Rattle.snap_runs.specs.Run.{IsValidRun, Run}
-use Rattle.snap_live_desk.specs.declared.seat_state.Setting.{Setting}
-use Rattle.snap_live_desk.specs.declared.seat.Turn.{Turn}
+use Rattle.snap_live.specs.declared.seat_state.Setting.{Setting}
+use Rattle.snap_live.specs.declared.seat.Turn.{Turn}
 use Rattle.snap_live.specs.LiveRun.{IsLive}
-use Rattle.snap_live_desk.specs.Turns.{run_of}
+use Rattle.snap_live.specs.Turns.{run_of}
 use Rattle.snap_live_output.specs.LiveOutput.{IsGatedText, Setup, history_text, setting}
 
 -- what all workers did is such a text

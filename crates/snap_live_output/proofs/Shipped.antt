@@ -17,7 +17,7 @@ use Rattle.snap_input.specs.Parts.{part, parts_of, max_input}
 use Rattle.snap_tasks.specs.declared.subject.Subject.{Subject}
 use Rattle.snap_input.specs.Input.{checked_parts, listing_for, parted, texts_for}
 use Rattle.snap_input.proofs.Answered.{both, passed, same_answer, within}
-use Rattle.snap_live_desk.specs.Turns.{run_of}
+use Rattle.snap_live.specs.Turns.{run_of}
 use Rattle.snap_live_output.specs.LiveOutput.{Setup, fitting, scripts_for, setting, setup_for, setup_of, setup_text}
 use Rattle.snap_live_output.specs.LiveRuns.{LiveRunsAreSnapshots}
 

@@ -18,13 +18,13 @@ use Rattle.snap_report.specs.RunReport.{report_at}
 use Rattle.snap_tasks.specs.declared.subject.Subject.{Subject}
 use Rattle.snap_input.specs.Input.{parted}
 use Rattle.snap_input.specs.Parts.{part, parts_of, max_input}
-use Rattle.snap_live_desk.specs.declared.seat_state.Setting.{Setting}
-use Rattle.snap_live_desk.specs.declared.refusal.LiveRefusal.{LiveRefusal}
+use Rattle.snap_live.specs.declared.seat_state.Setting.{Setting}
+use Rattle.snap_semantics.specs.declared.refusal.LiveRefusal.{LiveRefusal}
 use Rattle.snap_live.specs.LiveRun.{MayFault}
 use Rattle.snap_live.specs.Play.{IsPlay}
 use Rattle.snap_live.specs.Script.{script_at}
 use Rattle.snap_live.specs.Worker.{IsLetOn}
-use Rattle.snap_live_desk.specs.Turns.{run_of, turns_of}
+use Rattle.snap_live.specs.Turns.{run_of, turns_of}
 
 -- what a live run plays: a listing, and a script for each process
 pub record Setup : Type 0 where
@@ -76,7 +76,7 @@ pub record IsLiveText (g : Setup) (limit : ℕ) (text : List ℕ) : Type 0 where
   pub few : (k : ℕ) → k < g.scripts.shape.n → length (turns_of (setting g) (k + 1) items) ≤ limit
   pub written : text ≡ history_text (run_of (setting g) items)
 
--- Such a text, of a run whose gate may have let each process on to each of its turns.
+-- The text of a live run whose gate may have let each process on to each of its turns.
 pub record IsGatedText (may : ℕ → ℕ → Bool → Type 0) (g : Setup) (limit : ℕ) (text : List ℕ) : Type 0 where
   pub live : IsLiveText g limit text
   pub let_on : (k : ℕ) → k < g.scripts.shape.n → IsLetOn may (k + 1) (length (turns_of (setting g) (k + 1) live.items))

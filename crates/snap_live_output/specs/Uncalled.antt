@@ -19,22 +19,22 @@ use Rattle.snap_live_output.specs.declared.uncalled.UncalledCall.{UncalledCall}
 abbrev pub uncalled : KindTag → Counts → ℕ → Op → Option UncalledCall
 uncalled k shape i o = option_map (λ reason. record { process = i; op = o; reason = reason }) (call_skip k shape i o)
 
--- it comes first, where there is one
+-- a call that calls nothing comes first, if there is one
 abbrev pub listed : Option UncalledCall → List UncalledCall → List UncalledCall
 listed None later = later
 listed (Some call) later = call ∷ later
 
--- those among the operations of process i
+-- the operations of process i that call nothing
 abbrev pub uncalled_among : KindTag → Counts → ℕ → List Op → List UncalledCall
 uncalled_among k shape i [] = []
 uncalled_among k shape i (o ∷ os) = listed (uncalled k shape i o) (uncalled_among k shape i os)
 
--- those of the scripts of processes from i on
+-- the operations that call nothing, of the scripts of processes from i on
 abbrev pub uncalled_from : KindTag → Counts → ℕ → List Script → List UncalledCall
 uncalled_from k shape i [] = []
 uncalled_from k shape i (s ∷ ss) = uncalled_among k shape i s.operations ++ uncalled_from k shape (i + 1) ss
 
--- those of all scripts that are played, process by process
+-- the operations that call nothing, of all scripts that are played, process by process
 abbrev pub uncalled_calls : Setup → List UncalledCall
 uncalled_calls g = uncalled_from g.source.kind g.scripts.shape 1 g.scripts.scripts
 

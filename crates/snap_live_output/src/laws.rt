@@ -6,7 +6,7 @@ use snap_shipped::shipped_runs_keep_promises;
 
 /// What a live run of U, B or M writes, of the shipped listing or of a text that is read as it, is
 /// the history of a run that keeps all that is promised of the listing: every finished scan
-/// answered the memory's values at one step between its call and its answer, and no call takes too
+/// answered the memory contents at one step between its call and its answer, and no call takes too
 /// many turns.
 pub fn live_runs_are_snapshots()
     ensures { LiveRunsAreSnapshots }

@@ -19,17 +19,20 @@ use std::alloc::Global;
 use std::sync::Wait;
 use std::thread::Threads;
 
-/// What a live run writes: the history of the run, and what is said of the operations in its
-/// scripts that call nothing, which is nothing where there is none.
+/// The output of a live run: the history of the run, and the text on the operations in its scripts
+/// that call nothing, which is empty if there are none.
 #[derive(Drop)]
 pub struct LiveOutput {
     pub text: Vec<u8>,
     pub uncalled: Vec<u8>,
 }
 
-/// The history of one live run of what an input says to play, each process in a thread of its own
-/// and with at most `limit` turns: as the text of a schedule, and then its report. Or why there is
-/// none.
+/// Returns the history of one live run of what `input` says to play, each process in a thread of
+/// its own and with at most `limit` turns, as the text of a schedule, and its report.
+///
+/// # Errors
+///
+/// The reason why `input` is refused or the live run fails, or `Memory` where memory runs out.
 #[tactic(auto, unfolding(crate::specs::Uncalled::uncalled_of))]
 pub fn live_output<G: Gate, R: Threads + Wait + Sync>(
     rt: &R,

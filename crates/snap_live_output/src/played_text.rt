@@ -12,7 +12,7 @@ use std::alloc::Global;
 use std::sync::Wait;
 use std::thread::Threads;
 
-/// Plays scripts over registers of a kind, and writes the history.
+/// Plays scripts over registers of a kind, and returns the history as text.
 fn play_kind<K: Kind, G: Gate, R: Threads + Wait + Sync>(
     rt: &R,
     alloc: Global,
@@ -32,7 +32,11 @@ fn play_kind<K: Kind, G: Gate, R: Threads + Wait + Sync>(
     Ok(history_text(alloc, &live.kept)?)
 }
 
-/// Plays scripts, and writes the history.
+/// Plays scripts, and returns the history as text.
+///
+/// # Errors
+///
+/// `Refused` with the reason why the live run fails; `Memory` where memory runs out.
 pub fn play<G: Gate, R: Threads + Wait + Sync>(
     rt: &R,
     alloc: Global,

@@ -27,7 +27,7 @@ pub struct Setup {
 }
 
 impl Drop for Setup {
-    // Written out, so that it is proved here and not once more wherever one is dropped.
+    // A drop that is written out is one call: it is proved once, and not again at each drop.
     fn drop(self) {
         let Setup {
             program: _,
@@ -45,14 +45,14 @@ impl Model for Setup {
 }
 
 impl Setup {
-    /// The program that runs.
+    /// Returns the program that runs.
     pub fn program(&self) -> &Program
         ensures { result.now ≡ self.now.source }
     {
         &self.program
     }
 
-    /// The scripts that are played.
+    /// Returns the scripts that are played.
     pub fn scripts(&self) -> &Scripts
         ensures scripts { result.now ≡ self.now.scripts }
         ensures there { AreScripts self.now.scripts }
@@ -62,7 +62,7 @@ impl Setup {
     }
 }
 
-/// Whether there are registers of a kind and a shape.
+/// Returns whether there are registers of a kind and a shape.
 fn fits(kind: KindTag, shape: Shape) -> bool
     ensures { result ≡ fits kind shape }
 {
@@ -92,7 +92,7 @@ fn scripts_for(alloc: Global, program: &Program, text: &[u8]) -> Result<Scripts,
     Ok(scripts)
 }
 
-/// A program, and the scripts that a text is.
+/// Returns a program with the scripts of a text.
 #[tactic(auto, unfolding(crate::specs::LiveOutput::setup_text))]
 fn setup_texts(alloc: Global, program: Program, texts: &[&[u8]]) -> Result<Setup, Fault<Refusal>>
     requires { 0 < length texts.now }
@@ -102,7 +102,7 @@ fn setup_texts(alloc: Global, program: Program, texts: &[&[u8]]) -> Result<Setup
     Ok(Setup { program, scripts })
 }
 
-/// What the parts of an input say to play.
+/// Returns what the parts of an input say to play.
 #[tactic(auto, unfolding(snap_input::specs::Input::parted))]
 fn setup_for(alloc: Global, subject: Subject, input: &[u8]) -> Result<Setup, Fault<Refusal>>
     requires { length input.now ≤ max_input }
@@ -116,7 +116,11 @@ fn setup_for(alloc: Global, subject: Subject, input: &[u8]) -> Result<Setup, Fau
     setup_texts(alloc, program, texts)
 }
 
-/// What an input says to play: a listing, or the shipped one, and scripts.
+/// Returns what `input` says to play: a listing, or the shipped one, and scripts.
+///
+/// # Errors
+///
+/// `Refused` with the reason why `input` is refused; `Memory` where memory runs out.
 pub fn setup_of(alloc: Global, subject: Subject, input: &[u8]) -> Result<Setup, Fault<Refusal>>
     ensures setup { Answers (λ s. s) result (setup_of subject input.now) }
     ensures too_long { max_input < length input.now → result ≡ Err (Refused refusal.InputTooLong) }

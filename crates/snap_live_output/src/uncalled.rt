@@ -1,5 +1,5 @@
-//! The operations of scripts that call nothing, and what is said of them: an update whose word is
-//! not there, or is another process's.
+//! The operations of scripts that call nothing, and the text on them: an update whose word does not
+//! exist, or is another process's.
 ghost use Rattle.std.specs.Prelude.{◌≡◌, ◌++◌, IfOk, OnOk, length};
 ghost use Rattle.snap_live_output.specs.Uncalled.{line_front, others_line, others_text};
 ghost use Rattle.snap_live_output.specs.Uncalled.{uncalled, uncalled_among};
@@ -26,7 +26,7 @@ pub struct UncalledCall {
     pub reason: Reason,
 }
 
-/// An operation of a process, where it calls nothing.
+/// Returns an operation of a process, if it calls nothing.
 fn uncalled(kind: KindTag, shape: Shape, process: u64, op: Op) -> Option<UncalledCall>
     ensures { result ≡ uncalled kind shape process op }
 {
@@ -38,7 +38,7 @@ fn uncalled(kind: KindTag, shape: Shape, process: u64, op: Op) -> Option<Uncalle
     })
 }
 
-/// Adds those among the operations of a process.
+/// Appends the operations of a process that call nothing.
 fn push_uncalled(
     calls: &mut Vec<UncalledCall>,
     kind: KindTag,
@@ -57,7 +57,7 @@ fn push_uncalled(
     Ok(())
 }
 
-/// Those of some scripts, that of process 1 first.
+/// Returns the operations of `scripts` that call nothing, those of process 1 first.
 fn uncalled_of_scripts(
     alloc: Global,
     kind: KindTag,
@@ -79,7 +79,7 @@ fn uncalled_of_scripts(
     Ok(calls)
 }
 
-/// Those of all scripts that are played.
+/// Returns the operations of all scripts that are played that call nothing.
 fn uncalled_calls(alloc: Global, setup: &Setup) -> Result<Vec<UncalledCall>, AllocError>
     ensures { IfOk result (λ calls. calls.items ≡ uncalled_calls setup.now) }
 {
@@ -92,7 +92,7 @@ fn uncalled_calls(alloc: Global, setup: &Setup) -> Result<Vec<UncalledCall>, All
     )
 }
 
-/// Adds the front of a line.
+/// Appends the front of a line.
 #[tactic(auto, unfolding(crate::specs::Uncalled::line_front))]
 fn push_front(out: &mut Vec<u8>) -> Result<(), AllocError>
     ensures { OnOk result (out.new.items ≡ out.old.items ++ line_front) }
@@ -100,7 +100,7 @@ fn push_front(out: &mut Vec<u8>) -> Result<(), AllocError>
     push_text(out, b"not called: ")
 }
 
-/// Adds a line for an operation that calls nothing.
+/// Appends a line for an operation that calls nothing.
 #[tactic(auto, using(snap_text::proofs::Texts::joined), unfolding(crate::specs::Uncalled::uncalled_line))]
 fn push_line(out: &mut Vec<u8>, call: &UncalledCall) -> Result<(), AllocError>
     ensures { OnOk result (out.new.items ≡ out.old.items ++ uncalled_line call.now) }
@@ -115,7 +115,7 @@ fn push_line(out: &mut Vec<u8>, call: &UncalledCall) -> Result<(), AllocError>
     push_text(out, b"\n")
 }
 
-/// Adds a line for each of these operations.
+/// Appends a line for each of `calls`.
 #[tactic(auto, using(snap_text::proofs::Texts::joined))]
 fn push_lines(out: &mut Vec<u8>, calls: &[UncalledCall]) -> Result<(), AllocError>
     ensures { OnOk result (out.new.items ≡ out.old.items ++ uncalled_lines calls.now) }
@@ -126,7 +126,7 @@ fn push_lines(out: &mut Vec<u8>, calls: &[UncalledCall]) -> Result<(), AllocErro
     Ok(())
 }
 
-/// Adds a line for `count` other operations.
+/// Appends a line for `count` other operations.
 #[tactic(auto, using(snap_text::proofs::Texts::joined), unfolding(crate::specs::Uncalled::others_text))]
 fn push_others_text(out: &mut Vec<u8>, count: u64) -> Result<(), AllocError>
     ensures { OnOk result (out.new.items ≡ out.old.items ++ others_text count) }
@@ -136,7 +136,7 @@ fn push_others_text(out: &mut Vec<u8>, count: u64) -> Result<(), AllocError>
     push_text(out, b" more\n")
 }
 
-/// Adds a line for `count` other operations, where there are any.
+/// Appends a line for `count` other operations, if there are any.
 #[tactic(auto, using(snap_text::proofs::Texts::joined))]
 fn push_others(out: &mut Vec<u8>, count: u64) -> Result<(), AllocError>
     ensures { OnOk result (out.new.items ≡ out.old.items ++ others_line count) }
@@ -147,7 +147,7 @@ fn push_others(out: &mut Vec<u8>, count: u64) -> Result<(), AllocError>
     push_others_text(out, count)
 }
 
-/// Adds a line for each of the first eight of these operations, and one for the others.
+/// Appends a line for each of the first eight of `calls`, and one for the others.
 #[tactic(auto, using(snap_text::proofs::Texts::joined), unfolding(crate::specs::Uncalled::uncalled_text))]
 fn push_calls(out: &mut Vec<u8>, calls: &[UncalledCall]) -> Result<(), AllocError>
     ensures { OnOk result (out.new.items ≡ out.old.items ++ uncalled_text calls.now) }
@@ -157,7 +157,11 @@ fn push_calls(out: &mut Vec<u8>, calls: &[UncalledCall]) -> Result<(), AllocErro
     push_others(out, (calls.len() - listed) as u64)
 }
 
-/// What is said of the operations that call nothing: nothing where there is none.
+/// Returns the text on the operations that call nothing; an empty text if there are none.
+///
+/// # Errors
+///
+/// `AllocError` where memory runs out.
 #[tactic(auto, using(snap_text::proofs::Texts::joined))]
 pub fn uncalled_text(alloc: Global, setup: &Setup) -> Result<Vec<u8>, AllocError>
     ensures { IfOk result (λ out. out.items ≡ uncalled_text (uncalled_calls setup.now)) }

@@ -10,7 +10,7 @@ use snap_sched::print;
 use snap_words::Kind;
 use std::alloc::{AllocError, Global};
 
-/// The report of the position after all items of a record.
+/// Appends the report of the position after all items of a record.
 fn push_report<K: Kind>(out: &mut Vec<u8>, record: &Record<K>) -> Result<(), AllocError>
     ensures { OnOk result (out.new.items ≡ out.old.items
         ++ report_at record.now (length record.now.items)) }
@@ -19,7 +19,11 @@ fn push_report<K: Kind>(out: &mut Vec<u8>, record: &Record<K>) -> Result<(), All
     report(out, record.machine(), record.events(), position, position)
 }
 
-/// A record as the text of a schedule, and the report of its end.
+/// Returns a record as the text of a schedule, and the report of its end.
+///
+/// # Errors
+///
+/// `AllocError` where memory runs out.
 pub fn history_text<K: Kind>(alloc: Global, record: &Record<K>) -> Result<Vec<u8>, AllocError>
     ensures { IfOk result (λ out. out.items ≡ history_text record.now) }
 {

@@ -1,4 +1,14 @@
 -- The proofs of snap_machine, by their modules.
+pub mod Fitting
+pub mod Owners
+pub mod PutBack
+pub mod States
+pub mod Values
+pub use Rattle.snap_machine.proofs.Sizes
+pub mod Tuples
+pub mod PlacesLeft
+pub mod Slots
+pub mod Sizes
 pub mod Found
 pub mod Numbered
 pub mod There

@@ -1,19 +1,19 @@
-//! `call` and `crash`: a process of a machine is asked for a scan or an update, which it begins or
+//! `call` and `crash`: a process of a machine is called to scan or to update, which it begins or
 //! skips; and a process crashes.
 ghost use Rattle.std.specs.Prelude.{◌≡◌, length, map};
 ghost use Rattle.snap_words.specs.Shape.{IsOneOf};
 ghost use Rattle.snap_semantics.specs.Table.{call_skip, done, entry, owner_skip};
 ghost use Rattle.snap_semantics.specs.declared.process.Item.TheVariants as item;
-ghost use Rattle.snap_values.specs.Seen.{seen_process, seen_state};
-ghost use Rattle.snap_line_effects.specs.Sizes.{AllSized};
+ghost use Rattle.snap_machine.specs.SeenProcesses.{seen_process, seen_state};
+ghost use Rattle.snap_machine.specs.Sizes.{AllSized};
 
+use crate::slot_process::SlotProcess;
 use snap_listing_core::Listing;
 use snap_regs::Registers;
 use snap_semantics::{Activity, Op, Outcome, Reason, Status};
-use snap_values::SlotProcess;
 use snap_words::{Kind, KindTag, Shape};
 
-/// A call of process i.
+/// Calls `op` at process `i`, which begins it or skips the call, and returns the outcome.
 pub fn call<K: Kind>(
     listing: &Listing,
     registers: &Registers<K>,
@@ -52,7 +52,7 @@ pub fn call<K: Kind>(
     }
 }
 
-/// A crash of process i.
+/// Crashes process `i`, and returns the outcome.
 pub fn crash<K: Kind>(
     listing: &Listing,
     registers: &Registers<K>,
@@ -84,8 +84,8 @@ pub fn crash<K: Kind>(
     }
 }
 
-/// Why an idle process is not asked for an operation: the word of an update is not there, or it is
-/// another process's.
+/// Returns why an idle process skips a call: the word of an update does not exist, or it is another
+/// process's.
 pub fn call_skip(kind: KindTag, shape: Shape, i: u64, op: Op) -> Option<Reason>
     ensures { result ≡ call_skip kind shape i op }
 {
@@ -99,7 +99,8 @@ pub fn call_skip(kind: KindTag, shape: Shape, i: u64, op: Op) -> Option<Reason>
     }
 }
 
-/// Single-writer kinds let a process update its own word alone.
+/// Returns why a process skips an update of a word that is not its own, in kinds where it may
+/// update its own word alone.
 fn owner_skip(kind: KindTag, i: u64, word: u64) -> Option<Reason>
     ensures { result ≡ owner_skip kind i word }
 {
@@ -113,7 +114,7 @@ fn owner_skip(kind: KindTag, i: u64, word: u64) -> Option<Reason>
     }
 }
 
-/// The line at which an operation begins.
+/// Returns the line at which an operation begins.
 fn entry(listing: &Listing, op: Op) -> u64
     ensures { result ≡ entry listing.now op }
 {

@@ -1,5 +1,5 @@
-//! `Contents` and `Local`: what a register, or a local of a process, has when it is read from a
-//! machine.
+//! `Contents` and `Local`: the contents of a register, and the value of a local of a process, read
+//! from a machine.
 use snap_words::{Kind, View};
 
 /// What a register has.

@@ -1,13 +1,13 @@
-//! `copy_processes`: processes equal to those of a machine, for a copy of it.
+//! `copy_processes`: copies of the processes of a machine.
 ghost use Rattle.std.specs.Prelude.{◌≡◌, IfOk, map, vec_items};
 ghost use Rattle.snap_semantics.specs.Source.{Source};
-ghost use Rattle.snap_values.specs.Seen.{seen_process};
+ghost use Rattle.snap_machine.specs.SeenProcesses.{seen_process};
 
-use snap_values::SlotProcess;
+use crate::slot_process::SlotProcess;
 use snap_words::{Kind, copy_views, copy_words};
 use std::alloc::{AllocError, Global};
 
-/// Equal rows.
+/// Returns copies of the rows.
 fn copy_rows(alloc: Global, rows: &[Vec<u64>]) -> Result<Vec<Vec<u64>>, AllocError>
     ensures { IfOk result (λ v. map vec_items v.items ≡ map vec_items rows.now) }
 {
@@ -18,7 +18,7 @@ fn copy_rows(alloc: Global, rows: &[Vec<u64>]) -> Result<Vec<Vec<u64>>, AllocErr
     Ok(copies)
 }
 
-/// Equal `words` locals.
+/// Returns copies of the `words` locals.
 fn copy_word_rows<K: Kind>(
     alloc: Global,
     rows: &[Vec<K::Word>],
@@ -33,7 +33,7 @@ fn copy_word_rows<K: Kind>(
     Ok(copies)
 }
 
-/// An equal process.
+/// Returns a copy of the process.
 fn copy_process<K: Kind>(
     alloc: Global,
     process: &SlotProcess<K>,
@@ -50,7 +50,11 @@ fn copy_process<K: Kind>(
     })
 }
 
-/// Equal processes.
+/// Returns copies of the processes.
+///
+/// # Errors
+///
+/// `AllocError` where memory runs out.
 pub fn copy_processes<K: Kind>(
     alloc: Global,
     processes: &[SlotProcess<K>],

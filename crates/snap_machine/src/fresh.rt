@@ -4,22 +4,23 @@ ghost use Rattle.std.specs.Prelude.{◌≡◌, IfOk, map, replicate, vec_items};
 ghost use Rattle.snap_words.specs.Kind.{initial_word};
 ghost use Rattle.snap_words.specs.Shape.{places};
 ghost use Rattle.snap_semantics.specs.State.{initial_process};
-ghost use Rattle.snap_values.specs.Seen.{seen_process};
+ghost use Rattle.snap_machine.specs.SeenProcesses.{seen_process};
 
+use crate::slot_process::SlotProcess;
+use crate::value::places;
 use snap_listing_core::Listing;
 use snap_semantics::Status;
-use snap_values::{SlotProcess, places};
 use snap_words::{Kind, Shape, View};
 use std::alloc::{AllocError, Global};
 
-/// A row of zeros.
+/// Returns a row of zeros.
 fn zeros(alloc: Global, count: u64) -> Result<Vec<u64>, AllocError>
     ensures { IfOk result (λ row. row.items ≡ replicate count 0) }
 {
     Ok(vec![in alloc; 0; count as usize]?)
 }
 
-/// Words that nobody has written.
+/// Returns `count` words that nobody has written.
 #[tactic(auto, using(crate::proofs::Replicas::one_more))]
 fn new_words<K: Kind>(alloc: Global, shape: Shape, count: u64) -> Result<Vec<K::Word>, AllocError>
     ensures { IfOk result (λ v. map K.as_word v.items
@@ -32,7 +33,7 @@ fn new_words<K: Kind>(alloc: Global, shape: Shape, count: u64) -> Result<Vec<K::
     Ok(words)
 }
 
-/// Rows of zeros.
+/// Returns `count` rows of zeros.
 #[tactic(auto, using(crate::proofs::Replicas::one_more))]
 fn new_rows(alloc: Global, shape: Shape, count: usize) -> Result<Vec<Vec<u64>>, AllocError>
     ensures { IfOk result (λ v. map vec_items v.items
@@ -45,7 +46,7 @@ fn new_rows(alloc: Global, shape: Shape, count: usize) -> Result<Vec<Vec<u64>>, 
     Ok(rows)
 }
 
-/// `words` locals as they begin.
+/// Returns `count` `words` locals in their initial state.
 #[tactic(auto, using(crate::proofs::Replicas::one_more))]
 fn new_word_rows<K: Kind>(
     alloc: Global,
@@ -62,7 +63,7 @@ fn new_word_rows<K: Kind>(
     Ok(rows)
 }
 
-/// Views of zeros.
+/// Returns `count` views of zeros.
 #[tactic(auto, using(crate::proofs::Replicas::one_again))]
 fn new_views(alloc: Global, shape: Shape, count: usize) -> Result<Vec<View>, AllocError>
     ensures { IfOk result (λ v. v.items ≡ replicate count (replicate shape.w 0)) }
@@ -74,7 +75,7 @@ fn new_views(alloc: Global, shape: Shape, count: usize) -> Result<Vec<View>, All
     Ok(views)
 }
 
-/// A process as it begins.
+/// Returns a process in its initial state.
 fn new_process<K: Kind>(
     alloc: Global,
     listing: &Listing,
@@ -93,7 +94,11 @@ fn new_process<K: Kind>(
     })
 }
 
-/// Processes as they begin.
+/// Returns the processes of `shape` in their initial states.
+///
+/// # Errors
+///
+/// `AllocError` where memory runs out.
 #[tactic(auto, using(crate::proofs::Replicas::one_more))]
 pub fn new_processes<K: Kind>(
     alloc: Global,

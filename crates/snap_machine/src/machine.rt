@@ -1,5 +1,5 @@
-//! `Machine`: a program, its registers and its processes; it does one item of a schedule at a time
-//! (`apply`), or with an `Undo`.
+//! `Machine`: a program, its registers and its processes. A machine does one item of a schedule at
+//! a time (`apply`), or with an `Undo`.
 ghost use Rattle.std.specs.Prelude.{
   ◌≡◌,
   ◌<◌,
@@ -35,19 +35,21 @@ ghost use Rattle.snap_machine.specs.SeenContents.{
   seen_named,
   value_there,
 };
-ghost use Rattle.snap_undo.specs.Undo.{CanPut, put};
-ghost use Rattle.snap_values.specs.Seen.{seen_locals};
+ghost use Rattle.snap_machine.specs.Undo.{CanPut, put};
+ghost use Rattle.snap_machine.specs.SeenProcesses.{seen_locals};
 
 use crate::call::{call, crash};
 use crate::contents::{Contents, Local};
 use crate::copies::copy_processes;
 use crate::fresh::new_processes;
+use crate::overwrites::overwritten;
+use crate::reversal::revert;
+use crate::slot_process::SlotProcess;
 use crate::step::step;
+use crate::undo::Undo;
 use snap_asm_program::Program;
 use snap_regs::{RegisterFault, Registers};
 use snap_semantics::{Activity, BitBank, Item, Name, Op, Outcome, Sort, Status};
-use snap_undo::{Undo, overwritten, revert};
-use snap_values::SlotProcess;
 use snap_words::{Address, Bank, Field, Kind, Shape, View, field_of};
 use std::alloc::{AllocError, Global};
 use std::marker::Model;
@@ -61,7 +63,7 @@ pub struct Machine<K: Kind> {
 }
 
 impl<K: Kind> Drop for Machine<K> {
-    // Written out, so that it is proved here and not once more wherever one is dropped.
+    // A drop that is written out is one call: it is proved once, and not again at each drop.
     fn drop(self) {
         let Machine {
             alloc: _,
@@ -77,7 +79,7 @@ impl<K: Kind> Model for Machine<K> {
 
     ghost Value = { Configuration };
 
-    ghost use Rattle.snap_values.specs.Seen.{seen_state};
+    ghost use Rattle.snap_machine.specs.SeenProcesses.{seen_state};
 
     ghost view = { λ m. record {
       source = m.program;
@@ -90,7 +92,11 @@ impl<K: Kind> Model for Machine<K> {
 }
 
 impl<K: Kind> Machine<K> {
-    /// A machine in the initial state.
+    /// Returns a machine in the initial state.
+    ///
+    /// # Errors
+    ///
+    /// `AllocError` where memory runs out.
     pub fn new(alloc: Global, program: &Program, shape: Shape) -> Result<Machine<K>, AllocError>
         requires { program.now.kind ≡ K.TAG }
         ensures { IfOk result (λ m.
@@ -107,7 +113,11 @@ impl<K: Kind> Machine<K> {
         })
     }
 
-    /// One item of a schedule. Where there is no memory for it, everything is as before.
+    /// Does one item of a schedule, and returns its outcome.
+    ///
+    /// # Errors
+    ///
+    /// `AllocError` where memory runs out; the machine is as before then.
     pub fn apply(&mut self, item: Item) -> Result<Outcome, AllocError>
         requires { IsOneOf self.old.shape.n (who item) }
         ensures done { IfOk result (λ o.
@@ -142,8 +152,12 @@ impl<K: Kind> Machine<K> {
         }
     }
 
-    /// What an item overwrites in this state: put back after the item, all is as before. The locals
-    /// of its process are those of the program.
+    /// Returns what `item` would overwrite in this state: once that is put back after the item,
+    /// everything is as before. The locals of its process are those of the program.
+    ///
+    /// # Errors
+    ///
+    /// `AllocError` where memory runs out.
     pub fn overwritten(&self, item: Item) -> Result<Undo<K>, AllocError>
         requires { IsOneOf self.now.shape.n (who item) }
         ensures back { IfOk result (λ u.
@@ -162,8 +176,12 @@ impl<K: Kind> Machine<K> {
         )
     }
 
-    /// One item of a schedule, as `apply` does it, and what it overwrote: put back, all is as
-    /// before. Where there is no memory for either, everything is as before.
+    /// Does one item of a schedule, as `apply` does, and returns its outcome and what it overwrote:
+    /// once that is put back, everything is as before.
+    ///
+    /// # Errors
+    ///
+    /// `AllocError` where memory runs out; the machine is as before then.
     pub fn apply_undo(&mut self, item: Item) -> Result<(Outcome, Undo<K>), AllocError>
         requires { IsOneOf self.old.shape.n (who item) }
         ensures done { IfOk result (λ r.
@@ -179,7 +197,8 @@ impl<K: Kind> Machine<K> {
         Ok((outcome, undo))
     }
 
-    /// Puts back what an item overwrote in a machine of this program and shape. It takes no memory.
+    /// Puts back what an item overwrote in a machine of this program and shape. No memory is
+    /// allocated.
     pub fn revert(&mut self, undo: Undo<K>)
         requires { CanPut self.old.source self.old.shape undo }
         ensures state { self.new.state ≡ put self.old.source undo self.old.state }
@@ -194,7 +213,7 @@ impl<K: Kind> Machine<K> {
         );
     }
 
-    /// The program that it runs.
+    /// Returns the program that the machine runs.
     pub fn program(&self) -> &Program
         ensures value { result.now ≡ self.now.source }
         ensures kind { self.now.source.kind ≡ K.TAG }
@@ -202,7 +221,7 @@ impl<K: Kind> Machine<K> {
         &self.program
     }
 
-    /// The numbers of processes and of words, of which all registers are.
+    /// Returns the numbers of processes and of words.
     pub fn shape(&self) -> Shape
         ensures shape { result ≡ self.now.shape }
         ensures processes { length self.now.state.processes ≡ self.now.shape.n }
@@ -211,7 +230,7 @@ impl<K: Kind> Machine<K> {
         self.registers.shape()
     }
 
-    /// How a process stands.
+    /// Returns the status of process `i`.
     pub fn status(&self, i: u32) -> Status
         requires { IsOneOf self.now.shape.n i }
         ensures { result ≡ (process_at self.now.state i).status }
@@ -219,7 +238,7 @@ impl<K: Kind> Machine<K> {
         self.processes[(i - 1) as usize].status
     }
 
-    /// What a process is at, or was at when it trapped or crashed.
+    /// Returns the activity of a process, or the one at which it trapped or crashed.
     fn activity(&self, i: u32) -> Option<Activity>
         requires { IsOneOf self.now.shape.n i }
         ensures { result ≡ activity_of (process_at self.now.state i).status }
@@ -231,7 +250,8 @@ impl<K: Kind> Machine<K> {
         }
     }
 
-    /// The number of the line that a process runs next, or at which it trapped or crashed.
+    /// Returns the number of the line that process `i` runs next, or at which it trapped or
+    /// crashed.
     pub fn line(&self, i: u32) -> Option<u64>
         requires { IsOneOf self.now.shape.n i }
         ensures { result ≡ line_of (process_at self.now.state i).status }
@@ -239,7 +259,7 @@ impl<K: Kind> Machine<K> {
         Some(self.activity(i)?.line)
     }
 
-    /// The operation that a process is at, or was at when it trapped or crashed.
+    /// Returns the operation of process `i`, or the one during which it trapped or crashed.
     pub fn operation(&self, i: u32) -> Option<Op>
         requires { IsOneOf self.now.shape.n i }
         ensures { result ≡ operation_of (process_at self.now.state i).status }
@@ -247,7 +267,7 @@ impl<K: Kind> Machine<K> {
         Some(self.activity(i)?.op)
     }
 
-    /// The line to which a process goes back at `return`.
+    /// Returns the line to which a process goes back at `return`.
     pub fn link(&self, i: u32) -> Option<u64>
         requires { IsOneOf self.now.shape.n i }
         ensures { result ≡ link_of (activity_of (process_at self.now.state i).status) }
@@ -255,7 +275,11 @@ impl<K: Kind> Machine<K> {
         self.activity(i)?.link
     }
 
-    /// The values of the words.
+    /// Returns the values of the words.
+    ///
+    /// # Errors
+    ///
+    /// `AllocError` where memory runs out.
     pub fn values(&self) -> Result<View, AllocError>
         ensures { IfOk result (λ v. v ≡ values self.now.state) }
     {
@@ -269,7 +293,11 @@ impl<K: Kind> Machine<K> {
         Ok(View::of(values))
     }
 
-    /// An equal machine.
+    /// Returns a copy of the machine.
+    ///
+    /// # Errors
+    ///
+    /// `AllocError` where memory runs out.
     pub fn copy(&self) -> Result<Machine<K>, AllocError>
         ensures { IfOk result (λ m. m ≡ self.now) }
     {
@@ -284,7 +312,11 @@ impl<K: Kind> Machine<K> {
         })
     }
 
-    /// What a register has.
+    /// Returns the contents of the register at `address`.
+    ///
+    /// # Errors
+    ///
+    /// `Index` where there is no such register.
     pub fn register(&self, address: Address) -> Result<Contents<'_, K>, RegisterFault>
         ensures { let read = contents self.now.state.memory address.bank address.i address.j in
             MatchResult result (λ c. read ≡ Some (seen_contents K.as_word c)) (λ e. (e ≡ Index) ×
@@ -310,7 +342,7 @@ impl<K: Kind> Machine<K> {
         }
     }
 
-    /// The value of a local, if there is one of this name.
+    /// Returns the value of a local, if there is one of this name.
     pub fn local(&self, i: u32, name: Name) -> Option<Local<'_, K>>
         requires { IsOneOf self.now.shape.n i }
         ensures { option_map (seen_local K.as_word) result
@@ -320,7 +352,8 @@ impl<K: Kind> Machine<K> {
         find_local(&self.program, process, name)
     }
 
-    /// The name and the value of local `k` of a sort, counted from 0 in the order of declaration.
+    /// Returns the name and the value of local `k` of a sort, counted from 0 in the order of
+    /// declaration.
     pub fn local_at(&self, i: u32, sort: Sort, k: usize) -> Option<(Name, Local<'_, K>)>
         requires { IsOneOf self.now.shape.n i }
         ensures value { option_map (seen_named K.as_word) result
@@ -332,7 +365,7 @@ impl<K: Kind> Machine<K> {
     }
 }
 
-/// `Index` where a register that has one index alone is given a second.
+/// Checks that a register with one index alone is not given a second one.
 fn check_lone(j: u64) -> Result<(), RegisterFault>
     ensures { MatchResult result (λ _. j ≡ 0) (λ e. (e ≡ Index) × (nat_eq j 0 ≡ false)) }
 {
@@ -343,7 +376,7 @@ fn check_lone(j: u64) -> Result<(), RegisterFault>
     }
 }
 
-/// The value of a local of a process, if there is one of this name.
+/// Returns the value of a local of a process, if there is one of this name.
 fn find_local<'a, K: Kind>(
     program: &Program,
     process: &'a SlotProcess<K>,
@@ -356,7 +389,7 @@ fn find_local<'a, K: Kind>(
     local_there(process, sort, k)
 }
 
-/// The name and the value of a local of a process, at a place among those of a sort.
+/// Returns the name and the value of local `k` of a sort.
 fn named_local<'a, K: Kind>(
     program: &Program,
     process: &'a SlotProcess<K>,
@@ -372,7 +405,7 @@ fn named_local<'a, K: Kind>(
     Some((name, value))
 }
 
-/// The value of the local at a place among those of a sort.
+/// Returns the value of local `k` of a sort.
 fn local_there<'a, K: Kind>(
     process: &'a SlotProcess<K>,
     sort: Sort,

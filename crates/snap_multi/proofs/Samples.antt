@@ -13,7 +13,7 @@ use Rattle.snap_runs.specs.Promises.{row_place}
 use Rattle.snap_runs_of_m.specs.ListingM as m
 use Rattle.snap_runs_of_m.specs.Promises.{run_of, IsEvent}
 
--- so many steps of a process
+-- a number of steps of a process
 abbrev pub times : ℕ → ℕ → List Item
 times count i = replicate count (Step i)
 

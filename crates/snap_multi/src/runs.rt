@@ -7,8 +7,8 @@ ghost use Rattle.snap_runs.specs.Run.{IsValidRun, run_over};
 ghost use Rattle.snap_runs_of_m.specs.ListingM.{listing_m};
 ghost use Rattle.snap_shipped.specs.Kept.{KeepsPromises};
 
+use snap_asm::load_listing;
 use snap_listing_core::CommentedListing;
-use snap_loader::load;
 use snap_record::{Record, record_over};
 use snap_sched::Schedule;
 use snap_shipped::{listing_m, shipped_runs_keep_promises};
@@ -19,14 +19,14 @@ use std::alloc::{AllocError, Global};
 ///
 /// # Errors
 ///
-/// Memory ran out.
+/// `AllocError` where memory runs out.
 pub fn listing(alloc: Global) -> Result<CommentedListing, AllocError>
     ensures { IfOk result (λ l. l ≡ uncommented listing_m) }
 {
     CommentedListing::uncommented(alloc, listing_m(alloc)?)
 }
 
-/// What is promised of the run over a schedule.
+/// The run of M over a schedule keeps what is promised of it.
 fn keeps_promises(schedule: &Schedule)
     requires { fits kind.Multi schedule.now.shape ≡ true }
     ensures fits { IsValidRun (run_over listing_m schedule.now) }
@@ -37,7 +37,12 @@ fn keeps_promises(schedule: &Schedule)
     let _shape = schedule.shape();
 }
 
-/// The record of M over a schedule, whatever its interleaving: a run that keeps all promises.
+/// Returns the record of M over a schedule, whatever its interleaving: a run that keeps all
+/// promises.
+///
+/// # Errors
+///
+/// `AllocError` where memory runs out.
 pub fn run(alloc: Global, schedule: &Schedule) -> Result<Record<Multi>, AllocError>
     requires { fits kind.Multi schedule.now.shape ≡ true }
     ensures record { IfOk result (λ r. r ≡ run_over listing_m schedule.now) }
@@ -45,6 +50,6 @@ pub fn run(alloc: Global, schedule: &Schedule) -> Result<Record<Multi>, AllocErr
     ensures promises { KeepsPromises kind.Multi (run_over listing_m schedule.now) }
 {
     keeps_promises(schedule);
-    let program = load(alloc, listing_m(alloc)?)?;
+    let program = load_listing(alloc, listing_m(alloc)?)?;
     record_over(alloc, &program, schedule)
 }

@@ -5,10 +5,10 @@ use Rattle.std.specs.Global.{Global}
 use Rattle.std.specs.declared.io.ErrorKind.{ErrorKind}
 use Rattle.snap_words.specs.declared.kind.KindTag.{KindTag}
 use Rattle.snap_semantics.specs.Answers.{◌>>=◌, refused_as}
-use Rattle.snap_files.specs.FileTexts.{Gives, IsTextOf, Reads}
-use Rattle.snap_files.specs.declared.fault.FileFault.{FileFault}
-use Rattle.snap_files.specs.declared.fault.FileFault.TheVariants as file
-use Rattle.snap_files.proofs.Texts.{some_text, text_read}
+use Rattle.snap_streams.specs.FileTexts.{Gives, IsTextOf, Reads}
+use Rattle.snap_streams.specs.declared.file_fault.FileFault.{FileFault}
+use Rattle.snap_streams.specs.declared.file_fault.FileFault.TheVariants as file
+use Rattle.snap_streams.proofs.Texts.{some_text, text_read}
 use Rattle.snap_named_files.specs.Named.{Files, Shipped}
 use Rattle.snap_named_files.specs.Texts.{AreTexts, Comes, IsTextIn, Read, OfFiles, OfShipped, too_many, view_texts}
 use Rattle.snap_faults.specs.Faults.{of_file}
@@ -82,7 +82,7 @@ module _ (files : List ℕ → Option (Result (List ℕ) ErrorKind)) where
         (stops_reading e (refused_as (of_file which.Schedule) s) (λ b. Ok (OfFiles text b)) h),
   )
 
-  -- both were read
+  -- both texts were read
   pub both_read : (listing schedule : List ℕ) (v w : Vec ℕ Global) (l s : Result (List ℕ) FileFault) →
       IsTextIn files listing l → refused_as (of_file which.Listing) l ≡ Ok v.items → IsTextIn files schedule s →
       refused_as (of_file which.Schedule) s ≡ Ok w.items →
@@ -106,7 +106,7 @@ module _ (files : List ℕ → Option (Result (List ℕ) ErrorKind)) where
   no_items kind schedule e s its h =
       (s, its, stops_reading e (refused_as (of_file which.Schedule) s) (λ b. Ok (OfShipped kind b)) h)
 
-  -- it was read
+  -- the schedule was read
   pub items_read : (kind : KindTag) (schedule : List ℕ) (v : Vec ℕ Global) (s : Result (List ℕ) FileFault) →
       IsTextIn files schedule s → refused_as (of_file which.Schedule) s ≡ Ok v.items →
       AreTexts files (Shipped kind schedule) (Ok (texts.Shipped kind v))

@@ -3,8 +3,8 @@ use Rattle.std.specs.Prelude.{◌≡◌, ℕ, List, Option, Result, Ok, Err, ⊤
 use Rattle.std.specs.declared.io.ErrorKind.{ErrorKind}
 use Rattle.snap_words.specs.declared.kind.KindTag.{KindTag}
 use Rattle.snap_semantics.specs.Answers.{◌>>=◌, refused_as}
-use Rattle.snap_files.specs.FileTexts.{IsTextOf}
-use Rattle.snap_files.specs.declared.fault.FileFault.{FileFault}
+use Rattle.snap_streams.specs.FileTexts.{IsTextOf}
+use Rattle.snap_streams.specs.declared.file_fault.FileFault.{FileFault}
 use Rattle.snap_faults.specs.Faults.{of_file}
 use Rattle.snap_named_files.specs.Named.{Names, Files, Shipped}
 use Rattle.snap_faults.specs.declared.files.Which.TheVariants as which

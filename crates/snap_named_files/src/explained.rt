@@ -10,7 +10,7 @@ use snap_tasks::Subject;
 use snap_words::KindTag;
 use std::alloc::{AllocError, Global};
 
-/// What an input consists of that is a schedule alone, whichever listing is shipped.
+/// Returns the layout of an input that is a schedule alone, whichever listing is shipped.
 fn schedule_alone() -> Layout
     ensures { result ≡ schedule_alone }
 {
@@ -20,13 +20,13 @@ fn schedule_alone() -> Layout
     )
 }
 
-/// Returns what explains why one of these texts is refused, or why none was read: of the listing, or
-/// else of the schedule. Of a shipped listing's schedule it is what `snaplab run --shipped KIND
-/// --explain` says.
+/// Returns what explains why one of `texts` is refused, or why none was read: of the listing, or
+/// else of the schedule. For the schedule of a shipped listing it is what `snaplab run --shipped
+/// KIND --explain` says.
 ///
 /// # Errors
 ///
-/// There is no memory for it.
+/// `AllocError` where memory runs out.
 pub fn explanation_in(
     alloc: Global,
     texts: Option<&Texts>,

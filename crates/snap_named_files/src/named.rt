@@ -16,7 +16,8 @@ pub enum Named<'a> {
     Shipped(KindTag, &'a str),
 }
 
-/// What these names name: a listing and a schedule, or a schedule alone where a kind is given.
+/// Returns the files that the names are of: a listing and a schedule, or a schedule alone if a kind
+/// is given.
 pub fn named_of<'a>(kind: Option<KindTag>, names: &[&'a str]) -> Option<Named<'a>>
     ensures { option_map view_named result ≡ named_of kind (map (λ n. n.now) names.now) }
 {
@@ -27,7 +28,7 @@ pub fn named_of<'a>(kind: Option<KindTag>, names: &[&'a str]) -> Option<Named<'a
     }
 }
 
-/// What a program of this name is called, and the files that are named.
+/// Returns what a program of this name is called, and the files that are named.
 pub fn names_of<'a>(program: &'a str, named: &Named<'a>) -> Names<'a>
     ensures { view_names result ≡ names_of program.now (view_named named.now) }
 {

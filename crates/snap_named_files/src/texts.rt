@@ -1,6 +1,6 @@
-//! `read_texts`: the texts of the files that a command line names, or why they are not read.
+//! `read_texts`: reads the texts of the files that a command line names.
 ghost use Rattle.std.specs.Prelude.{◌≡◌, Result, List, ℕ};
-ghost use Rattle.snap_files.specs.declared.fault.FileFault.{FileFault};
+ghost use Rattle.snap_streams.specs.declared.file_fault.FileFault.{FileFault};
 ghost use Rattle.snap_semantics.specs.Answers.{refused_as};
 ghost use Rattle.snap_named_files.specs.Named.{Files, Shipped, view_named};
 ghost use Rattle.snap_faults.specs.Faults.{of_file};
@@ -8,7 +8,7 @@ ghost use Rattle.snap_named_files.specs.Texts.{AreTexts, Comes, IsTextIn};
 
 use crate::named::Named;
 use snap_faults::{ProgramFault, Which, of_file};
-use snap_files::FileSource;
+use snap_streams::FileSource;
 use snap_words::KindTag;
 use std::alloc::Global;
 
@@ -18,13 +18,13 @@ const TOO_MANY: u64 = 16_777_217;
 /// The texts of the files that are named.
 #[derive(Drop)]
 pub enum Texts {
-    /// Those of a listing and of a schedule.
+    /// The texts of a listing and of a schedule.
     Files(Vec<u8>, Vec<u8>),
     /// The shipped listing of a kind, and the text of a schedule.
     Shipped(KindTag, Vec<u8>),
 }
 
-/// The bytes of the file of this name.
+/// Returns the bytes of the file of this name.
 fn text_in<F: FileSource>(
     alloc: Global,
     files: &F,
@@ -40,7 +40,7 @@ fn text_in<F: FileSource>(
     }
 }
 
-/// The texts of a listing and of a schedule in files of these names.
+/// Returns the texts of a listing and of a schedule in files of these names.
 fn both_texts<F: FileSource>(
     alloc: Global,
     files: &F,
@@ -54,7 +54,7 @@ fn both_texts<F: FileSource>(
     Ok(Texts::Files(listing, schedule))
 }
 
-/// The text of a schedule for a shipped listing, in the file of this name.
+/// Returns the text of a schedule for a shipped listing, in the file of this name.
 fn one_text<F: FileSource>(
     alloc: Global,
     files: &F,

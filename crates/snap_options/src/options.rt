@@ -4,14 +4,15 @@ ghost use Rattle.snap_options.specs.Given.{IsFlag, IsNumber};
 
 use clap::ArgMatches;
 
-/// The number that an option gives; none where it has none that is read as one.
+/// Returns the number that the option `name` gives; `None` where the option was not given, or its
+/// text is no number.
 pub fn number_of(arguments: &ArgMatches<'_>, name: &str) -> Option<u64>
     ensures { IsNumber (one_text (found_of arguments.now) name.now) result }
 {
     arguments.get_one::<u64>(name)
 }
 
-/// Whether a flag was given.
+/// Returns whether the flag `name` was given.
 pub fn is_given(arguments: &ArgMatches<'_>, name: &str) -> bool
     ensures { IsFlag (one_text (found_of arguments.now) name.now) result }
 {

@@ -9,9 +9,9 @@ use Rattle.snap_runs.specs.Run.{run_over}
 use Rattle.snap_input.specs.Input.{checked_parts, listing_for, parted, texts_for}
 use Rattle.snap_input.specs.Parts.{part, parts_of}
 use Rattle.snap_input.specs.Schedules.{schedule_for}
-use Rattle.snap_run_output.specs.RunOutput.{end_text, run_listing}
-use Rattle.snap_run_trace.specs.Trace.{trace_text}
-use Rattle.snap_run_trace.specs.Traces.{trace_listing, traces_text}
+use Rattle.snap_output.specs.RunOutput.{end_text, run_listing}
+use Rattle.snap_output.specs.Trace.{trace_text}
+use Rattle.snap_output.specs.Traces.{trace_listing, traces_text}
 use Rattle.snap_output.specs.Output.{output_of, run_text}
 use Rattle.snap_output.specs.Refusals.{AreRefusedAlike, RefusesTracesAsRuns}
 use Rattle.snap_output.proofs.Ended.{of_listing}

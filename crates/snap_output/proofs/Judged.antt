@@ -31,7 +31,7 @@ module _ (input : List ℕ) (short : length input ≤ max_input) where
   unjudged_parts view t result none e =
       unjudged view t input result none (subst (Answers view result) (sym (whole [] t)) e)
 
-  -- or this was
+  -- the parts of an input were judged, or nothing was
   pub judged_parts : {X : Type 0} (view : X → List ℕ) (t : Task) (result : Result X (Fault Refusal)) →
       AnswersJudged view (AreJudged t input) result (λ judged. of_task judged t input) →
       AnswersJudged view (AreJudged t input) result (λ judged. output_of judged t input)
@@ -46,7 +46,7 @@ module _ (input : List ℕ) (short : length input ≤ max_input) where
       subst (λ (x : Task). AnswersJudged view (AreJudged x input) result (λ judged. output_of judged x input)) (sym is)
       (unjudged_parts view k result none e)
 
-  -- or for whose parts this was
+  -- a task was judged, or one for whose parts this was
   pub judged_task : {X : Type 0} (view : X → List ℕ) (t k : Task) (result : Result X (Fault Refusal)) → t ≡ k →
       AnswersJudged view (AreJudged k input) result (λ judged. of_task judged k input) →
       AnswersJudged view (AreJudged t input) result (λ judged. output_of judged t input)

@@ -1,4 +1,22 @@
 -- The proofs of snap_output, by their modules.
+pub mod Wholes
+pub mod Changes
+pub mod Owned
+pub mod Feeds
+pub mod Kept
+pub mod Parts
+pub mod Splits
+pub mod Differs
+pub mod Indented
+pub mod Named
+pub mod Locals
+pub mod Registers
+pub mod Own
+pub mod Touched
+pub mod Said
+pub mod Items
+pub mod Walks
+pub mod Sums
 pub mod Shipping
 pub mod AtOnce
 pub mod Alike

@@ -4,7 +4,7 @@ use Rattle.std.proofs.Common.{length, nat_eq, refl, sym, ap, ◌∙◌, subst, e
 use Rattle.std.proofs.lemmas.Bool.{le-leb, le-ltb, lt-ltb}
 use Rattle.std.specs.Prelude.{Result, codes, map}
 use Rattle.snap_words.specs.declared.shape.WordFault.TheVariants.{BadShape}
-use Rattle.snap_image_format.specs.Assembly.{assembled}
+use Rattle.snap_image.specs.Assembly.{assembled}
 use Rattle.snap_semantics.specs.Comments.{commented_of}
 use Rattle.snap_semantics.specs.Schedule.{Schedule, schedule_of}
 use Rattle.snap_semantics.specs.Source.{Source}
@@ -19,7 +19,7 @@ use Rattle.snap_input.specs.Input.{listing_for, parted}
 use Rattle.snap_input.specs.ManySchedules.{checked_schedules, schedules_for}
 use Rattle.snap_input.specs.Parts.{part, parts_of, max_input}
 use Rattle.snap_input.specs.Schedules.{schedule_for}
-use Rattle.snap_run_output.specs.ScheduleOutput.{audit_listing, batch_text, batched, verdicts_text}
+use Rattle.snap_output.specs.ScheduleOutput.{audit_listing, batch_text, batched, verdicts_text}
 use Rattle.snap_output.specs.Headline.{RunsBatches}
 use Rattle.snap_output.specs.Output.{of_task, output_of, run_text}
 use Rattle.snap_output.specs.Perform.{debug_text, perform_listing, perform_of}

@@ -8,9 +8,9 @@ use Rattle.snap_words.specs.declared.shape.WordFault.TheVariants.{BadShape}
 use Rattle.snap_words.specs.declared.kind.KindTag.{KindTag}
 use Rattle.snap_words.specs.declared.kind.KindTag.TheVariants as kind
 use Rattle.snap_semantics.specs.Answers.{refused_as}
-use Rattle.snap_image_format.specs.Assembly.{assembled}
+use Rattle.snap_image.specs.Assembly.{assembled}
 use Rattle.snap_semantics.specs.Comments.{commented_of}
-use Rattle.snap_image_format.specs.Image.{image_of}
+use Rattle.snap_image.specs.Image.{image_of}
 use Rattle.snap_semantics.specs.Schedule.{Schedule, schedule_of}
 use Rattle.snap_semantics.specs.Source.{Source}
 use Rattle.snap_semantics.specs.declared.process.Item.{Item}
@@ -35,7 +35,7 @@ use Rattle.snap_output.specs.Stages.{AreSchedulesFor, IsScheduleFor, texts_in}
 use Rattle.snap_shipped.specs.Shipped.{shipped}
 use Rattle.snap_input.specs.Input.{checked_parts, listing_for, parted, texts_for}
 use Rattle.snap_output.specs.Output.{of_task, output_of, run_text}
-use Rattle.snap_run_output.specs.ScheduleOutput.{audit_listing, batch_text, batched, verdicts_text}
+use Rattle.snap_output.specs.ScheduleOutput.{audit_listing, batch_text, batched, verdicts_text}
 use Rattle.snap_input.specs.ManySchedules.{checked_schedules, schedules_for}
 use Rattle.snap_input.specs.Parts.{part, parts_of, max_input}
 use Rattle.snap_output.proofs.ToTheEnd.{is_run}
@@ -68,7 +68,7 @@ schedule_from l y s e =
       subst (λ (x : Schedule). fits l.kind x.shape ≡ true) fit.1 fit.0,
     )
 
--- and those that texts are, one for one
+-- the schedules of texts, one for one
 schedules_from : (l : Source) (texts : List (List ℕ)) (ss : List Schedule) →
     schedules_for l texts ≡ Ok ss → AreSchedulesFor l texts ss
 schedules_from l [] ss e =
@@ -131,7 +131,7 @@ of_parts : (t : Task) (input text : List ℕ) → output_of [] t input ≡ Ok te
 unfolding output_of
 of_parts t input text e = within (nat_lt max_input (length input)) refusal.InputTooLong (of_task [] t input) text e
 
--- and what is found of parts is found of the listing and the texts after it
+-- what is found of parts is found of the listing and the texts after it
 of_listing : (s : Subject) (count : ℕ) (parts : List (List ℕ)) (f : Source → List (List ℕ) → Result (List ℕ) Refusal)
     (text : List ℕ) → parted s count parts f ≡ Ok text →
     (l : Source) × (listing_for s parts ≡ Ok l) × (f l (texts_for s parts) ≡ Ok text)

@@ -32,7 +32,7 @@ no_stop r t (suc more) =
     let e : suc t + more ≡ t + suc more = omega arith in
     no_stop r (suc t) more ∙ e
 
--- and so the one command leads to the end
+-- the one command leads to the end
 at_the_end : (l : Source) (s : Schedule) → next_stop (run_over l s) no_marks 0 (length s.items - 0) ≡ length s.items
 at_the_end l s =
     let e : 0 + (length s.items - 0) ≡ length s.items = omega arith in

@@ -1,14 +1,15 @@
 -- `found_at_once`: the refusal of an input that the program finds before it asks for any memory, for each task.
 use Rattle.std.specs.Prelude.{ℕ, nat_lt, List, [], ◌∷◌, length, take, drop, bytes_eq, if◌then◌else◌}
 use Rattle.std.specs.Prelude.{Option, Some, None, Result, Ok, Err, option_map}
-use Rattle.snap_image_format.specs.Image.{signature}
-use Rattle.snap_image_format.specs.ImageCodes.{of_code, versions}
-use Rattle.snap_image_format.specs.declared.image.ImageVersion.{ImageVersion}
+use Rattle.snap_image.specs.Image.{signature}
+use Rattle.snap_image.specs.ImageCodes.{of_code, versions}
+use Rattle.snap_image.specs.declared.image.ImageVersion.{ImageVersion}
 use Rattle.snap_semantics.specs.declared.refusal.ImageRefusal.{ImageRefusal}
 use Rattle.snap_semantics.specs.declared.refusal.ImageRefusal.TheVariants as image
 use Rattle.snap_semantics.specs.declared.refusal.ListingRefusal.TheVariants as listing
 use Rattle.snap_semantics.specs.declared.refusal.Refusal.{Refusal}
 use Rattle.snap_semantics.specs.declared.refusal.Refusal.TheVariants as refusal
+use Rattle.snap_semantics.specs.Listing.{max_text}
 use Rattle.snap_input.specs.Input.{checked_parts}
 use Rattle.snap_input.specs.Parts.{parts_of, max_input}
 use Rattle.snap_input.specs.ManySchedules.{checked_schedules}
@@ -22,7 +23,7 @@ why (Err e) = Some e
 
 -- a text that is too long for a listing
 abbrev pub long_text : List ℕ → Option Refusal
-long_text text = if nat_lt 65536 (length text) then Some (refusal.Listing listing.TooLong) else None
+long_text text = if nat_lt max_text (length text) then Some (refusal.Listing listing.TooLong) else None
 
 abbrev pub unknown_version : Option ImageVersion → Option ImageRefusal
 unknown_version None = Some image.Version

@@ -4,10 +4,10 @@
 use Rattle.std.specs.Prelude.{◌≡◌, ℕ, ◌<◌, ◌≤◌, true, List, [], ◌∷◌, length, map, Ok}
 use Rattle.snap_words.specs.Kind.{fits}
 use Rattle.snap_words.specs.declared.kind.KindTag.{KindTag}
-use Rattle.snap_image_format.specs.Assembly.{assembled, listed}
+use Rattle.snap_image.specs.Assembly.{assembled, listed}
 use Rattle.snap_semantics.specs.CanonicalText.{canonical_text}
 use Rattle.snap_semantics.specs.Comments.{Commented, IsCommented, commented_of}
-use Rattle.snap_semantics.specs.Listing.{listing_of}
+use Rattle.snap_semantics.specs.Listing.{listing_of, max_text}
 use Rattle.snap_semantics.specs.Schedule.{Schedule, schedule_of}
 use Rattle.snap_semantics.specs.Source.{Source}
 use Rattle.snap_runs.specs.Run.{IsValidRun, run_over}
@@ -45,7 +45,7 @@ ListsBackAsSource = (x image : List ℕ) → assembled x ≡ Ok image →
 -- The canonical text of a listing with comments, if it is no longer than a text may be, gives itself back: it is
 -- assembled, and its image lists back as this text.
 abbrev pub GivesItselfBack : Type 0
-GivesItselfBack = (l : Commented) → IsCommented l → length (canonical_text l) ≤ 65536 →
+GivesItselfBack = (l : Commented) → IsCommented l → length (canonical_text l) ≤ max_text →
     (image : List ℕ) × (assembled (canonical_text l) ≡ Ok image) × (listed image ≡ Ok (canonical_text l))
 
 -- An input names a listing, in its first part or as a shipped one, and its next part is a schedule for that listing.

@@ -4,17 +4,17 @@ use Rattle.std.specs.Prelude.{◌≡◌, ℕ, Bool, nat_lt, List, [], length, Re
 use Rattle.snap_semantics.specs.declared.refusal.Refusal.{Refusal}
 use Rattle.snap_semantics.specs.declared.refusal.Refusal.TheVariants as refusal
 use Rattle.snap_semantics.specs.Answers.{refused_as}
-use Rattle.snap_image_format.specs.Assembly.{assembled, listed, upgraded}
+use Rattle.snap_image.specs.Assembly.{assembled, listed, upgraded}
 use Rattle.snap_semantics.specs.Source.{Source}
 use Rattle.snap_judge.specs.declared.judgements.Judgement.{Judgement}
 use Rattle.snap_certify.specs.Output.{WasJudgedIn, certificates_text}
 use Rattle.snap_lint.specs.Check.{check_of}
 use Rattle.snap_lint.specs.Lint.{lint_of}
 use Rattle.snap_survey.specs.Surveys.{WereJudgedIn, clean_runs, surveyed}
-use Rattle.snap_run_trace.specs.Traces.{traces_text}
+use Rattle.snap_output.specs.Traces.{traces_text}
 use Rattle.snap_input.specs.Input.{parted}
 use Rattle.snap_input.specs.Parts.{part, parts_of, max_input}
-use Rattle.snap_run_output.specs.ScheduleOutput.{batched, verdicts_text}
+use Rattle.snap_output.specs.ScheduleOutput.{batched, verdicts_text}
 use Rattle.snap_output.specs.Perform.{debug_text, perform_listing}
 use Rattle.snap_tasks.specs.declared.subject.Subject.{Subject}
 use Rattle.snap_tasks.specs.declared.task.Task.{Task}
@@ -49,8 +49,8 @@ unfoldable pub clean_of : List Judgement → Subject → List ℕ → Result Boo
 clean_of judged s input =
     if nat_lt max_input (length input) then Err refusal.InputTooLong else clean_runs judged s (parts_of input)
 
--- This was judged for a task on an input: of the run that is to be certified, of each run that is surveyed, and for
--- other tasks nothing.
+-- What was judged for a task on an input: the run that is to be certified, each run that is surveyed, and for other
+-- tasks nothing.
 abbrev pub AreJudged : Task → List ℕ → List Judgement → Type 0
 AreJudged (task.Certify s) input judged = WasJudgedIn s (parts_of input) judged
 AreJudged (task.Survey s) input judged = WereJudgedIn s (parts_of input) judged

@@ -5,7 +5,7 @@ use Rattle.snap_tasks.specs.declared.subject.Subject.{Subject}
 use Rattle.snap_tasks.specs.declared.task.Task.TheVariants as task
 use Rattle.snap_output.specs.Output.{output_of}
 
--- both are refused for the same reason, or neither is refused
+-- two results are refused for the same reason, or neither is refused
 abbrev pub AreRefusedAlike : Result (List ℕ) Refusal → Result (List ℕ) Refusal → Type 0
 AreRefusedAlike x y = (r : Refusal) → (x ≡ Err r) ↔ (y ≡ Err r)
 

@@ -3,7 +3,7 @@
 use Rattle.std.specs.Prelude.{◌≡◌, ℕ, ◌<◌, ◌≤◌, ◌⊎◌, true, false, List, [], ◌∷◌, ◌++◌, length, Ok, Err}
 use Rattle.snap_words.specs.Kind.{fits}
 use Rattle.snap_words.specs.declared.shape.WordFault.TheVariants.{BadShape}
-use Rattle.snap_image_format.specs.Assembly.{assembled}
+use Rattle.snap_image.specs.Assembly.{assembled}
 use Rattle.snap_semantics.specs.Listing.{listing_of}
 use Rattle.snap_semantics.specs.Schedule.{Schedule, schedule_of}
 use Rattle.snap_semantics.specs.Source.{Source}
@@ -27,15 +27,15 @@ use Rattle.snap_tasks.specs.declared.task.Task.TheVariants as task
 abbrev pub texts_in : Subject → List ℕ → List (List ℕ)
 texts_in s input = texts_for s (parts_of input)
 
--- This text is this schedule, and its shape fits the kind of the listing.
+-- A text is this schedule, and its shape fits the kind of the listing.
 abbrev pub IsScheduleFor : Source → List ℕ → Schedule → Type 0
 IsScheduleFor l text s = (schedule_of text ≡ Ok s) × (fits l.kind s.shape ≡ true)
 
--- This text is this schedule, and its shape does not fit.
+-- A text is this schedule, and its shape does not fit.
 abbrev pub IsUnfitFor : Source → List ℕ → Schedule → Type 0
 IsUnfitFor l text s = (schedule_of text ≡ Ok s) × (fits l.kind s.shape ≡ false)
 
--- These texts are these schedules, one for one.
+-- Texts are these schedules, one for one.
 abbrev pub AreSchedulesFor : Source → List (List ℕ) → List Schedule → Type 0
 AreSchedulesFor l [] [] = Unit {0}
 AreSchedulesFor l (text ∷ texts) (s ∷ ss) = IsScheduleFor l text s × AreSchedulesFor l texts ss
@@ -80,7 +80,7 @@ pub record RefusesInputs (subject : Subject) (t : Task) (count : ℕ) (input : L
       IsScheduleFor l (part 0 (texts_in subject input)) s → commands_of (part 1 (texts_in subject input)) ≡ Err r →
       output_of [] t input ≡ Err (refusal.Commands r)
 
--- So is a batch; of its schedules the first that is none for the listing is refused.
+-- A batch is refused alike; of its schedules the first that is none for the listing is refused.
 pub record RefusesBatches (subject : Subject) (input : List ℕ) : Type 0 where
   pub too_long : max_input < length input → output_of [] (task.Batch subject) input ≡ Err refusal.InputTooLong
   pub parts : (r : Refusal) → length input ≤ max_input → checked_schedules subject (parts_of input) ≡ Err r →

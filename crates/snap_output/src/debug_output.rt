@@ -33,7 +33,7 @@ fn read_commands(alloc: Global, text: &[u8]) -> Result<Vec<Command>, Fault<Refus
     Ok(snap_debug::read_commands(alloc, text)?)
 }
 
-/// A command behind `> `, and what a session answers to it.
+/// Appends a command behind `> `, and the reply of a session.
 #[tactic(auto, using(snap_text::proofs::Texts::joined))]
 fn push_answer<K: Kind>(
     out: &mut Vec<u8>,
@@ -53,7 +53,7 @@ fn push_answer<K: Kind>(
     }
 }
 
-/// Commands, each with what a session answers to it.
+/// Appends commands, each with the reply of a session.
 fn push_answers<K: Kind>(
     out: &mut Vec<u8>,
     session: &mut Session<K>,
@@ -69,7 +69,7 @@ fn push_answers<K: Kind>(
     Ok(())
 }
 
-/// The report of the position of a session.
+/// Appends the report of the position of a session.
 fn push_session_report<K: Kind>(out: &mut Vec<u8>, session: &Session<K>) -> Result<(), AllocError>
     ensures { OnOk result (out.new.items ≡ out.old.items ++ session_report session.now) }
 {
@@ -77,7 +77,7 @@ fn push_session_report<K: Kind>(out: &mut Vec<u8>, session: &Session<K>) -> Resu
     push_text(out, report.as_slice())
 }
 
-/// What a session answers to commands, and the report of the position that they reach.
+/// Returns the replies of a session to commands, and the report of the position that they reach.
 fn answers<K: Kind>(
     alloc: Global,
     session: &mut Session<K>,
@@ -92,7 +92,8 @@ fn answers<K: Kind>(
     Ok(out)
 }
 
-/// What a program does under a schedule, as commands ask for it.
+/// Returns the replies to commands on a program under a schedule, and the report of the position
+/// that they reach.
 fn performance<K: Kind>(
     alloc: Global,
     program: &Program,
@@ -107,8 +108,8 @@ fn performance<K: Kind>(
     answers(alloc, &mut session, commands)
 }
 
-/// What commands are answered on a program of a kind under a schedule, and the report of the
-/// position reached.
+/// Returns the replies to commands on a program of a kind under a schedule, and the report of the
+/// position that they reach.
 #[tactic(auto, unfolding(crate::specs::Perform::perform_listing))]
 fn perform_kind<K: Kind>(
     alloc: Global,
@@ -125,8 +126,12 @@ fn perform_kind<K: Kind>(
     Ok(performance::<K>(alloc, program, schedule, commands.as_slice())?)
 }
 
-/// What commands are answered on a program under a schedule, and the report of the position
-/// reached.
+/// Returns the replies to commands on `program` under `schedule`, and the report of the position
+/// that they reach.
+///
+/// # Errors
+///
+/// `Refused` with the reason why a text is refused; `Memory` where memory runs out.
 pub fn perform_program(
     alloc: Global,
     program: &Program,
@@ -143,7 +148,7 @@ pub fn perform_program(
     }
 }
 
-/// The same on a listing, as its text.
+/// Returns the replies to commands on a listing, which is given as its text.
 #[tactic(auto, unfolding(crate::specs::Perform::perform_of))]
 fn perform_texts(
     alloc: Global,
@@ -157,8 +162,12 @@ fn perform_texts(
     perform_program(alloc, &program, schedule, commands)
 }
 
-/// What commands are answered on a listing under a schedule, and the report of the position
-/// reached, as text. Too long a listing is refused before any memory is asked for.
+/// Returns the replies to commands on `listing` under `schedule`, and the report of the position
+/// that they reach. Too long a listing is refused before any memory is allocated.
+///
+/// # Errors
+///
+/// `Refused` with the reason why a text is refused; `Memory` where memory runs out.
 #[tactic(auto, using(crate::proofs::AtOnce::of_text), unfolding(crate::specs::Perform::perform_of, snap_semantics::specs::Listing::listing_of))]
 pub fn perform(
     alloc: Global,

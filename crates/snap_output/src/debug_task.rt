@@ -14,7 +14,7 @@ use snap_semantics::{Fault, Refusal};
 use snap_tasks::Subject;
 use std::alloc::Global;
 
-/// A program under the schedule that a text is, as the commands of another ask for it.
+/// Returns the replies on a program under the schedule of one text, to the commands of another.
 fn debug_texts(alloc: Global, program: &Program, texts: &[&[u8]]) -> Result<Vec<u8>, Fault<Refusal>>
     requires { 1 < length texts.now }
     ensures { Answers (λ out. out.items) result
@@ -23,7 +23,11 @@ fn debug_texts(alloc: Global, program: &Program, texts: &[&[u8]]) -> Result<Vec<
     perform_program(alloc, program, texts[0], texts[1])
 }
 
-/// A listing under a schedule, as commands ask for it.
+/// Returns the replies to commands on a listing under a schedule.
+///
+/// # Errors
+///
+/// `Refused` with the reason why `input` is refused; `Memory` where memory runs out.
 #[tactic(auto, unfolding(snap_input::specs::Input::parted))]
 pub fn debug(alloc: Global, subject: Subject, input: &[u8]) -> Result<Vec<u8>, Fault<Refusal>>
     requires { length input.now ≤ max_input }

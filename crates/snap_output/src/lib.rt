@@ -1,16 +1,30 @@
-//! What the program writes for what it reads: from an input to its whole output, or to the reason
-//! why there is none.
+//! What is written for an input, for each task of the program; of runs, batches and audits, and of
+//! traces, item by item.
 #![tactic(auto)]
 
+mod audit_output;
+mod batch_output;
 mod debug_output;
 mod debug_task;
 mod headlines;
+mod inputs;
+mod item;
+mod laws;
 mod outputs;
+mod program;
+mod run_output;
+mod run_trace;
+mod task;
 
 pub use debug_output::{perform, perform_program};
 pub use debug_task::debug;
 pub use headlines::{headline, traces_are_refused_as_runs};
+pub use inputs::{audit, batch, batch_in_threads, plan_input, run};
+pub use laws::the_report_is_the_sum_of_the_trace;
 pub use outputs::{output, output_alone, planned_run, survey_output};
-pub use snap_run_output::{PlannedRun, run_planned};
+pub use program::trace_program;
+pub use run_output::{PlannedRun, run_planned};
+pub use run_trace::trace;
 pub use snap_survey::SurveyOutput;
 pub use snap_tasks::Task;
+pub use task::trace_input;

@@ -5,7 +5,7 @@ ghost use Rattle.snap_semantics.specs.declared.fault.Fault.TheVariants.{Refused}
 ghost use Rattle.snap_semantics.specs.declared.refusal.Refusal.{Refusal};
 ghost use Rattle.snap_input.specs.Input.{checked_parts, parted};
 ghost use Rattle.snap_input.specs.Parts.{max_input, parts_of};
-ghost use Rattle.snap_run_output.specs.RunOutput.{end_text};
+ghost use Rattle.snap_output.specs.RunOutput.{end_text};
 ghost use Rattle.snap_output.specs.AtOnce.{found_at_once};
 ghost use Rattle.snap_run_judge.specs.Judged.{AnswersJudged};
 ghost use Rattle.snap_survey.specs.Surveys.{AnswersSurvey};
@@ -13,18 +13,20 @@ ghost use Rattle.snap_output.specs.Output.{AreJudged, clean_of, output_of, run_t
 ghost use Rattle.snap_tasks.specs.declared.task.Task.TheVariants.{Run, Survey};
 
 use crate::debug_task::debug;
+use crate::inputs::{audit, batch, batch_in_threads};
+use crate::run_output::PlannedRun;
+use crate::task::trace_input;
 use snap_certify::certify_input;
 use snap_input::{MAX_INPUT, assemble, list, upgrade};
 use snap_lint::{check_of, lint_of};
-use snap_run_output::{PlannedRun, audit, batch, batch_in_threads};
-use snap_run_trace::trace_input;
 use snap_semantics::{Fault, Refusal};
 use snap_survey::{SurveyOutput, survey_in_threads, survey_input};
 use snap_tasks::{Subject, Task};
 use std::alloc::Global;
 use std::thread::Threads;
 
-/// A listing under a schedule, to its end: what a session answers to the one command `run`.
+/// Returns the output of a listing under a schedule, to its end: the reply of a session to the one
+/// command `run`.
 fn run(alloc: Global, subject: Subject, input: &[u8]) -> Result<Vec<u8>, Fault<Refusal>>
     requires { length input.now ≤ max_input }
     ensures output { Answers (λ out. out.items) result
@@ -32,10 +34,10 @@ fn run(alloc: Global, subject: Subject, input: &[u8]) -> Result<Vec<u8>, Fault<R
     ensures counted { (r : Refusal) → checked_parts subject 1 (parts_of input.now) ≡ Err r →
         result ≡ Err (Refused r) }
 {
-    snap_run_output::run(alloc, subject, input)
+    crate::inputs::run(alloc, subject, input)
 }
 
-/// The program and the schedule that a listing and a text are.
+/// Returns the program of a listing and the schedule of a text.
 fn plan(alloc: Global, subject: Subject, input: &[u8]) -> Result<PlannedRun, Fault<Refusal>>
     requires { length input.now ≤ max_input }
     ensures output { Answers (λ run. end_text run.program run.schedule) result
@@ -43,11 +45,15 @@ fn plan(alloc: Global, subject: Subject, input: &[u8]) -> Result<PlannedRun, Fau
     ensures counted { (r : Refusal) → checked_parts subject 1 (parts_of input.now) ≡ Err r →
         result ≡ Err (Refused r) }
 {
-    snap_run_output::planned_run(alloc, subject, input)
+    crate::inputs::plan_input(alloc, subject, input)
 }
 
-/// What is written for an input that is surveyed, and whether each of its runs is clean; or why
-/// there is no output. The schedules are read and run side by side.
+/// Returns the output for `input`, which is surveyed, and whether each of its runs is clean. The
+/// schedules are read and run side by side.
+///
+/// # Errors
+///
+/// `Refused` with the reason why `input` is refused; `Memory` where memory runs out.
 #[tactic(auto, using(crate::proofs::AtOnce::of_why), unfolding(crate::specs::Output::output_of, crate::specs::Output::clean_of))]
 pub fn survey_output(
     rt: &(impl Threads + Sync),
@@ -67,9 +73,12 @@ pub fn survey_output(
     survey_in_threads(rt, alloc, subject, input)
 }
 
-/// The program and the schedule that an input asks to run, or why it is refused. Of these
-/// `run_planned` writes what `output` writes for the task `run`, so a caller may let go of the
-/// input in between.
+/// Returns the program and the schedule of `input`. `run_planned` writes of them what `output`
+/// writes for the task `run`, so a caller may free the input in between.
+///
+/// # Errors
+///
+/// `Refused` with the reason why `input` is refused; `Memory` where memory runs out.
 #[tactic(auto, using(crate::proofs::AtOnce::of_why), unfolding(crate::specs::Output::output_of))]
 pub fn planned_run(
     alloc: Global,
@@ -87,7 +96,11 @@ pub fn planned_run(
     plan(alloc, subject, input)
 }
 
-/// The whole output for an input, or why there is none, in one thread.
+/// Returns the whole output for `input`, made in one thread.
+///
+/// # Errors
+///
+/// `Refused` with the reason why `input` is refused; `Memory` where memory runs out.
 #[tactic(auto, using(crate::proofs::AtOnce::of_text, crate::proofs::AtOnce::of_why), unfolding(crate::specs::Output::output_of))]
 pub fn output_alone(alloc: Global, task: &Task, input: &[u8]) -> Result<Vec<u8>, Fault<Refusal>>
     ensures output { AnswersJudged (λ out. out.items) (AreJudged task.now input.now) result
@@ -114,8 +127,13 @@ pub fn output_alone(alloc: Global, task: &Task, input: &[u8]) -> Result<Vec<u8>,
     }
 }
 
-/// The same, with the schedules of a batch or a survey read and run side by side. What is a fault in
-/// a batch there is made once more in one thread: it finds the first fault, and takes less memory.
+/// Returns the whole output for `input`, with the schedules of a batch or a survey read and run
+/// side by side. A batch that has a fault there is made once more in one thread, which finds the
+/// first fault, and takes less memory.
+///
+/// # Errors
+///
+/// `Refused` with the reason why `input` is refused; `Memory` where memory runs out.
 #[tactic(auto, using(crate::proofs::AtOnce::of_why), unfolding(crate::specs::Output::output_of))]
 pub fn output(
     rt: &(impl Threads + Sync),

@@ -32,7 +32,7 @@ module _ (a : Asked) (input : List ℕ) (result : Result (Vec ℕ Global) (Fault
     of (Err (fault.Refused r)) h says = (Err r, h, says (Err r) refl)
     of (Err fault.Memory) h says = absurd (apart (λ d. says d tt))
 
--- The same of a picture.
+-- The picture that is handed over is right, judged or not.
 module _ (IsWrong : Option Event → Type 0) (picture : Option Event → Result (List ℕ) PictureRefusal)
     (result : Result (Vec ℕ Global) (Fault PictureRefusal)) (given : AnswersPicture IsWrong result picture) where
   pub shown : (Tells : Result (List ℕ) PictureRefusal → Type 0) →

@@ -13,7 +13,7 @@ not_true : (b : Bool) → ¬ (b ≡ true) → b ≡ false
 not_true true not_text = absurd (not_text refl)
 not_true false not_text = refl
 
--- and differ from each text
+-- bytes that are no text differ from each text
 unlike : (bytes name : List ℕ) → ¬ (IsUtf8 bytes) → IsUtf8 name → bytes_eq bytes name ≡ false
 unlike bytes name not_text is =
     not_true (bytes_eq bytes name) (λ e. not_text (subst IsUtf8 (sym ((bytes_eq-Decides bytes name).0 e)) is))

@@ -2,9 +2,9 @@
 -- `found_at_once`.
 use Rattle.std.proofs.Common.{◌≡◌, ℕ, Bool, true, false, List, [], ◌∷◌, length, nat_lt, nat_le, nat_eq, ◌&&◌, refl}
 use Rattle.std.specs.Prelude.{Option, Some, None, Result, Ok, Err, option_map, bytes_eq, take, drop, if◌then◌else◌}
-use Rattle.snap_image_format.specs.Image.{signature}
-use Rattle.snap_image_format.specs.ImageCodes.{of_code, versions}
-use Rattle.snap_image_format.specs.declared.image.ImageVersion.{ImageVersion}
+use Rattle.snap_image.specs.Image.{signature}
+use Rattle.snap_image.specs.ImageCodes.{of_code, versions}
+use Rattle.snap_image.specs.declared.image.ImageVersion.{ImageVersion}
 use Rattle.snap_semantics.specs.declared.refusal.ImageRefusal.{ImageRefusal}
 use Rattle.snap_semantics.specs.declared.refusal.ImageRefusal.TheVariants as image
 use Rattle.snap_semantics.specs.declared.refusal.ListingRefusal.TheVariants as listing
@@ -61,7 +61,7 @@ signed_short false bytes = of_one (refusal.Image image.NotAnImage) refl
 head_short : (bytes : List ℕ) → Short (option_map refusal.Image (wrong_head bytes))
 head_short bytes = signed_short (bytes_eq (take 4 bytes) signature) (drop 4 bytes)
 
--- so many texts, of parts
+-- a number of texts, of parts
 count_short : (counts : List (List ℕ) → Bool) (texts parts : List (List ℕ)) →
     Short (why {A = Unit {0}} (if counts texts then Ok tt else Err (refusal.WrongParts (length parts))))
 count_short counts texts parts = parts_short (counts texts) (length parts)

@@ -38,7 +38,7 @@ abbrev pub IsAnswerFor : Asked → List ℕ → Result (List ℕ) Refusal → Ty
 IsAnswerFor (Do t) input answer = IsAnswerTo t input answer
 IsAnswerFor (Judge s) input answer = IsJudgedRun s input answer
 
--- The same of a call that allocates: a want of memory may stand in its place.
+-- What a call that allocates returns; a want of memory may stand in its place.
 abbrev pub AnswersAsked : Asked → List ℕ → Result (Vec ℕ Global) (Fault Refusal) → Type 0
 AnswersAsked a input (Ok out) = IsAnswerFor a input (Ok out.items)
 AnswersAsked a input (Err fault.Memory) = ⊤

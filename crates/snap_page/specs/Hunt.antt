@@ -4,9 +4,9 @@ use Rattle.std.specs.Prelude.{◌≡◌, ◌⊎◌, ℕ, ◌≤◌, true, false,
 use Rattle.snap_words.specs.Shape.{Counts, IsShape}
 use Rattle.snap_chance.specs.Plan.{Plan}
 use Rattle.snap_chance.specs.declared.plan.Pace.TheVariants.{Mixed}
-use Rattle.snap_failure.specs.declared.failures.StepBound.TheVariants.{Shipped}
-use Rattle.snap_failure.specs.declared.failures.Wanted.{Wanted}
-use Rattle.snap_refusals.specs.RefusalText.{refusal_line}
+use Rattle.snap_hunt.specs.declared.failures.StepBound.TheVariants.{Shipped}
+use Rattle.snap_hunt.specs.declared.failures.Wanted.{Wanted}
+use Rattle.snap_faults.specs.RefusalText.{refusal_line}
 use Rattle.snap_hunt_output.specs.Hunted.{IsDue, IsHunted}
 use Rattle.snap_hunt_output.specs.declared.asked.Asked.{Asked}
 use Rattle.snap_hunt_output.specs.declared.hunted.Hunted.{Hunted}

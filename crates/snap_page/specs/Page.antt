@@ -5,7 +5,7 @@ use Rattle.snap_semantics.specs.declared.refusal.ImageRefusal.TheVariants as ima
 use Rattle.snap_semantics.specs.declared.refusal.ListingRefusal.TheVariants as listing
 use Rattle.snap_semantics.specs.declared.refusal.Refusal.{Refusal}
 use Rattle.snap_semantics.specs.declared.refusal.Refusal.TheVariants as refusal
-use Rattle.snap_refusals.specs.RefusalText.{refusal_line}
+use Rattle.snap_faults.specs.RefusalText.{refusal_line}
 use Rattle.snap_tasks.specs.Request.{kind_of, request_of}
 use Rattle.snap_tasks.specs.declared.request.Options.{Options}
 use Rattle.snap_tasks.specs.declared.request.Request.{Request}

@@ -5,7 +5,7 @@ use Rattle.snap_semantics.specs.Listing.{listing_of}
 use Rattle.snap_semantics.specs.Source.{Source}
 use Rattle.snap_semantics.specs.declared.event.Event.{Event}
 use Rattle.snap_semantics.specs.declared.refusal.Refusal.TheVariants.{Listing}
-use Rattle.snap_refusals.specs.RefusalText.{numbered, refusal_text}
+use Rattle.snap_faults.specs.RefusalText.{numbered, refusal_text}
 use Rattle.snap_page.specs.Answer.{page_configurations}
 use Rattle.snap_picture.specs.Picture.{FailsUnder, IsPictureBy, picture_of}
 use Rattle.snap_picture.specs.declared.options.Options.{Options}

@@ -1,5 +1,4 @@
-//! `answer_to`: what is written for an input that a page in a browser asks about, a task or whether
-//! a run is linearizable.
+//! `answer_to`: the output for an input that a page in a browser sends, by a task or a judgement.
 ghost use Rattle.std.specs.Prelude.{◌≡◌, Err, Some};
 ghost use Rattle.snap_semantics.specs.declared.fault.Fault.TheVariants.{Refused};
 ghost use Rattle.snap_semantics.specs.declared.refusal.Refusal.{Refusal};
@@ -14,11 +13,11 @@ use snap_semantics::{Fault, Refusal};
 use snap_tasks::{JudgeRequest, JudgeSource, Subject};
 use std::alloc::Global;
 
-/// How many configurations a search for an order meets at most: a page waits some seconds for so
-/// many, where the program itself allows ten times as many.
+/// The most configurations that a search for an order keeps: a page waits some seconds for as many,
+/// where the program itself allows ten times as many.
 pub(crate) const PAGE_CONFIGURATIONS: u64 = 100_000;
 
-/// What is judged: the run of this listing.
+/// Returns what is judged: the run of this listing.
 fn judge_request(subject: Subject) -> JudgeRequest
     ensures { result ≡ judge_request subject }
 {
@@ -28,7 +27,7 @@ fn judge_request(subject: Subject) -> JudgeRequest
     }
 }
 
-/// What is written of the run that an input asks for, or why it asks for none.
+/// Returns the judgement of the run of an input.
 #[tactic(auto, using(crate::proofs::Judging::of_run))]
 fn judged_run(alloc: Global, subject: Subject, input: &[u8]) -> Result<Vec<u8>, Fault<Refusal>>
     ensures output { AnswersAsked (Judge subject) input.now result }
@@ -43,7 +42,11 @@ fn judged_run(alloc: Global, subject: Subject, input: &[u8]) -> Result<Vec<u8>, 
     }
 }
 
-/// The whole output for an input, or why there is none.
+/// Returns the whole output for `input`.
+///
+/// # Errors
+///
+/// `Refused` with the reason why `input` is refused; `Memory` where memory runs out.
 pub fn answer_to(alloc: Global, asked: &Asked, input: &[u8]) -> Result<Vec<u8>, Fault<Refusal>>
     ensures output { AnswersAsked asked.now input.now result }
     ensures at_once { (r : Refusal) → found_at_once asked.now input.now ≡ Some r →

@@ -1,11 +1,11 @@
-//! `asked_of`: what a page in a browser asks for by its names, a task or whether a run is
-//! linearizable, and the listing that is to be run.
+//! `asked_of`: what a page in a browser wants by its names, a task or a judgement, and the listing
+//! that is to be run.
 ghost use Rattle.std.specs.Prelude.{◌≡◌, IfSome, IsUtf8, None};
 ghost use Rattle.snap_page.specs.Page.{asked_for, asked_of, options_for, subject_of};
 
 use snap_tasks::{Options, Request, Subject, Task, kind_of, request_of};
 
-/// What a page asks for.
+/// What a page wants.
 #[derive(Clone, Copy)]
 pub enum Asked {
     /// A task of the program.
@@ -14,7 +14,7 @@ pub enum Asked {
     Judge(Subject),
 }
 
-/// A text that bytes are.
+/// Returns bytes as text, if they are valid UTF-8.
 fn text_of(bytes: &[u8]) -> Option<&str>
     ensures text { IfSome result (λ text. text.now ≡ bytes.now) }
     ensures no_text { result ≡ None → ¬ (IsUtf8 bytes.now) }
@@ -25,8 +25,8 @@ fn text_of(bytes: &[u8]) -> Option<&str>
     }
 }
 
-/// The listing of this name: that which is shipped for a kind, or where there is no name the first
-/// part of the input.
+/// Returns the listing of this name: the one that is shipped for a kind, or, if there is no name,
+/// the first part of the input.
 #[tactic(auto, using(crate::proofs::Names::no_subject))]
 fn subject_of(shipped: &[u8]) -> Option<Subject>
     ensures { result ≡ subject_of shipped.now }
@@ -38,7 +38,7 @@ fn subject_of(shipped: &[u8]) -> Option<Subject>
     Some(Subject::Shipped(kind_of(name)?))
 }
 
-/// The options that say nothing but which listing a task runs.
+/// Returns options that have the listing of a task alone.
 fn options_for(subject: Subject) -> Options
     ensures value { result ≡ options_for subject }
 {
@@ -51,7 +51,8 @@ fn options_for(subject: Subject) -> Options
     }
 }
 
-/// What a subcommand asks for. A live run is none of a page, which has one thread, nor is a model.
+/// Returns what the name of a subcommand means on a page. A page cannot run `live`, since it has
+/// one thread, and writes no model.
 #[tactic(auto, using(crate::proofs::Names::no_task))]
 fn asked_for(subcommand: &[u8], subject: Subject) -> Option<Asked>
     ensures { result ≡ asked_for subcommand.now subject }
@@ -64,7 +65,7 @@ fn asked_for(subcommand: &[u8], subject: Subject) -> Option<Asked>
     }
 }
 
-/// What a page asks for.
+/// Returns what the names of a page mean: the subcommand, and the kind whose listing is shipped.
 pub fn asked_of(subcommand: &[u8], shipped: &[u8]) -> Option<Asked>
     ensures { result ≡ asked_of subcommand.now shipped.now }
 {

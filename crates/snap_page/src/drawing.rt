@@ -1,5 +1,5 @@
-//! `handed_picture`: puts the picture of a run that a page in a browser asks for into the page's
-//! memory, or the line that says why there is none.
+//! `handed_picture`: puts the picture of a run into the page's memory, or the line that says why
+//! there is none.
 ghost use Rattle.std.specs.Prelude.{◌≡◌, ◌<◌, ◌⊎◌, ◌↔◌, ℕ, List, Result, length, take};
 ghost use Rattle.snap_semantics.specs.Answers.{Answers};
 ghost use Rattle.snap_picture.specs.Picture.{AnswersPicture};
@@ -16,7 +16,7 @@ use snap_picture::{Look, Options, PictureRefusal, picture};
 use snap_semantics::Fault;
 use std::alloc::Global;
 
-/// The program of a listing's text.
+/// Returns the program of a listing's text.
 fn drawn_program(alloc: Global, listing: &[u8]) -> Result<Program, Fault<PictureRefusal>>
     ensures { Answers (λ p. p) result (drawn_listing listing.now) }
 {
@@ -27,7 +27,11 @@ fn drawn_program(alloc: Global, listing: &[u8]) -> Result<Program, Fault<Picture
     }
 }
 
-/// The picture of a listing's run under a schedule, from one item to another.
+/// Returns the picture of a listing's run under a schedule, from item `from` to item `to`.
+///
+/// # Errors
+///
+/// `Refused` with the reason why there is no picture; `Memory` where memory runs out.
 pub fn drawn(
     alloc: Global,
     listing: &[u8],
@@ -49,7 +53,7 @@ pub fn drawn(
     picture(alloc, &program, Some(listing), schedule, &options, look)
 }
 
-/// Hands the line of a picture that is refused.
+/// Hands over the line of a picture that is refused.
 fn handed_why(alloc: Global, refusal: &PictureRefusal, room: &mut [u8]) -> Handed
     ensures code { result.code ≡ 1 ⊎ (result.code ≡ 2 ⊎ result.code ≡ 3) }
     ensures small { result.code ≡ 3 ↔ length room.old < result.len }
@@ -68,7 +72,7 @@ fn handed_why(alloc: Global, refusal: &PictureRefusal, room: &mut [u8]) -> Hande
     }
 }
 
-/// Hands a picture, or why there is none.
+/// Hands over a picture, or why there is none.
 pub fn handed_picture(
     alloc: Global,
     answer: Result<Vec<u8>, Fault<PictureRefusal>>,

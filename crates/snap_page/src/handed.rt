@@ -5,11 +5,11 @@ ghost use Rattle.std.specs.Prelude.{Err, IfOk, Result, codes, length, take};
 ghost use Rattle.snap_semantics.specs.Answers.{Answers};
 ghost use Rattle.snap_semantics.specs.declared.fault.Fault.TheVariants.{Refused};
 ghost use Rattle.snap_semantics.specs.declared.refusal.Refusal.{Refusal};
-ghost use Rattle.snap_refusals.specs.RefusalText.{refusal_line};
+ghost use Rattle.snap_faults.specs.RefusalText.{refusal_line};
 ghost use Rattle.snap_page.specs.Page.{answer_code, answer_text, needs_no_memory, numbered_line};
 
 use itoa::Buffer;
-use snap_refusals::refusal_line;
+use snap_faults::refusal_line;
 use snap_semantics::{Fault, ImageRefusal, ListingRefusal, Refusal};
 use std::alloc::{AllocError, Global};
 
@@ -23,7 +23,7 @@ pub struct Handed {
     pub len: usize,
 }
 
-/// Puts a text at a place of a room, where it fits, and tells the place behind it.
+/// Puts a text at place `at` of a room, if it fits, and returns the place behind it.
 fn put(room: &mut [u8], at: usize, text: &[u8]) -> usize
     requires { at + length text.now < 2 ^ 64 }
     ensures place { result ≡ at + length text.now }
@@ -50,7 +50,7 @@ fn fitted(code: u8, len: usize, room: &[u8]) -> Handed
     }
 }
 
-/// Hands a text under a code.
+/// Hands over a text under a code.
 pub(crate) fn handed_text(code: u8, text: &[u8], room: &mut [u8]) -> Handed
     requires { code < 2 }
     ensures code { result.code ≡ code ⊎ result.code ≡ 3 }
@@ -62,7 +62,7 @@ pub(crate) fn handed_text(code: u8, text: &[u8], room: &mut [u8]) -> Handed
     fitted(code, len, room)
 }
 
-/// Hands the line of a refusal of a name and a number, without memory.
+/// Hands over the line of a refusal of a name and a number, without memory.
 pub(crate) fn handed_line(name: &[u8], number: &[u8], room: &mut [u8]) -> Handed
     requires { length name.now + length number.now < 2 ^ 32 }
     ensures code { result.code ≡ 1 ⊎ result.code ≡ 3 }
@@ -77,7 +77,7 @@ pub(crate) fn handed_line(name: &[u8], number: &[u8], room: &mut [u8]) -> Handed
     fitted(1, len, room)
 }
 
-/// Hands a line for which there was memory.
+/// Hands over a line for which there was memory.
 fn handed_pushed(line: Result<Vec<u8>, AllocError>, room: &mut [u8]) -> Handed
     ensures code { result.code ≡ 1 ⊎ (result.code ≡ 2 ⊎ result.code ≡ 3) }
     ensures small { result.code ≡ 3 ↔ length room.old < result.len }
@@ -92,8 +92,8 @@ fn handed_pushed(line: Result<Vec<u8>, AllocError>, room: &mut [u8]) -> Handed
     }
 }
 
-/// Hands the line of a refusal. One that is found before any memory is asked for is handed without
-/// memory.
+/// Hands over the line of a refusal. A refusal that is found before any memory is allocated is
+/// handed over without memory.
 pub(crate) fn handed_refusal(alloc: Global, refusal: &Refusal, room: &mut [u8]) -> Handed
     ensures code { result.code ≡ 1 ⊎ (result.code ≡ 2 ⊎ result.code ≡ 3) }
     ensures at_once { needs_no_memory refusal.now ≡ true → result.code ≢ 2 }
@@ -114,7 +114,7 @@ pub(crate) fn handed_refusal(alloc: Global, refusal: &Refusal, room: &mut [u8]) 
     }
 }
 
-/// Hands an output, or why there is none.
+/// Hands over an output, or why there is none.
 pub fn handed_answer(
     alloc: Global,
     answer: Result<Vec<u8>, Fault<Refusal>>,

@@ -1,23 +1,23 @@
-//! `handed_hunt`: puts what a hunt comes to that a page in a browser asks for into the page's memory,
-//! the input of a run that fails, or the line that says why there is no hunt.
+//! `handed_hunt`: puts the result of a hunt into the page's memory, the input of a run that fails,
+//! or the line that says why there is no hunt.
 ghost use Rattle.std.specs.Prelude.{◌≡◌, ◌≢◌, ◌<◌, ◌↔◌, IfSome, None, length};
 ghost use Rattle.snap_page.specs.Hunt.{IsHandedHunt, IsHuntable, hunt_asked, hunt_wanted};
 
 use crate::handed::{Handed, handed_refusal, handed_text};
 use snap_chance::{Pace, Plan};
-use snap_failure::{StepBound, Wanted};
 use snap_faults::ProgramFault;
+use snap_hunt::{StepBound, Wanted};
 use snap_hunt_output::{Asked, Hunted};
 use snap_words::Shape;
 use std::alloc::Global;
 
-/// How many runs a page asks for at most.
+/// The most runs that a page may want.
 const MOST_RUNS: u64 = 1_000_000;
 
 /// How many turns a schedule has.
 const TURNS: u64 = 120;
 
-/// What is to fail in a run.
+/// Returns what is to fail in a run.
 fn wanted() -> Wanted
     ensures { result ≡ hunt_wanted }
 {
@@ -30,7 +30,7 @@ fn wanted() -> Wanted
     }
 }
 
-/// What a hunt is asked for, so many runs of a seed, where there can be one.
+/// Returns the hunt over `runs` runs of a seed, if there can be one.
 pub fn hunt_asked(n: u64, w: u64, seed: u64, runs: u64) -> Option<Asked>
     ensures asked { IfSome result (λ a. (a ≡ hunt_asked n w seed runs) × IsHuntable n w runs) }
     ensures none { result ≡ None → ¬ (IsHuntable n w runs) }
@@ -49,7 +49,7 @@ pub fn hunt_asked(n: u64, w: u64, seed: u64, runs: u64) -> Option<Asked>
     }
 }
 
-/// Hands what a hunt comes to, or why it comes to nothing.
+/// Hands over the result of a hunt, or why there is none.
 pub fn handed_hunt(alloc: Global, answer: Result<Hunted, ProgramFault>, room: &mut [u8]) -> Handed
     ensures code { result.code < 6 × (result.code ≢ 4) }
     ensures small { result.code ≡ 3 ↔ length room.old < result.len }

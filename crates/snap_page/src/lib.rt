@@ -1,5 +1,5 @@
-//! What a page in a browser asks of the program, in one thread: a task on an input, whether a run is
-//! linearizable, the picture of a run, and a run that fails.
+//! What a page in a browser wants of the program, in one thread: a task on an input, whether a run
+//! is linearizable, the picture of a run, and a run that fails.
 #![tactic(auto)]
 
 ghost use Rattle.std.specs.Prelude.{◌≡◌, ◌≢◌, ◌<◌, ◌⊎◌, ◌↔◌, ℕ, List, None, Result, Some, length, take};
@@ -28,9 +28,9 @@ use snap_hunt_output::hunt_alone;
 use snap_picture::{LEGEND, Look, STYLE};
 use std::alloc::Global;
 
-/// Hands a page what is written for an input, or the line that says why nothing is. The task is
-/// that of a subcommand, or `judge`; it runs the listing that is shipped for the kind of a name, or
-/// where the name is empty the one in the input.
+/// Hands a page the output for an input, or the line that says why there is none. The task is that
+/// of a subcommand, or `judge`; it runs the listing that is shipped for the kind of the name
+/// `shipped`, or, if that is empty, the one in the input.
 #[unsafe(no_mangle)]
 #[tactic(auto, using(crate::proofs::Short::needs_none))]
 pub extern "C" fn page_output(
@@ -61,7 +61,7 @@ pub extern "C" fn page_output(
 }
 
 /// Hands a page the picture of a listing's run under a schedule, from one item to another, as the
-/// program that draws gives it, or the line that says why there is none.
+/// program that draws makes it, or the line that says why there is none.
 #[unsafe(no_mangle)]
 pub extern "C" fn page_picture(
     alloc: Global,
@@ -90,8 +90,8 @@ pub extern "C" fn page_picture(
     handed_picture(alloc, answer, room)
 }
 
-/// Hands a page the input of the first run of a seed in which a listing fails, made small, or no text
-/// where none of so many runs fails; or the line that says why there is no hunt.
+/// Hands a page the input of the first run of a seed in which a listing fails, shrunk, or no text
+/// if none of the runs fails; or the line that says why there is no hunt.
 #[unsafe(no_mangle)]
 #[tactic(auto, using(crate::proofs::Answered::hunted))]
 pub extern "C" fn page_hunt(

@@ -5,13 +5,13 @@ use Rattle.std.specs.Prelude.{IfOk, MatchResult}
 use Rattle.std.specs.Global.{Global}
 use Rattle.snap_semantics.specs.declared.event.Event.{Event}
 use Rattle.snap_runs.specs.Run.{Run}
-use Rattle.snap_draft.specs.Drafted.{Drafted}
+use Rattle.snap_text.specs.Drafted.{Drafted}
 use Rattle.snap_judge.specs.declared.judgements.Judgement.{Judgement}
 use Rattle.snap_run_judge.specs.RunJudgement.{IsRunJudgement}
 use Rattle.snap_picture.specs.Shapes.{shapes}
-use Rattle.snap_svg.specs.ShapeText.{shapes_text}
-use Rattle.snap_svg.specs.Window.{Part}
-use Rattle.snap_svg.specs.declared.shape.Shape.{Shape}
+use Rattle.snap_picture.specs.ShapeText.{shapes_text}
+use Rattle.snap_picture.specs.Window.{Part}
+use Rattle.snap_picture.specs.declared.shape.Shape.{Shape}
 use Rattle.snap_picture.specs.Crossed.{FailsBy, wrong_at}
 use Rattle.snap_picture.specs.Picture.{picture_by, picture_text}
 

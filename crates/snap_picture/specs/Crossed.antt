@@ -5,13 +5,13 @@ use Rattle.snap_semantics.specs.declared.event.Event.{Event}
 use Rattle.snap_runs.specs.Run.{Run}
 use Rattle.snap_judge.specs.declared.judgements.Judgement.{Judgement}
 use Rattle.snap_judge.specs.declared.judgements.Judgement.TheVariants as judgement
-use Rattle.snap_judge_output.specs.JudgementText.{last_of}
+use Rattle.snap_history_text.specs.JudgementText.{last_of}
 use Rattle.snap_run_judge.specs.RunHistory.{history_of}
 use Rattle.snap_run_judge.specs.RunJudgement.{IsRunJudgement}
-use Rattle.snap_svg.specs.ShapeText.{bar_span}
-use Rattle.snap_svg.specs.declared.shape.Bar.{Bar}
-use Rattle.snap_svg.specs.declared.shape.Shape.{Shape}
-use Rattle.snap_svg.specs.declared.shape.Shape.TheVariants as shape
+use Rattle.snap_picture.specs.ShapeText.{bar_span}
+use Rattle.snap_picture.specs.declared.shape.Bar.{Bar}
+use Rattle.snap_picture.specs.declared.shape.Shape.{Shape}
+use Rattle.snap_picture.specs.declared.shape.Shape.TheVariants as shape
 
 -- the event at which a run fails by this judgement
 abbrev pub wrong_at : Run → Judgement → Option Event

@@ -13,12 +13,12 @@ use Rattle.snap_semantics.specs.declared.process.Op.{Op}
 use Rattle.snap_semantics.specs.declared.process.Op.TheVariants as op
 use Rattle.snap_runs.specs.Run.{Run, run_over}
 use Rattle.snap_input.specs.Schedules.{schedule_for}
-use Rattle.snap_svg.specs.FrameText.{foot_text, head_text, input_text}
-use Rattle.snap_svg.specs.ShapeText.{shapes_text}
-use Rattle.snap_svg.specs.Window.{Part, most_items}
-use Rattle.snap_svg.specs.declared.frame.Counts as title
-use Rattle.snap_svg.specs.declared.shape.Shape.{Shape}
-use Rattle.snap_svg.specs.declared.shape.Shape.TheVariants as shape
+use Rattle.snap_picture.specs.FrameText.{foot_text, head_text, input_text}
+use Rattle.snap_picture.specs.ShapeText.{shapes_text}
+use Rattle.snap_picture.specs.Window.{Part, most_items}
+use Rattle.snap_picture.specs.declared.frame.Counts as title
+use Rattle.snap_picture.specs.declared.shape.Shape.{Shape}
+use Rattle.snap_picture.specs.declared.shape.Shape.TheVariants as shape
 use Rattle.snap_picture.specs.Shapes.{shapes}
 use Rattle.snap_picture.specs.Crossed.{FailsBy, crossed_at}
 use Rattle.snap_picture.specs.declared.options.Options.{Options}
@@ -104,7 +104,7 @@ abbrev pub IsPictureBy : {E : Type 0} → (Option Event → Type 0) → (Option 
 IsPictureBy IsWrong picture (Ok text) = (wrong : Option Event) × IsWrong wrong × (picture wrong ≡ Ok text)
 IsPictureBy IsWrong picture (Err r) = picture None ≡ Err r
 
--- The same of what is answered; a want of memory may stand in place of both.
+-- The picture that is answered; a want of memory may stand in place of it.
 abbrev pub AnswersPicture : (Option Event → Type 0) → Result (Vec ℕ Global) (Fault PictureRefusal) →
     (Option Event → Result (List ℕ) PictureRefusal) → Type 0
 AnswersPicture IsWrong (Ok out) picture = IsPictureBy IsWrong picture (Ok out.items)

@@ -10,14 +10,14 @@ use Rattle.snap_acts.specs.declared.act.Act.{Act}
 use Rattle.snap_acts.specs.declared.act.Act.TheVariants as act
 use Rattle.snap_acts.specs.declared.act.Step.{Step}
 use Rattle.snap_acts.specs.declared.loans.ScanPlaces.{ScanPlaces}
-use Rattle.snap_svg.specs.declared.shape.Bar.{Bar}
-use Rattle.snap_svg.specs.declared.shape.End.{End}
-use Rattle.snap_svg.specs.declared.shape.End.TheVariants as ended
-use Rattle.snap_svg.specs.declared.shape.Spot.{Spot}
-use Rattle.snap_svg.specs.declared.shape.Shape.{Shape}
-use Rattle.snap_svg.specs.declared.shape.Shape.TheVariants as shape
-use Rattle.snap_svg.specs.declared.shape.Span.{Span}
-use Rattle.snap_svg.specs.declared.shape.Written.{Written}
+use Rattle.snap_picture.specs.declared.shape.Bar.{Bar}
+use Rattle.snap_picture.specs.declared.shape.End.{End}
+use Rattle.snap_picture.specs.declared.shape.End.TheVariants as ended
+use Rattle.snap_picture.specs.declared.shape.Spot.{Spot}
+use Rattle.snap_picture.specs.declared.shape.Shape.{Shape}
+use Rattle.snap_picture.specs.declared.shape.Shape.TheVariants as shape
+use Rattle.snap_picture.specs.declared.shape.Span.{Span}
+use Rattle.snap_picture.specs.declared.shape.Written.{Written}
 use Rattle.snap_acts.specs.Loans.{lender_at, source_at, step_at}
 use Rattle.snap_acts.specs.Searches.{first_meeting, last_before}
 use Rattle.snap_acts.specs.declared.wanted.Wanted.TheVariants as wanted

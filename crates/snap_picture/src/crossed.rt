@@ -1,20 +1,20 @@
 //! What a picture crosses out: the operation whose end is the first event up to which no order of
 //! the operations explains what the callers saw.
 ghost use Rattle.std.specs.Prelude.{◌≡◌, ◌++◌, IfOk, OnOk, option_map};
-ghost use Rattle.snap_judge_output.specs.JudgementText.{NamesEvent};
+ghost use Rattle.snap_history_text.specs.JudgementText.{NamesEvent};
 ghost use Rattle.snap_run_judge.specs.RunHistory.{history_of};
-ghost use Rattle.snap_svg.specs.ShapeText.{bar_span};
+ghost use Rattle.snap_picture.specs.ShapeText.{bar_span};
 ghost use Rattle.snap_picture.specs.Crossed.{crossed_at, crossed_bar, crossed_out, crossed_shape};
 ghost use Rattle.snap_picture.specs.Crossed.{wrong_at};
 
+use crate::shape::{Bar, Shape, Span};
 use snap_record::Record;
 use snap_run_judge::Judgement;
 use snap_semantics::Event;
-use snap_svg::{Bar, Shape, Span};
 use snap_words::Kind;
 use std::alloc::{AllocError, Global};
 
-/// The event at which a run fails by a judgement of it.
+/// Returns the event at which a run fails by a judgement of it.
 pub(crate) fn wrong_at<'a, K: Kind>(
     history: &'a Record<K>,
     judgement: &Judgement,
@@ -29,7 +29,7 @@ pub(crate) fn wrong_at<'a, K: Kind>(
     }
 }
 
-/// Where an operation lies.
+/// Returns where an operation lies.
 fn bar_span(bar: &Bar) -> Span
     ensures { result ≡ bar_span bar.now }
 {
@@ -40,7 +40,7 @@ fn bar_span(bar: &Bar) -> Span
     }
 }
 
-/// Adds an operation, where it ended with this event.
+/// Appends an operation, if it ended with this event.
 fn push_crossed_bar(crossed: &mut Vec<Shape>, event: &Event, bar: &Bar) -> Result<(), AllocError>
     ensures { OnOk result (crossed.new.items
         ≡ crossed.old.items ++ crossed_bar event.now.process event.now.item bar.now) }
@@ -51,7 +51,7 @@ fn push_crossed_bar(crossed: &mut Vec<Shape>, event: &Event, bar: &Bar) -> Resul
     Ok(())
 }
 
-/// Adds what is drawn, where it is an operation that ended with this event.
+/// Appends a shape, if it is an operation that ended with this event.
 fn push_crossed(crossed: &mut Vec<Shape>, event: &Event, shape: &Shape) -> Result<(), AllocError>
     ensures { OnOk result (crossed.new.items
         ≡ crossed.old.items ++ crossed_shape event.now.process event.now.item shape.now) }
@@ -62,7 +62,7 @@ fn push_crossed(crossed: &mut Vec<Shape>, event: &Event, shape: &Shape) -> Resul
     }
 }
 
-/// The operation that ended with this event, among what is drawn.
+/// Returns the operation that ended with this event, among what is drawn.
 fn crossed_out(alloc: Global, event: &Event, shapes: &[Shape]) -> Result<Vec<Shape>, AllocError>
     ensures { IfOk result (λ out. out.items
         ≡ crossed_out event.now.process event.now.item shapes.now) }
@@ -74,7 +74,7 @@ fn crossed_out(alloc: Global, event: &Event, shapes: &[Shape]) -> Result<Vec<Sha
     Ok(crossed)
 }
 
-/// The operation that ended with an event, where one is given.
+/// Returns the operation that ended with an event, if one is given.
 pub(crate) fn crossed_at(
     alloc: Global,
     wrong: Option<&Event>,

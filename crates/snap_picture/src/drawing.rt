@@ -12,18 +12,21 @@ ghost use Rattle.snap_picture.specs.Picture.{picture_by, picture_of, picture_tex
 ghost use Rattle.snap_picture.specs.declared.refusal.PictureRefusal.TheVariants as refusal;
 
 use crate::crossed::{crossed_at, wrong_at};
+use crate::frame::{Counts, push_foot, push_head, push_input};
 use crate::options::{Look, Options};
+use crate::print::push_shapes;
 use crate::refusal::PictureRefusal;
+use crate::shape::Shape;
 use crate::shapes;
 use crate::sought::{Sought, count};
+use crate::window::Window;
 use snap_acts::trace;
 use snap_asm_program::Program;
-use snap_draft::Draft;
 use snap_record::{Record, record_over};
 use snap_run_judge::judge_record;
 use snap_sched::Schedule;
 use snap_semantics::{Event, Fault};
-use snap_svg::{Counts, Shape, Window, push_foot, push_head, push_input, push_shapes};
+use snap_text::Draft;
 use snap_words::{Bits, Kind, KindTag, Multi, Seq};
 use std::alloc::{AllocError, Global};
 
@@ -39,7 +42,7 @@ fn given_or(other: u64, given: Option<u64>) -> u64
     }
 }
 
-/// The items from one to another, where a run has so many.
+/// Returns the items from one to another, if a run has so many.
 #[tactic(auto, using(crate::proofs::Parts::is_part))]
 fn window_between(
     total: u64,
@@ -58,7 +61,7 @@ fn window_between(
     if last - before > MOST_ITEMS {
         return Err(PictureRefusal::TooManyItems(last - before));
     }
-    // There is at least one process, and there are few.
+    // A shape has at least one process, and few.
     let _processes = shape.process_count();
     match Window::new(before, last, shape, reads) {
         Some(window) => Ok(window),
@@ -66,7 +69,7 @@ fn window_between(
     }
 }
 
-/// The items that are asked for.
+/// Returns the items that the options name.
 #[tactic(auto, unfolding(crate::specs::Picture::part_of))]
 fn window_for(
     total: u64,
@@ -85,7 +88,7 @@ fn window_for(
     )
 }
 
-/// What a title says of a run.
+/// Returns the counts that the title of a picture has.
 #[tactic(auto, unfolding(crate::specs::Picture::counts_of))]
 fn counts_of<K: Kind>(history: &Record<K>, shapes: &[Shape]) -> Counts
     ensures { result ≡ counts_of history.now shapes.now }
@@ -101,8 +104,8 @@ fn counts_of<K: Kind>(history: &Record<K>, shapes: &[Shape]) -> Counts
     }
 }
 
-/// The picture of a run of which these shapes are drawn, with the operation crossed out that ended
-/// with an event, where one is given.
+/// Returns the picture of a run of which `shapes` are drawn, with the operation crossed out that
+/// ended with the event `wrong`, if there is one.
 #[tactic(auto, unfolding(crate::specs::Picture::picture_by))]
 fn picture_by<K: Kind>(
     alloc: Global,
@@ -128,8 +131,8 @@ fn picture_by<K: Kind>(
     out.finish()
 }
 
-/// The picture of a program's run over a schedule. The run is judged for it, with at most so many
-/// configurations.
+/// Returns the picture of a program's run over a schedule. The run is judged for the picture, with
+/// at most `most` configurations.
 fn picture_text<K: Kind>(
     alloc: Global,
     program: &Program,
@@ -179,7 +182,7 @@ fn schedule_of<K: Kind>(
     }
 }
 
-/// The picture of a program of a kind under a schedule.
+/// Returns the picture of a program of a kind under a schedule.
 #[tactic(auto, unfolding(crate::specs::Picture::picture_of))]
 fn picture_of_kind<K: Kind>(
     alloc: Global,
@@ -210,10 +213,15 @@ fn picture_of_kind<K: Kind>(
     }
 }
 
-/// The picture of a program under a schedule, as SVG. The text of its listing, where one is given,
-/// and that of the schedule are in it. Where the run is judged not to be linearizable, the operation
-/// is crossed out whose end no order of the operations explains; the judgement meets at most as many
-/// configurations as the options say.
+/// Returns the picture of `program` under `schedule`, as SVG. The texts of its listing, if one is
+/// given, and of the schedule are in it. If the run is judged not to be linearizable, the operation
+/// is crossed out whose end no order of the operations explains; the judgement keeps at most as
+/// many configurations as the options say.
+///
+/// # Errors
+///
+/// `Refused` with the reason why `schedule` is refused or the items are not drawn; `Memory` where
+/// memory runs out.
 pub fn picture(
     alloc: Global,
     program: &Program,

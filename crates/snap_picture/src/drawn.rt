@@ -3,16 +3,16 @@
 ghost use Rattle.std.specs.Prelude.{◌≡◌, IfOk};
 ghost use Rattle.snap_picture.specs.Shapes.{first_period, shapes_by};
 
+use crate::shape::Shape;
 use crate::steps::{period_of, push_steps};
 use crate::verdicts::{push_verdicts, values_at};
 use snap_acts::Step;
 use snap_audit::audit;
 use snap_record::Record;
-use snap_svg::Shape;
 use snap_words::Kind;
 use std::alloc::{AllocError, Global};
 
-/// The values before the first write.
+/// Returns the values before the first write.
 #[tactic(auto, unfolding(crate::specs::Shapes::first_period))]
 fn first_period<K: Kind>(
     alloc: Global,
@@ -24,7 +24,11 @@ fn first_period<K: Kind>(
     Ok(period_of(steps, 0, 0, values_at(alloc, history, 0)?))
 }
 
-/// What is drawn of a run whose items did this: a later shape lies above.
+/// Returns the shapes of a run whose items did `steps`; a later shape lies above the others.
+///
+/// # Errors
+///
+/// `AllocError` where memory runs out.
 #[tactic(auto, unfolding(crate::specs::Shapes::shapes_by))]
 pub fn shapes<K: Kind>(
     alloc: Global,

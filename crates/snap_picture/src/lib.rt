@@ -1,18 +1,32 @@
-//! Pictures of listings under schedules, as SVG.
+//! Pictures of runs as SVG: what is drawn of a run, in items and lanes, in which what is not
+//! linearizable is crossed out.
 #![tactic(auto)]
 
+mod bars;
 mod crossed;
 mod drawing;
 mod drawn;
+mod elements;
+mod escape;
+mod frame;
 mod look;
 mod options;
+mod print;
 mod refusal;
+mod shape;
 mod sought;
+mod spots;
 mod steps;
 mod verdicts;
+mod window;
 
 pub use drawing::picture;
 pub use drawn::shapes;
+pub use escape::{push_escaped, what_is_escaped_begins_no_tag, what_is_escaped_comes_back};
+pub use frame::{Counts, push_foot, push_head, push_input};
 pub use look::{LEGEND, STYLE};
 pub use options::{Look, Options};
+pub use print::push_shapes;
 pub use refusal::PictureRefusal;
+pub use shape::{Bar, End, Loan, Period, Point, Read, Shape, Span, Spot, Write, Written};
+pub use window::Window;

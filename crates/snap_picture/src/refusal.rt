@@ -7,7 +7,7 @@ use thiserror::Error;
 pub enum PictureRefusal {
     #[error("{0}")]
     Input(Refusal),
-    /// There are no such items in a run of so many.
+    /// A run of this many items has no such items.
     #[error("D1 NoSuchItems {0}")]
     NoSuchItems(u64),
     /// More than 20,000 items: a picture takes fewer of them, by --from and --to.

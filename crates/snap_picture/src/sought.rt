@@ -3,15 +3,15 @@
 ghost use Rattle.std.specs.Prelude.{◌≡◌};
 ghost use Rattle.snap_picture.specs.Picture.{counted, counts_as, is_update};
 
+use crate::shape::Shape;
 use snap_semantics::Op;
-use snap_svg::Shape;
 
 /// What is counted among shapes.
 #[derive(Clone, Copy)]
 pub(crate) enum Sought {
     /// A scan that has been answered.
     Scan,
-    /// One of them that has no point.
+    /// A scan that has no point.
     NoPoint,
     Update,
 }
@@ -25,7 +25,7 @@ fn is_update(op: Op) -> bool
     }
 }
 
-/// Whether a shape is what is counted.
+/// Returns whether a shape is one that is counted.
 fn counts_as(sought: Sought, shape: &Shape) -> bool
     ensures { result ≡ counts_as sought shape.now }
 {
@@ -38,7 +38,7 @@ fn counts_as(sought: Sought, shape: &Shape) -> bool
     }
 }
 
-/// How many shapes are what is counted.
+/// Returns how many shapes are ones that are counted.
 pub(crate) fn count(sought: Sought, shapes: &[Shape]) -> u64
     ensures { result ≡ counted sought shapes.now }
 {

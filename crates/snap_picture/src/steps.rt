@@ -4,7 +4,7 @@ ghost use Rattle.std.specs.Prelude.{◌≡◌, ◌≤◌, ◌<◌, ◌+◌, ◌+
 ghost use Rattle.std.specs.Prelude.{IfOk, IfSome, OnOk, drop, length, option_map};
 ghost use Rattle.snap_acts.specs.Searches.{last_before};
 ghost use Rattle.snap_acts.specs.declared.wanted.Wanted.TheVariants as wanted;
-ghost use Rattle.snap_svg.specs.declared.shape.Shape.TheVariants as shape;
+ghost use Rattle.snap_picture.specs.declared.shape.Shape.TheVariants as shape;
 ghost use Rattle.snap_picture.specs.Shapes.{
   bar_of,
   embedded_of,
@@ -21,9 +21,9 @@ ghost use Rattle.snap_picture.specs.Shapes.{
   written_at,
 };
 
+use crate::shape::{Bar, End, Loan, Period, Read, Shape, Span, Spot, Write, Written};
 use snap_acts::{Act, ScanPlaces, Step, Wanted, first_from, last_before, lender_at, source_at};
 use snap_semantics::Op;
-use snap_svg::{Bar, End, Loan, Period, Read, Shape, Span, Spot, Write, Written};
 use snap_words::View;
 use std::alloc::{AllocError, Global};
 
@@ -37,7 +37,7 @@ fn spot_of(step: &Step) -> Spot
     }
 }
 
-/// The item of a step, and the last item where there is none.
+/// Returns the item of a step, and the last item if there is none.
 fn item_or(last: u64, step: Option<&Step>) -> u64
     ensures { result ≡ item_or last (option_map (λ s. s.now) step.entry) }
 {
@@ -47,7 +47,7 @@ fn item_or(last: u64, step: Option<&Step>) -> u64
     }
 }
 
-/// How an operation ended.
+/// Returns how an operation ended.
 fn end_by(alloc: Global, act: &Act) -> Result<End, AllocError>
     ensures { IfOk result (λ e. e ≡ end_by act.now) }
 {
@@ -69,7 +69,7 @@ fn end_of(alloc: Global, step: Option<&Step>) -> Result<End, AllocError>
     }
 }
 
-/// The operation that the step before a place called.
+/// Returns the operation that the step before a place called.
 fn bar_of(
     alloc: Global,
     steps: &[Step],
@@ -90,7 +90,7 @@ fn bar_of(
     })
 }
 
-/// The scan of an update that the step before a place began.
+/// Returns the scan of an update that the step before a place began.
 fn embedded_of(steps: &[Step], from: usize, step: &Step) -> Span
     ensures { result ≡ embedded_of (length steps.now) step.now (drop from steps.now) }
 {
@@ -102,7 +102,7 @@ fn embedded_of(steps: &[Step], from: usize, step: &Step) -> Span
     }
 }
 
-/// The values from an item on, up to the next write from a place on.
+/// Returns the values from an item on, up to the next write from a place on.
 pub(crate) fn period_of(steps: &[Step], from: usize, item: u64, values: View) -> Shape
     ensures { result ≡ period_of (length steps.now) item values (drop from steps.now) }
 {
@@ -114,7 +114,7 @@ pub(crate) fn period_of(steps: &[Step], from: usize, item: u64, values: View) ->
     })
 }
 
-/// Who wrote at a place, if it is one.
+/// Returns who wrote at a place, if there is one.
 fn written_at(steps: &[Step], place: Option<usize>) -> Option<Written>
     requires { IfSome place (λ k. k < length steps.now) }
     ensures { result ≡ written_at steps.now place }
@@ -126,7 +126,7 @@ fn written_at(steps: &[Step], place: Option<usize>) -> Option<Written>
     })
 }
 
-/// Adds an arrow from the lender's scan to the step that takes its view.
+/// Appends an arrow from the lender's scan to the step that takes its view.
 fn push_loan(
     shapes: &mut Vec<Shape>,
     steps: &[Step],
@@ -148,7 +148,7 @@ fn push_loan(
     Ok(())
 }
 
-/// Adds an arrow to the step at a place, where it takes the view of a scan.
+/// Appends an arrow to the step at a place, if it takes the view of a scan.
 fn push_loan_of(
     shapes: &mut Vec<Shape>,
     steps: &[Step],
@@ -162,7 +162,7 @@ fn push_loan_of(
     push_loan(shapes, steps, step, lender)
 }
 
-/// Adds the write of a word, behind the values that it leaves.
+/// Appends the write of a word, behind the values that it leaves.
 fn push_write(
     alloc: Global,
     shapes: &mut Vec<Shape>,
@@ -185,7 +185,7 @@ fn push_write(
     Ok(())
 }
 
-/// The read of a word by the step at a place.
+/// Returns the read of a word by the step at a place.
 fn read_of(steps: &[Step], k: usize, step: &Step, word: u64) -> Shape
     requires { k ≤ length steps.now }
     ensures { result ≡ shape.Read (record {
@@ -202,7 +202,7 @@ fn read_of(steps: &[Step], k: usize, step: &Step, word: u64) -> Shape
     })
 }
 
-/// Adds a shape.
+/// Appends a shape.
 fn push(shapes: &mut Vec<Shape>, shape: Shape) -> Result<(), AllocError>
     ensures { OnOk result (shapes.new.items ≡ shapes.old.items ++ shape ∷ []) }
 {
@@ -210,7 +210,7 @@ fn push(shapes: &mut Vec<Shape>, shape: Shape) -> Result<(), AllocError>
     Ok(())
 }
 
-/// Adds the operation that the step before a place called.
+/// Appends the operation that the step before a place called.
 fn push_bar(
     alloc: Global,
     shapes: &mut Vec<Shape>,
@@ -226,7 +226,7 @@ fn push_bar(
     push(shapes, Shape::Operation(bar))
 }
 
-/// Adds what is drawn of a step, which is at this place.
+/// Appends what is drawn of a step, which is at this place.
 fn push_shapes_of(
     alloc: Global,
     shapes: &mut Vec<Shape>,
@@ -254,7 +254,7 @@ fn push_shapes_of(
     }
 }
 
-/// Adds what is drawn of the step at a place.
+/// Appends what is drawn of the step at a place.
 #[tactic(auto, unfolding(crate::specs::Shapes::shapes_at))]
 fn push_shapes_at(
     alloc: Global,
@@ -268,7 +268,7 @@ fn push_shapes_at(
     push_shapes_of(alloc, shapes, steps, k, &steps[k])
 }
 
-/// Adds what is drawn of all steps.
+/// Appends what is drawn of all steps.
 pub(crate) fn push_steps(
     alloc: Global,
     shapes: &mut Vec<Shape>,

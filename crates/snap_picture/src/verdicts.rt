@@ -4,9 +4,9 @@ ghost use Rattle.std.specs.Prelude.{◌≡◌, ◌++◌, IfOk, OnOk};
 ghost use Rattle.snap_record.specs.Record.{values_after};
 ghost use Rattle.snap_picture.specs.Shapes.{scan_of, values_or_none, verdict_shape, verdict_shapes};
 
+use crate::shape::{Point, Shape, Span};
 use snap_audit::Verdict;
 use snap_record::Record;
-use snap_svg::{Point, Shape, Span};
 use snap_words::{Kind, View};
 use std::alloc::{AllocError, Global};
 
@@ -20,7 +20,7 @@ fn scan_of(verdict: &Verdict) -> Span
     }
 }
 
-/// The values after an item, where they are there.
+/// Returns the values after an item, if it is in the run.
 pub(crate) fn values_at<K: Kind>(
     alloc: Global,
     history: &Record<K>,
@@ -34,7 +34,7 @@ pub(crate) fn values_at<K: Kind>(
     }
 }
 
-/// A point with the state that it stands for, or that there is none.
+/// Returns a point with the state that it stands for, or that there is none.
 #[tactic(auto, unfolding(crate::specs::Shapes::verdict_shape))]
 fn verdict_shape<K: Kind>(
     alloc: Global,
@@ -54,7 +54,7 @@ fn verdict_shape<K: Kind>(
     }
 }
 
-/// Adds what is drawn of verdicts.
+/// Appends what is drawn of verdicts.
 pub(crate) fn push_verdicts<K: Kind>(
     alloc: Global,
     shapes: &mut Vec<Shape>,

@@ -8,7 +8,7 @@ use Rattle.snap_run_judge.specs.Judged.{AnswersJudged}
 use Rattle.snap_output.specs.Output.{AreJudged, output_of}
 use Rattle.snap_tasks.specs.declared.task.Task.{Task}
 use Rattle.snap_faults.specs.Faults.{of_input_fault}
-use Rattle.snap_devices.proofs.Runs.{Why}
+use Rattle.snap_program.proofs.Runs.{Why}
 use Rattle.snap_program.specs.TaskRun.{RefusesTask}
 
 -- a task is refused as its output says

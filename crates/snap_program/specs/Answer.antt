@@ -3,9 +3,9 @@
 use Rattle.std.specs.Prelude.{◌≡◌, ℕ, Vec, Bool, true, List, [], ◌++◌, Option, Some, None, Result, Ok, Err}
 use Rattle.std.specs.Prelude.{if◌then◌else◌, codes, string_bytes, ◌⊎◌}
 use Rattle.std.specs.Global.{Global}
-use Rattle.snap_command_line.specs.declared.command_line.Invocation.{Invocation}
-use Rattle.snap_command_line.specs.declared.command_line.CommandLine.{CommandLine}
-use Rattle.snap_command_line.specs.declared.command_line.CommandLine.TheVariants.{Asks, Help, Wrong, NoText}
+use Rattle.snap_program.specs.declared.command_line.Invocation.{Invocation}
+use Rattle.snap_program.specs.declared.command_line.CommandLine.{CommandLine}
+use Rattle.snap_program.specs.declared.command_line.CommandLine.TheVariants.{Asks, Help, Wrong, NoText}
 use Rattle.snap_tasks.specs.declared.request.Request.{Request}
 use Rattle.snap_tasks.specs.declared.request.Request.TheVariants as request
 use Rattle.snap_tasks.specs.declared.task.Task.{Task}
@@ -14,7 +14,7 @@ use Rattle.snap_tasks.specs.declared.subject.Subject.{Subject}
 use Rattle.snap_tasks.specs.declared.judge_request.JudgeRequest.{JudgeRequest}
 use Rattle.snap_run_judge.specs.declared.linearizability.Linearizability.{Linearizability}
 use Rattle.snap_run_judge.specs.declared.linearizability.Linearizability.TheVariants as word
-use Rattle.snap_devices.specs.WholeRun.{ConductsJudge, ConductsKeeping, ConductsLiveKeeping, ConductsModel}
+use Rattle.snap_program.specs.WholeRun.{ConductsJudge, ConductsKeeping, ConductsLiveKeeping, ConductsModel}
 use Rattle.snap_faults.specs.Names.{Names, of_program}
 use Rattle.snap_faults.specs.Told.{Helps, SaysWhy, TellsMore, exit_status, no_memory_line, no_text_line, success}
 use Rattle.snap_faults.specs.declared.fault.ProgramFault.{ProgramFault}
@@ -25,7 +25,7 @@ use Rattle.snap_program.specs.TaskRun.{ConductsSurvey, IsOutputOf, RefusesTask}
 use Rattle.snap_explanation.specs.Explanation.{explanation}
 use Rattle.snap_explanation.specs.HistoryExplanation.{history_explanation}
 use Rattle.snap_explanation.specs.LiveExplanation.{turn_limit_explanation}
-use Rattle.snap_live_desk.specs.declared.refusal.LiveRefusal.TheVariants.{TurnLimit}
+use Rattle.snap_semantics.specs.declared.refusal.LiveRefusal.TheVariants.{TurnLimit}
 use Rattle.snap_explanation.specs.Part.{layout_of}
 
 -- the status of a strict survey where all of its output was written: 4 where a run is not clean
@@ -69,7 +69,7 @@ SaysUncalled asked input (Err fault) errors errors_after =
 abbrev pub terminal_line : List ℕ
 terminal_line = codes "reading from the terminal; end with Ctrl-D\n"
 
--- It is said where an input is asked for, and nothing else.
+-- What is said if the request is for an input, and nothing otherwise.
 abbrev pub SaysTerminal : {E : Type 0} → Result CommandLine E → (errors errors_after : SinkState) → Type 0
 SaysTerminal (Ok (Asks asked)) errors errors_after = Says terminal_line errors errors_after
 SaysTerminal _ errors errors_after = errors ≡ errors_after

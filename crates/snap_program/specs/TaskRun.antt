@@ -1,7 +1,7 @@
 -- A whole run of a task, from a byte source to a byte sink: its output, and why there is none.
 use Rattle.std.specs.Prelude.{◌≡◌, ℕ, Bool, List, Result, Ok, Err, IfOk}
 use Rattle.snap_streams.specs.State.{SourceState, SinkState}
-use Rattle.snap_devices.specs.WholeRun.{ConductsBy, ConductsKeeping, done_of}
+use Rattle.snap_program.specs.WholeRun.{ConductsBy, ConductsKeeping, done_of}
 use Rattle.snap_faults.specs.declared.fault.ProgramFault.{ProgramFault}
 use Rattle.snap_faults.specs.declared.fault.ProgramFault.TheVariants as fault
 use Rattle.snap_judge.specs.declared.judgements.Judgement.{Judgement}

@@ -1,7 +1,7 @@
-//! `answer`: what snaplab does about its command line, over any source, sink and device for
-//! messages, and the status of it.
+//! `answer`: what snaplab does for its command line, over any source, sink and device for messages,
+//! and its status.
 ghost use Rattle.std.specs.Prelude.{◌≡◌, false, IfOk};
-ghost use Rattle.snap_command_line.specs.Limits.{HasLimits};
+ghost use Rattle.snap_program.specs.Limits.{HasLimits};
 ghost use Rattle.snap_faults.specs.FaultText.{fault_line};
 ghost use Rattle.snap_faults.specs.Faults.{fault_status};
 ghost use Rattle.snap_faults.specs.Names.{view_names};
@@ -13,17 +13,19 @@ ghost use Rattle.snap_program.specs.Answer.{AnswersModelled, AnswersRequest, Ans
 ghost use Rattle.snap_program.specs.Answer.{AnswersTask, SaysTerminal, explained, snaplab};
 ghost use Rattle.snap_program.specs.Answer.{strict_subject, word_status};
 
+use crate::command_line::{CommandLine, Invocation};
+use crate::judge_run::conduct_judge;
+use crate::live_run::conduct_live_keeping;
+use crate::model_run::conduct_model;
 use crate::whole_run::{conduct_keeping, conduct_survey};
-use snap_command_line::{CommandLine, Invocation};
-use snap_devices::{
-    ByteSink, ByteSource, Linearizability, conduct_judge, conduct_live_keeping, conduct_model,
-};
 use snap_explanation::{explanation, history_explanation, layout_of, turn_limit_explanation};
 use snap_faults::{
     Names, ProgramFault, complain, fault_status, help, say_no_memory, say_no_text, tell,
 };
-use snap_live::{LiveRefusal, NoGate};
-use snap_streams::say;
+use snap_judge_task::Linearizability;
+use snap_live::NoGate;
+use snap_semantics::LiveRefusal;
+use snap_streams::{ByteSink, ByteSource, say};
 use snap_tasks::{JudgeRequest, Request, Subject, Task};
 use std::alloc::{AllocError, Global};
 use std::sync::Wait;
@@ -41,25 +43,25 @@ const UNDECIDED: u8 = 5;
 /// What is said where the input is read from a terminal.
 const TERMINAL: &[u8] = b"reading from the terminal; end with Ctrl-D\n";
 
-/// What the program is called; its command line names no files.
+/// Returns what the program is called; its command line names no files.
 fn names() -> Names<'static>
     ensures { view_names result ≡ snaplab }
 {
     Names::of_program("snaplab")
 }
 
-/// Returns the line that snaplab says for a fault.
+/// Returns the line that snaplab says for `fault`.
 ///
 /// # Errors
 ///
-/// There is no memory for it.
+/// `AllocError` where memory runs out.
 pub fn fault_line(alloc: Global, fault: &ProgramFault) -> Result<Vec<u8>, AllocError>
     ensures { IfOk result (λ line. line.items ≡ fault_line snaplab fault.now) }
 {
     snap_faults::fault_line(alloc, &names(), fault)
 }
 
-/// What is said behind the line of a fault, where refusals are explained.
+/// Returns the text behind the line of a fault, if refusals are explained.
 fn explained(
     alloc: Global,
     asked: &Invocation,
@@ -82,8 +84,8 @@ fn explained(
     }
 }
 
-/// Says why nothing, or not all, was written, and explains it where that is asked for and there is
-/// memory for it. Returns the status for it.
+/// Says why nothing, or not all, was written, explains it if that is wanted and there is memory for
+/// it, and returns the status.
 fn explain<E: ByteSink>(
     alloc: Global,
     asked: &Invocation,
@@ -105,7 +107,7 @@ fn explain<E: ByteSink>(
     }
 }
 
-/// Does a task, says why where it is not done, and answers the status of it.
+/// Does a task, says why if it is not done, and returns the status.
 fn do_task<R: ByteSource, W: ByteSink, E: ByteSink>(
     rt: &(impl Threads + Sync),
     alloc: Global,
@@ -130,8 +132,8 @@ fn do_task<R: ByteSource, W: ByteSink, E: ByteSink>(
     }
 }
 
-/// Plays live, says why where that is not done, and which operations call nothing where it is, and
-/// answers the status of it.
+/// Plays live, says why if that is not done, and which operations call nothing if it is, and
+/// returns the status.
 fn play_live<R: ByteSource, W: ByteSink, E: ByteSink>(
     rt: &(impl Threads + Wait + Sync),
     alloc: Global,
@@ -161,7 +163,7 @@ fn play_live<R: ByteSource, W: ByteSink, E: ByteSink>(
     }
 }
 
-/// The status for what was judged.
+/// Returns the status for what was judged.
 fn word_status(word: Linearizability) -> u8
     ensures { result ≡ word_status word }
 {
@@ -172,8 +174,8 @@ fn word_status(word: Linearizability) -> u8
     }
 }
 
-/// Judges, says why where it is not done, and answers the status of it, which tells whether what
-/// was judged is linearizable.
+/// Judges, says why if it is not done, and returns the status, which tells whether what was judged
+/// is linearizable.
 fn judge_asked<R: ByteSource, W: ByteSink, E: ByteSink>(
     alloc: Global,
     asked: &Invocation,
@@ -197,7 +199,7 @@ fn judge_asked<R: ByteSource, W: ByteSink, E: ByteSink>(
     }
 }
 
-/// Writes a model, says why where that is not done, and answers the status of it.
+/// Writes a model, says why if that is not done, and returns the status.
 fn write_model<R: ByteSource, W: ByteSink, E: ByteSink>(
     alloc: Global,
     asked: &Invocation,
@@ -222,7 +224,7 @@ fn write_model<R: ByteSource, W: ByteSink, E: ByteSink>(
     }
 }
 
-/// Does what is asked for, and answers the status of it.
+/// Does what the request is for, and returns the status.
 fn do_asked<R: ByteSource, W: ByteSink, E: ByteSink>(
     rt: &(impl Threads + Wait + Sync),
     alloc: Global,
@@ -252,7 +254,7 @@ fn do_asked<R: ByteSource, W: ByteSink, E: ByteSink>(
     }
 }
 
-/// The listing of a strict survey, where one is asked for.
+/// Returns the listing of a strict survey, if the request is for one.
 fn strict_subject(asked: &Invocation) -> Option<Subject>
     ensures { result ≡ strict_subject asked.now.strict asked.now.request }
 {
@@ -262,8 +264,8 @@ fn strict_subject(asked: &Invocation) -> Option<Subject>
     }
 }
 
-/// Surveys, says why where it is not done, and answers the status of it, which tells whether all
-/// runs are clean.
+/// Surveys, says why if it is not done, and returns the status, which tells whether all runs are
+/// clean.
 fn survey_strictly<R: ByteSource, W: ByteSink, E: ByteSink>(
     rt: &(impl Threads + Sync),
     alloc: Global,
@@ -289,7 +291,7 @@ fn survey_strictly<R: ByteSource, W: ByteSink, E: ByteSink>(
     }
 }
 
-/// Says that the input is read from a terminal, where one is asked for.
+/// Says that the input is read from a terminal, if the command line has a request for one.
 pub fn say_terminal<E: ByteSink>(line: &Result<CommandLine, AllocError>, errors: &mut E)
     requires { (E.state errors.old).failed ≡ false }
     ensures { SaysTerminal line.now (E.state errors.old) (E.state errors.new) }
@@ -300,8 +302,8 @@ pub fn say_terminal<E: ByteSink>(line: &Result<CommandLine, AllocError>, errors:
     }
 }
 
-/// Does what a command line asks for, and answers the status of it. `rt` is the leave to start
-/// threads and to wait for them.
+/// Does what a command line is for, and returns the status. `rt` is the leave to start threads and
+/// to wait for them.
 pub fn answer<R: ByteSource, W: ByteSink, E: ByteSink>(
     rt: &(impl Threads + Wait + Sync),
     alloc: Global,

@@ -1,21 +1,34 @@
-//! A whole run of the program: from a byte source to a byte sink, and what the program does about
-//! its command line.
+//! A whole run of the program, between a source and a sink: its command line, its devices, and
+//! whole live runs, judgements and models.
 #![tactic(auto)]
 
 mod answers;
+mod arguments;
+mod command_line;
+mod judge_run;
+mod live_run;
+mod model_run;
+mod output;
+mod texts;
 mod whole_run;
+mod whole_texts;
 
 pub use answers::{answer, fault_line, say_terminal};
-pub use snap_devices::{
-    ByteSink, ByteSink as Sink, ByteSource, ByteSource as Source, Failed, Linearizability, Std,
-    conduct_judge, conduct_live, conduct_live_keeping, conduct_model,
-};
+pub use command_line::{CommandLine, Invocation, read_arguments};
+pub use judge_run::conduct_judge;
+pub use live_run::{conduct_live, conduct_live_keeping};
+pub use model_run::conduct_model;
+pub use output::model_output;
 pub use snap_faults::{ProgramFault, ProgramFault as Fault, fault_status, write_all};
 pub use snap_input::{shipped, split_parts};
+pub use snap_judge_task::Linearizability;
 pub use snap_live::{Gate, NoGate};
 pub use snap_output::perform;
+pub use snap_promela::ModelRefusal;
 pub use snap_semantics::Refusal;
+pub use snap_streams::{ByteSink, ByteSink as Sink, ByteSource, ByteSource as Source, Failed, Std};
 pub use snap_tasks::{
     JudgeRequest, JudgeSource, Options, Request, Subject, Task, kind_of, request_of,
 };
 pub use whole_run::{conduct, conduct_keeping, conduct_survey};
+pub use whole_texts::read_all;

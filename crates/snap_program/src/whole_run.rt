@@ -4,22 +4,23 @@ ghost use Rattle.std.specs.Prelude.{◌≡◌, [], Err, false};
 ghost use Rattle.snap_semantics.specs.Answers.{Answers};
 ghost use Rattle.snap_semantics.specs.declared.fault.Fault.TheVariants.{Refused};
 ghost use Rattle.snap_semantics.specs.declared.refusal.Refusal.{Refusal};
-ghost use Rattle.snap_devices.specs.WholeRun.{ConductsKeeping};
+ghost use Rattle.snap_program.specs.WholeRun.{ConductsKeeping};
 ghost use Rattle.snap_run_judge.specs.Judged.{AnswersJudged};
 ghost use Rattle.snap_output.specs.Output.{AreJudged, output_of};
 ghost use Rattle.snap_program.specs.TaskRun.{Conducts, ConductsSurvey, IsOutputOf, RefusesTask};
 ghost use Rattle.snap_tasks.specs.declared.task.Task.TheVariants.{Run};
 
-use snap_devices::{ByteSink, ByteSource, read_all};
+use crate::whole_texts::read_all;
 use snap_faults::{ProgramFault, write_all};
 use snap_output::{output, planned_run, run_planned, survey_output};
 use snap_semantics::{Fault, Refusal};
+use snap_streams::{ByteSink, ByteSource};
 use snap_tasks::{Subject, Task};
 use std::alloc::Global;
 use std::thread::Threads;
 
-/// What is written for the input that is kept, if it is run. Once its program and its schedule are
-/// read, it is let go of.
+/// Returns the output for the input that is kept, if it is run. The input is freed once its program
+/// and its schedule are read.
 fn run_kept(alloc: Global, subject: Subject, kept: &mut Vec<u8>) -> Result<Vec<u8>, Fault<Refusal>>
     ensures output { Answers (λ out. out.items) result
         (output_of [] (Run subject) kept.old.items) }
@@ -31,7 +32,7 @@ fn run_kept(alloc: Global, subject: Subject, kept: &mut Vec<u8>) -> Result<Vec<u
     Ok(run_planned(alloc, run)?)
 }
 
-/// The whole output for the input that is kept. Where it is refused, it is still kept.
+/// Returns the whole output for the input that is kept. If the input is refused, it is still kept.
 fn kept_output(
     rt: &(impl Threads + Sync),
     alloc: Global,
@@ -48,7 +49,11 @@ fn kept_output(
     }
 }
 
-/// Reads the input, and then writes its whole output and nothing else.
+/// Reads the input from `source`, and then writes its whole output to `sink` and nothing else.
+///
+/// # Errors
+///
+/// The reason why the input is refused, a fault of a device, or `Memory` where memory runs out.
 pub fn conduct<R: ByteSource, W: ByteSink>(
     rt: &(impl Threads + Sync),
     alloc: Global,
@@ -66,7 +71,11 @@ pub fn conduct<R: ByteSource, W: ByteSink>(
     conduct_keeping(rt, alloc, task, source, sink, &mut kept)
 }
 
-/// Does the same, and keeps the input: where it is refused, it was kept.
+/// Does what `conduct` does, and keeps the input in `kept`, even if it is refused.
+///
+/// # Errors
+///
+/// The reason why the input is refused, a fault of a device, or `Memory` where memory runs out.
 pub fn conduct_keeping<R: ByteSource, W: ByteSink>(
     rt: &(impl Threads + Sync),
     alloc: Global,
@@ -87,8 +96,12 @@ pub fn conduct_keeping<R: ByteSource, W: ByteSink>(
     write_all(sink, text.as_slice())
 }
 
-/// Reads the input, writes its survey and nothing else, and answers whether all of its runs are
-/// clean. The input is kept: where it is refused, it was kept.
+/// Reads the input from `source`, writes its survey to `sink` and nothing else, and returns whether
+/// all of its runs are clean. The input is kept in `kept`, even if it is refused.
+///
+/// # Errors
+///
+/// The reason why the input is refused, a fault of a device, or `Memory` where memory runs out.
 pub fn conduct_survey<R: ByteSource, W: ByteSink>(
     rt: &(impl Threads + Sync),
     alloc: Global,

@@ -6,8 +6,8 @@ use Rattle.snap_words.specs.Shape.{Counts}
 use Rattle.snap_semantics.specs.declared.fault.Fault.{Fault}
 use Rattle.snap_semantics.specs.declared.fault.Fault.TheVariants.{Memory, Refused}
 use Rattle.snap_sched.specs.ScriptText.{Script, Scripts}
-use Rattle.snap_promela.specs.declared.refusal.ModelRefusal.{ModelRefusal}
-use Rattle.snap_promela.specs.declared.refusal.ModelRefusal.TheVariants.{TooLarge, BadNumber}
+use Rattle.snap_semantics.specs.declared.refusal.ModelRefusal.{ModelRefusal}
+use Rattle.snap_semantics.specs.declared.refusal.ModelRefusal.TheVariants.{TooLarge, BadNumber}
 
 -- a script of at most 32 operations
 abbrev pub is_short : Script → Bool
@@ -17,7 +17,7 @@ is_short s = nat_le (length s.operations) 32
 abbrev pub has_room : Counts → Bool
 has_room c = nat_le c.n 8 && nat_le c.w 8
 
--- so many, with short scripts
+-- few enough processes and words, with short scripts
 abbrev pub is_small : Scripts → Bool
 is_small s = has_room s.shape && list_all is_short s.scripts
 

@@ -4,12 +4,12 @@ use crate::writer::{Here, Writer};
 use snap_semantics::{Instr, Name};
 
 impl<'a> Writer<'a> {
-    /// The turn at which a process crashes by its script, where it does.
+    /// Returns the turn at which a process crashes by its script, if it does.
     fn crash_turn(&self, me: u64) -> Option<u64> {
         self.script_of(me)?.crash()
     }
 
-    /// The front of a way out of a line, which is open where nothing stops the process.
+    /// Appends the front of a way out of a line, which is open if nothing stops the process.
     pub(crate) fn option(&mut self, here: &Here) {
         self.say(b"  :: d_step { GO");
         if let Some(turn) = self.crash_turn(here.me) {
@@ -17,22 +17,22 @@ impl<'a> Writer<'a> {
         }
     }
 
-    /// A turn is counted, where the script of the process has a crash.
+    /// Counts a turn, if the script of the process has a crash.
     pub(crate) fn counts(&mut self, here: &Here) {
         if self.crash_turn(here.me).is_some() {
             self.say(b"turn++; ");
         }
     }
 
-    /// What stands behind the conditions of a way out: the step is noted.
+    /// Appends what stands behind the conditions of a way out, and notes the step.
     pub(crate) fn steps(&mut self, here: &Here) {
         let me = here.me;
         self.fill(b" -> STEP($) ", &[me]);
         self.counts(here);
     }
 
-    /// A way out that crashes the process at the turn of its script, where fewer than so many
-    /// operations were called.
+    /// Appends a way out that crashes the process at the turn of its script, as long as fewer than
+    /// `count` operations were called.
     pub(crate) fn scripted_crash(&mut self, here: &Here, count: u64) {
         let me = here.me;
         let line = here.line;
@@ -44,7 +44,7 @@ impl<'a> Writer<'a> {
         }
     }
 
-    /// The label of a line, and the ways out that stop the process before it.
+    /// Appends the label of a line, and the ways out that stop the process before it.
     pub(crate) fn label(&mut self, here: &Here) {
         let me = here.me;
         let line = here.line;
@@ -53,7 +53,7 @@ impl<'a> Writer<'a> {
         self.scripted_crash(here, 255);
     }
 
-    /// The front of a line with one way out.
+    /// Appends the front of a line with one way out.
     pub(crate) fn begin(&mut self, here: &Here) {
         self.label(here);
         self.option(here);
@@ -61,7 +61,7 @@ impl<'a> Writer<'a> {
         self.say(b"\n");
     }
 
-    /// What stands before the effect of a line, behind its other faults.
+    /// Appends what stands before the effect of a line, behind its other faults.
     pub(crate) fn effect(&mut self, here: &Here, next: Option<u64>) {
         if next.is_none() {
             self.fault(here, b"1", b"OffEnd");
@@ -69,7 +69,7 @@ impl<'a> Writer<'a> {
         self.say(b"    if :: trap == 0 -> ");
     }
 
-    /// What stands behind the effect of a line with one way out.
+    /// Appends what stands behind the effect of a line with one way out.
     pub(crate) fn end(&mut self, next: Option<u64>) {
         self.say(b"skip :: else -> skip fi }\n    TRAPPED; goto ");
         match next {
@@ -78,7 +78,7 @@ impl<'a> Writer<'a> {
         }
     }
 
-    /// The end of a way out that traps.
+    /// Appends the end of a way out that traps.
     pub(crate) fn traps(&mut self, here: &Here, cause: &[u8]) {
         let me = here.me;
         let line = here.line;
@@ -89,7 +89,7 @@ impl<'a> Writer<'a> {
         self.fill(b", $) }; goto Stop\n", &[line]);
     }
 
-    /// The end of a way out that goes on at a line, or traps where there is none.
+    /// Appends the end of a way out that goes on at line `next`, or traps if there is none.
     pub(crate) fn leads(&mut self, here: &Here, next: Option<u64>) {
         let me = here.me;
         let line = here.line;
@@ -99,14 +99,14 @@ impl<'a> Writer<'a> {
         }
     }
 
-    /// `goto N`.
+    /// Appends `goto N`.
     pub(crate) fn goto_line(&mut self, here: &Here, target: u64) {
         self.begin(here);
         self.effect(here, Some(target));
         self.end(Some(target));
     }
 
-    /// `call N`.
+    /// Appends `call N`.
     pub(crate) fn call_line(&mut self, here: &Here, target: u64) {
         let next = self.listing.following(here.line);
         self.begin(here);
@@ -121,7 +121,7 @@ impl<'a> Writer<'a> {
         });
     }
 
-    /// The way out of a `return` that leads back to a link, where there is a line for it.
+    /// Appends the way out of a `return` that leads back to `link`, if there is one.
     fn back(&mut self, here: &Here, link: Option<u64>) {
         if let Some(link) = link {
             self.option(here);
@@ -131,7 +131,7 @@ impl<'a> Writer<'a> {
         }
     }
 
-    /// The ways out of a `return` with a link.
+    /// Appends the ways out of a `return` with a link.
     fn links(&mut self, here: &Here) {
         let listing = self.listing;
         for line in listing.lines() {
@@ -141,7 +141,7 @@ impl<'a> Writer<'a> {
         }
     }
 
-    /// The way out of a `return` that answers a scan.
+    /// Appends the way out of a `return` that answers a scan.
     fn answers(&mut self, here: &Here, view: &Name) {
         let me = here.me;
         self.option(here);
@@ -162,7 +162,7 @@ impl<'a> Writer<'a> {
         self.say(b" }; goto Idle\n");
     }
 
-    /// `return S`.
+    /// Appends `return S`.
     pub(crate) fn return_line(&mut self, here: &Here, view: &Name) {
         self.label(here);
         self.links(here);
@@ -175,7 +175,7 @@ impl<'a> Writer<'a> {
         self.say(b"  fi;\n");
     }
 
-    /// `finish`.
+    /// Appends `finish`.
     pub(crate) fn finish_line(&mut self, here: &Here) {
         let me = here.me;
         self.label(here);

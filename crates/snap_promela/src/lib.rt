@@ -1,5 +1,5 @@
 //! Promela models of a listing and scripts, for the model checker Spin: `model_text` writes one.
-//! The translation is not proved: it is tried by simulations, which are compared with runs.
+//! The translation is not proved; simulations of models are compared with runs.
 #![tactic(auto)]
 
 mod ends;
@@ -9,10 +9,9 @@ mod monitor;
 mod processes;
 mod puts;
 mod quantifiers;
-mod refusal;
 mod report;
 mod terms;
 mod writer;
 
 pub use model::model_text;
-pub use refusal::ModelRefusal;
+pub use snap_semantics::ModelRefusal;

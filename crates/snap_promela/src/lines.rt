@@ -3,7 +3,7 @@ use crate::writer::{Here, Writer};
 use snap_semantics::{Expr, Index, Instr, Line, Name};
 
 impl<'a> Writer<'a> {
-    /// `let X = E`.
+    /// Appends `let X = E`.
     fn let_line(&mut self, here: &Here, scalar: &Name, value: &Expr) {
         let next = self.listing.following(here.line);
         self.begin(here);
@@ -16,7 +16,7 @@ impl<'a> Writer<'a> {
         self.end(next);
     }
 
-    /// `let R[I] = E`.
+    /// Appends `let R[I] = E`.
     fn let_place_line(&mut self, here: &Here, row: &Name, index: &Index, value: &Expr) {
         let next = self.listing.following(here.line);
         let places = self.places();
@@ -32,7 +32,7 @@ impl<'a> Writer<'a> {
         self.end(next);
     }
 
-    /// `view S = data(W)`.
+    /// Appends `view S = data(W)`.
     fn view_data_line(&mut self, here: &Here, view: &Name, words: &Name) {
         let next = self.listing.following(here.line);
         self.begin(here);
@@ -46,7 +46,7 @@ impl<'a> Writer<'a> {
         self.end(next);
     }
 
-    /// `view S = view(W[I])`.
+    /// Appends `view S = view(W[I])`.
     fn view_of_line(&mut self, here: &Here, view: &Name, words: &Name, index: &Index) {
         let next = self.listing.following(here.line);
         let places = self.places();
@@ -62,7 +62,7 @@ impl<'a> Writer<'a> {
         self.end(next);
     }
 
-    /// A line that neither tests nor leads elsewhere, or another one.
+    /// Appends a line that neither tests nor leads elsewhere, or another one.
     fn plain_line(&mut self, here: &Here, instr: &Instr) {
         match instr {
             Instr::Let(scalar, value) => self.let_line(here, scalar, value),
@@ -79,7 +79,7 @@ impl<'a> Writer<'a> {
         }
     }
 
-    /// A line that goes over all places, tests or leads elsewhere.
+    /// Appends a line that goes over all places, tests or leads elsewhere.
     fn control_line(&mut self, here: &Here, instr: &Instr) {
         match instr {
             Instr::Each(range, row, value, condition) => {
@@ -101,7 +101,7 @@ impl<'a> Writer<'a> {
         }
     }
 
-    /// A line, for a process.
+    /// Appends a line, for a process.
     fn line(&mut self, me: u64, line: &Line) {
         let here = Here {
             me,
@@ -112,7 +112,7 @@ impl<'a> Writer<'a> {
         self.plain_line(&here, &line.instr);
     }
 
-    /// All lines, for a process.
+    /// Appends all lines, for a process.
     pub(crate) fn lines(&mut self, me: u64) {
         let listing = self.listing;
         for line in listing.lines() {

@@ -3,11 +3,10 @@ ghost use Rattle.std.specs.Prelude.{◌≡◌};
 ghost use Rattle.std.specs.List.{list_all};
 ghost use Rattle.snap_promela.specs.Model.{AnswersModel, has_room, is_short, is_small};
 
-use crate::refusal::ModelRefusal;
 use crate::writer::{Writer, is_beyond};
 use snap_listing_core::Listing;
 use snap_sched::{Script, Scripts};
-use snap_semantics::Fault;
+use snap_semantics::{Fault, ModelRefusal};
 use snap_words::{KindTag, Shape};
 use std::alloc::{AllocError, Global};
 
@@ -17,7 +16,7 @@ const MOST_COUNT: u64 = 8;
 /// The most operations of a process.
 const MOST_OPERATIONS: usize = 32;
 
-/// How many processes may crash at any time.
+/// The declaration of how many processes may crash at any time.
 const CRASHES: &[u8] = b"#define CRASHES_MOST $ /* so many processes may crash at any time */\n";
 
 /// What stands before the registers: what a line and a step are, in a search and in a simulation.
@@ -70,28 +69,28 @@ int turns; byte ended;\n\
 #define HASPOINT(i, x) assert(x);\n\
 #endif\n";
 
-/// Whether a script is short enough.
+/// Returns whether a script is short enough.
 fn is_short(script: &Script) -> bool
     ensures { result ≡ is_short script.now }
 {
     script.operations().len() <= MOST_OPERATIONS
 }
 
-/// Whether a model has room for a shape.
+/// Returns whether a model has room for a shape.
 fn has_room(shape: Shape) -> bool
     ensures { result ≡ has_room shape }
 {
     shape.n() <= MOST_COUNT && shape.w() <= MOST_COUNT
 }
 
-/// Whether all of these scripts are short enough.
+/// Returns whether all of `scripts` are short enough.
 fn are_short(scripts: &[Script]) -> bool
     ensures { result ≡ list_all is_short scripts.now }
 {
     scripts.iter().all(|script| is_short(script))
 }
 
-/// Whether a model is written of scripts.
+/// Returns whether scripts are small enough for a model.
 fn is_small(scripts: &Scripts) -> bool
     ensures { result ≡ is_small scripts.now }
 {
@@ -99,7 +98,7 @@ fn is_small(scripts: &Scripts) -> bool
 }
 
 impl<'a> Writer<'a> {
-    /// The registers.
+    /// Appends the registers.
     fn registers(&mut self) {
         let n = self.n;
         let w = self.w;
@@ -119,13 +118,13 @@ impl<'a> Writer<'a> {
     }
 }
 
-/// Returns the model of a listing and scripts in which at most so many processes crash, beside
-/// those whose scripts say so.
+/// Returns the model of `listing` and `scripts` in which at most `crashes` processes crash, beside
+/// those that crash by their scripts.
 ///
 /// # Errors
 ///
-/// The scripts are not small; a number of the listing or of the scripts has no number of a model; or
-/// memory ran out.
+/// `Refused` with `TooLarge` where the scripts are too large, and with `BadNumber` where a number
+/// of the listing or the scripts has no counterpart in a model; `Memory` where memory runs out.
 pub fn model_text(
     alloc: Global,
     listing: &Listing,

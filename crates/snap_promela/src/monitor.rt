@@ -1,5 +1,5 @@
-//! The monitor: the values that memory had since a scan of a process was called, and whether the
-//! view that it answers is among them.
+//! The monitor: the memory contents since a scan of a process was called, and whether the view that
+//! the scan answers is among them.
 use crate::writer::Writer;
 use snap_sched::Script;
 use snap_semantics::{Name, Op};
@@ -7,7 +7,7 @@ use snap_semantics::{Name, Op};
 /// The most values that are kept for a scan.
 const MOST_KEPT: u64 = 100;
 
-/// So many values and two more for each update among these operations, as far as the most.
+/// Returns `kept` and two more for each update among `operations`, at most `MOST_KEPT`.
 fn with_updates(kept: u64, operations: &[Op]) -> u64 {
     let mut kept = kept;
     for operation in operations {
@@ -21,7 +21,7 @@ fn with_updates(kept: u64, operations: &[Op]) -> u64 {
 }
 
 impl<'a> Writer<'a> {
-    /// The script of a process.
+    /// Returns the script of a process.
     pub(crate) fn script_of(&self, me: u64) -> Option<&'a Script> {
         if me == 0 {
             return None;
@@ -30,7 +30,7 @@ impl<'a> Writer<'a> {
         scripts.get((me - 1) as usize)
     }
 
-    /// The operations of a process.
+    /// Returns the operations of a process.
     pub(crate) fn operations(&self, me: u64) -> &'a [Op] {
         match self.script_of(me) {
             Some(script) => script.operations(),
@@ -38,14 +38,14 @@ impl<'a> Writer<'a> {
         }
     }
 
-    /// Whether a process is to scan.
+    /// Returns whether a process is to scan.
     pub(crate) fn scans(&self, me: u64) -> bool {
         self.operations(me)
             .iter()
             .any(|operation| matches!(operation, Op::Scan))
     }
 
-    /// How many values are kept for the scans of a process.
+    /// Returns how many values are kept for the scans of a process.
     fn kept_count(&self, me: u64) -> u64 {
         let mut kept = 2;
         for k in 0..self.n {
@@ -56,14 +56,15 @@ impl<'a> Writer<'a> {
         kept
     }
 
-    /// A statement for each word, with the number of the process and that of the word for each `$`.
+    /// Appends a statement for each word, with the number of the process and that of the word for
+    /// each `$`.
     fn each_word(&mut self, me: u64, text: &[u8]) {
         for k in 0..self.w {
             self.fill(text, &[me, k, k]);
         }
     }
 
-    /// What is kept for a process that scans: its variables, and what becomes of them.
+    /// Appends what is kept for a process that scans: its variables, and what becomes of them.
     fn monitor_of(&mut self, me: u64) {
         let most = self.kept_count(me);
         self.fill(b"View seen_$[$]; byte count_$;\n", &[me, most, me]);
@@ -87,14 +88,14 @@ impl<'a> Writer<'a> {
         self.fill(b"k++ :: else -> break od; k = 0; count_$ = 0\n", &[me]);
     }
 
-    /// The values of memory are kept behind the others.
+    /// Keeps the memory contents behind those that are kept already.
     fn each_word_kept(&mut self, me: u64) {
         for k in 0..self.w {
             self.fill(b"seen_$[count_$].view[$] = r[$].data; ", &[me, me, k, k]);
         }
     }
 
-    /// The monitors of all processes that scan.
+    /// Appends the monitors of all processes that scan.
     pub(crate) fn monitors(&mut self) {
         for k in 0..self.n {
             if self.scans(k + 1) {
@@ -103,7 +104,7 @@ impl<'a> Writer<'a> {
         }
     }
 
-    /// A write of a word is noted for each process that is at a scan of its own.
+    /// Notes a write of a word for each process that is at a scan of its own.
     pub(crate) fn notes(&mut self) {
         for k in 0..self.n {
             if self.scans(k + 1) {
@@ -115,7 +116,7 @@ impl<'a> Writer<'a> {
         }
     }
 
-    /// The view that a scan answers is looked for.
+    /// Looks for the view that a scan answers.
     pub(crate) fn answer_point(&mut self, me: u64, view: &Name) {
         self.fill(b"ok = 0; k = 0; do :: k < count_$ -> ok = ok || (1", &[me]);
         for k in 0..self.w {

@@ -4,7 +4,7 @@ use snap_semantics::{Name, Op};
 use snap_words::KindTag;
 
 impl<'a> Writer<'a> {
-    /// A declaration of each of these names.
+    /// Appends a declaration of each of `names`.
     fn declare(&mut self, front: &[u8], names: &[Name], count: Option<u64>) {
         for name in names {
             self.local(front, name);
@@ -16,7 +16,7 @@ impl<'a> Writer<'a> {
         self.say(b"\n");
     }
 
-    /// What a process declares.
+    /// Appends what a process declares.
     fn declarations(&mut self, me: u64) {
         let listing = self.listing;
         let places = self.places();
@@ -33,19 +33,19 @@ impl<'a> Writer<'a> {
         self.declare(b" Cell S_", listing.views(), Some(w));
     }
 
-    /// Whether an update calls: its word is there, and may be written by the process.
+    /// Returns whether an update is called: its word exists, and the process may write it.
     fn is_called(&self, me: u64, word: u64) -> bool {
         1 <= word && word <= self.w && (self.kind() == KindTag::Multi || word == me)
     }
 
-    /// The front of a call, the next of its script.
+    /// Appends the front of a call, the next one of its script.
     fn call_front(&mut self, here: &Here, k: u64) {
         self.option(here);
         self.fill(b" && done == $ -> done++; ", &[k]);
         self.counts(here);
     }
 
-    /// A call of a scan.
+    /// Appends a call of a scan.
     fn call_scan(&mut self, here: &Here, k: u64) {
         let me = here.me;
         let entry = self.listing.scan();
@@ -56,7 +56,7 @@ impl<'a> Writer<'a> {
         );
     }
 
-    /// A call of an update, which is skipped where its word cannot be written.
+    /// Appends a call of an update, which is skipped where its word cannot be written.
     fn call_update(&mut self, here: &Here, k: u64, word: u64, value: u64) {
         let me = here.me;
         let entry = self.listing.update();
@@ -73,7 +73,7 @@ impl<'a> Writer<'a> {
         self.fill(b" } TRAPPED; goto L$\n", &[entry]);
     }
 
-    /// The calls of a script, and its end.
+    /// Appends the calls of a script, and its end.
     fn script(&mut self, here: &Here) {
         let mut k: u64 = 0;
         for operation in self.operations(here.me) {
@@ -88,7 +88,7 @@ impl<'a> Writer<'a> {
         self.fill(b"  :: done == $ -> goto Stop\n  fi;\n", &[k]);
     }
 
-    /// Where a process is idle.
+    /// Appends the code of an idle process.
     fn idle(&mut self, me: u64) {
         let here = Here {
             me,
@@ -103,7 +103,7 @@ impl<'a> Writer<'a> {
         self.script(&here);
     }
 
-    /// A process.
+    /// Appends a process.
     fn process(&mut self, me: u64) {
         self.declarations(me);
         self.idle(me);
@@ -113,7 +113,7 @@ impl<'a> Writer<'a> {
         self.say(b"#endif\n}\n");
     }
 
-    /// All processes.
+    /// Appends all processes.
     pub(crate) fn processes(&mut self) {
         for k in 0..self.n {
             self.process(k + 1);

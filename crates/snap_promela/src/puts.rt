@@ -11,7 +11,7 @@ struct Read<'b> {
     from: &'b Index,
 }
 
-/// The letter of a bank of bits.
+/// Returns the letter of a bank of bits.
 fn bank_text(bank: BitBank) -> &'static [u8] {
     match bank {
         BitBank::Q => b"q",
@@ -20,7 +20,7 @@ fn bank_text(bank: BitBank) -> &'static [u8] {
 }
 
 impl<'a> Writer<'a> {
-    /// A part of a word becomes that of a register.
+    /// Copies a part of a register to the word of a local.
     fn read_part(&mut self, here: &Here, read: &Read<'_>, part: &[u8]) {
         self.word_place(here, read.words, read.to);
         self.say(part);
@@ -30,7 +30,7 @@ impl<'a> Writer<'a> {
         self.say(b"; ");
     }
 
-    /// Items of a word become those of a register.
+    /// Copies items of a register to the word of a local.
     fn read_items(&mut self, here: &Here, read: &Read<'_>, part: &[u8], count: u64) {
         for k in 0..count {
             self.word_place(here, read.words, read.to);
@@ -42,7 +42,7 @@ impl<'a> Writer<'a> {
         }
     }
 
-    /// A word becomes a register.
+    /// Copies a register to the word of a local.
     fn read_word(&mut self, here: &Here, read: &Read<'_>) {
         let n = self.n;
         let w = self.w;
@@ -64,7 +64,7 @@ impl<'a> Writer<'a> {
         }
     }
 
-    /// `get W[I] = r[J]`.
+    /// Appends `get W[I] = r[J]`.
     pub(crate) fn get_line<'b>(
         &mut self,
         here: &Here,
@@ -84,7 +84,7 @@ impl<'a> Writer<'a> {
         self.end(next);
     }
 
-    /// A bit of a bank.
+    /// Appends a bit of a bank.
     fn bank_bit(&mut self, here: &Here, bank: BitBank, first: &Index, second: &Index) {
         let n = self.n;
         self.say(bank_text(bank));
@@ -95,7 +95,7 @@ impl<'a> Writer<'a> {
         self.say(b" - 1]");
     }
 
-    /// `bit X = q[I,J]`, and so `p`.
+    /// Appends `bit X = q[I,J]` or `bit X = p[I,J]`.
     pub(crate) fn bit_line(
         &mut self,
         here: &Here,
@@ -117,7 +117,7 @@ impl<'a> Writer<'a> {
         self.end(next);
     }
 
-    /// `look S = v[I]`.
+    /// Appends `look S = v[I]`.
     pub(crate) fn look_line(&mut self, here: &Here, view: &Name, index: &Index) {
         let next = self.listing.following(here.line);
         let n = self.n;
@@ -133,7 +133,7 @@ impl<'a> Writer<'a> {
         self.end(next);
     }
 
-    /// The faults of a row that is written as bits, and of a toggle.
+    /// Appends the faults of a row that is written as bits, and of a toggle.
     fn row_bit_faults(&mut self, here: &Here, row: &Name) {
         let me = here.me;
         let line = here.line;
@@ -144,7 +144,7 @@ impl<'a> Writer<'a> {
         }
     }
 
-    /// The faults of a tuple.
+    /// Appends the faults of a tuple.
     fn tuple_faults(&mut self, here: &Here, tuple: &Tuple) {
         match tuple {
             Tuple::Seq(datum, seq, _) => {
@@ -166,7 +166,7 @@ impl<'a> Writer<'a> {
         }
     }
 
-    /// A field of a register becomes the value of an expression.
+    /// Sets a field of a register to the value of an expression.
     fn write_part(&mut self, here: &Here, index: &Index, part: &[u8], value: &Expr) {
         self.say(b"r");
         self.place(here, index);
@@ -176,7 +176,7 @@ impl<'a> Writer<'a> {
         self.say(b"; ");
     }
 
-    /// Items of a register become those of a local of a sort.
+    /// Copies items of a local to a register.
     fn write_items(&mut self, here: &Here, index: &Index, part: &[u8], sort: &[u8], local: &Name) {
         let count = if sort == b"R_".as_slice() {
             self.n
@@ -193,7 +193,7 @@ impl<'a> Writer<'a> {
         }
     }
 
-    /// A register becomes what a tuple says.
+    /// Sets a register to a tuple.
     fn write_word(&mut self, here: &Here, index: &Index, tuple: &Tuple) {
         match tuple {
             Tuple::Seq(datum, seq, view) => {
@@ -215,7 +215,7 @@ impl<'a> Writer<'a> {
         }
     }
 
-    /// `put r[I] = ` and a tuple.
+    /// Appends `put r[I] = ` and a tuple.
     pub(crate) fn put_line(&mut self, here: &Here, index: &Index, tuple: &Tuple) {
         let next = self.listing.following(here.line);
         let w = self.w;
@@ -231,7 +231,7 @@ impl<'a> Writer<'a> {
         self.end(next);
     }
 
-    /// `put q[I,J] = E`, and so `p`.
+    /// Appends `put q[I,J] = E` or `put p[I,J] = E`.
     pub(crate) fn put_bit_line(
         &mut self,
         here: &Here,
@@ -256,7 +256,7 @@ impl<'a> Writer<'a> {
         self.end(next);
     }
 
-    /// `put v[I] = S`.
+    /// Appends `put v[I] = S`.
     pub(crate) fn put_view_line(&mut self, here: &Here, index: &Index, view: &Name) {
         let next = self.listing.following(here.line);
         let n = self.n;

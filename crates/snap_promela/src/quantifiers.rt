@@ -3,7 +3,7 @@ use crate::writer::{Here, Writer};
 use snap_semantics::{Condition, Expr, Name, Range};
 
 impl<'a> Writer<'a> {
-    /// How many places a quantifier goes over.
+    /// Returns how many places a quantifier goes over.
     fn range_end(&self, range: Range) -> u64 {
         match range {
             Range::Processes => self.n,
@@ -11,7 +11,7 @@ impl<'a> Writer<'a> {
         }
     }
 
-    /// The faults of the new value of a place.
+    /// Appends the faults of the new value of a place.
     fn each_fault(&mut self, here: &Here, value: &Expr, condition: &Option<Condition>) {
         self.stored_faults(here, value);
         if let Some(condition) = condition {
@@ -19,7 +19,7 @@ impl<'a> Writer<'a> {
         }
     }
 
-    /// The new value of a place, which is `k` counted from 0, from the old ones.
+    /// Appends the new value of a place, which is `k` counted from 0, from the old ones.
     fn each_value(
         &mut self,
         here: &Here,
@@ -43,7 +43,7 @@ impl<'a> Writer<'a> {
         self.say(b"; ");
     }
 
-    /// The old values of a row are kept aside.
+    /// Keeps the old values of a row aside.
     fn keep_old(&mut self, row: &Name) {
         for k in 0..self.places() {
             self.fill(b"OLD[$] = ", &[k]);
@@ -52,14 +52,14 @@ impl<'a> Writer<'a> {
         }
     }
 
-    /// What was kept aside goes.
+    /// Clears what was kept aside.
     fn clear_old(&mut self) {
         for k in 0..self.places() {
             self.fill(b"OLD[$] = 0; ", &[k]);
         }
     }
 
-    /// `each G: R[@] = E where C`.
+    /// Appends `each G: R[@] = E where C`.
     pub(crate) fn each_line(
         &mut self,
         here: &Here,
@@ -82,7 +82,7 @@ impl<'a> Writer<'a> {
         self.end(next);
     }
 
-    /// The new values of all places.
+    /// Appends the new values of all places.
     fn each_values(
         &mut self,
         here: &Here,
@@ -102,7 +102,7 @@ impl<'a> Writer<'a> {
         }
     }
 
-    /// Whether an index of a condition is no place, at any of so many places.
+    /// Appends whether an index of a condition is no place, at any of `count` places.
     fn any_outside(&mut self, here: &Here, count: u64, condition: &Condition) {
         self.say(b"(0");
         for k in 0..count {
@@ -112,7 +112,7 @@ impl<'a> Writer<'a> {
         self.say(b")");
     }
 
-    /// The condition at all places, joined.
+    /// Appends the condition at all places, joined.
     fn at_all(&mut self, here: &Here, count: u64, condition: &Condition, join: &[u8]) {
         self.say(b"(");
         for k in 0..count {
@@ -125,7 +125,7 @@ impl<'a> Writer<'a> {
         self.say(b")");
     }
 
-    /// The front of a way out of a test, and the one before it that traps.
+    /// Appends the front of a way out of a test, and the one before it that traps.
     fn test(&mut self, here: &Here, count: u64, condition: &Condition) {
         self.label(here);
         self.option(here);
@@ -134,8 +134,8 @@ impl<'a> Writer<'a> {
         self.traps(here, b"Index");
     }
 
-    /// The front of a way out that is open where a condition holds at all places so joined, or
-    /// where it does not.
+    /// Appends the front of a way out that is open if a condition holds at all places so joined, or
+    /// if it does not.
     fn outcome(
         &mut self,
         here: &Here,
@@ -152,7 +152,7 @@ impl<'a> Writer<'a> {
         self.steps(here);
     }
 
-    /// A test that leads to a line or on.
+    /// Appends a test that leads to `target` or to the next line.
     fn test_line(
         &mut self,
         here: &Here,
@@ -172,12 +172,12 @@ impl<'a> Writer<'a> {
         self.say(b"  fi;\n");
     }
 
-    /// `if C goto N`.
+    /// Appends `if C goto N`.
     pub(crate) fn if_line(&mut self, here: &Here, condition: &Condition, target: u64) {
         self.test_line(here, 1, condition, b" && ", target);
     }
 
-    /// `if all G: C goto N`.
+    /// Appends `if all G: C goto N`.
     pub(crate) fn if_all_line(
         &mut self,
         here: &Here,
@@ -189,7 +189,7 @@ impl<'a> Writer<'a> {
         self.test_line(here, count, condition, b" && ", target);
     }
 
-    /// The least place at which a condition holds, where it holds at one.
+    /// Appends the least place at which a condition holds, if there is one.
     fn least(&mut self, here: &Here, count: u64, condition: &Condition) {
         for k in 0..count {
             self.say(b"(");
@@ -203,7 +203,7 @@ impl<'a> Writer<'a> {
         }
     }
 
-    /// `first X G: C goto N`.
+    /// Appends `first X G: C goto N`.
     pub(crate) fn first_line(
         &mut self,
         here: &Here,
@@ -226,7 +226,7 @@ impl<'a> Writer<'a> {
         self.say(b"  fi;\n");
     }
 
-    /// The front of a way out of `next`.
+    /// Appends the front of a way out of `next`.
     fn next_outcome(&mut self, here: &Here, scalar: &Name, range: Range, sign: &[u8]) {
         let count = self.range_end(range);
         self.option(here);
@@ -237,7 +237,7 @@ impl<'a> Writer<'a> {
         self.steps(here);
     }
 
-    /// `next X G goto N`.
+    /// Appends `next X G goto N`.
     pub(crate) fn next_line(&mut self, here: &Here, scalar: &Name, range: Range, target: u64) {
         let next = self.listing.following(here.line);
         self.label(here);

@@ -12,14 +12,14 @@ enum Printed<'b> {
 }
 
 impl<'a> Writer<'a> {
-    /// ` %d` for each of so many.
+    /// Appends ` %d` for each of `count` items.
     fn blanks(&mut self, count: u64) {
         for k in 0..count {
             self.say(b" %d");
         }
     }
 
-    /// The items of an array, as arguments.
+    /// Appends the items of an array, as arguments.
     fn items(&mut self, sort: &[u8], name: &Name, count: u64) {
         for k in 0..count {
             self.say(b", ");
@@ -28,7 +28,7 @@ impl<'a> Writer<'a> {
         }
     }
 
-    /// The line of a row or of a view.
+    /// Appends the line of a row or of a view.
     fn print_items(&mut self, me: u64, sort: &[u8], name: &Name, count: u64) {
         self.fill(b"  printf(\"= $   ", &[me]);
         self.say(name.letters());
@@ -39,7 +39,7 @@ impl<'a> Writer<'a> {
         self.say(b");\n");
     }
 
-    /// A place of words.
+    /// Appends a place of words.
     fn printed(&mut self, printed: Printed<'_>, place: u64) {
         match printed {
             Printed::Local(name) => self.local(b", W_", name),
@@ -48,7 +48,7 @@ impl<'a> Writer<'a> {
         self.fill(b"[$]", &[place]);
     }
 
-    /// A part of a word, as an argument.
+    /// Appends a part of a word, as an argument.
     fn printed_part(&mut self, printed: Printed<'_>, place: u64, part: &[u8]) {
         self.printed(printed, place);
         self.say(part);
@@ -63,7 +63,7 @@ impl<'a> Writer<'a> {
         }
     }
 
-    /// The end of the line of a word, behind its name and `=`.
+    /// Appends the end of the line of a word, behind its name and `=`.
     fn word_end(&mut self, printed: Printed<'_>, place: u64) {
         let n = self.n;
         let w = self.w;
@@ -98,7 +98,7 @@ impl<'a> Writer<'a> {
         self.say(b");\n");
     }
 
-    /// The lines of a `words` local.
+    /// Appends the lines of a `words` local.
     fn print_words(&mut self, me: u64, name: &Name) {
         for k in 0..self.places() {
             self.fill(b"  printf(\"= $   ", &[me]);
@@ -108,7 +108,7 @@ impl<'a> Writer<'a> {
         }
     }
 
-    /// The lines of the locals of a process.
+    /// Appends the lines of the locals of a process.
     fn print_locals(&mut self, me: u64) {
         let listing = self.listing;
         let places = self.places();
@@ -126,14 +126,14 @@ impl<'a> Writer<'a> {
         self.print_rows(me, listing.views(), b"S_", w);
     }
 
-    /// The lines of rows or of views.
+    /// Appends the lines of rows or of views.
     fn print_rows(&mut self, me: u64, names: &[Name], sort: &[u8], count: u64) {
         for name in names {
             self.print_items(me, sort, name, count);
         }
     }
 
-    /// The lines of a bank of bits.
+    /// Appends the lines of a bank of bits.
     fn print_bank(&mut self, bank: &[u8]) {
         let n = self.n;
         for k in 0..n {
@@ -141,7 +141,7 @@ impl<'a> Writer<'a> {
         }
     }
 
-    /// The lines of a row of a bank of bits, behind so many others.
+    /// Appends the lines of a row of a bank of bits, behind `before` others.
     fn print_bank_row(&mut self, bank: &[u8], row: u64, before: u64) {
         let n = self.n;
         for j in 0..n {
@@ -153,7 +153,7 @@ impl<'a> Writer<'a> {
         }
     }
 
-    /// The lines of the views.
+    /// Appends the lines of the views.
     fn print_views(&mut self) {
         for k in 0..self.n {
             self.fill(b"  printf(\"= 0 v $ =", &[k + 1]);
@@ -165,14 +165,14 @@ impl<'a> Writer<'a> {
         }
     }
 
-    /// The items of a view, as arguments.
+    /// Appends the items of a view, as arguments.
     fn view_items(&mut self, view: u64) {
         for k in 0..self.w {
             self.fill(b", v[$].view[$]", &[view, k]);
         }
     }
 
-    /// The line of the values.
+    /// Appends the line of the values.
     fn print_values(&mut self) {
         let w = self.w;
         self.say(b"  printf(\"= 0 values");
@@ -184,7 +184,7 @@ impl<'a> Writer<'a> {
         self.say(b");\n");
     }
 
-    /// The lines of the registers.
+    /// Appends the lines of the registers.
     fn print_registers(&mut self) {
         self.print_values();
         for k in 0..self.w {
@@ -202,7 +202,7 @@ impl<'a> Writer<'a> {
         }
     }
 
-    /// What a process of a simulation prints at its end.
+    /// Appends what a process of a simulation prints at its end.
     pub(crate) fn report(&mut self, me: u64) {
         let n = self.n;
         self.fill(b"; d_step {\n  REPORT($)\n", &[me]);

@@ -4,7 +4,7 @@ use crate::writer::{Here, Writer};
 use snap_semantics::{Comparison, Condition, Expr, Index, Join, Name, Relation, Term};
 use snap_words::Field;
 
-/// The operator of a join.
+/// Returns the operator of a join.
 fn join_text(join: Join) -> &'static [u8] {
     match join {
         Join::And => b" && ",
@@ -15,7 +15,7 @@ fn join_text(join: Join) -> &'static [u8] {
 /// The greatest number that every cell holds.
 const MOST_HELD: u64 = 255;
 
-/// What stands before the operands of a relation, between them and behind them.
+/// Returns what stands before the operands of a relation, between them and behind them.
 fn relation_texts(relation: Relation) -> (&'static [u8], &'static [u8], &'static [u8]) {
     match relation {
         Relation::Equal => (b"(", b" == ", b")"),
@@ -24,7 +24,7 @@ fn relation_texts(relation: Relation) -> (&'static [u8], &'static [u8], &'static
     }
 }
 
-/// Whether a cell may not hold the value of an expression.
+/// Returns whether a cell may not hold the value of an expression.
 fn may_be_left_out(expr: &Expr) -> bool {
     match expr {
         Expr::Sum(_, _) => true,
@@ -34,7 +34,7 @@ fn may_be_left_out(expr: &Expr) -> bool {
 }
 
 impl<'a> Writer<'a> {
-    /// An index.
+    /// Appends an index.
     pub(crate) fn index(&mut self, here: &Here, index: &Index) {
         match index {
             Index::Number(number) => self.value(*number),
@@ -47,14 +47,14 @@ impl<'a> Writer<'a> {
         }
     }
 
-    /// `[I - 1]`.
+    /// Appends `[I - 1]`.
     pub(crate) fn place(&mut self, here: &Here, index: &Index) {
         self.say(b"[");
         self.index(here, index);
         self.say(b" - 1]");
     }
 
-    /// A row, or its old values where these are kept aside.
+    /// Appends a row, or its old values if they are kept aside.
     fn row(&mut self, here: &Here, row: &Name) {
         match here.aside {
             Some(aside) if aside.is(row) => self.say(b"OLD"),
@@ -62,13 +62,13 @@ impl<'a> Writer<'a> {
         }
     }
 
-    /// A place of a `words` local.
+    /// Appends a place of a `words` local.
     pub(crate) fn word_place(&mut self, here: &Here, words: &Name, index: &Index) {
         self.local(b"W_", words);
         self.place(here, index);
     }
 
-    /// A field of a word.
+    /// Appends a field of a word.
     fn field(&mut self, field: Field) {
         self.say(match field {
             Field::Datum => b".data",
@@ -78,7 +78,7 @@ impl<'a> Writer<'a> {
         });
     }
 
-    /// A term.
+    /// Appends a term.
     pub(crate) fn term(&mut self, here: &Here, term: &Term) {
         match term {
             Term::Index(index) => self.index(here, index),
@@ -99,7 +99,7 @@ impl<'a> Writer<'a> {
         }
     }
 
-    /// An expression.
+    /// Appends an expression.
     pub(crate) fn expr(&mut self, here: &Here, expr: &Expr) {
         match expr {
             Expr::Term(term) => self.term(here, term),
@@ -118,7 +118,7 @@ impl<'a> Writer<'a> {
         }
     }
 
-    /// A comparison.
+    /// Appends a comparison.
     fn comparison(&mut self, here: &Here, comparison: &Comparison) {
         let (before, between, behind) = relation_texts(comparison.relation);
         self.say(before);
@@ -128,13 +128,13 @@ impl<'a> Writer<'a> {
         self.say(behind);
     }
 
-    /// A comparison behind others.
+    /// Appends a comparison behind others.
     fn joined(&mut self, here: &Here, join: Join, comparison: &Comparison) {
         self.say(join_text(join));
         self.comparison(here, comparison);
     }
 
-    /// A condition, in parentheses.
+    /// Appends a condition, in parentheses.
     pub(crate) fn condition(&mut self, here: &Here, condition: &Condition) {
         self.say(b"(");
         match condition {
@@ -158,7 +158,7 @@ impl<'a> Writer<'a> {
         self.say(b")");
     }
 
-    /// The end of a line that traps.
+    /// Appends the end of a line that traps.
     fn fault_end(&mut self, here: &Here, cause: &[u8]) {
         let me = here.me;
         let line = here.line;
@@ -167,14 +167,14 @@ impl<'a> Writer<'a> {
         self.fill(b", $, $)\n", &[me, line]);
     }
 
-    /// Traps where a condition of Promela holds that needs no operand.
+    /// Traps if a condition of Promela holds that needs no operand.
     pub(crate) fn fault(&mut self, here: &Here, condition: &[u8], cause: &[u8]) {
         self.say(b"    FAULT(");
         self.say(condition);
         self.fault_end(here, cause);
     }
 
-    /// Whether an index is a place of so many, whatever the state.
+    /// Returns whether an index is one of `count` places, whatever the state.
     fn is_place(&self, here: &Here, index: &Index, count: u64) -> bool {
         let place = match index {
             Index::Number(number) => *number,
@@ -187,7 +187,7 @@ impl<'a> Writer<'a> {
         1 <= place && place <= count
     }
 
-    /// Whether an index is no place of so many.
+    /// Appends whether an index is none of `count` places.
     fn outside(&mut self, here: &Here, index: &Index, count: u64) {
         self.say(b"!(1 <= ");
         self.index(here, index);
@@ -196,7 +196,7 @@ impl<'a> Writer<'a> {
         self.fill(b" <= $)", &[count]);
     }
 
-    /// Traps where an index is no place of so many.
+    /// Traps if an index is none of `count` places.
     pub(crate) fn index_fault(&mut self, here: &Here, index: &Index, count: u64) {
         if !self.is_place(here, index, count) {
             self.say(b"    FAULT(");
@@ -205,7 +205,7 @@ impl<'a> Writer<'a> {
         }
     }
 
-    /// Traps where an index is another process's number.
+    /// Traps if an index is another process's number.
     pub(crate) fn owner_fault(&mut self, here: &Here, index: &Index) {
         let me = here.me;
         self.say(b"    FAULT(");
@@ -214,7 +214,7 @@ impl<'a> Writer<'a> {
         self.fault_end(here, b"Owner");
     }
 
-    /// Traps where an expression is no bit.
+    /// Traps if an expression is no bit.
     pub(crate) fn bit_fault(&mut self, here: &Here, expr: &Expr) {
         self.say(b"    FAULT(NOBIT(");
         self.expr(here, expr);
@@ -222,7 +222,7 @@ impl<'a> Writer<'a> {
         self.fault_end(here, b"NotABit");
     }
 
-    /// The faults of a term.
+    /// Appends the faults of a term.
     pub(crate) fn term_faults(&mut self, here: &Here, term: &Term) {
         let places = self.places();
         match term {
@@ -238,7 +238,7 @@ impl<'a> Writer<'a> {
         }
     }
 
-    /// A macro of two terms, with what stands before it.
+    /// Appends a macro of two terms, with what stands before it.
     fn of_two(&mut self, here: &Here, front: &[u8], left: &Term, right: &Term) {
         self.say(front);
         self.term(here, left);
@@ -247,7 +247,7 @@ impl<'a> Writer<'a> {
         self.say(b")");
     }
 
-    /// The faults of an expression.
+    /// Appends the faults of an expression.
     pub(crate) fn expr_faults(&mut self, here: &Here, expr: &Expr) {
         let me = here.me;
         let line = here.line;
@@ -264,13 +264,13 @@ impl<'a> Writer<'a> {
         }
     }
 
-    /// The faults of an expression whose value is stored, and that a cell holds it.
+    /// Appends the faults of an expression whose value is stored, and that a cell holds it.
     pub(crate) fn stored_faults(&mut self, here: &Here, expr: &Expr) {
         self.expr_faults(here, expr);
         self.kept(here, expr);
     }
 
-    /// That a cell holds the value of an expression, which may be another than that of a cell.
+    /// Checks that a cell holds the value of an expression, which may differ from that of a cell.
     fn kept(&mut self, here: &Here, expr: &Expr) {
         let me = here.me;
         let line = here.line;
@@ -281,7 +281,7 @@ impl<'a> Writer<'a> {
         }
     }
 
-    /// Behind another condition: or whether an index is no place of so many.
+    /// Appends, behind another condition, whether an index is none of `count` places.
     fn or_outside(&mut self, here: &Here, index: &Index, count: u64) {
         if !self.is_place(here, index, count) {
             self.say(b" || ");
@@ -289,7 +289,7 @@ impl<'a> Writer<'a> {
         }
     }
 
-    /// The same of the indices of a term.
+    /// Appends, behind another condition, whether an index of a term is no place.
     fn or_term_outside(&mut self, here: &Here, term: &Term) {
         let places = self.places();
         match term {
@@ -305,13 +305,13 @@ impl<'a> Writer<'a> {
         }
     }
 
-    /// The same of a comparison.
+    /// Appends, behind another condition, whether an index of a comparison is no place.
     fn or_comparison_outside(&mut self, here: &Here, comparison: &Comparison) {
         self.or_term_outside(here, &comparison.left);
         self.or_term_outside(here, &comparison.right);
     }
 
-    /// The same of a condition.
+    /// Appends, behind another condition, whether an index of a condition is no place.
     pub(crate) fn or_condition_outside(&mut self, here: &Here, condition: &Condition) {
         match condition {
             Condition::One(first) => self.or_comparison_outside(here, first),
@@ -333,7 +333,7 @@ impl<'a> Writer<'a> {
         }
     }
 
-    /// The faults of a condition, whose cause is `Index` alone.
+    /// Appends the faults of a condition, whose cause is `Index` alone.
     pub(crate) fn condition_faults(&mut self, here: &Here, condition: &Condition) {
         self.say(b"    FAULT((0");
         self.or_condition_outside(here, condition);

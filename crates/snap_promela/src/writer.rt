@@ -3,28 +3,28 @@ ghost use Rattle.std.specs.Prelude.{◌≡◌};
 ghost use Rattle.snap_promela.specs.Model.{is_beyond};
 
 use memchr::memchr;
-use snap_draft::Draft;
 use snap_listing_core::Listing;
 use snap_sched::Scripts;
 use snap_semantics::Name;
+use snap_text::Draft;
 use snap_words::KindTag;
 use std::alloc::{AllocError, Global};
 
-/// The least number that is not written as itself.
+/// The least number that is not written as itself in a model.
 const LEAST_BEYOND: u64 = 2_147_483_648;
 
-/// The greatest number that is not written as what it lacks to 2^64.
+/// The greatest number that is not written as its difference from 2^64.
 const MOST_BEYOND: u64 = 18_446_744_071_562_067_967;
 
-/// Whether no number of a model stands for this one.
+/// Returns whether a number has no counterpart in a model.
 pub(crate) fn is_beyond(number: u64) -> bool
     ensures { result ≡ is_beyond number }
 {
     LEAST_BEYOND <= number && number <= MOST_BEYOND
 }
 
-/// Where a line is written: the process, the number of the line, the place of a quantifier, and
-/// the row whose old values are kept aside.
+/// Where a line is written: the process, the number of the line, the place of a quantifier, and the
+/// row whose old values are kept aside.
 #[derive(Clone, Copy)]
 pub(crate) struct Here {
     pub(crate) me: u64,
@@ -34,7 +34,7 @@ pub(crate) struct Here {
 }
 
 impl Here {
-    /// The same at another place of a quantifier.
+    /// Returns the same place in the text at another place of a quantifier.
     pub(crate) fn at(&self, place: u64) -> Here {
         Here {
             me: self.me,
@@ -45,8 +45,8 @@ impl Here {
     }
 }
 
-/// A model of a listing and scripts, as far as it is written, and a number for which none stands,
-/// where there was one.
+/// A model of a listing and scripts, as far as it is written, and a number that has no counterpart
+/// in a model, if there was one.
 pub(crate) struct Writer<'a> {
     draft: Draft,
     beyond: Option<u64>,
@@ -59,7 +59,7 @@ pub(crate) struct Writer<'a> {
 }
 
 impl<'a> Drop for Writer<'a> {
-    // Written out, so that it is proved here and not once more wherever one is dropped.
+    // A drop that is written out is one call: it is proved once, and not again at each drop.
     fn drop(self) {
         let Writer {
             draft: _,
@@ -73,7 +73,7 @@ impl<'a> Drop for Writer<'a> {
 }
 
 impl<'a> Writer<'a> {
-    /// Nothing yet.
+    /// Returns an empty model.
     pub(crate) fn new(alloc: Global, listing: &'a Listing, scripts: &'a Scripts) -> Writer<'a> {
         let shape = scripts.shape();
         Writer {
@@ -86,27 +86,27 @@ impl<'a> Writer<'a> {
         }
     }
 
-    /// The kind of the registers.
+    /// Returns the kind of the registers.
     pub(crate) fn kind(&self) -> KindTag {
         self.listing.kind()
     }
 
-    /// How many places rows and `words` locals have.
+    /// Returns how many places rows and `words` locals have.
     pub(crate) fn places(&self) -> u64 {
         if self.n < self.w { self.w } else { self.n }
     }
 
-    /// A text.
+    /// Appends a text.
     pub(crate) fn say(&mut self, text: &[u8]) {
         self.draft.push(text);
     }
 
-    /// A number in digits.
+    /// Appends a number in digits.
     pub(crate) fn number(&mut self, number: u64) {
         self.draft.push_number(number);
     }
 
-    /// A text, with the next of these numbers for each `$`.
+    /// Appends a text, with the next of `numbers` for each `$`.
     pub(crate) fn fill(&mut self, text: &[u8], numbers: &[u64]) {
         let mut rest = text;
         for number in numbers {
@@ -115,8 +115,8 @@ impl<'a> Writer<'a> {
         self.say(rest);
     }
 
-    /// The front of a text as far as its first `$`, and a number for this. What is left is the
-    /// result.
+    /// Appends the front of a text as far as its first `$`, and `number` for the `$`; and returns
+    /// the rest of the text.
     fn fill_one<'b>(&mut self, text: &'b [u8], number: u64) -> &'b [u8] {
         match memchr(b'$', text) {
             Some(k) => {
@@ -128,7 +128,7 @@ impl<'a> Writer<'a> {
         }
     }
 
-    /// A number of 64 bits, as a number of a model: the greatest ones are below 0.
+    /// Appends a number of 64 bits as a number of a model: the greatest ones are below 0.
     pub(crate) fn value(&mut self, number: u64) {
         if is_beyond(number) {
             self.beyond = Some(number);
@@ -140,18 +140,18 @@ impl<'a> Writer<'a> {
         }
     }
 
-    /// A local, by the letter of its sort and its name.
+    /// Appends a local, by the letter of its sort and its name.
     pub(crate) fn local(&mut self, sort: &[u8], name: &Name) {
         self.say(sort);
         self.say(name.letters());
     }
 
-    /// The number for which none stands, where there was one.
+    /// Returns the number that has no counterpart in a model, if there was one.
     pub(crate) fn beyond(&self) -> Option<u64> {
         self.beyond
     }
 
-    /// The whole text.
+    /// Returns the whole text.
     pub(crate) fn finish(self) -> Result<Vec<u8>, AllocError> {
         let Writer {
             draft,

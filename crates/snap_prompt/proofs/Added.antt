@@ -1,11 +1,11 @@
 -- What the prompt has added is said: what a line asks for, where no question was asked.
 use Rattle.std.proofs.Common.{◌≡◌, ◌+◌, ◌-◌, ◌^◌, ◌++◌, ◌∙◌, ℕ, Bool, min, List, Option, None, Result, Ok, Err}
 use Rattle.std.proofs.Common.{OnOk, ap, option_map, refl, subst, sym}
-use Rattle.snap_dialog.specs.Folder.{Kept}
+use Rattle.snap_streams.specs.Folder.{Kept}
 use Rattle.snap_semantics.specs.declared.refusal.CommandRefusal.{CommandRefusal}
-use Rattle.snap_prompt_lines.specs.Ask.{ask_of}
-use Rattle.snap_prompt_lines.specs.SaveForm.{saving_of}
-use Rattle.snap_prompt_lines.specs.declared.ask.Ask.{Ask}
+use Rattle.snap_prompt.specs.Ask.{ask_of}
+use Rattle.snap_prompt.specs.SaveForm.{saving_of}
+use Rattle.snap_prompt.specs.declared.ask.Ask.{Ask}
 use Rattle.snap_prompt.specs.Prompt.{Answer, Prompt, Says, answer_line, answered_to, asked, counted, saved_or_asked}
 use Rattle.snap_prompt.specs.Said.{IsAdded, IsSaid, Said, saved, text, why}
 use Rattle.snap_prompt.specs.Saved.{Saves, outcome_line}
@@ -16,7 +16,7 @@ pub on_ok : {A E : Type 0} {P Q : Type 0} (r : Result A E) → OnOk r P → (P �
 on_ok (Ok x) p f = f p
 on_ok (Err e) p f = tt
 
--- the same as is said
+-- what is added is the same if what is said is
 pub same_added : (s t : Said) (old new : List ℕ) → s ≡ t → IsAdded t old new → IsAdded s old new
 same_added s t old new is adds = subst (λ (y : Said). IsAdded y old new) (sym is) adds
 
@@ -36,7 +36,7 @@ pub none_named : {A : Type 0} (view : A → List ℕ × Bool) (found : Option A)
     option_map view found ≡ wanted → found ≡ None → wanted ≡ None
 none_named view found wanted e is = sym e ∙ ap (option_map view) is
 
--- so many lines were read
+-- the number of lines that were read
 abbrev pub with_lines : ℕ → Prompt → Prompt
 with_lines n p = record {
   session = p.session;

@@ -25,7 +25,7 @@ one l shape i taken most g s s' o less does =
     ap (λ (k : ℕ). steps_from l shape i g taken k s) more
     ∙ ap (λ (r : State × Outcome). goes_to l shape i g taken left r.0) does
 
--- and a machine takes it
+-- a step of a machine that is taken in a run is taken in another of the same program and shape
 taken_by : (l l' : Source) (shape shape' : Counts) (i : ℕ) (s s' : State) (o : Outcome) → l' ≡ l → shape' ≡ shape →
     done l' shape' s (Step i) ≡ (s', o) → done l shape s (Step i) ≡ (s', o)
 taken_by l l' shape shape' i s s' o same same_shape does = rw (sym same, sym same_shape) does
@@ -34,7 +34,7 @@ taken_by l l' shape shape' i s s' o same same_shape does = rw (sym same, sym sam
 pub told : (g : Goal) (t u : Status) (b v : Bool) → u ≡ t → b ≡ has_reached g u → b ≡ v → has_reached g t ≡ v
 told g t u b v same is e = rw (sym same) (sym is ∙ e)
 
--- it leads to the goal
+-- a step leads to the goal
 pub leads : (l l' : Source) (shape shape' : Counts) (i taken most : ℕ) (g : Goal) (s s' : State) (o : Outcome)
     (all : Option ℕ) → l' ≡ l → shape' ≡ shape → steps_from l shape i g taken (most - taken) s ≡ all → taken < most →
     done l' shape' s (Step i) ≡ (s', o) → has_reached g (process_at s' i).status ≡ true → Some (taken + 1) ≡ all
@@ -44,7 +44,7 @@ leads l l' shape shape' i taken most g s s' o all same same_shape is less does t
     there)
     ∙ is
 
--- or it goes on behind it
+-- a step goes on to the goal behind it
 pub goes_on : (l l' : Source) (shape shape' : Counts) (i taken most : ℕ) (g : Goal) (s s' : State) (o : Outcome)
     (all : Option ℕ) → l' ≡ l → shape' ≡ shape → steps_from l shape i g taken (most - taken) s ≡ all → taken < most →
     done l' shape' s (Step i) ≡ (s', o) → has_reached g (process_at s' i).status ≡ false →

@@ -4,15 +4,15 @@ use Rattle.std.specs.Prelude.{nat_eq}
 use Rattle.snap_semantics.specs.Schedule.{Schedule}
 use Rattle.snap_semantics.specs.declared.refusal.ScheduleRefusal.{ScheduleRefusal}
 use Rattle.snap_debug.specs.Session.{total}
-use Rattle.snap_prompt_lines.specs.Edits.{edited, form_of}
-use Rattle.snap_prompt_lines.specs.declared.addition.Addition.{Addition}
-use Rattle.snap_prompt_lines.specs.declared.addition.Addition.TheVariants as addition
+use Rattle.snap_prompt.specs.Edits.{edited, form_of}
+use Rattle.snap_prompt.specs.declared.addition.Addition.{Addition}
+use Rattle.snap_prompt.specs.declared.addition.Addition.TheVariants as addition
 use Rattle.snap_prompt.specs.Reach.{steps_to}
 use Rattle.snap_prompt.specs.declared.goal.Goal.{Goal}
 use Rattle.snap_prompt.specs.declared.goal.Goal.TheVariants as goal
 use Rattle.snap_prompt.specs.declared.goal.NoSteps.{NoSteps}
-use Rattle.snap_prompt_lines.specs.declared.ask.Ask.{Ask}
-use Rattle.snap_prompt_lines.specs.declared.ask.Ask.TheVariants as ask
+use Rattle.snap_prompt.specs.declared.ask.Ask.{Ask}
+use Rattle.snap_prompt.specs.declared.ask.Ask.TheVariants as ask
 use Rattle.snap_prompt.specs.Prompt.{Answer, Prompt, added, added_to, agreed_to, done, led, led_by}
 use Rattle.snap_prompt.specs.Prompt.{schedule_of_run, wanted}
 use Rattle.snap_prompt.specs.declared.question.Question.{Question}

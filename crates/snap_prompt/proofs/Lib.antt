@@ -1,4 +1,6 @@
 -- The proofs of snap_prompt, by their modules.
+pub mod Fronts
+pub mod AddedItems
 pub mod Added
 pub mod GoesOn
 pub mod KeepsRun

@@ -13,7 +13,7 @@ use Rattle.snap_runs.specs.Run.{Run, state}
 use Rattle.snap_report.specs.OutcomeText.{outcome_text}
 use Rattle.snap_text.specs.Changes.{text_between}
 use Rattle.snap_text.specs.Owned.{owned_text}
-use Rattle.snap_listing_printer.specs.LineTexts.{NumberedText, text_with, written}
+use Rattle.snap_listing.specs.LineTexts.{NumberedText, text_with, written}
 use Rattle.snap_debug.specs.Replies.{last_of}
 use Rattle.snap_debug.specs.Session.{Session, state_of}
 

@@ -9,7 +9,7 @@ use Rattle.snap_semantics.specs.declared.refusal.CommandRefusal.TheVariants as r
 use Rattle.snap_semantics.specs.declared.refusal.Refusal.TheVariants as input
 use Rattle.snap_semantics.specs.declared.refusal.ScheduleRefusal.{ScheduleRefusal}
 use Rattle.snap_semantics.specs.declared.refusal.ScheduleRefusal.TheVariants as schedule
-use Rattle.snap_refusals.specs.RefusalText.{refused_text}
+use Rattle.snap_faults.specs.RefusalText.{refused_text}
 use Rattle.snap_debug_commands.specs.FaultText.{refusal_text}
 use Rattle.snap_debug.specs.Session.{Session, total}
 use Rattle.snap_prompt.specs.declared.goal.NoSteps.{NoSteps}

@@ -1,4 +1,7 @@
 -- The definitions of snap_prompt, by their modules.
+pub mod Ask
+pub mod Edits
+pub mod SaveForm
 pub mod Changed
 pub mod Explained
 pub mod Greeting

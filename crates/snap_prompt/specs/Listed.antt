@@ -8,7 +8,7 @@ use Rattle.snap_semantics.specs.State.{process_at}
 use Rattle.snap_semantics.specs.declared.instr.Line.{Line}
 use Rattle.snap_semantics.specs.declared.process.Outcome.{Outcome}
 use Rattle.snap_semantics.specs.declared.refusal.CommandRefusal.TheVariants as refusal
-use Rattle.snap_listing_printer.specs.LineTexts.{NumberedText, text_with, written}
+use Rattle.snap_listing.specs.LineTexts.{NumberedText, text_with, written}
 use Rattle.snap_debug.specs.Session.{Session, has_process, state_of}
 use Rattle.snap_prompt.specs.Hints.{refused_line}
 
@@ -33,7 +33,7 @@ marked_line texts line number = pointer_text line number ++ text_or_none (text_w
 abbrev pub near_line : List NumberedText → Option ℕ → ℕ → List ℕ
 near_line texts line number = if is_near line number then marked_line texts line number else []
 
--- those of some lines that are near
+-- the lines that are near
 abbrev pub near_lines : List NumberedText → Option ℕ → List Line → List ℕ
 near_lines texts line [] = []
 near_lines texts line (l ∷ ls) = near_line texts line l.number ++ near_lines texts line ls

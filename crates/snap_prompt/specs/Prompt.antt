@@ -1,7 +1,7 @@
 -- A prompt over a debugger's session: what is shown before a line, and what is answered to it.
 use Rattle.std.specs.Prelude.{ℕ, ◌+◌, ◌-◌, ◌^◌, List, [], ◌++◌, length, min, Bool, ◌&&◌, true, false, Option, Some}
 use Rattle.std.specs.Prelude.{None, Result, Ok, Err, codes, decimal, nat_eq, if◌then◌else◌}
-use Rattle.snap_dialog.specs.Dialog.{Next}
+use Rattle.snap_streams.specs.Dialog.{Next}
 use Rattle.snap_semantics.specs.Report.{position_line}
 use Rattle.snap_semantics.specs.Schedule.{Schedule}
 use Rattle.snap_semantics.specs.ScheduleText.{schedule_text}
@@ -14,17 +14,17 @@ use Rattle.snap_debug.specs.Session.{Session, answer, at_position, commanded, op
 use Rattle.snap_debug.specs.Session.{reply_text, session_report, state_of, total}
 use Rattle.snap_debug_commands.specs.declared.command.Command.{Command}
 use Rattle.snap_debug_commands.specs.declared.command.Command.TheVariants as command
-use Rattle.snap_prompt_lines.specs.Edits.{edited, form_of}
-use Rattle.snap_prompt_lines.specs.declared.addition.Addition.{Addition}
-use Rattle.snap_prompt_lines.specs.declared.addition.Addition.TheVariants as addition
+use Rattle.snap_prompt.specs.Edits.{edited, form_of}
+use Rattle.snap_prompt.specs.declared.addition.Addition.{Addition}
+use Rattle.snap_prompt.specs.declared.addition.Addition.TheVariants as addition
 use Rattle.snap_prompt.specs.Reach.{steps_to}
 use Rattle.snap_prompt.specs.declared.goal.Goal.{Goal}
 use Rattle.snap_prompt.specs.declared.goal.Goal.TheVariants as goal
 use Rattle.snap_prompt.specs.declared.goal.NoSteps.{NoSteps}
-use Rattle.snap_prompt_lines.specs.Ask.{ask_of, is_yes}
-use Rattle.snap_prompt_lines.specs.SaveForm.{saving_of}
-use Rattle.snap_prompt_lines.specs.declared.ask.Ask.{Ask}
-use Rattle.snap_prompt_lines.specs.declared.ask.Ask.TheVariants as ask
+use Rattle.snap_prompt.specs.Ask.{ask_of, is_yes}
+use Rattle.snap_prompt.specs.SaveForm.{saving_of}
+use Rattle.snap_prompt.specs.declared.ask.Ask.{Ask}
+use Rattle.snap_prompt.specs.declared.ask.Ask.TheVariants as ask
 use Rattle.snap_prompt.specs.Changed.{moved_text}
 use Rattle.snap_prompt.specs.Explained.{explained, item_or_position}
 use Rattle.snap_prompt.specs.Greeting.{greeting_text}
@@ -159,7 +159,7 @@ abbrev pub reply_or_refusal : Session → Command → Result Session CommandRefu
 reply_or_refusal s c (Err r) = refused_line s r
 reply_or_refusal s c (Ok s') = reply_text s' c
 
--- and of one that does: also the item, and what changed
+-- what is said of a command that moves: also the item, and what changed
 abbrev pub move_or_refusal : Session → Command → Result Session CommandRefusal → List ℕ
 move_or_refusal s c (Err r) = refused_line s r
 move_or_refusal s c (Ok s') = reply_text s' c ++ moved_text s s'
@@ -296,10 +296,10 @@ answered_to p (Some q) line = in_words (decided p q (is_yes line))
 unfoldable pub answer_line : Prompt → List ℕ → Answer Said
 answer_line p line = answered_to (counted p) p.question line
 
--- this may be answered to a line
+-- a text may be answered to a line
 abbrev pub Says : Prompt → List ℕ → List ℕ → Type 0
 Says p line it = IsSaid (answer_line p line).said it
 
--- and what comes of a line
+-- what comes of a line
 abbrev pub next_line : Prompt → List ℕ → Next Prompt
 next_line p line = record { state = (answer_line p line).state; goes_on = (answer_line p line).goes_on }

@@ -3,7 +3,7 @@
 use Rattle.std.specs.Prelude.{◌≡◌, ℕ, List, ◌++◌, Option, Result, Ok, Err, codes}
 use Rattle.std.specs.declared.io.ErrorKind.{ErrorKind}
 use Rattle.std.specs.declared.io.ErrorKind.TheVariants as kind
-use Rattle.snap_dialog.specs.Folder.{Keeps, Kept}
+use Rattle.snap_streams.specs.Folder.{Keeps, Kept}
 
 -- why a file was not written, for a person
 abbrev pub save_reason : ErrorKind → List ℕ
@@ -19,7 +19,7 @@ abbrev pub outcome_line : (name : List ℕ) → Result (Unit {0}) ErrorKind → 
 outcome_line name (Ok done) = codes "saved: " ++ name ++ codes "\n"
 outcome_line name (Err k) = codes "refused: " ++ name ++ codes ": " ++ save_reason k ++ codes "\n"
 
--- this may be said of a schedule that was to be saved under a name
+-- a line may be said of a schedule that was to be saved under a name
 abbrev pub IsSavedLine : (name it : List ℕ) → Type 0
 IsSavedLine name it = (done : Result (Unit {0}) ErrorKind) × (it ≡ outcome_line name done)
 

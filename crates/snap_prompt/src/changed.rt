@@ -10,7 +10,7 @@ use snap_text::push_owned_lines;
 use snap_words::Kind;
 use std::alloc::{AllocError, Global};
 
-/// The lines of the processes, from process 1 on.
+/// Appends the lines of the processes, from process 1 on.
 fn processes_lines<K: Kind>(out: &mut Vec<u8>, machine: &Machine<K>) -> Result<(), AllocError>
     ensures { OnOk result (out.new.items ≡ out.old.items
         ++ processes_lines machine.now.source.kind 1 machine.now.state.processes) }
@@ -22,8 +22,8 @@ fn processes_lines<K: Kind>(out: &mut Vec<u8>, machine: &Machine<K>) -> Result<(
     Ok(())
 }
 
-/// The report of a machine's state: its registers, and its processes with their locals.
-/// Each line says of whom it speaks.
+/// Returns the report of a machine's state: its registers, and its processes with their locals.
+/// Each line names its owner.
 #[tactic(auto, using(snap_text::proofs::Texts::joined), unfolding(crate::specs::Changed::state_text))]
 pub(crate) fn state_text<K: Kind>(
     alloc: Global,

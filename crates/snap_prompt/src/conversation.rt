@@ -1,24 +1,29 @@
 //! `converse`: a whole dialog at the debugger's prompt about a program under a schedule, for each
 //! kind of registers.
 ghost use Rattle.std.specs.Prelude.{◌≡◌, None, IfErr, IfSome, OnErr, OnOk};
-ghost use Rattle.snap_dialog.specs.Dialog.{IsBrokenOff, IsDialog, ShowsTranscript};
-ghost use Rattle.snap_dialog.specs.Dialog.{ShowsTranscriptPart};
-ghost use Rattle.snap_dialog.specs.Failures.{MayEndDialog, failure_of};
-ghost use Rattle.snap_dialog.specs.TypedLines.{typed_lines};
+ghost use Rattle.snap_streams.specs.Dialog.{IsBrokenOff, IsDialog, ShowsTranscript};
+ghost use Rattle.snap_streams.specs.Dialog.{ShowsTranscriptPart};
+ghost use Rattle.snap_streams.specs.Failures.{MayEndDialog, failure_of};
+ghost use Rattle.snap_streams.specs.TypedLines.{typed_lines};
 ghost use Rattle.snap_runs.specs.Run.{run_over};
 ghost use Rattle.snap_prompt.specs.Prompt.{Says, next_line, opened_prompt, prompt_text};
 
 use crate::prompt::Prompt;
 use crate::shows::Shows;
 use snap_asm_program::Program;
-use snap_dialog::{Console, DialogFault, Folder, talk};
 use snap_sched::Schedule;
+use snap_streams::{Console, DialogFault, Folder, talk};
 use snap_words::{Bits, KindTag, Multi, Seq};
 use std::alloc::Global;
 
-/// Talks at a console about a program under a schedule, from the position before its first item, to
+/// Talks at `console` about `program` under `schedule`, from the position before its first item, to
 /// `quit` or the end of the input: each line is answered before the next prompt, and what is shown
-/// is a transcript of the lines. It is broken off as `talk` is, after a beginning of that.
+/// is a transcript of the lines.
+///
+/// # Errors
+///
+/// The fault of a device of `console` that failed; `Memory` where memory runs out; `Endless` where
+/// the input does not end. A beginning of the dialog has passed then.
 pub fn converse<C: Console, S: Folder + Copy>(
     alloc: Global,
     program: &Program,

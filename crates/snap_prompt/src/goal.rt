@@ -1,9 +1,9 @@
-//! `Goal`: to where a process is to step, a line or the end of its operation; `NoSteps`: why no
-//! steps lead it there.
+//! `Goal`: where a process is to step, to a line or to the end of its operation; `NoSteps`: why no
+//! steps lead there.
 
 use thiserror::Error;
 
-/// To where a process steps. It stops earlier where it is no longer busy.
+/// Where a process steps. The process stops earlier if it is no longer busy.
 #[derive(Clone, Copy, PartialEq, Eq)]
 pub enum Goal {
     /// To the line of this number.

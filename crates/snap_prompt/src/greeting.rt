@@ -8,7 +8,7 @@ use snap_text::{push_number, push_text};
 use snap_words::{Kind, Shape};
 use std::alloc::AllocError;
 
-/// Adds the shape.
+/// Appends the shape.
 #[tactic(auto, using(snap_text::proofs::Texts::joined))]
 fn push_shape(out: &mut Vec<u8>, shape: Shape) -> Result<(), AllocError>
     ensures { OnOk result (out.new.items ≡ out.old.items ++ shape_text shape) }
@@ -19,7 +19,7 @@ fn push_shape(out: &mut Vec<u8>, shape: Shape) -> Result<(), AllocError>
     push_number(out, shape.w())
 }
 
-/// Adds what is said before the first line.
+/// Appends what stands before the first line.
 #[tactic(auto, using(snap_text::proofs::Texts::joined), unfolding(crate::specs::Greeting::greeting_text))]
 pub(crate) fn push_greeting<K: Kind>(
     out: &mut Vec<u8>,

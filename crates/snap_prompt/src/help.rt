@@ -45,7 +45,7 @@ A register A is r K, q I J, p I J or v I. s, b, r, g and p before numbers are st
 back, run, goto and show; b I N is break I N. An empty line is the last line again.
 ";
 
-/// Adds what lines can ask for.
+/// Appends the list of requests.
 #[tactic(auto, using(snap_text::proofs::Texts::joined), unfolding(crate::specs::Help::help_text))]
 pub(crate) fn push_help(out: &mut Vec<u8>) -> Result<(), AllocError>
     ensures { OnOk result (out.new.items ≡ out.old.items ++ help_text) }

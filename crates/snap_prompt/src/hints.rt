@@ -6,13 +6,13 @@ ghost use Rattle.snap_prompt.specs.Hints.{refused_steps, registers_text, standin
 
 use crate::NoSteps;
 use snap_debug::{Session, push_refusal};
-use snap_refusals::push_refused;
+use snap_faults::push_refused;
 use snap_semantics::{CommandRefusal, Line, Refusal, ScheduleRefusal};
 use snap_text::{push_number, push_text};
 use snap_words::{Kind, KindTag, Shape};
 use std::alloc::AllocError;
 
-/// The number of the first of some lines, and 0 where there is none.
+/// Returns the number of the first of `lines`, and 0 if there is none.
 fn first_number(lines: &[Line]) -> u64
     ensures { result ≡ first_number lines.now }
 {
@@ -22,7 +22,7 @@ fn first_number(lines: &[Line]) -> u64
     }
 }
 
-/// The number of the last of some lines, and 0 where there is none.
+/// Returns the number of the last of `lines`, and 0 if there is none.
 fn last_number(lines: &[Line]) -> u64
     ensures { result ≡ last_number 0 lines.now }
 {
@@ -33,7 +33,7 @@ fn last_number(lines: &[Line]) -> u64
     number
 }
 
-/// Adds a range of numbers.
+/// Appends a range of numbers.
 #[tactic(auto, using(snap_text::proofs::Texts::joined))]
 fn push_range(out: &mut Vec<u8>, what: &[u8], from: u64, to: u64) -> Result<(), AllocError>
     ensures { OnOk result (out.new.items ≡ out.old.items ++ range_text what.now from to) }
@@ -46,7 +46,7 @@ fn push_range(out: &mut Vec<u8>, what: &[u8], from: u64, to: u64) -> Result<(), 
     push_number(out, to)
 }
 
-/// Adds the range of the lines of the listing.
+/// Appends the range of the lines of the listing.
 pub(crate) fn push_lines_range<K: Kind>(
     out: &mut Vec<u8>,
     session: &Session<K>,
@@ -59,7 +59,7 @@ pub(crate) fn push_lines_range<K: Kind>(
     push_range(out, what, first_number(lines), last_number(lines))
 }
 
-/// Adds which registers there are.
+/// Appends which registers there are.
 fn push_registers(out: &mut Vec<u8>, kind: KindTag, shape: Shape) -> Result<(), AllocError>
     ensures { OnOk result (out.new.items ≡ out.old.items ++ registers_text kind shape) }
 {
@@ -81,7 +81,7 @@ and r",
     }
 }
 
-/// Adds what would have been right.
+/// Appends what would have been right.
 #[tactic(auto, unfolding(crate::specs::Hints::hint_text))]
 fn push_hint<K: Kind>(
     out: &mut Vec<u8>,
@@ -112,7 +112,7 @@ fn push_hint<K: Kind>(
     }
 }
 
-/// Adds the line of a refused command.
+/// Appends the line of a refused command.
 #[tactic(auto, using(snap_text::proofs::Texts::joined), unfolding(crate::specs::Hints::refused_line))]
 pub(crate) fn push_refused_line<K: Kind>(
     out: &mut Vec<u8>,
@@ -127,7 +127,7 @@ pub(crate) fn push_refused_line<K: Kind>(
     push_text(out, b"\n")
 }
 
-/// Adds what would have been right to add.
+/// Appends what would have been right to add.
 fn push_added_hint<K: Kind>(
     out: &mut Vec<u8>,
     session: &Session<K>,
@@ -148,7 +148,7 @@ fn push_added_hint<K: Kind>(
     }
 }
 
-/// Adds the line of an addition that is refused.
+/// Appends the line of an addition that is refused.
 #[tactic(auto, using(snap_text::proofs::Texts::joined), unfolding(crate::specs::Hints::refused_addition))]
 pub(crate) fn push_refused_addition<K: Kind>(
     out: &mut Vec<u8>,
@@ -162,7 +162,7 @@ pub(crate) fn push_refused_addition<K: Kind>(
     push_text(out, b"\n")
 }
 
-/// Adds the line of a process that takes no steps, for the way it stands.
+/// Appends the line of a process that takes no steps because of its status.
 #[tactic(auto, using(snap_text::proofs::Texts::joined))]
 fn push_standing(out: &mut Vec<u8>, process: u64, how: &[u8]) -> Result<(), AllocError>
     ensures { OnOk result (out.new.items ≡ out.old.items ++ standing_line process how.now) }
@@ -174,7 +174,7 @@ fn push_standing(out: &mut Vec<u8>, process: u64, how: &[u8]) -> Result<(), Allo
     push_text(out, b"\n")
 }
 
-/// Adds why a process takes no steps to a goal. A refusal of the schedule names the line.
+/// Appends why a process takes no steps to a goal. A refusal of the schedule names the line.
 #[tactic(auto, unfolding(crate::specs::Hints::refused_steps))]
 pub(crate) fn push_refused_steps<K: Kind>(
     out: &mut Vec<u8>,

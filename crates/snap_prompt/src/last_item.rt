@@ -7,13 +7,13 @@ ghost use Rattle.snap_semantics.specs.Readers.{line_of};
 ghost use Rattle.snap_semantics.specs.State.{process_at};
 ghost use Rattle.snap_semantics.specs.Table.{who};
 ghost use Rattle.snap_runs.specs.Run.{state};
-ghost use Rattle.snap_listing_printer.specs.LineTexts.{written};
+ghost use Rattle.snap_listing.specs.LineTexts.{written};
 ghost use Rattle.snap_debug.specs.Session.{Obeys, at_position};
 ghost use Rattle.snap_prompt.specs.Changed.{item_head, item_line, item_text};
 ghost use Rattle.snap_prompt.specs.Changed.{line_run, ran, run_text};
 
 use snap_debug::{Command, Reply, Session};
-use snap_listing_printer::LineTexts;
+use snap_listing::LineTexts;
 use snap_report::outcome_text;
 use snap_semantics::{CommandRefusal, Fault, Outcome};
 use snap_text::{push_number, push_text};
@@ -43,7 +43,7 @@ pub(crate) fn go_to<K: Kind>(session: &mut Session<K>, position: u64) -> Result<
     }
 }
 
-/// The line at which a process was before the last item.
+/// Returns the line at which a process was before the last item.
 fn line_before<K: Kind>(session: &mut Session<K>, process: u32) -> Result<Option<u64>, AllocError>
     requires later { 0 < session.old.position }
     requires process { IsOneOf session.old.run.shape.n process }
@@ -59,7 +59,7 @@ fn line_before<K: Kind>(session: &mut Session<K>, process: u32) -> Result<Option
     Ok(line)
 }
 
-/// Whether an item that came out so ran a line.
+/// Returns whether an item of this outcome ran a line.
 fn ran(outcome: &Outcome) -> bool
     ensures { result ≡ ran outcome.now }
 {
@@ -69,7 +69,7 @@ fn ran(outcome: &Outcome) -> bool
     }
 }
 
-/// The line that the last item ran.
+/// Returns the line that the last item ran.
 fn line_run<K: Kind>(
     session: &mut Session<K>,
     process: u32,
@@ -89,7 +89,7 @@ fn line_run<K: Kind>(
     }
 }
 
-/// Adds ` at ` and the text of the line that was run, where one was.
+/// Appends ` at ` and the text of the line that was run, if one was.
 fn push_run(out: &mut Vec<u8>, texts: &LineTexts, line: Option<u64>) -> Result<(), AllocError>
     ensures { OnOk result (out.new.items ≡ out.old.items ++ run_text texts.now line) }
 {
@@ -105,7 +105,7 @@ fn push_run(out: &mut Vec<u8>, texts: &LineTexts, line: Option<u64>) -> Result<(
     }
 }
 
-/// Adds `item T I `.
+/// Appends `item T I `.
 #[tactic(auto, using(snap_text::proofs::Texts::joined))]
 fn push_item_head(out: &mut Vec<u8>, number: u64, process: u32) -> Result<(), AllocError>
     ensures { OnOk result (out.new.items ≡ out.old.items ++ item_head number process) }
@@ -117,7 +117,7 @@ fn push_item_head(out: &mut Vec<u8>, number: u64, process: u32) -> Result<(), Al
     push_text(out, b" ")
 }
 
-/// Adds `item T I OUTCOME`, and the line that it ran.
+/// Appends `item T I OUTCOME`, and the line that it ran.
 #[tactic(auto, using(snap_text::proofs::Texts::joined))]
 fn push_item_line(
     out: &mut Vec<u8>,
@@ -136,7 +136,7 @@ fn push_item_line(
     push_text(out, b"\n")
 }
 
-/// Adds what is said of the last item, where there is one.
+/// Appends the text on the last item, if there is one.
 #[tactic(auto, using(crate::proofs::LastItems::is_one), unfolding(crate::specs::Changed::item_text))]
 pub(crate) fn push_item<K: Kind>(
     out: &mut Vec<u8>,

@@ -2,21 +2,21 @@
 //! is, or all of them.
 ghost use Rattle.std.specs.Prelude.{◌≡◌, ◌++◌, OnOk, map};
 ghost use Rattle.snap_words.specs.Shape.{IsOneOf};
-ghost use Rattle.snap_listing_printer.specs.LineTexts.{text_with, written};
+ghost use Rattle.snap_listing.specs.LineTexts.{text_with, written};
 ghost use Rattle.snap_prompt.specs.Listed.{is_near, list_text, pointer_text, marked_line};
 ghost use Rattle.snap_prompt.specs.Listed.{near_line, near_lines, stand_text, text_or_none};
 
 use crate::hints::push_refused_line;
 use snap_debug::Session;
-use snap_listing_printer::LineTexts;
+use snap_listing::LineTexts;
 use snap_report::head_line;
 use snap_semantics::{CommandRefusal, Line};
 use snap_text::push_text;
 use snap_words::Kind;
 use std::alloc::AllocError;
 
-/// Whether a number is at most eight from the line at which a process stands. Where it stands at
-/// none, each is near.
+/// Returns whether a number is at most eight from the line at which a process stands. If the
+/// process stands at none, each number is near.
 fn is_near(line: Option<u64>, number: u64) -> bool
     ensures { result ≡ is_near line number }
 {
@@ -26,7 +26,7 @@ fn is_near(line: Option<u64>, number: u64) -> bool
     }
 }
 
-/// Adds the mark of the line at which a process stands, or the space of another one.
+/// Appends the mark of the line at which a process stands, or the space of another one.
 fn push_mark(out: &mut Vec<u8>, line: Option<u64>, number: u64) -> Result<(), AllocError>
     ensures { OnOk result (out.new.items ≡ out.old.items ++ pointer_text line number) }
 {
@@ -36,7 +36,7 @@ fn push_mark(out: &mut Vec<u8>, line: Option<u64>, number: u64) -> Result<(), Al
     }
 }
 
-/// Adds the text of a line.
+/// Appends the text of a line.
 fn push_line_text(out: &mut Vec<u8>, texts: &LineTexts, number: u64) -> Result<(), AllocError>
     ensures { OnOk result (out.new.items ≡ out.old.items
         ++ text_or_none (text_with texts.now number)) }
@@ -47,7 +47,7 @@ fn push_line_text(out: &mut Vec<u8>, texts: &LineTexts, number: u64) -> Result<(
     }
 }
 
-/// Adds a line, marked where a process stands at it.
+/// Appends a line, marked if a process stands at it.
 #[tactic(auto, using(snap_text::proofs::Texts::joined))]
 fn push_marked_line(
     out: &mut Vec<u8>,
@@ -62,7 +62,7 @@ fn push_marked_line(
     push_text(out, b"\n")
 }
 
-/// Adds a line where it is near.
+/// Appends a line if it is near.
 fn push_near_line(
     out: &mut Vec<u8>,
     texts: &LineTexts,
@@ -78,7 +78,7 @@ fn push_near_line(
     }
 }
 
-/// Adds those of some lines that are near.
+/// Appends the lines that are near.
 fn push_near_lines(
     out: &mut Vec<u8>,
     texts: &LineTexts,
@@ -93,7 +93,7 @@ fn push_near_lines(
     Ok(())
 }
 
-/// Adds where a process stands, and the lines around; all lines where it stands at none.
+/// Appends the status of a process, and the lines around its own; all lines if it stands at none.
 #[tactic(auto, using(snap_text::proofs::Texts::joined), unfolding(crate::specs::Listed::stand_text))]
 fn push_stand<K: Kind>(
     out: &mut Vec<u8>,
@@ -110,7 +110,7 @@ fn push_stand<K: Kind>(
     push_near_lines(out, texts, line, session.program().listing().lines())
 }
 
-/// Adds where process `i` stands, and the lines around; or that there is no such process.
+/// Appends where process `i` stands, and the lines around; or that there is no such process.
 #[tactic(auto, unfolding(crate::specs::Listed::list_text))]
 pub(crate) fn push_list<K: Kind>(
     out: &mut Vec<u8>,

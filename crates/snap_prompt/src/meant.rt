@@ -1,12 +1,12 @@
-//! What lines at the prompt mean: the last thing again or the thing itself, whether it moves the
+//! What lines at the prompt mean: the last request again or a new one, and whether it moves the
 //! session.
 ghost use Rattle.std.specs.Prelude.{◌≡◌};
 ghost use Rattle.snap_prompt.specs.Prompt.{meant, moves};
 
+use crate::ask::Ask;
 use snap_debug::Command;
-use snap_prompt_lines::Ask;
 
-/// Whether a command moves.
+/// Returns whether a command moves.
 pub(crate) fn moves(command: &Command) -> bool
     ensures { result ≡ moves command.now }
 {
@@ -28,7 +28,7 @@ pub(crate) fn moves(command: &Command) -> bool
     }
 }
 
-/// What is meant by what a line asks for: the last thing again, or the thing itself.
+/// Returns the request that a line means: the last one again, or its own.
 pub(crate) fn meant(last: Option<Ask>, ask: Ask) -> Option<Ask>
     ensures { result ≡ meant last ask }
 {

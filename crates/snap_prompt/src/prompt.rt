@@ -19,7 +19,10 @@ ghost use Rattle.snap_prompt.specs.Prompt.{with_addition, with_session};
 ghost use Rattle.snap_prompt.specs.Said.{IsAdded, saved};
 ghost use Rattle.snap_prompt.specs.Changed.{item_text, state_text};
 
+use crate::addition::Addition;
+use crate::ask::{Ask, ask_of, is_yes};
 use crate::changed::state_text;
+use crate::edits::edited;
 use crate::explained::push_explained;
 use crate::greeting::push_greeting;
 use crate::help::push_help;
@@ -28,26 +31,26 @@ use crate::last_item::{do_command, go_to, push_item};
 use crate::listed::push_list;
 use crate::meant::{meant, moves};
 use crate::question::Question;
+use crate::save_form::saving_of;
 use crate::saved::push_saved;
 use crate::shows::Shows;
 use crate::{Goal, steps_to};
 use snap_asm_program::Program;
 use snap_debug::{Command, Session};
-use snap_dialog::{Folder, Respondent};
-use snap_listing_printer::LineTexts;
-use snap_prompt_lines::{Addition, Ask, ask_of, edited, is_yes, saving_of};
+use snap_listing::LineTexts;
 use snap_report::{head_lines, position_line};
 use snap_sched::{Schedule, print};
 use snap_semantics::{CommandRefusal, Fault};
+use snap_streams::{Folder, Respondent};
 use snap_text::{push_changes, push_number, push_text};
 use snap_words::{Bits, Kind, Multi, Seq};
 use std::alloc::{AllocError, Global};
 use std::marker::Model;
 
-/// What is asked before the dialog ends.
+/// The question before the dialog ends.
 const END_QUESTION: &[u8] = b"quit? what was added is lost unless it was saved (y)\n";
 
-/// Adds what is said where a line does not say yes to a question.
+/// Appends the text where a line does not say yes to a question.
 fn push_denied(out: &mut Vec<u8>, question: Question) -> Result<(), AllocError>
     ensures { OnOk result (out.new.items ≡ out.old.items ++ denied_text question) }
 {
@@ -76,7 +79,7 @@ pub struct Prompt<K: Kind, S: Copy> {
 
 impl<K: Kind, S: Copy> Model for Prompt<K, S> {
     ghost use Rattle.std.specs.Prelude.{◌≡◌, map};
-    ghost use Rattle.snap_listing_printer.specs.LineTexts.{written};
+    ghost use Rattle.snap_listing.specs.LineTexts.{written};
     ghost use Rattle.snap_prompt.specs.Prompt.{Prompt, schedule_of_run};
 
     ghost Value = { Prompt };
@@ -112,7 +115,11 @@ impl<K: Kind, S: Copy> Drop for Prompt<K, S> {
 }
 
 impl<K: Kind, S: Folder + Copy> Prompt<K, S> {
-    /// Before the first item of a schedule, which it takes. Schedules are saved in the folder.
+    /// Returns a prompt before the first item of `schedule`. Schedules are saved in `folder`.
+    ///
+    /// # Errors
+    ///
+    /// `AllocError` where memory runs out.
     pub fn over(
         alloc: Global,
         program: &Program,
@@ -139,7 +146,8 @@ impl<K: Kind, S: Folder + Copy> Prompt<K, S> {
         })
     }
 
-    /// Adds the item at which the session stands, and what changed from a state with this report.
+    /// Appends the item at which the session stands, and what changed from a state with this
+    /// report.
     #[tactic(auto, using(snap_text::proofs::Texts::joined))]
     fn push_moved(&mut self, out: &mut Vec<u8>, before: &[u8]) -> Result<(), AllocError>
         ensures text { let s = self.old.session in OnOk result (out.new.items ≡ out.old.items
@@ -187,7 +195,7 @@ impl<K: Kind, S: Folder + Copy> Prompt<K, S> {
         }
     }
 
-    /// Does a command, and adds what is said of it.
+    /// Does a command, and appends its reply.
     #[tactic(auto, unfolding(crate::specs::Prompt::did_text))]
     fn push_done(&mut self, out: &mut Vec<u8>, command: &Command) -> Result<(), AllocError>
         ensures text { OnOk result (out.new.items ≡ out.old.items
@@ -202,7 +210,7 @@ impl<K: Kind, S: Folder + Copy> Prompt<K, S> {
         }
     }
 
-    /// The session over another schedule at its end.
+    /// Returns the session over another schedule at its end.
     fn reopened(&self, schedule: &Schedule) -> Result<Session<K>, AllocError>
         ensures { IfOk result (λ s. s ≡ at_end_of schedule.now self.now.session) }
     {
@@ -222,7 +230,7 @@ impl<K: Kind, S: Folder + Copy> Prompt<K, S> {
         Ok(())
     }
 
-    /// Adds what is said of the end of the schedule, where the state before had this report.
+    /// Appends the text on the end of the schedule, where the state before had the report `before`.
     #[tactic(auto, using(snap_text::proofs::Texts::joined))]
     fn push_end(&mut self, out: &mut Vec<u8>, before: &[u8]) -> Result<(), AllocError>
         ensures text { let s = self.old.session in OnOk result (out.new.items ≡ out.old.items
@@ -236,7 +244,7 @@ impl<K: Kind, S: Folder + Copy> Prompt<K, S> {
         self.push_moved(out, before)
     }
 
-    /// Adds items behind the position, where the schedule is cut, and adds what is said of that.
+    /// Adds items behind the position, where the schedule is cut, and appends the text on that.
     #[tactic(auto, unfolding(crate::specs::Prompt::added, crate::specs::Changed::moved_text, crate::specs::Changed::changed))]
     fn push_added(&mut self, out: &mut Vec<u8>, addition: Addition) -> Result<(), AllocError>
         ensures text { OnOk result (out.new.items ≡ out.old.items
@@ -255,7 +263,7 @@ impl<K: Kind, S: Folder + Copy> Prompt<K, S> {
         }
     }
 
-    /// Adds what is asked before items go.
+    /// Appends the question before items are dropped.
     #[tactic(auto, using(snap_text::proofs::Texts::joined))]
     fn push_question(&self, out: &mut Vec<u8>) -> Result<(), AllocError>
         ensures { OnOk result (out.new.items ≡ out.old.items ++ question_text self.now.session) }
@@ -280,7 +288,7 @@ impl<K: Kind, S: Folder + Copy> Prompt<K, S> {
         Ok(())
     }
 
-    /// Adds as many steps of a process as lead it to a goal, or adds why there are none.
+    /// Adds as many steps of a process as lead it to a goal, or appends why there are none.
     #[tactic(auto, unfolding(crate::specs::Prompt::led))]
     fn push_led(&mut self, out: &mut Vec<u8>, process: u64, goal: Goal) -> Result<(), AllocError>
         ensures text { OnOk result (out.new.items ≡ out.old.items
@@ -307,7 +315,7 @@ impl<K: Kind, S: Folder + Copy> Prompt<K, S> {
         Ok(false)
     }
 
-    /// Adds the report of the position.
+    /// Appends the report of the position.
     fn push_report(&self, out: &mut Vec<u8>) -> Result<(), AllocError>
         ensures { OnOk result (out.new.items ≡ out.old.items ++ session_report self.now.session) }
     {
@@ -315,7 +323,7 @@ impl<K: Kind, S: Folder + Copy> Prompt<K, S> {
         push_text(out, report.as_slice())
     }
 
-    /// Adds the schedule.
+    /// Appends the schedule.
     fn push_schedule(&self, out: &mut Vec<u8>) -> Result<(), AllocError>
         ensures { OnOk result (out.new.items ≡ out.old.items
             ++ schedule_text (schedule_of_run self.now.session.run)) }
@@ -324,7 +332,7 @@ impl<K: Kind, S: Folder + Copy> Prompt<K, S> {
         push_text(out, text.as_slice())
     }
 
-    /// Saves the schedule under a name, and adds what is said of that.
+    /// Saves the schedule under a name, and appends the text on that.
     #[tactic(auto, using(crate::proofs::Added::saved_is_added))]
     fn push_saving(
         &mut self,
@@ -339,7 +347,7 @@ impl<K: Kind, S: Folder + Copy> Prompt<K, S> {
         push_saved(out, &mut self.folder, name, text.as_slice(), replaces)
     }
 
-    /// The process of the last item, and 1 where there is none.
+    /// Returns the process of the last item, and 1 if there is none.
     fn last_process(&self) -> Result<u64, AllocError>
         ensures { IfOk result (λ i.
             i ≡ process_of (last_of self.now.session.run self.now.session.position)) }
@@ -350,7 +358,7 @@ impl<K: Kind, S: Folder + Copy> Prompt<K, S> {
         }
     }
 
-    /// Adds the lines around the one at which a process stands.
+    /// Appends the lines around the one at which a process stands.
     fn push_list_of(&self, out: &mut Vec<u8>, process: u64) -> Result<(), AllocError>
         ensures { OnOk result (out.new.items ≡ out.old.items
             ++ list_text self.now.session process) }
@@ -358,7 +366,7 @@ impl<K: Kind, S: Folder + Copy> Prompt<K, S> {
         push_list(out, &self.texts, &self.session, process)
     }
 
-    /// Adds why an item came out as it did, that of the position where none is named.
+    /// Appends why an item came out as it did, that of the position if no item is named.
     fn push_why_of(&self, out: &mut Vec<u8>, item: Option<u64>) -> Result<(), AllocError>
         ensures { let s = self.now.session in OnOk result (IsAdded
             (explained s (item_or_position s item)) out.old.items out.new.items) }
@@ -405,7 +413,7 @@ impl<K: Kind, S: Folder + Copy> Prompt<K, S> {
         Ok(true)
     }
 
-    /// Does what a line asks for, and adds what is answered.
+    /// Does the request of a line, and appends the answer.
     #[tactic(auto, unfolding(crate::specs::Prompt::asked))]
     fn push_asked(
         &mut self,
@@ -432,7 +440,7 @@ impl<K: Kind, S: Folder + Copy> Prompt<K, S> {
         }
     }
 
-    /// Does what was asked about.
+    /// Does what was agreed to.
     fn push_agreed(&mut self, out: &mut Vec<u8>, question: Question) -> Result<bool, AllocError>
         ensures text { OnOk result (out.new.items ≡ out.old.items
             ++ (agreed_to self.old question).said) }
@@ -468,7 +476,7 @@ impl<K: Kind, S: Folder + Copy> Prompt<K, S> {
         Ok(true)
     }
 
-    /// Adds what stands before the first line, where a person is greeted.
+    /// Appends what stands before the first line, if a person is greeted.
     #[tactic(auto, unfolding(crate::specs::Prompt::greeting_or_none))]
     fn push_first(&self, out: &mut Vec<u8>) -> Result<(), AllocError>
         ensures { OnOk result (out.new.items ≡ out.old.items ++ greeting_or_none self.now) }
@@ -480,7 +488,7 @@ impl<K: Kind, S: Folder + Copy> Prompt<K, S> {
         }
     }
 
-    /// Adds the position, where it stands before each line.
+    /// Appends the position, if it stands before each line.
     #[tactic(auto, using(snap_text::proofs::Texts::joined), unfolding(crate::specs::Prompt::position_or_none))]
     fn push_position(&self, out: &mut Vec<u8>) -> Result<(), AllocError>
         ensures { OnOk result (out.new.items ≡ out.old.items ++ position_or_none self.now) }
@@ -494,7 +502,7 @@ impl<K: Kind, S: Folder + Copy> Prompt<K, S> {
         push_text(out, b"> ")
     }
 
-    /// Adds what stands before a line.
+    /// Appends what stands before a line.
     #[tactic(auto, using(snap_text::proofs::Texts::joined))]
     fn push_front(&self, out: &mut Vec<u8>) -> Result<(), AllocError>
         ensures { OnOk result (out.new.items ≡ out.old.items ++ prompt_text self.now) }
@@ -503,7 +511,7 @@ impl<K: Kind, S: Folder + Copy> Prompt<K, S> {
         self.push_position(out)
     }
 
-    /// Adds an answer to a line, and tells whether the dialog goes on.
+    /// Appends an answer to a line, and returns whether the dialog goes on.
     #[tactic(auto, unfolding(crate::specs::Prompt::answer_line))]
     fn push_answered(&mut self, out: &mut Vec<u8>, line: &[u8]) -> Result<bool, AllocError>
         ensures text { OnOk result ((text : List ℕ) × Says self.old line.now text
@@ -527,7 +535,7 @@ impl<K: Kind, S: Folder + Copy> Prompt<K, S> {
         }
     }
 }
-// One for each kind: what a session sends to threads is known of each of them.
+// There is one prompt for each kind, since what a session sends to threads is known of each kind.
 impl<S: Folder + Copy> Respondent for Prompt<Seq, S> {
     ghost prompt_of = { prompt_text };
 

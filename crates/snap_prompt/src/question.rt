@@ -1,5 +1,5 @@
 //! `Question`: what the debugger's prompt has asked, which the next line answers.
-use snap_prompt_lines::Addition;
+use crate::addition::Addition;
 
 /// What was asked.
 #[derive(Clone, Copy, PartialEq, Eq)]

@@ -2,12 +2,12 @@
 ghost use Rattle.std.specs.Prelude.{◌≡◌, ◌++◌, Err, OnOk};
 ghost use Rattle.snap_prompt.specs.Saved.{Saves, outcome_line, save_reason};
 
-use snap_dialog::Folder;
+use snap_streams::Folder;
 use snap_text::push_text;
 use std::alloc::AllocError;
 use std::io::ErrorKind;
 
-/// Why a file was not written, for a person.
+/// Returns why a file was not written, for a person.
 fn save_reason(kind: ErrorKind) -> &'static [u8]
     ensures { result.now ≡ save_reason kind }
 {
@@ -21,7 +21,7 @@ fn save_reason(kind: ErrorKind) -> &'static [u8]
     }
 }
 
-/// Adds why a schedule was not saved under a name.
+/// Appends why a schedule was not saved under a name.
 #[tactic(auto, using(snap_text::proofs::Texts::joined))]
 fn push_reason(out: &mut Vec<u8>, name: &[u8], kind: ErrorKind) -> Result<(), AllocError>
     ensures { OnOk result (out.new.items ≡ out.old.items ++ outcome_line name.now (Err kind)) }
@@ -33,7 +33,7 @@ fn push_reason(out: &mut Vec<u8>, name: &[u8], kind: ErrorKind) -> Result<(), Al
     push_text(out, b"\n")
 }
 
-/// Adds what is said of a schedule that was saved under a name, or was not.
+/// Appends the text on a schedule that was saved under a name, or was not.
 #[tactic(auto, using(snap_text::proofs::Texts::joined))]
 fn push_outcome(
     out: &mut Vec<u8>,

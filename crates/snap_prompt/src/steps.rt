@@ -14,7 +14,7 @@ use snap_semantics::{Item, Status};
 use snap_words::Kind;
 use std::alloc::AllocError;
 
-/// Whether a process at a line has reached a goal.
+/// Returns whether a process at a line has reached a goal.
 fn is_at(goal: Goal, line: u64) -> bool
     ensures { result ≡ is_at goal line }
 {
@@ -24,7 +24,8 @@ fn is_at(goal: Goal, line: u64) -> bool
     }
 }
 
-/// Whether a process that stands so has reached a goal: it is at its line, or no longer busy.
+/// Returns whether a process of this status has reached a goal: it is at its line, or no longer
+/// busy.
 fn has_reached(goal: Goal, status: Status) -> bool
     ensures { result ≡ has_reached goal status }
 {
@@ -34,7 +35,7 @@ fn has_reached(goal: Goal, status: Status) -> bool
     }
 }
 
-/// Lets a process step to a goal, and tells how many steps it took, at most this many.
+/// Lets a process step to a goal, and returns how many steps it took, at most `most`.
 fn count_steps<K: Kind>(
     machine: &mut Machine<K>,
     process: u32,
@@ -54,8 +55,8 @@ fn count_steps<K: Kind>(
     Ok(None)
 }
 
-/// How many steps a process of a machine takes to a goal, at most this many.
-/// The machine stays as it is.
+/// Returns how many steps a process of a machine takes to a goal, at most `most`. The machine stays
+/// as it is.
 fn steps_of<K: Kind>(
     machine: &Machine<K>,
     process: u32,
@@ -70,7 +71,7 @@ fn steps_of<K: Kind>(
     count_steps(&mut machine, process, goal, most)
 }
 
-/// One of the lines, or the end.
+/// Checks that a goal is one of the lines, or the end.
 fn check_goal(program: &Program, goal: Goal) -> Result<(), NoSteps>
     ensures { result ≡ checked_goal program.now.lines goal }
 {
@@ -80,7 +81,7 @@ fn check_goal(program: &Program, goal: Goal) -> Result<(), NoSteps>
     }
 }
 
-/// A process that is busy.
+/// Checks that a process is busy.
 fn check_status(status: Status) -> Result<(), NoSteps>
     ensures { result ≡ checked_status status }
 {
@@ -92,7 +93,7 @@ fn check_status(status: Status) -> Result<(), NoSteps>
     }
 }
 
-/// One of the processes, which is busy, and a goal that is there.
+/// Checks that a process exists and is busy, and that its goal exists.
 fn check<K: Kind>(session: &Session<K>, process: u64, goal: Goal) -> Result<(), NoSteps>
     ensures checked { result ≡ checked session.now process goal }
     ensures fits { OnOk result (process < 2 ^ 32) }
@@ -104,7 +105,12 @@ fn check<K: Kind>(session: &Session<K>, process: u64, goal: Goal) -> Result<(), 
     check_status(session.machine().status(process as u32))
 }
 
-/// How many steps a process takes to a goal from where a session stands, or why it takes none.
+/// Returns how many steps process `process` takes to `goal` from where `session` stands, or why it
+/// takes none.
+///
+/// # Errors
+///
+/// `AllocError` where memory runs out.
 #[tactic(auto, using(crate::proofs::Fewest::right), unfolding(crate::specs::Reach::steps_to))]
 pub fn steps_to<K: Kind>(
     session: &Session<K>,

@@ -8,5 +8,5 @@ pub fn shipped_runs_are_certified()
     ensures { (g : KindTag) → RunsAreCertified g }
 {
     snap_shipped::shipped_runs_keep_promises();
-    snap_certification::points_certify();
+    snap_certify::points_certify();
 }

@@ -1,4 +1,4 @@
-//! The listings that come with the program are silent: nothing is warned of in them.
+//! The listings that come with the program are silent: the lint warns of nothing in them.
 ghost use Rattle.snap_reading_laws.specs.warnings.Silent.{BIsSilent, MIsSilent, UIsSilent};
 
 /// Nothing is warned of in listing U.

@@ -4,7 +4,7 @@ use Rattle.std.proofs.Common.{take, drop, sym, ap, ◌∙◌, append_assoc, arit
 use Rattle.std.proofs.lemmas.List.{take_all}
 use Rattle.snap_semantics.specs.declared.process.Item.{Item}
 use Rattle.snap_runs.specs.Run.{Run}
-use Rattle.snap_history.specs.Longer.{with_item, with_items}
+use Rattle.snap_record.specs.Longer.{with_item, with_items}
 
 -- of these items, of which so many are asked for, the first k are done, and the others are left
 pub record Doing (r : Run) (xs : List Item) (count k : ℕ) (now : Run) (left : List Item) : Type 0 where

@@ -17,8 +17,8 @@ use Rattle.snap_semantics.specs.declared.process.Outcome.TheVariants as outcomes
 use Rattle.snap_runs.specs.Run.{Run, IsValidRun, state, item, outcome, events_of}
 use Rattle.snap_runs.proofs.Embedding.{next_state}
 use Rattle.snap_record.specs.History.{IsRising, IsWithin}
-use Rattle.snap_history.proofs.Later.{events_after}
-use Rattle.snap_history.proofs.Longer.{join_all}
+use Rattle.snap_record.proofs.Later.{events_after}
+use Rattle.snap_record.proofs.Longer.{join_all}
 
 -- the events of the items after item t
 abbrev pub events_from : Run → ℕ → List Event
@@ -85,7 +85,7 @@ events_within s n S t u (x ∷ xs) all le =
     (event_within n.n u t x (done s n S x).1 all.0 (omega (arith, le)))
     (events_within s n (done s n S x).0 (t + 1) u xs all.1 (omega (arith, le)))
 
--- so is each event of a run
+-- each event of a run is within the run
 pub all_within_run : (r : Run) → IsValidRun r → AllByRecursion (IsWithin r.shape.n (length r.items)) (events_from r 0)
 all_within_run r fits = events_within r.source r.shape (state r 0) 1 (length r.items) r.items fits.all (omega arith)
 

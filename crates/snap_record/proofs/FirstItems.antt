@@ -19,7 +19,7 @@ next_is xs t below =
 pub is_there : (xs : List Item) (t : ℕ) → t < length xs → nth (t + 1) xs ≡ None → ⊥
 is_there xs t below e = let is = next_is xs t below in cc
 
--- and with it they are the first t + 1
+-- the first t items and item t + 1 are the first t + 1
 pub one_more : (xs items : List Item) (t : ℕ) (x : Item) → t < length xs → nth (t + 1) xs ≡ Some x →
     items ≡ take t xs ++ x ∷ [] → items ≡ take (t + 1) xs
 one_more xs items t x below e is =

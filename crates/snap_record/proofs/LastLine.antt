@@ -31,13 +31,13 @@ none_after n k (line ∷ lines) h lt =
     differ : (n k : ℕ) → n < k → nat_eq n k ≡ false
     differ n k lt = grind arith
 
--- it is that of the line at the last place
+-- the largest number of a line is that of the line at the last place
 last_there : (line l : Line) (lines : List Line) → Some l ≡ slice_get (line ∷ lines) (length lines) →
     l.number ≡ last_number line.number lines
 last_there line l [] is = let same : l ≡ line = cc in ap (λ (x : Line). x.number) same
 last_there line l (more ∷ lines) is = last_there more l lines is
 
--- so none has a number above that of the line at the last place
+-- no line has a number above that of the line at the last place
 pub none_beyond : (s : Source) (l : Line) → IsListing s → Some l ≡ slice_get s.lines (length s.lines - 1) →
     NoneBeyond s (l.number + 1)
 none_beyond s l rules is k far = last s.lines rules.rising is

@@ -1,4 +1,7 @@
 -- The proofs of snap_record, by their modules.
+pub mod Kept
+pub mod Longer
+pub mod Later
 pub mod Locals
 pub mod KeptLocals
 pub mod Names

@@ -11,7 +11,7 @@ use Rattle.snap_record.specs.Roles.{AreRoles, NoneBeyond, role_of}
 use Rattle.snap_record.specs.declared.roles.LineRole.{LineRole}
 use Rattle.snap_record.specs.declared.roles.LineRole.TheVariants as role
 
--- so many of the first numbers have the roles of their lines
+-- roles of the first numbers, which are those of their lines
 abbrev pub AreFirstRoles : Source → List LineRole → Type 0
 AreFirstRoles s ms = (k : ℕ) → k < length ms → (d : LineRole) → get_or ms k d ≡ role_of (instr_at s.lines k)
 
@@ -29,7 +29,7 @@ roles_more s ms new m k h at is right =
         ∙ ap (λ i. role_of (instr_at s.lines i)) (at ∙ sym same)
     by_place j d (inr less) = get_or-append ms (m ∷ []) d j less ∙ h j less d
 
--- and all, where none is left
+-- roles of the first numbers are those of all lines, where none is left
 pub roles_all : (s : Source) (ms : List LineRole) → AreFirstRoles s ms → NoneBeyond s (length ms) → AreRoles s ms
 roles_all s ms h none k = elim (cases_lt k (length ms)) [
   | inl here ↦ h k here role.Nothing

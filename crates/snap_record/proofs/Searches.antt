@@ -22,7 +22,7 @@ use Rattle.snap_record.specs.Record.{answers, collects_from, collects_of, is_ans
 use Rattle.snap_record.specs.History.{IsWithin, collects_at}
 use Rattle.snap_record.specs.Searches.{collects_until, found_collects, is_answer_of, scan_collects, scans}
 use Rattle.snap_record.proofs.Counts.{count_split}
-use Rattle.snap_history.proofs.Later.{events_after}
+use Rattle.snap_record.proofs.Later.{events_after}
 use Rattle.snap_record.proofs.Events.{next_left, events_from, next_events}
 use Rattle.snap_record.proofs.Events.{no_events, all_events, all_within_run}
 

@@ -1,4 +1,6 @@
 -- The definitions of snap_record, by their modules.
+pub mod Items
+pub mod Longer
 pub mod Record
 pub mod History
 pub mod SeenRoles

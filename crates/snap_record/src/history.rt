@@ -30,7 +30,7 @@ pub struct Change {
     pub value: u64,
 }
 
-/// The event of a call.
+/// Returns the event of a call.
 fn call_event(number: u64, item: Item) -> Option<Event>
     ensures { of_option result ≡ call_event number item }
 {
@@ -45,8 +45,8 @@ fn call_event(number: u64, item: Item) -> Option<Event>
     }
 }
 
-/// The event of the item of this number, where it has one. An answer's view is the one that was to
-/// be answered.
+/// Returns the event of item number `number`, if it has one. The view of an answer is the one that
+/// was to be answered.
 #[inline(always)]
 pub fn event_of(number: u64, item: Item, outcome: &Outcome, step_role: StepRole) -> Option<Event>
     requires { (v : List ℕ) → outcome.now ≡ outcomes.Answered v → seen_step_role step_role
@@ -79,7 +79,7 @@ pub fn event_of(number: u64, item: Item, outcome: &Outcome, step_role: StepRole)
     }
 }
 
-/// Notes what a value is after an item.
+/// Notes the value of a place after an item.
 #[tactic(auto, using(crate::proofs::Values::value_again))]
 fn note_value(now: &mut Row, changes: &mut Vec<Change>, item: u64, place: usize, value: u64)
     requires place { place < length now.old }
@@ -101,7 +101,7 @@ fn note_value(now: &mut Row, changes: &mut Vec<Change>, item: u64, place: usize,
     now.set(place, value);
 }
 
-/// The value at place `k`, counted from 0. It takes no memory.
+/// Returns the value at place `k`, counted from 0. No memory is allocated.
 fn value_of<K: Kind>(machine: &Machine<K>, k: usize) -> u64
     requires { k < machine.now.shape.w }
     ensures { result ≡ get_or (values machine.now.state) k 0 }
@@ -140,7 +140,7 @@ pub fn note_values<K: Kind>(
     }
 }
 
-/// Whether a line writes a word.
+/// Returns whether a line writes a word.
 #[inline(always)]
 fn is_write(step_role: &StepRole) -> bool
     ensures { result ≡ is_write (seen_step_role step_role.now) }
@@ -153,7 +153,11 @@ fn is_write(step_role: &StepRole) -> bool
     }
 }
 
-/// Makes room for the changes of so many values, where a line writes a word.
+/// Makes room for the changes of `count` values, if a line writes a word.
+///
+/// # Errors
+///
+/// `AllocError` where memory runs out.
 #[inline(always)]
 pub fn reserve_changes(
     changes: &mut Vec<Change>,
@@ -170,7 +174,8 @@ pub fn reserve_changes(
     Ok(())
 }
 
-/// Notes the values after an item that leaves this machine. They stay where it writes no word.
+/// Notes the values after an item, which leaves `machine`. The values stay as they are if the item
+/// writes no word.
 #[inline(always)]
 pub fn note_item<K: Kind>(
     now: &mut Row,
@@ -194,7 +199,7 @@ pub fn note_item<K: Kind>(
     }
 }
 
-/// Counts a double collect, where an item ends one.
+/// Counts a double collect, if an item ends one.
 #[inline(always)]
 pub fn note_collect(collects: &mut Vec<u64>, i: u32, step_role: &StepRole, outcome: &Outcome)
     requires process { IsOneOf (length collects.old.items) i }
@@ -207,7 +212,7 @@ pub fn note_collect(collects: &mut Vec<u64>, i: u32, step_role: &StepRole, outco
     }
 }
 
-/// Notes an event, where there is one, and how many double collects its process has had.
+/// Notes an event, if there is one, and how many double collects its process has made.
 #[inline(always)]
 pub fn note_event(
     events: &mut Vec<Event>,
@@ -227,7 +232,7 @@ pub fn note_event(
     }
 }
 
-/// Whether a test for all goes on.
+/// Returns whether a test for all goes on.
 #[inline(always)]
 pub fn ends_collect(step_role: &StepRole, outcome: &Outcome) -> bool
     ensures { result ≡ (is_test (seen_step_role step_role.now) && is_stepped outcome.now) }
@@ -238,7 +243,7 @@ pub fn ends_collect(step_role: &StepRole, outcome: &Outcome) -> bool
     }
 }
 
-/// Whether nobody sees what came of an item.
+/// Returns whether nobody sees what came of an item.
 #[inline(always)]
 fn is_unseen(outcome: &Outcome) -> bool
     ensures { (t : ℕ) (x : Item) → IsTrue result → event_of t x outcome.now ≡ [] }
@@ -251,8 +256,8 @@ fn is_unseen(outcome: &Outcome) -> bool
     }
 }
 
-/// Notes what callers see of an item, and how many double collects its process has had. An answer's
-/// view is the one that was to be answered.
+/// Notes what callers see of an item, and how many double collects its process has made. The view
+/// of an answer is the one that was to be answered.
 #[inline(always)]
 pub fn note_outcome(
     events: &mut Vec<Event>,

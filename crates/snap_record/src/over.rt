@@ -8,7 +8,11 @@ use snap_sched::Schedule;
 use snap_words::Kind;
 use std::alloc::{AllocError, Global};
 
-/// The record of a program over a whole schedule.
+/// Returns the record of a program over a whole schedule.
+///
+/// # Errors
+///
+/// `AllocError` where memory runs out.
 pub fn record_over<K: Kind>(
     alloc: Global,
     program: &Program,

@@ -18,12 +18,12 @@ use snap_words::{Address, Kind};
 use std::alloc::{AllocError, Global};
 
 impl<K: Kind> Record<K> {
-    /// Returns the report of its last position: the values, the registers, the processes and the
+    /// Returns the report of the last position: the values, the registers, the processes and the
     /// events.
     ///
     /// # Errors
     ///
-    /// Memory ran out.
+    /// `AllocError` where memory runs out.
     pub fn report(&self) -> Result<Report, AllocError>
         ensures { IfOk result (λ report. report
             ≡ report_at self.now (length self.now.items)) }
@@ -39,12 +39,12 @@ impl<K: Kind> Record<K> {
     }
 }
 
-/// Returns the report of the state that a machine is in after `position` of `total` items, with
-/// the events up to it.
+/// Returns the report of the state of `machine` after `position` of `total` items, with the events
+/// up to it.
 ///
 /// # Errors
 ///
-/// Memory ran out.
+/// `AllocError` where memory runs out.
 pub fn report_at<K: Kind>(
     alloc: Global,
     machine: &Machine<K>,
@@ -60,11 +60,11 @@ pub fn report_at<K: Kind>(
     Ok(Report::of(text))
 }
 
-/// Returns the line of a register: its address and what it holds.
+/// Returns the line of the register at `address`: its address and its contents.
 ///
 /// # Errors
 ///
-/// Memory ran out.
+/// `AllocError` where memory runs out.
 pub fn register_line<K: Kind>(
     alloc: Global,
     machine: &Machine<K>,
@@ -79,11 +79,11 @@ pub fn register_line<K: Kind>(
     Ok(text)
 }
 
-/// Returns the lines of process `i`: how it stands, and its locals.
+/// Returns the lines of process `i`: its status, and its locals.
 ///
 /// # Errors
 ///
-/// Memory ran out.
+/// `AllocError` where memory runs out.
 pub fn process_lines<K: Kind>(
     alloc: Global,
     machine: &Machine<K>,
@@ -98,11 +98,11 @@ pub fn process_lines<K: Kind>(
     Ok(text)
 }
 
-/// Returns the line that says how process `i` stands.
+/// Returns the line of the status of process `i`.
 ///
 /// # Errors
 ///
-/// Memory ran out.
+/// `AllocError` where memory runs out.
 pub fn head_line<K: Kind>(
     alloc: Global,
     machine: &Machine<K>,
@@ -121,7 +121,7 @@ pub fn head_line<K: Kind>(
 ///
 /// # Errors
 ///
-/// Memory ran out.
+/// `AllocError` where memory runs out.
 pub fn values_line<K: Kind>(alloc: Global, machine: &Machine<K>) -> Result<Vec<u8>, AllocError>
     ensures { IfOk result (λ text. text.items ≡ values_line (values machine.now.state)) }
 {
@@ -134,7 +134,7 @@ pub fn values_line<K: Kind>(alloc: Global, machine: &Machine<K>) -> Result<Vec<u
 ///
 /// # Errors
 ///
-/// Memory ran out.
+/// `AllocError` where memory runs out.
 pub fn event_line(alloc: Global, event: &Event) -> Result<Vec<u8>, AllocError>
     ensures { IfOk result (λ text. text.items ≡ event_line event.now) }
 {
@@ -143,11 +143,11 @@ pub fn event_line(alloc: Global, event: &Event) -> Result<Vec<u8>, AllocError>
     Ok(text)
 }
 
-/// Returns the words for an outcome.
+/// Returns the words of an outcome.
 ///
 /// # Errors
 ///
-/// Memory ran out.
+/// `AllocError` where memory runs out.
 pub fn outcome_text(alloc: Global, outcome: &Outcome) -> Result<Vec<u8>, AllocError>
     ensures { IfOk result (λ text. text.items ≡ outcome_text outcome.now) }
 {

@@ -1,4 +1,4 @@
-//! `Record`: a machine with the items that it has done, their events, and the changes of the values
+//! `Record`: a machine with the items that were done, their events, and the changes of the values
 //! of the words.
 ghost use Rattle.std.specs.Prelude.{◌≡◌, ◌↔◌, ◌<◌, ◌≤◌, ◌+◌, []};
 ghost use Rattle.std.specs.Prelude.{ℕ, drop, get_or, length, map};
@@ -7,7 +7,7 @@ ghost use Rattle.std.specs.List.{AllByRecursion};
 ghost use Rattle.snap_words.specs.Shape.{IsOneOf, max_items};
 ghost use Rattle.snap_semantics.specs.Table.{who};
 ghost use Rattle.snap_runs.specs.Run.{outcome, state, IsValidRun, events_of};
-ghost use Rattle.snap_history.specs.Longer.{with_item, with_items};
+ghost use Rattle.snap_record.specs.Longer.{with_item, with_items};
 ghost use Rattle.snap_record.specs.Record.{collects_of, values_after};
 ghost use Rattle.snap_record.specs.Searches.{scan_collects};
 ghost use Rattle.snap_semantics.specs.declared.event.Event.{Event};
@@ -16,13 +16,13 @@ ghost use Rattle.snap_record.specs.declared.fault.RecordFault.TheVariants.{Full}
 
 use crate::fault::RecordFault;
 use crate::history::{Change, note_collect, note_item, note_outcome, reserve_changes};
+use crate::items::History;
 use crate::roles::{LineRole, new_roles};
 use crate::row::Row;
 use crate::search::{collects_until, scans};
 use crate::step_role::step_role_of;
 use crate::walk::advance;
 use snap_asm_program::Program;
-use snap_history::History;
 use snap_machine::Machine;
 use snap_sched::Items;
 use snap_semantics::{Event, Item, Outcome, who};
@@ -30,7 +30,7 @@ use snap_words::{Kind, MAX_ITEMS, Shape, View};
 use std::alloc::{AllocError, Global};
 use std::marker::Model;
 
-/// A machine with the items that it has done, seen as their run.
+/// A machine with the items that were done, seen as their run.
 pub struct Record<K: Kind> {
     alloc: Global,
     machine: Machine<K>,
@@ -48,7 +48,7 @@ pub struct Record<K: Kind> {
 }
 
 impl<K: Kind> Drop for Record<K> {
-    // Written out, so that it is proved here and not once more wherever one is dropped.
+    // A drop that is written out is one call: it is proved once, and not again at each drop.
     fn drop(self) {
         let Record {
             alloc: _,
@@ -84,7 +84,7 @@ impl<K: Kind> Model for Record<K> {
         × AreRoles r.machine.source r.roles.items };
 }
 
-/// So many zeros.
+/// Returns `count` zeros.
 fn zeros(alloc: Global, count: u64) -> Result<Vec<u64>, AllocError>
     ensures { IfOk result (λ v. v.items ≡ replicate count 0) }
 {
@@ -92,7 +92,11 @@ fn zeros(alloc: Global, count: u64) -> Result<Vec<u64>, AllocError>
 }
 
 impl<K: Kind> Record<K> {
-    /// Before the first item.
+    /// Returns the record of `program` before the first item.
+    ///
+    /// # Errors
+    ///
+    /// `AllocError` where memory runs out.
     pub fn new(alloc: Global, program: &Program, shape: Shape) -> Result<Record<K>, AllocError>
         requires { program.now.kind ≡ K.TAG }
         ensures { IfOk result (λ r. r
@@ -149,7 +153,12 @@ impl<K: Kind> Record<K> {
         Ok(outcome)
     }
 
-    /// Does one item, where fewer than 1,000,000 are kept.
+    /// Does one item, and returns its outcome.
+    ///
+    /// # Errors
+    ///
+    /// `Full` where 1,000,000 items are kept; `Memory` where memory runs out. The record is as
+    /// before then.
     pub fn apply(&mut self, item: Item) -> Result<Outcome, RecordFault>
         requires { IsOneOf self.old.shape.n (who item) }
         ensures done { IfOk result (λ o. (self.new ≡ with_item self.old item) ×
@@ -163,8 +172,11 @@ impl<K: Kind> Record<K> {
         Ok(self.add(item)?)
     }
 
-    /// Does the first of these items, so many of them. Where there is no memory for one, those
-    /// before it stay done.
+    /// Does the first `count` of `items`.
+    ///
+    /// # Errors
+    ///
+    /// `AllocError` where memory runs out; the items before stay done.
     pub fn apply_first(&mut self, items: &Items, count: u64) -> Result<(), AllocError>
         requires processes { AllByRecursion (λ x. IsOneOf self.old.shape.n (who x)) items.now }
         requires few { length self.old.items + count ≤ max_items }
@@ -189,7 +201,7 @@ impl<K: Kind> Record<K> {
         self.alloc
     }
 
-    /// The items, in order.
+    /// Returns the items, in order.
     pub fn items(&self) -> &History
         ensures items { result.now.items ≡ self.now.items }
         ensures fits { IsValidRun self.now }
@@ -198,14 +210,14 @@ impl<K: Kind> Record<K> {
         &self.items
     }
 
-    /// What callers saw, in order.
+    /// Returns what callers saw, in order.
     pub fn events(&self) -> &[Event]
         ensures { result.now ≡ events_of self.now (length self.now.items) }
     {
         self.events.as_slice()
     }
 
-    /// At each event, how many double collects its process had had.
+    /// Returns how many double collects the process of each event had made at it.
     pub fn event_collects(&self) -> &[u64]
         ensures { result.now ≡ map (collects_at self.now)
             (events_of self.now (length self.now.items)) }
@@ -213,14 +225,14 @@ impl<K: Kind> Record<K> {
         self.at_events.as_slice()
     }
 
-    /// The changes of values, in order.
+    /// Returns the changes of values, in order.
     pub fn changes(&self) -> &[Change]
         ensures { LeadsAlong self.now result.now }
     {
         self.changes.as_slice()
     }
 
-    /// The machine after the last item.
+    /// Returns the machine after the last item.
     pub fn machine(&self) -> &Machine<K>
         ensures { result.now ≡ record {
           source = self.now.source;
@@ -232,7 +244,11 @@ impl<K: Kind> Record<K> {
         &self.machine
     }
 
-    /// The values after `t` items, where there are so many.
+    /// Returns the values after `t` items; `None` where fewer are done.
+    ///
+    /// # Errors
+    ///
+    /// `AllocError` where memory runs out.
     pub fn values_after(&self, t: u64) -> Result<Option<View>, AllocError>
         ensures { IfOk result (λ v. v ≡ values_after self.now t) }
     {
@@ -244,7 +260,8 @@ impl<K: Kind> Record<K> {
         Ok(Some(values.into_view()))
     }
 
-    /// How many double collects the scan takes that the event at a place calls, where it calls one.
+    /// Returns how many double collects the scan makes that event `k` calls; `None` where it calls
+    /// none.
     fn scan_collects(&self, k: usize) -> Option<u64>
         requires { k < length (events_of self.now (length self.now.items)) }
         ensures { (d : Event) → let events = events_of self.now (length self.now.items) in
@@ -263,8 +280,8 @@ impl<K: Kind> Record<K> {
         Some(until.saturating_sub(self.at_events[k]))
     }
 
-    /// How many double collects the scan takes that an item calls, where it calls one: up to its
-    /// answer, or up to now.
+    /// Returns how many double collects the scan makes that item `call` calls, up to its answer or
+    /// to the last item; `None` where it calls none.
     pub fn collects_of(&self, call: u64) -> Option<u64>
         ensures { result ≡ collects_of self.now call }
     {

@@ -1,5 +1,4 @@
-//! `LineRole`: which lines of a program write a word, test, or return a view; a record looks it up
-//! by line number.
+//! `LineRole`: which lines of a program write a word, test, or return a view, found by line number.
 ghost use Rattle.std.specs.Prelude.{◌≡◌, IfOk, IfSome, IsTrue, is_some, option_map};
 ghost use Rattle.snap_semantics.specs.Source.{Source, instr_at};
 ghost use Rattle.snap_semantics.specs.State.{Locals};
@@ -22,7 +21,7 @@ pub enum LineRole {
     Nothing,
 }
 
-/// What an instruction is.
+/// Returns the role of an instruction.
 fn role_of(instr: Option<&Instr>) -> LineRole
     ensures { result ≡ role_of (option_map (λ i. i.now) instr.entry) }
 {
@@ -34,7 +33,7 @@ fn role_of(instr: Option<&Instr>) -> LineRole
     }
 }
 
-/// The number after that of the last line.
+/// Returns the number after that of the last line.
 fn end_number(program: &Program) -> u64
     ensures { NoneBeyond program.now result }
 {
@@ -44,7 +43,11 @@ fn end_number(program: &Program) -> u64
     }
 }
 
-/// What the lines of a program are, by their numbers.
+/// Returns the roles of the lines of `program`, by their numbers.
+///
+/// # Errors
+///
+/// `AllocError` where memory runs out.
 pub fn new_roles(alloc: Global, program: &Program) -> Result<Vec<LineRole>, AllocError>
     ensures { IfOk result (λ m. AreRoles program.now m.items) }
 {
@@ -56,7 +59,8 @@ pub fn new_roles(alloc: Global, program: &Program) -> Result<Vec<LineRole>, Allo
     Ok(roles)
 }
 
-/// The role of the line with this number. One that the table does not have is no line's.
+/// Returns the role of the line with this number. A number that the table does not have is no
+/// line's.
 #[inline(always)]
 pub fn role_in(roles: &[LineRole], line: u64) -> LineRole
     ensures { result ≡ role_in roles.now line }
@@ -67,7 +71,7 @@ pub fn role_in(roles: &[LineRole], line: u64) -> LineRole
     }
 }
 
-/// What a line does, where its number tells that.
+/// Returns the role of line `line`, if its number decides it.
 pub fn step_role_by(roles: &[LineRole], line: u64) -> Option<StepRole>
     ensures told { is_some result ≡ is_telling (role_in roles.now line) }
     ensures role { (a : Activity) (l : Locals) (s : Source) → AreRoles s roles.now →
@@ -81,8 +85,8 @@ pub fn step_role_by(roles: &[LineRole], line: u64) -> Option<StepRole>
     }
 }
 
-/// Whether the number of a line tells that it writes no word, tests nothing for all and answers
-/// nothing.
+/// Returns whether the number of a line tells that the line writes no word, tests nothing for all
+/// and answers nothing.
 #[inline(always)]
 pub fn is_plain(roles: &[LineRole], line: u64) -> bool
     ensures told { result ≡ is_plain (role_in roles.now line) }

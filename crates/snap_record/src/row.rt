@@ -20,7 +20,11 @@ impl Model for Row {
 }
 
 impl Row {
-    /// So many zeros.
+    /// Returns `count` zeros.
+    ///
+    /// # Errors
+    ///
+    /// `AllocError` where memory runs out.
     pub fn zeros(alloc: Global, count: u64) -> Result<Row, AllocError>
         ensures { IfOk result (λ r. r ≡ replicate count 0) }
     {
@@ -29,7 +33,7 @@ impl Row {
         })
     }
 
-    /// The numbers.
+    /// Returns the numbers.
     pub fn as_slice(&self) -> &[u64]
         ensures { result.now ≡ self.now }
     {
@@ -44,7 +48,11 @@ impl Row {
         self.values[place] = value;
     }
 
-    /// An equal row.
+    /// Returns a copy of the row.
+    ///
+    /// # Errors
+    ///
+    /// `AllocError` where memory runs out.
     pub fn copy(&self, alloc: Global) -> Result<Row, AllocError>
         ensures { IfOk result (λ r. r ≡ self.now) }
     {
@@ -53,7 +61,7 @@ impl Row {
         })
     }
 
-    /// The view of these values.
+    /// Returns the view of these values.
     pub fn into_view(self) -> View
         ensures { result ≡ self }
     {

@@ -3,19 +3,19 @@ ghost use Rattle.std.specs.Prelude.{◌≡◌, ◌+◌, ◌<◌, ◌≤◌, ◌^
 ghost use Rattle.std.specs.Prelude.{take};
 ghost use Rattle.snap_words.specs.Shape.{max_items};
 
+use crate::items::History;
 use crate::record::Record;
-use snap_history::History;
 use snap_sched::{Items, Schedule};
 use snap_semantics::Item;
 use snap_words::Kind;
 use std::alloc::{AllocError, Global};
 
 impl<K: Kind> Record<K> {
-    /// Returns its items as a schedule, whose run is the record's.
+    /// Returns the items as a schedule, whose run is the record's.
     ///
     /// # Errors
     ///
-    /// Memory ran out.
+    /// `AllocError` where memory runs out.
     pub fn schedule(&self) -> Result<Schedule, AllocError>
         ensures shape { IfOk result (λ s. s.shape ≡ self.now.shape) }
         ensures items { IfOk result (λ s. s.items ≡ self.now.items) }
@@ -40,7 +40,7 @@ fn items_of(alloc: Global, history: &History) -> Result<Items, AllocError>
     Ok(items)
 }
 
-/// Adds the item of a history behind its first `t`.
+/// Appends the item of a history behind its first `t` items.
 fn push_next(items: &mut Items, history: &History, t: u64) -> Result<(), AllocError>
     requires there { t < length history.now.items }
     requires few { length history.now.items ≤ max_items }
@@ -54,7 +54,7 @@ fn push_next(items: &mut Items, history: &History, t: u64) -> Result<(), AllocEr
     Ok(())
 }
 
-/// Adds an item.
+/// Appends an item.
 fn push_item(items: &mut Items, item: Item) -> Result<(), AllocError>
     requires { length items.old + 1 < 2 ^ 32 }
     ensures { OnOk result (items.new ≡ items.old ++ item ∷ []) }

@@ -8,7 +8,7 @@ ghost use Rattle.snap_record.specs.Searches.{collects_until, is_answer, is_answe
 
 use snap_semantics::{Event, Happening, Op};
 
-/// Whether this is an answer.
+/// Returns whether this is an answer.
 fn is_answer(what: &Happening) -> bool
     ensures { result ≡ is_answer what.now }
 {
@@ -20,14 +20,14 @@ fn is_answer(what: &Happening) -> bool
     }
 }
 
-/// Whether this is an answer of a process.
+/// Returns whether this is an answer of a process.
 fn is_answer_of(event: &Event, i: u32) -> bool
     ensures { result ≡ is_answer_of i event.now }
 {
     event.process == i && is_answer(&event.what)
 }
 
-/// The process whose scan is called.
+/// Returns the process whose scan is called.
 pub fn scans(i: u32, what: &Happening) -> Option<u32>
     ensures { result ≡ scans i what.now }
 {
@@ -40,8 +40,8 @@ pub fn scans(i: u32, what: &Happening) -> Option<u32>
     }
 }
 
-/// How many double collects a process had had at its first answer among the events from a place on,
-/// and otherwise all of them.
+/// Returns how many double collects process `i` had made at its first answer among the events from
+/// place `from` on; `all` where it has none there.
 pub fn collects_until(events: &[Event], at_events: &[u64], from: usize, i: u32, all: u64) -> u64
     requires { length at_events.now ≡ length events.now }
     ensures { (r : Run) → at_events.now ≡ map (collects_at r) events.now →

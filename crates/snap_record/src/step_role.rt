@@ -1,4 +1,4 @@
-//! `StepRole`: what a record has to note of an item, found out before it is done: a write of a
+//! `StepRole`: what a record has to note of an item, found before the item is done: a write of a
 //! word, a test, or the answer of a scan.
 ghost use Rattle.std.specs.Prelude.{◌≡◌, IfOk, IsTrue, []};
 ghost use Rattle.snap_words.specs.Shape.{IsOneOf};
@@ -29,7 +29,7 @@ pub enum StepRole {
     Nothing,
 }
 
-/// What a line `return` does with a view.
+/// Returns what a line `return` does with a view.
 fn returned(alloc: Global, view: &[u64], activity: &Activity) -> Result<StepRole, AllocError>
     ensures { IfOk result (λ d. seen_step_role d
         ≡ returned view.now activity.now.op activity.now.link) }
@@ -41,7 +41,7 @@ fn returned(alloc: Global, view: &[u64], activity: &Activity) -> Result<StepRole
     }
 }
 
-/// The view of a process that has this name, where no other local has it.
+/// Returns the view of process `i` with this name, which no other local has.
 #[tactic(auto, using(crate::proofs::Locals::view_named, crate::proofs::Locals::no_number, crate::proofs::Locals::no_row, crate::proofs::Locals::no_words, crate::proofs::Locals::none_there))]
 fn view_named<K: Kind>(machine: &Machine<K>, i: u32, name: Name) -> &[u64]
     requires process { IsOneOf machine.now.shape.n i }
@@ -57,7 +57,7 @@ fn view_named<K: Kind>(machine: &Machine<K>, i: u32, name: Name) -> &[u64]
     }
 }
 
-/// What a line of a process does.
+/// Returns what a line of a process does.
 fn line_step_role<K: Kind>(
     alloc: Global,
     machine: &Machine<K>,
@@ -79,7 +79,7 @@ fn line_step_role<K: Kind>(
     }
 }
 
-/// What the line of a process does, at which it stands.
+/// Returns the role of the line at which a process stands.
 fn found_step_role<K: Kind>(
     alloc: Global,
     machine: &Machine<K>,
@@ -98,7 +98,7 @@ fn found_step_role<K: Kind>(
     }
 }
 
-/// What an item is to do, looked up. Of most lines that is known by their roles.
+/// Returns the role of the next item, looked up by the role of its line where that is enough.
 fn looked_up_step_role<K: Kind>(
     alloc: Global,
     machine: &Machine<K>,
@@ -123,8 +123,8 @@ fn looked_up_step_role<K: Kind>(
     }
 }
 
-/// Whether a step of a process is seen at once to write no word, to test nothing for all and to
-/// answer nothing: most steps are.
+/// Returns whether a step of a process is seen at once to write no word, to test nothing for all
+/// and to answer nothing, as most steps are.
 #[inline(always)]
 #[tactic(auto, using(crate::proofs::PlainSteps::plain_at))]
 fn is_plain_step<K: Kind>(machine: &Machine<K>, roles: &[LineRole], i: u32) -> bool
@@ -138,7 +138,11 @@ fn is_plain_step<K: Kind>(machine: &Machine<K>, roles: &[LineRole], i: u32) -> b
     }
 }
 
-/// What an item is to do. Of most steps that is nothing, which is seen at once.
+/// Returns the role of the next item. Most steps have none, which is seen at once.
+///
+/// # Errors
+///
+/// `AllocError` where memory runs out.
 #[inline(always)]
 pub fn step_role_of<K: Kind>(
     alloc: Global,

@@ -1,4 +1,4 @@
-//! `advance`: the values of the words, taken from one item of a record to a later one by the
+//! `advance`: takes the values of the words from one item of a record to a later one, by the
 //! changes between them.
 ghost use Rattle.std.specs.Prelude.{◌≡◌, ◌≤◌, ℕ, drop, slice_set};
 ghost use Rattle.snap_record.specs.History.{values_by};

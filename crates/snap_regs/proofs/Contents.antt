@@ -105,7 +105,7 @@ bits_by true i j k l x rows e other =
 bits_by false i j k l x rows e other =
     ap (bit_in l) (nth_other i k rows (with_nth j x (slice_index_or rows (i - 1) [])) (eqb-false i k e))
 
--- the other bits are as they were
+-- a bit that is put leaves the other bits as they were
 bits_stay : (i j k l x : ℕ) (rows : List (List ℕ)) → (i ≡ k → j ≡ l → ⊥) →
     bit_in l (nth k (with_bit_in i j x rows)) ≡ bit_in l (nth k rows)
 bits_stay i j k l x rows other = bits_by (nat_eq i k) i j k l x rows refl other
@@ -213,7 +213,7 @@ views_p : (v : Bool) (xs : List (List ℕ)) (m : Memory) (k l : ℕ) →
 views_p true xs m k l = refl
 views_p false xs m k l = refl
 
--- both second indices are 0
+-- two second indices that are 0 are equal
 both_zero : (j l : ℕ) → nat_eq j 0 ≡ true → nat_eq l 0 ≡ true → j ≡ l
 both_zero j l e d = eqb-true j 0 e ∙ sym (eqb-true l 0 d)
 

@@ -12,7 +12,7 @@ pub record HasBits (rows columns : ℕ) (bits : List Bool) : Type 0 where
   pub few_rows : rows ≤ max_count
   pub few_columns : columns ≤ max_count
 
--- this many rows of this many columns
+-- a number of rows of this many columns
 abbrev pub rows_of : ℕ → ℕ → List Bool → List (List ℕ)
 rows_of zero columns bits = []
 rows_of (suc rows) columns bits = map bit_number (take columns bits) ∷ rows_of rows columns (drop columns bits)

@@ -1,11 +1,11 @@
-//! `RegisterFault`: why a register is not read or written: there is none, it is another process's,
-//! or the value is no bit.
+//! `RegisterFault`: why a register is not read or written: it does not exist, it is another
+//! process's, or the value is no bit.
 use thiserror::Error;
 
 /// Why a register is not read or not written.
 #[derive(Clone, Copy, Debug, PartialEq, Eq, Error)]
 pub enum RegisterFault {
-    /// There is no such register.
+    /// The register does not exist.
     #[error("R1 Index")]
     Index,
     /// The register is not the process's to write.

@@ -1,4 +1,4 @@
-//! The registers of a shape, of any kind: read by anybody, written by those who may.
+//! The registers of a shape, of any kind: every process may read them, and write those of its own.
 #![tactic(auto)]
 
 mod fault;

@@ -34,7 +34,7 @@ pub struct Registers<K: Kind> {
 }
 
 impl<K: Kind> Drop for Registers<K> {
-    // Written out, so that it is proved here and not once more wherever one is dropped.
+    // A drop that is written out is one call: it is proved once, and not again at each drop.
     fn drop(self) {
         let Registers {
             shape: _,
@@ -66,7 +66,7 @@ impl<K: Kind> Model for Registers<K> {
         (record { words = map K.as_word r.words.items; q = r.q; p = r.p; views = r.views.items }) };
 }
 
-/// How many rows of bits, or views, a bank has.
+/// Returns how many rows of bits, or views, a bank has.
 fn rows_in<K: Kind>(shape: Shape, bank: Bank) -> u64
     ensures value { result ≡ rows_in K.TAG shape bank }
     ensures bound { result ≤ max_count }
@@ -78,7 +78,7 @@ fn rows_in<K: Kind>(shape: Shape, bank: Bank) -> u64
     }
 }
 
-/// A word for each place of the shape, none of them written.
+/// Returns a word for each place of the shape, none of them written.
 fn initial_words<K: Kind>(alloc: Global, shape: Shape) -> Result<Vec<K::Word>, AllocError>
     ensures { IfOk result (λ words. map K.as_word words.items
         ≡ replicate shape.w (initial_word K.TAG shape)) }
@@ -90,7 +90,7 @@ fn initial_words<K: Kind>(alloc: Global, shape: Shape) -> Result<Vec<K::Word>, A
     Ok(words)
 }
 
-/// The place of a bit, its row and column counted from 0.
+/// Returns the place of a bit, its row and column counted from 0.
 fn bit_place<K: Kind>(
     shape: Shape,
     bits: BitBank,
@@ -110,7 +110,7 @@ fn bit_place<K: Kind>(
     Ok((row, column))
 }
 
-/// The place of a view, counted from 0.
+/// Returns the place of a view, counted from 0.
 fn view_place<K: Kind>(shape: Shape, i: u64) -> Result<usize, RegisterFault>
     ensures { MatchResult result
         (λ place. (is_view_place K.TAG shape i ≡ true) × (place ≡ i - 1) ×
@@ -123,7 +123,11 @@ fn view_place<K: Kind>(shape: Shape, i: u64) -> Result<usize, RegisterFault>
     place_in(shape.n(), i, RegisterFault::Index)
 }
 
-/// `Owner` unless the process may write the registers of this bank whose first index is `i`.
+/// Checks that process `who` may write the registers of `bank` whose first index is `i`.
+///
+/// # Errors
+///
+/// `Owner` where it may not.
 pub fn check_owner<K: Kind>(who: u32, bank: Bank, i: u64) -> Result<(), RegisterFault>
     ensures { MatchResult result (λ _. may_write K.TAG who bank i ≡ true) (λ e. (e ≡ Owner) ×
         (may_write K.TAG who bank i ≡ false)) }
@@ -136,7 +140,11 @@ pub fn check_owner<K: Kind>(who: u32, bank: Bank, i: u64) -> Result<(), Register
 }
 
 impl<K: Kind> Registers<K> {
-    /// The registers of this shape, nobody having written any.
+    /// Returns the registers of this shape, none of them written.
+    ///
+    /// # Errors
+    ///
+    /// `AllocError` where memory runs out.
     pub fn new(alloc: Global, shape: Shape) -> Result<Registers<K>, AllocError>
         ensures { IfOk result (λ r. (r.shape ≡ shape) × (r.memory ≡ initial_memory K.TAG shape)) }
     {
@@ -150,7 +158,7 @@ impl<K: Kind> Registers<K> {
         })
     }
 
-    /// Their shape, of which they all are.
+    /// Returns the shape of the registers.
     pub fn shape(&self) -> Shape
         ensures value { result ≡ self.now.shape }
         ensures of_shape { IsOfShape K.TAG self.now.shape self.now.memory }
@@ -158,7 +166,11 @@ impl<K: Kind> Registers<K> {
         self.shape
     }
 
-    /// Word `k`, or `Index` where there is none.
+    /// Returns word `k`.
+    ///
+    /// # Errors
+    ///
+    /// `Index` where there is no such word.
     pub fn word(&self, k: u64) -> Result<&K::Word, RegisterFault>
         ensures place { MatchResult result
             (λ word. (is_place self.now.shape.w k ≡ true) ×
@@ -174,7 +186,11 @@ impl<K: Kind> Registers<K> {
         Ok(&self.words[place])
     }
 
-    /// Bit `j` of row `i`, or `Index` where there is none.
+    /// Returns bit `j` of row `i`.
+    ///
+    /// # Errors
+    ///
+    /// `Index` where there is no such bit.
     pub fn bit(&self, bits: BitBank, i: u64, j: u64) -> Result<u64, RegisterFault>
         ensures place { MatchResult result
             (λ bit. (is_bit_place K.TAG self.now.shape bits i j ≡ true) ×
@@ -189,7 +205,11 @@ impl<K: Kind> Registers<K> {
         Ok(self.bits(bits).get(row, column))
     }
 
-    /// View `i`, or `Index` where there is none.
+    /// Returns view `i`.
+    ///
+    /// # Errors
+    ///
+    /// `Index` where there is no such view.
     pub fn view(&self, i: u64) -> Result<&View, RegisterFault>
         ensures place { MatchResult result
             (λ view. (is_view_place K.TAG self.now.shape i ≡ true) ×
@@ -204,8 +224,11 @@ impl<K: Kind> Registers<K> {
         Ok(&self.views[place])
     }
 
-    /// Process `who` puts a word at place `k`: `Index` where there is no such word, `Owner` where
-    /// the process may not write it.
+    /// Writes `word` to place `k`, for process `who`.
+    ///
+    /// # Errors
+    ///
+    /// `Index` where there is no such word; `Owner` where the process may not write it.
     pub fn put_word(&mut self, who: u32, k: u64, word: K::Word) -> Result<(), RegisterFault>
         requires { is_sized K.TAG self.old.shape (K.as_word word) ≡ true }
         ensures put { MatchResult result
@@ -222,8 +245,12 @@ impl<K: Kind> Registers<K> {
         Ok(())
     }
 
-    /// Process `who` puts bit `j` of row `i`: `Index` where there is no such bit, `NotABit` where
-    /// it is not 0 or 1, `Owner` where the process may not write it.
+    /// Writes `bit` to bit `j` of row `i`, for process `who`.
+    ///
+    /// # Errors
+    ///
+    /// `Index` where there is no such bit; `NotABit` where `bit` is not 0 or 1; `Owner` where the
+    /// process may not write it.
     #[inline(always)]
     pub fn put_bit(
         &mut self,
@@ -254,8 +281,11 @@ impl<K: Kind> Registers<K> {
         Ok(())
     }
 
-    /// Process `who` puts view `i`: `Index` where there is no such view, `Owner` where the process
-    /// may not write it.
+    /// Writes `view` to view `i`, for process `who`.
+    ///
+    /// # Errors
+    ///
+    /// `Index` where there is no such view; `Owner` where the process may not write it.
     pub fn put_view(&mut self, who: u32, i: u64, view: View) -> Result<(), RegisterFault>
         requires { length view ≡ self.old.shape.w }
         ensures put { MatchResult result
@@ -272,7 +302,7 @@ impl<K: Kind> Registers<K> {
         Ok(())
     }
 
-    /// The rows of a bank of bits.
+    /// Returns the rows of a bank of bits.
     fn bits(&self, bits: BitBank) -> &BitRows
         ensures value { result.now ≡ bits_of bits self.now.memory }
         ensures row_count { length result.now ≡ rows_in K.TAG self.now.shape (bank_of bits) }
@@ -284,7 +314,11 @@ impl<K: Kind> Registers<K> {
         }
     }
 
-    /// Equal registers.
+    /// Returns a copy.
+    ///
+    /// # Errors
+    ///
+    /// `AllocError` where memory runs out.
     pub fn copy(&self, alloc: Global) -> Result<Registers<K>, AllocError>
         ensures { IfOk result (λ r. r ≡ self.now) }
     {

@@ -28,7 +28,7 @@ impl Model for BitRows {
     ghost invariant = { λ r. HasBits r.rows r.columns r.bits.items };
 }
 
-/// Where the bit of a row and a column stands, in rows of this many columns.
+/// Returns where the bit of a row and a column stands, in rows of `columns` columns.
 fn place_of(columns: usize, row: usize, column: usize) -> usize
     requires { row * columns + column < 2 ^ 64 }
     ensures { result ≡ row * columns + column }
@@ -37,7 +37,7 @@ fn place_of(columns: usize, row: usize, column: usize) -> usize
 }
 
 impl BitRows {
-    /// This many rows of this many zeros.
+    /// Returns `rows` rows of `columns` zeros.
     pub(crate) fn zeros(alloc: Global, rows: u64, columns: u64) -> Result<BitRows, AllocError>
         requires rows { rows ≤ max_count }
         requires columns { columns ≤ max_count }
@@ -50,7 +50,7 @@ impl BitRows {
         })
     }
 
-    /// The bit of a row and a column, counted from 0.
+    /// Returns the bit of a row and a column, counted from 0.
     pub(crate) fn get(&self, row: usize, column: usize) -> u64
         requires row_in { row < length self.now }
         requires column_in { column < length (slice_index_or self.now row []) }
@@ -71,7 +71,7 @@ impl BitRows {
         self.bits[place] = bit == 1;
     }
 
-    /// Equal rows.
+    /// Returns copies of the rows.
     pub(crate) fn copy(&self, alloc: Global) -> Result<BitRows, AllocError>
         ensures { IfOk result (λ r. r ≡ self.now) }
     {
@@ -83,7 +83,7 @@ impl BitRows {
     }
 }
 
-/// This many views of this many zeros.
+/// Returns `count` views of `places` zeros.
 pub(crate) fn zero_views(alloc: Global, count: u64, places: u64) -> Result<Vec<View>, AllocError>
     ensures { IfOk result (λ views. views.items ≡ replicate count (replicate places 0)) }
 {

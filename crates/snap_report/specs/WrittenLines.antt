@@ -10,8 +10,8 @@ use Rattle.snap_semantics.specs.Report.{values_line, word_local}
 use Rattle.snap_semantics.specs.Source.{Name}
 use Rattle.snap_semantics.specs.State.{Locals, State, values}
 use Rattle.snap_machine.specs.SeenContents.{local_at}
-use Rattle.snap_undo.specs.declared.undo.WritePlace.{WritePlace}
-use Rattle.snap_undo.specs.declared.undo.WritePlace.TheVariants as written
+use Rattle.snap_machine.specs.declared.undo.WritePlace.{WritePlace}
+use Rattle.snap_machine.specs.declared.undo.WritePlace.TheVariants as written
 use Rattle.snap_report.specs.ReportLines.{local_lines, register_line}
 
 -- the line of the values, which a register of the words changes

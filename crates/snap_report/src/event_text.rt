@@ -6,7 +6,11 @@ use snap_semantics::{Event, Happening, Op};
 use snap_text::{push_number, push_numbers, push_text};
 use std::alloc::AllocError;
 
-/// An operation.
+/// Appends an operation.
+///
+/// # Errors
+///
+/// `AllocError` where memory runs out.
 #[tactic(auto, using(snap_text::proofs::Texts::joined))]
 pub fn op_text(out: &mut Vec<u8>, op: Op) -> Result<(), AllocError>
     ensures { OnOk result (out.new.items ≡ out.old.items ++ op_text op) }
@@ -22,7 +26,7 @@ pub fn op_text(out: &mut Vec<u8>, op: Op) -> Result<(), AllocError>
     }
 }
 
-/// What a caller sees.
+/// Appends what a caller sees.
 #[tactic(auto, using(snap_text::proofs::Texts::joined))]
 fn happening_text(out: &mut Vec<u8>, what: &Happening) -> Result<(), AllocError>
     ensures { OnOk result (out.new.items ≡ out.old.items ++ happening_text what.now) }
@@ -38,7 +42,11 @@ fn happening_text(out: &mut Vec<u8>, what: &Happening) -> Result<(), AllocError>
     }
 }
 
-/// `event ITEM PROCESS` and what happened.
+/// Appends `event ITEM PROCESS` and what happened.
+///
+/// # Errors
+///
+/// `AllocError` where memory runs out.
 #[tactic(auto, using(snap_text::proofs::Texts::joined))]
 pub fn event_line(out: &mut Vec<u8>, event: &Event) -> Result<(), AllocError>
     ensures { OnOk result (out.new.items ≡ out.old.items ++ event_line event.now) }
@@ -52,7 +60,11 @@ pub fn event_line(out: &mut Vec<u8>, event: &Event) -> Result<(), AllocError>
     push_text(out, b"\n")
 }
 
-/// The lines of events.
+/// Appends the lines of events.
+///
+/// # Errors
+///
+/// `AllocError` where memory runs out.
 pub fn event_lines(out: &mut Vec<u8>, events: &[Event]) -> Result<(), AllocError>
     ensures { OnOk result (out.new.items ≡ out.old.items ++ event_lines events.now) }
 {

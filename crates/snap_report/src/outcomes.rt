@@ -10,7 +10,11 @@ use snap_text::{push_numbers, push_text};
 use snap_words::Kind;
 use std::alloc::AllocError;
 
-/// Why an item is skipped.
+/// Appends why an item is skipped.
+///
+/// # Errors
+///
+/// `AllocError` where memory runs out.
 pub fn reason_text(out: &mut Vec<u8>, reason: Reason) -> Result<(), AllocError>
     ensures { OnOk result (out.new.items ≡ out.old.items ++ reason_text reason) }
 {
@@ -24,7 +28,11 @@ pub fn reason_text(out: &mut Vec<u8>, reason: Reason) -> Result<(), AllocError>
     }
 }
 
-/// What came of an item.
+/// Appends the outcome of an item.
+///
+/// # Errors
+///
+/// `AllocError` where memory runs out.
 #[tactic(auto, using(snap_text::proofs::Texts::joined))]
 pub fn outcome_text(out: &mut Vec<u8>, outcome: &Outcome) -> Result<(), AllocError>
     ensures { OnOk result (out.new.items ≡ out.old.items ++ outcome_text outcome.now) }
@@ -49,7 +57,11 @@ pub fn outcome_text(out: &mut Vec<u8>, outcome: &Outcome) -> Result<(), AllocErr
     }
 }
 
-/// Where the processes stand, from process 1 on.
+/// Appends the status of each process, from process 1 on.
+///
+/// # Errors
+///
+/// `AllocError` where memory runs out.
 pub fn head_lines<K: Kind>(out: &mut Vec<u8>, machine: &Machine<K>) -> Result<(), AllocError>
     ensures { OnOk result (out.new.items ≡ out.old.items
         ++ head_lines 1 machine.now.state.processes) }

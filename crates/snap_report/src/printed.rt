@@ -18,14 +18,14 @@ impl Model for Report {
 }
 
 impl Report {
-    /// The report that this text is.
+    /// Returns the report of this text.
     pub fn of(text: Vec<u8>) -> Report
         ensures { result ≡ text.items }
     {
         Report { text }
     }
 
-    /// Its text.
+    /// Returns the text.
     pub fn as_slice(&self) -> &[u8]
         ensures { result.now ≡ self.now }
     {

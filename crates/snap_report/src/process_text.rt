@@ -27,7 +27,7 @@ use snap_text::{push_number, push_numbers, push_text};
 use snap_words::{Kind, KindTag};
 use std::alloc::AllocError;
 
-/// Why a process trapped.
+/// Appends why a process trapped.
 pub(crate) fn cause_text(out: &mut Vec<u8>, cause: Cause) -> Result<(), AllocError>
     ensures { OnOk result (out.new.items ≡ out.old.items ++ cause_text cause) }
 {
@@ -42,7 +42,7 @@ pub(crate) fn cause_text(out: &mut Vec<u8>, cause: Cause) -> Result<(), AllocErr
     }
 }
 
-/// The line to which `return` leads back.
+/// Appends the line to which `return` leads back.
 fn link_text(out: &mut Vec<u8>, link: Option<u64>) -> Result<(), AllocError>
     ensures { OnOk result (out.new.items ≡ out.old.items ++ link_text link) }
 {
@@ -55,7 +55,7 @@ fn link_text(out: &mut Vec<u8>, link: Option<u64>) -> Result<(), AllocError>
     }
 }
 
-/// The line at which a process stopped, where it was busy.
+/// Appends the line at which a process stopped, if it was busy.
 #[tactic(auto, using(snap_text::proofs::Texts::joined))]
 fn stop_text(out: &mut Vec<u8>, was: &Option<Activity>) -> Result<(), AllocError>
     ensures { OnOk result (out.new.items ≡ out.old.items ++ stop_text was.now) }
@@ -69,7 +69,7 @@ fn stop_text(out: &mut Vec<u8>, was: &Option<Activity>) -> Result<(), AllocError
     }
 }
 
-/// Where a process stands.
+/// Appends the status of a process.
 #[tactic(auto, using(snap_text::proofs::Texts::joined))]
 fn status_text(out: &mut Vec<u8>, status: &Status) -> Result<(), AllocError>
     ensures { OnOk result (out.new.items ≡ out.old.items ++ status_text status.now) }
@@ -95,7 +95,11 @@ fn status_text(out: &mut Vec<u8>, status: &Status) -> Result<(), AllocError>
     }
 }
 
-/// `process I` and where it stands.
+/// Appends `process I` and the status of process `i`.
+///
+/// # Errors
+///
+/// `AllocError` where memory runs out.
 #[tactic(auto, using(snap_text::proofs::Texts::joined))]
 pub fn head_line<K: Kind>(out: &mut Vec<u8>, machine: &Machine<K>, i: u32) -> Result<(), AllocError>
     requires { IsOneOf machine.now.shape.n i }
@@ -109,7 +113,7 @@ pub fn head_line<K: Kind>(out: &mut Vec<u8>, machine: &Machine<K>, i: u32) -> Re
     push_text(out, b"\n")
 }
 
-/// A scalar.
+/// Appends a scalar.
 #[tactic(auto, using(snap_text::proofs::Texts::joined))]
 fn number_local(out: &mut Vec<u8>, name: &Name, value: u64) -> Result<(), AllocError>
     ensures { OnOk result (out.new.items ≡ out.old.items ++ number_local name.now value) }
@@ -121,7 +125,7 @@ fn number_local(out: &mut Vec<u8>, name: &Name, value: u64) -> Result<(), AllocE
     push_text(out, b"\n")
 }
 
-/// A row or a view.
+/// Appends a row or a view.
 #[tactic(auto, using(snap_text::proofs::Texts::joined))]
 fn list_local(out: &mut Vec<u8>, name: &Name, values: &[u64]) -> Result<(), AllocError>
     ensures { OnOk result (out.new.items ≡ out.old.items ++ list_local name.now values.now) }
@@ -133,7 +137,7 @@ fn list_local(out: &mut Vec<u8>, name: &Name, values: &[u64]) -> Result<(), Allo
     push_text(out, b"\n")
 }
 
-/// A place of a `words` local, up to its `=`.
+/// Appends a place of a `words` local, up to its `=`.
 #[tactic(auto, using(snap_text::proofs::Texts::joined))]
 fn place_text(out: &mut Vec<u8>, name: &Name, place: u64) -> Result<(), AllocError>
     ensures { OnOk result (out.new.items ≡ out.old.items ++ place_text name.now place) }
@@ -145,7 +149,7 @@ fn place_text(out: &mut Vec<u8>, name: &Name, place: u64) -> Result<(), AllocErr
     push_text(out, b" = ")
 }
 
-/// A place of a `words` local.
+/// Appends a place of a `words` local.
 #[tactic(auto, using(snap_text::proofs::Texts::joined))]
 pub(crate) fn word_local<K: Kind>(
     out: &mut Vec<u8>,
@@ -162,7 +166,7 @@ pub(crate) fn word_local<K: Kind>(
     push_text(out, b"\n")
 }
 
-/// The places of a `words` local.
+/// Appends the places of a `words` local.
 fn words_local<K: Kind>(
     out: &mut Vec<u8>,
     kind: KindTag,
@@ -180,7 +184,7 @@ fn words_local<K: Kind>(
     Ok(())
 }
 
-/// The lines of a local.
+/// Appends the lines of a local.
 pub(crate) fn local_lines<K: Kind>(
     out: &mut Vec<u8>,
     kind: KindTag,
@@ -198,7 +202,7 @@ pub(crate) fn local_lines<K: Kind>(
     }
 }
 
-/// The lines of the locals of a sort of process i.
+/// Appends the lines of the locals of a sort of process i.
 fn sort_lines<K: Kind>(
     out: &mut Vec<u8>,
     machine: &Machine<K>,
@@ -218,7 +222,7 @@ fn sort_lines<K: Kind>(
     Ok(())
 }
 
-/// The locals of process i, sort by sort.
+/// Appends the locals of process i, sort by sort.
 #[tactic(auto, using(snap_text::proofs::Texts::joined))]
 fn locals_text<K: Kind>(out: &mut Vec<u8>, machine: &Machine<K>, i: u32) -> Result<(), AllocError>
     requires { IsOneOf machine.now.shape.n i }
@@ -231,7 +235,11 @@ fn locals_text<K: Kind>(out: &mut Vec<u8>, machine: &Machine<K>, i: u32) -> Resu
     sort_lines(out, machine, i, Sort::View)
 }
 
-/// The lines of process i.
+/// Appends the lines of process i.
+///
+/// # Errors
+///
+/// `AllocError` where memory runs out.
 #[tactic(auto, using(snap_text::proofs::Texts::joined))]
 pub fn process_lines<K: Kind>(
     out: &mut Vec<u8>,
@@ -246,7 +254,11 @@ pub fn process_lines<K: Kind>(
     locals_text(out, machine, i)
 }
 
-/// The lines of the processes, from process 1 on.
+/// Appends the lines of the processes, from process 1 on.
+///
+/// # Errors
+///
+/// `AllocError` where memory runs out.
 pub fn processes_lines<K: Kind>(out: &mut Vec<u8>, machine: &Machine<K>) -> Result<(), AllocError>
     ensures { OnOk result (out.new.items ≡ out.old.items
         ++ processes_lines machine.now.source.kind 1 machine.now.state.processes) }

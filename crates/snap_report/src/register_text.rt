@@ -21,7 +21,11 @@ use snap_text::{push_number, push_numbers, push_text};
 use snap_words::{Address, Bank, Kind, KindTag, View};
 use std::alloc::AllocError;
 
-/// The line of the values of the words.
+/// Appends the line of the values of the words.
+///
+/// # Errors
+///
+/// `AllocError` where memory runs out.
 #[tactic(auto, using(snap_text::proofs::Texts::joined))]
 pub fn values_line<K: Kind>(out: &mut Vec<u8>, machine: &Machine<K>) -> Result<(), AllocError>
     ensures { OnOk result (out.new.items ≡ out.old.items
@@ -33,7 +37,7 @@ pub fn values_line<K: Kind>(out: &mut Vec<u8>, machine: &Machine<K>) -> Result<(
     push_text(out, b"\n")
 }
 
-/// The line of register r[k].
+/// Appends the line of register r[k].
 #[tactic(auto, using(snap_text::proofs::Texts::joined))]
 fn word_line<K: Kind>(
     out: &mut Vec<u8>,
@@ -50,7 +54,7 @@ fn word_line<K: Kind>(
     push_text(out, b"\n")
 }
 
-/// The letter of a bank.
+/// Returns the letter of a bank.
 fn bank_text(bank: Bank) -> &'static [u8]
     ensures { result.now ≡ bank_text bank }
 {
@@ -62,7 +66,7 @@ fn bank_text(bank: Bank) -> &'static [u8]
     }
 }
 
-/// The line of a bit of a bank.
+/// Appends the line of a bit of a bank.
 #[tactic(auto, using(snap_text::proofs::Texts::joined))]
 fn bit_line(out: &mut Vec<u8>, address: Address, bit: u64) -> Result<(), AllocError>
     ensures { OnOk result (out.new.items ≡ out.old.items
@@ -78,7 +82,7 @@ fn bit_line(out: &mut Vec<u8>, address: Address, bit: u64) -> Result<(), AllocEr
     push_text(out, b"\n")
 }
 
-/// The line of view v[i].
+/// Appends the line of view v[i].
 #[tactic(auto, using(snap_text::proofs::Texts::joined))]
 fn view_line(out: &mut Vec<u8>, i: u64, view: &View) -> Result<(), AllocError>
     ensures { OnOk result (out.new.items ≡ out.old.items ++ view_line i view.now) }
@@ -90,7 +94,11 @@ fn view_line(out: &mut Vec<u8>, i: u64, view: &View) -> Result<(), AllocError>
     push_text(out, b"\n")
 }
 
-/// The line of a register, or nothing where there is no such register.
+/// Appends the line of a register, or nothing where there is no such register.
+///
+/// # Errors
+///
+/// `AllocError` where memory runs out.
 pub fn register_line<K: Kind>(
     out: &mut Vec<u8>,
     machine: &Machine<K>,
@@ -109,7 +117,7 @@ pub fn register_line<K: Kind>(
     }
 }
 
-/// The lines of the words, from r[1] on.
+/// Appends the lines of the words, from r[1] on.
 fn word_lines<K: Kind>(out: &mut Vec<u8>, machine: &Machine<K>) -> Result<(), AllocError>
     ensures { OnOk result (out.new.items ≡ out.old.items
         ++ word_lines machine.now.source.kind 1 machine.now.state.memory.words) }
@@ -129,7 +137,7 @@ fn word_lines<K: Kind>(out: &mut Vec<u8>, machine: &Machine<K>) -> Result<(), Al
     Ok(())
 }
 
-/// The lines of the bits of row i of a bank, from place 1 on.
+/// Appends the lines of the bits of row i of a bank, from place 1 on.
 fn row_lines<K: Kind>(
     out: &mut Vec<u8>,
     machine: &Machine<K>,
@@ -146,7 +154,7 @@ fn row_lines<K: Kind>(
     Ok(())
 }
 
-/// The lines of a bank of bits, row by row.
+/// Appends the lines of a bank of bits, row by row.
 fn bank_lines<K: Kind>(
     out: &mut Vec<u8>,
     machine: &Machine<K>,
@@ -162,7 +170,7 @@ fn bank_lines<K: Kind>(
     Ok(())
 }
 
-/// The lines of the views, from v[1] on.
+/// Appends the lines of the views, from v[1] on.
 fn view_lines<K: Kind>(out: &mut Vec<u8>, machine: &Machine<K>) -> Result<(), AllocError>
     ensures { OnOk result (out.new.items ≡ out.old.items
         ++ view_lines 1 machine.now.state.memory.views) }
@@ -182,7 +190,11 @@ fn view_lines<K: Kind>(out: &mut Vec<u8>, machine: &Machine<K>) -> Result<(), Al
     Ok(())
 }
 
-/// The lines of the registers: words, bits and views.
+/// Appends the lines of the registers: words, bits and views.
+///
+/// # Errors
+///
+/// `AllocError` where memory runs out.
 #[tactic(auto, using(snap_text::proofs::Texts::joined))]
 pub fn register_lines<K: Kind>(out: &mut Vec<u8>, machine: &Machine<K>) -> Result<(), AllocError>
     ensures { OnOk result (out.new.items ≡ out.old.items

@@ -13,7 +13,11 @@ use snap_text::{push_number, push_text};
 use snap_words::Kind;
 use std::alloc::AllocError;
 
-/// `position T of TOTAL`.
+/// Appends `position T of TOTAL`.
+///
+/// # Errors
+///
+/// `AllocError` where memory runs out.
 #[tactic(auto, using(snap_text::proofs::Texts::joined))]
 pub fn position_line(out: &mut Vec<u8>, position: u64, total: u64) -> Result<(), AllocError>
     ensures { OnOk result (out.new.items ≡ out.old.items ++ position_line position total) }
@@ -25,7 +29,7 @@ pub fn position_line(out: &mut Vec<u8>, position: u64, total: u64) -> Result<(),
     push_text(out, b"\n")
 }
 
-/// `report at T of TOTAL`.
+/// Appends `report at T of TOTAL`.
 #[tactic(auto, using(snap_text::proofs::Texts::joined))]
 fn first_line(out: &mut Vec<u8>, position: u64, total: u64) -> Result<(), AllocError>
     ensures { OnOk result (out.new.items ≡ out.old.items ++ first_line position total) }
@@ -37,8 +41,12 @@ fn first_line(out: &mut Vec<u8>, position: u64, total: u64) -> Result<(), AllocE
     push_text(out, b"\n")
 }
 
-/// The report of the state that a machine is in after so many of all items, and of the events up to
-/// it.
+/// Appends the report of the state of `machine` after `position` of `total` items, and of the
+/// events up to it.
+///
+/// # Errors
+///
+/// `AllocError` where memory runs out.
 #[tactic(auto, using(snap_text::proofs::Texts::joined))]
 pub fn report<K: Kind>(
     out: &mut Vec<u8>,

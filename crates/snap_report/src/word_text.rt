@@ -6,7 +6,7 @@ use snap_text::{push_number, push_numbers, push_text};
 use snap_words::{Field, Kind, KindTag, field_of, handshake_of, view_of};
 use std::alloc::AllocError;
 
-/// Adds each handshake bit behind a space.
+/// Appends each handshake bit behind a space.
 fn push_handshakes<K: Kind>(out: &mut Vec<u8>, word: &K::Word) -> Result<(), AllocError>
     ensures { OnOk result (out.new.items ≡ out.old.items
         ++ numbers_text (K.as_word word.now).handshakes) }
@@ -18,7 +18,11 @@ fn push_handshakes<K: Kind>(out: &mut Vec<u8>, word: &K::Word) -> Result<(), All
     Ok(())
 }
 
-/// A word.
+/// Appends a word.
+///
+/// # Errors
+///
+/// `AllocError` where memory runs out.
 #[tactic(auto, using(snap_text::proofs::Texts::joined))]
 pub fn word_text<K: Kind>(
     out: &mut Vec<u8>,

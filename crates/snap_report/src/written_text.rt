@@ -12,7 +12,11 @@ use snap_machine::{Local, Machine, Name, Sort, WritePlace};
 use snap_words::{Bank, Kind, KindTag};
 use std::alloc::AllocError;
 
-/// The line of the register that a write place is, behind the values where it is a word.
+/// Appends the line of the register that an item has written, behind the values if it is a word.
+///
+/// # Errors
+///
+/// `AllocError` where memory runs out.
 #[tactic(auto, using(snap_text::proofs::Texts::joined))]
 pub fn written_shared<K: Kind>(
     out: &mut Vec<u8>,
@@ -34,7 +38,7 @@ pub fn written_shared<K: Kind>(
     }
 }
 
-/// The lines of local `k` of a sort, where there is one.
+/// Appends the lines of local `k` of a sort, if there is one.
 fn named_lines<K: Kind>(
     out: &mut Vec<u8>,
     machine: &Machine<K>,
@@ -53,7 +57,7 @@ fn named_lines<K: Kind>(
     }
 }
 
-/// The line of a place of words, where there is one. Places are counted from 0.
+/// Appends the line of a place of words, counted from 0, if there is one.
 fn word_there<K: Kind>(
     out: &mut Vec<u8>,
     kind: KindTag,
@@ -70,7 +74,7 @@ fn word_there<K: Kind>(
     }
 }
 
-/// The line of a place of a local, where it has words and such a place.
+/// Appends the line of a place of a local, if it has words and such a place.
 fn place_line<K: Kind>(
     out: &mut Vec<u8>,
     kind: KindTag,
@@ -87,7 +91,7 @@ fn place_line<K: Kind>(
     }
 }
 
-/// The line of a place of `words` local `k`, where there is one.
+/// Appends the line of a place of `words` local `k`, if there is one.
 fn place_lines<K: Kind>(
     out: &mut Vec<u8>,
     machine: &Machine<K>,
@@ -106,7 +110,11 @@ fn place_lines<K: Kind>(
     }
 }
 
-/// The lines of the local of process `i` that a write place is.
+/// Appends the lines of the local of process `i` at a write place.
+///
+/// # Errors
+///
+/// `AllocError` where memory runs out.
 pub fn written_local<K: Kind>(
     out: &mut Vec<u8>,
     machine: &Machine<K>,

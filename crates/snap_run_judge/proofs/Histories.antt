@@ -36,10 +36,10 @@ use Rattle.snap_runs.proofs.Calls.{item_one, other_turn, turn}
 use Rattle.snap_runs.proofs.Embedding.{next_state}
 use Rattle.snap_runs.proofs.OneItem.{answer_is}
 use Rattle.snap_runs.proofs.Transitions.{Transition, answers, calls, crashes, finishes, goes, skipped, status_of, traps}
-use Rattle.snap_history.proofs.Later.{events_after}
+use Rattle.snap_record.proofs.Later.{events_after}
 use Rattle.snap_record.proofs.Events.{all_events, events_from, next_events, no_events}
 use Rattle.snap_asm_program.proofs.Declared.{is_view}
-use Rattle.snap_values.specs.Sizes.{AreSized}
+use Rattle.snap_machine.specs.Sizes.{AreSized}
 use Rattle.snap_judge.specs.History.{Busy, Caller, Free, Gone, MayCome, MayFollow, with_caller}
 use Rattle.snap_judge.proofs.ExplainedNext.{with_other, with_same}
 use Rattle.snap_run_judge.specs.RunHistory.{RunsHaveHistories}

@@ -50,10 +50,10 @@ use Rattle.snap_semantics.specs.declared.process.Status.TheVariants.{Idle, Busy,
 use Rattle.snap_regs.specs.Store.{HasColumns, IsOfShape, rows_in}
 use Rattle.snap_regs.proofs.NewRegisters.{IsOfShape-new}
 use Rattle.snap_asm_program.proofs.Declared.{is_row, is_view, is_words, rest_right}
-use Rattle.snap_values.specs.Sizes.{AllSized, AreSized}
-use Rattle.snap_values.proofs.Sizes.{AreSized-initial, AreSized-with_row, AreSized-with_scalar, AreSized-with_view}
-use Rattle.snap_values.proofs.Sizes.{AreSized-with_words, each_length, place_below, view_sized}
-use Rattle.snap_line_effects.proofs.Tuples.{word_suits}
+use Rattle.snap_machine.specs.Sizes.{AllSized, AreSized}
+use Rattle.snap_machine.proofs.Sizes.{AreSized-initial, AreSized-with_row, AreSized-with_scalar, AreSized-with_view}
+use Rattle.snap_machine.proofs.Sizes.{AreSized-with_words, each_length, place_below, view_sized}
+use Rattle.snap_machine.proofs.Tuples.{word_suits}
 
 module _ (s : Source) (shape : Counts) where
   -- The words and the views of the registers are as many and as long as the shape wants.
@@ -63,7 +63,7 @@ module _ (s : Source) (shape : Counts) where
     pub view_count : length m.views ≡ rows_in s.kind shape bank.V
     pub view_places : HasColumns shape.w m.views
 
-  -- So are the locals of the processes, of which there are as many as the shape has.
+  -- The locals of the processes have the lengths of the shape, and there are as many processes as it has.
   pub record IsSized (S : State) : Type 0 where
     pub count : length S.processes ≡ shape.n
     pub memory : HasSizes S.memory
@@ -360,7 +360,7 @@ module _ (s : Source) (shape : Counts) (listing : IsListing s) where
   of_shape kind.Bits = IsOfShape-new kind.Bits shape (initial_memory kind.Bits shape) refl refl refl refl
   of_shape kind.Multi = IsOfShape-new kind.Multi shape (initial_memory kind.Multi shape) refl refl refl refl
 
-  -- and so has the state before the first item
+  -- the state before the first item has the lengths of the shape
   pub initial_sized : IsSized s shape (initial s shape)
   initial_sized = record {
     count = length-replicate shape.n (initial_process s shape);

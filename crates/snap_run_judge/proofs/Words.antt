@@ -6,7 +6,7 @@ use Rattle.snap_judge.specs.Kept.{operation_of}
 use Rattle.snap_judge.specs.Linearizable.{LinearizableFromTheBeginning}
 use Rattle.snap_judge.specs.declared.judgements.Judgement.{Judgement}
 use Rattle.snap_judge.specs.declared.judgements.Judgement.TheVariants as judgement
-use Rattle.snap_judge_output.specs.JudgementText.{NamesEvent}
+use Rattle.snap_history_text.specs.JudgementText.{NamesEvent}
 use Rattle.snap_run_judge.specs.RunHistory.{history_of}
 use Rattle.snap_run_judge.specs.RunJudgement.{IsLinearizabilityOf, IsRunJudgement, word_of}
 
@@ -16,7 +16,7 @@ word_is law most r (judgement.Linearizable order) is h = (map operation_of order
 word_is law most r (judgement.NotLinearizable k) is h = λ whole. h.fails (law (history_of r) k is whole)
 word_is law most r (judgement.Undecided k) is h = (k, h)
 
--- and names an event that there is
+-- a judgement names an event of the history
 pub event_named : (most : ℕ) (r : Run) (j : Judgement) → IsRunJudgement most r j → NamesEvent (history_of r) j
 event_named most r (judgement.Linearizable order) h = tt
 event_named most r (judgement.NotLinearizable k) h = h.is_event

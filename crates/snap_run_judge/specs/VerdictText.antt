@@ -4,7 +4,7 @@ use Rattle.std.specs.Prelude.{ℕ, List, [], ◌∷◌, ◌++◌, codes}
 use Rattle.snap_judge.specs.History.{History}
 use Rattle.snap_judge.specs.declared.judgements.Judgement.{Judgement}
 use Rattle.snap_judge.specs.declared.judgements.Judgement.TheVariants as judgement
-use Rattle.snap_judge_output.specs.JudgementText.{last_of, not_linearizable_line, undecided_line}
+use Rattle.snap_history_text.specs.JudgementText.{last_of, not_linearizable_line, undecided_line}
 
 -- a verdict; no order is told
 abbrev pub verdict_text : History → Judgement → List ℕ

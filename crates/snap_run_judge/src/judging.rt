@@ -1,7 +1,7 @@
 //! Whether the run of a record is linearizable.
 ghost use Rattle.std.specs.Prelude.{◌≡◌, IfOk};
 ghost use Rattle.snap_judge.specs.History.{IsHistory};
-ghost use Rattle.snap_judge_output.specs.JudgementText.{NamesEvent};
+ghost use Rattle.snap_history_text.specs.JudgementText.{NamesEvent};
 ghost use Rattle.snap_runs.specs.Run.{Run};
 ghost use Rattle.snap_run_judge.specs.RunHistory.{IsHistoryOf, history_of};
 ghost use Rattle.snap_run_judge.specs.RunJudgement.{IsLinearizabilityOf, IsRunJudgement, word_of};
@@ -15,24 +15,24 @@ use snap_record::Record;
 use snap_words::Kind;
 use std::alloc::{AllocError, Global};
 
-/// How many configurations a search meets at most, where nobody has asked for another bound.
+/// The most configurations that a search keeps, unless another bound is given.
 pub const MOST_CONFIGURATIONS: usize = 1_000_000;
 
 /// The events of the run of a record are a history.
 pub fn has_history<K: Kind>(history: &Record<K>)
     ensures { IsHistory (history_of history.now) }
 {
-    // Its run is a valid one, of a listing.
+    // The run of a record is a valid one, of a listing.
     let _items = history.items();
     let _lines = history.machine().program().listing().lines();
     runs_have_histories();
 }
 
-/// Judges whether the run of a record is linearizable, and where it is not, at which event it fails.
+/// Judges whether the run of `history` is linearizable, and if it is not, at which event it fails.
 ///
 /// # Errors
 ///
-/// There is no memory for it.
+/// `AllocError` where memory runs out.
 #[tactic(auto, using(crate::proofs::Words::event_named))]
 pub fn judge_record<K: Kind>(
     alloc: Global,
@@ -47,12 +47,12 @@ pub fn judge_record<K: Kind>(
     judge(alloc, &events, most)
 }
 
-/// Judges whether the run of a program is linearizable of which this is the history, and where it is
+/// Judges whether the run of `program` that has the history `history` is linearizable, and if it is
 /// not, at which event it fails.
 ///
 /// # Errors
 ///
-/// There is no memory for it.
+/// `AllocError` where memory runs out.
 #[tactic(auto, using(crate::proofs::Words::event_named))]
 pub fn judge_history(
     alloc: Global,
@@ -92,11 +92,11 @@ pub fn word_for<K: Kind>(history: &Record<K>, most: usize, judgement: &Judgement
     word_of(judgement)
 }
 
-/// Returns whether the run of a record is linearizable.
+/// Returns whether the run of `history` is linearizable.
 ///
 /// # Errors
 ///
-/// There is no memory to find it out.
+/// `AllocError` where memory runs out.
 pub fn linearizability_of<K: Kind>(
     alloc: Global,
     history: &Record<K>,

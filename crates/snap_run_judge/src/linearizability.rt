@@ -3,7 +3,7 @@
 /// Whether a run is linearizable, as far as that is decided.
 #[derive(Clone, Copy, Debug, PartialEq, Eq)]
 pub enum Linearizability {
-    /// Its operations could have taken place one after another.
+    /// The operations could have taken place one after another.
     Linearizable,
     /// No order of its operations explains what its callers saw.
     NotLinearizable,

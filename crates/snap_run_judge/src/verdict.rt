@@ -1,21 +1,21 @@
 //! The line of a verdict on the run of a record.
 ghost use Rattle.std.specs.Prelude.{◌≡◌, ◌++◌, OnOk};
-ghost use Rattle.snap_judge_output.specs.JudgementText.{NamesEvent};
+ghost use Rattle.snap_history_text.specs.JudgementText.{NamesEvent};
 ghost use Rattle.snap_run_judge.specs.RunHistory.{history_of};
 ghost use Rattle.snap_run_judge.specs.VerdictText.{verdict_text};
 
+use snap_history_text::{push_not_linearizable, push_undecided};
 use snap_judge::Judgement;
-use snap_judge_output::{push_not_linearizable, push_undecided};
 use snap_record::Record;
 use snap_text::push_text;
 use snap_words::Kind;
 use std::alloc::AllocError;
 
-/// Adds the line of a verdict on the run of a record. Of a linearizable run no order is told.
+/// Appends the line of a verdict on the run of a record. No order is written of a linearizable run.
 ///
 /// # Errors
 ///
-/// Memory ran out.
+/// `AllocError` where memory runs out.
 pub fn push_verdict<K: Kind>(
     out: &mut Vec<u8>,
     history: &Record<K>,

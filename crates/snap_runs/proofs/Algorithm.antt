@@ -27,13 +27,13 @@ pub data Mode : Type 0 where
   Embedded : (word value : ℕ) → Mode
   Updating : (word value : ℕ) → Mode
 
--- its operation
+-- the operation of a mode
 abbrev pub op_of : Mode → Op
 op_of Scanning = Scan
 op_of (Embedded word value) = Update word value
 op_of (Updating word value) = Update word value
 
--- its link, where an embedded scan leads back to this line
+-- the link of a mode, where an embedded scan leads back to this line
 abbrev pub link_of : ℕ → Mode → Option ℕ
 link_of back Scanning = None
 link_of back (Embedded word value) = Some back
@@ -58,7 +58,7 @@ pub link_is : (back : ℕ) (op : Op) → link_of back (mode_of op) ≡ None
 link_is back Scan = refl
 link_is back (Update word value) = refl
 
--- where a process stands
+-- the control of a process: idle, or at a program counter in a mode
 pub data Control (P : Type 0) : Type 0 where
   Idle : Control P
   At : (mode : Mode) → (counter : P) → Control P
@@ -106,7 +106,7 @@ leads_to A B gives (Begin d p k) h = gives d p k h
 leads_to A B gives (Answer v) h = tt
 leads_to A B gives Finish h = tt
 
--- the same where it goes on
+-- what holds of the next line, where a move goes on
 abbrev pub GoesOn : {V P M : Type 0} → (Mode → M → V → P → Type 0) → Move V P M → Type 0
 GoesOn Holds (To d m p k) = Holds d m p k
 GoesOn Holds (Begin d p k) = Unit {0}
@@ -124,7 +124,7 @@ memory_after m Finish = m
 pub record Auxiliary : Type 0 where
   -- the item that started its last scan
   pub since : ℕ
-  -- its steps and its double collects since
+  -- own steps and double collects since the scan's start
   pub own : ℕ
   pub collects : ℕ
   -- the item that started its last double collect, and the ends of double collects since
@@ -154,7 +154,7 @@ pub record Algorithm (V P M : Type 0) : Type 0 where
   pub back : ℕ
   -- what a line does to a process with this number
   pub move : ℕ → Mode → M → V → P → Move V P M
-  -- where an operation begins
+  -- the program counter at which an operation begins
   pub counter : Op → P
   -- 1 for a line that ends a double collect, else 0; whether a line goes back to start another one
   pub tests : P → ℕ
@@ -281,7 +281,7 @@ abbrev pub typed_state : {V P M : Type 0} → Algorithm V P M → List Item → 
 typed_state a items zero = first_state a
 typed_state a items (suc t) = happens a (suc t) (typed_state a items t) (item_at items t)
 
--- The same in the words of the machine.
+-- The status of a process, as the machine has it.
 abbrev pub status_of : {V P M : Type 0} → Algorithm V P M → Control P → Status
 status_of a Idle = status.Idle
 status_of a (At d k) = status.Busy (record { op = op_of d; line = a.number k; link = link_of a.back d })

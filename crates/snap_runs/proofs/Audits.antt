@@ -46,7 +46,7 @@ left_by a l (Ok (Answers v)) = record { status = Idle; locals = l }
 left_by a l (Ok Finishes) = record { status = Idle; locals = l }
 left_by a l (Err c) = record { status = Trapped c a; locals = l }
 
--- it leaves the other processes
+-- a step leaves the other processes as they were
 left_processes : (S : State) (k : ℕ) (a : Activity) (l : Locals) (r : Result Effect Cause) →
     (leave S k a l r).0.processes ≡ slice_set S.processes (k - 1) (left_by a l r)
 unfolding left_by
@@ -132,7 +132,7 @@ touches s n S (Step k) = step_touches s n S k (process_at S k) (process_at S k).
 touches s n S (Call k o) = call_touches s n S k o (process_at S k) (process_at S k).status
 touches s n S (Crash k) = crash_touches S k (process_at S k) (process_at S k).status
 
--- neither called nor answered
+-- an item that neither calls nor answers
 is_quiet : Outcome → Bool
 is_quiet outcome.Called = false
 is_quiet (outcome.Answered v) = false
@@ -335,7 +335,7 @@ least_of r view t (suc more) = by_here (bytes_eq (values (state r t)) view) refl
         one_before r view t more (least_point r view (suc t) more)
         (λ same. let found : true ≡ false = sym (ap (λ vs. bytes_eq vs view) same ∙ bytes_eq-refl view) ∙ e in cc) rest
 
--- so it is of a scan
+-- a least point that is searched for in a scan is the least point of the scan
 least_of_scan : (r : Run) (view : List ℕ) (c e : ℕ) (o : Option ℕ) → c ≤ e →
     IsLeastOf r view c (suc (e - c)) o → IsLeastPoint r c e view o
 unfolding IsLeastOf
@@ -408,7 +408,7 @@ module _ (r : Run) (fits : IsValidRun r) where
       quiet_by outcome.Crashed q true = refl
       quiet_by (outcome.Skipped c) q true = refl
 
-  -- and ends no scan
+  -- a quiet item ends no scan
   quiet_end : (o : Outcome) (view : List ℕ) → is_quiet o ≡ true → o ≡ outcome.Answered view → ⊥
   unfolding is_quiet
   quiet_end outcome.Called view q e = absurd cc

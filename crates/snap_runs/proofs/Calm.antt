@@ -330,7 +330,7 @@ module _ (s : Source) (shape : Counts) where
       ap (λ T. after s shape T (take t (calm_items s shape (done s shape S x).0 xs))) (next_calm S x)
       ∙ calm_after xs (done s shape S x).0 t
 
-  -- its items
+  -- a run without crashes has as many items
   calm_length : (xs : List Item) (S : State) → length (calm_items s shape S xs) ≡ length xs
   calm_length [] S = refl
   calm_length (x ∷ xs) S = ap suc (calm_length xs (done s shape S x).0)
@@ -356,7 +356,7 @@ module _ (s : Source) (shape : Counts) where
 abbrev pub calm_list : Run → List Item
 calm_list r = calm_items r.source r.shape (initial r.source r.shape) r.items
 
--- the same run without crashes
+-- a run, without its crashes
 abbrev pub calm : Run → Run
 calm r = record { source = r.source; shape = r.shape; items = calm_list r }
 

@@ -168,7 +168,7 @@ module _ (r : Run) where
     pub same_steps : (i c e : ℕ) → e ≤ length r.items → own_steps (calm r) i c e ≡ own_steps r i c e
     same_steps i c e le = same_count (takes_step (calm r) i) (takes_step r i) (step_same i) c e le
 
-    -- where a scan starts and ends
+    -- a scan starts and ends at the same items without the crashes
     starts_to : (i : ℕ) (link : Option ℕ) (t : ℕ) → t < length r.items → Starts r i (suc t) link →
         Starts (calm r) i (suc t) link
     starts_to i None t h s =

@@ -41,7 +41,7 @@ found_there r t view is =
 
 -- the verdict of a finished scan
 module _ (r : Run) (fits : IsValidRun r) (i c : ℕ) (view : List ℕ) where
-  -- it is that of its answer
+  -- an audit contains the verdict of a finished scan
   of_answer : (t : ℕ) → FinishedScan r i None c (suc t) view → Contains (audit r) (verdict_of r i c (suc t) view)
   of_answer t f =
       let j = who (item r (suc t)) in

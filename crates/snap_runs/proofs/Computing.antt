@@ -53,7 +53,7 @@ pub either : {A : Type 0} (P : A → Type 0) (b : Bool) (x y : A) → (b ≡ tru
 either P true x y f g = f refl
 either P false x y f g = g refl
 
--- the same of what may be there
+-- a property of `f None` and of each `f (Some x)` is one of `f` of an option
 pub whether : {A B : Type 0} (P : B → Type 0) (f : Option A → B) (o : Option A) → (o ≡ None → P (f None)) →
     ((x : A) → o ≡ Some x → P (f (Some x))) → P (f o)
 whether P f None g h = g refl
@@ -68,7 +68,7 @@ pub not_true : (b : Bool) → not b ≡ true → b ≡ false
 not_true true h = absurd (cc)
 not_true false h = refl
 
--- where nothing is said against it
+-- a choice gives none only where its test passes and that side gives none
 pub none_then : {A : Type 0} (b : Bool) (o : Option A) (x : A) →
     (if b then o else Some x) ≡ None → (b ≡ true) × (o ≡ None)
 none_then true o x h = (refl, h)

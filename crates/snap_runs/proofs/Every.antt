@@ -74,7 +74,7 @@ module _ {V P M : Type 0} {a : Algorithm V P M} {lines : Lines V P M} {line : �
         (λ steady. bounds.collects_at_most a lines frame.listed (execution frame calmed (kept steady)) frame.collects
         frame.steps (λ t i. (kept steady).within t i))
 
-    -- and so at most any larger number
+    -- a bound on double collects is one wherever it is smaller than another number
     pub fewer_collects : (most : ℕ) → frame.collects ≤ most → promises.CollectsAtMost most r
     fewer_collects most more fits i link c e scan =
         let few : double_collects r i c e ≤ frame.collects = few_collects fits i link c e scan in omega arith

@@ -78,7 +78,7 @@ module _ {V P M : Type 0} (a : Algorithm V P M) where
         ∙ ap (λ b. b && (is_at line (process_at (state r t) i).status && goes)) (same_number i)
         ∙ ap (λ b. b && goes) stands ∙ embed.goes a items fits does t h
 
-    -- and where a process executes a line, it stands there
+    -- a process stands at the line that it executes
     pub stands_at : (numbered : Numbered) (t i line : ℕ) (there : P) → t < length items → IsOneOf a.shape.n i →
         numbered.counter_with line ≡ Some there →
         executes r i line (suc t) ≡ true →

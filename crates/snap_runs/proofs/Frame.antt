@@ -30,7 +30,7 @@ module _ {V P M : Type 0} (a : Algorithm V P M) (x : TypedState V P M) (i : ℕ)
         | inr other ↦ subst (Each k) (sym (stays k j other)) (others k j other)
       ]
 
-  -- the same of pairs; a pair has the number of its second process
+  -- a claim of pairs of processes; a pair has the number of its second process
   pub record Pairs (Pair : TypedProcess V P M → TypedProcess V P M → ℕ → Type 0) : Type 0 where
     pub own : Pair q' q' i
     pub first : (k : ℕ) → IsOneOf a.shape.n k → k ≢ i → Pair q' (typed_at a x k) k

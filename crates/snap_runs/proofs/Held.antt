@@ -45,7 +45,7 @@ beside_now history t lo k words now le two = (
   ap (λ ws. (word_at ws k).view) now,
 )
 
--- it was held, and stood so
+-- a view was held by the words, and stood beside a word
 abbrev pub Lent : (ℕ → List Word) → ℕ → ℕ → ℕ → List ℕ → Type 0
 Lent history t lo k v = Held history t lo v × Beside history t lo k v
 

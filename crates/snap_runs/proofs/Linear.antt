@@ -163,7 +163,7 @@ module _ (line : ℕ) (r : Run) (fits : IsValidRun r) (points : HasLinearization
       q.operation p.spot q.spot p.last q.last
       p.open_still q.open_still refl
 
-  -- and a spot has one operation
+  -- a spot has one operation
   same_at : (a a' : Action) (i i' c c' : ℕ) (end end' : Option ℕ) (t s : ℕ) → TookPlace r i c end a →
       TookPlace r i' c' end' a' → Spot a i c end t s → Spot a' i' c' end' t s → t ≤ length r.items →
       ((e : ℕ) → end ≡ Some e → t ≤ e) → ((e : ℕ) → end' ≡ Some e → t ≤ e) →
@@ -248,7 +248,7 @@ module _ (line : ℕ) (r : Run) (fits : IsValidRun r) (points : HasLinearization
   abbrev pub Follows : Operation → Operation → Type 0
   Follows a b = (t : ℕ) × (s : ℕ) × (t' : ℕ) × (s' : ℕ) × Placed t s a × Placed t' s' b × Sooner t s t' s'
 
-  -- These are the operations before a spot, in their order, and the object of one process has these values after them.
+  -- The operations before a spot, in their order; the object of one process has these values after them.
   pub record OrderedUpTo (t s : ℕ) (now : List ℕ) (os : List Operation) : Type 0 where
     pub placed : AllByRecursion (Before t s) os
     pub pairs : Pairs Follows os

@@ -88,8 +88,8 @@ module _ {V P M : Type 0} (a : Algorithm V P M) (lines : Lines V P M) (listed : 
     pub event : Event item
     pub recent : double_collects r i item t ≤ 1
 
-  -- so it is where a number has grown since the start of the scan's double collect, of
-  -- which at most one end has followed
+  -- an event that is recent: a number has grown since the start of the scan's double collect, of which at most one end
+  -- has followed
   pub recent : (Event : ℕ → Type 0) (f : ℕ → ℕ) → ((v : ℕ) → v < length items → Event (suc v) ⊎ (f (suc v) ≡ f v)) →
       (i : ℕ) (link : Option ℕ) (c t : ℕ) (d : Mode) (k : P) → PendingScan r i link c (suc t) →
       c ≤ t → (at t i).control ≡ At d k → a.tests k ≡ 0 →

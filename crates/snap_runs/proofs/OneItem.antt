@@ -246,7 +246,7 @@ call_values s shape S i o p (Busy a) = refl
 call_values s shape S i o p (Trapped c a) = refl
 call_values s shape S i o p (Crashed was) = refl
 
--- and so does a crash
+-- a crash leaves the values as they are
 crash_values : (S : State) (i : ℕ) (p : Process) (t : Status) → values (crash S i p t).0 ≡ values S
 crash_values S i p Idle = refl
 crash_values S i p (Busy a) = refl

@@ -38,14 +38,14 @@ module _ (line : ℕ) (r : Run) (fits : IsValidRun r) (points : HasLinearization
   abbrev Placed : ℕ → ℕ → Operation → Type 0
   Placed t s o = linear.Placed line r fits points t s o
 
-  -- it has a spot in the run
+  -- an operation has a spot in the run
   abbrev pub Stands : Operation → Type 0
   Stands o = linear.Before line r fits points (suc (length r.items)) 0 o
 
   abbrev Follows : Operation → Operation → Type 0
   Follows a b = linear.Follows line r fits points a b
 
-  -- these are all operations with a spot, in order
+  -- all operations with a spot, in order
   abbrev pub Ordered : List Operation → Type 0
   Ordered os = linear.OrderedUpTo line r fits points (suc (length r.items)) 0 (values (state r (length r.items))) os
 
@@ -76,7 +76,7 @@ module _ (line : ℕ) (r : Run) (fits : IsValidRun r) (points : HasLinearization
     happens = happens o.action o.process o.call t s o.end p.operation p.spot;
   }
 
-  -- their places
+  -- the places of operations that have spots
   pub places : (os : List Operation) → AllByRecursion Stands os → List ℕ
   places [] h = []
   places (o ∷ os) h = h.0.0 ∷ places os h.1
@@ -86,7 +86,7 @@ module _ (line : ℕ) (r : Run) (fits : IsValidRun r) (points : HasLinearization
   each [] h = tt
   each (o ∷ os) h = (takes_place o h.0.0 h.0.1 h.0.2, each os h.1)
 
-  -- one that follows takes place no sooner
+  -- an operation that follows another one takes place no sooner
   no_sooner : (a b : Operation) (p : Stands a) (q : Stands b) → Follows a b → p.0 ≤ q.0
   no_sooner a b p q f =
       let first = linear.one_spot line r fits points a p.0 p.1 f.0 f.1 p.2 f.4 in

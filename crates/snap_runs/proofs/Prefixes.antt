@@ -48,7 +48,7 @@ fits_or_not r =
       | inl all ↦ inl (record { all = all })
     ]
 
--- it is short enough or not
+-- items are short enough or not
 shorter_or_not : (most : Option ℕ) (items : List Item) → IsShorter most items ⊎ (IsShorter most items → ⊥)
 shorter_or_not None items = inl tt
 shorter_or_not (Some most) items =

@@ -103,10 +103,10 @@ module _ {V P M : Type 0} (a : Algorithm V P M) where
       pub inside : Inside link mode
       -- item c started its last scan
       pub since : (his t).auxiliary.since ≡ c
-      -- its steps and double collects since are those of the run
+      -- the own steps and double collects since the scan's start are those of the run
       pub own : (his t).auxiliary.own ≡ own_steps r i c t
       pub collects : (his t).auxiliary.collects ≡ double_collects r i c t
-      -- its last double collect was started in this scan
+      -- the last double collect was started in this scan
       pub round_after : c ≤ (his t).auxiliary.round
       pub round_before : (his t).auxiliary.round ≤ t
       -- the double collects that have ended since are those of the run

@@ -20,7 +20,7 @@ total_le most f (suc n) h =
     let last : f (suc n) ≤ most = h (suc n) (omega arith, omega arith) in
     let more : suc n * most ≡ n * most + most = one_more n most in omega arith
 
--- the same where one place is 0
+-- a total of places each at most `most`, one of which is 0, is less by `most`
 pub total_less : (most : ℕ) (f : ℕ → ℕ) (n i : ℕ) → IsOneOf n i → f i ≡ 0 →
     ((k : ℕ) → IsOneOf n k → f k ≤ most) → total f n + most ≤ n * most
 unfolding total
@@ -55,7 +55,7 @@ total_more f g (suc n) i one lt h =
           let last : f (suc n) ≤ g (suc n) = h (suc n) (omega arith, omega arith) in omega arith)
     ]
 
--- and so it is where each place is raised by one that is marked, and one is
+-- a total grows where each place that is marked is raised by one, and one is marked
 pub total_raised : (f g : ℕ → ℕ) (marked : ℕ → Bool) (n k : ℕ) → IsOneOf n k → marked k ≡ true →
     ((u : ℕ) → IsOneOf n u → g u ≡ (if marked u then f u + 1 else f u)) →
     total f n < total g n

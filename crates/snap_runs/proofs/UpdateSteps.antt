@@ -42,7 +42,7 @@ module _ {V P M : Type 0} (a : Algorithm V P M) (lines : Lines V P M) where
   Nearer h p k (Answer v) = 1 ≤ h.ahead p k
   Nearer h p k Finish = 1 ≤ h.ahead p k
 
-  -- and a line that returns from the scan
+  -- what a line that returns from the embedded scan does to the steps ahead
   abbrev pub Resumes : Ahead → Move V P M → Type 0
   Resumes h (To (Updating word value) m p k) = (h.ahead p k ≤ h.rest) × (h.scanned k ≡ true)
   Resumes h (To d m p k) = Unit {0}
@@ -77,7 +77,7 @@ module _ {V P M : Type 0} (a : Algorithm V P M) (lines : Lines V P M) where
       (within : (t : ℕ) (d : Mode) (k : P) → t ≤ length run.items →
       (typed_at a (typed_state a run.items t) i).control ≡ At d k → IsInScan d →
       (typed_at a (typed_state a run.items t) i).auxiliary.own + 1 ≤ scan)
-      -- where an update begins
+      -- the steps ahead where an update begins
       (begins : (p : V) (word value : ℕ) → (h.ahead p (a.counter (Update word value)) ≤ h.total)
       × (h.scanned (a.counter (Update word value)) ≡ false)) where
     abbrev items : List Item

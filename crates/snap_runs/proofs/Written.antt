@@ -33,7 +33,7 @@ same_update_call u v p c w x =
     ∙ ap (λ y. let q : UpdateCall = record { process = v.process; call = v.call; word = v.word; value = y } in q) x
 
 module _ (line : ℕ) (r : Run) where
-  -- this update writes at item t
+  -- an update writes at item t
   pub record WritesAt (t : ℕ) (u : UpdateCall) : Type 0 where
     pub executed : executes r u.process line t ≡ true
     pub before_it : u.call < t
@@ -45,12 +45,12 @@ module _ (line : ℕ) (r : Run) where
       ((u : UpdateCall) × WritesAt t u × (us ≡ past ++ u ∷ []))
       ⊎ (((i : ℕ) → executes r i line t ≡ true → ⊥) × (us ≡ past))
 
-  -- these updates have written by item t
+  -- the updates that have written by item t
   abbrev pub WrittenUpTo : ℕ → List UpdateCall → Type 0
   WrittenUpTo zero us = us ≡ []
   WrittenUpTo (suc t) us = (past : List UpdateCall) × WrittenUpTo t past × AddsAt (suc t) past us
 
-  -- and no others, and in no other order
+  -- no two updates write at one item
   same_write : IsValidRun r → (t : ℕ) (u v : UpdateCall) → WritesAt t u → WritesAt t v → u ≡ v
   same_write fits t u v a b =
       let his : u.process ≡ v.process =

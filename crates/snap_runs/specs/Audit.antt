@@ -65,7 +65,7 @@ pub record IsOfScan (r : Run) (v : Verdict) : Type 0 where
   pub point_is_least : IsLeastPoint r v.call v.answer view v.point
   pub collects_are : v.collects ≡ double_collects r v.process v.call v.answer
 
--- its point was found
+-- the verdict has found a point
 abbrev pub HasFoundPoint : Verdict → Type 0
 HasFoundPoint v = IsSome v.point
 

@@ -104,7 +104,7 @@ StaysWithin limits r = IsValidRun r → (t : ℕ) → t ≤ length r.items →
 abbrev pub sequence_numbers : State → List ℕ
 sequence_numbers x = map (λ (w : Word). w.seq) x.memory.words
 
--- the same, but for place k, which is one more
+-- a list of numbers in which place k is one more
 abbrev pub one_more : ℕ → List ℕ → List ℕ
 one_more k xs = slice_set xs (k - 1) (slice_index xs (k - 1) + 1)
 

@@ -38,6 +38,6 @@ pub record IsLinearization (r : Run) (os : List Operation) : Type 0 where
   -- the object runs them, from w zeros on, with these answers
   pub runs : RunsFrom (replicate r.shape.w 0) os
 
--- There is one.
+-- A run that fits has a linearization.
 abbrev pub IsLinearizable : Run → Type 0
 IsLinearizable r = IsValidRun r → (os : List Operation) × IsLinearization r os

@@ -31,11 +31,11 @@ TookPlace r i c (Some e) (Sees view) = FinishedScan r i None c e view
 -- a scan that has not ended has seen no view yet
 TookPlace r i c None (Sees view) = ⊥
 
--- It is an operation of this run. A scan that is embedded in an update is none.
+-- An operation of this run. A scan that is embedded in an update is none.
 abbrev pub IsOperation : Run → Operation → Type 0
 IsOperation r o = TookPlace r o.process o.call o.end o.action
 
--- It ended at some item.
+-- An operation has ended at some item.
 abbrev pub HasEnded : Operation → Type 0
 HasEnded o = (e : ℕ) × (o.end ≡ Some e)
 

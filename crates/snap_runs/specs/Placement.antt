@@ -23,7 +23,7 @@ pub record TakesPlaceAt (line : ℕ) (r : Run) (o : Operation) (t : ℕ) : Type 
   pub within : t ≤ length r.items
   -- not after its end, where it has ended
   pub not_ended : (e : ℕ) → o.end ≡ Some e → t ≤ e
-  -- and it does there what it does
+  -- at that item the operation does what it does
   pub happens : HappensAt line r o.process o.call o.action t
 
 -- A linearization, and for each of its operations the item at which it takes place.
@@ -37,7 +37,7 @@ pub record IsPlacedLinearization (line : ℕ) (r : Run) (os : List Operation) (p
   -- the scans that have been answered, and no others.
   pub complete : (o : Operation) (t : ℕ) → IsOperation r o → TakesPlaceAt line r o t → Contains os o
 
--- There is one: each operation has its place.
+-- Each operation of a run has its place: there are places and a linearization in their order.
 abbrev pub OperationsHavePlaces : ℕ → Run → Type 0
 OperationsHavePlaces line r =
     IsValidRun r → (os : List Operation) × (places : List ℕ) × IsPlacedLinearization line r os places

@@ -61,7 +61,7 @@ pub record PendingScan (r : Run) (i : ℕ) (link : Option ℕ) (c e : ℕ) : Typ
   pub last : e ≤ length r.items
   pub goes_on : (t : ℕ) (view : List ℕ) → c < t → t < e → Ends r i t link view → ⊥
 
--- It ends at item e with this view.
+-- A scan of process i that item c starts ends at item e with this view.
 pub record FinishedScan (r : Run) (i : ℕ) (link : Option ℕ) (c e : ℕ) (view : List ℕ) : Type 0 where
   pub scan : PendingScan r i link c e
   pub order : c < e

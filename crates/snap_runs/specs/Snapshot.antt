@@ -30,5 +30,5 @@ pub record IsSnapshotRun (b : Bounds) (r : Run) : Type 0 where
   pub few_collects : CollectsAtMost b.collects r
   pub sharp_collects : CollectsAtMost b.sharp r
   pub few_steps : StepsAtMost b.steps r
-  -- its operations are as if each took place at one moment between its call and its end
+  -- the operations are as if each took place at one moment between its call and its end
   pub linearizable : IsLinearizable r

@@ -32,7 +32,7 @@ updates (o ∷ os) = update_call o.process o.call o.action ++ updates os
 abbrev pub IsPrefix : {X : Type 0} → List X → List X → Type 0
 IsPrefix {X} xs ys = (rest : List X) × (xs ++ rest ≡ ys)
 
--- There are fewer items than this, where a limit is given.
+-- A run has fewer items than a limit, if one is given.
 abbrev pub IsShorter : Option ℕ → List Item → Type 0
 IsShorter None items = Unit {0}
 IsShorter (Some most) items = length items < most
@@ -49,7 +49,7 @@ pub record IsWriteStrongChoice (source : Source) (shape : Counts) (most : Option
       IsValidRun (run_of_items source shape (items ++ more)) →
       IsPrefix (updates (choose items)) (updates (choose (items ++ more)))
 
--- There is one.
+-- A choice of linearizations keeps the order of updates as runs go on.
 abbrev pub IsWriteStronglyLinearizable : Source → Counts → (most : Option ℕ) → Type 0
 IsWriteStronglyLinearizable source shape most =
     (choose : List Item → List Operation) × IsWriteStrongChoice source shape most choose

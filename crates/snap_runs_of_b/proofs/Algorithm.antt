@@ -156,7 +156,7 @@ agree me p k =
     nat_eq (handshake_at (word_at p.a k) me) (place p.g k)
     && (nat_eq (handshake_at (word_at p.b k) me) (place p.g k) && nat_eq (word_at p.a k).toggle (word_at p.b k).toggle)
 
--- so many moves of one process has a scan to see before it borrows a view
+-- the number of moves of one process that a scan has to see before it borrows a view
 abbrev pub limit : ℕ
 limit = 2
 
@@ -239,7 +239,7 @@ move n me d m p L45 = To d m (record p { t = flipped p.t }) L46
 move n me d m p L46 = To d (with_written n me d m p) p L47
 move n me d m p L47 = Finish
 
--- where an operation begins, and the line to which its embedded scan leads back
+-- the line at which an operation begins, and the line to which its embedded scan leads back
 abbrev pub counter : Op → ProgramCounter
 counter Scan = L10
 counter (Update word value) = L40

@@ -39,8 +39,8 @@ module _ (n : ℕ) (V : ℕ → Type 0) where
   abbrev Copies : Words → Type 0
   Copies ws = AtMost (max n n) IsWord (map plain ws)
 
-  abbrev Row : ℕ → List ℕ → Type 0
-  Row most xs = AtMost (max n n) (λ y. y ≤ most) xs
+  abbrev IsRow : ℕ → List ℕ → Type 0
+  IsRow most xs = AtMost (max n n) (λ y. y ≤ most) xs
 
   abbrev IsMemory : Registers → Type 0
   IsMemory = bounded.MemoryWithin (algorithm n) (limits n) V
@@ -62,14 +62,14 @@ module _ (n : ℕ) (V : ℕ → Type 0) where
   with_t p v h new =
       record { scalars = (h.scalars.0, (h.scalars.1.0, (new, tt))); rows = h.rows; words = h.words; views = h.views }
 
-  with_moved : (p : Variables) (row : List ℕ) → AreVariables p → Row 2 row → AreVariables (record p { moved = row })
+  with_moved : (p : Variables) (row : List ℕ) → AreVariables p → IsRow 2 row → AreVariables (record p { moved = row })
   with_moved p row h new = record { scalars = h.scalars; rows = (new, h.rows.1); words = h.words; views = h.views }
 
-  with_g : (p : Variables) (row : List ℕ) → AreVariables p → Row 1 row → AreVariables (record p { g = row })
+  with_g : (p : Variables) (row : List ℕ) → AreVariables p → IsRow 1 row → AreVariables (record p { g = row })
   with_g p row h new =
       record { scalars = h.scalars; rows = (h.rows.0, (new, h.rows.1.1)); words = h.words; views = h.views }
 
-  with_f : (p : Variables) (row : List ℕ) → AreVariables p → Row 1 row → AreVariables (record p { f = row })
+  with_f : (p : Variables) (row : List ℕ) → AreVariables p → IsRow 1 row → AreVariables (record p { f = row })
   with_f p row h new =
       record { scalars = h.scalars; rows = (h.rows.0, (h.rows.1.0, (new, tt))); words = h.words; views = h.views }
 

@@ -74,7 +74,7 @@ module _ (n t : ℕ) (history : ℕ → Words) (x : State) (i : ℕ) (m' : Regis
       Late n w (old k).variables.g (old k).variables.marks k (reach_at n (old k).variables (old k).control)) own.late)
       (after (Viewed n history t (old k).auxiliary.since) own.views) own
 
-  -- its scan is older than the views that others make of later words, or starts now
+  -- the scan of the process is older than the views that others make of later words, or starts at this item
   starts_first : (k : ℕ) → IsOneOf n k → PairInvariant history x.memory.words q' (old k) k
   starts_first k ik making lt =
       elim change.since [
@@ -91,7 +91,7 @@ module _ (n t : ℕ) (history : ℕ → Words) (x : State) (i : ℕ) (m' : Regis
         | inr same ↦ subst (λ s. (old k).auxiliary.since ≤ s) (sym same.1) (h.start k i ik one same.0 lt)
       ]
 
-  -- it has the answer of every process that has written since it put its bit, and gives its own
+  -- the process has the answer of every process that has written since it put its bit, and gives its own
   asked : (k : ℕ) → IsOneOf n k → Answered n x.memory.words i q' k (old k)
   asked k ik lt more =
       let r = change.asks k ik lt more in

@@ -34,7 +34,7 @@ pub record Drawn (opening now : Words) (g : List ℕ) (i k : ℕ) : Type 0 where
   pub before : IsLaterWord word (word_at now k)
   pub says : place g k ≡ handshake_at word i
 
--- It has been put, and the writes of k up to then are marked.
+-- The bit drawn for process k has been put, and the writes of k up to then are marked.
 pub record Put (opening now : Words) (g marks : List ℕ) (i k : ℕ) : Type 0 where
   pub drawn : Drawn opening now g i k
   pub fresh : seq_at opening k ≤ place marks k
@@ -87,7 +87,7 @@ pub record Second (n i : ℕ) (history : ℕ → Words) (t since round : ℕ) (w
   pub views : (k : ℕ) → IsOneOf n k → k < j → seq_at (history since) k + 2 ≤ seq_at b k →
       Lent history t since k (word_at b k).view
 
--- There is such a state since the scan's start.
+-- Between the two collects there is a state, since the scan's start.
 abbrev pub Between : ℕ → ℕ → (ℕ → Words) → ℕ → ℕ → ℕ → Words → List ℕ → List ℕ → Words → Words → ℕ → Type 0
 Between n i history t since round words g marks a b j =
     (u : ℕ) × (since ≤ u) × (u ≤ t) × Second n i history t since round words g marks a b j (history u)

@@ -38,14 +38,14 @@ CountAt n i p own c recent control = WhenBusy (λ d k. Count n i p own c recent 
 
 -- What holds of process i, at whichever line it stands, with these registers.
 pub record ProcessInvariant (n t : ℕ) (history : ℕ → Words) (m : Registers) (i : ℕ) (q : Process) : Type 0 where
-  -- it stands at a line of its mode, with the variables that the line asks for
+  -- the process stands at a line of its mode, with the variables that the line asks for
   pub well : ControlWell n i q.variables q.control
-  -- its copies and rows have all places, and what it says to the others are bits
+  -- the copies and rows have all places, and what the process says to the others are bits
   pub sized : Sized n q.variables
   pub bits : SaysBits n q.variables
-  -- its toggle is its word's, and the other one just before the write
+  -- the toggle is that of the process's word, and the other one just before the write
   pub toggle : ToggledAt (word_at m.words i).toggle q.variables q.control
-  -- its last scan and that scan's last double collect have started
+  -- the last scan and its last double collect have started
   pub since_le : q.auxiliary.since ≤ t
   pub low : (k : ℕ) → IsOneOf n k → seq_at (history q.auxiliary.since) k ≤ seq_at m.words k
   pub opened : (k : ℕ) → IsOneOf n k → seq_at (history q.auxiliary.round) k ≤ seq_at m.words k
@@ -54,7 +54,7 @@ pub record ProcessInvariant (n t : ℕ) (history : ℕ → Words) (m : Registers
   -- the bits of its handshake are put, and two later writes of a word show in that word
   pub asked : Asked n m.q q.variables.g i (reach_at n q.variables q.control)
   pub late : Late n m.words q.variables.g q.variables.marks i (reach_at n q.variables q.control)
-  -- it has come as far as its line says
+  -- the process has come as far as its line says
   pub stage : StageAt n i history t q.auxiliary.since q.auxiliary.round m.words q.variables q.control
   -- in a scan it writes nothing
   pub self : InScan q.control → seq_at (history q.auxiliary.since) i ≡ seq_at m.words i

@@ -25,7 +25,7 @@ equal_counts n i history t since round words p h test k ik =
     says.handshake_b (let same : (word_at p.a k).toggle ≡ (word_at p.b k).toggle = omega arith in same) in
     omega arith
 
--- so the second collect is the words between the collects
+-- where the test passes, the second collect is the words between the collects
 pub passed : (n i : ℕ) (history : ℕ → Words) (t since round : ℕ) (words : Words) (p : Variables) →
     ((u : ℕ) → u ≤ t → length (history u) ≡ n) → n ≤ length p.b →
     Between n i history t since round words p.g p.marks p.a p.b (n + 1) →

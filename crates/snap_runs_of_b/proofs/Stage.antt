@@ -115,7 +115,7 @@ pub record Known (n i : ℕ) (history : ℕ → Words) (t since round : ℕ) (wo
   -- there are n words at every state, and those of state t are the words now
   pub lengths : (u : ℕ) → u ≤ t → length (history u) ≡ n
   pub now : history t ≡ words
-  -- its clauses of the invariant
+  -- the clauses of the invariant that hold at every line
   pub since_le : since ≤ t
   pub sized : Sized n p
   pub low : (k : ℕ) → IsOneOf n k → seq_at (history since) k ≤ seq_at words k

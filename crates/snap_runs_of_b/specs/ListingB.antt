@@ -79,7 +79,7 @@ bit = Row g Place
 abbrev pub agree : Condition
 agree = Three And (compare handshake_a Equal bit) (compare handshake_b Equal bit) (compare toggle_a Equal toggle_b)
 
--- they do not
+-- the copies differ at @
 abbrev pub differ : Condition
 differ = Three Or (compare handshake_a Different bit) (compare handshake_b Different bit) (compare toggle_a Different toggle_b)
 

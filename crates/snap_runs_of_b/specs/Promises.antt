@@ -79,7 +79,7 @@ PassedTestsAreClean = (n : ℕ) (items : List Item) → promises.PassedTestsAreC
 abbrev pub Linearizable : Type 0
 Linearizable = (n : ℕ) (items : List Item) → IsLinearizable (run_of n items)
 
--- And each operation has its place: an update an item at which its process executes line 46.
+-- Each operation has its place: an update an item at which its process executes line 46.
 abbrev pub OperationsHavePlaces : Type 0
 OperationsHavePlaces = (n : ℕ) (items : List Item) → placement.OperationsHavePlaces 46 (run_of n items)
 

@@ -223,7 +223,7 @@ return_to d m p = returning p.s L55 d m p
 abbrev pub embed_to : Mode → Registers → Variables → Move
 embed_to d m p = embedding L10 d p
 
--- so many moves of one process has a scan to see before it borrows a view, and the line that borrows it
+-- the number of moves of one process that a scan has to see before it borrows a view, and the line that borrows it
 abbrev pub limit : ℕ
 limit = 3
 
@@ -357,7 +357,7 @@ in_update _ = false
 abbrev pub IsLineOf : ℕ → Mode → ProgramCounter → Type 0
 IsLineOf w d k = IsLine (IsOneOf w) (in_update k) d
 
--- where an operation begins, and the line to which its embedded scan leads back
+-- the line at which an operation begins, and the line to which its embedded scan leads back
 abbrev pub counter : Op → ProgramCounter
 counter Scan = L10
 counter (Update word arg) = L50

@@ -39,8 +39,8 @@ module _ (n w : ℕ) (V : ℕ → Type 0) where
   abbrev Copies : Words → Type 0
   Copies ws = AtMost (max n w) IsWord (map plain ws)
 
-  abbrev Row : ℕ → List ℕ → Type 0
-  Row most xs = AtMost (max n w) (λ y. y ≤ most) xs
+  abbrev IsRow : ℕ → List ℕ → Type 0
+  IsRow most xs = AtMost (max n w) (λ y. y ≤ most) xs
 
   abbrev IsMemory : Registers → Type 0
   IsMemory = bounded.MemoryWithin (algorithm n w) (limits n w) V
@@ -62,14 +62,14 @@ module _ (n w : ℕ) (V : ℕ → Type 0) where
   with_x p v h new =
       record { scalars = (h.scalars.0, (h.scalars.1.0, (new, tt))); rows = h.rows; words = h.words; views = h.views }
 
-  with_moved : (p : Variables) (row : List ℕ) → AreVariables p → Row 3 row → AreVariables (record p { moved = row })
+  with_moved : (p : Variables) (row : List ℕ) → AreVariables p → IsRow 3 row → AreVariables (record p { moved = row })
   with_moved p row h new = record { scalars = h.scalars; rows = (new, h.rows.1); words = h.words; views = h.views }
 
-  with_g : (p : Variables) (row : List ℕ) → AreVariables p → Row 1 row → AreVariables (record p { g = row })
+  with_g : (p : Variables) (row : List ℕ) → AreVariables p → IsRow 1 row → AreVariables (record p { g = row })
   with_g p row h new =
       record { scalars = h.scalars; rows = (h.rows.0, (new, h.rows.1.1)); words = h.words; views = h.views }
 
-  with_h : (p : Variables) (row : List ℕ) → AreVariables p → Row 1 row → AreVariables (record p { h = row })
+  with_h : (p : Variables) (row : List ℕ) → AreVariables p → IsRow 1 row → AreVariables (record p { h = row })
   with_h p row h new = record {
     scalars = h.scalars;
     rows = (h.rows.0, (h.rows.1.0, (new, h.rows.1.1.1)));
@@ -77,7 +77,7 @@ module _ (n w : ℕ) (V : ℕ → Type 0) where
     views = h.views;
   }
 
-  with_d : (p : Variables) (row : List ℕ) → AreVariables p → Row 1 row → AreVariables (record p { d = row })
+  with_d : (p : Variables) (row : List ℕ) → AreVariables p → IsRow 1 row → AreVariables (record p { d = row })
   with_d p row h new =
       record {
         scalars = h.scalars;
@@ -86,7 +86,7 @@ module _ (n w : ℕ) (V : ℕ → Type 0) where
         views = h.views;
       }
 
-  with_tog : (p : Variables) (row : List ℕ) → AreVariables p → Row 1 row → AreVariables (record p { tog = row })
+  with_tog : (p : Variables) (row : List ℕ) → AreVariables p → IsRow 1 row → AreVariables (record p { tog = row })
   with_tog p row h new = record {
     scalars = h.scalars;
     rows = (h.rows.0, (h.rows.1.0, (h.rows.1.1.0, (h.rows.1.1.1.0, (new, tt)))));
@@ -119,7 +119,7 @@ module _ (n w : ℕ) (V : ℕ → Type 0) where
       (λ b. (memory, with_k p 1 h (omega arith)))
 
   -- a bit of a row
-  row_bit : (row : List ℕ) (k : ℕ) → Row 1 row → IsBit (place row k)
+  row_bit : (row : List ℕ) (k : ℕ) → IsRow 1 row → IsBit (place row k)
   row_bit row k h = all_read IsBit row (k - 1) 0 h.1 (omega arith)
 
   -- 0 is a value

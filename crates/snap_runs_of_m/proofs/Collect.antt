@@ -437,7 +437,7 @@ module _ (n w me : ℕ) (history : ℕ → Registers) (from t : ℕ) (g : List �
             ∙ sym second.is
       ]
 
-  -- so both copies are one
+  -- where no late bit differs and the test passes, both copies are one
   pub same_copies : (k : ℕ) → IsOneOf w k → ((c : ℕ) → IsOneOf n c → place h c ≡ place g c) →
       same_at a b k ≡ true → word_at a k ≡ word_at b k
   same_copies k o still same =
@@ -477,7 +477,7 @@ borrowed_put n w me c since t history then now one i three =
     let p : (history t).writes c ≤ (history t).puts c = now.now.puts_from c one in
     omega arith
 
--- so its view is the values at some state since
+-- a view that is borrowed is the values at some state since the scan's start
 pub borrowed : (n w me c since t : ℕ) (history : ℕ → Registers) → Laws n w history since → Laws n w history t →
     since ≤ t → IsOneOf n c → IsOneOf n me → events (history since) c me + 3 ≤ events (history t) c me →
     Held (words_of history) t since (view_at (history t).views c)

@@ -321,19 +321,19 @@ CountAt n w p own c recent control = WhenBusy (λ d k. Count n w p own c recent 
 
 -- What holds of process i, at whichever line it stands.
 pub record ProcessInvariant (n w t : ℕ) (history : ℕ → Registers) (i : ℕ) (q : Process) : Type 0 where
-  -- it stands at a line of its mode, with the variables that the line asks for
+  -- the process stands at a line of its mode, with the variables that the line asks for
   pub well : ControlWell n w q.variables q.control
   pub long : Long n w q.variables
-  -- its last scan and that scan's last double collect have started
+  -- the last scan and its last double collect have started
   pub opened : q.auxiliary.since ≤ q.auxiliary.round
   pub round_le : q.auxiliary.round ≤ t
-  -- it has come as far as its line says
+  -- the process has come as far as its line says
   pub stage : StageAt n w i history t q.auxiliary.since q.auxiliary.round q.variables q.control
   -- the scan's double collects and steps are within their bounds
   pub counts : CountAt n w q.variables q.auxiliary.own q.auxiliary.collects q.auxiliary.tested q.control
   -- an update has written once at line 58, and not before
   pub wrote : HasWritten q.control q.auxiliary.wrote
-  -- its counters are as its line says
+  -- the counters are as the line of the process says
   pub books : BooksAt n w i (history q.auxiliary.since) (history t) q.variables q.control
 
 pub record Invariant (n w t : ℕ) (history : ℕ → Registers) (x : State) : Type 0 where

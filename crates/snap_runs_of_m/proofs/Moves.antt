@@ -137,7 +137,7 @@ module _ (n w : ℕ) (items : List Item) (some : 0 < w) (fits : Steady (run_of n
         recent = event.recent;
       }
 
--- the same, stated of a run
+-- a move that a scan sees is an event, stated of a run
 abbrev MoveIsEvent : Run → Type 0
 MoveIsEvent r =
     IsValidRun r → (i j : ℕ) (link : Option ℕ) (c t : ℕ) → PendingScan r i link c t → c < t →

@@ -174,7 +174,7 @@ stage_of n w items some fits t i d k le one e =
     subst (StageAt n w i (registers_at n w items) t q.auxiliary.since q.auxiliary.round q.variables) e
     (own n w items some fits t i le one).stage
 
--- and its counts are those of its line
+-- the counts of a process at a line are those of the line
 pub counts_of : (n w : ℕ) (items : List Item) → 0 < w → Steady (run_of n w items) →
     (t i : ℕ) (d : Mode) (k : ProgramCounter) → t ≤ length items → IsOneOf n i →
     (typed_at (algorithm n w) (state_at n w items t) i).control ≡ At d k →

@@ -4,7 +4,7 @@ use Rattle.snap_words.specs.Word.{Word}
 use Rattle.snap_runs.proofs.Computing.{both, same_from}
 use Rattle.snap_runs_of_m.proofs.Algorithm.{same_words}
 
--- they have the same writer and the same toggle
+-- two words have the same writer and the same toggle
 pub record Alike (x y : Word) : Type 0 where
   pub ids : x.id ≡ y.id
   pub toggles : x.toggle ≡ y.toggle

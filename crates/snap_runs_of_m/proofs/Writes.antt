@@ -95,7 +95,7 @@ untouched_15 n w me k m p one his other = record {
   toggles = λ y o. refl;
 }
 
--- its row of q after line 15
+-- the row of q of the process after line 15
 pub asks_there : (n w me c : ℕ) (m : Registers) (p : Variables) → IsOneOf n me → IsOneOf n p.j → Now n w m →
     IsOneOf n c → c ≢ p.j → bit (after_15 me m p).q me c ≡ bit m.q me c
 asks_there n w me c m p one inside now o other =

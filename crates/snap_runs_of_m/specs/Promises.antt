@@ -92,7 +92,7 @@ PassedTestsAreClean =
 abbrev pub Linearizable : Type 0
 Linearizable = (n w : ℕ) (items : List Item) → 0 < w → IsLinearizable (run_of n w items)
 
--- And each operation has its place: an update an item at which its process executes line 57.
+-- Each operation has its place: an update an item at which its process executes line 57.
 abbrev pub OperationsHavePlaces : Type 0
 OperationsHavePlaces = (n w : ℕ) (items : List Item) → 0 < w → placement.OperationsHavePlaces 57 (run_of n w items)
 

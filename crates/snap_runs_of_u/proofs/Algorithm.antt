@@ -106,7 +106,7 @@ compared word = word.seq
 abbrev pub agree : Variables → ℕ → Bool
 agree p k = nat_eq (compared (word_at p.a k)) (compared (word_at p.b k))
 
--- so many moves of one process has a scan to see before it borrows a view
+-- the number of moves of one process that a scan has to see before it borrows a view
 abbrev pub limit : ℕ
 limit = 2
 
@@ -167,7 +167,7 @@ move n me d m p L31 = To d m (record p { c = p.c + 1 }) L32
 move n me d m p L32 = To d (slice_set m (me - 1) (word_put d p)) p L33
 move n me d m p L33 = Finish
 
--- where an operation begins, and the line to which its embedded scan leads back
+-- the line at which an operation begins, and the line to which its embedded scan leads back
 abbrev pub counter : Op → ProgramCounter
 counter Scan = L10
 counter (Update word value) = L30

@@ -53,7 +53,7 @@ pub record Second (n : ℕ) (history : ℕ → Words) (t since round : ℕ) (wor
   pub views : (k : ℕ) → IsOneOf n k → k < j → seq_at (history since) k + 2 ≤ seq_at b k →
       Lent history t since k (word_at b k).view
 
--- There is such a state since the scan's start.
+-- Between the two collects there is a state, since the scan's start.
 abbrev pub Between : ℕ → (ℕ → Words) → ℕ → ℕ → ℕ → Words → List ℕ → Words → Words → ℕ → Type 0
 Between n history t since round words moved a b j =
     (u : ℕ) × (since ≤ u) × (u ≤ t) × Second n history t since round words moved a b j (history u)

@@ -33,7 +33,7 @@ moves_le n p below =
     total_le 1 (moved_at p) n (λ k i. let less : moved_at p k < limit = below k i in omega arith) in
     omega arith
 
--- they are fewer where one process has not been seen to move
+-- the moves are fewer than n where one process has not been seen to move
 pub moves_less : (n i : ℕ) (p : Variables) → IsOneOf n i → moved_at p i ≡ 0 → BelowLimit n p → moves n p < n
 moves_less n i p one zeroed below =
     let all : moves n p + 1 ≤ n * 1 =
@@ -57,7 +57,7 @@ Count n p own c recent L16 = (own ≤ budget n c + 4 * n) × (c ≤ moves n p) �
 Count n p own c recent L17 =
     (own + 3 ≤ budget n c) × (c ≤ moves n p + 1) × (c ≤ n) × (recent ≤ 1)
     × (all_true (map (agree p) (places_to n)) ≡ false)
--- its moves are counted; then as before, or the scan ends
+-- the moves are counted; the bounds are as before, or the scan ends
 Count n p own c recent L18 = (own + 2 ≤ budget n c) × (c ≤ moves n p) × (c ≤ n)
 Count n p own c recent L19 = (own + 1 ≤ budget n c) × (c ≤ moves n p)
 Count n p own c recent L21 = (own + 3 ≤ budget n c) × (c ≤ n)

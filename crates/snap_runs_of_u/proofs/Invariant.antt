@@ -23,22 +23,22 @@ pending (At d k) = writes k
 abbrev pub StageAt : ℕ → (ℕ → Words) → ℕ → ℕ → ℕ → Words → Variables → Control → Type 0
 StageAt n history t since round words p control = WhenBusy (λ d k. Stage n history t since round words p k) control
 
--- and its counts are those of its line
+-- the counts of a busy process are those of its line
 abbrev pub CountAt : ℕ → Variables → ℕ → ℕ → ℕ → Control → Type 0
 CountAt n p own c recent control = WhenBusy (λ d k. Count n p own c recent k) control
 
 -- What holds of process i, at whichever line it stands, with these words.
 pub record ProcessInvariant (n t : ℕ) (history : ℕ → Words) (words : Words) (i : ℕ) (q : Process) : Type 0 where
-  -- it stands at a line of its mode, with the variables that the line asks for
+  -- the process stands at a line of its mode, with the variables that the line asks for
   pub well : ControlWell n i q.variables q.control
-  -- its copies have all places
+  -- the copies have all places
   pub length_a : length q.variables.a ≡ max n n
   pub length_b : length q.variables.b ≡ max n n
   -- c is the sequence number of its own word, and one more just before the write
   pub seq : q.variables.c ≡ seq_at words i + pending q.control
   -- c is at most the number of items
   pub fresh : q.variables.c ≤ t
-  -- its last scan has started
+  -- the last scan has started
   pub since_le : q.auxiliary.since ≤ t
   -- no word is older than at the start of that scan
   pub low : (k : ℕ) → IsOneOf n k → seq_at (history q.auxiliary.since) k ≤ seq_at words k
@@ -46,7 +46,7 @@ pub record ProcessInvariant (n t : ℕ) (history : ℕ → Words) (words : Words
   pub opened : (k : ℕ) → IsOneOf n k → seq_at (history q.auxiliary.round) k ≤ seq_at words k
   -- the view beside the second or a later write since that scan's start was the values at some state since
   pub views : Viewed n history t q.auxiliary.since words
-  -- it has come as far as its line says
+  -- the process has come as far as its line says
   pub stage : StageAt n history t q.auxiliary.since q.auxiliary.round words q.variables q.control
   -- in a scan it writes nothing
   pub self : InScan q.control → seq_at (history q.auxiliary.since) i ≡ seq_at words i

@@ -85,18 +85,18 @@ idle_own n t history words i q k seq now c own = record {
 -- what the move v of a process at line k owes; t is the item's number
 record MoveOwes (n t : ℕ) (history : ℕ → Words) (x : State) (i : ℕ) (d : Mode)
     (k : ProgramCounter) (v : Move) : Type 0 where
-  -- it keeps the words
+  -- a line keeps the words
   pub words : flow.KeepsMemory lines x.memory v
-  -- it leads to a line of its mode, with the variables that this line asks for
+  -- a line leads to a line of its mode, with the variables that the next line asks for
   pub well : MoveWell (op_of d) n i v
-  -- it takes the scan to the stage of that line
+  -- a line takes the scan to the stage of the next line
   pub stage : StageMove n history t (at n x i).auxiliary.since (if restarts k then t else (at n x i).auxiliary.round) v
-  -- it keeps the lengths of the copies, and c as it should be
+  -- a line keeps the lengths of the copies, and c as it should be
   pub sized : SizedMove n (seq_at x.memory i) v
-  -- it begins to make no view, and leads into no scan
+  -- a line begins to make no view, and leads into no scan
   pub making : flow.MakesNoMore lines d k v
   pub scan : flow.KeepsOut lines d v
-  -- it keeps the counts within their bounds
+  -- a line keeps the counts within their bounds
   pub counts : CountMove n (suc (at n x i).auxiliary.own) ((at n x i).auxiliary.collects + tests k)
       (if restarts k then 0 else (at n x i).auxiliary.tested + tests k) v
   pub wrote : flow.CountsWrites lines ((at n x i).auxiliary.wrote + writes k) v

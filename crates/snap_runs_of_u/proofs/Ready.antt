@@ -11,7 +11,7 @@ pub record Ready (n : ℕ) (items : List Item) : Type 0 where
   pub steady : Steady (run_of n items)
   pub suffice : SequenceNumbersSuffice items
 
--- it has as many items
+-- without crashes there are as many items, so sequence numbers suffice
 pub ready : (n : ℕ) (items : List Item) → SequenceNumbersSuffice items → Steady (calm (run_of n items)) →
     Ready n (calm_list (run_of n items))
 ready n items suffice steady =

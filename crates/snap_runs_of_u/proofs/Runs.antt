@@ -124,7 +124,7 @@ stage_of n items fits t i d k le one e =
     StageAt n (words_at n items) t q.auxiliary.since q.auxiliary.round (words_at n items t) q.variables p)
     e (invariant_of n items fits t i le one).stage
 
--- and its counts are those of its line
+-- the counts of a process at a line are those of the line
 pub counts_of : (n : ℕ) (items : List Item) → Ready n items → (t i : ℕ) (d : Mode) (k : ProgramCounter) →
     t ≤ length items → IsOneOf n i → (process_after n items t i).control ≡ At d k →
     Count n (process_after n items t i).variables (process_after n items t i).auxiliary.own

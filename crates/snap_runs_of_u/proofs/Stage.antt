@@ -66,7 +66,7 @@ pub record Known (n me : ℕ) (history : ℕ → Words) (t since round : ℕ) (w
   -- there are n words at every state, and those of state t are the words now
   pub lengths : (u : ℕ) → u ≤ t → length (history u) ≡ n
   pub now : history t ≡ words
-  -- its clauses of the invariant
+  -- the clauses of the invariant that hold at every line
   pub since_le : since ≤ t
   pub length_a : length p.a ≡ max n n
   pub length_b : length p.b ≡ max n n

@@ -21,6 +21,6 @@ abbrev pub OnlySequenceNumbersGrow : Type 0
 OnlySequenceNumbersGrow =
     (n : ℕ) (items : List Item) → SequenceNumbersSuffice items → StaysWithin (limits n) (run_of n items)
 
--- And they grow at line 32 alone, each by one where its process writes.
+-- The sequence numbers grow at line 32 alone, each by one where its process writes.
 abbrev pub CountsWrites : Type 0
 CountsWrites = (n : ℕ) (items : List Item) → SequenceNumbersSuffice items → bounded.CountsWrites 32 (run_of n items)

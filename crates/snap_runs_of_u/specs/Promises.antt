@@ -93,7 +93,7 @@ PassedTestsAreClean =
 abbrev pub Linearizable : Type 0
 Linearizable = (n : ℕ) (items : List Item) → SequenceNumbersSuffice items → IsLinearizable (run_of n items)
 
--- And each operation has its place: an update an item at which its process executes line 32.
+-- Each operation has its place: an update an item at which its process executes line 32.
 abbrev pub OperationsHavePlaces : Type 0
 OperationsHavePlaces =
     (n : ℕ) (items : List Item) → SequenceNumbersSuffice items → placement.OperationsHavePlaces 32 (run_of n items)

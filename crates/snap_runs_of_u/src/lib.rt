@@ -1,5 +1,5 @@
-//! Listing U, and what every run of it keeps that has enough sequence numbers: they have 64 bits,
-//! and suffice where there are fewer than 2 ^ 64 items.
+//! Listing U, and what every run of it keeps that has enough sequence numbers: sequence numbers
+//! have 64 bits, and suffice where there are fewer than 2 ^ 64 items.
 #![tactic(auto)]
 
 ghost use Rattle.snap_runs_of_u.specs.Promises.{NeverTraps, ChangesOnlyAt32, WritesItsUpdate};
@@ -106,9 +106,9 @@ pub fn runs_are_snapshots()
     ensures { RunsAreSnapshots }
 {}
 
-/// In every run all but the sequence numbers is bounded: after t items a sequence number is at most
-/// t, each other number of the state is within limits that n alone decides, and each value is 0 or
-/// that of an update that was called before.
+/// In every run of U everything but the sequence numbers is bounded: after t items a sequence
+/// number is at most t, each other number of the state is within limits that n alone decides, and
+/// each value is 0 or that of an update that was called before.
 pub fn only_sequence_numbers_grow()
     ensures { OnlySequenceNumbersGrow }
 {}

@@ -42,7 +42,7 @@ standing d m p k c = placed m (seated (At d k) p c)
 abbrev pub idling : {V P M : Type 0} → M → V → ℕ → Alone V P M
 idling m p c = placed m (seated Idle p c)
 
--- so many more, in a form that computes
+-- a sum, in a form that computes
 abbrev pub more : ℕ → ℕ → ℕ
 more c zero = c
 more c (suc t) = suc (more c t)
@@ -62,7 +62,7 @@ module _ {V P M : Type 0} (a : Algorithm V P M) where
   after_step i m p c Idle = idling m p c
   after_step i m p c (At d k) = after_move k m p c (a.move i d m p k)
 
-  -- so many steps of process i
+  -- a number of steps of process i alone
   abbrev pub walk : ℕ → ℕ → Alone V P M → Alone V P M
   walk i zero x = x
   walk i (suc s) x = walk i s (after_step i x.memory x.seat.variables x.seat.collects x.seat.control)
@@ -150,7 +150,7 @@ module _ {V P M : Type 0} (a : Algorithm V P M) where
       others = λ k at other. embed.other_process a x i k c one.0 at.0 other;
     }
 
-    -- so many steps of the process, and nothing else
+    -- a number of steps of the process, and nothing else
     pub steps_alone : (time s : ℕ) (x : State) → length x.processes ≡ a.shape.n →
         Turns i x (run_from time x (replicate s (Step i)))
         × (alone_of (run_from time x (replicate s (Step i))) i ≡ walk i s (alone_of x i))

@@ -91,7 +91,7 @@ module _ {V P M : Type 0} (a : Algorithm V P M) where
               (λ (y : Alone V P M). y.seat.collects) stands;
         }
 
-    -- the same of a schedule that ends with the step that answers
+    -- a schedule reaches the bound that ends with the step that answers
     pub reaches : (start : List Item) (i : ℕ) (d : Mode) (k : P) (m : M) (p : V) (c : ℕ) (view : List ℕ) →
         items ≡ start ++ Step i ∷ [] → IsOneOf a.shape.n i →
         alone_of a (run_from a 0 (first_state a) start) i ≡ standing d m p k c →

@@ -36,7 +36,7 @@ all_hold f n h =
           absurd (let e : true ≡ false = sym (h r.0 (omega arith, omega arith)) ∙ r.3 in cc)
     ] refl
 
--- one that some place fails
+-- a test does not hold of all places if one place fails it
 pub one_fails : (f : ℕ → Bool) (n k : ℕ) → IsOneOf n k → f k ≡ false → all_true (map f (places_to n)) ≡ false
 one_fails f n k one h =
     elim (all_true (map f (places_to n))) as (λ b. all_true (map f (places_to n)) ≡ b → b ≡ false) [
@@ -44,7 +44,7 @@ one_fails f n k one h =
       | false ↦ λ is. refl
     ] refl
 
--- and no first place where no place passes
+-- there is no first place where no place passes
 pub none_first : (f : ℕ → Bool) (n : ℕ) → ((k : ℕ) → IsOneOf n k → f k ≡ false) →
     first_true 1 (map f (places_to n)) ≡ None
 none_first f n h =

@@ -60,7 +60,7 @@ module _ (r : Run) (first : Item) (rest : List Item) (items_are : r.items ≡ fi
       let size : length r.items ≡ suc (length rest) = ap length items_are in
       absurd (no_call i t (omega arith) (sym (ap (λ xs. slice_index_or xs (suc t) (Step 0)) items_are) ∙ is))
 
-  -- so it has one finished scan at most
+  -- a run of one call has one finished scan at most
   one_end : (i c e e' : ℕ) (view view' : List ℕ) → FinishedScan r i None c e view →
       FinishedScan r i None c e' view' → e ≡ e'
   one_end i c e e' view view' h g = elim (cases_eq e e') [

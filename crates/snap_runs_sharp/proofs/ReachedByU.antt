@@ -135,7 +135,7 @@ closing n r some time x h =
     let scene = lead_walks a (omega arith, some) (suc r) (4 * n + 2) stands ready (omega arith) end.1 time x h.scene in
     record { memory = h.memory; variables = end.0; lead = scene.lead }
 
--- so many rounds, and a double collect that passes
+-- a number of rounds, and a double collect that passes
 reaching : (n count : ℕ) (round : ℕ → List Item) → 1 ≤ n →
     ((r : ℕ) → suc r ≤ count → Leads (algorithm n) (Round n r) (round r) (Round n (suc r))) →
     suffices.Ready n (schedule round count 2 (4 * n + 2)) →

@@ -62,7 +62,7 @@ module _ {V P M : Type 0} (a : Algorithm V P M) where
     pub lead : alone_of a x 1 ≡ y
     pub fresh : (k : ℕ) → IsOneOf a.shape.n k → r < k → seat_of (typed_at a x k) ≡ first_seat
 
-  -- and process i is at this seat
+  -- process 1 is at a scene, and process i at a seat
   pub record Beside (r i : ℕ) (y : Alone V P M) (q : Seat V P) (x : State a) : Type 0 where
     pub scene : Scene r y x
     pub seat : seat_of (typed_at a x i) ≡ q

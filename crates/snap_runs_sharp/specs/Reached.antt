@@ -20,7 +20,7 @@ pub record Reaches (bound : ℕ) (r : Run) : Type 0 where
   pub finished : FinishedScan r process None call answer view
   pub collects : double_collects r process call answer ≡ bound
 
--- There are items whose run does so.
+-- Some items have a run that reaches the bound.
 abbrev pub IsReached : ℕ → (List Item → Run) → Type 0
 IsReached bound run_of = (items : List Item) × Reaches bound (run_of items)
 
@@ -28,11 +28,11 @@ IsReached bound run_of = (items : List Item) × Reaches bound (run_of items)
 abbrev pub IsReachedByU : Type 0
 IsReachedByU = (n : ℕ) → IsOneOf max_count n → IsReached n (u.run_of n)
 
--- Its schedule makes such a run.
+-- The schedule of U makes a run in which a scan reaches the bound.
 abbrev pub ScheduleOfUReaches : Type 0
 ScheduleOfUReaches = (n : ℕ) → IsOneOf max_count n → Reaches n (u.run_of n (schedule_of_u n))
 
--- The same of B.
+-- A scan of B by one of n processes makes n double collects in some run.
 abbrev pub IsReachedByB : Type 0
 IsReachedByB = (n : ℕ) → IsOneOf max_count n → IsReached n (b.run_of n)
 

@@ -5,7 +5,7 @@ use Rattle.snap_semantics.specs.declared.process.Item.{Item}
 use Rattle.snap_semantics.specs.declared.process.Item.TheVariants.{Step, Call}
 use Rattle.snap_semantics.specs.declared.process.Op.TheVariants.{Scan, Update}
 
--- so many steps of process i
+-- a number of steps of process i
 abbrev pub steps_of : ℕ → ℕ → List Item
 steps_of i count = replicate count (Step i)
 
@@ -22,7 +22,7 @@ round_with i word first update second = steps_of 1 first ++ (update_by i word up
 abbrev pub others : ℕ → ℕ
 others n = n - 1
 
--- so many rounds, the first of which is round 0
+-- a number of rounds, the first of which is round 0
 abbrev pub rounds : (ℕ → List Item) → ℕ → List Item
 rounds round zero = []
 rounds round (suc count) = rounds round count ++ round count
@@ -43,7 +43,7 @@ round_of_u n r = round_with (r + 2) (r + 2) (2 * n) (4 * n + 9) (2 * n + 4)
 abbrev pub schedule_of_u : ℕ → List Item
 schedule_of_u n = schedule (round_of_u n) (others n) 2 (4 * n + 2)
 
--- The same scan, while nobody else takes a step.
+-- The scan of U by process 1, while nobody else takes a step.
 abbrev pub scan_alone_of_u : ℕ → List Item
 scan_alone_of_u n = schedule (λ r. []) 0 2 (4 * n + 2)
 

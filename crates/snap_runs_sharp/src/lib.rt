@@ -1,4 +1,4 @@
-//! Schedules that take scans to the bounds on their double collects.
+//! Schedules that take scans of U, B and M to the bounds on their double collects.
 #![tactic(auto)]
 
 ghost use Rattle.snap_runs_sharp.specs.Reached.{IsReachedByB, IsReachedByM, IsReachedByU};
@@ -11,7 +11,7 @@ pub fn sharp_collects_are_reached_by_u()
     ensures { IsReachedByU }
 {}
 
-/// The schedule of U makes such a run.
+/// The schedule of U makes a run in which a scan makes n double collects.
 pub fn schedule_of_u_reaches()
     ensures { ScheduleOfUReaches }
 {}
@@ -21,24 +21,24 @@ pub fn sharp_collects_are_reached_by_b()
     ensures { IsReachedByB }
 {}
 
-/// The schedule of B makes such a run.
+/// The schedule of B makes a run in which a scan makes n double collects.
 pub fn schedule_of_b_reaches()
     ensures { ScheduleOfBReaches }
 {}
 
 /// Some scan of M, by one of n processes, makes 2 n - 1 double collects: no bound on them is less
-/// than that.
+/// than 2 n - 1.
 pub fn sharp_collects_are_reached_by_m()
     ensures { IsReachedByM }
 {}
 
-/// The schedule of M makes such a run.
+/// The schedule of M makes a run in which a scan makes 2 n - 1 double collects.
 pub fn schedule_of_m_reaches()
     ensures { ScheduleOfMReaches }
 {}
 
-/// No finished scan makes more: n double collects are the most of U and of B, and 2 n - 1 those
-/// of M.
+/// No finished scan makes more double collects than the schedules reach: n are the most of U and of
+/// B, and 2 n - 1 those of M.
 pub fn no_more_is_reached()
     ensures { NoMoreIsReached }
 {}

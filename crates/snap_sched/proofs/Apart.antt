@@ -135,7 +135,7 @@ joins_no_crash (Steps i a) p = refl
 joins_no_crash (Calls i o) p = refl
 joins_no_crash (Crashes i) p = refl
 
--- and a crash
+-- a crash that is added keeps the forms apart
 pub crash_added : (fs : List ItemForm) (p : ℕ) → AreApart fs → AreApart (fs ++ Crashes p ∷ [])
 crash_added [] p h = (omega arith, refl, tt)
 crash_added (f ∷ []) p h = (h.0, joins_no_crash f p, (omega arith, refl, tt))
@@ -170,7 +170,7 @@ steps_grown (f ∷ g ∷ j ∷ fs) (suc zero) p a b is h e some = absurd (omega 
 steps_grown (f ∷ g ∷ j ∷ fs) (suc (suc k)) p a b is h e some =
     (h.0, h.1, steps_grown (g ∷ j ∷ fs) (suc k) p a b (omega arith) h.2 e some)
 
--- their items are then so many steps more
+-- the items of forms grow by the steps that are added
 pub items_grown : (fs : List ItemForm) (k p a c : ℕ) → suc k ≡ length fs → last_count p fs ≡ Some a →
     flat_map form_items (set fs k (Steps p (a + c))) ≡ flat_map form_items fs ++ replicate c (item.Step p)
 items_grown [] k p a c is e = absurd (omega arith)

@@ -147,7 +147,7 @@ singles_same k (segments.Call j op ∷ xs) i count =
 singles_same k (segments.Crash j ∷ xs) i count =
     ap (λ (ss : List Single). record { start = k; what = what.Crash } ∷ ss) (singles_same (k + 1) xs i count)
 
--- these calls and crashes, and one more behind so many items
+-- the calls and crashes, and one more behind a number of items
 abbrev one_single : List Single → ℕ → CallOrCrash → List Single
 one_single ss n d = ss ++ record { start = n; what = d } ∷ []
 

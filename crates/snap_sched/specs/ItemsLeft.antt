@@ -7,7 +7,7 @@ use Rattle.snap_sched.specs.Segments.{items_of_segments}
 use Rattle.snap_sched.specs.declared.segments.Segment.{Segment}
 use Rattle.snap_sched.specs.declared.segments.Segment.TheVariants as segments
 
--- so many steps of a process that are left of a segment, and the items of the segments behind it
+-- a number of steps of a process that are left of a segment, and the items of the segments behind it
 abbrev pub items_left : ℕ → ℕ → List Segment → List Item
 items_left i k rs = replicate k (item.Step i) ++ items_of_segments rs
 

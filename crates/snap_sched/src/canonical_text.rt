@@ -14,7 +14,7 @@ use snap_text::{Token, push_laid_out};
 use snap_words::Shape;
 use std::alloc::{AllocError, Global};
 
-/// Adds the line of steps: `I` or `I*K`.
+/// Appends the line of steps: `I` or `I*K`.
 fn push_steps(out: &mut Vec<u8>, process: u64, count: u64) -> Result<(), AllocError>
     ensures { OnOk result (out.new.items ≡ out.old.items
         ++ line_text (spelled_steps process count)) }
@@ -32,14 +32,14 @@ fn push_steps(out: &mut Vec<u8>, process: u64, count: u64) -> Result<(), AllocEr
     )
 }
 
-/// Adds the line of a scan: `I scan`.
+/// Appends the line of a scan: `I scan`.
 fn push_scan(out: &mut Vec<u8>, process: u64) -> Result<(), AllocError>
     ensures { OnOk result (out.new.items ≡ out.old.items ++ line_text (spelled_call process Scan)) }
 {
     push_laid_out(out, &[Token::Number(process), Token::Identifier(b"scan")])
 }
 
-/// Adds the line of an update: `I update K X`.
+/// Appends the line of an update: `I update K X`.
 fn push_update(out: &mut Vec<u8>, process: u64, word: u64, value: u64) -> Result<(), AllocError>
     ensures { OnOk result (out.new.items ≡ out.old.items
         ++ line_text (spelled_call process (Update word value))) }
@@ -55,7 +55,7 @@ fn push_update(out: &mut Vec<u8>, process: u64, word: u64, value: u64) -> Result
     )
 }
 
-/// Adds the line of a crash: `I crash`.
+/// Appends the line of a crash: `I crash`.
 fn push_crash(out: &mut Vec<u8>, process: u64) -> Result<(), AllocError>
     ensures { OnOk result (out.new.items ≡ out.old.items
         ++ line_text (spelled_form (Crashes process))) }
@@ -63,7 +63,7 @@ fn push_crash(out: &mut Vec<u8>, process: u64) -> Result<(), AllocError>
     push_laid_out(out, &[Token::Number(process), Token::Identifier(b"crash")])
 }
 
-/// Adds the line of a segment.
+/// Appends the line of a segment.
 fn push_segment(out: &mut Vec<u8>, segment: Segment) -> Result<(), AllocError>
     ensures { OnOk result (out.new.items ≡ out.old.items
         ++ line_text (spelled_form (segment_form segment))) }
@@ -82,7 +82,7 @@ fn push_segment(out: &mut Vec<u8>, segment: Segment) -> Result<(), AllocError>
     }
 }
 
-/// Adds the lines of segments.
+/// Appends the lines of segments.
 fn push_segments(out: &mut Vec<u8>, segments: Segments<'_>) -> Result<(), AllocError>
     ensures { OnOk result (out.new.items ≡ out.old.items
         ++ forms_text (map segment_form segments.entry)) }
@@ -93,7 +93,7 @@ fn push_segments(out: &mut Vec<u8>, segments: Segments<'_>) -> Result<(), AllocE
     Ok(())
 }
 
-/// Adds the line of a shape: `shape N W`.
+/// Appends the line of a shape: `shape N W`.
 fn push_shape(out: &mut Vec<u8>, shape: Shape) -> Result<(), AllocError>
     ensures { OnOk result (out.new.items ≡ out.old.items ++ line_text (spelled_shape shape)) }
 {
@@ -107,7 +107,11 @@ fn push_shape(out: &mut Vec<u8>, shape: Shape) -> Result<(), AllocError>
     )
 }
 
-/// The canonical text of a schedule.
+/// Returns the canonical text of `schedule`.
+///
+/// # Errors
+///
+/// `AllocError` where memory runs out.
 pub fn print(alloc: Global, schedule: &Schedule) -> Result<Vec<u8>, AllocError>
     ensures { IfOk result (λ text. text.items ≡ schedule_text schedule.now) }
 {

@@ -10,7 +10,7 @@ use snap_semantics::{Op, Symbol};
 use snap_text::{Token, end_at, keyword_at, number_at, symbol_at};
 use snap_words::Shape;
 
-/// What a line asks for, whether or not its process is there.
+/// The form of a line, whether or not its process exists.
 #[derive(Clone, Copy)]
 pub enum ItemForm {
     Steps { process: u64, count: u64 },
@@ -18,14 +18,14 @@ pub enum ItemForm {
     Crash { process: u64 },
 }
 
-/// The shape of these counts, where they are one.
+/// Returns the shape of these counts; `None` unless both are 1 to `MAX_COUNT`.
 fn shape_of(n: u64, w: u64) -> Option<Shape>
     ensures { Finds (λ s. s) result (shape_of n w) }
 {
     Shape::new(n, w).ok()
 }
 
-/// `shape N W`.
+/// Reads `shape N W`; `None` where `tokens` are no such form.
 #[tactic(auto, unfolding(snap_semantics::specs::ScheduleForms::shape_form))]
 pub fn shape_form(tokens: &[Token<'_>]) -> Option<Shape>
     ensures { Finds (λ s. s) result (shape_form (view_tokens tokens.now)) }
@@ -37,7 +37,7 @@ pub fn shape_form(tokens: &[Token<'_>]) -> Option<Shape>
     shape_of(n, w)
 }
 
-/// `I`.
+/// Reads `I`.
 #[tactic(auto, unfolding(snap_semantics::specs::ScheduleForms::step_form))]
 fn step_form(tokens: &[Token<'_>]) -> Option<ItemForm>
     ensures { Finds view_form result (step_form (view_tokens tokens.now)) }
@@ -47,7 +47,7 @@ fn step_form(tokens: &[Token<'_>]) -> Option<ItemForm>
     Some(ItemForm::Steps { process, count: 1 })
 }
 
-/// `I*K`.
+/// Reads `I*K`.
 #[tactic(auto, unfolding(snap_semantics::specs::ScheduleForms::steps_form))]
 fn steps_form(tokens: &[Token<'_>]) -> Option<ItemForm>
     ensures { Finds view_form result (steps_form (view_tokens tokens.now)) }
@@ -62,7 +62,7 @@ fn steps_form(tokens: &[Token<'_>]) -> Option<ItemForm>
     Some(ItemForm::Steps { process, count })
 }
 
-/// `I scan`.
+/// Reads `I scan`.
 #[tactic(auto, unfolding(snap_semantics::specs::ScheduleForms::scan_form))]
 fn scan_form(tokens: &[Token<'_>]) -> Option<ItemForm>
     ensures { Finds view_form result (scan_form (view_tokens tokens.now)) }
@@ -76,7 +76,7 @@ fn scan_form(tokens: &[Token<'_>]) -> Option<ItemForm>
     })
 }
 
-/// `I update K X`.
+/// Reads `I update K X`.
 #[tactic(auto, unfolding(snap_semantics::specs::ScheduleForms::update_form))]
 fn update_form(tokens: &[Token<'_>]) -> Option<ItemForm>
     ensures { Finds view_form result (update_form (view_tokens tokens.now)) }
@@ -92,7 +92,7 @@ fn update_form(tokens: &[Token<'_>]) -> Option<ItemForm>
     })
 }
 
-/// `I crash`.
+/// Reads `I crash`.
 #[tactic(auto, unfolding(snap_semantics::specs::ScheduleForms::crash_form))]
 fn crash_form(tokens: &[Token<'_>]) -> Option<ItemForm>
     ensures { Finds view_form result (crash_form (view_tokens tokens.now)) }
@@ -103,7 +103,7 @@ fn crash_form(tokens: &[Token<'_>]) -> Option<ItemForm>
     Some(ItemForm::Crash { process })
 }
 
-/// The form that a line is.
+/// Reads the form of a line; `None` where `tokens` are no form of an item.
 #[tactic(auto, unfolding(snap_semantics::specs::ScheduleForms::item_form))]
 pub fn item_form(tokens: &[Token<'_>]) -> Option<ItemForm>
     ensures { Finds view_form result (item_form (view_tokens tokens.now)) }

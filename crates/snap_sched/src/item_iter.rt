@@ -1,4 +1,4 @@
-//! `ItemIter`: goes through the items of a schedule, one by one.
+//! `ItemIter`: the items of a schedule, one by one.
 ghost use Rattle.std.specs.Prelude.{◌≡◌};
 ghost use Rattle.snap_semantics.specs.Readers.{nth};
 
@@ -7,14 +7,14 @@ use crate::segments::{Segment, Segments};
 use snap_semantics::Item;
 use std::marker::Model;
 
-/// Goes through items in order; seen as the list of those that are still to come.
+/// An iterator over items in order, seen as the list of those that are still to come.
 #[derive(Drop)]
 pub struct ItemIter<'a> {
     /// The process whose segment was begun last.
     process: u32,
-    /// How many of its steps are left.
+    /// How many steps of that process are left.
     steps: u64,
-    /// The segments behind them.
+    /// The segments behind the steps that are left.
     rest: Segments<'a>,
 }
 
@@ -58,7 +58,7 @@ impl<'a> Iterator for ItemIter<'a> {
 }
 
 impl Items {
-    /// Goes through the items in order.
+    /// Returns an iterator over the items in order.
     pub fn iter(&self) -> ItemIter<'_>
         ensures { result ≡ self.now }
     {
@@ -69,7 +69,7 @@ impl Items {
         }
     }
 
-    /// Returns item `t`, counted from 1, where there are so many.
+    /// Returns item `t`, counted from 1; `None` where there are fewer.
     pub fn item(&self, t: u64) -> Option<Item>
         ensures { result ≡ nth t self.now }
     {

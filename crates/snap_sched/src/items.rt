@@ -20,12 +20,12 @@ pub struct Items {
     /// The segments that are calls and crashes.
     singles: Vec<Single>,
     len: u32,
-    /// The process whose steps the last segment is, where it is steps.
+    /// The process of the last segment, if that is one of steps.
     stepping: Option<u32>,
 }
 
 impl Drop for Items {
-    // Written out, so that it is proved here and not once more wherever one is dropped.
+    // A drop that is written out is one call: it is proved once, and not again at each drop.
     fn drop(self) {
         let Items {
             segments: _,
@@ -50,7 +50,7 @@ impl Model for Items {
         (segments_of x.segments.items x.singles.items x.len) };
 }
 
-/// The operation, whose numbers have 64 bits.
+/// Returns `op`, whose numbers have 64 bits.
 fn fitting(op: Op) -> Op
     ensures same { result ≡ op }
     ensures fits { FitsWords op }
@@ -62,7 +62,7 @@ fn fitting(op: Op) -> Op
 }
 
 impl Items {
-    /// No items.
+    /// Returns an empty list.
     pub fn new(alloc: Global) -> Items
         ensures { result ≡ [] }
     {
@@ -74,7 +74,7 @@ impl Items {
         }
     }
 
-    /// How many items there are.
+    /// Returns how many items there are.
     pub fn len(&self) -> u64
         ensures len { result ≡ length self.now }
         ensures few { result < 2 ^ 32 }
@@ -88,7 +88,7 @@ impl Items {
         self.len == 0
     }
 
-    /// The greatest segments of steps, the calls and the crashes, in order.
+    /// Returns the greatest segments of steps, the calls and the crashes, in order.
     pub fn segments(&self) -> Segments<'_>
         ensures items { flat_map segment_items result ≡ self.now }
         ensures greatest { map segment_form result ≡ forms_of self.now }
@@ -97,7 +97,11 @@ impl Items {
         Segments::new(self.segments.as_slice(), self.singles.as_slice(), self.len)
     }
 
-    /// An equal list.
+    /// Returns a copy.
+    ///
+    /// # Errors
+    ///
+    /// `AllocError` where memory runs out.
     pub fn copy(&self, alloc: Global) -> Result<Items, AllocError>
         ensures { IfOk result (λ items. items ≡ self.now) }
     {
@@ -109,7 +113,11 @@ impl Items {
         })
     }
 
-    /// Adds so many steps of a process.
+    /// Appends `count` steps of `process`.
+    ///
+    /// # Errors
+    ///
+    /// `AllocError` where memory runs out.
     #[inline(always)]
     pub fn push_steps(&mut self, process: u32, count: u64) -> Result<(), AllocError>
         requires { length self.old + count < 2 ^ 32 }
@@ -134,7 +142,7 @@ impl Items {
         Ok(())
     }
 
-    /// Adds a call or a crash.
+    /// Appends a call or a crash of `process`.
     fn push_single(&mut self, process: u32, what: CallOrCrash) -> Result<(), AllocError>
         requires few { length self.old + 1 < 2 ^ 32 }
         requires fits { AllByRecursion FitsItem (segment_items (single_segment process what)) }
@@ -157,7 +165,11 @@ impl Items {
         Ok(())
     }
 
-    /// Adds a call.
+    /// Appends a call of `op` by `process`.
+    ///
+    /// # Errors
+    ///
+    /// `AllocError` where memory runs out.
     pub fn push_call(&mut self, process: u32, op: Op) -> Result<(), AllocError>
         requires { length self.old + 1 < 2 ^ 32 }
         ensures added { OnOk result (self.new ≡ self.old ++ Call process op ∷ []) }
@@ -167,7 +179,11 @@ impl Items {
         self.push_single(process, CallOrCrash::Call(fitting(op)))
     }
 
-    /// Adds a crash.
+    /// Appends a crash of `process`.
+    ///
+    /// # Errors
+    ///
+    /// `AllocError` where memory runs out.
     pub fn push_crash(&mut self, process: u32) -> Result<(), AllocError>
         requires { length self.old + 1 < 2 ^ 32 }
         ensures added { OnOk result (self.new ≡ self.old ++ Crash process ∷ []) }

@@ -2,7 +2,7 @@
 //! spells one is read as it, and what is printed is read back.
 ghost use Rattle.snap_sched.specs.Laws.{ReadsOnlySpelled, ReadsAllSpelled, PrintsAgain};
 
-/// What is read is a schedule, and its text spells it.
+/// Whatever is read is a schedule, and its text spells it.
 pub fn reads_only_spelled()
     ensures { ReadsOnlySpelled }
 {}

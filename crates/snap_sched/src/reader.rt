@@ -27,7 +27,7 @@ use snap_text::{CallLine, NumberLine, TextLines, TokenLine};
 use snap_words::{MAX_ITEMS, Shape};
 use std::alloc::{AllocError, Global};
 
-/// The form, where its process is one of `n` and no more than `left` items come of it.
+/// Returns `form` if its process is one of `n` and it has no more than `left` items.
 fn admitted(n: u64, left: u64, line: u64, form: ItemForm) -> Result<ItemForm, ScheduleRefusal>
     ensures { Gives view_form result (admitted n left line (view_form form)) }
 {
@@ -45,7 +45,8 @@ fn admitted(n: u64, left: u64, line: u64, form: ItemForm) -> Result<ItemForm, Sc
     Ok(form)
 }
 
-/// The form that a line is.
+/// Returns the form of a line, whose process is one of `n`, and which has no more than `left`
+/// items.
 fn line_form(n: u64, left: u64, line: &TokenLine<'_>) -> Result<ItemForm, ScheduleRefusal>
     ensures { Gives view_form result (line_form n left (view_line line.now)) }
 {
@@ -59,7 +60,7 @@ fn line_form(n: u64, left: u64, line: &TokenLine<'_>) -> Result<ItemForm, Schedu
     }
 }
 
-/// Adds the items of a form.
+/// Appends the items of a form.
 #[inline(always)]
 fn push_form(items: &mut Items, form: ItemForm) -> Result<(), AllocError>
     requires process { form_process (view_form form) < 2 ^ 32 }
@@ -74,7 +75,7 @@ fn push_form(items: &mut Items, form: ItemForm) -> Result<(), AllocError>
     }
 }
 
-/// The shape that the first line is.
+/// Reads the shape on the first line.
 pub(crate) fn first_shape(alloc: Global, lines: &mut TextLines<'_>) -> Result<Shape, ScheduleFault>
     ensures { Answers (λ s. (s, lines.new)) result (first_shape lines.old) }
 {
@@ -91,7 +92,7 @@ pub(crate) fn first_shape(alloc: Global, lines: &mut TextLines<'_>) -> Result<Sh
     }
 }
 
-/// The form that a line of one or two numbers is.
+/// Returns the form of a line of one or two numbers.
 #[tactic(auto, unfolding(snap_semantics::specs::ScheduleForms::item_form, snap_semantics::specs::ScheduleForms::step_form, snap_semantics::specs::ScheduleForms::steps_form))]
 fn numbers_form(line: &NumberLine) -> Option<ItemForm>
     ensures { Finds view_form result (item_form (number_tokens line.now.first line.now.second)) }
@@ -109,8 +110,8 @@ fn numbers_form(line: &NumberLine) -> Option<ItemForm>
     }
 }
 
-/// The form that a line of one or two numbers is, where its process is one of `n` and no more than
-/// `left` items come of it.
+/// Returns the form of a line of one or two numbers, whose process is one of `n`, and which has no
+/// more than `left` items.
 #[inline(always)]
 fn numbers_line_form(n: u64, left: u64, line: &NumberLine) -> Result<ItemForm, ScheduleRefusal>
     ensures { Gives view_form result (line_form n left (view_numbers line.now)) }
@@ -121,7 +122,7 @@ fn numbers_line_form(n: u64, left: u64, line: &NumberLine) -> Result<ItemForm, S
     }
 }
 
-/// The form that a call is.
+/// Returns the form of a call.
 fn call_form(line: &CallLine) -> ItemForm
     ensures { item_form (spelled_call line.now.process line.now.op) ≡ Some (view_form result) }
 {
@@ -131,7 +132,7 @@ fn call_form(line: &CallLine) -> ItemForm
     }
 }
 
-/// The form of the next line, of which `left` items may come, by its tokens.
+/// Reads the form of the next line, which has no more than `left` items, by its tokens.
 #[inline(always)]
 fn next_line_form(
     alloc: Global,
@@ -148,8 +149,8 @@ fn next_line_form(
     }
 }
 
-/// The form of the next line, of which `left` items may come. Where the line is `I`, `I*K` or a
-/// call, with no more space than it needs and no comment, it takes no memory.
+/// Reads the form of the next line, which has no more than `left` items. No memory is allocated for
+/// a line that is `I`, `I*K` or a call, with no more space than it needs and no comment.
 fn next_form(
     alloc: Global,
     n: u64,
@@ -168,8 +169,8 @@ fn next_form(
     next_line_form(alloc, n, left, lines)
 }
 
-/// Adds the items of the next lines, as long as each is `I` or `I*K` with no space or comment: most
-/// lines by far.
+/// Appends the items of the next lines, as long as each is `I` or `I*K` with no space or comment,
+/// as most lines are.
 #[inline(always)]
 fn push_step_lines(
     n: u64,
@@ -196,7 +197,7 @@ fn push_step_lines(
     Ok(())
 }
 
-/// The items of the lines.
+/// Reads the items of the lines.
 fn items_of(alloc: Global, n: u64, lines: &mut TextLines<'_>) -> Result<Items, ScheduleFault>
     requires { n ≤ max_count }
     ensures items { Answers (λ items. items) result (items_of n max_items lines.old) }
@@ -212,7 +213,11 @@ fn items_of(alloc: Global, n: u64, lines: &mut TextLines<'_>) -> Result<Items, S
     Ok(items)
 }
 
-/// Reads a schedule.
+/// Reads the schedule that `text` spells.
+///
+/// # Errors
+///
+/// `Refused` with the first reason why `text` is no schedule; `Memory` where memory runs out.
 pub fn read(alloc: Global, text: &[u8]) -> Result<Schedule, ScheduleFault>
     ensures schedule { Answers (λ s. s) result (schedule_of text.now) }
     ensures too_long { 4194304 < length text.now → result ≡ Err (Refused TooLong) }

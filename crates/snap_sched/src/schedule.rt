@@ -11,15 +11,14 @@ use std::marker::Model;
 /// The most bytes of the text of a schedule.
 pub const MAX_BYTES: usize = 4_194_304;
 
-/// A shape, and the items in order. Its processes are there, and there are at most `MAX_ITEMS`
-/// items.
+/// A shape, and the items in order, of processes of the shape and at most `MAX_ITEMS` in number.
 pub struct Schedule {
     shape: Shape,
     items: Items,
 }
 
 impl Drop for Schedule {
-    // Written out, so that it is proved here and not once more wherever one is dropped.
+    // A drop that is written out is one call: it is proved once, and not again at each drop.
     fn drop(self) {
         let Schedule { shape: _, items: _ } = self;
     }
@@ -37,7 +36,7 @@ impl Model for Schedule {
 }
 
 impl Schedule {
-    /// The schedule of these items.
+    /// Returns the schedule of `items` for the processes and words of `shape`.
     pub fn new(shape: Shape, items: Items) -> Schedule
         requires { IsSchedule (record { shape = shape; items = items }) }
         ensures { result ≡ record { shape = shape; items = items } }
@@ -45,7 +44,11 @@ impl Schedule {
         Schedule { shape, items }
     }
 
-    /// An equal schedule.
+    /// Returns a copy.
+    ///
+    /// # Errors
+    ///
+    /// `AllocError` where memory runs out.
     pub fn copy(&self, alloc: Global) -> Result<Schedule, AllocError>
         ensures { IfOk result (λ s. s ≡ self.now) }
     {
@@ -55,7 +58,7 @@ impl Schedule {
         })
     }
 
-    /// The numbers of processes and of words.
+    /// Returns the numbers of processes and of words.
     pub fn shape(&self) -> Shape
         ensures shape { result ≡ self.now.shape }
         ensures schedule { IsSchedule self.now }
@@ -63,7 +66,7 @@ impl Schedule {
         self.shape
     }
 
-    /// The items in order.
+    /// Returns the items in order.
     pub fn items(&self) -> &Items
         ensures items { result.now ≡ self.now.items }
         ensures schedule { IsSchedule self.now }

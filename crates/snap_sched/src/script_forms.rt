@@ -11,7 +11,7 @@ use snap_text::{Token, end_at, keyword_at, number_at};
 use snap_words::MAX_ITEMS;
 use std::alloc::{AllocError, Global};
 
-/// What a line of scripts says, whether or not its process is there.
+/// The form of a line of scripts, whether or not its process exists.
 #[derive(Clone, Copy)]
 pub enum ScriptForm {
     Call { process: u64, op: Op },
@@ -19,7 +19,7 @@ pub enum ScriptForm {
     Crash { process: u64, turn: u64 },
 }
 
-/// `I scan` or `I update K X`.
+/// Reads `I scan` or `I update K X`.
 #[tactic(auto, unfolding(crate::specs::ScriptForms::call_form))]
 fn call_form(tokens: &[Token<'_>]) -> Option<ScriptForm>
     ensures { Finds (λ x. x) result (call_form (view_tokens tokens.now)) }
@@ -30,7 +30,7 @@ fn call_form(tokens: &[Token<'_>]) -> Option<ScriptForm>
     }
 }
 
-/// `I crash K`.
+/// Reads `I crash K`.
 #[tactic(auto, unfolding(crate::specs::ScriptForms::crash_at_form))]
 fn crash_at_form(tokens: &[Token<'_>]) -> Option<ScriptForm>
     ensures { Finds (λ x. x) result (crash_at_form (view_tokens tokens.now)) }
@@ -45,7 +45,7 @@ fn crash_at_form(tokens: &[Token<'_>]) -> Option<ScriptForm>
     Some(ScriptForm::Crash { process, turn })
 }
 
-/// The form that a line is.
+/// Reads the form of a line of scripts; `None` where `tokens` are none.
 #[tactic(auto, unfolding(crate::specs::ScriptForms::script_form))]
 pub fn script_form(tokens: &[Token<'_>]) -> Option<ScriptForm>
     ensures { Finds (λ x. x) result (script_form (view_tokens tokens.now)) }
@@ -56,7 +56,11 @@ pub fn script_form(tokens: &[Token<'_>]) -> Option<ScriptForm>
     crash_at_form(tokens)
 }
 
-/// The operations that a process asks for, in order.
+/// Returns the operations that `process` calls, in order.
+///
+/// # Errors
+///
+/// `AllocError` where memory runs out.
 pub fn ops_of(alloc: Global, forms: &[ScriptForm], process: u64) -> Result<Vec<Op>, AllocError>
     ensures { IfOk result (λ ops. ops.items ≡ ops_of process forms.now) }
 {
@@ -75,7 +79,7 @@ pub fn ops_of(alloc: Global, forms: &[ScriptForm], process: u64) -> Result<Vec<O
     Ok(ops)
 }
 
-/// The turn at which a process crashes, where it does.
+/// Returns the turn at which `process` crashes, if it does.
 pub fn crash_of(forms: &[ScriptForm], process: u64) -> Option<u64>
     ensures { result ≡ crash_of process forms.now }
 {

@@ -17,7 +17,7 @@ use snap_semantics::ScheduleRefusal;
 use snap_text::{TextLines, TokenLine};
 use std::alloc::{AllocError, Global};
 
-/// Whether a form tells of a second crash of its process.
+/// Returns whether `form` is a second crash of its process.
 fn crashes_again(before: &[ScriptForm], form: ScriptForm) -> bool
     ensures { result ≡ crashes_again before.now form }
 {
@@ -30,7 +30,7 @@ fn crashes_again(before: &[ScriptForm], form: ScriptForm) -> bool
     }
 }
 
-/// The form, behind those before it, where it is of one of `n` processes and no second crash.
+/// Returns `form` if its process is one of `n`, and it is no second crash.
 fn admitted(
     n: u64,
     before: &[ScriptForm],
@@ -52,7 +52,7 @@ fn admitted(
     Ok(form)
 }
 
-/// The form that a line is, behind those before it.
+/// Returns the form of a line of scripts, behind the forms `before`.
 fn script_line(
     n: u64,
     before: &[ScriptForm],
@@ -70,7 +70,7 @@ fn script_line(
     }
 }
 
-/// The forms of the lines.
+/// Reads the forms of the lines.
 fn script_lines(
     alloc: Global,
     n: u64,
@@ -88,14 +88,14 @@ fn script_lines(
     Ok(forms)
 }
 
-/// What the forms tell of a process.
+/// Returns the script of `process`.
 fn script_of(alloc: Global, forms: &[ScriptForm], process: u64) -> Result<Script, AllocError>
     ensures { IfOk result (λ s. s ≡ script_of forms.now process) }
 {
     Ok(Script::new(ops_of(alloc, forms, process)?, crash_of(forms, process)))
 }
 
-/// The scripts of `n` processes.
+/// Returns the scripts of `n` processes.
 fn each_script(alloc: Global, forms: &[ScriptForm], n: u64) -> Result<Vec<Script>, AllocError>
     requires { n ≤ max_count }
     ensures scripts { IfOk result (λ scripts. scripts.items ≡ scripts_from forms.now 1 n) }
@@ -110,7 +110,11 @@ fn each_script(alloc: Global, forms: &[ScriptForm], n: u64) -> Result<Vec<Script
     Ok(scripts)
 }
 
-/// Reads scripts.
+/// Reads the scripts that `text` spells.
+///
+/// # Errors
+///
+/// `Refused` with the first reason why `text` is no such text; `Memory` where memory runs out.
 pub fn read_scripts(alloc: Global, text: &[u8]) -> Result<Scripts, ScheduleFault>
     ensures scripts { Answers (λ s. s) result (scripts_of text.now) }
     ensures too_long { 4194304 < length text.now → result ≡ Err (Refused TooLong) }

@@ -1,4 +1,4 @@
-//! `Script` and `Scripts`: the operations that each process of a live run asks for, and the turn at
+//! `Script` and `Scripts`: the operations that each process of a live run calls, and the turn at
 //! which it crashes.
 ghost use Rattle.std.specs.Prelude.{◌≡◌, length};
 ghost use Rattle.snap_sched.specs.ScriptText.{AreScripts};
@@ -7,15 +7,15 @@ use snap_semantics::Op;
 use snap_words::Shape;
 use std::marker::Model;
 
-/// What a process asks for, in order, and the turn at which it crashes, counted from 1, where it
-/// does.
+/// The operations that a process calls, in order, and the turn at which it crashes, counted from 1,
+/// if it does.
 pub struct Script {
     operations: Vec<Op>,
     crash: Option<u64>,
 }
 
 impl Drop for Script {
-    // Written out, so that it is proved here and not once more wherever one is dropped.
+    // A drop that is written out is one call: it is proved once, and not again at each drop.
     fn drop(self) {
         let Script {
             operations: _,
@@ -39,7 +39,7 @@ pub struct Scripts {
 }
 
 impl Drop for Scripts {
-    // Written out, so that it is proved here and not once more wherever one is dropped.
+    // A drop that is written out is one call: it is proved once, and not again at each drop.
     fn drop(self) {
         let Scripts {
             shape: _,
@@ -59,21 +59,21 @@ impl Model for Scripts {
 }
 
 impl Script {
-    /// Returns the script of these operations, with a crash at this turn where there is one.
+    /// Returns the script of `operations`, with a crash at turn `crash` if there is one.
     pub fn new(operations: Vec<Op>, crash: Option<u64>) -> Script
         ensures { result ≡ record { operations = operations.items; crash = crash } }
     {
         Script { operations, crash }
     }
 
-    /// The operations in order.
+    /// Returns the operations in order.
     pub fn operations(&self) -> &[Op]
         ensures { result.now ≡ self.now.operations }
     {
         self.operations.as_slice()
     }
 
-    /// The turn at which the process crashes, counted from 1, where it does.
+    /// Returns the turn at which the process crashes, counted from 1, if it does.
     pub fn crash(&self) -> Option<u64>
         ensures { result ≡ self.now.crash }
     {
@@ -82,7 +82,7 @@ impl Script {
 }
 
 impl Scripts {
-    /// Returns the scripts of the processes of a shape, that of process 1 first.
+    /// Returns the scripts of the processes of `shape`, that of process 1 first.
     pub fn new(shape: Shape, scripts: Vec<Script>) -> Scripts
         requires { AreScripts (record { shape = shape; scripts = scripts.items }) }
         ensures { result ≡ record { shape = shape; scripts = scripts.items } }
@@ -90,7 +90,7 @@ impl Scripts {
         Scripts { shape, scripts }
     }
 
-    /// The numbers of processes and of words.
+    /// Returns the numbers of processes and of words.
     pub fn shape(&self) -> Shape
         ensures shape { result ≡ self.now.shape }
         ensures scripts { AreScripts self.now }
@@ -98,7 +98,7 @@ impl Scripts {
         self.shape
     }
 
-    /// The scripts, that of process 1 first.
+    /// Returns the scripts, that of process 1 first.
     pub fn scripts(&self) -> &[Script]
         ensures scripts { result.now ≡ self.now.scripts }
         ensures each { length result.now ≡ self.now.shape.n }

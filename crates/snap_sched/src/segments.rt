@@ -16,7 +16,7 @@ pub enum Segment {
 }
 
 impl Segment {
-    /// The item that it has, and how often.
+    /// Returns the item of this segment, and how often the segment has it.
     pub fn repeated(self) -> (Item, u64)
         ensures { replicate result.1 result.0 ≡ segment_items self }
     {
@@ -28,8 +28,8 @@ impl Segment {
     }
 }
 
-/// A segment as it is kept: how many items stand before it, and its process. It ends where the next
-/// one begins.
+/// A segment as it is kept: how many items stand before it, and its process. A segment ends where
+/// the next one begins.
 #[derive(Clone, Copy, PartialEq, Eq)]
 pub struct SegmentStart {
     pub start: u32,
@@ -43,15 +43,15 @@ pub enum CallOrCrash {
     Crash,
 }
 
-/// A call or a crash as it is kept, beside its segment: how many items stand before it, and what it
-/// is.
+/// A call or a crash as it is kept, beside its segment: how many items stand before the segment,
+/// and whether it is a call or a crash.
 #[derive(Clone, Copy, PartialEq, Eq)]
 pub struct Single {
     pub start: u32,
     pub what: CallOrCrash,
 }
 
-/// A call or a crash of a process.
+/// Returns a call or a crash of a process.
 fn single_segment(process: u32, what: CallOrCrash) -> Segment
     ensures { result ≡ single_segment process what }
 {
@@ -61,7 +61,7 @@ fn single_segment(process: u32, what: CallOrCrash) -> Segment
     }
 }
 
-/// Goes through segments in order; seen as the list of those that are still to come.
+/// An iterator over segments in order, seen as the list of those that are still to come.
 #[derive(Drop)]
 pub struct Segments<'a> {
     segments: &'a [SegmentStart],
@@ -81,7 +81,7 @@ impl<'a> Model for Segments<'a> {
 }
 
 impl<'a> Segments<'a> {
-    /// The segments that are kept so, of so many items in all.
+    /// Returns an iterator over the segments that are kept so, of `len` items in all.
     pub(crate) fn new(segments: &'a [SegmentStart], singles: &'a [Single], len: u32) -> Segments<'a>
         ensures { result ≡ segments_of segments.now singles.now len }
     {

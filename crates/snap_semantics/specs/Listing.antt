@@ -140,8 +140,12 @@ listing_of_lines after texts = do
   done ← checked_targets lines (header.0.scan ∷ header.0.update ∷ line_targets lines)
   Ok (with_lines lines header.0)
 
+-- the most bytes of a listing's text
+abbrev pub max_text : ℕ
+max_text = 65536
+
 -- the listing that a text is, or the first reason why it is none
 unfoldable pub listing_of : List ℕ → Result Source ListingRefusal
 listing_of text =
-    if nat_lt 65536 (length text) then Err refusal.TooLong
+    if nat_lt max_text (length text) then Err refusal.TooLong
     else listing_of_lines (length (lines_of text) + 1) (text_lines text)

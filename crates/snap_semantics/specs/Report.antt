@@ -94,7 +94,7 @@ abbrev pub stop_text : Option Activity → List ℕ
 stop_text None = []
 stop_text (Some a) = codes " at " ++ decimal a.line
 
--- where a process stands
+-- the printed status of a process
 abbrev pub status_text : Status → List ℕ
 status_text Idle = codes "idle"
 status_text (Busy a) = op_text a.op ++ codes " at " ++ decimal a.line ++ link_text a.link

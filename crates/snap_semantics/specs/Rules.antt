@@ -43,14 +43,14 @@ identifier_at (Number k ∷ ts) = None
 identifier_at (Identifier w ∷ ts) = Some (w, ts)
 identifier_at (Sign m ∷ ts) = None
 
--- this keyword
+-- the tokens behind a keyword, if they begin with it
 abbrev pub keyword_at : List ℕ → List Token → Option (List Token)
 keyword_at x [] = None
 keyword_at x (Number k ∷ ts) = None
 keyword_at x (Identifier w ∷ ts) = if bytes_eq w x then Some ts else None
 keyword_at x (Sign m ∷ ts) = None
 
--- this symbol
+-- the tokens behind a symbol, if they begin with it
 abbrev pub symbol_at : Symbol → List Token → Option (List Token)
 symbol_at x [] = None
 symbol_at x (Number k ∷ ts) = None

@@ -38,7 +38,7 @@ forms_text forms = lines_text (map spelled_form forms)
 abbrev pub schedule_text : Schedule → List ℕ
 schedule_text s = line_text (spelled_shape s.shape) ++ forms_text (forms_of s.items)
 
--- its numbers have 64 bits
+-- the numbers of an operation have 64 bits
 abbrev pub FitsWords : Op → Type 0
 FitsWords op.Scan = ⊤
 FitsWords (op.Update word value) = (word < 2 ^ 64) × (value < 2 ^ 64)

@@ -93,7 +93,7 @@ abbrev pub longer_lexeme : ℕ → Front → Front
 longer_lexeme b None = None
 longer_lexeme b (Some r) = Some (b ∷ r.0, r.1)
 
--- these tokens, with no lexeme before them
+-- the front of tokens before which there is no lexeme
 abbrev pub no_lexeme : Option (List Token) → Front
 no_lexeme None = None
 no_lexeme (Some ts) = Some ([], ts)

@@ -23,7 +23,7 @@ pub struct Event {
 }
 
 impl Drop for Event {
-    // Written out, so that it is proved here and not once more wherever one is dropped.
+    // A drop that is written out is one call: it is proved once, and not again at each drop.
     fn drop(self) {
         let Event {
             item: _,

@@ -1,5 +1,5 @@
-//! `Fault`: why a call that allocates gave no answer:
-//! memory ran out, or what it was given is refused.
+//! `Fault`: why a call that allocates returns an error: memory ran out, or what it was given is
+//! refused.
 ghost use Rattle.std.specs.Prelude.{◌≡◌};
 ghost use Rattle.snap_semantics.specs.Answers.{fault_as};
 ghost use Rattle.snap_semantics.specs.declared.fault.Fault.TheVariants.{Memory, Refused};
@@ -10,7 +10,7 @@ use std::alloc::{AllocError, AllocFailed};
 use std::fmt::Display;
 use thiserror::Error;
 
-/// Why there is no answer: memory ran out, or what was handed in is refused.
+/// Why a call that allocates returns an error: memory ran out, or what it was given is refused.
 #[derive(Clone, Copy, Debug, PartialEq, Eq, Error)]
 pub enum Fault<R: Display> {
     #[error("out of memory")]

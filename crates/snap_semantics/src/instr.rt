@@ -31,7 +31,7 @@ pub enum Term {
     Arg,
     /// `R[I]`.
     Row(Name, Index),
-    /// `seq(W[I])`, and so `data`, `id` and `toggle`.
+    /// `seq(W[I])`; likewise `data(W[I])`, `id(W[I])` and `toggle(W[I])`.
     Field(Field, Name, Index),
     /// `handshake(W[I],J)`.
     Handshake(Name, Index, Index),
@@ -93,7 +93,7 @@ pub enum BitBank {
 }
 
 impl BitBank {
-    /// The bank of these bits.
+    /// Returns the bank of registers of these bits.
     pub fn bank(self) -> Bank
         ensures { result ≡ bank_of self }
     {

@@ -4,7 +4,7 @@ ghost use Rattle.snap_semantics.specs.Table.{who};
 
 use crate::process::Item;
 
-/// The process of an item.
+/// Returns the process of an item.
 pub fn who(item: Item) -> u32
     ensures { result ≡ who item }
 {

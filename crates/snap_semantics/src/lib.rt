@@ -1,5 +1,4 @@
-//! What listings, schedules and runs are: the types that all crates speak of, and, in `specs/`,
-//! the definitions.
+//! Types of listings, schedules and runs that all crates share; their definitions are in `specs/`.
 #![tactic(auto)]
 
 mod event;
@@ -19,5 +18,8 @@ pub use instr::{
 pub use items::who;
 pub use name::Name;
 pub use process::{Activity, Cause, Item, Op, Outcome, Reason, Status};
-pub use refusal::{CommandRefusal, ImageRefusal, ListingRefusal, Refusal, ScheduleRefusal};
+pub use refusal::{
+    CommandRefusal, ImageRefusal, ListingRefusal, LiveRefusal, ModelRefusal, Refusal,
+    ScheduleRefusal,
+};
 pub use text::{Sort, Symbol};

@@ -5,7 +5,7 @@ ghost use Rattle.std.specs.Prelude.{◌≡◌, ◌≤◌, ◌<◌, List, ℕ, le
 use std::marker::Model;
 
 /// A name, seen as the list of its letters. Names that are declared have 1 to 8 letters; a longer
-/// identifier in a name's place is kept by its first nine, which no declared name has.
+/// identifier in the place of a name is kept by its first nine letters, which no declared name has.
 #[derive(Clone, Copy, Debug, PartialEq, Eq)]
 pub struct Name {
     letters: [u8; 9],
@@ -32,7 +32,7 @@ impl Model for Name {
 }
 
 impl Name {
-    /// The name with these letters, at most nine.
+    /// Returns the name with the letters `text`, at most nine.
     pub fn of(text: &[u8]) -> Name
         requires { length text.now ≤ 9 }
         ensures { result ≡ text.now }
@@ -45,14 +45,14 @@ impl Name {
         }
     }
 
-    /// Whether two names are the same.
+    /// Returns whether two names are the same.
     pub fn is(&self, other: &Name) -> bool
         ensures { result ≡ bytes_eq self.now other.now }
     {
         self.letters[..self.len as usize] == other.letters[..other.len as usize]
     }
 
-    /// Its letters.
+    /// Returns the letters of the name.
     pub fn letters(&self) -> &[u8]
         ensures { result.now ≡ self.now }
     {

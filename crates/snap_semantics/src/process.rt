@@ -34,13 +34,13 @@ pub enum Cause {
     Owner,
     /// A `call` within a `call`.
     Nested,
-    /// A `return` or `finish` where the operation does not end so.
+    /// A `return` or `finish` that does not end such an operation.
     BadEnd,
     /// No line follows.
     OffEnd,
 }
 
-/// What a busy process is at.
+/// The activity of a busy process: the line that it runs next, and its link.
 #[derive(Clone, Copy, PartialEq, Eq)]
 pub struct Activity {
     pub op: Op,
@@ -50,14 +50,14 @@ pub struct Activity {
     pub link: Option<u64>,
 }
 
-/// How a process stands.
+/// The status of a process.
 #[derive(Clone, Copy, PartialEq, Eq)]
 pub enum Status {
     Idle,
     Busy(Activity),
-    /// Trapped for good, at what it was at.
+    /// Trapped for good, with the activity at that time.
     Trapped(Cause, Activity),
-    /// Crashed for good, at what it was at, where it was busy.
+    /// Crashed for good, with the activity at that time if the process was busy.
     Crashed(Option<Activity>),
 }
 
@@ -72,7 +72,7 @@ pub enum Reason {
     NotOwner,
 }
 
-/// What came of an item.
+/// The outcome of an item.
 #[derive(Debug, Drop)]
 pub enum Outcome {
     Called,

@@ -1,10 +1,10 @@
-//! Why a listing, a schedule, a command, an image or the program's input is refused:
-//! an enum for each. A refusal is shown by its code, its name and its number.
+//! Why a listing, a schedule, a command, an image, a live call, a model or the program's input is
+//! refused: an enum for each. A refusal is shown by its code, its name and its number.
 use snap_words::WordFault;
 use thiserror::Error;
 
-/// Why a listing is refused. The number is that of a text line, from 1;
-/// of `NoSuchLine` it is the target.
+/// Why a listing is refused. The number is that of a text line, from 1; of `NoSuchLine`, the number
+/// of the line that is missing.
 #[derive(Clone, Copy, Debug, PartialEq, Eq, Error)]
 pub enum ListingRefusal {
     /// More than 65,536 bytes.
@@ -107,6 +107,32 @@ pub enum ImageRefusal {
     /// Bytes behind the last line.
     #[error("I6 Extra")]
     Extra,
+}
+
+/// Why a live call is refused.
+#[derive(Clone, Copy, Debug, PartialEq, Eq, Error)]
+pub enum LiveRefusal {
+    /// So many items are kept, the most that may be.
+    #[error("V1 Full {0}")]
+    Full(u64),
+    /// The gate did not let this process on, or its script was not done after as many turns as it
+    /// had.
+    #[error("V2 TurnLimit {0}")]
+    TurnLimit(u32),
+    /// The least process whose seat was not handed in.
+    #[error("V3 SeatMissing {0}")]
+    SeatMissing(u32),
+}
+
+/// Why there is no model.
+#[derive(Clone, Copy, Debug, PartialEq, Eq, Error)]
+pub enum ModelRefusal {
+    /// More than 8 processes or words, or more than 32 operations of a process.
+    #[error("M1 TooLarge")]
+    TooLarge,
+    /// A number that is neither below 2^31 nor among the greatest 2^31 of 64 bits.
+    #[error("M2 BadNumber {0}")]
+    BadNumber(u64),
 }
 
 /// Why the program refuses its input.

@@ -43,14 +43,18 @@ update 40\n\
 46: put r[me] = (arg, f, t, s)\n\
 47: finish\n";
 
-/// The text of listing B, which is read as listing B.
+/// Returns the text of listing B.
 pub fn text_b() -> &'static [u8]
     ensures { listing_of result.now ≡ Ok listing_b }
 {
     TEXT
 }
 
-/// Listing B, read from its text.
+/// Reads listing B from its text.
+///
+/// # Errors
+///
+/// `AllocError` where memory runs out.
 pub fn listing_b(alloc: Global) -> Result<Listing, AllocError>
     ensures { IfOk result (λ l. l ≡ listing_b) }
 {

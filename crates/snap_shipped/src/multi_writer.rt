@@ -54,14 +54,18 @@ update 50\n\
 57: put r[word] = (arg, me, tog[word])\n\
 58: finish\n";
 
-/// The text of listing M, which is read as listing M.
+/// Returns the text of listing M.
 pub fn text_m() -> &'static [u8]
     ensures { listing_of result.now ≡ Ok listing_m }
 {
     TEXT
 }
 
-/// Listing M, read from its text.
+/// Reads listing M from its text.
+///
+/// # Errors
+///
+/// `AllocError` where memory runs out.
 pub fn listing_m(alloc: Global) -> Result<Listing, AllocError>
     ensures { IfOk result (λ l. l ≡ listing_m) }
 {

@@ -35,14 +35,18 @@ update 30\n\
 32: put r[me] = (arg, c, s)\n\
 33: finish\n";
 
-/// The text of listing U, which is read as listing U.
+/// Returns the text of listing U.
 pub fn text_u() -> &'static [u8]
     ensures { listing_of result.now ≡ Ok listing_u }
 {
     TEXT
 }
 
-/// Listing U, read from its text.
+/// Reads listing U from its text.
+///
+/// # Errors
+///
+/// `AllocError` where memory runs out.
 pub fn listing_u(alloc: Global) -> Result<Listing, AllocError>
     ensures { IfOk result (λ l. l ≡ listing_u) }
 {

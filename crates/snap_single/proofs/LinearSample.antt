@@ -28,7 +28,7 @@ run =
     run_of 2 (Call 1 Scan ∷ (times 6 1 ++ (Call 2 (Update 2 5)
     ∷ (times 17 2 ++ (times 8 1 ++ (times 4 1 ++ (Call 2 (Update 2 6) ∷ (times 17 2 ++ times 9 1))))))))
 
--- its operations, with their items
+-- the operations of the run, with their items
 abbrev pub scan : Operation
 scan = record { process = 1; call = 1; end = Some 64; action = Sees (0 ∷ 5 ∷ []) }
 

@@ -68,7 +68,7 @@ rising a b c ab bc =
     (AllPairs-cons (λ x y. x ≤ y) c [] (All-from_recursion (λ y. c ≤ y) [] tt)
     (λ i j d lt short. absurd (omega arith)))))
 
--- These are the places of the linearization.
+-- The operations have their places in the linearization.
 is_placed : IsPlacedLinearization 32 run linearized places
 is_placed = record {
   linearization = is_linearization;
@@ -125,7 +125,7 @@ empty_linearizes = record {
   runs = tt;
 }
 
--- But the update has its place, and has to be there.
+-- The open update has its place, and has to be in the linearization.
 abbrev pub open_update : Operation
 open_update = record { process = 2; call = 8; end = None; action = Sets 2 5 }
 
@@ -187,6 +187,6 @@ each_falling = (
   ),
 )
 
--- But in a list they stand in the order of their places.
+-- Operations that stand in a list against the order of their places are not placed.
 falling : IsPlacedLinearization 32 two_scans (one ∷ other ∷ []) (5 ∷ 4 ∷ []) → ⊥
 falling h = let le : 5 ≤ 4 = h.in_order 0 1 0 (omega arith) (omega arith) in omega arith

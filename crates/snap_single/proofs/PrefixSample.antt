@@ -166,7 +166,7 @@ scan_took_place = record {
   ends = (refl, refl);
 }
 
--- and no others
+-- the longer run has no calls but these
 call_at : (c : ℕ) → 0 < c → c ≤ 50 → is_call (item long c) ≡ true → (c ≡ 1) ⊎ ((c ≡ 2) ⊎ (c ≡ 20))
 call_at c pos le call =
     elim (cases_eq c 1) [
@@ -197,7 +197,7 @@ one_of_them o took =
       ]
     ]
 
--- They take place in this order.
+-- The operations take place in this order.
 abbrev linear : List Operation
 linear = second ∷ scan ∷ first ∷ []
 
@@ -311,7 +311,7 @@ begins o os (inr (inr is)) them runs prefix =
     let view : ◌≡◌ {A = List ℕ} (0 ∷ 8 ∷ []) (0 ∷ 0 ∷ []) = subst (λ p. Allows (0 ∷ 0 ∷ []) p.action) is runs.0 in
     absurd (let same : ◌≡◌ {A = ℕ} 8 0 = cc in omega arith)
 
--- So no linearization of the longer run has the updates in the order in which they were called.
+-- No linearization of the longer run has the updates in the order in which they were called.
 too_soon : (os : List Operation) → IsLinearization long os →
     IsPrefix (updates (open_first ∷ open_second ∷ [])) (updates os) → ⊥
 too_soon [] h prefix =

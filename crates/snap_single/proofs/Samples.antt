@@ -18,7 +18,7 @@ use Rattle.snap_runs_of_u.specs.ListingU as u
 use Rattle.snap_runs_of_u.specs.ListingU.{listing_u}
 use Rattle.snap_runs_of_u.specs.Promises.{run_of, square}
 
--- so many steps of a process
+-- a number of steps of a process
 abbrev pub times : ℕ → ℕ → List Item
 times count i = replicate count (Step i)
 
@@ -128,7 +128,7 @@ after_write_events : events listing_u (square 2) (initial listing_u (square 2)) 
     ∷ record { item = 33; process = 1; what = what.Answer (0 ∷ 5 ∷ []) } ∷ []
 after_write_events = refl
 
--- It crashes one step earlier, between its scan and its write: the scan sees nothing of it.
+-- The updater crashes one step earlier, between its scan and its write: the scan sees nothing of the update.
 abbrev pub crash_before_write : List Item
 crash_before_write = Call 2 (Update 2 5) ∷ (times 15 2 ++ (Crash 2 ∷ Step 2 ∷ Call 1 Scan ∷ times 13 1))
 

@@ -5,7 +5,7 @@ use Rattle.std.specs.Io.KnownBytes.{Appends}
 use Rattle.snap_streams.specs.State.{SinkState}
 use Rattle.snap_streams.specs.declared.sending.Unsent.{Unsent}
 
--- so many bytes of a text were taken, and no more
+-- the first `count` bytes of a text were taken, and no more
 abbrev pub unsent : ℕ → Unsent
 unsent n = record { count = n }
 

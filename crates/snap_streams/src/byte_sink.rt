@@ -8,11 +8,15 @@ use crate::Failed;
 
 /// A sink of bytes.
 pub trait ByteSink {
-    /// What is seen of it: the bytes that it has taken, whether it has failed, and whether the last
-    /// write took nothing. Only an error makes it fail, for good.
+    /// What is seen of a sink: the bytes that it has taken, whether it has failed, and whether the
+    /// last write took nothing. Only an error makes a sink fail, for good.
     ghost state: { Self → SinkState };
 
-    /// Takes some of the bytes, from the first on.
+    /// Writes some of `bytes`, from the first on, and returns how many.
+    ///
+    /// # Errors
+    ///
+    /// `Failed` where the device fails.
     fn write(&mut self, bytes: &[u8]) -> Result<usize, Failed>
         requires { (state self.old).failed ≡ false }
         ensures bound { IfOk result (λ count. count ≤ length bytes.now) }

@@ -7,11 +7,16 @@ use crate::Failed;
 
 /// A source of bytes.
 pub trait ByteSource {
-    /// What is seen of it: the bytes that are left, and whether it has failed. Only an error makes
-    /// it so, for good.
+    /// What is seen of a source: the bytes that are left, and whether it has failed. Only an error
+    /// makes a source fail, for good.
     ghost state: { Self → SourceState };
 
-    /// Gives some of the bytes that are left, and none only at their end or where there is no room.
+    /// Reads some of the bytes that are left into the front of `buffer`, and returns how many: 0
+    /// only at their end, or where `buffer` is empty.
+    ///
+    /// # Errors
+    ///
+    /// `Failed` where the device fails.
     fn read(&mut self, buffer: &mut [u8]) -> Result<usize, Failed>
         requires { (state self.old).failed ≡ false }
         ensures bound { IfOk result (λ count. count ≤ length buffer.old) }

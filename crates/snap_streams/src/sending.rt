@@ -1,4 +1,4 @@
-//! `write_all`: a text that is sent whole; `say`: one that is sent as far as its sink takes it.
+//! `write_all`: sends a text whole; `say`: sends a text as far as its sink takes it.
 ghost use Rattle.std.specs.Prelude.{◌≡◌, false, OnOk};
 ghost use Rattle.snap_streams.specs.Sent.{Says, Sends, unsent};
 
@@ -9,11 +9,16 @@ use thiserror::Error;
 #[derive(Clone, Copy, Debug, PartialEq, Eq, Error)]
 #[error("the sink took the first {count} bytes, and no more")]
 pub struct Unsent {
-    /// How many bytes of it the sink has taken.
+    /// How many bytes of the text the sink has taken.
     pub count: u64,
 }
 
-/// Writes all of a text. After `Unsent` the sink has taken its first `count` bytes.
+/// Writes all of `text` to `sink`.
+///
+/// # Errors
+///
+/// `Unsent` where `sink` fails or takes nothing; `sink` has taken the first `count` bytes of `text`
+/// then.
 pub fn write_all<W: ByteSink>(sink: &mut W, text: &[u8]) -> Result<(), Unsent>
     requires { (W.state sink.old).failed ≡ false }
     ensures sends { Sends unsent result text.now (W.state sink.old) (W.state sink.new) }
@@ -32,7 +37,7 @@ pub fn write_all<W: ByteSink>(sink: &mut W, text: &[u8]) -> Result<(), Unsent>
     Ok(())
 }
 
-/// Says a text. Where the sink does not take it, nothing more is said.
+/// Writes `text` to `sink` as far as `sink` takes it, and drops the rest.
 pub fn say<W: ByteSink>(text: &[u8], sink: &mut W)
     requires { (W.state sink.old).failed ≡ false }
     ensures { Says text.now (W.state sink.old) (W.state sink.new) }

@@ -187,7 +187,7 @@ module _ (n : ℕ) (items : List Item) (fits : IsValidRun (run_of_items one_word
         subst (λ k. Stage (Free k os) (Took k os) (process_at (state r (suc t)) k)) (sym same)
         (subst (Stage (Free i os) (Took i os)) (sym own) h)
 
-    -- where it ends nothing
+    -- an item that ends nothing leaves the operations placed
     all_longer : (os : List Operation) → (IsEnd does.1 → ⊥) → AllByRecursion (Placed r t) os →
         AllByRecursion (Placed r (suc t)) os
     all_longer os none h =
@@ -226,7 +226,7 @@ module _ (n : ℕ) (items : List Item) (fits : IsValidRun (run_of_items one_word
         UnderAt r fits i t status → UnderCall r fits i op t
     called_so op status activity busy is u = subst (λ y. UnderCall r fits i y t) is (subst (UnderAt r fits i t) busy u)
 
-    -- it has taken place, and has not ended
+    -- the operation has taken place, and has not ended
     now_placed : (g : Action) → UnderCall r fits i (op_of g) t → outcome_at r (suc t) ≡ outcome.Stepped →
         Placed r (suc t) (its i (last_call r i t) g)
     now_placed g u out =
@@ -245,7 +245,7 @@ module _ (n : ℕ) (items : List Item) (fits : IsValidRun (run_of_items one_word
               ];
         })
 
-    -- those before it have other calls
+    -- the operations listed before have other calls
     other_call : (g : Action) → UnderCall r fits i (op_of g) t → (x : Operation) → Placed r t x →
         (x.process ≡ i → x.end ≡ None → ⊥) →
         x.call ≡ last_call r i t → ⊥

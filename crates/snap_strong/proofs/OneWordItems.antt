@@ -85,7 +85,7 @@ stage_map f t (writes value x xs v h) = writes value x xs v (f h)
 stage_map f t (finishes value x xs v h) = finishes value x xs v (t (Sets 1 value) h)
 stage_map f t (crashed was l) = crashed was l
 
--- it has just taken place, or ended
+-- the stage of a process whose operation has just taken place, or ended
 pub stage_begun : (F : Type 0) (T : Action → Type 0) (g : Action) (p : Process) → T g → Stage ⊥ (λ b. b ≡ g) p →
     Stage F T p
 stage_begun F T g p took h =

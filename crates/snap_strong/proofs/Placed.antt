@@ -74,13 +74,13 @@ module _ (r : Run) where
   abbrev pub GoesOn : ℕ → ℕ → Op → ℕ → Type 0
   GoesOn i c op t = (u : ℕ) → c < u → u < t → who (item r u) ≡ i → EndsWith op (outcome_at r u) → ⊥
 
-  -- its end, where it has ended up to item t
+  -- the end of an operation, if it has ended up to item t
   abbrev pub EndUpTo : ℕ → ℕ → Action → ℕ → Option ℕ → Type 0
   EndUpTo i c b t None = GoesOn i c (op_of b) (suc t)
   EndUpTo i c b t (Some e) =
       (c < e) × (e ≤ t) × (who (item r e) ≡ i) × (outcome_at r e ≡ outcome_of b) × GoesOn i c (op_of b) e
 
-  -- It was called, and has ended so, among the first t items.
+  -- An operation was called, and has ended as it says, among the first t items.
   pub record Placed (t : ℕ) (o : Operation) : Type 0 where
     pub one : IsOneOf r.shape.n o.process
     pub call_is : item r o.call ≡ Call o.process (op_of o.action)
@@ -115,7 +115,7 @@ module _ (r : Run) where
     end = end_longer o.process o.call t o.action o.end none h.end;
   }
 
-  -- where it does
+  -- where item t + 1 ends the operation
   end_closed : (i c t k : ℕ) (b : Action) (end : Option ℕ) (his : Bool) → nat_eq i k ≡ his → who (item r (suc t)) ≡ k →
       c ≤ t →
       (i ≡ k → end ≡ None → outcome_at r (suc t) ≡ outcome_of b) → EndUpTo i c b t end →
@@ -141,7 +141,7 @@ module _ (r : Run) where
     end = end_closed o.process o.call t k o.action o.end (nat_eq o.process k) refl at h.order ends h.end;
   }
 
-  -- One that has ended ended before item t + 1 or at it.
+  -- An operation that has ended by item t + 1 ended before that item or at it.
   end_shorter : (i c t e : ℕ) (b : Action) (end : Option ℕ) → end ≡ Some e → EndUpTo i c b (suc t) end →
       EndUpTo i c b t end ⊎ (e ≡ suc t)
   end_shorter i c t e b None some h = absurd (cc)
@@ -177,7 +177,7 @@ module _ (r : Run) where
         | inr now ↦ inr (some.1 ∙ ap (λ y. Some y) now)
       ]
 
-  -- it does not end before itself is called
+  -- an operation does not end before itself is called
   pub not_before_itself : (t : ℕ) (o : Operation) → Placed t o → EndedBefore o o → ⊥
   not_before_itself t o h before =
       let end = ended_at t before.0 o before.1 h in
@@ -250,7 +250,7 @@ module _ (r : Run) where
   pub completed : (o : Operation) → Placed (length r.items) o → IsCompleted r o
   completed o h = completed_by o.process o.call o.action o.end h.one h.call_is h.called h.first h.order h.end
 
-  -- And an operation of the run that has ended has taken place.
+  -- An operation of the run that has ended has taken place.
   placed_by : (i c e : ℕ) (b : Action) → TookPlace r i c (Some e) b →
       Placed (length r.items) (record { process = i; call = c; end = Some e; action = b })
   placed_by i c e (Sets word value) took =
@@ -317,7 +317,7 @@ Contains-map f os o there =
     let lt : there.0 < length os = there.1 in
     (there.0, omega (arith, length-map os f), get_or-map f os there.0 o (f o) lt ∙ ap f there.2)
 
--- they stay apart, where what ends was called before
+-- operations stay apart where one ends that ends after the other was called
 apart_ended : (k e : ℕ) (x y : Operation) → x.call < e → Apart x y → Apart (ended k e x) (ended k e y)
 apart_ended k e x y early h = (
   h.0,

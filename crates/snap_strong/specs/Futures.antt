@@ -8,7 +8,7 @@ use Rattle.snap_runs_of_u.specs.ListingU.{listing_u}
 use Rattle.snap_runs_of_u.specs.Promises.{square, run_of}
 use Rattle.snap_strong.specs.StrongLinearization.{IsCompletedLinearization, BeginsWith, IsStronglyLinearizable}
 
--- so many steps of a process
+-- a number of steps of a process
 abbrev pub times : ℕ → ℕ → List Item
 times count i = replicate count (Step i)
 

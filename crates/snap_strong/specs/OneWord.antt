@@ -31,10 +31,10 @@ one_word = record {
       ∷ [];
 }
 
--- so many processes, and one word
+-- the shape of n processes and one word
 abbrev pub shared_by : ℕ → Counts
 shared_by n = record { n = n; w = 1 }
 
--- It is strongly linearizable, for every number of processes and in runs of any length.
+-- The listing of one word is strongly linearizable, for every number of processes and in runs of any length.
 abbrev pub OneWordIsStronglyLinearizable : Type 0
 OneWordIsStronglyLinearizable = (n : ℕ) → IsStronglyLinearizable one_word (shared_by n) None

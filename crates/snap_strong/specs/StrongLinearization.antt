@@ -56,7 +56,7 @@ pub record IsStrongChoice (source : Source) (shape : Counts) (most : Option ℕ)
       IsValidRun (run_of_items source shape (items ++ more)) →
       BeginsWith (choose (items ++ more)) (choose items)
 
--- There is one.
+-- A choice of linearizations is kept as runs go on.
 abbrev pub IsStronglyLinearizable : Source → Counts → (most : Option ℕ) → Type 0
 IsStronglyLinearizable source shape most =
     (choose : List Item → List Operation) × IsStrongChoice source shape most choose

@@ -1,4 +1,4 @@
-//! Strong linearizability, and that listing U has it not.
+//! Strong linearizability, and that listing U is not strongly linearizable.
 #![tactic(auto)]
 
 ghost use Rattle.snap_strong.specs.StrongLinearization.{LinearizationsAreCompleted};
@@ -23,13 +23,13 @@ pub fn has_two_futures()
     ensures { HasTwoFutures }
 {}
 
-/// No linearization of that run is the beginning of linearizations of both.
+/// No linearization of the run with two futures is the beginning of linearizations of both.
 pub fn none_serves_both()
     ensures { NoneServesBoth }
 {}
 
-/// U is not strongly linearizable, for three processes: no choice of linearizations, even of those
-/// runs alone that have fewer than 2^64 items, is kept as runs go on.
+/// Listing U is not strongly linearizable for three processes: no choice of linearizations, even of
+/// the runs of fewer than 2^64 items alone, is kept as runs go on.
 pub fn u_is_not_strongly_linearizable()
     ensures { UIsNotStronglyLinearizable }
 {}

@@ -71,7 +71,7 @@ over_texts l texts ss vs text clean read are written told =
           ∙ ap Ok (sym (told ∙ ap (list_all is_clean) found.2)),
     )
 
--- and for an input
+-- what was judged for an input
 module _ (s : Subject) (parts found texts : List (List ℕ)) (l : Source)
     (are_counted : checked_schedules s parts ≡ Ok tt) (are_found : found ≡ parts)
     (is_listing : listing_for s found ≡ Ok l) (are_texts : texts ≡ texts_for s found) where

@@ -34,7 +34,7 @@ gathered E l ss answers (Ok v) each all =
     (in_order E l ss all.0 (subst (AllZip (IsSurveyed E l) ss) all.1 each))
 gathered E l ss answers (Err e) each all = tt
 
--- the same of a chain over references that show the schedules, whose closure has its program by another way
+-- a chain side by side over references that show the schedules, whose closure has its program by another way
 pub side_by_side : {E : Type 0} (held program : Source) → held ≡ program →
     (seen : List (Bor Schedule)) (ss : List Schedule) → map (λ (z : Bor Schedule). z.now) seen ≡ ss →
     (answers : List (Result JudgedSurvey E)) (result : Result (Vec JudgedSurvey Global) E) →

@@ -83,7 +83,7 @@ one_more false x k h = omega arith
 most_moved : (a b c : ℕ) → max (max b a) c ≡ max a (max b c)
 most_moved a b c = omega arith
 
--- the same sum, with one survey counted
+-- the sum stays the same with one survey counted
 same_total : (m : Summary) (s : JudgedSurvey) (left : List JudgedSurvey) →
     together (with_survey m s) (summary_of left) ≡ together m (summary_of (s ∷ left))
 same_total m s left =

@@ -81,7 +81,7 @@ abbrev pub trap_of : ℕ → ℕ → Status → Option Trap
 trap_of t i (Trapped cause a) = Some (record { item = t; process = i; line = a.line; cause = cause })
 trap_of t i _ = None
 
--- the same, where the item's outcome is a trap
+-- the trap by an item of process i, if the item's outcome is a trap
 abbrev pub trap_by : ℕ → ℕ → Outcome → Status → Option Trap
 trap_by t i (outcome.Trapped cause) s = trap_of t i s
 trap_by t i _ s = None
@@ -95,7 +95,7 @@ abbrev pub skip_by : ℕ → ℕ → Outcome → Option Skip
 skip_by t i (outcome.Skipped reason) = Some (record { item = t; process = i; reason = reason })
 skip_by t i _ = None
 
--- that item t is skipped
+-- the skip at item t
 abbrev pub skip_at : Run → ℕ → Option Skip
 skip_at r t = skip_by t (who (item r t)) (outcome_at r t)
 
@@ -135,7 +135,7 @@ survey_of r = record {
   first_skip = first_found (skip_at r) (length r.items);
 }
 
--- the same, with what was judged of the run
+-- the survey of a run, with what was judged of the run
 abbrev pub judged_survey : Run → Judgement → JudgedSurvey
 judged_survey r j = record { survey = survey_of r; linearizability = word_of j }
 

@@ -44,11 +44,11 @@ are_clean judged l texts = do
 unfoldable pub surveyed : List Judgement → Subject → List (List ℕ) → Result (List ℕ) Refusal
 surveyed judged s parts = over_schedules s parts (survey_text judged)
 
--- the same: whether the run of each schedule is clean
+-- whether the run of each schedule is clean
 unfoldable pub clean_runs : List Judgement → Subject → List (List ℕ) → Result Bool Refusal
 clean_runs judged s parts = over_schedules s parts (are_clean judged)
 
--- This was judged of the runs of a listing over schedules, one for each.
+-- What was judged of the runs of a listing over schedules, one for each.
 abbrev pub WereJudged : Source → List Schedule → List Judgement → Type 0
 WereJudged l [] [] = Unit {0}
 WereJudged l (s ∷ ss) (j ∷ js) = IsRunJudgement most_configurations (run_over l s) j × WereJudged l ss js
@@ -57,7 +57,7 @@ WereJudged l _ _ = ⊥
 abbrev pub WereJudgedOver : Source → List (List ℕ) → List Judgement → Type 0
 WereJudgedOver l texts judged = (ss : List Schedule) → schedules_for l texts ≡ Ok ss → WereJudged l ss judged
 
--- This was judged of the runs that an input asks for.
+-- What was judged of the runs of an input.
 abbrev pub WereJudgedIn : Subject → List (List ℕ) → List Judgement → Type 0
 WereJudgedIn subject parts judged =
     (l : Source) → listing_for subject parts ≡ Ok l → WereJudgedOver l (texts_for subject parts) judged

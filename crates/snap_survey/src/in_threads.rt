@@ -14,8 +14,12 @@ use snap_tasks::Subject;
 use std::alloc::Global;
 use std::thread::Threads;
 
-/// What the runs of a listing under many schedules came to, and whether each of them is clean. The
-/// schedules are read and run side by side.
+/// Returns what the runs of a listing under many schedules came to, and whether each of them is
+/// clean. The schedules are read and run side by side.
+///
+/// # Errors
+///
+/// `Refused` with the reason why `input` is refused; `Memory` where memory runs out.
 #[tactic(auto, unfolding(crate::specs::Surveys::surveyed, crate::specs::Surveys::clean_runs))]
 pub fn survey_in_threads(
     rt: &(impl Threads + Sync),

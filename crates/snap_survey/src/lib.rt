@@ -1,6 +1,6 @@
 //! What a run came to: what was called, what was answered and done, each way in which an operation
-//! did not end, and whether the run is linearizable. It explains an audit that finds little. What
-//! the task `survey` writes of many runs is here too.
+//! did not end, and whether the run is linearizable, which explains an audit that finds little. The
+//! output of the task `survey` on many runs is here too.
 #![tactic(auto)]
 
 mod findings;

@@ -5,7 +5,7 @@ ghost use Rattle.snap_survey.specs.Survey.{most_collects, without_point};
 
 use snap_runs::Verdict;
 
-/// How many scans have no point.
+/// Returns how many scans have no point.
 pub(crate) fn without_point(verdicts: &[Verdict]) -> u64
     ensures { result ≡ without_point verdicts.now }
 {
@@ -18,7 +18,7 @@ pub(crate) fn without_point(verdicts: &[Verdict]) -> u64
     missing
 }
 
-/// The most double collects of a scan, and 0 where there is no scan.
+/// Returns the most double collects of a scan, and 0 where there is no scan.
 pub(crate) fn most_collects(verdicts: &[Verdict]) -> u64
     ensures { result ≡ most_collects verdicts.now }
 {

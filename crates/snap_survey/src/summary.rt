@@ -6,7 +6,7 @@ ghost use Rattle.snap_survey.specs.Summary.{AreFewer, counted_if, no_runs, summa
 use crate::findings::JudgedSurvey;
 use crate::words::{is_linearizable, is_not_linearizable, is_undecided};
 
-/// In how many of many runs there is what the fields of a survey count, and how many of them are
+/// How many of many runs have what the fields of a survey count, and how many of them are
 /// linearizable.
 #[derive(Clone, Copy, PartialEq, Eq)]
 pub struct Summary {
@@ -28,11 +28,11 @@ pub struct Summary {
     pub linearizable: u64,
     /// Runs that are not linearizable.
     pub not_linearizable: u64,
-    /// Runs of which neither was found.
+    /// Runs of which it is undecided whether they are linearizable.
     pub undecided: u64,
 }
 
-/// One more where something was found.
+/// Returns one more where something was found.
 fn counted_if(count: u64, found: bool) -> u64
     requires { count + 1 < 2 ^ 64 }
     ensures { result ≡ counted_if count found }
@@ -41,7 +41,7 @@ fn counted_if(count: u64, found: bool) -> u64
 }
 
 impl Summary {
-    /// Of no run.
+    /// Returns the summary of no run.
     fn new() -> Summary
         ensures { result ≡ no_runs }
     {
@@ -61,7 +61,7 @@ impl Summary {
         }
     }
 
-    /// Adds one run more.
+    /// Appends one run more.
     fn add(&mut self, judged: &JudgedSurvey)
         requires few { AreFewer self.old (self.old.schedules + 1) }
         requires room { self.old.schedules + 1 < 2 ^ 64 }
@@ -84,7 +84,7 @@ impl Summary {
     }
 }
 
-/// What the runs of these surveys came to together.
+/// Returns what the runs of `surveys` came to together.
 pub fn summary_of(surveys: &[JudgedSurvey]) -> Summary
     ensures { result ≡ summary_of surveys.now }
 {

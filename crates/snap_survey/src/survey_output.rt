@@ -15,7 +15,7 @@ use snap_semantics::{Fault, Refusal};
 use std::alloc::{AllocError, Global};
 use std::thread::Threads;
 
-/// Adds the lines of surveys, each with the number of its schedule.
+/// Appends the lines of surveys, each with the number of its schedule.
 fn push_survey_lines(out: &mut Vec<u8>, surveys: &[JudgedSurvey]) -> Result<(), AllocError>
     ensures { OnOk result (out.new.items ≡ out.old.items ++ survey_lines 1 surveys.now) }
 {
@@ -25,7 +25,7 @@ fn push_survey_lines(out: &mut Vec<u8>, surveys: &[JudgedSurvey]) -> Result<(), 
     Ok(())
 }
 
-/// A line for each survey, and one for all of them.
+/// Returns a line for each survey, and one for all of them.
 fn surveys_text(alloc: Global, surveys: &[JudgedSurvey]) -> Result<Vec<u8>, AllocError>
     ensures { IfOk result (λ out. out.items ≡ surveys_text surveys.now) }
 {
@@ -35,28 +35,28 @@ fn surveys_text(alloc: Global, surveys: &[JudgedSurvey]) -> Result<Vec<u8>, Allo
     Ok(out)
 }
 
-/// Whether a run is not found to be not linearizable, and no item trapped its process.
+/// Returns whether a run is not found to be not linearizable, and no item trapped its process.
 fn is_clean(judged: &JudgedSurvey) -> bool
     ensures { result ≡ is_clean judged.now }
 {
     !is_not_linearizable(judged.linearizability) && judged.survey.traps == 0
 }
 
-/// Whether each run is clean.
+/// Returns whether each run is clean.
 fn are_clean(surveys: &[JudgedSurvey]) -> bool
     ensures { result ≡ list_all is_clean surveys.now }
 {
     surveys.iter().all(|survey| is_clean(survey))
 }
 
-/// What is written of many runs, and whether each of them is clean.
+/// The output on many runs, and whether each of them is clean.
 #[derive(Drop)]
 pub struct SurveyOutput {
     pub text: Vec<u8>,
     pub clean: bool,
 }
 
-/// What is written of these surveys, and whether each of them is clean.
+/// Returns the output on `surveys`, and whether each of them is clean.
 fn output_of(alloc: Global, surveys: &[JudgedSurvey]) -> Result<SurveyOutput, AllocError>
     ensures text { IfOk result (λ out. out.text.items ≡ surveys_text surveys.now) }
     ensures clean { IfOk result (λ out. out.clean ≡ list_all is_clean surveys.now) }
@@ -67,8 +67,12 @@ fn output_of(alloc: Global, surveys: &[JudgedSurvey]) -> Result<SurveyOutput, Al
     })
 }
 
-/// What the run of a program over each of many schedules came to, a line for each, and one for all
+/// Returns what the run of `program` over each of `texts` came to, a line for each, and one for all
 /// of them; and whether each of the runs is clean.
+///
+/// # Errors
+///
+/// `Refused` with the reason why the first text that is refused is; `Memory` where memory runs out.
 #[tactic(auto, unfolding(crate::specs::Surveys::survey_text, crate::specs::Surveys::are_clean))]
 pub fn survey_runs(
     alloc: Global,
@@ -85,7 +89,11 @@ pub fn survey_runs(
     Ok(output_of(alloc, surveys.as_slice())?)
 }
 
-/// The same, with the schedules read and run side by side.
+/// Returns what `survey_runs` returns, with the schedules read and run side by side.
+///
+/// # Errors
+///
+/// `Refused` with the reason why the first text that is refused is; `Memory` where memory runs out.
 #[tactic(auto, unfolding(crate::specs::Surveys::survey_text, crate::specs::Surveys::are_clean))]
 pub fn survey_runs_in_threads(
     rt: &(impl Threads + Sync),

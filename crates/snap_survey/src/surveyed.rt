@@ -22,7 +22,7 @@ use snap_walk::{Passed, Walk};
 use snap_words::Kind;
 use std::alloc::{AllocError, Global};
 
-/// Notes in a tally the item that was passed last.
+/// Notes the item that was passed last in a tally.
 #[inline(always)]
 fn note<K: Kind>(tally: &mut Tally, walk: &Walk<'_, K>, passed: &Passed)
     requires passed { (w : Way) × Passes w passed.now walk.now × (tally.old ≡ tally_of w.run w.at) }
@@ -37,7 +37,7 @@ fn note<K: Kind>(tally: &mut Tally, walk: &Walk<'_, K>, passed: &Passed)
     tally.note(passed.number, passed.item, &passed.outcome, status);
 }
 
-/// How many processes are at an operation, or were at one when they trapped or crashed.
+/// Returns how many processes are at an operation, or were at one when they trapped or crashed.
 fn open_operations<K: Kind>(machine: &Machine<K>) -> u64
     ensures { result ≡ count (is_open_in machine.now.state) 0 machine.now.shape.n }
 {
@@ -50,7 +50,7 @@ fn open_operations<K: Kind>(machine: &Machine<K>) -> u64
     open
 }
 
-/// What a run came to, behind its last item.
+/// Returns what a run came to, behind its last item.
 fn survey_of<K: Kind>(
     alloc: Global,
     walk: &Walk<'_, K>,
@@ -79,7 +79,7 @@ fn survey_of<K: Kind>(
     })
 }
 
-/// The same, and whether the run is linearizable.
+/// Returns what the run came to, and whether it is linearizable.
 fn judged_survey<K: Kind>(
     alloc: Global,
     walk: &Walk<'_, K>,
@@ -104,7 +104,11 @@ fn judged_survey<K: Kind>(
     })
 }
 
-/// What the run of a program over a schedule came to, and whether it is linearizable.
+/// Returns what the run of `program` over `schedule` came to, and whether it is linearizable.
+///
+/// # Errors
+///
+/// `AllocError` where memory runs out.
 pub fn survey<K: Kind>(
     alloc: Global,
     program: &Program,

@@ -16,7 +16,7 @@ use snap_words::{Bits, KindTag, Multi, Seq};
 use std::alloc::{AllocError, Global};
 use std::thread::Threads;
 
-/// What the run over a schedule came to.
+/// Returns what the run over a schedule came to.
 fn survey_of(
     alloc: Global,
     program: &Program,
@@ -31,7 +31,7 @@ fn survey_of(
     }
 }
 
-/// What the run over each of these schedules came to, in the order of the schedules.
+/// Returns what the run over each of `schedules` came to, in their order.
 pub(crate) fn surveys_alone(
     alloc: Global,
     program: &Program,
@@ -46,7 +46,8 @@ pub(crate) fn surveys_alone(
     Ok(surveys)
 }
 
-/// The same, whichever thread made each survey and when.
+/// Returns what the run over each of `schedules` came to, in their order, whichever thread made it
+/// and when.
 fn surveys_side_by_side(
     rt: &(impl Threads + Sync),
     alloc: Global,
@@ -55,8 +56,8 @@ fn surveys_side_by_side(
 ) -> Result<Vec<JudgedSurvey>, AllocError>
     ensures { IfOk result (λ surveys. AreSurveysOf program.now schedules.now surveys.items) }
 {
-    // Each schedule is worth a thread; a chain of rayon's runs in one thread where it is short,
-    // unless it is told so.
+    // Each schedule is worth a thread. A chain of rayon runs in one thread if it is short, unless
+    // it is told otherwise.
     let surveys: Result<Vec<JudgedSurvey>, AllocError> = schedules
         .par_iter()
         .with_min_len(1)
@@ -69,7 +70,8 @@ fn surveys_side_by_side(
     surveys
 }
 
-/// The same side by side, and one after another where there is no memory for that.
+/// Returns what the run over each of `schedules` came to, made side by side, or one after another
+/// if memory runs out for that.
 pub(crate) fn surveys_in_threads(
     rt: &(impl Threads + Sync),
     alloc: Global,
@@ -84,8 +86,8 @@ pub(crate) fn surveys_in_threads(
     }
 }
 
-/// Reads schedules whose shapes fit a program, side by side, and once more one after another where
-/// one of them has a fault: that finds the first fault, and takes less memory.
+/// Reads schedules whose shapes fit a program, side by side, and once more one after another if one
+/// of them has a fault, which finds the first fault, and takes less memory.
 pub(crate) fn read_in_threads(
     rt: &(impl Threads + Sync),
     alloc: Global,

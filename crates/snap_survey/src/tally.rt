@@ -19,7 +19,7 @@ pub(crate) struct Tally {
     pub(crate) first_skip: Option<Skip>,
 }
 
-/// The trap of a process by an item of this number, after which it stands so.
+/// Returns the trap of a process by item number `number`, after which it has this status.
 fn trap_of(number: u64, process: u32, status: Status) -> Option<Trap>
     ensures { result ≡ trap_of number process status }
 {
@@ -35,7 +35,7 @@ fn trap_of(number: u64, process: u32, status: Status) -> Option<Trap>
 }
 
 impl Tally {
-    /// Before the first item.
+    /// Returns the tally before the first item.
     pub(crate) fn new() -> Tally
         ensures { result ≡ none_noted }
     {
@@ -51,7 +51,7 @@ impl Tally {
         }
     }
 
-    /// Notes the item of this number, after which its process stands so.
+    /// Notes item number `number`, after which its process has this status.
     pub(crate) fn note(&mut self, number: u64, item: Item, outcome: &Outcome, status: Status)
         requires { IsWithin self.old number }
         ensures { self.new ≡ noted self.old number item outcome.now status }

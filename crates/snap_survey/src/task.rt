@@ -12,7 +12,12 @@ use snap_semantics::{Fault, Refusal};
 use snap_tasks::Subject;
 use std::alloc::Global;
 
-/// What the runs of a listing under many schedules came to, and whether each of them is clean.
+/// Returns what the runs of a listing under many schedules came to, and whether each of them is
+/// clean.
+///
+/// # Errors
+///
+/// `Refused` with the reason why `input` is refused; `Memory` where memory runs out.
 #[tactic(auto, unfolding(crate::specs::Surveys::surveyed, crate::specs::Surveys::clean_runs))]
 pub fn survey_input(
     alloc: Global,

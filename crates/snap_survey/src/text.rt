@@ -26,7 +26,7 @@ use snap_semantics::Outcome;
 use snap_text::{push_number, push_text};
 use std::alloc::AllocError;
 
-/// A number behind its name.
+/// Appends a number behind its name.
 #[tactic(auto, using(snap_text::proofs::Texts::joined), unfolding(crate::specs::SurveyText::field_text))]
 fn push_field(out: &mut Vec<u8>, name: &[u8], number: u64) -> Result<(), AllocError>
     ensures { OnOk result (out.new.items ≡ out.old.items ++ field_text name.now number) }
@@ -35,8 +35,8 @@ fn push_field(out: &mut Vec<u8>, name: &[u8], number: u64) -> Result<(), AllocEr
     push_number(out, number)
 }
 
-/// Scans that were answered, and those that were called; those without a point; the most double
-/// collects of one.
+/// Appends how many scans were answered, and how many were called; how many lack a point; and the
+/// most double collects of one.
 #[tactic(auto, using(snap_text::proofs::Texts::joined), unfolding(crate::specs::SurveyText::scans_text))]
 fn scans_text(out: &mut Vec<u8>, survey: &Survey) -> Result<(), AllocError>
     ensures { OnOk result (out.new.items ≡ out.old.items ++ scans_text survey.now) }
@@ -47,7 +47,8 @@ fn scans_text(out: &mut Vec<u8>, survey: &Survey) -> Result<(), AllocError>
     push_field(out, b" collects ", survey.most_collects)
 }
 
-/// Updates that are done, and those that were called; operations that have not ended.
+/// Appends how many updates are done, and how many were called; and how many operations have not
+/// ended.
 #[tactic(auto, using(snap_text::proofs::Texts::joined), unfolding(crate::specs::SurveyText::updates_text))]
 fn updates_text(out: &mut Vec<u8>, survey: &Survey) -> Result<(), AllocError>
     ensures { OnOk result (out.new.items ≡ out.old.items ++ updates_text survey.now) }
@@ -57,7 +58,7 @@ fn updates_text(out: &mut Vec<u8>, survey: &Survey) -> Result<(), AllocError>
     push_field(out, b" open ", survey.open_operations)
 }
 
-/// Items that trapped or crashed their process, or were skipped.
+/// Appends how many items trapped or crashed their process, or were skipped.
 #[tactic(auto, using(snap_text::proofs::Texts::joined), unfolding(crate::specs::SurveyText::halts_text))]
 fn halts_text(out: &mut Vec<u8>, survey: &Survey) -> Result<(), AllocError>
     ensures { OnOk result (out.new.items ≡ out.old.items ++ halts_text survey.now) }
@@ -67,7 +68,7 @@ fn halts_text(out: &mut Vec<u8>, survey: &Survey) -> Result<(), AllocError>
     push_field(out, b" skips ", survey.skips)
 }
 
-/// An item and its process.
+/// Appends an item and its process.
 #[tactic(auto, using(snap_text::proofs::Texts::joined), unfolding(crate::specs::SurveyText::first_text))]
 fn first_text(out: &mut Vec<u8>, item: u64, process: u64) -> Result<(), AllocError>
     ensures { OnOk result (out.new.items ≡ out.old.items ++ first_text item process) }
@@ -77,7 +78,7 @@ fn first_text(out: &mut Vec<u8>, item: u64, process: u64) -> Result<(), AllocErr
     push_field(out, b" process ", process)
 }
 
-/// The first trap, where there is one.
+/// Appends the first trap, if there is one.
 #[tactic(auto, using(snap_text::proofs::Texts::joined), unfolding(crate::specs::SurveyText::trap_text))]
 fn trap_text(out: &mut Vec<u8>, trap: Option<Trap>) -> Result<(), AllocError>
     ensures { OnOk result (out.new.items ≡ out.old.items ++ trap_text trap) }
@@ -91,7 +92,7 @@ fn trap_text(out: &mut Vec<u8>, trap: Option<Trap>) -> Result<(), AllocError>
     push_field(out, b" at ", trap.line)
 }
 
-/// The first skipped item, where there is one.
+/// Appends the first skipped item, if there is one.
 #[tactic(auto, using(snap_text::proofs::Texts::joined), unfolding(crate::specs::SurveyText::skip_text))]
 fn skip_text(out: &mut Vec<u8>, skip: Option<Skip>) -> Result<(), AllocError>
     ensures { OnOk result (out.new.items ≡ out.old.items ++ skip_text skip) }
@@ -104,7 +105,7 @@ fn skip_text(out: &mut Vec<u8>, skip: Option<Skip>) -> Result<(), AllocError>
     outcome_text(out, &Outcome::Skipped(skip.reason))
 }
 
-/// The word for a run, at the end of its line.
+/// Appends the word for a run, at the end of its line.
 fn word_text(out: &mut Vec<u8>, word: Linearizability) -> Result<(), AllocError>
     ensures { OnOk result (out.new.items ≡ out.old.items ++ word_text word) }
 {
@@ -115,7 +116,7 @@ fn word_text(out: &mut Vec<u8>, word: Linearizability) -> Result<(), AllocError>
     }
 }
 
-/// A survey, in numbers, and what it has of a first trap and a first skipped item.
+/// Appends a survey, in numbers, and its first trap and first skipped item.
 #[tactic(auto, using(snap_text::proofs::Texts::joined), unfolding(crate::specs::SurveyText::counts_text))]
 fn counts_text(out: &mut Vec<u8>, survey: &Survey) -> Result<(), AllocError>
     ensures { OnOk result (out.new.items ≡ out.old.items ++ counts_text survey.now) }
@@ -127,7 +128,11 @@ fn counts_text(out: &mut Vec<u8>, survey: &Survey) -> Result<(), AllocError>
     skip_text(out, survey.first_skip)
 }
 
-/// What the run over the schedule of this number came to, in one line.
+/// Appends what the run over the schedule of this number came to, in one line.
+///
+/// # Errors
+///
+/// `AllocError` where memory runs out.
 #[tactic(auto, using(snap_text::proofs::Texts::joined), unfolding(crate::specs::SurveyText::survey_line))]
 pub fn survey_line(out: &mut Vec<u8>, number: u64, judged: &JudgedSurvey) -> Result<(), AllocError>
     ensures { OnOk result (out.new.items ≡ out.old.items ++ survey_line number judged.now) }
@@ -138,7 +143,8 @@ pub fn survey_line(out: &mut Vec<u8>, number: u64, judged: &JudgedSurvey) -> Res
     push_text(out, b"\n")
 }
 
-/// The runs in which scans were answered, and have no point; the most double collects of a scan.
+/// Appends the runs in which scans were answered, and have no point; the most double collects of a
+/// scan.
 #[tactic(auto, using(snap_text::proofs::Texts::joined), unfolding(crate::specs::SurveyText::summary_scans))]
 fn summary_scans(out: &mut Vec<u8>, summary: &Summary) -> Result<(), AllocError>
     ensures { OnOk result (out.new.items ≡ out.old.items ++ summary_scans summary.now) }
@@ -148,7 +154,7 @@ fn summary_scans(out: &mut Vec<u8>, summary: &Summary) -> Result<(), AllocError>
     push_field(out, b" collects ", summary.most_collects)
 }
 
-/// The runs in which updates are done, and operations have not ended.
+/// Appends the runs in which updates are done, and operations have not ended.
 #[tactic(auto, using(snap_text::proofs::Texts::joined), unfolding(crate::specs::SurveyText::summary_updates))]
 fn summary_updates(out: &mut Vec<u8>, summary: &Summary) -> Result<(), AllocError>
     ensures { OnOk result (out.new.items ≡ out.old.items ++ summary_updates summary.now) }
@@ -157,7 +163,7 @@ fn summary_updates(out: &mut Vec<u8>, summary: &Summary) -> Result<(), AllocErro
     push_field(out, b" open ", summary.unfinished)
 }
 
-/// The runs with traps, crashes and skipped items.
+/// Appends the runs with traps, crashes and skipped items.
 #[tactic(auto, using(snap_text::proofs::Texts::joined), unfolding(crate::specs::SurveyText::summary_halts))]
 fn summary_halts(out: &mut Vec<u8>, summary: &Summary) -> Result<(), AllocError>
     ensures { OnOk result (out.new.items ≡ out.old.items ++ summary_halts summary.now) }
@@ -167,7 +173,7 @@ fn summary_halts(out: &mut Vec<u8>, summary: &Summary) -> Result<(), AllocError>
     push_field(out, b" skips ", summary.skipping)
 }
 
-/// The runs that are linearizable, that are not, and those of which neither was found.
+/// Appends how many runs are linearizable, how many are not, and of how many it is undecided.
 #[tactic(auto, using(snap_text::proofs::Texts::joined), unfolding(crate::specs::SurveyText::summary_words))]
 fn summary_words(out: &mut Vec<u8>, summary: &Summary) -> Result<(), AllocError>
     ensures { OnOk result (out.new.items ≡ out.old.items ++ summary_words summary.now) }
@@ -177,7 +183,11 @@ fn summary_words(out: &mut Vec<u8>, summary: &Summary) -> Result<(), AllocError>
     push_field(out, b" undecided ", summary.undecided)
 }
 
-/// In how many of many runs there is what the fields of a survey count, in one line.
+/// Appends how many of many runs have what the fields of a survey count, in one line.
+///
+/// # Errors
+///
+/// `AllocError` where memory runs out.
 #[tactic(auto, using(snap_text::proofs::Texts::joined), unfolding(crate::specs::SurveyText::summary_line))]
 pub fn summary_line(out: &mut Vec<u8>, summary: &Summary) -> Result<(), AllocError>
     ensures { OnOk result (out.new.items ≡ out.old.items ++ summary_line summary.now) }

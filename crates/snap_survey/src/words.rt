@@ -4,21 +4,21 @@ ghost use Rattle.snap_survey.specs.Words.{is_linearizable, is_not_linearizable, 
 
 use snap_run_judge::Linearizability;
 
-/// Whether a run is linearizable.
+/// Returns whether a run is linearizable.
 pub(crate) fn is_linearizable(word: Linearizability) -> bool
     ensures { result ≡ is_linearizable word }
 {
     matches!(word, Linearizability::Linearizable)
 }
 
-/// Whether a run is not linearizable.
+/// Returns whether a run is not linearizable.
 pub(crate) fn is_not_linearizable(word: Linearizability) -> bool
     ensures { result ≡ is_not_linearizable word }
 {
     matches!(word, Linearizability::NotLinearizable)
 }
 
-/// Whether it was not decided if a run is linearizable.
+/// Returns whether it is undecided if a run is linearizable.
 pub(crate) fn is_undecided(word: Linearizability) -> bool
     ensures { result ≡ is_undecided word }
 {

@@ -1,5 +1,5 @@
-//! `JudgeRequest`: what is to be judged, the run of a listing or a history, and how far an order is
-//! sought that explains it.
+//! `JudgeRequest`: what is to be judged, the run of a listing or a history, and how many
+//! configurations a search for an order keeps at most.
 use crate::subject::Subject;
 
 /// What is judged.

@@ -1,5 +1,5 @@
-//! `Request`: what a subcommand asks the program for, a `Task`, a live run, a judgement or a model;
-//! `request_of` finds it by the subcommand's name and its `Options`.
+//! `Request`: what a subcommand asks the program for: a `Task`, a live run, a judgement or a model.
+//! `request_of` finds the request by the subcommand's name and its `Options`.
 ghost use Rattle.std.specs.Prelude.{◌≡◌, IfSome};
 ghost use Rattle.snap_tasks.specs.Request.{AreOptions, HasLimit, request_of, kind_of, source_of};
 
@@ -12,30 +12,31 @@ use snap_words::KindTag;
 #[derive(Clone, Copy, PartialEq, Eq)]
 pub enum Request {
     Do(Task),
-    /// A live run, in which each process makes at most so many turns.
+    /// A live run, and the most turns that a process makes in it.
     Live(Subject, u64),
     /// Whether a run or a history is linearizable.
     Judge(JudgeRequest),
-    /// A model of a listing and scripts, in which at most so many processes crash at any time.
+    /// A model of a listing and scripts for a model checker, and the most processes that crash in
+    /// it.
     Model(Subject, u64),
 }
 
 /// What the options of a subcommand say.
 #[derive(Clone, Copy, PartialEq, Eq)]
 pub struct Options {
-    /// The listing, where the subcommand runs one.
+    /// The listing, for a subcommand that runs one.
     pub subject: Subject,
-    /// The most turns of a process, where it plays scripts.
+    /// The most turns of a process, for a subcommand that plays scripts.
     pub limit: u64,
-    /// Whether the input is a history, where it judges.
+    /// Whether the input is a history, for a judgement.
     pub history: bool,
-    /// The most configurations that a search keeps, where it judges.
+    /// The most configurations that a search keeps, for a judgement.
     pub most: u64,
-    /// How many processes may crash at any time, where it writes a model.
+    /// The most processes that crash, for a model.
     pub crashes: u64,
 }
 
-/// The kind of this name.
+/// Returns the kind of registers that `name` means; `None` where it means none.
 pub fn kind_of(name: &str) -> Option<KindTag>
     ensures { result ≡ kind_of name.now }
 {
@@ -47,7 +48,7 @@ pub fn kind_of(name: &str) -> Option<KindTag>
     }
 }
 
-/// What is judged.
+/// Returns what is judged.
 fn source_of(options: &Options) -> JudgeSource
     ensures { result ≡ source_of options.now }
 {
@@ -58,7 +59,8 @@ fn source_of(options: &Options) -> JudgeSource
     }
 }
 
-/// What the subcommand of this name asks for, with these options.
+/// Returns what the subcommand `name` asks for, with these options; `None` where there is no such
+/// subcommand.
 pub fn request_of(name: &str, options: &Options) -> Option<Request>
     requires { AreOptions options.now }
     ensures named { result ≡ request_of name.now options.now }

@@ -1,5 +1,5 @@
 //! `Subject`: which listing a task runs, the first part of the input or the one shipped for a kind
-//! of registers. The program of it is made elsewhere.
+//! of registers. The program of that listing is made elsewhere.
 use snap_words::KindTag;
 
 /// The listing that a task runs: the first part of the input,

@@ -118,7 +118,7 @@ line_before (b ∷ line) rest h =
     let parts = and_parts (is_plain b) (list_all is_plain line) h in
     feed_by b (line ++ 10 ∷ rest) (nat_eq b 10) parts.0 ∙ ap (onto_line b) (line_before line rest parts.1)
 
--- and its tokens before theirs
+-- the tokens of a line stand before those of the lines behind it
 pub numbered_before : (k : ℕ) (line : List ℕ) (lines : List (List ℕ)) (t : Token) (ts : List Token) →
     tokens_of line ≡ Some (t ∷ ts) →
     numbered k (line ∷ lines) ≡ record { number = k; tokens = Some (t ∷ ts) } ∷ numbered (k + 1) lines

@@ -109,7 +109,7 @@ tokens_laid k cs ((t ∷ ts) ∷ lines) good h =
     ∙ ap (λ (ls : List (Option (List Token))). Some (t ∷ ts) ∷ ls)
     (tokens_laid (k + 1) (other_comments cs) lines (others_good cs good) h.1)
 
--- and their comments
+-- the comments of lines that are laid out
 comments_laid : (cs : List Comment) (lines : List (List Token)) → length cs ≡ length lines →
     AllByRecursion IsComment cs → AllByRecursion IsSoundLine lines →
     line_comments (lines_of (commented_text cs lines)) ≡ cs

@@ -15,7 +15,7 @@ use Rattle.snap_text.specs.declared.lexer.Token as code
 use Rattle.snap_text.proofs.Splits.{behind}
 use Rattle.snap_text.specs.Tokens.{Finds, lexeme_len, marked, different, front_symbol, view_token, view_tokens}
 
--- these tokens before those
+-- tokens before others
 abbrev pub prepend : List Token → Option (List Token) → Option (List Token)
 prepend xs None = None
 prepend xs (Some ts) = Some (xs ++ ts)

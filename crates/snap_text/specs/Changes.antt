@@ -38,7 +38,7 @@ put (Replaced k x y) lines = take k lines ++ y ∷ drop (k + 1) lines
 put (Added k y) lines = lines ++ y ∷ []
 put (Removed k x) lines = take k lines
 
--- and after some changes, one after the other
+-- what several changes make, one after the other
 abbrev pub put_all : List Change → List (List ℕ) → List (List ℕ)
 put_all [] lines = lines
 put_all (c ∷ cs) lines = put_all cs (put c lines)

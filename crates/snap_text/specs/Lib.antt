@@ -1,4 +1,5 @@
 -- The definitions of snap_text, by their modules.
+pub mod Drafted
 pub mod Tokens
 pub mod Lines
 pub mod Numbers

@@ -16,6 +16,6 @@ IsNext (Some line) old new = old ≡ view_line line ∷ new
 abbrev pub line_tokens : List TextLine → List (Option (List Token))
 line_tokens lines = map (λ (line : TextLine). line.tokens) lines
 
--- these tokens, line by line, as they are found in a text
+-- tokens, line by line, as they are found in a text
 abbrev pub found_lines : List (List Token) → List (Option (List Token))
 found_lines lines = map (λ (ts : List Token). let line : Option (List Token) = Some ts in line) lines

@@ -8,7 +8,7 @@ ghost use Rattle.snap_text.specs.Numbers.{BeginsWithLine};
 use crate::numbers::number_front;
 use snap_semantics::Op;
 
-/// What stands behind ` scan` at the front.
+/// Returns what stands behind ` scan` at the front of `bytes`.
 #[inline(always)]
 fn behind_scan(bytes: &[u8]) -> Option<&[u8]>
     ensures { IfSome result (λ rest. bytes.now ≡ codes " scan" ++ rest.now) }
@@ -19,7 +19,7 @@ fn behind_scan(bytes: &[u8]) -> Option<&[u8]>
     }
 }
 
-/// What stands behind ` update ` at the front.
+/// Returns what stands behind ` update ` at the front of `bytes`.
 #[inline(always)]
 fn behind_update(bytes: &[u8]) -> Option<&[u8]>
     ensures { IfSome result (λ rest. bytes.now ≡ codes " update " ++ rest.now) }
@@ -30,7 +30,7 @@ fn behind_update(bytes: &[u8]) -> Option<&[u8]>
     }
 }
 
-/// What stands behind this byte at the front.
+/// Returns what stands behind `byte` at the front of `bytes`.
 #[inline(always)]
 fn behind_byte(byte: u8, bytes: &[u8]) -> Option<&[u8]>
     ensures { IfSome result (λ rest. bytes.now ≡ byte ∷ rest.now) }
@@ -41,7 +41,8 @@ fn behind_byte(byte: u8, bytes: &[u8]) -> Option<&[u8]>
     }
 }
 
-/// The operation at the front, as it stands behind its process, and what stands behind it.
+/// Reads the operation of a call, which stands behind its process, and returns what stands behind
+/// it too.
 fn op_front(bytes: &[u8]) -> Option<(Op, &[u8])>
     ensures { IfSome result (λ x. BeginsWithOp bytes.now x.0 x.1.now) }
 {
@@ -55,8 +56,8 @@ fn op_front(bytes: &[u8]) -> Option<(Op, &[u8])>
     Some((Op::Update { word, value }, rest))
 }
 
-/// The process and the operation of the call that the first line is, where it has its line feed,
-/// and the lines behind it.
+/// Reads the first line, if it is a call with its line feed: its process, its operation, and the
+/// lines behind it.
 pub(crate) fn call_front(bytes: &[u8]) -> Option<(u64, Op, &[u8])>
     ensures { IfSome result (λ x. BeginsWithLine bytes.now (spelled_call x.0 x.1) x.2.now) }
 {

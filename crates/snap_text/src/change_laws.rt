@@ -2,8 +2,8 @@
 //! lines, they make the new ones, and each says what it replaced.
 ghost use Rattle.snap_text.specs.ChangeLaws.{AreReal, MakeTheNew};
 
-/// Put into the old lines, the changes make the new ones; and each of them says what stood there,
-/// and what stands there now.
+/// Put into the old lines, the changes make the new ones; and each change says what stood there
+/// before, and what stands there after.
 pub fn changes_make_the_new_text()
     ensures make { MakeTheNew }
     ensures real { AreReal }

@@ -1,5 +1,5 @@
-//! `push_changes`: prints what changed from one text to
-//! another, old lines after `- ` and new ones after `+ `.
+//! `push_changes`: prints the changes from one text to another, old lines after `- ` and new ones
+//! after `+ `.
 ghost use Rattle.std.specs.Prelude.{◌≡◌, ◌<◌, ◌+◌, ◌++◌, ◌∷◌, IfOk, OnOk, codes, length};
 ghost use Rattle.snap_semantics.specs.Token.{lines_of};
 ghost use Rattle.snap_text.specs.Changes.{behind_first, changes_between, changes_text};
@@ -8,7 +8,7 @@ ghost use Rattle.snap_text.specs.Changes.{line_with, replaced_text, text_between
 use crate::push_text;
 use std::alloc::AllocError;
 
-/// The first line, without its line feed, and the lines behind it.
+/// Returns the first line, without its line feed, and the lines behind it.
 pub(crate) fn split_line(bytes: &[u8]) -> (&[u8], &[u8])
     requires { 0 < length bytes.now }
     ensures lines { lines_of bytes.now ≡ result.0.now ∷ lines_of result.1.now }
@@ -24,7 +24,7 @@ pub(crate) fn split_line(bytes: &[u8]) -> (&[u8], &[u8])
     (bytes, &bytes[bytes.len()..])
 }
 
-/// The text behind its first line.
+/// Returns `text` without its first line.
 pub fn behind_first_line(text: &[u8]) -> &[u8]
     ensures { lines_of result.now ≡ behind_first (lines_of text.now) }
 {
@@ -35,7 +35,7 @@ pub fn behind_first_line(text: &[u8]) -> &[u8]
     rest
 }
 
-/// Adds a line behind a mark.
+/// Appends `line` behind `mark`.
 #[tactic(auto, using(crate::proofs::Texts::joined))]
 fn push_line(out: &mut Vec<u8>, mark: &[u8], line: &[u8]) -> Result<(), AllocError>
     ensures { OnOk result (out.new.items ≡ out.old.items ++ line_with mark.now line.now) }
@@ -45,7 +45,7 @@ fn push_line(out: &mut Vec<u8>, mark: &[u8], line: &[u8]) -> Result<(), AllocErr
     push_text(out, b"\n")
 }
 
-/// Adds what stands in the place of a line now, where it is another line.
+/// Appends the line that stands in the place of `before`, if it is another line.
 #[tactic(auto, using(crate::proofs::Texts::joined))]
 fn push_replaced(out: &mut Vec<u8>, before: &[u8], after: &[u8]) -> Result<(), AllocError>
     ensures { OnOk result (out.new.items ≡ out.old.items ++ replaced_text before.now after.now) }
@@ -57,7 +57,8 @@ fn push_replaced(out: &mut Vec<u8>, before: &[u8], after: &[u8]) -> Result<(), A
     push_line(out, b"+ ", after)
 }
 
-/// Adds what changed in the first line, and gives the lines behind it.
+/// Appends what changed in the first lines of `before` and `after`, and returns the lines behind
+/// them.
 fn push_first<'a>(
     out: &mut Vec<u8>,
     before: &'a [u8],
@@ -86,8 +87,12 @@ fn push_first<'a>(
     Ok((rest_before, rest_after))
 }
 
-/// Adds what changed from one text to another: each line that went behind `- `,
-/// and each that came behind `+ `.
+/// Appends the changes from one text to another: each line that was removed behind `- `, and each
+/// that was added behind `+ `.
+///
+/// # Errors
+///
+/// `AllocError` where memory runs out.
 pub fn push_changes(out: &mut Vec<u8>, before: &[u8], after: &[u8]) -> Result<(), AllocError>
     ensures { OnOk result (out.new.items ≡ out.old.items
         ++ changes_text (changes_between (lines_of before.now) (lines_of after.now))) }

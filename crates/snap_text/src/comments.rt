@@ -9,7 +9,8 @@ use crate::lexer::is_space;
 use crate::lines::split_line;
 use std::alloc::{AllocError, Global};
 
-/// Whether a line is more than space and a comment, which its first byte behind the space tells.
+/// Returns whether a line is more than space and a comment, which its first byte behind the space
+/// tells.
 fn is_more_than_space(line: &[u8]) -> bool
     ensures { result ≡ has_tokens (tokens_of line.now) }
 {
@@ -21,7 +22,7 @@ fn is_more_than_space(line: &[u8]) -> bool
     false
 }
 
-/// What stands behind the first `#` of a line.
+/// Returns what stands behind the first `#` of a line.
 fn comment_of(line: &[u8]) -> Option<&[u8]>
     ensures { option_map (λ b. b.now) result ≡ comment_of line.now }
 {
@@ -35,7 +36,7 @@ fn comment_of(line: &[u8]) -> Option<&[u8]>
     None
 }
 
-/// A comment to keep.
+/// Returns a copy of `comment`.
 fn kept_comment(alloc: Global, comment: Option<&[u8]>) -> Result<Option<Vec<u8>>, AllocError>
     ensures { IfOk result (λ kept. option_map vec_items kept
         ≡ option_map (λ b. b.now) comment.entry) }
@@ -46,8 +47,12 @@ fn kept_comment(alloc: Global, comment: Option<&[u8]>) -> Result<Option<Vec<u8>>
     }
 }
 
-/// The comments of the lines of a text that have tokens: for each line the bytes behind its first
-/// `#`, if it has one.
+/// Returns the comments of the lines of `text` that have tokens: for each such line the bytes
+/// behind its first `#`, if it has one.
+///
+/// # Errors
+///
+/// `AllocError` where memory runs out.
 pub fn line_comments(alloc: Global, text: &[u8]) -> Result<Vec<Option<Vec<u8>>>, AllocError>
     ensures { IfOk result (λ comments. map (option_map vec_items) comments.items
         ≡ line_comments (lines_of text.now)) }

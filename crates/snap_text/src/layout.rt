@@ -10,7 +10,7 @@ use crate::push::{push_number, push_text};
 use snap_semantics::Symbol;
 use std::alloc::AllocError;
 
-/// How a symbol is spelled.
+/// Returns how a symbol is spelled.
 fn symbol_text(symbol: Symbol) -> &'static [u8]
     ensures { result.now ≡ symbol_text symbol }
 {
@@ -30,7 +30,7 @@ fn symbol_text(symbol: Symbol) -> &'static [u8]
     }
 }
 
-/// Adds a token.
+/// Appends a token.
 fn push_token(out: &mut Vec<u8>, token: Token<'_>) -> Result<(), AllocError>
     ensures { OnOk result (out.new.items ≡ out.old.items ++ token_text (view_token token.entry)) }
 {
@@ -41,7 +41,7 @@ fn push_token(out: &mut Vec<u8>, token: Token<'_>) -> Result<(), AllocError>
     }
 }
 
-/// How deep in the brackets of a tuple the place behind a `(` is.
+/// Returns how deep in the brackets of a tuple the place behind a `(` is.
 fn opened(depth: u64, before: Token<'_>) -> u64
     requires { depth + 1 < 2 ^ 64 }
     ensures value { result ≡ opened depth (view_token before.entry) }
@@ -54,7 +54,7 @@ fn opened(depth: u64, before: Token<'_>) -> u64
     }
 }
 
-/// How deep in the brackets of a tuple the place behind a `)` is.
+/// Returns how deep in the brackets of a tuple the place behind a `)` is.
 fn closed(depth: u64) -> u64
     ensures value { result ≡ closed depth }
     ensures within { result ≤ depth }
@@ -62,7 +62,7 @@ fn closed(depth: u64) -> u64
     depth.saturating_sub(1)
 }
 
-/// How deep in the brackets of a tuple the place behind a token is.
+/// Returns how deep in the brackets of a tuple the place behind `token` is.
 fn depth_behind(depth: u64, before: Token<'_>, token: Token<'_>) -> u64
     requires { depth + 1 < 2 ^ 64 }
     ensures value { result ≡ depth_behind depth (view_token before.entry) (view_token token.entry) }
@@ -75,7 +75,7 @@ fn depth_behind(depth: u64, before: Token<'_>, token: Token<'_>) -> u64
     }
 }
 
-/// Whether a space may stand behind a token at this depth.
+/// Returns whether a space may stand behind a token at this depth.
 fn parts_behind(depth: u64, token: Token<'_>) -> bool
     ensures { result ≡ parts_behind depth (view_token token.entry) }
 {
@@ -86,7 +86,7 @@ fn parts_behind(depth: u64, token: Token<'_>) -> bool
     }
 }
 
-/// Whether a space may stand before a token, behind the one before it.
+/// Returns whether a space may stand before a token, behind the one before it.
 fn parts_before(before: Token<'_>, token: Token<'_>) -> bool
     ensures { result ≡ parts_before (view_token before.entry) (view_token token.entry) }
 {
@@ -106,7 +106,7 @@ fn parts_before(before: Token<'_>, token: Token<'_>) -> bool
     }
 }
 
-/// Adds a space where one stands between two tokens.
+/// Appends a space where one stands between two tokens.
 fn push_gap(
     out: &mut Vec<u8>,
     depth: u64,
@@ -122,7 +122,7 @@ fn push_gap(
     Ok(())
 }
 
-/// Adds the tokens behind one.
+/// Appends `tokens`, which stand behind `first`.
 fn push_behind(out: &mut Vec<u8>, first: Token<'_>, tokens: &[Token<'_>]) -> Result<(), AllocError>
     ensures { OnOk result (out.new.items ≡ out.old.items ++ layout [] 0 (view_token first.entry)
         (view_tokens tokens.now)) }
@@ -138,7 +138,11 @@ fn push_behind(out: &mut Vec<u8>, first: Token<'_>, tokens: &[Token<'_>]) -> Res
     Ok(())
 }
 
-/// Adds the tokens of a line, laid out, without its end.
+/// Appends the tokens of a line, laid out, without a line feed.
+///
+/// # Errors
+///
+/// `AllocError` where memory runs out.
 pub fn push_tokens(out: &mut Vec<u8>, tokens: &[Token<'_>]) -> Result<(), AllocError>
     ensures { OnOk result (out.new.items ≡ out.old.items ++ line_to [] (view_tokens tokens.now)) }
 {
@@ -151,7 +155,11 @@ pub fn push_tokens(out: &mut Vec<u8>, tokens: &[Token<'_>]) -> Result<(), AllocE
     }
 }
 
-/// Adds a line of tokens, laid out.
+/// Appends a line of tokens, laid out, with its line feed.
+///
+/// # Errors
+///
+/// `AllocError` where memory runs out.
 pub fn push_laid_out(out: &mut Vec<u8>, tokens: &[Token<'_>]) -> Result<(), AllocError>
     ensures { OnOk result (out.new.items ≡ out.old.items ++ line_text (view_tokens tokens.now)) }
 {

@@ -30,7 +30,7 @@ pub(crate) fn is_digit(b: u8) -> bool
     b'0' <= b && b <= b'9'
 }
 
-/// Whether a byte is of an identifier or of a number.
+/// Returns whether a byte is of an identifier or of a number.
 fn is_lexeme_byte(b: u8) -> bool
     ensures { result ≡ is_lexeme_byte b }
 {
@@ -43,7 +43,7 @@ pub(crate) fn is_space(b: u8) -> bool
     b == b' ' || b == b'\t' || b == b'\r'
 }
 
-/// How many letters and digits stand at the front.
+/// Returns how many letters and digits stand at the front.
 fn lexeme_len(bytes: &[u8]) -> usize
     ensures value { result ≡ lexeme_len bytes.now }
     ensures within { result ≤ length bytes.now }
@@ -70,7 +70,7 @@ fn has_leading_zero(lexeme: &[u8]) -> bool
     }
 }
 
-/// The number that digits spell, or none above 2^64 - 1.
+/// Returns the number that `digits` spell; `None` above 2^64 - 1.
 fn number_of(digits: &[u8]) -> Option<u64>
     ensures { result ≡ number_of 0 digits.now }
 {
@@ -91,7 +91,7 @@ fn number_of(digits: &[u8]) -> Option<u64>
     Some(value)
 }
 
-/// The token that a lexeme of letters and digits is.
+/// Returns the token that a lexeme of letters and digits is.
 fn lexeme_token(lexeme: &[u8]) -> Option<Token<'_>>
     ensures { Finds view_token result (lexeme_token lexeme.now) }
 {
@@ -107,7 +107,7 @@ fn lexeme_token(lexeme: &[u8]) -> Option<Token<'_>>
     }
 }
 
-/// The symbol that a byte alone is.
+/// Returns the symbol that a byte alone is.
 fn symbol_of(b: u8) -> Option<Symbol>
     ensures { result ≡ symbol_of b }
 {
@@ -127,7 +127,7 @@ fn symbol_of(b: u8) -> Option<Symbol>
     }
 }
 
-/// The symbol at the front, and what stands behind it.
+/// Returns the symbol at the front, and what stands behind it.
 fn front_symbol(bytes: &[u8]) -> Option<(Symbol, &[u8])>
     ensures { Finds (λ x. (x.0, x.1.now)) result (front_symbol bytes.now) }
 {
@@ -141,7 +141,11 @@ fn front_symbol(bytes: &[u8]) -> Option<(Symbol, &[u8])>
     }
 }
 
-/// The tokens of a line, or none where a byte begins no token.
+/// Reads the tokens of `line`; `None` where a byte begins no token.
+///
+/// # Errors
+///
+/// `AllocError` where memory runs out.
 pub fn tokens(alloc: Global, line: &[u8]) -> Result<Option<Vec<Token<'_>>>, AllocError>
     ensures { IfOk result (λ found. option_map (λ ts. view_tokens ts.items) found
         ≡ tokens_of line.now) }

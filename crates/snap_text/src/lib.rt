@@ -1,11 +1,12 @@
-//! Texts in tokens and lines, texts put together, and what changed from one text to another, line by
-//! line.
+//! The tokens and the lines of a text, what changed from one text to another, and texts that are
+//! put together piece by piece.
 #![tactic(auto)]
 
 mod calls;
 mod change_laws;
 mod changed;
 mod comments;
+mod draft;
 mod laws;
 mod layout;
 mod lexer;
@@ -18,6 +19,7 @@ mod rules;
 pub use change_laws::changes_make_the_new_text;
 pub use changed::{behind_first_line, push_changes};
 pub use comments::line_comments;
+pub use draft::Draft;
 pub use laws::{what_is_commented_is_read, what_is_laid_out_is_read};
 pub use layout::{push_laid_out, push_tokens};
 pub use lexer::{Token, tokens};

@@ -1,5 +1,5 @@
-//! `TextLines`: goes through the lines of a text that have tokens,
-//! each with its number and its tokens or its one or two numbers.
+//! `TextLines`: the lines of a text that have tokens, one by one, each with its number and its
+//! tokens or its one or two numbers.
 ghost use Rattle.std.specs.Prelude.{◌≡◌, ◌<◌, ℕ, length, IfOk, OnErr, option_map, IsTrue, ◌↔◌, ◌∷◌};
 ghost use Rattle.snap_semantics.specs.Token.{TextLine, lines_of, numbered, text_lines};
 ghost use Rattle.snap_text.specs.Tokens.{view_tokens, has_tokens};
@@ -21,7 +21,8 @@ pub struct TokenLine<'a> {
     pub tokens: Option<Vec<Token<'a>>>,
 }
 
-/// A line that is a number, or a number, `*` and a second one: the line's own number, and those.
+/// A line that is a number, or a number, `*` and a second one: the line's own number, and the
+/// numbers on it.
 #[derive(Clone, Copy)]
 pub struct NumberLine {
     pub number: u64,
@@ -29,7 +30,7 @@ pub struct NumberLine {
     pub second: Option<u64>,
 }
 
-/// A line that is a call: the line's own number, the process, and what it asks for.
+/// A line that is a call: the line's own number, the process, and the operation that it calls.
 #[derive(Clone, Copy)]
 pub struct CallLine {
     pub number: u64,
@@ -37,7 +38,7 @@ pub struct CallLine {
     pub op: Op,
 }
 
-/// Goes through the lines of a text that have tokens; seen as the list of those that are left.
+/// The lines of a text that have tokens, seen as the list of those that are left.
 #[derive(Drop)]
 pub struct TextLines<'a> {
     number: u64,
@@ -55,7 +56,7 @@ impl<'a> Model for TextLines<'a> {
     ghost invariant = { λ c. c.number + length c.rest.now < 2 ^ 64 };
 }
 
-/// The first line, without its line feed, and the lines behind it.
+/// Returns the first line, without its line feed, and the lines behind it.
 pub(crate) fn split_line(bytes: &[u8]) -> (&[u8], &[u8])
     requires { 0 < length bytes.now }
     ensures lines { lines_of bytes.now ≡ result.0.now ∷ lines_of result.1.now }
@@ -71,7 +72,7 @@ pub(crate) fn split_line(bytes: &[u8]) -> (&[u8], &[u8])
     (bytes, &bytes[bytes.len()..])
 }
 
-/// Whether a line is more than space.
+/// Returns whether a line is more than space.
 fn has_tokens(found: &Option<Vec<Token<'_>>>) -> bool
     ensures { result ≡ has_tokens (option_map (λ ts. view_tokens ts.items) found.now) }
 {
@@ -82,7 +83,7 @@ fn has_tokens(found: &Option<Vec<Token<'_>>>) -> bool
 }
 
 impl<'a> TextLines<'a> {
-    /// Before the first line of a text.
+    /// Returns the lines of `text`, with none taken.
     pub fn new(text: &'a [u8]) -> TextLines<'a>
         ensures { result ≡ text_lines text.now }
     {
@@ -92,8 +93,8 @@ impl<'a> TextLines<'a> {
         }
     }
 
-    /// Takes the next line, where it is `I` or `I*K` and its line feed, with no space or comment
-    /// and numbers of nine digits at most; else leaves all lines.
+    /// Takes the next line if it is `I` or `I*K` and its line feed, with no space or comment and
+    /// numbers of at most nine digits; otherwise takes none.
     #[inline(always)]
     pub fn next_numbers(&mut self) -> Option<NumberLine>
         ensures { IsNextNumbers result self.old self.new }
@@ -109,9 +110,8 @@ impl<'a> TextLines<'a> {
         })
     }
 
-    /// Takes the next line, where it is `I scan` or `I update K X` and its line feed, with one
-    /// space between any two, no comment, and numbers of nine digits at most; else leaves all
-    /// lines.
+    /// Takes the next line if it is `I scan` or `I update K X` and its line feed, with one space
+    /// between any two words, no comment, and numbers of at most nine digits; otherwise takes none.
     pub fn next_call(&mut self) -> Option<CallLine>
         ensures { IsNextCall result self.old self.new }
     {
@@ -126,7 +126,11 @@ impl<'a> TextLines<'a> {
         })
     }
 
-    /// Takes the next line that has tokens.
+    /// Takes the next line that has tokens; `None` where none is left.
+    ///
+    /// # Errors
+    ///
+    /// `AllocError` where memory runs out.
     #[inline(always)]
     pub fn next_line(&mut self, alloc: Global) -> Result<Option<TokenLine<'a>>, AllocError>
         ensures next { IfOk result (λ line. IsNext line self.old self.new) }
@@ -149,7 +153,7 @@ impl<'a> TextLines<'a> {
     }
 }
 
-/// How many lines a text has; a last one without line feed counts.
+/// Returns how many lines `text` has; a last one without line feed counts.
 pub fn line_count(text: &[u8]) -> u64
     ensures { result ≡ length (lines_of text.now) }
 {

@@ -5,11 +5,11 @@ ghost use Rattle.snap_text.specs.Numbers.{BeginsWithNumber, BeginsWithLine, numb
 
 use crate::lexer::is_digit;
 
-/// The most that a number may be before one digit more, so that it has nine digits at most.
+/// The largest number to which one more digit may be appended, so that it has at most nine digits.
 const MOST_BEFORE_DIGIT: u64 = 99_999_999;
 
-/// The number that the digits at the front spell, and what stands behind them. None where there are
-/// none or more than nine of them, or zero before others.
+/// Reads the number that the digits at the front spell, and returns what stands behind them too;
+/// `None` where there are no digits or more than nine, or zero before others.
 pub(crate) fn number_front(bytes: &[u8]) -> Option<(u64, &[u8])>
     ensures { IfSome result (λ x. BeginsWithNumber bytes.now x.0 x.1.now) }
 {
@@ -30,8 +30,7 @@ pub(crate) fn number_front(bytes: &[u8]) -> Option<(u64, &[u8])>
     Some((value, behind))
 }
 
-/// The number that the first line is, where it is one digit and its line feed, and the lines behind
-/// it.
+/// Reads the first line if it is one digit and its line feed, and returns the lines behind it too.
 fn digit_line(bytes: &[u8]) -> Option<(u64, &[u8])>
     ensures { IfSome result (λ x. BeginsWithLine bytes.now (number_tokens x.0 None) x.1.now) }
 {
@@ -46,8 +45,8 @@ fn digit_line(bytes: &[u8]) -> Option<(u64, &[u8])>
     None
 }
 
-/// The number that the first line is, where it is two digits, the first of them no zero, and its
-/// line feed, and the lines behind it.
+/// Reads the first line if it is two digits, the first of which is not zero, and its line feed, and
+/// returns the lines behind it too.
 #[inline(always)]
 fn two_digits_line(bytes: &[u8]) -> Option<(u64, &[u8])>
     ensures { IfSome result (λ x. BeginsWithLine bytes.now (number_tokens x.0 None) x.1.now) }
@@ -65,8 +64,8 @@ fn two_digits_line(bytes: &[u8]) -> Option<(u64, &[u8])>
     None
 }
 
-/// The numbers that the first line is, where it is a digit, `*`, a digit and its line feed, and the
-/// lines behind it.
+/// Reads the first line if it is a digit, `*`, a digit and its line feed, and returns the lines
+/// behind it too.
 #[inline(always)]
 fn starred_digits_line(bytes: &[u8]) -> Option<(u64, u64, &[u8])>
     ensures { IfSome result (λ x. BeginsWithLine bytes.now (number_tokens x.0 (Some x.1)) x.2.now) }
@@ -84,13 +83,13 @@ fn starred_digits_line(bytes: &[u8]) -> Option<(u64, u64, &[u8])>
     None
 }
 
-/// The numbers that the first line spells as `I` or `I*K`, where it has its line feed, and the
+/// Reads the first line if it is `I` or `I*K` and its line feed, and returns its numbers and the
 /// lines behind it.
 #[inline(always)]
 pub fn numbers_front(bytes: &[u8]) -> Option<(u64, Option<u64>, &[u8])>
     ensures { IfSome result (λ x. BeginsWithLine bytes.now (number_tokens x.0 x.1) x.2.now) }
 {
-    // Most lines by far.
+    // Most lines of a schedule are one digit.
     if let Some((digit, rest)) = digit_line(bytes) {
         return Some((digit, None, rest));
     }

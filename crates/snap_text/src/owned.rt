@@ -8,7 +8,7 @@ use crate::changed::split_line;
 use crate::push_text;
 use std::alloc::AllocError;
 
-/// How many bytes stand before the first space.
+/// Returns how many bytes stand before the first space.
 fn word_len(bytes: &[u8]) -> usize
     ensures value { result ≡ word_len bytes.now }
     ensures within { result ≤ length bytes.now }
@@ -20,7 +20,7 @@ fn word_len(bytes: &[u8]) -> usize
     len
 }
 
-/// The first two words of a line.
+/// Returns the first two words of a line.
 fn two_words(line: &[u8]) -> &[u8]
     ensures { result.now ≡ two_words line.now }
 {
@@ -32,7 +32,7 @@ fn two_words(line: &[u8]) -> &[u8]
     &line[..first + 1 + second]
 }
 
-/// Of whom the lines behind a line speak that are indented.
+/// Returns the owner of the indented lines that follow `line`.
 fn next_owner<'a>(owner: &'a [u8], line: &'a [u8]) -> &'a [u8]
     ensures { result.now ≡ next_owner owner.now line.now }
 {
@@ -42,7 +42,7 @@ fn next_owner<'a>(owner: &'a [u8], line: &'a [u8]) -> &'a [u8]
     }
 }
 
-/// Adds a line, with its owner in place of its first space where it is indented.
+/// Appends a line, with `owner` in place of its first space if it is indented.
 fn push_owned_line(out: &mut Vec<u8>, owner: &[u8], line: &[u8]) -> Result<(), AllocError>
     ensures { OnOk result (out.new.items ≡ out.old.items ++ owned_line owner.now line.now) }
 {
@@ -55,8 +55,12 @@ fn push_owned_line(out: &mut Vec<u8>, owner: &[u8], line: &[u8]) -> Result<(), A
     }
 }
 
-/// Adds the lines of a text, each indented one with its owner: the first two words of the line
-/// above that is not indented.
+/// Appends the lines of `text`, each indented one with its owner: the first two words of the
+/// nearest line above that is not indented.
+///
+/// # Errors
+///
+/// `AllocError` where memory runs out.
 pub fn push_owned_lines(out: &mut Vec<u8>, text: &[u8]) -> Result<(), AllocError>
     ensures { OnOk result (out.new.items ≡ out.old.items ++ owned_text [] (lines_of text.now)) }
 {

@@ -6,14 +6,22 @@ ghost use Rattle.snap_semantics.specs.Report.{numbers_text};
 use itoa::Buffer;
 use std::alloc::AllocError;
 
-/// Adds a text.
+/// Appends `text`.
+///
+/// # Errors
+///
+/// `AllocError` where memory runs out.
 pub fn push_text(out: &mut Vec<u8>, text: &[u8]) -> Result<(), AllocError>
     ensures { OnOk result (out.new.items ≡ out.old.items ++ text.now) }
 {
     out.extend_from_slice(text)
 }
 
-/// Adds a number in digits.
+/// Appends `number` in decimal digits.
+///
+/// # Errors
+///
+/// `AllocError` where memory runs out.
 #[inline(always)]
 pub fn push_number(out: &mut Vec<u8>, number: u64) -> Result<(), AllocError>
     ensures { OnOk result (out.new.items ≡ out.old.items ++ decimal number) }
@@ -22,7 +30,11 @@ pub fn push_number(out: &mut Vec<u8>, number: u64) -> Result<(), AllocError>
     out.extend_from_slice(buffer.format(number).as_bytes())
 }
 
-/// Adds each number behind a space.
+/// Appends each of `numbers` behind a space.
+///
+/// # Errors
+///
+/// `AllocError` where memory runs out.
 pub fn push_numbers(out: &mut Vec<u8>, numbers: &[u64]) -> Result<(), AllocError>
     ensures { OnOk result (out.new.items ≡ out.old.items ++ numbers_text numbers.now) }
 {

@@ -1,5 +1,5 @@
-//! The rules that find a number, an identifier, a keyword or a symbol at
-//! the front of the tokens of a line, or nothing where they do not fit.
+//! The rules that find a number, an identifier, a keyword or a symbol at the front of the tokens of
+//! a line, or `None` if they do not fit.
 ghost use Rattle.std.specs.Prelude.{◌≡◌};
 ghost use Rattle.snap_semantics.specs.Rules.{number_at, identifier_at};
 ghost use Rattle.snap_semantics.specs.Rules.{keyword_at, symbol_at, end_at};
@@ -8,7 +8,7 @@ ghost use Rattle.snap_text.specs.Tokens.{Finds, view_tokens};
 use crate::lexer::Token;
 use snap_semantics::Symbol;
 
-/// The number at the front, and the rest.
+/// Returns the number at the front of `tokens`, and the rest.
 pub fn number_at<'a, 'b>(tokens: &'a [Token<'b>]) -> Option<(u64, &'a [Token<'b>])>
     ensures { Finds (λ x. (x.0, view_tokens x.1.now)) result (number_at (view_tokens tokens.now)) }
 {
@@ -18,7 +18,7 @@ pub fn number_at<'a, 'b>(tokens: &'a [Token<'b>]) -> Option<(u64, &'a [Token<'b>
     }
 }
 
-/// The identifier at the front, and the rest.
+/// Returns the identifier at the front of `tokens`, and the rest.
 pub fn identifier_at<'a, 'b>(tokens: &'a [Token<'b>]) -> Option<(&'b [u8], &'a [Token<'b>])>
     ensures { Finds (λ x. (x.0.now, view_tokens x.1.now)) result
         (identifier_at (view_tokens tokens.now)) }
@@ -29,7 +29,7 @@ pub fn identifier_at<'a, 'b>(tokens: &'a [Token<'b>]) -> Option<(&'b [u8], &'a [
     }
 }
 
-/// The rest after this keyword at the front.
+/// Returns the rest behind the keyword `word` at the front of `tokens`.
 pub fn keyword_at<'a, 'b>(word: &[u8], tokens: &'a [Token<'b>]) -> Option<&'a [Token<'b>]>
     ensures { Finds (λ x. view_tokens x.now) result (keyword_at word.now (view_tokens tokens.now)) }
 {
@@ -39,7 +39,7 @@ pub fn keyword_at<'a, 'b>(word: &[u8], tokens: &'a [Token<'b>]) -> Option<&'a [T
     }
 }
 
-/// The rest after this symbol at the front.
+/// Returns the rest behind `symbol` at the front of `tokens`.
 pub fn symbol_at<'a, 'b>(symbol: Symbol, tokens: &'a [Token<'b>]) -> Option<&'a [Token<'b>]>
     ensures { Finds (λ x. view_tokens x.now) result (symbol_at symbol (view_tokens tokens.now)) }
 {
@@ -49,7 +49,7 @@ pub fn symbol_at<'a, 'b>(symbol: Symbol, tokens: &'a [Token<'b>]) -> Option<&'a 
     }
 }
 
-/// Whether nothing is left.
+/// Returns `Some` if no tokens are left.
 pub fn end_at(tokens: &[Token<'_>]) -> Option<()>
     ensures { Finds (λ x. x) result (end_at (view_tokens tokens.now)) }
 {

@@ -28,7 +28,7 @@ behind_some [] (suc k) x ys e = absurd cc
 behind_some (z ∷ xs) zero x ys e = (cc, cc)
 behind_some (z ∷ xs) (suc k) x ys e = behind_some xs k x ys e
 
--- where none is left
+-- the items behind the last one
 behind_none : (xs : List Item) (k : ℕ) → drop k xs ≡ [] → (slice_get xs k ≡ None) × (drop (suc k) xs ≡ [])
 behind_none [] zero e = (refl, refl)
 behind_none [] (suc k) e = (refl, refl)
@@ -69,11 +69,11 @@ module _ (m : Configuration) (s : Schedule) (k : ℕ) (x : Item) (left : List It
   pub below : k < length s.items
   below = slice_get_within s.items k x (sym h.upcoming)
 
-  -- which is that of the run
+  -- the item that comes next is that of the run
   pub item_is : x ≡ item run (suc k)
   item_is = sym (get_or_from_slice_get s.items k x (Step 0) (sym h.upcoming))
 
-  -- and its process is there
+  -- the process of the item is one of the shape
   pub own : IsOneOf s.shape.n (who x)
   own =
       subst (λ (y : Item). IsOneOf s.shape.n (who y)) (sym item_is)
@@ -82,7 +82,7 @@ module _ (m : Configuration) (s : Schedule) (k : ℕ) (x : Item) (left : List It
   pub fits : IsOneOf m.shape.n (who x)
   fits = subst (λ (n : Counts). IsOneOf n.n (who x)) (sym h.shape) own
 
-  -- it is done as the run does it
+  -- the item is done as the run does it
   done_is : done m.source m.shape m.state x ≡ done m.source s.shape (state run k) (item run (suc k))
   done_is =
       ap (λ (n : Counts). done m.source n m.state x) h.shape
@@ -92,7 +92,7 @@ module _ (m : Configuration) (s : Schedule) (k : ℕ) (x : Item) (left : List It
   one_more : suc k ≡ k + 1
   one_more = omega arith
 
-  -- then the machine is one item further
+  -- after the item, the machine is one item further
   pub more : (m' : Configuration) (o : Outcome) (left' : List Item) (first : Option Item) → m'.source ≡ m.source →
       m'.shape ≡ m.shape → done m.source m.shape m.state x ≡ (m'.state, o) → YieldsFirst (λ s. s) left first left' →
       IsWalking m' s (k + 1) first left'
@@ -109,7 +109,7 @@ module _ (m : Configuration) (s : Schedule) (k : ℕ) (x : Item) (left : List It
         left = b.1;
       })
 
-  -- and the item was passed
+  -- the item was passed on the way
   pub passes : (m' : Configuration) (p : Passed) (w w' : Way) → record { run = run; at = k } ≡ w →
       w' ≡ record { run = run_over m'.source s; at = k + 1 } → m'.source ≡ m.source → p.number ≡ k + 1 → p.item ≡ x →
       p.before ≡ (process_at m.state (who x)).status → done m.source m.shape m.state x ≡ (m'.state, p.outcome) →

@@ -25,12 +25,12 @@ items_more r t below = take-suc r.items t (Step 0) below
 pub all_items : (r : Run) (t : ℕ) → t ≡ length r.items → take t r.items ≡ r.items
 all_items r t end = take_all t r.items (omega (arith, end))
 
--- then the state is that after all items
+-- at the end of the schedule the state is that after all items
 pub end_state : (r : Run) (t : ℕ) → t ≡ length r.items →
     state r t ≡ after r.source r.shape (initial r.source r.shape) r.items
 end_state r t end = ap (after r.source r.shape (initial r.source r.shape)) (all_items r t end)
 
--- and the events are those of all items
+-- at the end of the schedule the events are those of all items
 pub end_events : (r : Run) (t : ℕ) → t ≡ length r.items →
     events_of r t ≡ events r.source r.shape (initial r.source r.shape) 1 r.items
 end_events r t end = ap (events r.source r.shape (initial r.source r.shape) 1) (all_items r t end)
@@ -69,7 +69,7 @@ passed_state w w' p is =
     ap (λ (v : Way). state v.run v.at) is.way ∙ next_state w.run w.at is.left
     ∙ ap (λ (x : Item). (done w.run.source w.run.shape (state w.run w.at) x).0) (sym is.item)
 
--- and its event is the next
+-- the event of an item that is passed is the next event of the run
 pub passed_events : (w w' : Way) (p : Passed) → Passes w p w' →
     events_of w'.run w'.at ≡ events_of w.run w.at ++ event_of p.number p.item p.outcome
 passed_events w w' p is =

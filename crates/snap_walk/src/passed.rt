@@ -1,7 +1,8 @@
-//! `Passed`: an item that a walk has done, and what is told of it.
+//! `Passed`: an item that a walk has done, with the status of its process before it and its
+//! outcome.
 use snap_semantics::{Item, Outcome, Status};
 
-/// An item of a run with its number, how its process stood before it, and what came of it.
+/// An item of a run with its number, the status of its process before it, and its outcome.
 #[derive(Drop)]
 pub struct Passed {
     pub number: u64,

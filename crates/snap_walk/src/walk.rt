@@ -16,20 +16,20 @@ use std::alloc::{AllocError, Global};
 use std::marker::Model;
 
 /// A machine on its way through the run of a program over a schedule, seen as the run and the
-/// number of items that it has done.
+/// number of items that are done.
 pub struct Walk<'a, K: Kind> {
     machine: Machine<K>,
     schedule: &'a Schedule,
-    /// How many items it has done.
+    /// How many items are done.
     done: u64,
     /// The next item.
     upcoming: Option<Item>,
-    /// The items behind that one.
+    /// The items behind the next one.
     left: ItemIter<'a>,
 }
 
 impl<'a, K: Kind> Drop for Walk<'a, K> {
-    // Written out, so that it is proved here and not once more wherever one is dropped.
+    // A drop that is written out is one call: it is proved once, and not again at each drop.
     fn drop(self) {
         let Walk {
             machine: _,
@@ -58,7 +58,11 @@ impl<'a, K: Kind> Model for Walk<'a, K> {
 }
 
 impl<'a, K: Kind> Walk<'a, K> {
-    /// Before the first item of a program's run over a schedule.
+    /// Returns a walk before the first item of the run of `program` over `schedule`.
+    ///
+    /// # Errors
+    ///
+    /// `AllocError` where memory runs out.
     pub fn over(
         alloc: Global,
         program: &Program,
@@ -80,7 +84,7 @@ impl<'a, K: Kind> Walk<'a, K> {
         })
     }
 
-    /// The machine, which has done the items so far.
+    /// Returns the machine, which has done the items so far.
     pub fn machine(&self) -> &Machine<K>
         ensures source { result.now.source ≡ self.now.run.source }
         ensures shape { result.now.shape ≡ self.now.run.shape }
@@ -89,7 +93,7 @@ impl<'a, K: Kind> Walk<'a, K> {
         &self.machine
     }
 
-    /// How many items it has done.
+    /// Returns how many items are done.
     pub fn done(&self) -> u64
         ensures done { result ≡ self.now.at }
         ensures within { self.now.at ≤ length self.now.run.items }
@@ -97,7 +101,7 @@ impl<'a, K: Kind> Walk<'a, K> {
         self.done
     }
 
-    /// The item that comes next, if there is one.
+    /// Returns the item that comes next, if there is one.
     pub fn upcoming(&self) -> Option<Item>
         ensures { MatchOption result (self.now.at ≡ length self.now.run.items)
             (λ x. (self.now.at < length self.now.run.items) × (x ≡ item self.now.run (suc self.now.at))
@@ -106,8 +110,11 @@ impl<'a, K: Kind> Walk<'a, K> {
         self.upcoming
     }
 
-    /// Does the next item, if there is one. Where there is no memory for it, everything is as
-    /// before.
+    /// Does the next item, if there is one.
+    ///
+    /// # Errors
+    ///
+    /// `AllocError` where memory runs out; the walk is as before then.
     pub fn next(&mut self) -> Result<Option<Passed>, AllocError>
         ensures passed { IfOk result (λ o.
             MatchOption o ((self.old.at ≡ length self.old.run.items) × (self.new ≡ self.old))

@@ -21,7 +21,7 @@ goes_on ss next s (suc left) out out' all v l some is taken lends told so_far =
     (append_assoc out (view_lines ss s.process (view_taken ss s)) (chain_lines ss (lender_of (view_taken ss s)) left)
     ∙ all_of)
 
--- and lies in the trace
+-- the lender's scan lies in the trace
 pub lender_within : (v : Option Borrowed) (l : Option ScanPlaces) (n : ℕ) → l ≡ lender_of v →
     IfSome v (λ (b : Borrowed). IfSome b.lender (λ (s : ScanPlaces). s.to ≤ n)) →
     IfSome l (λ (s : ScanPlaces). s.to ≤ n)

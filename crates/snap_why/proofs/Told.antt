@@ -35,7 +35,7 @@ answer_is_told r t ss vs found v point old new is_trace is_audit finds is_some i
       adds,
     )
 
--- neither an answer
+-- an item that is neither an answer nor a trap
 other_is_told : (r : Run) (t : ℕ) (ss : List Step) (vs : List Verdict) (found : Option Verdict) (old new : List ℕ) →
     ss ≡ trace_of r → vs ≡ audit r → found ≡ verdict_with vs t → found ≡ None →
     new ≡ old ++ trap_or_nothing r ss t (trapped_at ss t) → (text : List ℕ) × IsWhy r t text × (new ≡ old ++ text)

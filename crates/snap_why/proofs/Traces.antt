@@ -66,7 +66,7 @@ one_of s d (suc k) i right within e =
     subst (λ (j : ℕ). IsOneOf d.shape.n j) (by_act _ i _ e)
     (each s d.shape (initial s d.shape) 1 d.items k right.processes less)
 
--- so is one that is found in the trace
+-- a place that is found in the trace is that of an item of the run
 pub all_of : (s : Source) (d : Schedule) (ss : List Step) (t : ℕ) (r : Option ℕ) →
     IsSchedule d → ss ≡ trace_of (run_over s d) → t ≤ length d.items →
     r ≡ trapped_at ss t → IfSome r (λ (i : ℕ). IsOneOf d.shape.n i)

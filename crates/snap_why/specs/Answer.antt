@@ -30,7 +30,7 @@ process_text i = codes "process " ++ decimal i
 abbrev pub run_until : Run → ℕ → Run
 run_until r t = run_of_items r.source r.shape (take t r.items)
 
--- that a scan has no point, and the verdict on a run that ends with its answer
+-- the lines that a scan has no point, and the verdict on a run that ends with its answer
 abbrev pub no_point_lines : Run → Judgement → List ℕ
 no_point_lines r j =
     codes "point: none, memory never held this from the call to the answer\n"
@@ -59,7 +59,7 @@ abbrev pub writer_lines : List Step → ℕ → Option ScanPlaces → List ℕ
 writer_lines ss k lender =
     process_text (step_at ss k).process ++ goto_line (codes " wrote it") (step_at ss k).item ++ lender_lines ss lender
 
--- that, where a process had written it
+-- the lines of who wrote a view, if a process had written it
 unfoldable pub written_lines : List Step → Option ℕ → Option ScanPlaces → List ℕ
 written_lines ss None lender = codes "no process had written it\n"
 written_lines ss (Some k) lender = writer_lines ss k lender

@@ -13,7 +13,7 @@ use Rattle.snap_semantics.specs.declared.process.Op.TheVariants as op
 use Rattle.snap_semantics.specs.declared.process.Outcome.TheVariants as outcome
 use Rattle.snap_semantics.specs.declared.process.Status.{Status}
 use Rattle.snap_semantics.specs.declared.process.Status.TheVariants.{Trapped}
-use Rattle.snap_listing_printer.specs.LineTexts.{NumberedText, text_with, written}
+use Rattle.snap_listing.specs.LineTexts.{NumberedText, text_with, written}
 use Rattle.snap_why.specs.Troubles.{line_trouble}
 use Rattle.snap_why.specs.TroubleText.{trouble_text}
 use Rattle.snap_why.specs.declared.taker.Taker.{Taker}

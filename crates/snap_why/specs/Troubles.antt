@@ -63,7 +63,7 @@ term_number c (term.Handshake x i j) =
 abbrev pub negated : ℕ → ℕ
 negated x = if nat_eq x 0 then 1 else 0
 
--- that of an expression; a sum above 2^64 - 1 is a trouble of its own
+-- the number of an expression; a sum above 2^64 - 1 is a trouble of its own
 abbrev pub expr_number : Context → Expr → ℕ
 expr_number c (expr.Term t) = term_number c t
 expr_number c (expr.Sum t u) = min (term_number c t + term_number c u) (2 ^ 64 - 1)
@@ -106,7 +106,7 @@ abbrev pub where_trouble : Context → Option Condition → Option Trouble
 where_trouble c None = None
 where_trouble c (Some k) = condition_trouble c k
 
--- the same at another place of a quantifier
+-- a taker at another place of a quantifier
 abbrev pub taker_at : Taker → ℕ → Taker
 taker_at t p = record { process = t.process; op = t.op; place = p }
 

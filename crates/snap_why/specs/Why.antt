@@ -52,12 +52,12 @@ abbrev pub trap_or_nothing : Run → List Step → ℕ → Option ℕ → List �
 trap_or_nothing r ss t (Some i) = trap_lines r.source r.shape (state r t) i (process_at (state r t) i).status
 trap_or_nothing r ss t None = nothing_lines ss t
 
--- this is said of item t, which answers the scan of a verdict, where there is one
+-- what may be said of item t, which answers the scan of a verdict, if there is one
 abbrev pub IsToldOf : Run → List Step → ℕ → Option Verdict → List ℕ → Type 0
 IsToldOf r ss t (Some v) text =
     (point : List ℕ) × IsPointText r t v.point point × (text ≡ answer_lines ss (length ss) v t point)
 IsToldOf r ss t None text = text ≡ trap_or_nothing r ss t (trapped_at ss t)
 
--- This is what is said of item t: one text, but for the verdict at an answer without a point.
+-- What is said of item t: one text, but for the verdict at an answer without a point.
 unfoldable pub IsWhy : Run → ℕ → List ℕ → Type 0
 IsWhy r t text = IsToldOf r (trace_of r) t (verdict_with (audit r) t) text

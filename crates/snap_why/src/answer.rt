@@ -12,7 +12,7 @@ use snap_audit::{Verdict, push_verdict_line};
 use snap_text::{push_number, push_text};
 use std::alloc::AllocError;
 
-/// The item of the step at a place, and 0 where there is none.
+/// Returns the item of the step at a place, and 0 if there is none.
 pub(crate) fn item_at(steps: &[Step], place: usize) -> u64
     ensures { result ≡ (step_at steps.now place).item }
 {
@@ -23,7 +23,7 @@ pub(crate) fn item_at(steps: &[Step], place: usize) -> u64
     }
 }
 
-/// The process of the step at a place, and 0 where there is none.
+/// Returns the process of the step at a place, and 0 if there is none.
 fn process_at(steps: &[Step], place: usize) -> u32
     ensures { result ≡ (step_at steps.now place).process }
 {
@@ -34,7 +34,7 @@ fn process_at(steps: &[Step], place: usize) -> u32
     }
 }
 
-/// Adds the command that goes to an item.
+/// Appends the command that goes to an item.
 #[tactic(auto, using(snap_text::proofs::Texts::joined), unfolding(crate::specs::Answer::goto_text))]
 pub(crate) fn push_goto(out: &mut Vec<u8>, item: u64) -> Result<(), AllocError>
     ensures { OnOk result (out.new.items ≡ out.old.items ++ goto_text item) }
@@ -44,7 +44,7 @@ pub(crate) fn push_goto(out: &mut Vec<u8>, item: u64) -> Result<(), AllocError>
     push_text(out, b"\n")
 }
 
-/// Adds `process I`.
+/// Appends `process I`.
 #[tactic(auto, using(snap_text::proofs::Texts::joined), unfolding(crate::specs::Answer::process_text))]
 pub(crate) fn push_process(out: &mut Vec<u8>, process: u32) -> Result<(), AllocError>
     ensures { OnOk result (out.new.items ≡ out.old.items ++ process_text process) }
@@ -53,7 +53,7 @@ pub(crate) fn push_process(out: &mut Vec<u8>, process: u32) -> Result<(), AllocE
     push_number(out, u64::from(process))
 }
 
-/// Adds what happened at an item, and the command that goes there.
+/// Appends what happened at an item, and the command that goes there.
 #[tactic(auto, using(snap_text::proofs::Texts::joined), unfolding(crate::specs::Answer::goto_line))]
 pub(crate) fn push_goto_line(out: &mut Vec<u8>, what: &[u8], item: u64) -> Result<(), AllocError>
     ensures { OnOk result (out.new.items ≡ out.old.items ++ goto_line what.now item) }
@@ -62,7 +62,7 @@ pub(crate) fn push_goto_line(out: &mut Vec<u8>, what: &[u8], item: u64) -> Resul
     push_goto(out, item)
 }
 
-/// Adds a scan of an update.
+/// Appends a scan of an update.
 #[tactic(auto, using(snap_text::proofs::Texts::joined))]
 fn push_scan(out: &mut Vec<u8>, steps: &[Step], scan: ScanPlaces) -> Result<(), AllocError>
     ensures { OnOk result (out.new.items ≡ out.old.items ++ scan_lines steps.now scan) }
@@ -71,7 +71,7 @@ fn push_scan(out: &mut Vec<u8>, steps: &[Step], scan: ScanPlaces) -> Result<(), 
     push_goto_line(out, b"its scan ended", item_at(steps, scan.to))
 }
 
-/// Adds the scan that saw a view, where one is there.
+/// Appends the scan that saw a view, if it is in the trace.
 fn push_lender(
     out: &mut Vec<u8>,
     steps: &[Step],
@@ -85,7 +85,7 @@ fn push_lender(
     }
 }
 
-/// Adds who wrote a view at a place, and the scan that saw it.
+/// Appends who wrote a view at a place, and the scan that saw it.
 #[tactic(auto, using(snap_text::proofs::Texts::joined))]
 fn push_writer(
     out: &mut Vec<u8>,
@@ -100,7 +100,7 @@ fn push_writer(
     push_lender(out, steps, lender)
 }
 
-/// Adds that, where a process had written it.
+/// Appends who wrote the borrowed view, if a process had written it.
 #[tactic(auto, unfolding(crate::specs::Answer::written_lines))]
 fn push_written(
     out: &mut Vec<u8>,
@@ -117,7 +117,7 @@ fn push_written(
     }
 }
 
-/// Adds a view that was taken.
+/// Appends a view that was taken.
 #[tactic(auto, using(snap_text::proofs::Texts::joined))]
 fn push_taken(out: &mut Vec<u8>, steps: &[Step], view: Borrowed) -> Result<(), AllocError>
     ensures { OnOk result (out.new.items ≡ out.old.items ++ taken_lines steps.now view) }
@@ -126,7 +126,7 @@ fn push_taken(out: &mut Vec<u8>, steps: &[Step], view: Borrowed) -> Result<(), A
     push_written(out, steps, view.written, view.lender)
 }
 
-/// Adds that, where one was taken.
+/// Appends the borrowed view, or that there is none.
 fn push_taken_or_own(
     out: &mut Vec<u8>,
     steps: &[Step],
@@ -140,7 +140,7 @@ fn push_taken_or_own(
     }
 }
 
-/// Adds the view that a process took, where its scan took one.
+/// Appends the view that a process took, if its scan took one.
 #[tactic(auto, using(snap_text::proofs::Texts::joined), unfolding(crate::specs::Answer::view_lines))]
 fn push_view(
     out: &mut Vec<u8>,
@@ -154,14 +154,14 @@ fn push_view(
     push_taken_or_own(out, steps, view)
 }
 
-/// The lender's scan, where a view was taken.
+/// Returns the lender's scan, if a view was taken.
 fn lender_of(view: Option<Borrowed>) -> Option<ScanPlaces>
     ensures { result ≡ lender_of view }
 {
     view?.lender
 }
 
-/// Adds the views that a scan, its lender's scan, and so on took.
+/// Appends the views that a scan, its lender's scan, and so on took.
 fn push_chain(out: &mut Vec<u8>, steps: &[Step], first: ScanPlaces) -> Result<(), AllocError>
     requires { first.to ≤ length steps.now }
     ensures { OnOk result (out.new.items ≡ out.old.items
@@ -181,7 +181,7 @@ fn push_chain(out: &mut Vec<u8>, steps: &[Step], first: ScanPlaces) -> Result<()
     Ok(())
 }
 
-/// Adds a verdict, and the call.
+/// Appends a verdict, and the call.
 #[tactic(auto, using(snap_text::proofs::Texts::joined), unfolding(crate::specs::Answer::call_lines))]
 fn push_call(out: &mut Vec<u8>, verdict: &Verdict) -> Result<(), AllocError>
     ensures { OnOk result (out.new.items ≡ out.old.items ++ call_lines verdict.now) }
@@ -191,7 +191,8 @@ fn push_call(out: &mut Vec<u8>, verdict: &Verdict) -> Result<(), AllocError>
     push_goto(out, verdict.call)
 }
 
-/// Adds why the scan of a verdict answered so, which an item answers, with what is said of its point.
+/// Appends why the scan of a verdict answered so, which an item answers, with what is said of its
+/// point.
 #[tactic(auto, using(snap_text::proofs::Texts::joined), unfolding(crate::specs::Answer::answer_lines))]
 pub(crate) fn push_answer(
     out: &mut Vec<u8>,
@@ -214,7 +215,7 @@ pub(crate) fn push_answer(
     push_chain(out, steps, scan)
 }
 
-/// The verdict of the scan that an item answers.
+/// Returns the verdict of the scan that an item answers.
 pub(crate) fn verdict_with(verdicts: &[Verdict], item: u64) -> Option<Verdict>
     ensures { result ≡ verdict_with verdicts.now item }
 {

@@ -1,4 +1,4 @@
-//! The operand at which a condition traps, and those of a quantifier.
+//! The operand at which a condition traps, or the line of a quantifier.
 ghost use Rattle.std.specs.Prelude.{◌≡◌, ◌≤◌, Some};
 ghost use Rattle.snap_words.specs.Shape.{IsOneOf};
 ghost use Rattle.snap_semantics.specs.Rules.{or_else};
@@ -13,7 +13,7 @@ use snap_machine::Machine;
 use snap_semantics::{Comparison, Condition, Expr};
 use snap_words::Kind;
 
-/// A comparison that traps.
+/// Returns a comparison that traps.
 fn comparison_trouble<K: Kind>(
     machine: &Machine<K>,
     taker: Taker,
@@ -27,7 +27,7 @@ fn comparison_trouble<K: Kind>(
     first_of(left, term_trouble(machine, taker, &comparison.right))
 }
 
-/// The first of two comparisons that trap.
+/// Returns the first of two comparisons that trap.
 fn two_trouble<K: Kind>(
     machine: &Machine<K>,
     taker: Taker,
@@ -42,7 +42,7 @@ fn two_trouble<K: Kind>(
     first_of(found, comparison_trouble(machine, taker, second))
 }
 
-/// A condition that traps.
+/// Returns a condition that traps.
 pub(crate) fn condition_trouble<K: Kind>(
     machine: &Machine<K>,
     taker: Taker,
@@ -67,7 +67,7 @@ pub(crate) fn condition_trouble<K: Kind>(
     }
 }
 
-/// A condition that traps, where there is one.
+/// Returns the trouble of a condition, if there is one and it traps.
 fn where_trouble<K: Kind>(
     machine: &Machine<K>,
     taker: Taker,
@@ -83,7 +83,7 @@ fn where_trouble<K: Kind>(
     }
 }
 
-/// The first of so many places at which a condition traps.
+/// Returns the trouble at the first of `count` places at which a condition traps.
 #[tactic(auto, using(crate::proofs::Places::condition_here, crate::proofs::Places::condition_later))]
 pub(crate) fn conditions_trouble<K: Kind>(
     machine: &Machine<K>,
@@ -109,7 +109,7 @@ pub(crate) fn conditions_trouble<K: Kind>(
     None
 }
 
-/// The new value of a place that traps.
+/// Returns the new value of a place that traps.
 fn value_trouble<K: Kind>(
     machine: &Machine<K>,
     taker: Taker,
@@ -124,7 +124,7 @@ fn value_trouble<K: Kind>(
     first_of(value, where_trouble(machine, taker, condition))
 }
 
-/// The first of so many places whose new value traps.
+/// Returns the trouble at the first of `count` places whose new value traps.
 #[tactic(auto, using(crate::proofs::Places::value_here, crate::proofs::Places::value_later))]
 pub(crate) fn values_trouble<K: Kind>(
     machine: &Machine<K>,

@@ -1,5 +1,5 @@
 //! Why a scan answered what it answered, and why a process trapped: what the audit and the trace of
-//! a run say of one item, with the commands that go to the items that it speaks of.
+//! a run say of one item, with the commands that go to the items named in it.
 #![tactic(auto)]
 
 mod answer;

@@ -15,7 +15,7 @@ use snap_machine::{Local, Machine};
 use snap_semantics::{Index, Name, Op, Term};
 use snap_words::{Field, Kind, field_of, handshake_of};
 
-/// The value of an index.
+/// Returns the value of an index.
 pub(crate) fn index_number<K: Kind>(machine: &Machine<K>, taker: Taker, index: &Index) -> u64
     requires { IsOneOf machine.now.shape.n taker.process }
     ensures { result ≡ index_value (context_of machine.now.shape machine.now.state taker)
@@ -27,7 +27,7 @@ pub(crate) fn index_number<K: Kind>(machine: &Machine<K>, taker: Taker, index: &
     }
 }
 
-/// The value of an update, and 0 in a scan.
+/// Returns the value of an update, and 0 in a scan.
 fn arg_of(op: Op) -> u64
     ensures { result ≡ arg_of op }
 {
@@ -37,7 +37,7 @@ fn arg_of(op: Op) -> u64
     }
 }
 
-/// What a row of a process has.
+/// Returns what a row of a process has.
 pub(crate) fn row_of<K: Kind>(machine: &Machine<K>, i: u32, name: Name) -> &[u64]
     requires { IsOneOf machine.now.shape.n i }
     ensures { result.now ≡ row_in (local_value (process_at machine.now.state i).locals name) }
@@ -48,7 +48,7 @@ pub(crate) fn row_of<K: Kind>(machine: &Machine<K>, i: u32, name: Name) -> &[u64
     }
 }
 
-/// What a `words` local of a process has.
+/// Returns what a `words` local of a process has.
 fn words_of<K: Kind>(machine: &Machine<K>, i: u32, name: Name) -> &[K::Word]
     requires { IsOneOf machine.now.shape.n i }
     ensures { map K.as_word result.now
@@ -60,14 +60,14 @@ fn words_of<K: Kind>(machine: &Machine<K>, i: u32, name: Name) -> &[K::Word]
     }
 }
 
-/// The place of a number, counted from 0.
+/// Returns the place of a number, counted from 0.
 fn place_of(number: u64) -> usize
     ensures { result ≡ number - 1 }
 {
     number.saturating_sub(1) as usize
 }
 
-/// What a row of a process has at a place.
+/// Returns what a row of a process has at a place.
 fn row_number<K: Kind>(machine: &Machine<K>, i: u32, name: Name, place: u64) -> u64
     requires { IsOneOf machine.now.shape.n i }
     ensures { result ≡ row_number (process_at machine.now.state i).locals name place }
@@ -77,7 +77,7 @@ fn row_number<K: Kind>(machine: &Machine<K>, i: u32, name: Name, place: u64) -> 
     if k < row.len() { row[k] } else { 0 }
 }
 
-/// A field of what a `words` local of a process has at a place.
+/// Returns a field of what a `words` local of a process has at a place.
 fn field_number<K: Kind>(machine: &Machine<K>, i: u32, of: Field, name: Name, place: u64) -> u64
     requires { IsOneOf machine.now.shape.n i }
     ensures { result ≡ field_of of (word_of (process_at machine.now.state i).locals name place) }
@@ -91,7 +91,7 @@ fn field_number<K: Kind>(machine: &Machine<K>, i: u32, of: Field, name: Name, pl
     }
 }
 
-/// A handshake bit of what a `words` local of a process has at a place.
+/// Returns a handshake bit of what a `words` local of a process has at a place.
 fn handshake_number<K: Kind>(
     machine: &Machine<K>,
     i: u32,
@@ -112,7 +112,7 @@ fn handshake_number<K: Kind>(
     }
 }
 
-/// The number of an operand.
+/// Returns the number of an operand.
 pub(crate) fn term_number<K: Kind>(machine: &Machine<K>, taker: Taker, term: &Term) -> u64
     requires { IsOneOf machine.now.shape.n taker.process }
     ensures { result ≡ term_number (context_of machine.now.shape machine.now.state taker) term.now }
@@ -136,7 +136,7 @@ pub(crate) fn term_number<K: Kind>(machine: &Machine<K>, taker: Taker, term: &Te
     }
 }
 
-/// 1 where a number is 0, else 0.
+/// Returns 1 if `number` is 0, and 0 otherwise.
 pub(crate) fn negated(number: u64) -> u64
     ensures { result ≡ negated number }
 {

@@ -17,14 +17,14 @@ use snap_machine::Machine;
 use snap_semantics::{Expr, Index, Instr, Range, Term};
 use snap_words::{Kind, Shape};
 
-/// How many places a row or a `words` local has.
+/// Returns how many places a row or a `words` local has.
 pub(crate) fn places(shape: Shape) -> u64
     ensures { result ≡ places shape }
 {
     shape.n().max(shape.w())
 }
 
-/// How many places a quantifier goes over.
+/// Returns how many places a quantifier goes over.
 fn range_end(shape: Shape, range: Range) -> u64
     ensures { result ≡ range_end shape range }
 {
@@ -34,7 +34,7 @@ fn range_end(shape: Shape, range: Range) -> u64
     }
 }
 
-/// An index that is none of so many places.
+/// Returns the trouble of an index that is none of `count` places.
 pub(crate) fn place_trouble<K: Kind>(
     machine: &Machine<K>,
     taker: Taker,
@@ -53,7 +53,7 @@ pub(crate) fn place_trouble<K: Kind>(
     }
 }
 
-/// The first of two.
+/// Returns the first of two troubles, if there is one.
 pub(crate) fn first_of(first: Option<Trouble>, second: Option<Trouble>) -> Option<Trouble>
     ensures { result ≡ or_else first second }
 {
@@ -63,7 +63,7 @@ pub(crate) fn first_of(first: Option<Trouble>, second: Option<Trouble>) -> Optio
     }
 }
 
-/// An operand that traps.
+/// Returns an operand that traps.
 pub(crate) fn term_trouble<K: Kind>(
     machine: &Machine<K>,
     taker: Taker,
@@ -86,7 +86,7 @@ pub(crate) fn term_trouble<K: Kind>(
     }
 }
 
-/// Two numbers whose sum is none of 64 bits.
+/// Returns the trouble of two numbers whose sum is above 2^64 - 1.
 fn sum_trouble(left: u64, right: u64) -> Option<Trouble>
     ensures { result ≡ sum_trouble left right }
 {
@@ -96,7 +96,7 @@ fn sum_trouble(left: u64, right: u64) -> Option<Trouble>
     }
 }
 
-/// A sum that traps.
+/// Returns a sum that traps.
 fn sum_of<K: Kind>(machine: &Machine<K>, taker: Taker, left: &Term, right: &Term) -> Option<Trouble>
     requires { IsOneOf machine.now.shape.n taker.process }
     ensures { let c = context_of machine.now.shape machine.now.state taker in result
@@ -109,7 +109,7 @@ fn sum_of<K: Kind>(machine: &Machine<K>, taker: Taker, left: &Term, right: &Term
     first_of(term_trouble(machine, taker, left), second)
 }
 
-/// An expression that traps.
+/// Returns an expression that traps.
 pub(crate) fn expr_trouble<K: Kind>(
     machine: &Machine<K>,
     taker: Taker,
@@ -126,8 +126,8 @@ pub(crate) fn expr_trouble<K: Kind>(
     }
 }
 
-/// The operand at which the line of a process traps: the first that is no place, no number of 64
-/// bits, no bit, or no register of the process.
+/// Returns the operand at which the line of a process traps: the first that is no place, no number
+/// of 64 bits, no bit, or no register of the process.
 pub fn line_trouble<K: Kind>(machine: &Machine<K>, taker: Taker, instr: &Instr) -> Option<Trouble>
     requires { IsOneOf machine.now.shape.n taker.process }
     ensures { result

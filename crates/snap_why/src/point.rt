@@ -1,4 +1,4 @@
-//! What `why` prints of the point of a scan: the item, or, where memory never held what the scan
+//! What `why` prints of the point of a scan: the item, or, if memory never held what the scan
 //! answered, whether the run up to the answer is linearizable.
 ghost use Rattle.std.specs.Prelude.{◌≡◌, ◌≤◌, IfOk, codes, length};
 ghost use Rattle.snap_judge.specs.declared.judgements.Judgement.{Judgement};
@@ -43,8 +43,8 @@ fn no_point_lines<K: Kind>(alloc: Global, record: &Record<K>) -> Result<Vec<u8>,
     Ok(text)
 }
 
-/// Returns what is said of the point of a scan, which an item answers. Where there is none, the run
-/// up to that item is judged.
+/// Returns the text on the point of a scan, which an item answers. If there is none, the run up to
+/// that item is judged.
 pub(crate) fn point_text<K: Kind>(
     alloc: Global,
     program: &Program,

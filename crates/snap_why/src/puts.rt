@@ -17,7 +17,7 @@ use snap_machine::Machine;
 use snap_semantics::{BitBank, Expr, Index, Name, Tuple};
 use snap_words::{Address, Bank, Kind};
 
-/// A number that is no bit.
+/// Returns a number that is no bit.
 fn bit_trouble(number: u64) -> Option<Trouble>
     ensures { result ≡ bit_trouble number }
 {
@@ -28,7 +28,7 @@ fn bit_trouble(number: u64) -> Option<Trouble>
     }
 }
 
-/// The first of the numbers that is no bit.
+/// Returns the first of the numbers that is no bit.
 fn bits_trouble(numbers: &[u64]) -> Option<Trouble>
     ensures { result ≡ bits_trouble numbers.now }
 {
@@ -41,7 +41,7 @@ fn bits_trouble(numbers: &[u64]) -> Option<Trouble>
     None
 }
 
-/// An expression whose number is no bit.
+/// Returns an expression whose number is no bit.
 fn expr_bit_trouble<K: Kind>(machine: &Machine<K>, taker: Taker, expr: &Expr) -> Option<Trouble>
     requires { IsOneOf machine.now.shape.n taker.process }
     ensures { result ≡ bit_trouble
@@ -57,7 +57,7 @@ fn expr_bit_trouble<K: Kind>(machine: &Machine<K>, taker: Taker, expr: &Expr) ->
     }
 }
 
-/// The toggle of a word, and its handshake bits in a row.
+/// Returns the toggle of a word, and its handshake bits in a row.
 fn handshakes_trouble<K: Kind>(
     machine: &Machine<K>,
     taker: Taker,
@@ -75,7 +75,7 @@ fn handshakes_trouble<K: Kind>(
     first_of(first, bits_trouble(&row[..count]))
 }
 
-/// The numbers of a tuple, and the bits of a word that is made of them.
+/// Returns the trouble of the numbers of a tuple, or of the bits of a word that is made of them.
 fn tuple_trouble<K: Kind>(machine: &Machine<K>, taker: Taker, tuple: &Tuple) -> Option<Trouble>
     requires { IsOneOf machine.now.shape.n taker.process }
     ensures { result ≡ tuple_trouble (context_of machine.now.shape machine.now.state taker)
@@ -102,7 +102,7 @@ fn tuple_trouble<K: Kind>(machine: &Machine<K>, taker: Taker, tuple: &Tuple) -> 
     }
 }
 
-/// A register of another process.
+/// Returns a register of another process.
 fn owner_trouble<K: Kind>(
     machine: &Machine<K>,
     taker: Taker,
@@ -121,7 +121,7 @@ fn owner_trouble<K: Kind>(
     }
 }
 
-/// A word that is put, and its register.
+/// Returns a word that is put, and its register.
 pub(crate) fn put_trouble<K: Kind>(
     machine: &Machine<K>,
     taker: Taker,
@@ -141,7 +141,7 @@ pub(crate) fn put_trouble<K: Kind>(
     first_of(place, first_of(parts, owner))
 }
 
-/// A bit that is put, and its register.
+/// Returns a bit that is put, and its register.
 pub(crate) fn put_bit_trouble<K: Kind>(
     machine: &Machine<K>,
     taker: Taker,
@@ -167,7 +167,7 @@ pub(crate) fn put_bit_trouble<K: Kind>(
     )
 }
 
-/// A view that is put, and its register.
+/// Returns a view that is put, and its register.
 pub(crate) fn put_view_trouble<K: Kind>(
     machine: &Machine<K>,
     taker: Taker,

@@ -14,7 +14,7 @@ pub struct Taker {
 }
 
 impl Taker {
-    /// The same at another place of a quantifier.
+    /// Returns the same taker at another place of a quantifier.
     pub(crate) fn at(self, place: u64) -> Taker
         ensures { result ≡ taker_at self place }
     {

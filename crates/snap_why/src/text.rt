@@ -11,7 +11,7 @@ use snap_text::{push_number, push_text};
 use snap_words::Bank;
 use std::alloc::AllocError;
 
-/// Adds an index as it stands in a listing.
+/// Appends an index as it stands in a listing.
 fn push_index(out: &mut Vec<u8>, index: &Index) -> Result<(), AllocError>
     ensures { OnOk result (out.new.items ≡ out.old.items ++ index_text index.now) }
 {
@@ -26,7 +26,7 @@ fn push_index(out: &mut Vec<u8>, index: &Index) -> Result<(), AllocError>
     }
 }
 
-/// Adds the letter of a bank.
+/// Appends the letter of a bank.
 fn push_bank(out: &mut Vec<u8>, bank: Bank) -> Result<(), AllocError>
     ensures { OnOk result (out.new.items ≡ out.old.items ++ bank_text bank) }
 {
@@ -38,7 +38,7 @@ fn push_bank(out: &mut Vec<u8>, bank: Bank) -> Result<(), AllocError>
     }
 }
 
-/// Adds a second index, where there is one.
+/// Appends a second index, if there is one.
 #[tactic(auto, using(snap_text::proofs::Texts::joined))]
 fn push_second(out: &mut Vec<u8>, j: u64) -> Result<(), AllocError>
     ensures { OnOk result (out.new.items ≡ out.old.items ++ second_text j) }
@@ -50,7 +50,7 @@ fn push_second(out: &mut Vec<u8>, j: u64) -> Result<(), AllocError>
     push_number(out, j)
 }
 
-/// Adds an index with its value.
+/// Appends an index with its value.
 #[tactic(auto, using(snap_text::proofs::Texts::joined), unfolding(crate::specs::TroubleText::valued_index))]
 fn push_valued_index(out: &mut Vec<u8>, index: &Index, value: u64) -> Result<(), AllocError>
     ensures { OnOk result (out.new.items ≡ out.old.items ++ valued_index index.now value) }
@@ -61,7 +61,7 @@ fn push_valued_index(out: &mut Vec<u8>, index: &Index, value: u64) -> Result<(),
     push_number(out, value)
 }
 
-/// Adds a register.
+/// Appends a register.
 #[tactic(auto, using(snap_text::proofs::Texts::joined))]
 fn push_register(out: &mut Vec<u8>, bank: Bank, i: u64, j: u64) -> Result<(), AllocError>
     ensures { OnOk result (out.new.items ≡ out.old.items ++ register_text bank i j) }
@@ -73,7 +73,7 @@ fn push_register(out: &mut Vec<u8>, bank: Bank, i: u64, j: u64) -> Result<(), Al
     push_second(out, j)
 }
 
-/// Adds an index that is no place.
+/// Appends an index that is no place.
 #[tactic(auto, using(snap_text::proofs::Texts::joined))]
 fn push_no_place(out: &mut Vec<u8>, index: &Index, value: u64, count: u64) -> Result<(), AllocError>
     ensures { OnOk result (out.new.items ≡ out.old.items
@@ -85,7 +85,7 @@ fn push_no_place(out: &mut Vec<u8>, index: &Index, value: u64, count: u64) -> Re
     push_text(out, b"\n")
 }
 
-/// Adds a sum that is none of 64 bits.
+/// Appends a sum that is above 2^64 - 1.
 #[tactic(auto, using(snap_text::proofs::Texts::joined))]
 fn push_large_sum(out: &mut Vec<u8>, left: u64, right: u64) -> Result<(), AllocError>
     ensures { OnOk result (out.new.items ≡ out.old.items ++ trouble_text (LargeSum left right)) }
@@ -97,7 +97,7 @@ fn push_large_sum(out: &mut Vec<u8>, left: u64, right: u64) -> Result<(), AllocE
     push_text(out, b" is above 18446744073709551615\n")
 }
 
-/// Adds a value that is no bit.
+/// Appends a value that is no bit.
 #[tactic(auto, using(snap_text::proofs::Texts::joined))]
 fn push_no_bit(out: &mut Vec<u8>, value: u64) -> Result<(), AllocError>
     ensures { OnOk result (out.new.items ≡ out.old.items ++ trouble_text (NoBit value)) }
@@ -107,7 +107,7 @@ fn push_no_bit(out: &mut Vec<u8>, value: u64) -> Result<(), AllocError>
     push_text(out, b", which is no bit\n")
 }
 
-/// Adds a register of another process.
+/// Appends a register of another process.
 #[tactic(auto, using(snap_text::proofs::Texts::joined))]
 fn push_not_own(out: &mut Vec<u8>, bank: Bank, i: u64, j: u64) -> Result<(), AllocError>
     ensures { OnOk result (out.new.items ≡ out.old.items ++ trouble_text (NotOwn bank i j)) }
@@ -118,7 +118,11 @@ fn push_not_own(out: &mut Vec<u8>, bank: Bank, i: u64, j: u64) -> Result<(), All
     push_text(out, b" alone\n")
 }
 
-/// Adds what is said of an operand at which a line traps.
+/// Appends the text on an operand at which a line traps.
+///
+/// # Errors
+///
+/// `AllocError` where memory runs out.
 pub fn push_trouble(out: &mut Vec<u8>, trouble: &Trouble) -> Result<(), AllocError>
     ensures { OnOk result (out.new.items ≡ out.old.items ++ trouble_text trouble.now) }
 {

@@ -4,13 +4,13 @@ ghost use Rattle.std.specs.Prelude.{◌≡◌, ◌++◌, OnOk, map, option_map};
 ghost use Rattle.snap_words.specs.Shape.{IsOneOf};
 ghost use Rattle.snap_semantics.specs.Source.{instr_at};
 ghost use Rattle.snap_semantics.specs.State.{process_at};
-ghost use Rattle.snap_listing_printer.specs.LineTexts.{text_with, written};
+ghost use Rattle.snap_listing.specs.LineTexts.{text_with, written};
 ghost use Rattle.snap_why.specs.Trap.{cause_line, end_line, nested_line, operand_line};
 ghost use Rattle.snap_why.specs.Trap.{text_or_number, trap_line, trap_lines, trouble_of};
 
 use crate::answer::push_process;
 use crate::{Taker, Trouble, line_trouble, push_trouble};
-use snap_listing_printer::LineTexts;
+use snap_listing::LineTexts;
 use snap_machine::Machine;
 use snap_report::outcome_text;
 use snap_semantics::{Activity, Cause, Op, Outcome, Status};
@@ -18,7 +18,7 @@ use snap_text::{push_number, push_text};
 use snap_words::Kind;
 use std::alloc::AllocError;
 
-/// Adds the text of a line, and its number where it is not there.
+/// Appends the text of a line, or its number if there is no such line.
 fn push_line(out: &mut Vec<u8>, texts: &LineTexts, number: u64) -> Result<(), AllocError>
     ensures { OnOk result (out.new.items ≡ out.old.items
         ++ text_or_number number (text_with texts.now number)) }
@@ -29,7 +29,7 @@ fn push_line(out: &mut Vec<u8>, texts: &LineTexts, number: u64) -> Result<(), Al
     }
 }
 
-/// Adds `process I trapped CAUSE at LINE`.
+/// Appends `process I trapped CAUSE at LINE`.
 #[tactic(auto, using(snap_text::proofs::Texts::joined))]
 fn push_trap_line(
     out: &mut Vec<u8>,
@@ -49,7 +49,7 @@ fn push_trap_line(
     push_text(out, b"\n")
 }
 
-/// Adds the operand of a line, where one is wrong.
+/// Appends the operand of a line, if one is wrong.
 fn push_operand(out: &mut Vec<u8>, trouble: Option<Trouble>) -> Result<(), AllocError>
     ensures { OnOk result (out.new.items ≡ out.old.items ++ operand_line trouble) }
 {
@@ -59,7 +59,7 @@ fn push_operand(out: &mut Vec<u8>, trouble: Option<Trouble>) -> Result<(), Alloc
     }
 }
 
-/// The operand at which the line of a process traps, where the line is there.
+/// Returns the operand at which the line of a process traps, if there is such a line.
 fn trouble_of<K: Kind>(machine: &Machine<K>, process: u32, activity: Activity) -> Option<Trouble>
     requires { IsOneOf machine.now.shape.n process }
     ensures { result ≡ trouble_of machine.now.source machine.now.shape machine.now.state
@@ -77,7 +77,7 @@ fn trouble_of<K: Kind>(machine: &Machine<K>, process: u32, activity: Activity) -
     }
 }
 
-/// Adds that a call is inside of another one.
+/// Appends that a call is inside of another one.
 #[tactic(auto, using(snap_text::proofs::Texts::joined))]
 fn push_nested(out: &mut Vec<u8>, link: Option<u64>) -> Result<(), AllocError>
     ensures { OnOk result (out.new.items ≡ out.old.items ++ nested_line link) }
@@ -90,7 +90,7 @@ fn push_nested(out: &mut Vec<u8>, link: Option<u64>) -> Result<(), AllocError>
     push_text(out, b"\n")
 }
 
-/// Adds how an operation ends.
+/// Appends how an operation ends.
 fn push_end(out: &mut Vec<u8>, op: Op, link: Option<u64>) -> Result<(), AllocError>
     ensures { OnOk result (out.new.items ≡ out.old.items ++ end_line op link) }
 {
@@ -101,7 +101,7 @@ fn push_end(out: &mut Vec<u8>, op: Op, link: Option<u64>) -> Result<(), AllocErr
     }
 }
 
-/// Adds why a process trapped.
+/// Appends why a process trapped.
 fn push_cause<K: Kind>(
     out: &mut Vec<u8>,
     machine: &Machine<K>,
@@ -124,7 +124,7 @@ fn push_cause<K: Kind>(
     }
 }
 
-/// Adds why a process trapped, where it stands so.
+/// Appends why a process trapped, if it has trapped.
 #[tactic(auto, using(snap_text::proofs::Texts::joined))]
 pub(crate) fn push_trap<K: Kind>(
     out: &mut Vec<u8>,

@@ -6,7 +6,7 @@ use snap_words::Bank;
 /// An operand at which a line traps.
 #[derive(Clone, Copy)]
 pub enum Trouble {
-    /// An index with this value, where places count from 1 to so many.
+    /// An index with this value, where places count from 1 to the last number.
     NoPlace(Index, u64, u64),
     /// Two numbers whose sum is above 2^64 - 1.
     LargeSum(u64, u64),

@@ -6,7 +6,7 @@ ghost use Rattle.snap_words.specs.Shape.{IsOneOf};
 ghost use Rattle.snap_semantics.specs.State.{process_at};
 ghost use Rattle.snap_runs.specs.Audit.{audit};
 ghost use Rattle.snap_runs.specs.Run.{run_over, state};
-ghost use Rattle.snap_listing_printer.specs.LineTexts.{written};
+ghost use Rattle.snap_listing.specs.LineTexts.{written};
 ghost use Rattle.snap_acts.specs.Trace.{trace_of};
 ghost use Rattle.snap_why.specs.Answer.{run_until};
 ghost use Rattle.snap_why.specs.Trap.{trap_lines};
@@ -19,14 +19,14 @@ use crate::trap::push_trap;
 use snap_acts::{Act, Step, Wanted, first_from, last_before, trace};
 use snap_asm_program::Program;
 use snap_audit::{Verdict, audit};
-use snap_listing_printer::LineTexts;
+use snap_listing::LineTexts;
 use snap_record::{Record, record_over};
 use snap_sched::Schedule;
 use snap_text::push_text;
 use snap_words::Kind;
 use std::alloc::{AllocError, Global};
 
-/// The audit of a program over a schedule.
+/// Returns the audit of a program over a schedule.
 fn verdicts_over<K: Kind>(
     alloc: Global,
     program: &Program,
@@ -39,7 +39,7 @@ fn verdicts_over<K: Kind>(
     audit(alloc, &record)
 }
 
-/// The process that a step leaves trapped.
+/// Returns the process that a step leaves trapped.
 fn trapped_by(step: &Step) -> Option<u32>
     ensures { result ≡ trapped_by step.now.process step.now.act }
 {
@@ -49,7 +49,7 @@ fn trapped_by(step: &Step) -> Option<u32>
     }
 }
 
-/// The process that traps at an item.
+/// Returns the process that traps at an item.
 fn trapped_at(steps: &[Step], item: u64) -> Option<u32>
     requires { item ≤ length steps.now }
     ensures { result ≡ trapped_at steps.now item }
@@ -61,7 +61,7 @@ fn trapped_at(steps: &[Step], item: u64) -> Option<u32>
     }
 }
 
-/// The item of a step.
+/// Returns the item of a step.
 fn item_of(step: Option<&Step>) -> Option<u64>
     ensures { result ≡ item_of (option_map (λ s. s.now) step.entry) }
 {
@@ -71,7 +71,7 @@ fn item_of(step: Option<&Step>) -> Option<u64>
     }
 }
 
-/// The item of the step at a place.
+/// Returns the item of the step at a place.
 fn item_there(steps: &[Step], place: Option<usize>) -> Option<u64>
     ensures { result ≡ item_there steps.now place }
 {
@@ -81,7 +81,7 @@ fn item_there(steps: &[Step], place: Option<usize>) -> Option<u64>
     }
 }
 
-/// The process that traps at an item of a schedule, which is one.
+/// Returns the process that traps at an item of `schedule`, which has such an item.
 fn trapped_in(program: &Program, schedule: &Schedule, steps: &[Step], item: u64) -> Option<u32>
     requires steps { steps.now ≡ trace_of (run_over program.now schedule.now) }
     requires within { item ≤ length schedule.now.items }
@@ -93,7 +93,7 @@ fn trapped_in(program: &Program, schedule: &Schedule, steps: &[Step], item: u64)
     trapped_at(steps, item)
 }
 
-/// Adds that there is nothing to explain from here on, and where there was.
+/// Appends that there is nothing to explain from here on, and where there was.
 fn push_last(out: &mut Vec<u8>, last: Option<u64>) -> Result<(), AllocError>
     ensures { OnOk result (out.new.items ≡ out.old.items ++ nothing_line None last) }
 {
@@ -111,7 +111,7 @@ and no process traps\n",
     }
 }
 
-/// Adds that there is nothing to explain, and where there is.
+/// Appends that there is nothing to explain, and where there is.
 fn push_nothing(out: &mut Vec<u8>, next: Option<u64>, last: Option<u64>) -> Result<(), AllocError>
     ensures { OnOk result (out.new.items ≡ out.old.items ++ nothing_line next last) }
 {
@@ -125,7 +125,7 @@ fn push_nothing(out: &mut Vec<u8>, next: Option<u64>, last: Option<u64>) -> Resu
     }
 }
 
-/// Adds that there is nothing to explain of an item, and where there is.
+/// Appends that there is nothing to explain of an item, and where there is.
 #[tactic(auto, unfolding(crate::specs::Why::nothing_lines))]
 fn push_nothing_at(out: &mut Vec<u8>, steps: &[Step], item: u64) -> Result<(), AllocError>
     requires { item ≤ length steps.now }
@@ -136,7 +136,7 @@ fn push_nothing_at(out: &mut Vec<u8>, steps: &[Step], item: u64) -> Result<(), A
     push_nothing(out, item_of(next), item_there(steps, last))
 }
 
-/// The record of the first items of a schedule.
+/// Returns the record of the first items of a schedule.
 #[tactic(auto, using(crate::proofs::Traces::first_items))]
 pub(crate) fn record_of_first<K: Kind>(
     alloc: Global,
@@ -157,7 +157,7 @@ pub(crate) fn record_of_first<K: Kind>(
     Ok(record)
 }
 
-/// Adds why the process of an item trapped.
+/// Appends why the process of an item trapped.
 fn push_trap_at<K: Kind>(
     alloc: Global,
     out: &mut Vec<u8>,
@@ -179,13 +179,13 @@ fn push_trap_at<K: Kind>(
     push_trap(out, texts, record.machine(), process)
 }
 
-/// Adds why the scan that an item answered had this answer, or why the process of the item trapped;
-/// or that it did neither, and which item does. The run is judged only up to an answer that has no
-/// point.
+/// Appends why the scan that item `item` answered had this answer, or why the process of the item
+/// trapped; or that the item did neither, and which item does. The run is judged only up to an
+/// answer that has no point.
 ///
 /// # Errors
 ///
-/// There is no memory for it.
+/// `AllocError` where memory runs out.
 #[tactic(auto, using(crate::proofs::Traces::as_many))]
 pub fn push_why<K: Kind>(
     alloc: Global,

@@ -5,7 +5,7 @@ use Rattle.std.specs.Prelude.{ℕ, zero, suc, ◌/◌, ◌%◌, List, [], ◌∷
 abbrev pub mask_width : ℕ
 mask_width = 64
 
--- this many bits of a mask, the lowest one first
+-- the bits of a mask of this width, the lowest one first
 abbrev pub mask_bits : ℕ → ℕ → List ℕ
 mask_bits zero mask = []
 mask_bits (suc count) mask = (mask % 2) ∷ mask_bits count (mask / 2)

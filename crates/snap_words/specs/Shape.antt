@@ -19,7 +19,7 @@ max_count = 64
 abbrev pub max_items : ℕ
 max_items = 1000000
 
--- both are 1 to that many
+-- a shape: the numbers of processes and of words are both 1 to `max_count`
 abbrev pub IsShape : ℕ → ℕ → Type 0
 IsShape n w = IsOneOf max_count n × IsOneOf max_count w
 

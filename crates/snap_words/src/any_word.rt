@@ -2,7 +2,8 @@
 //! registers, from which a word of one kind is built.
 use crate::view::View;
 
-/// A word of any kind, to build one of a kind from. A kind keeps those that it has.
+/// The fields of a word of any kind, from which a word of one kind is built. A kind ignores the
+/// fields that its words lack.
 #[derive(Drop)]
 pub struct AnyWord {
     pub datum: u64,

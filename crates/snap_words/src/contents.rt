@@ -6,14 +6,14 @@ ghost use Rattle.snap_words.specs.Kind.{field_of};
 use crate::kind::Field;
 use crate::kinds::Kind;
 
-/// A field of one number, 0 where the kind lacks it.
+/// Returns a field that is one number, 0 where the kind lacks it.
 pub fn field_of<K: Kind>(word: &K::Word, field: Field) -> u64
     ensures { result ≡ field_of field (K.as_word word.now) }
 {
     K::field(word, field).unwrap_or(0)
 }
 
-/// The handshake bit at a place counted from 0, 0 where there is none.
+/// Returns the handshake bit at `place`, counted from 0; 0 where there is none.
 pub fn handshake_of<K: Kind>(word: &K::Word, place: usize) -> u64
     ensures { result ≡ slice_index (K.as_word word.now).handshakes place }
 {
@@ -24,7 +24,7 @@ pub fn handshake_of<K: Kind>(word: &K::Word, place: usize) -> u64
     }
 }
 
-/// Whether two words have the same handshake bits.
+/// Returns whether two words have the same handshake bits.
 pub fn same_handshakes<K: Kind>(x: &K::Word, y: &K::Word) -> bool
     ensures { result ≡ bytes_eq (K.as_word x.now).handshakes (K.as_word y.now).handshakes }
 {
@@ -40,7 +40,7 @@ pub fn same_handshakes<K: Kind>(x: &K::Word, y: &K::Word) -> bool
     true
 }
 
-/// The view, empty where the kind lacks it.
+/// Returns the view of `word`, empty where the kind lacks it.
 pub fn view_of<K: Kind>(word: &K::Word) -> &[u64]
     ensures { result.now ≡ (K.as_word word.now).view }
 {

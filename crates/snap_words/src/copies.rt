@@ -5,7 +5,11 @@ use crate::kinds::Kind;
 use crate::view::View;
 use std::alloc::{AllocError, Global};
 
-/// Equal words.
+/// Returns copies of `words`, in their order.
+///
+/// # Errors
+///
+/// `AllocError` where there is no memory for the copies.
 pub fn copy_words<K: Kind>(alloc: Global, words: &[K::Word]) -> Result<Vec<K::Word>, AllocError>
     ensures { IfOk result (λ copies. copies.items ≡ words.now) }
 {
@@ -16,7 +20,11 @@ pub fn copy_words<K: Kind>(alloc: Global, words: &[K::Word]) -> Result<Vec<K::Wo
     Ok(copies)
 }
 
-/// Equal views.
+/// Returns copies of `views`, in their order.
+///
+/// # Errors
+///
+/// `AllocError` where there is no memory for the copies.
 pub fn copy_views(alloc: Global, views: &[View]) -> Result<Vec<View>, AllocError>
     ensures { IfOk result (λ copies. copies.items ≡ views.now) }
 {

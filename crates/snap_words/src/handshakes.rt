@@ -6,8 +6,8 @@ ghost use Rattle.snap_words.specs.Kind.{is_bit};
 
 use std::marker::Model;
 
-/// The handshake bits of a word, seen as the list of them: bit `k` of the mask is handshake bit
-/// `k + 1`. There are at most 64.
+/// The handshake bits of a word, at most 64, seen as the list of them: bit `k` of the mask is
+/// handshake bit `k + 1`.
 #[derive(Drop)]
 pub(crate) struct Handshakes {
     mask: u64,
@@ -25,7 +25,7 @@ impl Model for Handshakes {
     ghost invariant = { λ h. h.count ≤ mask_width };
 }
 
-/// The mask of these bits.
+/// Returns the mask of `bits`, the first of which is the lowest.
 fn mask_of(bits: &[u64]) -> u64
     requires width { length bits.now ≤ mask_width }
     requires bits { list_all is_bit bits.now ≡ true }
@@ -39,7 +39,7 @@ fn mask_of(bits: &[u64]) -> u64
 }
 
 impl Handshakes {
-    /// This many handshake bits that are 0.
+    /// Returns `count` handshake bits that are 0.
     pub(crate) fn zeros(count: u32) -> Handshakes
         requires { count ≤ mask_width }
         ensures { result ≡ replicate count 0 }
@@ -47,7 +47,7 @@ impl Handshakes {
         Handshakes { mask: 0, count }
     }
 
-    /// The handshake bits that are these bits, as many as `count` says.
+    /// Returns the handshake bits `bits`, of which there are `count`.
     pub(crate) fn of(count: u32, bits: &[u64]) -> Handshakes
         requires count { length bits.now ≡ count }
         requires width { count ≤ mask_width }
@@ -60,14 +60,14 @@ impl Handshakes {
         }
     }
 
-    /// How many there are.
+    /// Returns how many handshake bits there are.
     pub(crate) fn count(&self) -> u32
         ensures { result ≡ length self.now }
     {
         self.count
     }
 
-    /// The handshake bit at a place, counted from 0.
+    /// Returns the handshake bit at `place`, counted from 0; `None` where there is none.
     pub(crate) fn get(&self, place: u32) -> Option<u64>
         ensures { result ≡ slice_get self.now place }
     {
@@ -78,7 +78,7 @@ impl Handshakes {
         }
     }
 
-    /// Equal handshake bits.
+    /// Returns a copy of the handshake bits.
     pub(crate) fn copy(&self) -> Handshakes
         ensures { result ≡ self.now }
     {

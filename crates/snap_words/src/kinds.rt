@@ -31,36 +31,43 @@ pub trait Kind: Send + Sync {
 
     const TAG: KindTag;
 
-    /// A word as one of any kind; what its kind lacks is 0 or empty.
+    /// The fields of a word, as those of a word of any kind; what the kind lacks is 0 or empty.
     ghost as_word: { Self.Word → Word };
 
-    /// Whether there are registers of this shape.
+    /// Returns whether registers of this kind can have `shape`.
     fn fits(shape: Shape) -> bool
         ensures { result ≡ fits TAG shape };
 
-    /// A word that nobody has written.
+    /// Returns the word of a register that nobody has written.
+    ///
+    /// # Errors
+    ///
+    /// `AllocError` where there is no memory for the word.
     fn initial(alloc: Global, shape: Shape) -> Result<Self::Word, AllocError>
         ensures { IfOk result (λ w. as_word w ≡ initial_word TAG shape) };
 
-    /// A field of one number, where the kind has it.
+    /// Returns a field that is one number; `None` where the kind lacks it.
     fn field(word: &Self::Word, field: Field) -> Option<u64>
         ensures { result ≡ field_in TAG field (as_word word.now) };
 
-    /// Handshake bit `i`, counted from 1, where the kind has handshake bits and there is one.
+    /// Returns handshake bit `i`, counted from 1; `None` where the word has no such bit.
     fn handshake(word: &Self::Word, i: u32) -> Option<u64>
         ensures { result ≡ handshake_in TAG i (as_word word.now) };
 
-    /// How many handshake bits it has, 0 where the kind has none.
+    /// Returns how many handshake bits the word has, 0 where the kind has none.
     fn handshake_count(word: &Self::Word) -> u32
         ensures count { result ≡ length (as_word word.now).handshakes }
         ensures lack { has_handshakes TAG ≡ false → result ≡ 0 };
 
-    /// The view, where the kind has one.
+    /// Returns the view of the word; `None` where the kind has none.
     fn view(word: &Self::Word) -> Option<&View>
         ensures { option_map (λ v. v.now) result ≡ view_in TAG (as_word word.now) };
 
-    /// The word of the kind, or `NotABit` where its toggle or one of its handshake bits is not
-    /// 0 or 1. Takes no memory.
+    /// Returns the word that has the fields of `given` that the kind has. No memory is allocated.
+    ///
+    /// # Errors
+    ///
+    /// `NotABit` where the toggle or one of the handshake bits of the word is not 0 or 1.
     fn build(shape: Shape, given: AnyWord) -> Result<Self::Word, WordFault>
         requires { is_sized TAG shape (word_of_any given) ≡ true }
         ensures { MatchResult result
@@ -68,15 +75,19 @@ pub trait Kind: Send + Sync {
             × (has_bits TAG (word_of_any given) ≡ true))
             (λ e. (e ≡ NotABit) × (has_bits TAG (word_of_any given) ≡ false)) };
 
-    /// An equal word.
+    /// Returns a copy of `word`.
+    ///
+    /// # Errors
+    ///
+    /// `AllocError` where there is no memory for the copy.
     fn copy(alloc: Global, word: &Self::Word) -> Result<Self::Word, AllocError>
         ensures { IfOk result (λ w. w ≡ word.now) };
 
-    /// Whether process `who` may write the register at this address.
+    /// Returns whether process `who`, counted from 1, may write the register at `address`.
     fn may_write(who: u32, address: Address) -> bool
         ensures { result ≡ may_write TAG who address.bank address.i };
 
-    /// Whether there are registers in this bank.
+    /// Returns whether registers of this kind have `bank`.
     fn has_bank(bank: Bank) -> bool
         ensures { result ≡ has_bank TAG bank };
 

@@ -10,7 +10,7 @@ use thiserror::Error;
 /// The most processes, and the most words.
 pub const MAX_COUNT: u64 = 64;
 
-/// The most items of a schedule, and of a run; so also the most turns of a process in one.
+/// The most items of a schedule, and of a run; no process makes more turns in a run.
 pub const MAX_ITEMS: u64 = 1_000_000;
 
 /// Why a shape or a word is refused.
@@ -44,7 +44,11 @@ impl Model for Shape {
 }
 
 impl Shape {
-    /// The shape of `n` processes and `w` words, or `BadShape` unless both are 1 to `MAX_COUNT`.
+    /// Returns the shape of `n` processes and `w` words.
+    ///
+    /// # Errors
+    ///
+    /// `BadShape` unless `n` and `w` are from 1 to `MAX_COUNT`.
     pub fn new(n: u64, w: u64) -> Result<Shape, WordFault>
         ensures { MatchResult result (λ s. (s ≡ record { n = n; w = w }) × IsShape n w)
             (λ e. (e ≡ BadShape) × (IsShape n w → ⊥)) }
@@ -56,14 +60,14 @@ impl Shape {
         }
     }
 
-    /// The number of processes.
+    /// Returns the number of processes.
     pub fn n(&self) -> u64
         ensures { result ≡ self.now.n }
     {
         self.n
     }
 
-    /// The number of processes, which is at most `MAX_COUNT`.
+    /// Returns the number of processes, which is at most `MAX_COUNT`, as a `u32`.
     pub fn process_count(&self) -> u32
         ensures value { result ≡ self.now.n }
         ensures bound { IsOneOf max_count result }
@@ -71,7 +75,7 @@ impl Shape {
         self.n as u32
     }
 
-    /// The number of words.
+    /// Returns the number of words.
     pub fn w(&self) -> u64
         ensures { result ≡ self.now.w }
     {

@@ -1,5 +1,5 @@
-//! `View`: a list of numbers, as the view of a word has
-//! or its handshake bits; copies of it may share them.
+//! `View`: a list of numbers, the view of a word or its handshake bits; copies of a view may share
+//! their values.
 ghost use Rattle.std.specs.Prelude.{◌≡◌, IfOk, replicate};
 ghost use Rattle.std.specs.List.{list_all};
 ghost use Rattle.snap_words.specs.Kind.{is_bit};
@@ -9,7 +9,7 @@ use std::alloc::{AllocError, Global};
 use std::marker::Model;
 use std::sync::Arc;
 
-/// Where the values of a view stand: on their own, or shared by all its copies.
+/// The values of a view: its own, or shared by all its copies.
 #[derive(Debug, Drop)]
 enum ViewValues {
     Own(Vec<u64>),
@@ -24,7 +24,7 @@ pub struct View {
 }
 
 impl Drop for View {
-    // Written out, so that it is proved here and not once more wherever one is dropped.
+    // A drop that is written out is one call: it is proved once, and not again at each drop.
     fn drop(self) {
         let View { places: _ } = self;
     }
@@ -40,7 +40,7 @@ impl Model for View {
 }
 
 impl View {
-    /// The view with these values.
+    /// Returns a view that owns `places` as its values.
     pub fn of(places: Vec<u64>) -> View
         ensures { result ≡ places.items }
     {
@@ -49,7 +49,11 @@ impl View {
         }
     }
 
-    /// The view with these values, whose copies share them.
+    /// Returns a view of the values `places`, which its copies share.
+    ///
+    /// # Errors
+    ///
+    /// `AllocError` where memory runs out.
     pub fn shared(alloc: Global, places: Vec<u64>) -> Result<View, AllocError>
         ensures { IfOk result (λ v. v ≡ places.items) }
     {
@@ -58,21 +62,25 @@ impl View {
         })
     }
 
-    /// The view of `count` zeros.
+    /// Returns a view of `count` zeros.
+    ///
+    /// # Errors
+    ///
+    /// `AllocError` where memory runs out.
     pub fn zeros(alloc: Global, count: u64) -> Result<View, AllocError>
         ensures { IfOk result (λ v. v ≡ replicate count 0) }
     {
         View::shared(alloc, vec![in alloc; 0; count as usize]?)
     }
 
-    /// Whether each of its values is 0 or 1.
+    /// Returns whether each value is 0 or 1.
     pub fn has_bits(&self) -> bool
         ensures { result ≡ list_all is_bit self.now }
     {
         self.as_slice().iter().all(|&x| x <= 1)
     }
 
-    /// Its values.
+    /// Returns the values.
     pub fn as_slice(&self) -> &[u64]
         ensures { result.now ≡ self.now }
     {
@@ -82,7 +90,11 @@ impl View {
         }
     }
 
-    /// An equal view.
+    /// Returns a copy, which has its values to itself or shares them as this view does.
+    ///
+    /// # Errors
+    ///
+    /// `AllocError` where memory runs out.
     pub fn copy(&self, alloc: Global) -> Result<View, AllocError>
         ensures { IfOk result (λ v. v ≡ self.now) }
     {

@@ -1,7 +1,7 @@
 -- What came of a dialog about the texts of files, by what came of one about a listing.
 use Rattle.std.proofs.Common.{◌≡◌, inl, inr, ℕ, List, Option, None, Result, Ok, Err, refl}
 use Rattle.std.specs.Prelude.{IfErr, OnErr, OnOk}
-use Rattle.snap_dialog.specs.declared.fault.DialogFault.{DialogFault}
+use Rattle.snap_streams.specs.declared.dialog_fault.DialogFault.{DialogFault}
 use Rattle.snap_faults.specs.Faults.{of_input_fault}
 use Rattle.snap_faults.specs.declared.fault.ProgramFault.{ProgramFault}
 use Rattle.snap_faults.specs.declared.fault.ProgramFault.TheVariants as fault

@@ -3,8 +3,8 @@
 use Rattle.std.specs.Prelude.{◌≡◌, ◌⊎◌, ℕ, Bool, List, [], Option, Result, Ok, Err, if◌then◌else◌, codes}
 use Rattle.std.specs.Prelude.{string_bytes}
 use Rattle.std.specs.declared.io.ErrorKind.{ErrorKind}
-use Rattle.snap_dialog.specs.Event.{Shows}
-use Rattle.snap_dialog.specs.declared.fault.DialogFault.{DialogFault}
+use Rattle.snap_streams.specs.Event.{Shows}
+use Rattle.snap_streams.specs.declared.dialog_fault.DialogFault.{DialogFault}
 use Rattle.snap_faults.specs.Names.{of_program}
 use Rattle.snap_faults.specs.Told.{SaysWhy, Tells, exit_status, no_memory_line, no_text_line, success}
 use Rattle.snap_faults.specs.declared.fault.ProgramFault.{ProgramFault}
@@ -18,9 +18,9 @@ use Rattle.snap_semantics.specs.declared.refusal.Refusal.TheVariants.{InputTooLo
 use Rattle.snap_streams.specs.Sent.{Says}
 use Rattle.snap_streams.specs.State.{SinkState}
 use Rattle.snapdb.specs.Talk.{TalksRead}
-use Rattle.snapdb_command_line.specs.declared.arguments.Session.{Session}
-use Rattle.snapdb_command_line.specs.declared.command_line.CommandLine.{CommandLine}
-use Rattle.snapdb_command_line.specs.declared.command_line.CommandLine.TheVariants.{Asks, Help, Wrong, NoText}
+use Rattle.snapdb.specs.declared.arguments.Session.{Session}
+use Rattle.snapdb.specs.declared.command_line.CommandLine.{CommandLine}
+use Rattle.snapdb.specs.declared.command_line.CommandLine.TheVariants.{Asks, Help, Wrong, NoText}
 
 -- what the program is called
 abbrev pub called : List ℕ

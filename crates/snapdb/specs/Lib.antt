@@ -1,4 +1,5 @@
 -- The definitions of snapdb, by their modules.
+pub mod Sessions
 pub mod Start
 pub mod Talk
 pub mod Answer

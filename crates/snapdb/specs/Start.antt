@@ -1,8 +1,8 @@
 -- `EndsFor`: why snapdb, the debugger with a prompt, held no dialog, or no whole one.
 use Rattle.std.specs.Prelude.{◌≡◌, ◌⊎◌, ℕ, List, Option, Some, ⊤}
-use Rattle.snap_dialog.specs.Failures.{AreCountless}
-use Rattle.snap_dialog.specs.declared.fault.DialogFault.{DialogFault}
-use Rattle.snap_dialog.specs.declared.fault.DialogFault.TheVariants as dialog
+use Rattle.snap_streams.specs.Failures.{AreCountless}
+use Rattle.snap_streams.specs.declared.dialog_fault.DialogFault.{DialogFault}
+use Rattle.snap_streams.specs.declared.dialog_fault.DialogFault.TheVariants as dialog
 use Rattle.snap_faults.specs.declared.fault.ProgramFault.{ProgramFault}
 use Rattle.snap_faults.specs.declared.fault.ProgramFault.TheVariants as fault
 

@@ -1,9 +1,9 @@
 -- `Talks`: what comes of a dialog about a listing under the schedule that a text is; `TalksIn`: the same, of the texts
 -- of files.
 use Rattle.std.specs.Prelude.{◌≡◌, ◌⊎◌, ℕ, List, Option, Some, None, Result, Ok, Err, IfSome}
-use Rattle.snap_dialog.specs.Dialog.{ShowsTranscript, ShowsTranscriptPart}
-use Rattle.snap_dialog.specs.TypedLines.{typed_lines}
-use Rattle.snap_dialog.specs.declared.fault.DialogFault.{DialogFault}
+use Rattle.snap_streams.specs.Dialog.{ShowsTranscript, ShowsTranscriptPart}
+use Rattle.snap_streams.specs.TypedLines.{typed_lines}
+use Rattle.snap_streams.specs.declared.dialog_fault.DialogFault.{DialogFault}
 use Rattle.snap_faults.specs.declared.fault.ProgramFault.{ProgramFault}
 use Rattle.snap_faults.specs.declared.fault.ProgramFault.TheVariants as fault
 use Rattle.snap_input.specs.Schedules.{schedule_for}

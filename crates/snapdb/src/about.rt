@@ -1,7 +1,7 @@
 //! `talk_about`: the dialog of snapdb at a console about a program under the schedule of a file.
 ghost use Rattle.std.specs.Prelude.{◌≡◌, Err, IfErr, IfSome, None, OnErr, OnOk, Ok};
-ghost use Rattle.snap_dialog.specs.Dialog.{ShowsTranscript, ShowsTranscriptPart};
-ghost use Rattle.snap_dialog.specs.TypedLines.{typed_lines};
+ghost use Rattle.snap_streams.specs.Dialog.{ShowsTranscript, ShowsTranscriptPart};
+ghost use Rattle.snap_streams.specs.TypedLines.{typed_lines};
 ghost use Rattle.snap_input.specs.Schedules.{schedule_for};
 ghost use Rattle.snap_prompt.specs.Prompt.{Says, next_line, opened_prompt, prompt_text};
 ghost use Rattle.snap_runs.specs.Run.{run_over};
@@ -11,16 +11,20 @@ ghost use Rattle.snapdb.specs.Start.{EndsFor};
 ghost use Rattle.snap_faults.specs.declared.fault.ProgramFault.TheVariants.{Refused};
 
 use snap_asm_program::Program;
-use snap_dialog::{Console, Folder};
 use snap_faults::ProgramFault;
 use snap_input::read_schedule;
 use snap_prompt::{Shows, converse};
+use snap_streams::{Console, Folder};
 use std::alloc::Global;
 
-/// Talks at a console about a program under a schedule. What is shown is a transcript of what is
-/// typed; where the schedule is refused, nothing is; and where the dialog is broken off, which only
-/// a device that fails, memory that ran out or an input without an end does, a beginning of it is.
-/// Schedules are saved in the folder.
+/// Talks at `console` about `program` under `schedule`. What is shown is a transcript of what is
+/// typed; nothing if the schedule is refused. Schedules are saved in `folder`.
+///
+/// # Errors
+///
+/// The reason why `schedule` is refused; the fault of a device that failed; `Memory` where memory
+/// runs out; or that the input does not end. If the dialog is broken off, a beginning of the
+/// transcript was shown.
 pub fn talk_about<C: Console, S: Folder + Copy>(
     alloc: Global,
     program: &Program,

@@ -1,5 +1,5 @@
-//! `answer`: what snapdb does about its command line, over any files, console and device for
-//! messages, and the status of it.
+//! `answer`: what snapdb does for its command line, over any files, console and device for
+//! messages, and its status.
 ghost use Rattle.std.specs.Prelude.{◌≡◌, IfOk, None, false, option_map};
 ghost use Rattle.snap_faults.specs.Faults.{fault_status};
 ghost use Rattle.snap_faults.specs.Told.{SaysWhy, TellsMore, exit_status, success};
@@ -9,22 +9,21 @@ ghost use Rattle.snapdb.specs.Answer.{AnswersLine, AnswersSession, Shown, called
 ghost use Rattle.snapdb.specs.Talk.{TalksIn};
 
 use crate::about::talk_about;
-use snap_dialog::{Console, Folder};
+use crate::arguments::Session;
+use crate::command_line::CommandLine;
 use snap_faults::{Names, ProgramFault, complain, fault_status, say_no_memory, say_no_text, tell};
-use snap_files::FileSource;
 use snap_input::{program_of, shipped};
 use snap_named_files::{Texts, explanation_in, names_of, read_texts};
 use snap_prompt::Shows;
 use snap_semantics::Refusal;
-use snap_streams::{ByteSink, say};
+use snap_streams::{ByteSink, Console, FileSource, Folder, say};
 use snap_words::KindTag;
-use snapdb_command_line::{CommandLine, Session};
 use std::alloc::{AllocError, Global};
 
 /// What the program is called.
 const PROGRAM: &str = "snapdb";
 
-/// Talks about the listing that a text is, under the schedule that another is.
+/// Talks about the listing of one text, under the schedule of another.
 fn talk_over<C: Console, S: Folder + Copy>(
     alloc: Global,
     listing: &[u8],
@@ -43,7 +42,7 @@ fn talk_over<C: Console, S: Folder + Copy>(
     }
 }
 
-/// Talks about the listing that is shipped for a kind, under the schedule that a text is.
+/// Talks about the listing that is shipped for a kind, under the schedule of a text.
 fn talk_over_shipped<C: Console, S: Folder + Copy>(
     alloc: Global,
     kind: KindTag,
@@ -62,7 +61,7 @@ fn talk_over_shipped<C: Console, S: Folder + Copy>(
     }
 }
 
-/// Talks about these texts.
+/// Talks about `texts`.
 fn talk<C: Console, S: Folder + Copy>(
     alloc: Global,
     texts: &Texts,
@@ -89,7 +88,7 @@ fn talk<C: Console, S: Folder + Copy>(
     }
 }
 
-/// What is said behind the line of a fault, where refusals are explained.
+/// Returns the text behind the line of a fault, if refusals are explained.
 fn explained(
     alloc: Global,
     explains: bool,
@@ -108,8 +107,8 @@ fn explained(
     }
 }
 
-/// Says why there was no dialog, or no whole one, and explains it where that is asked for and there
-/// is memory for it. Returns the status for it.
+/// Says why there was no dialog, or no whole one, explains it if that is wanted and there is memory
+/// for it, and returns the status.
 fn explain<E: ByteSink>(
     alloc: Global,
     session: &Session<'_>,
@@ -133,7 +132,7 @@ fn explain<E: ByteSink>(
     }
 }
 
-/// The status of a session, whose fault it tells.
+/// Returns the status of a session, and says its fault if there is one.
 fn finish<E: ByteSink>(
     alloc: Global,
     session: &Session<'_>,
@@ -153,8 +152,7 @@ fn finish<E: ByteSink>(
     }
 }
 
-/// Opens the session that is asked for, says why where there is no dialog, or no whole one, and
-/// answers the status of it.
+/// Opens a session, says why if there is no dialog, or no whole one, and returns the status.
 fn open<F: FileSource + Folder + Copy, C: Console, E: ByteSink>(
     alloc: Global,
     session: &Session<'_>,
@@ -178,7 +176,7 @@ fn open<F: FileSource + Folder + Copy, C: Console, E: ByteSink>(
     }
 }
 
-/// Shows help, or the version, says where that cannot be done, and answers the status of it.
+/// Shows help, or the version, says if that fails, and returns the status.
 fn help<C: Console, E: ByteSink>(alloc: Global, text: &[u8], console: &mut C, errors: &mut E) -> u8
     requires console { C.failure console.old ≡ None }
     requires errors { (E.state errors.old).failed ≡ false }
@@ -199,8 +197,8 @@ fn help<C: Console, E: ByteSink>(alloc: Global, text: &[u8], console: &mut C, er
     }
 }
 
-/// Does what a command line asks for, and answers the status of it. `shows` says what is shown
-/// beside the answers.
+/// Does what a command line is for, and returns the status. `shows` says what is shown beside the
+/// answers.
 pub(crate) fn answer<F: FileSource + Folder + Copy, C: Console, E: ByteSink>(
     alloc: Global,
     line: &Result<CommandLine<'_>, AllocError>,

@@ -3,21 +3,21 @@
 
 mod about;
 mod answers;
+mod arguments;
+mod command_line;
 mod system_files;
 
+use crate::command_line::{CommandLine, read_arguments};
 use answers::answer;
-use snap_dialog::Terminal;
-use snap_pipe::{Messages, Piped, end};
 use snap_prompt::Shows;
-use snap_streams::Std;
-use snapdb_command_line::{CommandLine, read_arguments};
+use snap_streams::{Messages, Piped, Std, Terminal, end};
 use std::alloc::AllocError;
 use std::io::IsTerminal;
 use std::process::ExitCode;
 use std::{env, io};
 use system_files::SystemFiles;
 
-/// The words of the command line, where they are text.
+/// Returns the words of the command line, if they are valid UTF-8.
 fn words_of(rt: &HostRuntime) -> Result<Option<Vec<String>>, AllocError> {
     let arguments = match env::args(rt) {
         Ok(arguments) => arguments,
@@ -30,7 +30,8 @@ fn words_of(rt: &HostRuntime) -> Result<Option<Vec<String>>, AllocError> {
     }
 }
 
-/// What the words of a command line come to, where a refusal is explained in any case if `explains`.
+/// Returns what the words of a command line come to, in which a refusal is explained in any case if
+/// `explains`.
 fn line_of<'a>(
     rt: &HostRuntime,
     words: &'a [String],
@@ -39,8 +40,8 @@ fn line_of<'a>(
     Ok(read_arguments(rt.alloc(), words)?.explained_if(explains))
 }
 
-/// What is shown beside the answers: no greeting where they are not read at a terminal, and no
-/// position where lines are not typed at one.
+/// Returns what is shown beside the answers: no greeting unless they are read at a terminal, and no
+/// position unless lines are typed at one.
 fn shows_at(rt: &HostRuntime) -> Shows {
     match (rt.stdin().is_terminal(), rt.stdout().is_terminal()) {
         (true, true) => Shows::Greeting,

@@ -4,14 +4,13 @@ ghost use Rattle.std.specs.Fs.{asks_create_new, asks_write};
 ghost use Rattle.std.specs.Io.KnownBytes.{Appends};
 ghost use Rattle.std.specs.IoError.{error_kind};
 
-use snap_dialog::Folder;
-use snap_files::{Disk, FileFault, FileSource};
+use snap_streams::{Disk, FileFault, FileSource, Folder};
 use std::alloc::Global;
 use std::fs::OpenOptions;
 use std::io;
 use std::io::{ErrorKind, Write};
 
-/// The files of the system, of which nothing is known before they are read.
+/// The files of the system. Nothing is known of a file before it is read.
 #[derive(Clone, Copy)]
 pub(crate) struct SystemFiles<'r> {
     rt: &'r HostRuntime,

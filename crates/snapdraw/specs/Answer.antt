@@ -16,9 +16,9 @@ use Rattle.snap_named_files.specs.Named.{names_of, view_named}
 use Rattle.snap_named_files.specs.Texts.{AreTexts, Read, view_texts}
 use Rattle.snap_named_files.specs.declared.texts.Texts.{Texts}
 use Rattle.snap_semantics.specs.declared.refusal.Refusal.TheVariants.{InputTooLong}
-use Rattle.snapdraw_command_line.specs.declared.arguments.Drawing.{Drawing}
-use Rattle.snapdraw_command_line.specs.declared.command_line.CommandLine.{CommandLine}
-use Rattle.snapdraw_command_line.specs.declared.command_line.CommandLine.TheVariants.{Asks, Help, Wrong, NoText}
+use Rattle.snapdraw.specs.declared.arguments.Drawing.{Drawing}
+use Rattle.snapdraw.specs.declared.command_line.CommandLine.{CommandLine}
+use Rattle.snapdraw.specs.declared.command_line.CommandLine.TheVariants.{Asks, Help, Wrong, NoText}
 use Rattle.snapdraw.specs.Drawing.{IsDrawing, options_of}
 
 -- what the program is called

@@ -16,7 +16,7 @@ use Rattle.snap_picture.specs.declared.options.Options.{Options}
 use Rattle.snap_picture.specs.declared.refusal.PictureRefusal.{PictureRefusal}
 use Rattle.snap_picture.specs.declared.refusal.PictureRefusal.TheVariants.{Input, NoSuchItems, TooManyItems}
 use Rattle.snap_named_files.specs.Texts.{Read, OfFiles, OfShipped}
-use Rattle.snapdraw_command_line.specs.declared.arguments.Drawing.{Drawing}
+use Rattle.snapdraw.specs.declared.arguments.Drawing.{Drawing}
 
 -- what a call that allocates answers: what is wanted, seen by `view`, or why there is none; a want of memory may stand
 -- in its place; no fault is one of writing

@@ -1,5 +1,5 @@
-//! `answer`: what snapdraw does about its command line, over any files, sink and device for
-//! messages, and the status of it.
+//! `answer`: what snapdraw does for its command line, over any files, sink and device for messages,
+//! and its status.
 ghost use Rattle.std.specs.Prelude.{◌≡◌, Ok, IfOk, false, option_map};
 ghost use Rattle.snap_faults.specs.Faults.{fault_status};
 ghost use Rattle.snap_faults.specs.Told.{SaysWhy, TellsMore, exit_status, success};
@@ -9,16 +9,16 @@ ghost use Rattle.snapdraw.specs.Drawing.{options_of};
 ghost use Rattle.snap_named_files.specs.Named.{names_of, view_named};
 ghost use Rattle.snap_named_files.specs.Texts.{view_texts};
 
+use crate::arguments::Drawing;
+use crate::command_line::CommandLine;
 use crate::drawing::draw;
 use snap_faults::{
     Names, ProgramFault, complain, fault_status, help, say_no_memory, say_no_text, tell,
 };
-use snap_files::FileSource;
 use snap_named_files::{Texts, explanation_in, names_of, read_texts};
 use snap_picture::Look;
 use snap_semantics::Refusal;
-use snap_streams::{ByteSink, say, write_all};
-use snapdraw_command_line::{CommandLine, Drawing};
+use snap_streams::{ByteSink, FileSource, say, write_all};
 use std::alloc::{AllocError, Global};
 
 /// What the program is called.
@@ -51,7 +51,7 @@ fn draw_and_write<W: ByteSink>(
     write_text(text.as_slice(), sink)
 }
 
-/// What is said behind the line of a fault, where refusals are explained.
+/// Returns the text behind the line of a fault, if refusals are explained.
 fn explained(
     alloc: Global,
     explains: bool,
@@ -70,8 +70,8 @@ fn explained(
     }
 }
 
-/// Says why nothing, or not all, was drawn, and explains it where that is asked for and there is
-/// memory for it. Returns the status for it.
+/// Says why nothing, or not all, was drawn, explains it if that is wanted and there is memory for
+/// it, and returns the status.
 fn explain<E: ByteSink>(
     alloc: Global,
     drawing: &Drawing<'_>,
@@ -95,7 +95,7 @@ fn explain<E: ByteSink>(
     }
 }
 
-/// The status of a picture that is asked for, whose fault it tells.
+/// Returns the status of a picture, and says its fault if there is one.
 fn finish<E: ByteSink>(
     alloc: Global,
     drawing: &Drawing<'_>,
@@ -115,8 +115,7 @@ fn finish<E: ByteSink>(
     }
 }
 
-/// Draws what is asked for, says why where nothing, or not all, is drawn, and answers the status of
-/// it.
+/// Draws a picture, says why if nothing, or not all, is drawn, and returns the status.
 fn draw_asked<F: FileSource, W: ByteSink, E: ByteSink>(
     alloc: Global,
     drawing: &Drawing<'_>,
@@ -139,7 +138,7 @@ fn draw_asked<F: FileSource, W: ByteSink, E: ByteSink>(
     }
 }
 
-/// Does what a command line asks for, and answers the status of it.
+/// Does what a command line is for, and returns the status.
 pub(crate) fn answer<F: FileSource, W: ByteSink, E: ByteSink>(
     alloc: Global,
     line: &Result<CommandLine<'_>, AllocError>,

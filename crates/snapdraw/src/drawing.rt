@@ -1,4 +1,4 @@
-//! `draw`: the picture that is asked for, of the texts of the files that are named; or why there is
+//! `draw`: the picture of a command line, of the texts of the files that it names; or why there is
 //! none.
 ghost use Rattle.std.specs.Prelude.{◌≡◌, Ok, option_map};
 ghost use Rattle.snapdraw.specs.Drawing.{Comes, FailsInTexts, IsDrawing, IsDrawnBy, bytes_of};
@@ -7,6 +7,7 @@ ghost use Rattle.snap_named_files.specs.Texts.{OfShipped, view_texts};
 ghost use Rattle.snap_picture.specs.Picture.{FailsUnder};
 ghost use Rattle.snap_shipped.specs.Shipped.{shipped};
 
+use crate::arguments::Drawing;
 use snap_asm_program::Program;
 use snap_faults::ProgramFault;
 use snap_input::program_of;
@@ -15,10 +16,9 @@ use snap_picture::{Look, Options, PictureRefusal, picture};
 use snap_run_judge::MOST_CONFIGURATIONS;
 use snap_semantics::Fault;
 use snap_words::KindTag;
-use snapdraw_command_line::Drawing;
 use std::alloc::Global;
 
-/// The items that are asked for, of a run that is judged as long as the program judges one.
+/// Returns the items that are drawn, of a run that is judged as long as the program judges one.
 fn options_of(drawing: &Drawing<'_>) -> Options
     ensures { result ≡ options_of drawing.now }
 {
@@ -30,7 +30,7 @@ fn options_of(drawing: &Drawing<'_>) -> Options
     }
 }
 
-/// The program of the listing that a text is.
+/// Returns the program of the listing of a text.
 fn program_in(alloc: Global, text: &[u8]) -> Result<Program, ProgramFault>
     ensures { Comes (λ p. p) result (listing_in text.now) }
 {
@@ -41,7 +41,7 @@ fn program_in(alloc: Global, text: &[u8]) -> Result<Program, ProgramFault>
     }
 }
 
-/// The picture of a program under the schedule that a text is.
+/// Returns the picture of a program under the schedule of a text.
 fn picture_in(
     alloc: Global,
     program: &Program,
@@ -67,7 +67,7 @@ fn picture_in(
     }
 }
 
-/// The picture of the listing that a text is, under the schedule that another is.
+/// Returns the picture of the listing of one text, under the schedule of another.
 fn draw_texts(
     alloc: Global,
     listing: &[u8],
@@ -83,7 +83,7 @@ fn draw_texts(
     picture_in(alloc, &program, Some(listing), schedule, options, look)
 }
 
-/// The program of the listing that is shipped for a kind.
+/// Returns the program of the listing that is shipped for a kind.
 fn shipped_program(alloc: Global, kind: KindTag) -> Result<Program, ProgramFault>
     ensures { Comes (λ p. p) result (Ok (shipped kind)) }
 {
@@ -93,7 +93,7 @@ fn shipped_program(alloc: Global, kind: KindTag) -> Result<Program, ProgramFault
     }
 }
 
-/// The picture of the listing that is shipped for a kind, under the schedule that a text is.
+/// Returns the picture of the listing that is shipped for a kind, under the schedule of a text.
 fn draw_shipped(
     alloc: Global,
     kind: KindTag,
@@ -108,7 +108,7 @@ fn draw_shipped(
     picture_in(alloc, &program, None, schedule, options, look)
 }
 
-/// The picture that is asked for, of these texts.
+/// Returns the picture of a command line, of `texts`.
 pub(crate) fn draw(
     alloc: Global,
     texts: &Texts,

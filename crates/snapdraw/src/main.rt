@@ -2,14 +2,14 @@
 #![tactic(auto)]
 
 mod answers;
+mod arguments;
+mod command_line;
 mod drawing;
 
+use crate::command_line::{CommandLine, read_arguments};
 use answers::answer;
-use snap_files::Disk;
 use snap_picture::{LEGEND, Look, STYLE};
-use snap_pipe::{Messages, Piped, end};
-use snap_streams::Std;
-use snapdraw_command_line::{CommandLine, read_arguments};
+use snap_streams::{Disk, Messages, Piped, Std, end};
 use std::alloc::AllocError;
 use std::io::IsTerminal;
 use std::process::ExitCode;
@@ -21,7 +21,7 @@ const LOOK: Look<'static> = Look {
     legend: LEGEND,
 };
 
-/// The words of the command line, where they are text.
+/// Returns the words of the command line, if they are valid UTF-8.
 fn words_of(rt: &HostRuntime) -> Result<Option<Vec<String>>, AllocError> {
     let arguments = match env::args(rt) {
         Ok(arguments) => arguments,
@@ -34,7 +34,8 @@ fn words_of(rt: &HostRuntime) -> Result<Option<Vec<String>>, AllocError> {
     }
 }
 
-/// What the words of a command line come to, where a refusal is explained in any case if `explains`.
+/// Returns what the words of a command line come to, in which a refusal is explained in any case if
+/// `explains`.
 fn line_of<'a>(
     rt: &HostRuntime,
     words: &'a [String],

@@ -8,14 +8,14 @@ use Rattle.snap_faults.specs.Faults.{of_file}
 use Rattle.snap_faults.specs.declared.fault.ProgramFault.{ProgramFault}
 use Rattle.snap_faults.specs.declared.fault.ProgramFault.TheVariants as fault
 use Rattle.snap_faults.specs.declared.files.Which.TheVariants as which
-use Rattle.snap_files.specs.FileTexts.{Gives, IsTextOf, Reads}
-use Rattle.snap_files.specs.declared.fault.FileFault.{FileFault}
-use Rattle.snap_files.specs.declared.fault.FileFault.TheVariants as file
-use Rattle.snap_files.proofs.Texts.{text_read}
+use Rattle.snap_streams.specs.FileTexts.{Gives, IsTextOf, Reads}
+use Rattle.snap_streams.specs.declared.file_fault.FileFault.{FileFault}
+use Rattle.snap_streams.specs.declared.file_fault.FileFault.TheVariants as file
+use Rattle.snap_streams.proofs.Texts.{text_read}
 use Rattle.snap_hunt_output.specs.Hunted.{IsDue}
 use Rattle.snap_hunt_output.specs.declared.asked.Asked.{Asked}
 use Rattle.snap_hunt_output.specs.declared.hunted.Hunted.{Hunted}
-use Rattle.snaphunt_command_line.specs.Search.{Named, File, Shipped}
+use Rattle.snaphunt.specs.Search.{Named, File, Shipped}
 use Rattle.snaphunt.specs.Answer.{Hunts, HuntsIn}
 use Rattle.snaphunt.specs.Searching.{ComesTo, GivesText, IsSearched, IsText, too_many}
 

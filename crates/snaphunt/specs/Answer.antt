@@ -16,10 +16,10 @@ use Rattle.snap_explanation.specs.declared.layout.Layout.TheVariants as layout
 use Rattle.snap_hunt_output.specs.declared.asked.Asked.{Asked}
 use Rattle.snap_hunt_output.specs.declared.hunted.Hunted.{Hunted}
 use Rattle.snap_hunt_output.specs.declared.hunted.Hunted.TheVariants as hunted
-use Rattle.snaphunt_command_line.specs.Search.{Named, File, Shipped, view_listed}
-use Rattle.snaphunt_command_line.specs.declared.arguments.Search.{Search}
-use Rattle.snaphunt_command_line.specs.declared.command_line.CommandLine.{CommandLine}
-use Rattle.snaphunt_command_line.specs.declared.command_line.CommandLine.TheVariants.{Asks, Help, Wrong, NoText}
+use Rattle.snaphunt.specs.Search.{Named, File, Shipped, view_listed}
+use Rattle.snaphunt.specs.declared.arguments.Search.{Search}
+use Rattle.snaphunt.specs.declared.command_line.CommandLine.{CommandLine}
+use Rattle.snaphunt.specs.declared.command_line.CommandLine.TheVariants.{Asks, Help, Wrong, NoText}
 use Rattle.snaphunt.specs.Searching.{ComesTo, IsSearched, hunted_text}
 
 -- 0 where none of the runs fails, 4 where one does

@@ -10,25 +10,25 @@ use Rattle.snap_faults.specs.Faults.{of_file}
 use Rattle.snap_faults.specs.declared.fault.ProgramFault.{ProgramFault}
 use Rattle.snap_faults.specs.declared.fault.ProgramFault.TheVariants as fault
 use Rattle.snap_faults.specs.declared.files.Which.TheVariants as which
-use Rattle.snap_files.specs.FileTexts.{IsTextOf}
-use Rattle.snap_files.specs.declared.fault.FileFault.{FileFault}
+use Rattle.snap_streams.specs.FileTexts.{IsTextOf}
+use Rattle.snap_streams.specs.declared.file_fault.FileFault.{FileFault}
 use Rattle.snap_hunt_output.specs.Hunted.{IsDue, IsHunted}
 use Rattle.snap_hunt_output.specs.declared.asked.Asked.{Asked}
 use Rattle.snap_hunt_output.specs.declared.hunted.Hunted.{Hunted}
 use Rattle.snap_hunt_output.specs.declared.hunted.Hunted.TheVariants as hunted
-use Rattle.snaphunt_command_line.specs.Search.{Named, File, Shipped}
+use Rattle.snaphunt.specs.Search.{Named, File, Shipped}
 
 -- the bytes that are too many for a listing
 abbrev pub too_many : ℕ
 too_many = 16777217
 
--- This is the text of the listing that is named, or the fault for which there is none.
+-- A result is the text of the listing that is named, or the fault for which there is none.
 abbrev pub IsText : (files : List ℕ → Option (Result (List ℕ) ErrorKind)) → Named → Result (List ℕ) ProgramFault → Type 0
 IsText files (File name) text =
     (read : Result (List ℕ) FileFault) × IsTextOf too_many (files name) read × (text ≡ refused_as (of_file which.Listing) read)
 IsText files (Shipped g) text = (t : List ℕ) × (text ≡ Ok t) × (listing_of t ≡ Ok (shipped g))
 
--- This text was given, or this fault; a want of memory may stand in its place.
+-- A text was given, or a fault; a want of memory may stand in its place.
 abbrev pub GivesText : (files : List ℕ → Option (Result (List ℕ) ErrorKind)) → Named → Result (Vec ℕ Global) ProgramFault →
     Type 0
 GivesText files named (Ok v) = IsText files named (Ok v.items)
@@ -40,7 +40,7 @@ abbrev pub ComesTo : List ℕ → Asked → Result Hunted ProgramFault → Type 
 ComesTo text a (Ok h) = IsHunted text a h
 ComesTo text a (Err f) = IsDue text a f
 
--- There is no text for this reason, or it is this one, and the hunt in it comes to this. A want of memory may stand in
+-- There is no text for this reason, or there is one, and the hunt in it has this result. A want of memory may stand in
 -- the place of all.
 abbrev pub IsSearched : (files : List ℕ → Option (Result (List ℕ) ErrorKind)) → Named → Asked → (text : List ℕ) →
     Result Hunted ProgramFault → Type 0

@@ -1,31 +1,31 @@
-//! `answer`: what snaphunt does about its command line, over any files, sink and device for
-//! messages, and the status of it.
+//! `answer`: what snaphunt does for its command line, over any files, sink and device for messages,
+//! and its status.
 ghost use Rattle.std.specs.Prelude.{◌≡◌, ◌<◌, ◌^◌, Ok, Err, IfOk, false};
 ghost use Rattle.snap_faults.specs.Faults.{fault_status};
 ghost use Rattle.snap_faults.specs.Names.{of_program, view_names};
 ghost use Rattle.snap_faults.specs.Told.{SaysWhy, TellsMore, exit_status};
 ghost use Rattle.snaphunt.specs.Answer.{AnswersLine, AnswersSearch, HuntsIn, Prints, explained};
 ghost use Rattle.snaphunt.specs.Answer.{hunted_status, names_of};
-ghost use Rattle.snaphunt_command_line.specs.Search.{IsLine, IsSearch, view_listed};
+ghost use Rattle.snaphunt.specs.Search.{IsLine, IsSearch, view_listed};
 
+use crate::arguments::{Listed, Search};
+use crate::command_line::CommandLine;
 use crate::searching::{hunted_text, text_of};
 use snap_explanation::{Layout, explanation};
 use snap_faults::{
     Names, ProgramFault, complain, fault_status, help, say_no_memory, say_no_text, tell,
 };
-use snap_files::FileSource;
 use snap_hunt::Watcher;
 use snap_hunt_output::{Asked, Hunted, hunt_listing};
 use snap_semantics::Refusal;
-use snap_streams::{ByteSink, say, write_all};
-use snaphunt_command_line::{CommandLine, Listed, Search};
+use snap_streams::{ByteSink, FileSource, say, write_all};
 use std::alloc::{AllocError, Global};
 use std::thread::Threads;
 
 /// What the program is called.
 const PROGRAM: &str = "snaphunt";
 
-/// What the program is called, and the file of the listing, where it is not shipped.
+/// Returns what the program is called, and the file of the listing, unless it is shipped.
 fn names_of<'a>(listed: &Listed<'a>) -> Names<'a>
     ensures { view_names result ≡ names_of (view_listed listed.now) }
 {
@@ -39,7 +39,7 @@ fn names_of<'a>(listed: &Listed<'a>) -> Names<'a>
     }
 }
 
-/// The status of what a hunt came to: 0 where no run fails, and 4 where one does.
+/// Returns the status of the result of a hunt: 0 if no run fails, and 4 if one does.
 fn hunted_status(hunted: &Hunted) -> u8
     ensures { result ≡ hunted_status hunted.now }
 {
@@ -49,7 +49,7 @@ fn hunted_status(hunted: &Hunted) -> u8
     }
 }
 
-/// Prints what a hunt came to.
+/// Prints the result of a hunt.
 fn print<W: ByteSink>(
     alloc: Global,
     asked: &Asked,
@@ -68,7 +68,7 @@ fn print<W: ByteSink>(
     }
 }
 
-/// Hunts in the runs of the listing that a text is, and prints what that came to and nothing else.
+/// Hunts in the runs of the listing that a text spells, and prints the result and nothing else.
 #[tactic(auto, using(crate::proofs::Searches::nothing_came))]
 fn hunt_in<W: Watcher, S: ByteSink>(
     threads: &(impl Threads + Sync),
@@ -88,7 +88,7 @@ fn hunt_in<W: Watcher, S: ByteSink>(
     }
 }
 
-/// What is said behind the line of a fault, where refusals are explained.
+/// Returns the text behind the line of a fault, if refusals are explained.
 fn explained(
     alloc: Global,
     explains: bool,
@@ -109,8 +109,8 @@ fn explained(
     }
 }
 
-/// Says why nothing, or not all, was printed, and explains it where that is asked for and there is
-/// memory for it. Returns the status for it.
+/// Says why nothing, or not all, was printed, explains it if that is wanted and there is memory for
+/// it, and returns the status.
 fn explain<E: ByteSink>(
     alloc: Global,
     asked: &Search<'_>,
@@ -134,7 +134,7 @@ fn explain<E: ByteSink>(
     }
 }
 
-/// The status of a whole hunt, whose fault it tells.
+/// Returns the status of a whole hunt, and says its fault if there is one.
 fn finish<E: ByteSink>(
     alloc: Global,
     asked: &Search<'_>,
@@ -154,8 +154,7 @@ fn finish<E: ByteSink>(
     }
 }
 
-/// Hunts as is asked for, says why where nothing, or not all, was printed, and answers the status
-/// of it.
+/// Hunts, says why if nothing, or not all, was printed, and returns the status.
 fn hunt<F: FileSource, W: Watcher, S: ByteSink, E: ByteSink>(
     threads: &(impl Threads + Sync),
     alloc: Global,
@@ -187,7 +186,7 @@ fn hunt<F: FileSource, W: Watcher, S: ByteSink, E: ByteSink>(
     }
 }
 
-/// Does what a command line asks for, and answers the status of it.
+/// Does what a command line is for, and returns the status.
 pub(crate) fn answer<F: FileSource, W: Watcher, S: ByteSink, E: ByteSink>(
     threads: &(impl Threads + Sync),
     alloc: Global,

@@ -2,24 +2,24 @@
 #![tactic(auto)]
 
 ghost use Rattle.std.specs.Prelude.{IfOk};
-ghost use Rattle.snaphunt_command_line.specs.Search.{IsLine};
+ghost use Rattle.snaphunt.specs.Search.{IsLine};
 
 mod answers;
+mod arguments;
+mod command_line;
 mod progress;
 mod searching;
 
 use crate::answers::answer;
+use crate::command_line::{CommandLine, read_arguments};
 use crate::progress::Progress;
-use snap_files::Disk;
-use snap_pipe::{Messages, Piped, end};
-use snap_streams::Std;
-use snaphunt_command_line::{CommandLine, read_arguments};
+use snap_streams::{Disk, Messages, Piped, Std, end};
 use std::alloc::AllocError;
 use std::io::IsTerminal;
 use std::process::ExitCode;
 use std::{env, io};
 
-/// The words of the command line, where they are text.
+/// Returns the words of the command line, if they are valid UTF-8.
 fn words_of(rt: &HostRuntime) -> Result<Option<Vec<String>>, AllocError> {
     let arguments = match env::args(rt) {
         Ok(arguments) => arguments,
@@ -32,7 +32,7 @@ fn words_of(rt: &HostRuntime) -> Result<Option<Vec<String>>, AllocError> {
     }
 }
 
-/// What the words of a command line come to.
+/// Returns what the words of a command line come to.
 fn line_of<'a>(
     rt: &HostRuntime,
     words: &'a Result<Option<Vec<String>>, AllocError>,
@@ -46,7 +46,7 @@ fn line_of<'a>(
     }
 }
 
-/// The same, where a refusal is explained in any case if `explains`.
+/// Returns the same command line, in which a refusal is explained in any case if `explains`.
 fn explained_line(
     line: Result<CommandLine<'_>, AllocError>,
     explains: bool,

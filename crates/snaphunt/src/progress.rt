@@ -1,4 +1,4 @@
-//! `Progress`: tells on standard error, once a second, how far snaphunt is with its runs.
+//! `Progress`: says on standard error, once a second, how far snaphunt is with its runs.
 
 use snap_hunt::Watcher;
 use snap_streams::{Std, say};
@@ -7,7 +7,7 @@ use std::alloc::{AllocError, Global};
 use std::io::IsTerminal;
 use std::time::Instant;
 
-/// The line that tells how many runs were tried, of how many, how many a second, and how many
+/// Returns the line of how many runs were tried, of how many, how many a second, and how many
 /// seconds are left.
 fn line_of(
     alloc: Global,
@@ -29,19 +29,19 @@ fn line_of(
     Ok(line)
 }
 
-/// Tells how far a hunt is, once a second, where standard error is a terminal. What was told last
-/// stays there where the hunt is interrupted.
+/// Says how far a hunt is, once a second, if standard error is a terminal. The last line stays
+/// there if the hunt is interrupted.
 #[derive(Drop)]
 pub(crate) struct Progress<'r> {
     rt: &'r HostRuntime,
-    /// When the program began, where somebody is told.
+    /// When the program began, if progress is said.
     begun: Option<Instant>,
-    /// How many seconds had passed when it was told last.
+    /// How many seconds had passed at the last line.
     told: u64,
 }
 
 impl<'r> Progress<'r> {
-    /// Before the first run.
+    /// Returns the progress before the first run.
     pub(crate) fn new(rt: &'r HostRuntime) -> Progress<'r> {
         let begun = if rt.stderr().is_terminal() {
             Instant::now(rt).ok()
@@ -51,7 +51,7 @@ impl<'r> Progress<'r> {
         Progress { rt, begun, told: 0 }
     }
 
-    /// Tells it after so many seconds.
+    /// Says the progress after `seconds` seconds.
     fn tell(&self, runs: u64, all: u64, seconds: u64) {
         let pace = (runs / seconds.max(1)).max(1);
         let left = all.saturating_sub(runs) / pace;
@@ -75,7 +75,7 @@ impl Watcher for Progress<'_> {
         }
     }
 
-    /// Ends the line on which it was told.
+    /// Ends the line of the progress.
     fn ended(&mut self) {
         if self.told > 0 {
             say(b"\n", &mut Std::new(self.rt.stderr()));

@@ -4,21 +4,21 @@ ghost use Rattle.std.specs.Prelude.{◌≡◌, ◌++◌, IfOk, Ok, OnOk};
 ghost use Rattle.snap_semantics.specs.Listing.{listing_of};
 ghost use Rattle.snap_shipped.specs.Shipped.{shipped};
 ghost use Rattle.snaphunt.specs.Searching.{GivesText, hunted_text, none_text};
-ghost use Rattle.snaphunt_command_line.specs.Search.{view_listed};
+ghost use Rattle.snaphunt.specs.Search.{view_listed};
 
+use crate::arguments::Listed;
 use snap_faults::{ProgramFault, Which, of_file};
-use snap_files::FileSource;
 use snap_hunt_output::{Asked, Hunted};
 use snap_shipped::{text_b, text_m, text_u};
+use snap_streams::FileSource;
 use snap_text::{push_number, push_text};
 use snap_words::KindTag;
-use snaphunt_command_line::Listed;
 use std::alloc::{AllocError, Global};
 
 /// The bytes that are too many for a listing.
 const TOO_MANY: u64 = 16_777_217;
 
-/// The text of the listing that is shipped for a kind.
+/// Returns the text of the listing that is shipped for a kind.
 fn shipped_text(kind: KindTag) -> &'static [u8]
     ensures { listing_of result.now ≡ Ok (shipped kind) }
 {
@@ -29,7 +29,7 @@ fn shipped_text(kind: KindTag) -> &'static [u8]
     }
 }
 
-/// The text of the listing that is named.
+/// Returns the text of the listing that is named.
 #[tactic(auto, using(crate::proofs::Searches::file_read, crate::proofs::Searches::file_unread))]
 pub(crate) fn text_of<F: FileSource>(
     alloc: Global,
@@ -50,7 +50,7 @@ pub(crate) fn text_of<F: FileSource>(
     }
 }
 
-/// What is printed where none of the runs fails.
+/// Returns what is printed if none of the runs fails.
 #[tactic(auto, using(snap_text::proofs::Texts::joined))]
 fn none_text(alloc: Global, asked: &Asked) -> Result<Vec<u8>, AllocError>
     ensures { IfOk result (λ text. text.items ≡ none_text asked.now) }
@@ -64,7 +64,7 @@ fn none_text(alloc: Global, asked: &Asked) -> Result<Vec<u8>, AllocError>
     Ok(text)
 }
 
-/// What is printed of what a hunt came to.
+/// Returns what is printed of the result of a hunt.
 pub(crate) fn hunted_text(
     alloc: Global,
     asked: &Asked,

@@ -2,16 +2,15 @@
 #![tactic(auto)]
 
 ghost use Rattle.std.specs.Prelude.{IfOk};
-ghost use Rattle.snap_command_line.specs.Limits.{HasLimits};
+ghost use Rattle.snap_program.specs.Limits.{HasLimits};
 
-use snap_command_line::{CommandLine, read_arguments};
-use snap_pipe::{Messages, Piped, end};
-use snap_program::{Std, answer, say_terminal};
+use snap_program::{CommandLine, Std, answer, read_arguments, say_terminal};
+use snap_streams::{Messages, Piped, end};
 use std::alloc::AllocError;
 use std::io::{self, IsTerminal};
 use std::process::ExitCode;
 
-/// What the arguments of the command line come to.
+/// Returns what the arguments of the command line come to.
 fn command_line(rt: &HostRuntime) -> Result<CommandLine, AllocError>
     ensures { IfOk result HasLimits }
 {

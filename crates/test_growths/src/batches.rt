@@ -7,7 +7,7 @@ use snap_sched::{Schedule, read};
 use std::alloc::Global;
 use std::thread::Threads;
 
-/// A scan, an update, and a scan again.
+/// Returns a scan, an update, and a scan again.
 fn schedules(alloc: Global) -> Result<Vec<Schedule>, Trouble> {
     let mut schedules = Vec::with_capacity(alloc, 3)?;
     for text in [SCAN, UPDATE, SCAN] {
@@ -16,7 +16,7 @@ fn schedules(alloc: Global) -> Result<Vec<Schedule>, Trouble> {
     Ok(schedules)
 }
 
-/// Three schedules are run side by side.
+/// Runs three schedules side by side.
 pub fn play(rt: &HostRuntime, threads: &(impl Threads + Sync)) -> Result<(), Trouble> {
     let program = single(rt.alloc())?;
     let schedules = schedules(rt.alloc())?;

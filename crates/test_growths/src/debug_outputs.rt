@@ -4,7 +4,7 @@ use crate::trials::{tell, tried};
 use crate::trouble::Trouble;
 use snap_output::perform;
 
-/// What commands are answered over a scan that borrows its view.
+/// Plays commands over a scan that borrows its view.
 pub fn play(rt: &HostRuntime, inputs: &Inputs) -> Result<(), Trouble> {
     let text = tried!(rt, perform(rt.alloc(), inputs.single, BORROWED, COMMANDS));
     tell(rt, text.as_slice())

@@ -4,9 +4,9 @@ ghost use Rattle.std.specs.Prelude.{◌≡◌, IfOk};
 ghost use Rattle.snap_words.specs.declared.kind.KindTag.TheVariants.{Seq};
 
 use crate::trouble::Trouble;
+use snap_asm::load_listing;
 use snap_asm_program::Program;
 use snap_input::split_parts;
-use snap_loader::load;
 use snap_words::KindTag;
 use std::alloc::Global;
 use std::io::Read;
@@ -47,7 +47,7 @@ pub fn read(rt: &HostRuntime) -> Result<Vec<u8>, Trouble> {
 }
 
 impl<'a> Inputs<'a> {
-    /// The two parts of an input.
+    /// Returns the two parts of an input.
     pub fn of(alloc: Global, input: &'a [u8]) -> Result<Inputs<'a>, Trouble> {
         let parts = split_parts(alloc, input)?;
         match (parts.get(0), parts.get(1)) {
@@ -57,11 +57,11 @@ impl<'a> Inputs<'a> {
     }
 }
 
-/// The program of the unbounded single-writer listing.
+/// Returns the program of the unbounded single-writer listing.
 pub fn single(alloc: Global) -> Result<Program, Trouble>
     ensures { IfOk result (λ p. p.kind ≡ Seq) }
 {
-    let program = load(alloc, snap_single::listing(alloc)?.into_listing())?;
+    let program = load_listing(alloc, snap_single::listing(alloc)?.into_listing())?;
     if program.kind() != KindTag::Seq {
         return Err(Trouble::Refused);
     }

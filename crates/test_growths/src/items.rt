@@ -8,7 +8,7 @@ use crate::inputs::QUICK;
 use crate::outcomes::tell_outcome;
 use crate::trials::{tell, tried};
 use crate::trouble::Trouble;
-use snap_loader::load;
+use snap_asm::load_listing;
 use snap_machine::Machine;
 use snap_report::report;
 use snap_sched::{Schedule, read};
@@ -16,16 +16,16 @@ use snap_semantics::{Item, Outcome, who};
 use snap_words::{Bits, KindTag};
 use std::alloc::{AllocError, Global};
 
-/// A machine of the bounded single-writer listing, for a schedule.
+/// Returns a machine of the bounded single-writer listing, for a schedule.
 fn new_machine(alloc: Global, schedule: &Schedule) -> Result<Machine<Bits>, Trouble> {
-    let program = load(alloc, snap_bounded::listing(alloc)?.into_listing())?;
+    let program = load_listing(alloc, snap_bounded::listing(alloc)?.into_listing())?;
     if program.kind() != KindTag::Bits {
         return Err(Trouble::Refused);
     }
     Ok(Machine::new(alloc, &program, schedule.shape())?)
 }
 
-/// Whether a machine has the process of an item.
+/// Returns whether a machine has the process of an item.
 fn has_process(machine: &Machine<Bits>, item: Item) -> bool
     ensures { IsTrue result → IsOneOf machine.now.shape.n (who item) }
 {
@@ -51,7 +51,7 @@ fn apply_and_revert(machine: &mut Machine<Bits>, item: Item) -> Result<Outcome, 
     Ok(outcome)
 }
 
-/// The report of a machine, with no events.
+/// Returns the report of a machine, with no events.
 fn report_of(alloc: Global, machine: &Machine<Bits>) -> Result<Vec<u8>, AllocError> {
     let mut text = Vec::new(alloc);
     report(&mut text, machine, &[], 0, 0)?;
@@ -64,13 +64,13 @@ fn tell_report(rt: &HostRuntime, machine: &Machine<Bits>) -> Result<(), Trouble>
     tell(rt, text.as_slice())
 }
 
-/// Does an item, and writes what came of it.
+/// Does an item, and writes its outcome.
 fn do_item(rt: &HostRuntime, machine: &mut Machine<Bits>, item: Item) -> Result<(), Trouble> {
     let outcome = tried!(rt, apply(machine, item));
     tell_outcome(rt, &outcome)
 }
 
-/// Does an item, takes it back, writes what came of it, and does it again.
+/// Does an item, takes it back, writes its outcome, and does it again.
 fn do_item_twice(rt: &HostRuntime, machine: &mut Machine<Bits>, item: Item) -> Result<(), Trouble> {
     let outcome = tried!(rt, apply_and_revert(machine, item));
     tell_outcome(rt, &outcome)?;
@@ -102,7 +102,7 @@ fn do_items_twice(
     Ok(())
 }
 
-/// Each item of a schedule is done.
+/// Does each item of a schedule.
 pub fn play(rt: &HostRuntime) -> Result<(), Trouble> {
     let schedule = read(rt.alloc(), QUICK)?;
     let mut machine = new_machine(rt.alloc(), &schedule)?;
@@ -110,7 +110,7 @@ pub fn play(rt: &HostRuntime) -> Result<(), Trouble> {
     tell_report(rt, &machine)
 }
 
-/// Each item of a schedule is done, taken back, and done again.
+/// Does each item of a schedule, takes it back, and does it again.
 pub fn play_back(rt: &HostRuntime) -> Result<(), Trouble> {
     let schedule = read(rt.alloc(), QUICK)?;
     let mut machine = new_machine(rt.alloc(), &schedule)?;

@@ -1,5 +1,5 @@
-//! Calls that may want memory, one scene of them after another. Each is made once more where it
-//! wanted memory, so that what is printed is the same whichever growth is refused.
+//! Calls that may want memory, one scene of them after another. A call that wanted memory is made
+//! once more, so that what is printed is the same whichever growth is refused.
 #![tactic(auto)]
 
 mod batches;

@@ -9,7 +9,7 @@ use snap_text::push_text;
 use snap_words::Kind;
 use std::alloc::{AllocError, Global};
 
-/// The line of an outcome.
+/// Returns the line of an outcome.
 fn outcome_line(alloc: Global, outcome: &Outcome) -> Result<Vec<u8>, AllocError> {
     let mut line = Vec::new(alloc);
     outcome_text(&mut line, outcome)?;
@@ -17,13 +17,17 @@ fn outcome_line(alloc: Global, outcome: &Outcome) -> Result<Vec<u8>, AllocError>
     Ok(line)
 }
 
-/// Writes what came of an item.
+/// Writes the outcome of an item.
 pub fn tell_outcome(rt: &HostRuntime, outcome: &Outcome) -> Result<(), Trouble> {
     let line = tried!(rt, outcome_line(rt.alloc(), outcome));
     tell(rt, line.as_slice())
 }
 
-/// The report of all items of a record.
+/// Returns the report of all items of a record.
+///
+/// # Errors
+///
+/// `AllocError` where memory runs out.
 pub fn record_report<K: Kind>(alloc: Global, record: &Record<K>) -> Result<Vec<u8>, AllocError> {
     let mut text = Vec::new(alloc);
     let position = record.items().len();

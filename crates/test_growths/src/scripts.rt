@@ -9,7 +9,7 @@ use snap_words::Seq;
 use std::sync::Wait;
 use std::thread::Threads;
 
-/// The scripts of one process are played, and the record of all turns is reported.
+/// Plays the scripts of one process, and reports the record of all turns.
 pub fn play(rt: &HostRuntime, threads: &(impl Threads + Wait + Sync)) -> Result<(), Trouble> {
     let alloc = rt.alloc();
     let program = single(alloc)?;

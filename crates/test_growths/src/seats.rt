@@ -25,7 +25,7 @@ struct Bench {
     ghost same: { All (λ s. s.desk ≡ desk) seats.items },
 }
 
-/// A new desk with one process and one word.
+/// Returns a new desk with one process and one word.
 fn new_bench(alloc: Global, program: &Program) -> Result<Bench, Trouble>
     requires { program.now.kind ≡ kind.Seq }
 {
@@ -33,7 +33,8 @@ fn new_bench(alloc: Global, program: &Program) -> Result<Bench, Trouble>
     Ok(Bench { desk, seats })
 }
 
-/// What the seat is to do at a turn of this number: a call where one is due, and a step otherwise.
+/// Returns what the seat is to do at a turn of this number: a call where one is due, and a step
+/// otherwise.
 fn due(number: u64) -> Option<Op> {
     match number {
         1 => Some(Op::Update { word: 1, value: 7 }),
@@ -42,7 +43,7 @@ fn due(number: u64) -> Option<Op> {
     }
 }
 
-/// A turn of the seat. Whatever comes of it, the seat has then asked for one more.
+/// Makes a turn of the seat. Whatever comes of it, the seat has asked for one more.
 fn turn<R: Wait>(rt: &R, bench: &mut Bench, number: u64) -> Result<Turn, Trouble> {
     if bench.seats.is_empty() {
         return Err(Trouble::Refused);
@@ -62,7 +63,7 @@ fn turn<R: Wait>(rt: &R, bench: &mut Bench, number: u64) -> Result<Turn, Trouble
     Ok(answer?)
 }
 
-/// Takes a turn, and writes its number and what came of it.
+/// Takes a turn, and writes its number and its outcome.
 fn take_turn(
     rt: &HostRuntime,
     threads: &impl Wait,
@@ -74,7 +75,7 @@ fn take_turn(
     tell_outcome(rt, &outcome)
 }
 
-/// The desk is closed, and the record of all turns is reported.
+/// Closes the desk, and reports the record of all turns.
 fn end(rt: &HostRuntime, bench: Bench) -> Result<(), Trouble> {
     let Bench { desk, seats } = bench;
     let Ok(record) = close(desk, seats) else {
@@ -84,7 +85,7 @@ fn end(rt: &HostRuntime, bench: Bench) -> Result<(), Trouble> {
     tell(rt, report.as_slice())
 }
 
-/// A desk is opened, its one seat takes its turns, and it is closed.
+/// Opens a desk, lets its one seat take its turns, and closes it.
 pub fn play(rt: &HostRuntime, threads: &impl Wait) -> Result<(), Trouble> {
     let program = single(rt.alloc())?;
     let mut bench = tried!(rt, new_bench(rt.alloc(), &program));

@@ -1,5 +1,5 @@
 //! A scene of calls that may want memory: a debugger session, command by command, which stays as it
-//! was where memory is refused.
+//! was when memory is refused.
 use crate::inputs::{BORROWED, COMMANDS, single};
 use crate::trials::{tell, tried, wants_memory};
 use crate::trouble::Trouble;
@@ -8,7 +8,7 @@ use snap_semantics::{CommandRefusal, Fault};
 use snap_words::Seq;
 use std::alloc::Global;
 
-/// A session over a scan that borrows its view.
+/// Returns a session over a scan that borrows its view.
 fn open(alloc: Global) -> Result<Session<Seq>, Trouble> {
     let program = single(alloc)?;
     let schedule = snap_sched::read(alloc, BORROWED)?;
@@ -39,7 +39,8 @@ fn check_unchanged(session: &Session<Seq>, position: u64, report: &[u8]) -> Resu
     }
 }
 
-/// Gives a session a command; where it wants memory, once more, if it left the session as it was.
+/// Gives a session a command; if it wants memory, once more, provided that the session is as it
+/// was.
 fn command(rt: &HostRuntime, session: &mut Session<Seq>, command: &Command) -> Result<(), Trouble> {
     let position = session.position();
     let report = tried!(rt, session.report());
@@ -53,7 +54,7 @@ fn command(rt: &HostRuntime, session: &mut Session<Seq>, command: &Command) -> R
     }
 }
 
-/// Commands go forward to each write of a register, and back again.
+/// Plays commands forward to each write of a register, and back again.
 pub fn play(rt: &HostRuntime) -> Result<(), Trouble> {
     let mut session = open(rt.alloc())?;
     let commands = read_commands(rt.alloc(), COMMANDS)?;

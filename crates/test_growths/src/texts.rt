@@ -5,7 +5,7 @@ use crate::trials::{tell, tried};
 use crate::trouble::Trouble;
 use snap_asm::{Program, assemble, list, load};
 
-/// An image is assembled, loaded, and listed back.
+/// Assembles an image, loads it, and lists it back.
 pub fn play(rt: &HostRuntime, inputs: &Inputs) -> Result<(), Trouble> {
     let image = tried!(rt, assemble(rt.alloc(), inputs.multi));
     let program: Program = tried!(rt, load(rt.alloc(), image.as_slice()));

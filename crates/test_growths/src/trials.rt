@@ -1,9 +1,9 @@
-//! Makes a call once more where it wanted memory, and says so on standard error.
+//! Makes a call once more if it wanted memory, and says so on standard error.
 use crate::trouble::Trouble;
 use std::io::Write;
 
-/// What a call answers. Where it wanted memory, that is said on standard error, and the call is
-/// made once more.
+/// Makes a call, and once more if it wanted memory, which is said on standard error; and returns
+/// its result.
 macro_rules! tried {
     ($rt:expr, $call:expr) => {
         match $call {

@@ -8,20 +8,20 @@ use std::io;
 /// Why a scene is not played to its end.
 #[derive(Clone, Copy, PartialEq, Eq)]
 pub enum Trouble {
-    /// There was no memory for what comes before the calls that are tried.
+    /// Memory ran out for what comes before the calls that are tried.
     Memory,
-    /// A call refused what it was handed.
+    /// A call refused its arguments.
     Refused,
     /// A call that wanted memory left something changed.
     Changed,
     /// Standard input or output failed.
     Device,
-    /// There is no such scene.
+    /// The scene does not exist.
     Unknown,
 }
 
 impl Trouble {
-    /// The line that is said of it.
+    /// Returns the line that is said of the trouble.
     pub fn line(self) -> &'static [u8] {
         match self {
             Trouble::Memory => b"refused: Memory\n",
@@ -32,7 +32,7 @@ impl Trouble {
         }
     }
 
-    /// The status that the program ends with.
+    /// Returns the status that the program ends with.
     pub fn status(self) -> u8 {
         match self {
             Trouble::Memory => 1,

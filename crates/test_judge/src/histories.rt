@@ -10,7 +10,7 @@ use snap_words::{Shape, View};
 use std::alloc::{AllocError, Global};
 use std::test::Fail;
 
-/// A process calls a scan.
+/// Returns a call of a scan by a process.
 fn scan(item: u64, process: u32) -> Event
     ensures { result ≡ record { item = item; process = process; what = what.Call op.Scan } }
 {
@@ -21,7 +21,7 @@ fn scan(item: u64, process: u32) -> Event
     }
 }
 
-/// A process calls an update of word 1.
+/// Returns a call of an update of word 1 by a process.
 fn update(item: u64, process: u32, value: u64) -> Event
     ensures { result ≡ record {
       item = item;
@@ -36,7 +36,7 @@ fn update(item: u64, process: u32, value: u64) -> Event
     }
 }
 
-/// The update of a process ends.
+/// Returns the end of an update of a process.
 fn done(item: u64, process: u32) -> Event
     ensures { result ≡ record { item = item; process = process; what = what.Done } }
 {
@@ -47,7 +47,7 @@ fn done(item: u64, process: u32) -> Event
     }
 }
 
-/// The scan of a process sees this value in word 1, and zeros.
+/// Returns the answer of a scan of a process with this value in word 1, and zeros.
 fn answer(alloc: Global, item: u64, process: u32, value: u64) -> Result<Event, AllocError>
     ensures { IfOk result (λ e. e ≡ record {
       item = item;
@@ -63,8 +63,8 @@ fn answer(alloc: Global, item: u64, process: u32, value: u64) -> Result<Event, A
     })
 }
 
-/// Two updates of word 1 at once, one to 7 and one to 8, both open while a scan sees 8; a scan
-/// after them sees `last`.
+/// Returns two updates of word 1 at once, one to 7 and one to 8, both open while a scan sees 8; a
+/// scan after them sees `last`.
 pub fn two_updates(alloc: Global, last: u64) -> Result<History, Fail>
     ensures { IfOk result IsHistory }
 {
@@ -84,8 +84,8 @@ pub fn two_updates(alloc: Global, last: u64) -> Result<History, Fail>
     Ok(History { shape, events })
 }
 
-/// An update of word 1 to 7 that never ends, and two scans after its call, which see `first` and
-/// then `last`.
+/// Returns an update of word 1 to 7 that never ends, and two scans after its call, which see
+/// `first` and then `last`.
 pub fn open_update(alloc: Global, first: u64, last: u64) -> Result<History, Fail>
     ensures { IfOk result IsHistory }
 {

@@ -3,11 +3,11 @@ use crate::histories::{open_update, two_updates};
 use snap_judge::{Judgement, judge};
 use std::test::Fail;
 
-/// How many turns of a search these histories are given, more than they need.
+/// How many turns of a search the histories are given, more than they need.
 const TURNS: usize = 100;
 
-/// Whether a history is judged linearizable, with the operations called at these events in this
-/// order.
+/// Returns whether a history is judged linearizable, with the operations called at these events in
+/// this order.
 fn has_order(judgement: &Judgement, calls: &[u64]) -> bool {
     match judgement {
         Judgement::Linearizable(order) => {
@@ -22,7 +22,7 @@ fn has_order(judgement: &Judgement, calls: &[u64]) -> bool {
     }
 }
 
-/// Whether a history is judged not to be linearizable at this event, and at none before it.
+/// Returns whether a history is judged not to be linearizable at this event, and at none before it.
 fn fails_at(judgement: &Judgement, event: usize) -> bool {
     match judgement {
         Judgement::NotLinearizable(at) => *at == event,
@@ -31,7 +31,7 @@ fn fails_at(judgement: &Judgement, event: usize) -> bool {
     }
 }
 
-/// Whether it is left open whether the history is linearizable up to this event.
+/// Returns whether it is left open if the history is linearizable up to this event.
 fn is_open_at(judgement: &Judgement, event: usize) -> bool {
     match judgement {
         Judgement::Undecided(at) => *at == event,

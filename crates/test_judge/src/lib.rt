@@ -1,7 +1,11 @@
-//! Tests of judgements: histories that are linearizable, and histories that fail at an event.
+//! Tests of judgements of histories, and of what is told of those that are not linearizable.
 #![tactic(auto)]
 
+#[cfg(test)]
+mod failures;
 #[cfg(test)]
 mod histories;
 #[cfg(test)]
 mod judgements;
+#[cfg(test)]
+mod reasons_histories;

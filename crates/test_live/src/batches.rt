@@ -21,7 +21,7 @@ const UPDATED: &[u8; 183] = b"report at 14 of 14\nvalues 7\nr 1 = 7 seq 1 view 0
 process 1 idle\n  j = 1\n  c = 1\n  moved = 0\n  a 1 = 0 seq 0 view 0\n  \
 b 1 = 0 seq 0 view 0\n  s = 0\nevent 1 1 update 1 7\nevent 14 1 done\n";
 
-/// So many schedules, scans and updates by turns.
+/// Returns `count` schedules, scans and updates by turns.
 fn by_turns(alloc: Global, count: usize) -> Result<Vec<Schedule>, ScheduleFault> {
     let mut schedules = Vec::new(alloc);
     for place in 0..count {
@@ -35,7 +35,7 @@ fn by_turns(alloc: Global, count: usize) -> Result<Vec<Schedule>, ScheduleFault>
     Ok(schedules)
 }
 
-/// Whether the reports are those of scans and updates by turns.
+/// Returns whether the reports are those of scans and updates by turns.
 fn are_by_turns(reports: &[Report]) -> bool {
     for place in 0..reports.len() {
         let wanted = if place % 2 == 0 {

@@ -16,7 +16,7 @@ pub(crate) struct Bench {
     ghost same: { All (λ s. s.desk ≡ desk) seats.items },
 }
 
-/// A new desk with so many processes and words.
+/// Returns a new desk with `count` processes and words.
 pub(crate) fn new_bench(rt: &impl Abort, alloc: Global, count: u64) -> Result<Bench, Fail> {
     let program = program(rt, alloc)?;
     let (desk, seats) = open::<Seq>(alloc, &program, Shape::new(count, count)?)?;

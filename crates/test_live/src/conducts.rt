@@ -7,7 +7,7 @@ use std::sync::Wait;
 use std::test::Fail;
 use std::thread::Threads;
 
-/// What a live run of the shipped listing writes for scripts.
+/// Returns what a live run of the shipped listing writes for scripts.
 fn written<G: Gate, R: AllocGlobal + Threads + Wait + Sync>(
     rt: &R,
     gate: &G,

@@ -12,7 +12,7 @@ use std::test::Fail;
 
 const UPDATE: Op = Op::Update { word: 1, value: 7 };
 
-/// A call of the seat at this place, which is the turn of this number.
+/// Calls the seat at this place, whose turn has this number.
 fn call<R: Wait + Abort>(
     rt: &R,
     bench: &mut Bench,
@@ -28,7 +28,7 @@ fn call<R: Wait + Abort>(
     Ok(())
 }
 
-/// A step of the seat at this place, which is the turn of this number.
+/// Makes a step of the seat at this place, which is the turn of this number.
 fn step<R: Wait + Abort>(
     rt: &R,
     bench: &mut Bench,
@@ -43,7 +43,7 @@ fn step<R: Wait + Abort>(
     Ok(turn.outcome)
 }
 
-/// So many steps, the first of which is the turn of this number.
+/// Makes `count` steps, the first of which is the turn of this number.
 fn steps<R: Wait + Abort>(
     rt: &R,
     bench: &mut Bench,
@@ -57,7 +57,7 @@ fn steps<R: Wait + Abort>(
     Ok(())
 }
 
-/// A crash of the process of the seat at this place, which is the turn of this number.
+/// Makes a crash of the process of the seat at this place, which is the turn of this number.
 fn crash<R: Wait + Abort>(
     rt: &R,
     bench: &mut Bench,
@@ -72,7 +72,7 @@ fn crash<R: Wait + Abort>(
     Ok(turn.outcome)
 }
 
-/// Whether a scan was answered with these values.
+/// Returns whether a scan was answered with `values`.
 fn answers(outcome: &Outcome, values: &[u64]) -> bool {
     match outcome {
         Outcome::Answered(view) => view.as_slice() == values,
@@ -80,7 +80,7 @@ fn answers(outcome: &Outcome, values: &[u64]) -> bool {
     }
 }
 
-/// Process 1 updates its word, and then scans.
+/// Lets process 1 update its word, and then scan.
 fn update_and_scan<R: Wait + Abort>(rt: &R, bench: &mut Bench) -> Result<(), Fail> {
     call(rt, bench, 0, UPDATE, 1)?;
     steps(rt, bench, 0, 2, 13)?;
@@ -97,7 +97,8 @@ fn one_seat_takes_its_turns_in_order(rt: HostRuntime) -> Result<(), Fail> {
     update_and_scan(&rt, &mut bench)
 }
 
-/// Process 1 updates its word, and crashes in the middle of a scan; a step is skipped then.
+/// Lets process 1 update its word, and crash in the middle of a scan, after which a step is
+/// skipped.
 fn update_and_crash<R: Wait + Abort>(rt: &R, bench: &mut Bench) -> Result<(), Fail> {
     call(rt, bench, 0, UPDATE, 1)?;
     steps(rt, bench, 0, 2, 13)?;
@@ -116,7 +117,7 @@ fn a_seat_crashes_in_a_scan(rt: HostRuntime) -> Result<(), Fail> {
     update_and_crash(&rt, &mut bench)
 }
 
-/// One seat meets a note of the other, and has then seen so many turns.
+/// Lets one seat meet a note of the other, after which it has seen `seen` turns.
 fn meet(rt: &impl Abort, bench: &mut Bench, from: usize, to: usize, seen: u64) {
     assert!(rt; from < bench.seats.len());
     let note = bench.seats[from].note(&bench.desk);
@@ -126,7 +127,7 @@ fn meet(rt: &impl Abort, bench: &mut Bench, from: usize, to: usize, seen: u64) {
     assert_eq!(rt; seat.seen_len(), seen);
 }
 
-/// Process 1 calls, process 2 is told of it and then steps, which is skipped.
+/// Lets process 1 call, and process 2 hear of it and then step, which is skipped.
 fn two_turns<R: Wait + Abort>(rt: &R, bench: &mut Bench) -> Result<(), Fail> {
     call(rt, bench, 0, UPDATE, 1)?;
     meet(rt, bench, 0, 1, 1);
@@ -135,7 +136,7 @@ fn two_turns<R: Wait + Abort>(rt: &R, bench: &mut Bench) -> Result<(), Fail> {
     Ok(())
 }
 
-/// Without the last seat the desk is not closed, and all is handed back.
+/// Checks that without the last seat the desk is not closed, and all is handed back.
 fn not_closed(
     rt: &impl Abort,
     desk: Desk<Seq>,
@@ -152,7 +153,7 @@ fn not_closed(
     (desk, seats)
 }
 
-/// The record of all turns, which comes once the last seat is there as well.
+/// Returns the record of all turns, which comes once the last seat is there as well.
 fn closed(rt: &impl Abort, bench: Bench, missing: u32) -> Result<Record<Seq>, Fail> {
     let Bench { desk, mut seats } = bench;
     let Some(last) = seats.pop() else {
@@ -166,7 +167,7 @@ fn closed(rt: &impl Abort, bench: Bench, missing: u32) -> Result<Record<Seq>, Fa
     Ok(record)
 }
 
-/// Whether what is kept are the two turns.
+/// Checks that what is kept are the two turns.
 fn check_two_turns(rt: &impl Abort, record: &Record<Seq>) {
     assert_eq!(rt; record.items().len(), 2);
     assert!(rt; record.items().item(1) == Some(Item::Call(1, UPDATE)));
@@ -182,7 +183,7 @@ fn two_seats_meet_and_close(rt: HostRuntime) -> Result<(), Fail> {
     Ok(())
 }
 
-/// So many steps of the first seat, whose process is idle.
+/// Makes `count` steps of the first seat, whose process is idle.
 fn idle<R: Wait + Abort>(rt: &R, bench: &mut Bench, count: u64) -> Result<(), LiveFault> {
     for _ in 0..count {
         assert!(rt; !bench.seats.is_empty());

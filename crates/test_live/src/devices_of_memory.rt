@@ -1,12 +1,12 @@
 //! `Trickle` and `Narrow`: a byte source and a byte sink in memory, by which whole runs of the
-//! program are tested; they fail when they are told to.
+//! program are tested, and which fail on demand.
 
 ghost use Rattle.std.specs.Prelude.{◌≡◌, [], false, true, Some, ◌==◌};
 
 use snap_program::{ByteSink, ByteSource, Failed};
 use std::alloc::Global;
 
-/// Gives one byte a call, and fails after so many calls.
+/// A source that gives one byte a call, and fails after a number of calls.
 #[derive(Drop)]
 pub struct Trickle<'a> {
     rest: &'a [u8],
@@ -45,7 +45,7 @@ impl ByteSource for Trickle<'_> {
     }
 }
 
-/// Takes so many bytes a call, and fails after so many calls.
+/// A sink that takes a number of bytes a call, and fails after a number of calls.
 #[derive(Drop)]
 pub struct Narrow {
     pub taken: Vec<u8>,

@@ -15,7 +15,7 @@ use std::thread::Threads;
 /// An update and a scan, which have 24 turns.
 const ALONE: &[u8] = b"shape 1 1\n1 update 1 7\n1 scan\n";
 
-/// How many turns these scripts have.
+/// How many turns the scripts have.
 const TURNS: u64 = 24;
 
 /// Refuses one turn, counted from 1, of each process.
@@ -33,8 +33,8 @@ impl Gate for Shut {
     }
 }
 
-/// Whether the scripts of one process are played to their end where this turn is refused; it has to
-/// be the turn that stops them if not.
+/// Returns whether the scripts of one process are played to their end where turn `turn` is refused;
+/// if not, it has to be the turn that stops them.
 fn passes<R: Threads + Wait + Sync + Abort>(
     rt: &R,
     alloc: Global,
@@ -56,7 +56,7 @@ fn a_turn_that_a_gate_refuses_stops_the_script(rt: HostRuntime) -> Result<(), Fa
     for turn in 1..=TURNS {
         assert!(&rt; !passes(&rt, rt.alloc(), turn)?);
     }
-    // There is no such turn.
+    // No script has such a turn.
     assert!(&rt; passes(&rt, rt.alloc(), TURNS + 1)?);
     Ok(())
 }

@@ -24,7 +24,7 @@ const CRASHING: &[u8] = b"shape 1 1\n1 update 1 7\n1 scan\n1 crash 3\n";
 
 const SCAN: &[u8] = b"shape 1 1\n1 scan\n";
 
-/// How many turns the scripts of a text make, each of which is kept once.
+/// Returns how many turns the scripts of a text make, each of which is kept once.
 fn play<G: Gate, R: Threads + Wait + Sync + Abort>(
     rt: &R,
     alloc: Global,
@@ -51,7 +51,7 @@ fn a_crash_ends_a_script(rt: HostRuntime) -> Result<(), Fail> {
     Ok(())
 }
 
-/// Why the scripts of a text are not played to their end.
+/// Returns why the scripts of a text are not played to their end.
 fn fault(
     rt: &(impl Threads + Wait + Sync + Abort),
     alloc: Global,
@@ -75,7 +75,7 @@ fn workers_run_at_once(rt: HostRuntime) -> Result<(), Fail> {
     Ok(())
 }
 
-/// An update has 18 turns, and 12 more where the other one wrote during its first double collect,
+/// An update has 18 turns, and 12 more if the other one wrote during its first double collect,
 /// which only one of two can.
 #[test]
 fn two_updates_have_36_turns_or_48(rt: HostRuntime) -> Result<(), Fail> {

@@ -16,7 +16,7 @@ pub(crate) struct Meeting<R: Clock> {
 }
 
 impl<R: Clock> Meeting<R> {
-    /// Where nobody has come yet.
+    /// Returns a meeting to which nobody has come yet.
     pub(crate) fn new(clock: R) -> Meeting<R> {
         Meeting {
             clock,
@@ -43,7 +43,7 @@ impl<R: Clock + Sync> Gate for Meeting<R> {
     }
 }
 
-/// Whether the flag is seen in about ten seconds.
+/// Returns whether the flag is seen in about ten seconds.
 fn comes<R: Clock>(clock: &R, flag: &AtomicU64) -> bool {
     for _ in 0..10_000u32 {
         if flag.load(Ordering::SeqCst) == 1 {

@@ -5,7 +5,7 @@ use snap_words::Seq;
 use std::alloc::Global;
 use std::test::Fail;
 
-/// Marks the numbers of turns. False where a number is marked before, or is too large.
+/// Marks the numbers of turns, and returns false if a number is marked before, or is too large.
 fn mark(marks: &mut [bool], turns: &[Turn]) -> bool {
     for turn in turns {
         let Some(mark) = marks.get_mut(turn.number.wrapping_sub(1) as usize) else {
@@ -19,7 +19,7 @@ fn mark(marks: &mut [bool], turns: &[Turn]) -> bool {
     true
 }
 
-/// Whether each item that was kept is one turn, by its number.
+/// Returns whether each item that was kept is one turn, by its number.
 pub(crate) fn has_each_turn_once(alloc: Global, live: &LiveRun<Seq>) -> Result<bool, Fail> {
     let mut marks = vec![in alloc; false; live.kept.items().len() as usize]?;
     for turns in &live.turns {

@@ -22,7 +22,7 @@ use std::thread::{Promise, PromisedHandle, Scope, Threads};
 /// How many desks a test plays at, one after another.
 const DESKS: u64 = 36;
 
-/// An update has 18 turns where no other one writes, the last of which ends it.
+/// An update has 18 turns if no other one writes, the last of which ends it.
 const ALONE: u64 = 18;
 
 /// The most steps of an operation of two processes.
@@ -35,9 +35,9 @@ const MOST_LOOKS: u32 = 100_000;
 /// where in it is up to the round, so that in some rounds a write meets a double collect.
 #[derive(Drop)]
 struct Round {
-    /// So many turns the first one makes before the second one begins.
+    /// How many turns the first thread makes before the second one begins.
     lead: u64,
-    /// Whether each makes one step more, once it is idle.
+    /// Whether each thread makes one step more, once it is idle.
     idle: bool,
     /// How many of the two are there.
     there: AtomicU64,
@@ -52,7 +52,7 @@ struct Player {
     turns: Vec<Turn>,
 }
 
-/// The promise of a thread, that it hands back a seat of this desk.
+/// The promise of a thread that it hands back a seat of its desk.
 #[derive(Drop)]
 struct PlayerPromise {
     desk: Snapshot<Desk<Seq>>,
@@ -62,7 +62,7 @@ impl Promise<Result<Player, LiveFault>> for PlayerPromise {
     ghost kept_by = { λ p r. IfOk r (λ w. w.seat.desk ≡ p.desk.value) };
 }
 
-/// Looks until the count is so high, or has looked often enough.
+/// Looks until the count is as high as wanted, or has looked often enough.
 fn look_for(count: &AtomicU64, wanted: u64) {
     for _ in 0..MOST_LOOKS {
         if count.load(Ordering::SeqCst) >= wanted {
@@ -72,7 +72,7 @@ fn look_for(count: &AtomicU64, wanted: u64) {
     }
 }
 
-/// Waits for the time to begin: both are there, and the first one has its lead.
+/// Waits for the time to begin, when both are there, and the first one has its lead.
 fn begin(round: &Round, process: u32) {
     round.there.fetch_add(1, Ordering::SeqCst);
     look_for(&round.there, 2);
@@ -81,7 +81,7 @@ fn begin(round: &Round, process: u32) {
     }
 }
 
-/// The process of the seat is asked to update its own word.
+/// Calls an update of its own word at the process of the seat.
 fn call<R: Wait + Abort>(rt: &R, desk: &Desk<Seq>, seat: &mut Seat<Seq>) -> Result<Turn, LiveFault>
     requires { seat.old.desk ≡ desk.now }
     ensures { seat.new.desk ≡ desk.now }
@@ -98,7 +98,7 @@ fn call<R: Wait + Abort>(rt: &R, desk: &Desk<Seq>, seat: &mut Seat<Seq>) -> Resu
     )
 }
 
-/// A step of the seat.
+/// Makes a step of the seat.
 fn step<R: Wait + Abort>(rt: &R, desk: &Desk<Seq>, seat: &mut Seat<Seq>) -> Result<Turn, LiveFault>
     requires { seat.old.desk ≡ desk.now }
     ensures { seat.new.desk ≡ desk.now }
@@ -129,7 +129,7 @@ fn finish<R: Wait + Abort>(
     panic!(rt; "not finished after {MOST_STEPS} steps")
 }
 
-/// A step more, which is skipped, since the process is idle.
+/// Makes a step more, which is skipped, since the process is idle.
 fn step_idle<R: Wait + Abort>(
     rt: &R,
     desk: &Desk<Seq>,
@@ -144,7 +144,7 @@ fn step_idle<R: Wait + Abort>(
     Ok(())
 }
 
-/// What a thread does with its seat.
+/// Plays a seat in its thread.
 fn play<R: Wait + Abort>(
     rt: &R,
     alloc: Global,
@@ -193,7 +193,7 @@ fn start<'s, E, R: Threads + Wait + Sync + Abort>(
     Ok(child)
 }
 
-/// Both threads at once. Both have ended before there is an answer.
+/// Runs both threads at once, which have ended when the function returns.
 fn play_both<R: Threads + Wait + Sync + Abort>(
     rt: &R,
     alloc: Global,
@@ -222,7 +222,7 @@ fn play_both<R: Threads + Wait + Sync + Abort>(
     )
 }
 
-/// What is kept of both, once their seats are back.
+/// Returns what is kept of both, once their seats are back.
 fn closed(
     rt: &impl Abort,
     alloc: Global,
@@ -244,7 +244,7 @@ fn closed(
     Ok(LiveRun { kept, turns })
 }
 
-/// A round at a new desk.
+/// Plays a round at a new desk.
 fn play_round<R: Threads + Wait + Sync + Abort>(
     rt: &R,
     alloc: Global,
@@ -258,7 +258,7 @@ fn play_round<R: Threads + Wait + Sync + Abort>(
     closed(rt, alloc, desk, first, second)
 }
 
-/// Whether there is a process of this number.
+/// Returns whether there is a process of this number.
 fn has(record: &Record<Seq>, process: u32) -> bool
     ensures { IsTrue result ↔ IsOneOf «record».now.shape.n process }
 {
@@ -272,7 +272,7 @@ fn apply(rt: &impl Abort, record: &mut Record<Seq>, item: Item) -> Result<(), Fa
     Ok(())
 }
 
-/// The same items once more, run in this thread alone.
+/// Runs the items once more, in the current thread alone.
 fn run_again(rt: &impl Abort, alloc: Global, kept: &Record<Seq>) -> Result<Record<Seq>, Fail> {
     let program = program(rt, alloc)?;
     let mut again = Record::new(alloc, &program, Shape::new(2, 2)?)?;
@@ -285,7 +285,7 @@ fn run_again(rt: &impl Abort, alloc: Global, kept: &Record<Seq>) -> Result<Recor
     Ok(again)
 }
 
-/// How often the process was done with an operation.
+/// Returns how often the process was done with an operation.
 fn done_count(events: &[Event], process: u32) -> usize {
     events
         .iter()
@@ -293,14 +293,14 @@ fn done_count(events: &[Event], process: u32) -> usize {
         .count()
 }
 
-/// What callers saw: a call and an end of each process.
+/// Checks what callers saw: a call and an end of each process.
 fn check_events(rt: &impl Abort, events: &[Event]) {
     assert_eq!(rt; events.len(), 4);
     assert_eq!(rt; done_count(events, 1), 1);
     assert_eq!(rt; done_count(events, 2), 1);
 }
 
-/// The report of all items of a record.
+/// Returns the report of all items of a record.
 fn report_of(alloc: Global, record: &Record<Seq>) -> Result<Vec<u8>, AllocError> {
     let mut text = Vec::new(alloc);
     let position = record.items().len();
@@ -314,7 +314,7 @@ fn report_of(alloc: Global, record: &Record<Seq>) -> Result<Vec<u8>, AllocError>
     Ok(text)
 }
 
-/// The words have what was written, and the report is that of the items.
+/// Checks that the words have what was written, and that the report is that of the items.
 fn check_report(rt: &impl Abort, alloc: Global, kept: &Record<Seq>) -> Result<(), Fail> {
     let Some(values) = kept.values_after(kept.items().len())? else {
         panic!(rt; "no values")
@@ -325,8 +325,8 @@ fn check_report(rt: &impl Abort, alloc: Global, kept: &Record<Seq>) -> Result<()
     Ok(())
 }
 
-/// How many items there are: 12 more where a write of one failed the first double collect of the
-/// other, which only one of two can, and 2 more where each made a step when it was idle.
+/// Returns how many items there are: 12 more if a write of one failed the first double collect of
+/// the other, which only one of two can, and 2 more if each made a step when it was idle.
 fn wanted_len(kept: &Record<Seq>, idle: bool) -> u64 {
     match (kept.event_collects().contains(&2), idle) {
         (false, false) => 36,
@@ -336,7 +336,7 @@ fn wanted_len(kept: &Record<Seq>, idle: bool) -> u64 {
     }
 }
 
-/// What is kept of a round: each turn once, and nothing else.
+/// Checks what is kept of a round: each turn once, and nothing else.
 fn check_kept(rt: &impl Abort, alloc: Global, live: &LiveRun<Seq>, idle: bool) -> Result<(), Fail> {
     assert_eq!(rt; live.kept.items().len(), wanted_len(&live.kept, idle));
     assert!(rt; has_each_turn_once(alloc, live)?);

@@ -2,12 +2,12 @@
 -- upgraded.
 use Rattle.std.specs.Fmt.{digits}
 use Rattle.std.specs.Prelude.{◌≡◌, [], ℕ, List, take, Ok, Err, codes, refl}
-use Rattle.snap_image_format.specs.Assembly.{assembled, listed, upgraded}
+use Rattle.snap_image.specs.Assembly.{assembled, listed, upgraded}
 use Rattle.snap_semantics.specs.Comments.{commented_of}
 use Rattle.snap_semantics.specs.HeaderForms as headers
-use Rattle.snap_image_format.specs.ImageForms as reading
-use Rattle.snap_image_format.specs.ImageInstrs as instrs
-use Rattle.snap_image_format.specs.ImageListing as images
+use Rattle.snap_image.specs.ImageForms as reading
+use Rattle.snap_image.specs.ImageInstrs as instrs
+use Rattle.snap_image.specs.ImageListing as images
 use Rattle.snap_semantics.specs.Listing.{listing_of, listing_of_lines, header_of}
 use Rattle.snap_semantics.specs.ListingForms as forms
 use Rattle.snap_lint.specs.Check.{check_of}
@@ -16,7 +16,7 @@ use Rattle.snap_semantics.specs.declared.refusal.ImageRefusal.TheVariants.{Trunc
 use Rattle.snap_semantics.specs.declared.refusal.ListingRefusal.TheVariants.{BadHeader}
 use Rattle.snap_semantics.specs.declared.refusal.Refusal.TheVariants as refusal
 use Rattle.snap_tasks.specs.declared.task.Task.TheVariants as task
-use Rattle.snap_image_format.proofs.ImageSamples.{first_image, small_image}
+use Rattle.snap_image.proofs.ImageSamples.{first_image, small_image}
 
 abbrev small_text : List ℕ
 small_text = codes "kind seq\nscalar\nrow\nwords\nview s\nscan 1\nupdate 2\n1: return s\n2: finish\n"

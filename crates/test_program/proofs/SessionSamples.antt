@@ -10,7 +10,7 @@ use Rattle.snap_batch.specs.End.{end_report}
 use Rattle.snap_debug_commands.specs.CommandForms as commands
 use Rattle.snap_input.specs.Input.{parted}
 use Rattle.snap_input.specs.Schedules.{schedule_for}
-use Rattle.snap_run_output.specs.ScheduleOutput.{audit_listing, batch_text, batched}
+use Rattle.snap_output.specs.ScheduleOutput.{audit_listing, batch_text, batched}
 use Rattle.snap_output.specs.Output.{output_of}
 use Rattle.snap_output.specs.Perform.{perform_listing}
 use Rattle.snap_tasks.specs.declared.subject.Subject.TheVariants as subject

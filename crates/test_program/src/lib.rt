@@ -1,3 +1,7 @@
-//! Worked samples of what the program writes, from the bytes that it reads to the bytes that it
-//! writes: they are computed from the definitions alone.
+//! Tests of debugger commands and sessions, and worked samples of what the program writes.
 #![tactic(auto)]
+
+#[cfg(test)]
+mod commands;
+#[cfg(test)]
+mod sessions;

@@ -1,8 +1,18 @@
-//! Tests of what a record keeps of runs of a snapshot listing, of what an audit of it finds, and of
-//! the snapshot listings, each of which is read from its text.
+//! Tests of words, registers and machines, of records of runs, of their audits, and of the snapshot
+//! listings.
 #![tactic(auto)]
 
 #[cfg(test)]
+mod any_words;
+#[cfg(test)]
+mod machines;
+#[cfg(test)]
 mod records;
 #[cfg(test)]
+mod registers;
+#[cfg(test)]
+mod shapes;
+#[cfg(test)]
 mod snapshots;
+#[cfg(test)]
+mod words;

@@ -14,20 +14,20 @@ use std::alloc::Global;
 use std::process::Abort;
 use std::test::Fail;
 
-/// The program of the listing.
+/// Returns the program of the listing.
 fn program(alloc: Global) -> Result<Program, Fail> {
     let image = assemble(alloc, text_u())?;
     Ok(load(alloc, image.as_slice())?)
 }
 
-/// A record of the listing with so many processes, before the first item.
+/// Returns a record of the listing with `count` processes, before the first item.
 fn new_record(rt: &impl Abort, alloc: Global, count: u64) -> Result<Record<Seq>, Fail> {
     let program = program(alloc)?;
     assert!(rt; program.kind() == KindTag::Seq);
     Ok(Record::new(alloc, &program, Shape::new(count, count)?)?)
 }
 
-/// The process of an item.
+/// Returns the process of an item.
 fn process(item: Item) -> u32
     ensures { result ≡ who item }
 {
@@ -38,7 +38,7 @@ fn process(item: Item) -> u32
     }
 }
 
-/// Whether there is a process of this number.
+/// Returns whether there is a process of this number.
 fn has(record: &Record<Seq>, i: u32) -> bool
     ensures { IsTrue result ↔ IsOneOf «record».now.shape.n i }
 {
@@ -51,7 +51,7 @@ fn apply(rt: &impl Abort, record: &mut Record<Seq>, item: Item) -> Result<Outcom
     record.apply(item)
 }
 
-/// So many steps of a process.
+/// Does `count` steps of a process.
 fn step(rt: &impl Abort, record: &mut Record<Seq>, i: u32, count: u64) -> Result<(), Fail> {
     for _ in 0..count {
         let _outcome = apply(rt, record, Item::Step(i))?;
@@ -59,7 +59,7 @@ fn step(rt: &impl Abort, record: &mut Record<Seq>, i: u32, count: u64) -> Result
     Ok(())
 }
 
-/// A call.
+/// Does a call.
 fn call(rt: &impl Abort, record: &mut Record<Seq>, i: u32, op: Op) -> Result<(), Fail> {
     match apply(rt, record, Item::Call(i, op))? {
         Outcome::Called => {}
@@ -68,7 +68,7 @@ fn call(rt: &impl Abort, record: &mut Record<Seq>, i: u32, op: Op) -> Result<(),
     Ok(())
 }
 
-/// Whether the audit of a record is this text.
+/// Checks that the audit of a record is `wanted`.
 fn check_audit(
     rt: &impl Abort,
     alloc: Global,
@@ -83,7 +83,7 @@ fn check_audit(
     Ok(())
 }
 
-/// Process 2 updates its word to a value, while process 1 scans.
+/// Lets process 2 update its word to a value, while process 1 scans.
 fn update_between(
     rt: &impl Abort,
     record: &mut Record<Seq>,
@@ -95,7 +95,7 @@ fn update_between(
     step(rt, record, 1, steps)
 }
 
-/// Process 1 scans, while process 2 updates its word twice.
+/// Lets process 1 scan, while process 2 updates its word twice.
 fn scan_that_borrows(rt: &impl Abort, record: &mut Record<Seq>) -> Result<(), Fail> {
     call(rt, record, 1, Op::Scan)?;
     step(rt, record, 1, 6)?;
@@ -103,7 +103,7 @@ fn scan_that_borrows(rt: &impl Abort, record: &mut Record<Seq>) -> Result<(), Fa
     update_between(rt, record, 6, 9)
 }
 
-/// Whether the values after so many items are these.
+/// Checks that the values after `t` items are `wanted`.
 fn check_values(rt: &impl Abort, record: &Record<Seq>, t: u64, wanted: &[u64]) -> Result<(), Fail> {
     match record.values_after(t)? {
         Some(values) => assert_eq!(rt; values.as_slice(), wanted),
@@ -141,7 +141,7 @@ fn a_scan_has_its_double_collects(rt: HostRuntime) -> Result<(), Fail> {
     Ok(())
 }
 
-/// Items of a process that is idle.
+/// Does items of a process that is idle.
 fn skip(rt: &impl Abort, record: &mut Record<Seq>, count: u64) -> Result<(), Fail> {
     for _ in 0..count {
         match apply(rt, record, Item::Step(1))? {

@@ -68,7 +68,7 @@ b 1 = 0 seq 0 view 0\n  s = 0\n\
 event 1 1 update 1 7\n\
 event 14 1 done\n";
 
-/// The report of all items of a record.
+/// Returns the report of all items of a record.
 fn report_of(alloc: Global, record: &Record<Seq>) -> Result<Vec<u8>, AllocError> {
     let mut text = Vec::new(alloc);
     let position = record.items().len();
@@ -82,7 +82,7 @@ fn report_of(alloc: Global, record: &Record<Seq>) -> Result<Vec<u8>, AllocError>
     Ok(text)
 }
 
-/// Whether the values after so many items are this one alone.
+/// Checks that the values after `t` items are `wanted` alone.
 fn check_value(rt: &impl Abort, record: &Record<Seq>, t: u64, wanted: u64) -> Result<(), Fail> {
     match record.values_after(t)? {
         Some(values) => assert_eq!(rt; values.as_slice(), [wanted].as_slice()),

@@ -9,7 +9,7 @@ use snap_words::KindTag;
 use std::process::Abort;
 use std::test::Fail;
 
-/// Whether the name of a local is this, and its sort.
+/// Returns whether the name of a local is this, and its sort.
 fn is_local(local: Option<&(Name, Sort)>, name: &[u8], sort: Sort) -> bool {
     match local {
         Some((found, of)) => found.letters() == name && *of == sort,
@@ -17,7 +17,7 @@ fn is_local(local: Option<&(Name, Sort)>, name: &[u8], sort: Sort) -> bool {
     }
 }
 
-/// The listing has its kind, its lines, and its four locals in order.
+/// Checks that the listing has its kind, its lines, and its four locals in order.
 fn check_program(rt: &impl Abort, program: &Program) {
     assert!(rt; program.kind() == KindTag::Seq);
     assert!(rt; program.has_line(14) && !program.has_line(16));

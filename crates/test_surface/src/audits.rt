@@ -1,4 +1,4 @@
-//! Tests of audits: where scans have their points, and what is said of them.
+//! Tests of audits: where scans have their points, and the text on them.
 use crate::texts::BORROWING;
 use snap_asm::program;
 use snap_audit::{Verdict, audit, verdict_line};
@@ -8,7 +8,7 @@ use std::alloc::Global;
 use std::process::Abort;
 use std::test::Fail;
 
-/// The record of U over a schedule.
+/// Returns the record of U over a schedule.
 fn record(rt: &impl Abort, alloc: Global, text: &[u8]) -> Result<Record<Seq>, Fail> {
     let program = program(alloc, &snap_single::listing(alloc)?)?;
     assert!(rt; program.kind() == KindTag::Seq);

@@ -19,7 +19,7 @@ const UPDATED: &[u8] = b"report at 14 of 14\nvalues 7\nr 1 = 7 seq 1 view 0\n\
 process 1 idle\n  j = 1\n  c = 1\n  moved = 0\n  a 1 = 0 seq 0 view 0\n  \
 b 1 = 0 seq 0 view 0\n  s = 0\nevent 1 1 update 1 7\nevent 14 1 done\n";
 
-/// The schedules of these texts.
+/// Returns the schedules of `texts`.
 fn schedules(alloc: Global, texts: &[&[u8]]) -> Result<Vec<Schedule>, Fail> {
     let mut schedules = Vec::new(alloc);
     for &text in texts {
@@ -28,7 +28,7 @@ fn schedules(alloc: Global, texts: &[&[u8]]) -> Result<Vec<Schedule>, Fail> {
     Ok(schedules)
 }
 
-/// Whether three reports are of a scan, an update and a scan.
+/// Returns whether three reports are of a scan, an update and a scan.
 fn are_reports(reports: &[Report]) -> bool {
     match reports {
         [first, second, third] => {

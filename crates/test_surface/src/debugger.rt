@@ -14,16 +14,16 @@ use std::test::Fail;
 /// Commands over a borrowed view.
 const COMMANDS: &[u8] = b"watch r 2\nrun\nrun\nrun\nrrun\nback 1\ngoto 0\ngoto 65\n";
 
-/// Their replies.
+/// The replies to the commands.
 const REPLIES: &[u8] = b"marks 1\nposition 24 of 64\nposition 54 of 64\nposition 64 of 64\n\
 position 54 of 64\nposition 53 of 64\nposition 0 of 64\nrefused: G5 NoSuchPosition\n";
 
-/// What process 1 has at the end of it: its view is borrowed of the second update.
+/// The lines of process 1 at the end of the schedule: its view is borrowed of the second update.
 const BORROWER: &[u8] = b"position 64 of 64\nprocess 1 idle\n  j = 2\n  c = 0\n  moved = 0 2\n  \
 a 1 = 0 seq 0 view 0 0\n  a 2 = 5 seq 1 view 0 0\n  b 1 = 0 seq 0 view 0 0\n  \
 b 2 = 6 seq 2 view 0 5\n  s = 0 5\n";
 
-/// The program of listing U.
+/// Returns the program of listing U.
 fn program_of_u(rt: &impl Abort, alloc: Global) -> Result<Program, Fail>
     ensures { IfOk result (λ p. p.kind ≡ kind.Seq) }
 {
@@ -32,7 +32,7 @@ fn program_of_u(rt: &impl Abort, alloc: Global) -> Result<Program, Fail>
     Ok(program)
 }
 
-/// The program of the listing that collects once.
+/// Returns the program of the listing that collects once.
 fn program_of_collecting(rt: &impl Abort, alloc: Global) -> Result<Program, Fail>
     ensures { IfOk result (λ p. p.kind ≡ kind.Seq) }
 {
@@ -42,7 +42,7 @@ fn program_of_collecting(rt: &impl Abort, alloc: Global) -> Result<Program, Fail
     Ok(program)
 }
 
-/// Adds the reply to a command, or the line that refuses it.
+/// Appends the reply to a command, or the line that refuses it.
 fn push_reply(
     alloc: Global,
     text: &mut Vec<u8>,
@@ -57,7 +57,7 @@ fn push_reply(
     Ok(())
 }
 
-/// The replies to commands, those that are refused among them.
+/// Returns the replies to commands, refused ones among them.
 fn replies(alloc: Global, session: &mut Session<Seq>, commands: &[u8]) -> Result<Vec<u8>, Fail> {
     let mut text = Vec::new(alloc);
     for command in &read_commands(alloc, commands)? {
@@ -66,14 +66,14 @@ fn replies(alloc: Global, session: &mut Session<Seq>, commands: &[u8]) -> Result
     Ok(text)
 }
 
-/// A session of U over a schedule.
+/// Returns a session of U over a schedule.
 fn session(rt: &impl Abort, alloc: Global, schedule: &[u8]) -> Result<Session<Seq>, Fail> {
     let program = program_of_u(rt, alloc)?;
     let schedule = read(alloc, schedule)?;
     Ok(Session::open(alloc, &program, &schedule)?)
 }
 
-/// Whether commands over a schedule of U are answered so.
+/// Checks the replies to commands over a schedule of U.
 fn check(
     rt: &impl Abort,
     alloc: Global,
@@ -148,7 +148,7 @@ events 2\nevent 1 1 update 1 7\nevent 9 1 done\nr 1 = 7 seq 1 view 0 0\n"
     Ok(())
 }
 
-/// Whether there are so many commands in a text, or it is refused for this line.
+/// Returns whether a text has `count` commands, or is refused for line `line`.
 fn is_read_or_refused(alloc: Global, text: &[u8], count: usize, line: u64) -> bool {
     match read_commands(alloc, text) {
         Ok(commands) => commands.len() == count || commands.len() == count.saturating_add(1),
@@ -156,7 +156,7 @@ fn is_read_or_refused(alloc: Global, text: &[u8], count: usize, line: u64) -> bo
     }
 }
 
-/// How many lines end in a text.
+/// Returns how many lines end in a text.
 fn line_ends(text: &[u8]) -> usize {
     text.iter().filter(|&&byte| byte == b'\n').count()
 }

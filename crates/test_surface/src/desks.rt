@@ -19,10 +19,10 @@ use std::thread::Threads;
 /// An update and a scan.
 const SCRIPTS: &[u8] = b"shape 1 1\n1 update 1 7\n1 scan\n";
 
-/// Their turns.
+/// The turns of the scripts.
 const HISTORY: &[u8] = b"shape 1 1\n1 update 1 7\n1*13\n1 scan\n1*9\n";
 
-/// The same operations and a crash.
+/// The operations of the scripts, and a crash.
 const CRASHING: &[u8] = b"shape 1 1\n1 update 1 7\n1 scan\n1 crash 20\n";
 
 const UPDATE: Op = Op::Update { word: 1, value: 7 };
@@ -35,7 +35,7 @@ struct Bench {
     ghost same: { All (λ s. s.desk ≡ desk) seats.items },
 }
 
-/// The program of listing U.
+/// Returns the program of listing U.
 fn program_of_u(rt: &impl Abort, alloc: Global) -> Result<Program, Fail>
     ensures { IfOk result (λ p. p.kind ≡ kind.Seq) }
 {
@@ -44,14 +44,14 @@ fn program_of_u(rt: &impl Abort, alloc: Global) -> Result<Program, Fail>
     Ok(program)
 }
 
-/// A new desk of two processes.
+/// Returns a new desk of two processes.
 fn new_bench(rt: &impl Abort, alloc: Global) -> Result<Bench, Fail> {
     let program = program_of_u(rt, alloc)?;
     let (desk, seats) = open::<Seq>(alloc, &program, Shape::new(2, 2)?)?;
     Ok(Bench { desk, seats })
 }
 
-/// A call of the seat at this place.
+/// Makes a call of the seat at this place.
 fn call<R: Wait + Abort>(rt: &R, bench: &mut Bench, at: usize) -> Result<Turn, Fail> {
     assert!(rt; at < bench.seats.len());
     let seat = &mut bench.seats[at];
@@ -59,7 +59,7 @@ fn call<R: Wait + Abort>(rt: &R, bench: &mut Bench, at: usize) -> Result<Turn, F
     Ok(seat.call(rt, &bench.desk, UPDATE)?)
 }
 
-/// A step of the seat at this place.
+/// Makes a step of the seat at this place.
 fn step<R: Wait + Abort>(rt: &R, bench: &mut Bench, at: usize) -> Result<Turn, Fail> {
     assert!(rt; at < bench.seats.len());
     let seat = &mut bench.seats[at];
@@ -67,7 +67,7 @@ fn step<R: Wait + Abort>(rt: &R, bench: &mut Bench, at: usize) -> Result<Turn, F
     Ok(seat.step(rt, &bench.desk)?)
 }
 
-/// A crash of the seat at this place.
+/// Makes a crash of the seat at this place.
 fn crash<R: Wait + Abort>(rt: &R, bench: &mut Bench, at: usize) -> Result<Turn, Fail> {
     assert!(rt; at < bench.seats.len());
     let seat = &mut bench.seats[at];
@@ -75,7 +75,7 @@ fn crash<R: Wait + Abort>(rt: &R, bench: &mut Bench, at: usize) -> Result<Turn, 
     Ok(seat.crash(rt, &bench.desk)?)
 }
 
-/// The second seat meets a note of the first, and has then seen so many turns.
+/// Lets the second seat meet a note of the first, after which it has seen `seen` turns.
 fn meet(rt: &impl Abort, bench: &mut Bench, seen: u64) {
     assert!(rt; bench.seats.len() == 2);
     let note: Note<Seq> = bench.seats[0].note(&bench.desk);
@@ -85,7 +85,7 @@ fn meet(rt: &impl Abort, bench: &mut Bench, seen: u64) {
     assert_eq!(rt; seat.process(), 2);
 }
 
-/// Process 1 calls, process 2 is told of it, steps and crashes.
+/// Lets process 1 call, and process 2 hear of it, step and crash.
 fn take_turns<R: Wait + Abort>(rt: &R, bench: &mut Bench) -> Result<(), Fail> {
     let called = call(rt, bench, 0)?;
     assert!(rt; called.number == 1 && matches!(&called.outcome, Outcome::Called));
@@ -98,7 +98,7 @@ fn take_turns<R: Wait + Abort>(rt: &R, bench: &mut Bench) -> Result<(), Fail> {
     Ok(())
 }
 
-/// Without the second seat the desk is not closed, and all is handed back.
+/// Checks that without the second seat the desk is not closed, and all is handed back.
 fn not_closed(
     rt: &impl Abort,
     desk: Desk<Seq>,
@@ -114,7 +114,7 @@ fn not_closed(
     (desk, seats)
 }
 
-/// The record of all turns, once the second seat is there as well.
+/// Returns the record of all turns, once the second seat is there as well.
 fn closed(rt: &impl Abort, bench: Bench) -> Result<Record<Seq>, Fail> {
     let Bench { desk, mut seats } = bench;
     let Some(last) = seats.pop() else {
@@ -155,7 +155,7 @@ impl Gate for Shut {
     }
 }
 
-/// What the threads of scripts did.
+/// Returns what the threads of scripts did.
 fn played<G: Gate, R: Threads + Wait + Sync + Abort>(
     rt: &R,
     alloc: Global,
@@ -167,7 +167,7 @@ fn played<G: Gate, R: Threads + Wait + Sync + Abort>(
     Ok(run_live::<Seq, G, R>(rt, alloc, &program, &scripts, 1000, gate)?)
 }
 
-/// Why the threads of scripts gave up, where they did.
+/// Returns why the threads of scripts gave up, if they did.
 fn refused<R: Threads + Wait + Sync + Abort>(
     rt: &R,
     alloc: Global,

@@ -10,18 +10,18 @@ use std::test::Fail;
 const DONE: &[u8] =
     b"kind seq\nscalar\nrow\nwords\nview s\nscan 1\nupdate 2\n1: return s\n2: finish# done\n";
 
-/// Its canonical text.
+/// The canonical text of the commented listing.
 const DONE_TEXT: &[u8] =
     b"kind seq\nscalar\nrow\nwords\nview s\nscan 1\nupdate 2\n1: return s\n2: finish # done\n";
 
-/// Its image.
+/// The image of the commented listing.
 const DONE_IMAGE: [u8; 34] = [
     0x53, 0x4e, 0x41, 0x50, 0x02, 0x00, 0x00, 0x00, 0x00, 0x01, 0x01, 0x73, 0x00, 0x01, 0x00, 0x02,
     0x00, 0x02, 0x00, 0x01, 0x16, 0x00, 0x00, 0x00, 0x02, 0x17, 0x01, 0x00, 0x05, 0x20, 0x64, 0x6f,
     0x6e, 0x65,
 ];
 
-/// Why an image is refused, or nothing where it is decoded.
+/// Returns why an image is refused; `None` if it is decoded.
 fn refusal(alloc: Global, image: &[u8]) -> Result<Option<ImageRefusal>, Fail> {
     match decode(alloc, image) {
         Ok(_) => Ok(None),
@@ -30,15 +30,15 @@ fn refusal(alloc: Global, image: &[u8]) -> Result<Option<ImageRefusal>, Fail> {
     }
 }
 
-/// Why the first image of the small listing is refused with another byte in this place.
+/// Returns why the first image of the small listing is refused with another byte in this place.
 fn refusal_with(alloc: Global, place: usize, byte: u8) -> Result<Option<ImageRefusal>, Fail> {
     let mut image = FIRST_IMAGE;
     image[place.min(24)] = byte;
     refusal(alloc, image.as_slice())
 }
 
-/// Whether the second of two images is the first one in the second version. Both are of a listing
-/// of two lines without comments, the first of two bytes, the second of one.
+/// Returns whether the second of two images is the first one in the second version. Both are of a
+/// listing of two lines without comments, the first of two bytes, the second of one.
 fn is_first_of(first: &[u8], second: &[u8]) -> bool {
     if first.len() != 25 || second.len() != 27 {
         return false;
@@ -52,7 +52,7 @@ fn is_first_of(first: &[u8], second: &[u8]) -> bool {
         && second[26] == 0
 }
 
-/// Whether bytes are no image, or the image in the first version of what they decode to.
+/// Returns whether bytes are no image, or the image in the first version of what they decode to.
 fn is_refused_or_first(alloc: Global, image: &[u8]) -> Result<bool, Fail> {
     match decode(alloc, image) {
         Ok(listing) => {
@@ -64,8 +64,8 @@ fn is_refused_or_first(alloc: Global, image: &[u8]) -> Result<bool, Fail> {
     }
 }
 
-/// The first image of the small listing with any byte in this place is refused, or is the first
-/// image of what it decodes to.
+/// Checks that the first image of the small listing with any byte in this place is refused, or is
+/// the first image of what it decodes to.
 fn check_place(rt: &impl Abort, alloc: Global, place: usize) -> Result<(), Fail> {
     for byte in 0..=255 {
         let mut image = FIRST_IMAGE;

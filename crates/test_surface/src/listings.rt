@@ -5,7 +5,7 @@ use std::alloc::{AllocError, Global};
 use std::process::Abort;
 use std::test::Fail;
 
-/// The same listing with comments, blank lines and spaces.
+/// The plain listing with comments, blank lines and spaces.
 const LOOSE: &[u8] = b"# an update\nkind\tseq\nscalar j  c\nrow\n\nwords a\nview s\nscan 10\n\
 update 10\n10 : let j=1\n11 : get a[j ]=r[j ]\n# on\n12: next j n goto 11\n13: let c=c+1\n\
 14: put r[me] = ( arg,c,s )\n15: finish\n";
@@ -14,7 +14,7 @@ update 10\n10 : let j=1\n11 : get a[j ]=r[j ]\n# on\n12: next j n goto 11\n13: l
 const TESTING: &[u8] = b"kind seq\nscalar x\nrow\nwords\nview s\nscan 1\nupdate 3\n\
 1: if x = arg goto 2\n2: return s\n3: finish#done\n";
 
-/// Whether a text is refused so.
+/// Returns whether a text is refused with `want`.
 fn is_refused(alloc: Global, text: &[u8], want: ListingRefusal) -> bool {
     match read(alloc, text) {
         Ok(_) => false,
@@ -22,7 +22,7 @@ fn is_refused(alloc: Global, text: &[u8], want: ListingRefusal) -> bool {
     }
 }
 
-/// The operand on the right of a condition of one comparison.
+/// Returns the operand on the right of a condition of one comparison.
 fn right_of(test: &Cond) -> Option<&Term> {
     match test {
         Cond::One(comparison) => Some(&comparison.right),
@@ -30,7 +30,7 @@ fn right_of(test: &Cond) -> Option<&Term> {
     }
 }
 
-/// Whether a line goes to line 2 where something is equal to the argument.
+/// Returns whether a line goes to line 2 where something is equal to the argument.
 fn tests_argument(line: &Line) -> bool {
     match &line.instr {
         Instr::If(test, 2) => matches!(right_of(test), Some(Term::Arg)),
@@ -38,7 +38,7 @@ fn tests_argument(line: &Line) -> bool {
     }
 }
 
-/// A text without one of its lines, counted from 1.
+/// Returns a text without one of its lines, counted from 1.
 fn without(alloc: Global, text: &[u8], left_out: usize) -> Result<Vec<u8>, AllocError> {
     let mut kept = Vec::new(alloc);
     let mut number = 1usize;
@@ -53,7 +53,7 @@ fn without(alloc: Global, text: &[u8], left_out: usize) -> Result<Vec<u8>, Alloc
     Ok(kept)
 }
 
-/// Whether a listing has one comment, on its last line.
+/// Checks that a listing has one comment, on its last line.
 fn has_last_comment(rt: &impl Abort, listing: &Listing, want: &[u8]) {
     match listing.comments().last() {
         Some(Some(comment)) => assert_eq!(rt; comment.as_slice(), want),

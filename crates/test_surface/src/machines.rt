@@ -20,14 +20,14 @@ const UPDATE: Op = Op::Update { word: 1, value: 7 };
 const NO_BIT: &[u8] = b"kind bit\nscalar x\nrow m\nwords\nview s\nscan 1\nupdate 1\n\
 1: put q[me,me] = 2\n2: finish\n";
 
-/// Whether there is a process of this number.
+/// Returns whether there is a process of this number.
 fn has<K: Kind>(machine: &Machine<K>, i: u32) -> bool
     ensures { IsTrue result ↔ IsOneOf «machine».now.shape.n i }
 {
     0 < i && u64::from(i) <= machine.shape().n()
 }
 
-/// A machine of a listing of kind seq.
+/// Returns a machine of a listing of kind seq.
 fn seq_machine(
     rt: &impl Abort,
     alloc: Global,
@@ -40,19 +40,19 @@ fn seq_machine(
     Ok(Machine::<Seq>::new(alloc, &program, shape)?)
 }
 
-/// A machine of listing U.
+/// Returns a machine of listing U.
 fn machine_of_u(rt: &impl Abort, alloc: Global, shape: Shape) -> Result<Machine<Seq>, Fail> {
     let text = print(alloc, &snap_single::listing(alloc)?)?;
     seq_machine(rt, alloc, text.as_slice(), shape)
 }
 
-/// A step of a process.
+/// Makes a step of a process.
 fn step<K: Kind>(rt: &impl Abort, machine: &mut Machine<K>, i: u32) -> Result<Outcome, Fail> {
     assert!(rt; has(machine, i));
     Ok(machine.apply(Item::Step(i))?)
 }
 
-/// So many steps of a process.
+/// Does `count` steps of a process.
 fn steps<K: Kind>(
     rt: &impl Abort,
     machine: &mut Machine<K>,
@@ -65,7 +65,7 @@ fn steps<K: Kind>(
     Ok(())
 }
 
-/// A call of a process.
+/// Makes a call of a process..
 fn call<K: Kind>(
     rt: &impl Abort,
     machine: &mut Machine<K>,
@@ -76,7 +76,7 @@ fn call<K: Kind>(
     Ok(machine.apply(Item::Call(i, op))?)
 }
 
-/// What a step of a process comes to, and the values after it. The step is taken back.
+/// Returns what a step of a process comes to, and the values after it, and takes the step back.
 fn try_step(machine: &mut Machine<Seq>, i: u32) -> Result<(Outcome, View), AllocError>
     requires { IsOneOf machine.old.shape.n i }
 {
@@ -86,19 +86,19 @@ fn try_step(machine: &mut Machine<Seq>, i: u32) -> Result<(Outcome, View), Alloc
     Ok((outcome, values))
 }
 
-/// A crash of a process.
+/// Makes a crash of a process.
 fn crash(rt: &impl Abort, machine: &mut Machine<Seq>, i: u32) -> Result<Outcome, Fail> {
     assert!(rt; has(machine, i));
     Ok(machine.apply(Item::Crash(i))?)
 }
 
-/// Whether the values are these.
+/// Checks that the values are `want`.
 fn check_values(rt: &impl Abort, machine: &Machine<Seq>, want: &[u64]) -> Result<(), Fail> {
     assert_eq!(rt; machine.values()?.as_slice(), want);
     Ok(())
 }
 
-/// Whether the word of process 1 has this datum and this sequence number.
+/// Checks that the word of process 1 has this datum and this sequence number.
 fn check_word(rt: &impl Abort, machine: &Machine<Seq>, datum: u64, seq: u64) -> Result<(), Fail> {
     let address = Address {
         bank: Bank::R,
@@ -115,7 +115,7 @@ fn check_word(rt: &impl Abort, machine: &Machine<Seq>, datum: u64, seq: u64) -> 
     Ok(())
 }
 
-/// Whether the scalar of this name is this in process 1.
+/// Checks that the scalar of this name is `want` in process 1.
 fn check_scalar<K: Kind>(rt: &impl Abort, machine: &Machine<K>, name: Name, want: u64) {
     assert!(rt; has(machine, 1));
     match machine.local(1, name) {
@@ -142,7 +142,7 @@ fn a_copy_ends_as_its_machine(rt: HostRuntime) -> Result<(), Fail> {
     Ok(())
 }
 
-/// A step of process 1 writes its value, and is taken back.
+/// Checks that a step of process 1 writes its value, and is taken back.
 fn check_undo(rt: &impl Abort, machine: &mut Machine<Seq>) -> Result<(), Fail> {
     assert!(rt; has(machine, 1));
     let (outcome, values) = try_step(machine, 1)?;
@@ -159,7 +159,7 @@ fn a_write_is_taken_back(rt: HostRuntime) -> Result<(), Fail> {
     check_undo(&rt, &mut machine)
 }
 
-/// Whether process 1 is at this line of an update, with this link, or at none.
+/// Checks that process 1 is at this line of an update, with this link, or at none.
 fn check_place(rt: &impl Abort, machine: &Machine<Seq>, line: Option<u64>, link: Option<u64>) {
     assert!(rt; has(machine, 1));
     assert_eq!(rt; machine.line(1), line);

@@ -18,7 +18,7 @@ const INPUT: &[u8] = b"kind seq\nscalar j c\nrow\nwords a\nview s\nscan 10\nupda
 10: let j = 1\n11: get a[j] = r[j]\n12: next j n goto 11\n13: let c = c + 1\n\
 14: put r[me] = (arg, c, s)\n15: finish\n%\nshape 2 2\n1 update 1 7\n1*8\n";
 
-/// What is written for them.
+/// The output for the input.
 const OUTPUT: &[u8] = b"> run\nposition 9 of 9\nreport at 9 of 9\n\
 values 7 0\nr 1 = 7 seq 1 view 0 0\nr 2 = 0 seq 0 view 0 0\n\
 process 1 idle\n  j = 1\n  c = 1\n  a 1 = 0 seq 0 view 0 0\n  a 2 = 0 seq 0 view 0 0\n  s = 0 0\n\
@@ -28,7 +28,7 @@ event 1 1 update 1 7\nevent 9 1 done\n";
 /// The run of the listing in front of the schedule.
 const RUN: Task = Task::Run(Subject::FirstPart);
 
-/// What is written for an input.
+/// Returns what is written for an input.
 fn written<R: AllocGlobal + Threads + Sync>(
     rt: &R,
     task: &Task,
@@ -40,7 +40,7 @@ fn written<R: AllocGlobal + Threads + Sync>(
     Ok(sink.into_inner())
 }
 
-/// What a live run of the shipped listing U writes.
+/// Returns what a live run of the shipped listing U writes.
 fn written_live<R: AllocGlobal + Threads + Wait + Sync>(
     rt: &R,
     scripts: &[u8],
@@ -60,7 +60,7 @@ fn written_live<R: AllocGlobal + Threads + Wait + Sync>(
     Ok(sink.into_inner())
 }
 
-/// The line that says why nothing is written for an input, or nothing where something is.
+/// Returns the line that says why nothing is written for an input, or nothing if something is.
 fn refusal<R: AllocGlobal + Threads + Sync>(
     rt: &R,
     task: &Task,
@@ -87,7 +87,7 @@ impl Source for Broken {
     }
 }
 
-/// A sink that takes so many bytes at its first call, and then fails.
+/// A sink that takes a number of bytes at its first call, and then fails.
 #[derive(Drop)]
 struct Small {
     taken: Vec<u8>,

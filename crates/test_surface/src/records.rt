@@ -21,11 +21,11 @@ a 2 = 0 seq 0 view 0 0\n  s = 0 0\nprocess 2 idle\n  j = 0\n  c = 0\n  \
 a 1 = 0 seq 0 view 0 0\n  a 2 = 0 seq 0 view 0 0\n  s = 0 0\n\
 event 1 1 update 1 7\nevent 9 1 done\n";
 
-/// The lines of process 2 in it.
+/// The lines of process 2 in the report.
 const SECOND: &[u8] = b"process 2 idle\n  j = 0\n  c = 0\n  a 1 = 0 seq 0 view 0 0\n  \
 a 2 = 0 seq 0 view 0 0\n  s = 0 0\n";
 
-/// The program of listing U.
+/// Returns the program of listing U.
 fn program_of_u(rt: &impl Abort, alloc: Global) -> Result<Program, Fail>
     ensures { IfOk result (λ p. p.kind ≡ kind.Seq) }
 {
@@ -34,7 +34,7 @@ fn program_of_u(rt: &impl Abort, alloc: Global) -> Result<Program, Fail>
     Ok(program)
 }
 
-/// The record of the update.
+/// Returns the record of the update.
 fn collected(rt: &impl Abort, alloc: Global) -> Result<Record<Seq>, Fail> {
     let image = assemble(alloc, COLLECTING)?;
     let program = load(alloc, image.as_slice())?;
@@ -43,20 +43,20 @@ fn collected(rt: &impl Abort, alloc: Global) -> Result<Record<Seq>, Fail> {
     Ok(record_over(alloc, &program, &schedule)?)
 }
 
-/// Whether there is a process of this number.
+/// Returns whether there is a process of this number.
 fn has(record: &Record<Seq>, i: u32) -> bool
     ensures { IsTrue result ↔ IsOneOf «record».now.shape.n i }
 {
     0 < i && u64::from(i) <= record.machine().shape().n()
 }
 
-/// A step.
+/// Makes a step.
 fn step(rt: &impl Abort, record: &mut Record<Seq>, i: u32) -> Result<Outcome, RecordFault> {
     assert!(rt; has(record, i));
     record.apply(Item::Step(i))
 }
 
-/// So many steps.
+/// Does `count` steps of a process.
 fn steps(rt: &impl Abort, record: &mut Record<Seq>, i: u32, count: u64) -> Result<(), Fail> {
     for _ in 0..count {
         let _outcome = step(rt, record, i)?;
@@ -64,7 +64,7 @@ fn steps(rt: &impl Abort, record: &mut Record<Seq>, i: u32, count: u64) -> Resul
     Ok(())
 }
 
-/// A call.
+/// Does a call.
 fn call(rt: &impl Abort, record: &mut Record<Seq>, i: u32, op: Op) -> Result<(), Fail> {
     assert!(rt; has(record, i));
     match record.apply(Item::Call(i, op))? {
@@ -74,7 +74,7 @@ fn call(rt: &impl Abort, record: &mut Record<Seq>, i: u32, op: Op) -> Result<(),
     Ok(())
 }
 
-/// Whether the values after so many items are these.
+/// Checks that the values after `t` items are `want`.
 fn check_values(rt: &impl Abort, record: &Record<Seq>, t: u64, want: &[u64]) -> Result<(), Fail> {
     match record.values_after(t)? {
         Some(values) => assert_eq!(rt; values.as_slice(), want),
@@ -83,7 +83,7 @@ fn check_values(rt: &impl Abort, record: &Record<Seq>, t: u64, want: &[u64]) -> 
     Ok(())
 }
 
-/// Process 2 updates its word while process 1 scans.
+/// Lets process 2 update its word while process 1 scans.
 fn update_between(
     rt: &impl Abort,
     record: &mut Record<Seq>,
@@ -95,7 +95,7 @@ fn update_between(
     steps(rt, record, 1, count)
 }
 
-/// A scan that borrows its view, between two updates.
+/// Makes a scan that borrows its view, between two updates.
 fn borrowing(rt: &impl Abort, alloc: Global) -> Result<Record<Seq>, Fail> {
     let program = program_of_u(rt, alloc)?;
     let mut record = Record::new(alloc, &program, Shape::new(2, 2)?)?;
@@ -106,7 +106,7 @@ fn borrowing(rt: &impl Abort, alloc: Global) -> Result<Record<Seq>, Fail> {
     Ok(record)
 }
 
-/// Whether an event is the answer of a scan of process 1 with these values.
+/// Returns whether an event is the answer of a scan of process 1 with these values.
 fn is_answer(event: &Event, item: u64, want: &[u64]) -> bool {
     match &event.what {
         Happening::Answer(view) => {

@@ -6,7 +6,7 @@ use snap_words::{Field, Kind, Multi, Parts, Shape, View};
 use std::alloc::Global;
 use std::test::Fail;
 
-/// What comes of it when process 1 puts a word at place 2.
+/// Puts a word at place 2 by process 1, and returns the result.
 fn put_word(
     alloc: Global,
     registers: &mut Registers<Multi>,
@@ -26,7 +26,7 @@ fn put_word(
     Ok(registers.put_word(1, 2, word))
 }
 
-/// What comes of it when a process puts view 1.
+/// Puts view 1 by a process, and returns the result.
 fn put_view(
     alloc: Global,
     registers: &mut Registers<Multi>,
@@ -39,7 +39,7 @@ fn put_view(
     Ok(registers.put_view(who, 1, view))
 }
 
-/// Whether bits are refused where there are none, where they are no bits, and where they are
+/// Returns whether bits are refused if they do not exist, if they are no bits, and if they are
 /// another's, in this order.
 fn refuses_bits(registers: &mut Registers<Multi>) -> bool {
     registers.put_bit(2, BitBank::P, 1, 2, 2) == Err(RegisterFault::Index)
@@ -47,7 +47,7 @@ fn refuses_bits(registers: &mut Registers<Multi>) -> bool {
         && registers.put_bit(2, BitBank::P, 1, 1, 1) == Err(RegisterFault::Owner)
 }
 
-/// Whether all that was put is there.
+/// Returns whether all that was put is there.
 fn has_all(registers: &Registers<Multi>) -> Result<bool, Fail> {
     let word = registers.word(2)?;
     let view = registers.view(1)?;

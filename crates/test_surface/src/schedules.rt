@@ -7,7 +7,7 @@ use std::alloc::Global;
 use std::process::Abort;
 use std::test::Fail;
 
-/// Why a text is no schedule, or nothing where it is one.
+/// Returns why a text is no schedule; `None` if it is one.
 fn refusal(alloc: Global, text: &[u8]) -> Result<Option<ScheduleRefusal>, Fail> {
     match read(alloc, text) {
         Ok(_) => Ok(None),
@@ -16,14 +16,14 @@ fn refusal(alloc: Global, text: &[u8]) -> Result<Option<ScheduleRefusal>, Fail> 
     }
 }
 
-/// A text is a schedule, and is printed so.
+/// Checks that a text is a schedule, and is printed as `want`.
 fn check_printed(rt: &impl Abort, alloc: Global, text: &[u8], want: &[u8]) -> Result<(), Fail> {
     let schedule = read(alloc, text)?;
     assert_eq!(rt; print(alloc, &schedule)?.as_slice(), want);
     Ok(())
 }
 
-/// Whether a schedule is four steps of process 2.
+/// Returns whether a schedule is four steps of process 2.
 fn has_four_steps(schedule: &Schedule) -> bool {
     let first = schedule.items().segments().next();
     matches!(
@@ -61,7 +61,7 @@ fn texts_that_are_no_schedules_are_refused(rt: HostRuntime) -> Result<(), Fail> 
     Ok(())
 }
 
-/// Whether a script is a scan alone, and has this crash.
+/// Returns whether a script is a scan alone, and has this crash.
 fn is_scan(script: &Script, crash: Option<u64>) -> bool {
     matches!(script.operations(), [Op::Scan]) && script.crash() == crash
 }

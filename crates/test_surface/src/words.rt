@@ -9,7 +9,7 @@ use snap_words::{
 use std::alloc::{AllocError, Global};
 use std::test::Fail;
 
-/// The parts of a word for two processes and two words.
+/// Returns the parts of a word for two processes and two words.
 fn parts(alloc: Global, toggle: u64) -> Result<Parts, AllocError>
     ensures { IfOk result (λ p. (length p.handshakes ≡ 2) × (length p.view ≡ 2)) }
 {
@@ -23,8 +23,8 @@ fn parts(alloc: Global, toggle: u64) -> Result<Parts, AllocError>
     })
 }
 
-/// The fields of a word: its datum, sequence number, writer and toggle, and its second handshake
-/// bit.
+/// Returns the fields of a word: its datum, sequence number, writer and toggle, and its second
+/// handshake bit.
 fn fields<K: Kind>(word: &K::Word) -> [Option<u64>; 5] {
     [
         K::field(word, Field::Datum),
@@ -35,7 +35,7 @@ fn fields<K: Kind>(word: &K::Word) -> [Option<u64>; 5] {
     ]
 }
 
-/// Whether the view of a word, where it has one, is this.
+/// Returns whether the view of a word is `want`, `None` if it has none.
 fn has_view<K: Kind>(word: &K::Word, want: Option<&[u64]>) -> bool {
     match (K::view(word), want) {
         (Some(view), Some(want)) => view.as_slice() == want,
@@ -44,7 +44,7 @@ fn has_view<K: Kind>(word: &K::Word, want: Option<&[u64]>) -> bool {
     }
 }
 
-/// Whether a word that is built of these parts, and its copy, have these fields.
+/// Returns whether a word that is built of these parts, and its copy, have these fields.
 fn builds<K: Kind>(
     alloc: Global,
     shape: Shape,
@@ -58,7 +58,7 @@ fn builds<K: Kind>(
     Ok(fields::<K>(&word) == want && fields::<K>(&copy) == want)
 }
 
-/// Whether the parts are refused, since the toggle is no bit.
+/// Returns whether the parts are refused, since the toggle is no bit.
 fn is_refused<K: Kind>(shape: Shape, given: Parts) -> bool
     requires { is_sized K.TAG shape (word_of_any given) ≡ true }
 {
@@ -68,7 +68,7 @@ fn is_refused<K: Kind>(shape: Shape, given: Parts) -> bool
     }
 }
 
-/// Whether process 1 may write the word of process 2.
+/// Returns whether process 1 may write the word of process 2.
 fn writes_any<K: Kind>() -> bool {
     K::may_write(
         1,
@@ -80,7 +80,7 @@ fn writes_any<K: Kind>() -> bool {
     )
 }
 
-/// Whether a word that nobody has written has this view, and 0 for a datum.
+/// Returns whether a word that nobody has written has this view, and 0 for a datum.
 fn begins<K: Kind>(alloc: Global, want: Option<&[u64]>) -> Result<bool, Fail> {
     let word = K::initial(alloc, Shape::new(2, 2)?)?;
     Ok(K::field(&word, Field::Datum) == Some(0) && has_view::<K>(&word, want))

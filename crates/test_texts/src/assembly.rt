@@ -13,19 +13,19 @@ use std::test::Fail;
 const SMALL: &[u8] =
     b"kind seq\nscalar\nrow\nwords\nview s\nscan 1\nupdate 2\n1: return s\n2: finish\n";
 
-/// Its image in the first version.
+/// The image of the small listing in the first version.
 const FIRST_IMAGE: [u8; 25] = [
     0x53, 0x4e, 0x41, 0x50, 0x01, 0x00, 0x00, 0x00, 0x00, 0x01, 0x01, 0x73, 0x00, 0x01, 0x00, 0x02,
     0x00, 0x02, 0x00, 0x01, 0x16, 0x00, 0x00, 0x02, 0x17,
 ];
 
-/// Its image in the second version.
+/// The image of the small listing in the second version.
 const SMALL_IMAGE: [u8; 27] = [
     0x53, 0x4e, 0x41, 0x50, 0x02, 0x00, 0x00, 0x00, 0x00, 0x01, 0x01, 0x73, 0x00, 0x01, 0x00, 0x02,
     0x00, 0x02, 0x00, 0x01, 0x16, 0x00, 0x00, 0x00, 0x02, 0x17, 0x00,
 ];
 
-/// The same listing with a comment.
+/// The small listing with a comment.
 const DONE: &[u8] =
     b"kind seq\nscalar\nrow\nwords\nview s\nscan 1\nupdate 2\n1: return s\n2: finish # done\n";
 
@@ -46,7 +46,7 @@ const PLAIN: &[u8] = b"\
     15: finish\n\
 ";
 
-/// The same listing with blank lines, spaces and tabs between the tokens, and comments on other
+/// The plain listing with blank lines, spaces and tabs between the tokens, and comments on other
 /// lines than the numbered ones.
 const LOOSE: &[u8] = b"\
     # an update\n\
@@ -70,24 +70,24 @@ const LOOSE: &[u8] = b"\
     # the end\n\
 ";
 
-/// Whether a text is assembled as this image.
+/// Returns whether a text is assembled as this image.
 fn assembles_as(alloc: Global, text: &[u8], want: &[u8]) -> Result<bool, Fail> {
     let image = assemble(alloc, text)?;
     Ok(image.as_slice() == want)
 }
 
-/// Whether an image is listed as this text.
+/// Returns whether an image is listed as this text.
 fn lists_as(alloc: Global, image: &[u8], want: &[u8]) -> Result<bool, Fail> {
     let text = list(alloc, image)?;
     Ok(text.as_slice() == want)
 }
 
-/// Whether an image is refused so by all that decode it.
+/// Returns whether an image is refused with `want` by all that decode it.
 fn is_refused(alloc: Global, image: &[u8], want: ImageRefusal) -> bool {
     list(alloc, image).err() == Some(ImageFault::Refused(want)) && is_not_loaded(alloc, image, want)
 }
 
-/// Whether an image is refused so as a program.
+/// Returns whether an image is refused with `want` as a program.
 fn is_not_loaded(alloc: Global, image: &[u8], want: ImageRefusal) -> bool {
     match load(alloc, image) {
         Ok(_) => false,
@@ -95,7 +95,7 @@ fn is_not_loaded(alloc: Global, image: &[u8], want: ImageRefusal) -> bool {
     }
 }
 
-/// This is the program of the plain text.
+/// Checks the program of the plain text.
 fn check_program(rt: &impl Abort, program: &Program) {
     assert!(rt; program.kind() == KindTag::Seq);
     assert!(rt; program.has_line(10));
@@ -106,8 +106,8 @@ fn check_program(rt: &impl Abort, program: &Program) {
     assert!(rt; program.place(Name::of(b"moved".as_slice())).is_none());
 }
 
-/// Whether a name has this number among all names, and this sort and place among the names of that
-/// sort.
+/// Returns whether a name has this number among all names, and this sort and place among the names
+/// of that sort.
 fn is_name(program: &Program, index: usize, name: Name, sort: Sort, place: usize) -> bool {
     match program.names().get(index) {
         Some((found, found_sort)) => {
@@ -117,7 +117,7 @@ fn is_name(program: &Program, index: usize, name: Name, sort: Sort, place: usize
     }
 }
 
-/// These are the names of the plain text.
+/// Checks the names of the plain text.
 fn check_names(rt: &impl Abort, program: &Program) {
     assert!(rt; is_name(program, 0, Name::of(b"j".as_slice()), Sort::Scalar, 0));
     assert!(rt; is_name(program, 1, Name::of(b"c".as_slice()), Sort::Scalar, 1));
@@ -133,7 +133,7 @@ fn assembles_and_lists_a_small_listing(rt: HostRuntime) -> Result<(), Fail> {
     Ok(())
 }
 
-/// Whether an image is upgraded to this one.
+/// Returns whether an image is upgraded to `want`.
 fn upgrades_to(alloc: Global, image: &[u8], want: &[u8]) -> Result<bool, Fail> {
     let newer = upgrade(alloc, image)?;
     Ok(newer.as_slice() == want)

@@ -28,8 +28,8 @@ const SCHEDULE: &[u8] = b"\
     2 crash\n\
 ";
 
-/// Whether a listing that was cut is read, or is refused for its last line, the one that is missing
-/// behind it, or a line that it leads to.
+/// Returns whether a listing that was cut is read, or is refused for its last line, the one that is
+/// missing behind it, or a line that it leads to.
 fn is_listing_or_refused(alloc: Global, text: &[u8]) -> bool {
     let last = line_count(text);
     let Err(fault) = snap_listing::read(alloc, text) else {
@@ -48,7 +48,7 @@ fn is_listing_or_refused(alloc: Global, text: &[u8]) -> bool {
     }
 }
 
-/// Whether a schedule that was cut is read, or is refused for its last line.
+/// Returns whether a schedule that was cut is read, or is refused for its last line.
 fn is_schedule_or_refused(alloc: Global, text: &[u8]) -> bool {
     let last = line_count(text);
     let Err(fault) = snap_sched::read(alloc, text) else {
@@ -64,7 +64,7 @@ fn is_schedule_or_refused(alloc: Global, text: &[u8]) -> bool {
     }
 }
 
-/// Each cut of a listing is read, or is refused for its end.
+/// Checks that each cut of a listing is read, or is refused for its end.
 fn check_listing_cuts(rt: &impl Abort, alloc: Global, text: &[u8]) {
     for len in 0..text.len() {
         assert!(rt; is_listing_or_refused(alloc, &text[..len]), "{len}");

@@ -11,13 +11,13 @@ use std::test::Fail;
 const SMALL: &[u8] =
     b"kind seq\nscalar\nrow\nwords\nview s\nscan 1\nupdate 2\n1: return s\n2: finish\n";
 
-/// Its image in the first version.
+/// The image of the small listing in the first version.
 const FIRST_IMAGE: [u8; 25] = [
     0x53, 0x4e, 0x41, 0x50, 0x01, 0x00, 0x00, 0x00, 0x00, 0x01, 0x01, 0x73, 0x00, 0x01, 0x00, 0x02,
     0x00, 0x02, 0x00, 0x01, 0x16, 0x00, 0x00, 0x02, 0x17,
 ];
 
-/// Its image in the second version.
+/// The image of the small listing in the second version.
 const SMALL_IMAGE: [u8; 27] = [
     0x53, 0x4e, 0x41, 0x50, 0x02, 0x00, 0x00, 0x00, 0x00, 0x01, 0x01, 0x73, 0x00, 0x01, 0x00, 0x02,
     0x00, 0x02, 0x00, 0x01, 0x16, 0x00, 0x00, 0x00, 0x02, 0x17, 0x00,
@@ -27,14 +27,14 @@ const SMALL_IMAGE: [u8; 27] = [
 const ONE_COMPARISON: &[u8] =
     b"kind seq\nscalar\nrow\nwords\nview\nscan 1\nupdate 1\n1: if 1 = 1 goto 1\n";
 
-/// The image of a text.
+/// Returns the image of a text.
 fn image_of(alloc: Global, text: &[u8]) -> Result<Vec<u8>, Fail> {
     let listing = read(alloc, text)?;
     let image = encode(alloc, &listing)?;
     Ok(image)
 }
 
-/// Why an image is refused, or nothing where it is decoded.
+/// Returns why an image is refused; `None` if it is decoded.
 fn refusal(alloc: Global, image: &[u8]) -> Result<Option<ImageRefusal>, Fail> {
     match decode(alloc, image) {
         Ok(_) => Ok(None),
@@ -43,14 +43,14 @@ fn refusal(alloc: Global, image: &[u8]) -> Result<Option<ImageRefusal>, Fail> {
     }
 }
 
-/// Whether an image is decoded, and encoded again as itself.
+/// Returns whether an image is decoded, and encoded again as itself.
 fn is_kept(alloc: Global, image: &[u8]) -> Result<bool, Fail> {
     let listing = decode(alloc, image)?;
     let again = encode(alloc, &listing)?;
     Ok(again.as_slice() == image)
 }
 
-/// Whether bytes are no image, or the image of what they decode to.
+/// Returns whether bytes are no image, or the image of what they decode to.
 fn is_refused_or_kept(alloc: Global, image: &[u8]) -> Result<bool, Fail> {
     match refusal(alloc, image)? {
         Some(_) => Ok(true),
@@ -58,8 +58,8 @@ fn is_refused_or_kept(alloc: Global, image: &[u8]) -> Result<bool, Fail> {
     }
 }
 
-/// Whether bytes are no image, or the image in the first version of another listing than the small
-/// one.
+/// Returns whether bytes are no image, or the image in the first version of another listing than
+/// the small one.
 fn is_refused_or_another(alloc: Global, image: &[u8]) -> Result<bool, Fail> {
     match decode(alloc, image) {
         Ok(listing) => {
@@ -71,8 +71,8 @@ fn is_refused_or_another(alloc: Global, image: &[u8]) -> Result<bool, Fail> {
     }
 }
 
-/// The first version's image of the small listing with another byte in this place is refused, or
-/// the image of another listing.
+/// Checks that the small listing's image in the first version with another byte in this place is
+/// refused, or the image of another listing.
 fn check_first_changes(rt: &impl Abort, alloc: Global, place: usize) -> Result<(), Fail> {
     for byte in 0..=255 {
         let mut image = FIRST_IMAGE;
@@ -86,8 +86,8 @@ fn check_first_changes(rt: &impl Abort, alloc: Global, place: usize) -> Result<(
     Ok(())
 }
 
-/// The image of the small listing with another byte in this place is refused, or the image of
-/// another listing.
+/// Checks that the image of the small listing with another byte in this place is refused, or the
+/// image of another listing.
 fn check_changes(rt: &impl Abort, alloc: Global, place: usize) -> Result<(), Fail> {
     for byte in 0..=255 {
         let mut image = SMALL_IMAGE;
@@ -102,7 +102,7 @@ fn check_changes(rt: &impl Abort, alloc: Global, place: usize) -> Result<(), Fai
     Ok(())
 }
 
-/// Each cut of an image is refused.
+/// Checks that each cut of an image is refused.
 fn check_cuts(rt: &impl Abort, alloc: Global, image: &[u8]) -> Result<(), Fail> {
     for len in 0..image.len() {
         let want = if len < 4 {
@@ -115,14 +115,14 @@ fn check_cuts(rt: &impl Abort, alloc: Global, image: &[u8]) -> Result<(), Fail> 
     Ok(())
 }
 
-/// The image of a text is encoded again as itself, and each cut of it is refused.
+/// Checks that the image of a text is encoded again as itself, and that each cut of it is refused.
 fn check_image(rt: &impl Abort, alloc: Global, text: &[u8]) -> Result<(), Fail> {
     let image = image_of(alloc, text)?;
     assert!(rt; is_kept(alloc, image.as_slice())?);
     check_cuts(rt, alloc, image.as_slice())
 }
 
-/// Whether the byte in this place was the first of these; it is the second now.
+/// Replaces the byte in this place, and returns whether it was `old`.
 fn replace(image: &mut [u8], place: usize, old: u8, new: u8) -> bool {
     match image.get_mut(place) {
         Some(byte) => {

@@ -47,7 +47,7 @@ update 9
 12:put r[me]=(hand(a[me],t)+n,h,not t,s)
 13:put q[me,w]=data(a[word])";
 
-/// The same listing in the one layout that is printed, with the comment of its numbered line.
+/// The listing in the one layout that is printed, with the comment of its numbered line.
 const LAID_OUT: &[u8] = b"kind bit
 scalar t
 row h
@@ -209,7 +209,7 @@ const MALFORMED: [Case; 10] = [
     (b"10: let c = toggle a[1]", NO_FORM),
 ];
 
-/// Why a text is refused, or nothing where it is read.
+/// Returns why a text is refused; `None` if it is read.
 fn refusal(alloc: Global, text: &[u8]) -> Result<Option<ListingRefusal>, Fail> {
     match read_source(alloc, text) {
         Ok(_) => Ok(None),
@@ -218,7 +218,7 @@ fn refusal(alloc: Global, text: &[u8]) -> Result<Option<ListingRefusal>, Fail> {
     }
 }
 
-/// Why these lines behind the header of a listing of this kind are refused.
+/// Returns why these lines behind the header of a listing of this kind are refused.
 fn line_refusal(alloc: Global, kind: &[u8], lines: &[u8]) -> Result<Option<ListingRefusal>, Fail> {
     let mut text = Vec::new(alloc);
     push_text(&mut text, b"kind ")?;
@@ -228,7 +228,7 @@ fn line_refusal(alloc: Global, kind: &[u8], lines: &[u8]) -> Result<Option<Listi
     refusal(alloc, text.as_slice())
 }
 
-/// The place of the first text that is not refused as it says.
+/// Returns the place of the first text that is not refused as the case says.
 fn wrong_text(alloc: Global, cases: &[Case]) -> Result<Option<usize>, Fail> {
     for place in 0..cases.len() {
         let (text, want) = &cases[place];
@@ -239,7 +239,8 @@ fn wrong_text(alloc: Global, cases: &[Case]) -> Result<Option<usize>, Fail> {
     Ok(None)
 }
 
-/// The place of the first lines that are not refused as they say, in a listing of this kind.
+/// Returns the place of the first lines that are not refused as the case says, in a listing of this
+/// kind.
 fn wrong_lines(alloc: Global, kind: &[u8], cases: &[Case]) -> Result<Option<usize>, Fail> {
     for place in 0..cases.len() {
         let (lines, want) = &cases[place];
@@ -250,13 +251,13 @@ fn wrong_lines(alloc: Global, kind: &[u8], cases: &[Case]) -> Result<Option<usiz
     Ok(None)
 }
 
-/// Why so many spaces are refused.
+/// Returns why `count` spaces are refused.
 fn spaces_refusal(alloc: Global, count: usize) -> Result<Option<ListingRefusal>, Fail> {
     let text = vec![in alloc; b' '; count]?;
     refusal(alloc, text.as_slice())
 }
 
-/// The lines of these numbers from 1 on, up to before the last.
+/// Returns the lines of the numbers from 1 on, up to before `last`.
 fn finish_lines(alloc: Global, last: u64) -> Result<Vec<u8>, Fail> {
     let mut lines = Vec::new(alloc);
     for number in 1..last {
@@ -266,13 +267,13 @@ fn finish_lines(alloc: Global, last: u64) -> Result<Vec<u8>, Fail> {
     Ok(lines)
 }
 
-/// Why the lines of these numbers from 1 on, up to before the last, are refused.
+/// Returns why the lines of the numbers from 1 on, up to before `last`, are refused.
 fn finish_lines_refusal(alloc: Global, last: u64) -> Result<Option<ListingRefusal>, Fail> {
     let lines = finish_lines(alloc, last)?;
     line_refusal(alloc, b"seq", lines.as_slice())
 }
 
-/// Whether these are the names.
+/// Returns whether the names are `want`.
 fn names_are(names: &[Name], want: &[&[u8]]) -> bool {
     if names.len() != want.len() {
         return false;
@@ -285,7 +286,7 @@ fn names_are(names: &[Name], want: &[&[u8]]) -> bool {
     true
 }
 
-/// Whether a listing has the names and lines of the small one.
+/// Returns whether a listing has the names and lines of the small one.
 fn is_small(listing: &Listing) -> bool {
     listing.lines().len() == 6
         && names_are(listing.scalars(), &[b"j", b"c"])
@@ -296,12 +297,12 @@ fn is_small(listing: &Listing) -> bool {
         && listing.update() == 10
 }
 
-/// Whether a listing is of this kind, and has so many lines.
+/// Returns whether a listing is of this kind, and has `lines` lines.
 fn is_of(listing: &Listing, kind: KindTag, lines: usize) -> bool {
     listing.kind() == kind && listing.lines().len() == lines
 }
 
-/// Whether a tuple is of kind seq, and begins with the argument.
+/// Returns whether a tuple is of kind seq, and begins with the argument.
 fn begins_with_argument(tuple: &Tuple) -> bool {
     match tuple {
         Tuple::Seq(Expr::Term(datum), _, _) => matches!(datum, Term::Arg),
@@ -309,7 +310,7 @@ fn begins_with_argument(tuple: &Tuple) -> bool {
     }
 }
 
-/// Whether a listing has such a tuple of kind seq.
+/// Returns whether a listing has such a tuple of kind seq.
 fn has_seq_lines(listing: &Listing) -> bool {
     match listing.instr(32) {
         Some(Instr::Put(Index::Me, tuple)) => begins_with_argument(tuple),
@@ -317,7 +318,7 @@ fn has_seq_lines(listing: &Listing) -> bool {
     }
 }
 
-/// Whether a listing has the handshake bits and the tuple of kind bit.
+/// Returns whether a listing has the handshake bits and the tuple of kind bit.
 fn has_bit_lines(listing: &Listing) -> bool {
     matches!(
         listing.instr(13),
@@ -335,7 +336,7 @@ fn has_bit_lines(listing: &Listing) -> bool {
     )
 }
 
-/// Whether a listing has the fields of kind multi.
+/// Returns whether a listing has the fields of kind multi.
 fn has_multi_fields(listing: &Listing) -> bool {
     matches!(
         listing.instr(13),
@@ -346,7 +347,7 @@ fn has_multi_fields(listing: &Listing) -> bool {
     )
 }
 
-/// Whether a listing has the views and the tuple of kind multi.
+/// Returns whether a listing has the views and the tuple of kind multi.
 fn has_multi_views(listing: &Listing) -> bool {
     matches!(listing.instr(36), Some(Instr::Look(_, Index::Scalar(_))))
         && matches!(listing.instr(55), Some(Instr::PutView(Index::Me, _)))
@@ -356,12 +357,12 @@ fn has_multi_views(listing: &Listing) -> bool {
         )
 }
 
-/// Whether a listing has the lines that are of kind multi alone.
+/// Returns whether a listing has the lines that are of kind multi alone.
 fn has_multi_lines(listing: &Listing) -> bool {
     has_multi_fields(listing) && has_multi_views(listing)
 }
 
-/// Whether what is printed of the listing that a text is, is this.
+/// Returns whether what is printed of the listing that a text is, is this.
 fn prints(alloc: Global, text: &[u8], want: &[u8]) -> Result<bool, Fail> {
     let listing = read(alloc, text)?;
     let printed = print(alloc, &listing)?;

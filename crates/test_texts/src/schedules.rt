@@ -4,7 +4,7 @@ use snap_semantics::ScheduleRefusal;
 use std::alloc::{AllocError, Global};
 use std::test::Fail;
 
-/// Whether a text is refused so.
+/// Returns whether a text is refused with `want`.
 fn is_refused(alloc: Global, text: &[u8], want: ScheduleRefusal) -> bool {
     match read(alloc, text) {
         Ok(_) => false,
@@ -77,13 +77,13 @@ fn refuses_too_many_items_and_missing_processes(rt: HostRuntime) {
     }
 }
 
-/// Whether a schedule is printed so.
+/// Returns whether a schedule is printed as `want`.
 fn prints_as(alloc: Global, schedule: &Schedule, want: &[u8]) -> Result<bool, AllocError> {
     let text = print(alloc, schedule)?;
     Ok(text.as_slice() == want)
 }
 
-/// Whether a text has this many items, and is printed again so.
+/// Returns whether a text has this many items, and is printed again as `want`.
 fn reads_as(alloc: Global, text: &[u8], len: u64, want: &[u8]) -> Result<bool, ScheduleFault> {
     let schedule = read(alloc, text)?;
     Ok(schedule.items().len() == len && prints_as(alloc, &schedule, want)?)
@@ -117,7 +117,7 @@ fn prints_greatest_runs(rt: HostRuntime) -> Result<(), Fail> {
     Ok(())
 }
 
-/// Adds the shape of three processes and one word, and this often a step of process 1 and one of
+/// Appends the shape of three processes and one word, and this often a step of process 1 and one of
 /// process 2.
 fn push_steps(text: &mut Vec<u8>, often: u64) -> Result<(), AllocError> {
     text.extend_from_slice(b"shape 3 1\n")?;
@@ -127,7 +127,7 @@ fn push_steps(text: &mut Vec<u8>, often: u64) -> Result<(), AllocError> {
     Ok(())
 }
 
-/// Whether a text has this many items.
+/// Returns whether a text has this many items.
 fn has_items(alloc: Global, text: &[u8], len: u64) -> Result<bool, ScheduleFault> {
     let schedule = read(alloc, text)?;
     Ok(schedule.items().len() == len)
@@ -141,7 +141,7 @@ fn long_texts(rt: HostRuntime) -> Result<(), Fail> {
     Ok(())
 }
 
-/// Makes a bad line and blank ones, so many bytes in all.
+/// Makes a bad line and blank ones, `len` bytes in all.
 fn push_blanks(text: &mut Vec<u8>, len: usize) -> Result<(), AllocError> {
     text.extend_from_slice(b"$\n")?;
     text.resize(len, b'\n')?;

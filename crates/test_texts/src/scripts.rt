@@ -4,7 +4,7 @@ use snap_semantics::{Op, ScheduleRefusal};
 use std::alloc::{AllocError, Global};
 use std::test::Fail;
 
-/// Whether a text is refused so.
+/// Returns whether a text is refused with `want`.
 fn is_refused(alloc: Global, text: &[u8], want: ScheduleRefusal) -> bool {
     match read_scripts(alloc, text) {
         Ok(_) => false,
@@ -56,12 +56,12 @@ fn refuses_turns_out_of_range_and_second_crashes(rt: HostRuntime) {
     }
 }
 
-/// Whether a script has these operations and this crash.
+/// Returns whether a script has the operations `ops` and the crash `crash`.
 fn is_script(script: &Script, ops: &[Op], crash: Option<u64>) -> bool {
     script.operations() == ops && script.crash() == crash
 }
 
-/// Whether these are the scripts of the text below.
+/// Returns whether the scripts are those of the text below.
 fn are_read(scripts: &Scripts) -> bool {
     let [first, second, third] = scripts.scripts() else {
         return false;

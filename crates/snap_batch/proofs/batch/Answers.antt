@@ -1,5 +1,5 @@
--- `batch` of snap_batch (src/lib.rt): the proof of what its contract says.
--- The report of each schedule's end, in the order of the schedules, whichever thread made it and when.
+-- `batch` of snap_batch (src/lib.rt): the proof of what its contract says. Returns the report of the end of each of
+-- `schedules`, in their order, whichever thread made it and when.
 use Rattle.std.proofs.Common.{◌∙◌, ap}
 use Rattle.rayon.specs.Lists.{min_len_base}
 use Rattle.snap_batch.specs.End.{end_report}

@@ -23,13 +23,13 @@ use Rattle.snap_shipped.specs.Kept.{KeepsPromises, NumbersSuffice, RunsKeepPromi
 use Rattle.snap_chance.specs.Chance.{items_by, schedule_of, start_of}
 use Rattle.snap_chance.specs.Plan.{IsPlan, Plan}
 use Rattle.snap_chance.proofs.Moving.{are_items}
-use Rattle.snap_failure.specs.Failing.{first_seen, first_trap, no_point, many_of, of_collects}
-use Rattle.snap_failure.specs.Failing.{of_steps, of_traps, trap_of}
-use Rattle.snap_failure.specs.Finding.{Finds, IsJudgedIf}
-use Rattle.snap_failure.specs.Operations.{StepsAreOfOperations}
-use Rattle.snap_failure.specs.declared.failures.Failure.{Failure}
-use Rattle.snap_failure.specs.declared.failures.Failure.TheVariants as failure
-use Rattle.snap_failure.specs.declared.failures.Wanted.{Wanted}
+use Rattle.snap_hunt.specs.Failing.{first_seen, first_trap, no_point, many_of, of_collects}
+use Rattle.snap_hunt.specs.Failing.{of_steps, of_traps, trap_of}
+use Rattle.snap_hunt.specs.Finding.{Finds, IsJudgedIf}
+use Rattle.snap_hunt.specs.Operations.{StepsAreOfOperations}
+use Rattle.snap_hunt.specs.declared.failures.Failure.{Failure}
+use Rattle.snap_hunt.specs.declared.failures.Failure.TheVariants as failure
+use Rattle.snap_hunt.specs.declared.failures.Wanted.{Wanted}
 use Rattle.snap_judge.specs.Judgement.{FailsAt}
 use Rattle.snap_judge.specs.declared.judgements.Judgement.TheVariants.{NotLinearizable}
 use Rattle.snap_run_judge.specs.RunHistory.{history_of}

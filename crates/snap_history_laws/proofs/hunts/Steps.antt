@@ -13,11 +13,11 @@ use Rattle.snap_runs.specs.Scan.{count, is_not_skipped, own_steps, steps, takes_
 use Rattle.snap_runs.specs.WaitFree.{is_alive, turns}
 use Rattle.snap_shipped.specs.Shipped.{shipped, shipped_bounds}
 use Rattle.snap_shipped.specs.Kept.{KeepsPromises, update_turns}
-use Rattle.snap_failure.specs.Failing.{long_of, many_steps, most_steps}
-use Rattle.snap_failure.specs.Operations.{StepsAreOfOperations, TakesMore}
-use Rattle.snap_failure.specs.declared.failures.Failure.{Failure}
-use Rattle.snap_failure.specs.declared.failures.StepBound.{StepBound}
-use Rattle.snap_failure.specs.declared.failures.StepBound.TheVariants as bound
+use Rattle.snap_hunt.specs.Failing.{long_of, many_steps, most_steps}
+use Rattle.snap_hunt.specs.Operations.{StepsAreOfOperations, TakesMore}
+use Rattle.snap_hunt.specs.declared.failures.Failure.{Failure}
+use Rattle.snap_hunt.specs.declared.failures.StepBound.{StepBound}
+use Rattle.snap_hunt.specs.declared.failures.StepBound.TheVariants as bound
 use Rattle.snap_history_laws.specs.hunts.Shipped.{StepsSuffice}
 
 -- a step that is not skipped is a turn of a process that has not crashed
@@ -99,7 +99,7 @@ none_found laws g r valid kept most enough (Some f) is =
     absurd
     (none_takes_more g r valid kept most found.process found.own.call found.item found.own.update enough found.takes)
 
--- so none is found that takes more than enough
+-- no operation of a shipped listing is found that takes more than enough steps
 pub no_overrun : StepsAreOfOperations → (g : KindTag) (b : Option StepBound) (r : Run) → r.source ≡ shipped g →
     IsValidRun r → KeepsPromises g r → StepsSuffice g r.shape b → long_of r b ≡ None
 no_overrun laws g None r source valid kept h = refl

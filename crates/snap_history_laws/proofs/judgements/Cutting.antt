@@ -12,8 +12,8 @@ use Rattle.snap_semantics.specs.Table.{who}
 use Rattle.snap_semantics.specs.declared.event.Event.{Event}
 use Rattle.snap_semantics.specs.declared.process.Item.{Item}
 use Rattle.snap_runs.specs.Run.{IsValidRun, Run, events_of, state}
-use Rattle.snap_history.proofs.Later.{events_after}
-use Rattle.snap_history.proofs.Longer.{events_append}
+use Rattle.snap_record.proofs.Later.{events_after}
+use Rattle.snap_record.proofs.Longer.{events_append}
 use Rattle.snap_record.specs.History.{IsWithin}
 use Rattle.snap_record.proofs.Events.{all_events, all_within_run, events_from}
 use Rattle.snap_judge.proofs.ExplainedLists.{contains_head, each_contained, each_weaker, pairs_head, pairs_tail}

@@ -19,7 +19,7 @@ use Rattle.snap_runs.specs.Update.{IsDone, PendingUpdate}
 use Rattle.snap_runs.proofs.Calls.{Calls, EndsAt, EndsWith, IsEnd, Occupied, answer_ends, finish_ends, occupied}
 use Rattle.snap_runs.proofs.Calls.{turn}
 use Rattle.snap_runs.proofs.Operations.{ends_answer, ends_done}
-use Rattle.snap_history.proofs.Later.{events_after}
+use Rattle.snap_record.proofs.Later.{events_after}
 use Rattle.snap_record.specs.History.{IsWithin}
 use Rattle.snap_record.proofs.Events.{all_events, all_within_run, events_from}
 use Rattle.snap_history_laws.specs.events.EventLaws.{EventsTellOperations, Tells, TellsOperations}

@@ -6,7 +6,7 @@ use Rattle.snap_words.specs.declared.kind.KindTag.TheVariants as kind
 use Rattle.snap_semantics.specs.IsListing.{IsListing}
 use Rattle.snap_semantics.specs.Listing.{listing_of}
 use Rattle.snap_semantics.specs.declared.process.Item.{Item}
-use Rattle.snap_listing_grammar.specs.Laws.{ReadsOnlySpelled}
+use Rattle.snap_listing.specs.Laws.{ReadsOnlySpelled}
 use Rattle.snap_runs.specs.Linearization.{IsLinearizable}
 use Rattle.snap_runs.specs.Run.{IsValidRun, Run}
 use Rattle.snap_runs_of_u.specs.ListingU.{listing_u}
@@ -14,8 +14,8 @@ use Rattle.snap_runs_of_b.specs.ListingB.{listing_b}
 use Rattle.snap_runs_of_m.specs.ListingM.{listing_m}
 use Rattle.snap_shipped.specs.Kept.{NumbersSuffice, RunsKeepPromises}
 use Rattle.snap_shipped.specs.Shipped.{shipped}
-use Rattle.snap_live_desk.specs.Turns.{run_of, setting_of}
-use Rattle.snap_live_desk.specs.declared.seat_state.Setting.{Setting}
+use Rattle.snap_live.specs.Turns.{run_of, setting_of}
+use Rattle.snap_live.specs.declared.seat_state.Setting.{Setting}
 use Rattle.snap_history_laws.specs.threads.ShippedLaws.{IsShapeFor, shipped_over}
 use Rattle.snap_judge.specs.Linearizable.{LinearizableFromTheBeginning}
 use Rattle.snap_run_judge.specs.RunHistory.{RunsHaveHistories, history_of}

@@ -15,8 +15,8 @@ use Rattle.snap_report.specs.RunReport.{report_at}
 use Rattle.snap_runs.specs.Run.{Run, item, run_over}
 use Rattle.snap_runs.proofs.Calls.{item_one}
 use Rattle.snap_sched.specs.Laws.{PrintsAgain, ReadsOnlySpelled}
-use Rattle.snap_live_desk.specs.Turns.{run_of, turns_of}
-use Rattle.snap_live_desk.specs.declared.seat_state.OwnTurn.{OwnTurn}
+use Rattle.snap_live.specs.Turns.{run_of, turns_of}
+use Rattle.snap_live.specs.declared.seat_state.OwnTurn.{OwnTurn}
 use Rattle.snap_live.specs.Play.{IsPlay}
 use Rattle.snap_live.specs.Script.{script_at}
 use Rattle.snap_live_output.specs.LiveOutput.{IsLiveText, Setup, setting}

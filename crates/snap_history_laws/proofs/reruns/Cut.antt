@@ -87,7 +87,7 @@ pub longer_begins : (xs ys : List ℕ) → BeginsSo xs → BeginsSo (xs ++ ys)
 longer_begins xs ys h =
     record { byte = h.byte; rest = h.rest ++ ys; is = ap (λ (l : List ℕ). l ++ ys) h.is; other = h.other }
 
--- it begins no report, and ends no part
+-- a digit or an `s` begins no report, and ends no part
 byte_is_not : (b c : ℕ) → ((48 ≤ b) × (b ≤ 57)) ⊎ (b ≡ 115) → ((48 ≤ c) × (c ≤ 57) → ⊥) →
     (c ≡ 115 → ⊥) → nat_eq b c ≡ false
 byte_is_not b c h low high = ne_eqb b c (λ e. elim h [
@@ -128,7 +128,7 @@ stand_before (ts ∷ ls) lines h =
     ∙ ap (λ (l : List ℕ). line_text ts ++ l) (stand_before ls lines h.1)
     ∙ sym (append_assoc (line_text ts) (lines_text ls) (lines_before_report lines))
 
--- and are one part
+-- lines are one part
 part_by : (line : List ℕ) (lines : List (List ℕ)) (v : Bool) → v ≡ false →
     (if v then [] ∷ parts_of_lines lines else onto_part line (parts_of_lines lines))
     ≡ onto_part line (parts_of_lines lines)

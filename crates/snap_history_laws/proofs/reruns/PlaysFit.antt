@@ -8,7 +8,7 @@ use Rattle.snap_semantics.specs.declared.process.Outcome.{Outcome}
 use Rattle.snap_semantics.specs.declared.process.Outcome.TheVariants as outcome
 use Rattle.snap_semantics.specs.ScheduleText.{FitsItem, FitsWords}
 use Rattle.snap_sched.specs.ScriptText.{Script}
-use Rattle.snap_live_desk.specs.declared.seat_state.OwnTurn.{OwnTurn}
+use Rattle.snap_live.specs.declared.seat_state.OwnTurn.{OwnTurn}
 use Rattle.snap_live.specs.Play.{Due, Does, IsCallOf, IsCrash, IsDue, IsPlay, IsStep, Plays}
 use Rattle.snap_live.specs.Play.{after_call, after_step, busy, over, rest}
 use Rattle.snap_live.specs.Script.{crashes_behind, script_at}

@@ -24,7 +24,7 @@ is_ended : (l : Source) (y : List ℕ) (s : Schedule) → schedule_of y ≡ Ok s
 unfolding schedule_for
 is_ended l y s is fit = rw (is, fit) refl
 
--- its report is the one that the live run has printed
+-- the report of the run that is read again is the one that the live run has printed
 reports : (g : Setup) (items : List Item) (text : List ℕ) → IsCut g items text →
     ended g.source (played g items) ≡ printed_again (length items) text
 unfolding end_report

@@ -81,7 +81,7 @@ module _ (n most : ℕ) (small : n ≤ max_count) (few : most ≤ 1000000) where
       (omega (arith, le, small), ((omega arith, refl), (h.1.0, (h.1.1, tt))))
   form_sound (Crashes i) h = (omega (arith, h, small), ((omega arith, refl), tt))
 
-  -- and their lines begin with their process
+  -- the lines of a schedule begin with their process
   process_begins : (i : ℕ) (ts : List Token) → i ≤ n → BeginsSo (line_text (Number i ∷ ts))
   process_begins i ts le =
       let fits : i < 2 ^ 64 = omega (arith, le, small) in
@@ -137,7 +137,7 @@ module _ (s : Schedule) (h : IsSchedule s) where
       ∙ stand_before lines (full_lines (codes "report at" ++ rest)) begin_so
       ∙ ap (λ (l : List ℕ). schedule_text s ++ l) (none_before rest) ∙ append-nil (schedule_text s)
 
-  -- it is one part
+  -- the text of a schedule is one part
   pub alone : parts_of (schedule_text s) ≡ schedule_text s ∷ []
   alone =
       ap parts_of (sym (append-nil (schedule_text s)))

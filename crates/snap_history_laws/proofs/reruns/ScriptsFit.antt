@@ -65,7 +65,7 @@ lines_fit n before (line ∷ lines) h g =
     (λ form. script_lines n (before ++ form ∷ []) lines) (line_fits n before line g.0)
     (λ form fits. lines_fit n (before ++ form ∷ []) lines (one_more before form h fits) g.1)
 
--- and the scripts that they tell
+-- the numbers of a script have 64 bits
 abbrev pub FitsScript : Script → Type 0
 FitsScript s = AllByRecursion FitsWords s.operations
 

@@ -8,11 +8,11 @@ use Rattle.snap_words.specs.Shape.{IsOneOf}
 use Rattle.snap_semantics.specs.declared.process.Item.{Item}
 use Rattle.snap_runs.specs.Run.{IsValidRun, Run}
 use Rattle.snap_runs.proofs.Calls.{item_one}
-use Rattle.snap_live_desk.specs.Closed.{HasSeat}
-use Rattle.snap_live_desk.specs.Shown.{Keeps, SeatView}
-use Rattle.snap_live_desk.specs.Turns.{setting_of, turns_of}
-use Rattle.snap_live_desk.specs.declared.seat_state.OwnTurn.{OwnTurn}
-use Rattle.snap_live_desk.specs.declared.seat_state.Setting.{Setting}
+use Rattle.snap_live.specs.Closed.{HasSeat}
+use Rattle.snap_live.specs.Shown.{Keeps, SeatView}
+use Rattle.snap_live.specs.Turns.{setting_of, turns_of}
+use Rattle.snap_live.specs.declared.seat_state.OwnTurn.{OwnTurn}
+use Rattle.snap_live.specs.declared.seat_state.Setting.{Setting}
 use Rattle.snap_history_laws.specs.threads.DeskLaws.{IsClosed, SeatsAreToldTheRecord, told_at}
 use Rattle.snap_history_laws.specs.threads.Told.{told_in}
 use Rattle.snap_history_laws.proofs.threads.Turning.{told_is}

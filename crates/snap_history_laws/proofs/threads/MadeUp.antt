@@ -15,9 +15,9 @@ use Rattle.snap_semantics.specs.declared.process.Outcome.TheVariants.{Answered, 
 use Rattle.snap_sched.specs.ScriptText.{Script}
 use Rattle.snap_runs.specs.Linearization.{Allows, RunsFrom, after}
 use Rattle.snap_runs.specs.Operation.{Action, Operation, Sees, Sets}
-use Rattle.snap_live_desk.specs.Turns.{own_turn}
-use Rattle.snap_live_desk.specs.declared.seat.Turn.{Turn}
-use Rattle.snap_live_desk.specs.declared.seat_state.OwnTurn.{OwnTurn}
+use Rattle.snap_live.specs.Turns.{own_turn}
+use Rattle.snap_live.specs.declared.seat.Turn.{Turn}
+use Rattle.snap_live.specs.declared.seat_state.OwnTurn.{OwnTurn}
 use Rattle.snap_live.specs.Play.{IsPlay, busy, rest}
 use Rattle.snap_live.specs.Worker.{shown}
 use Rattle.snap_history_laws.specs.threads.ShippedLaws.{IsToldLive, shipped_over}
@@ -27,7 +27,7 @@ use Rattle.snap_history_laws.proofs.threads.Playing.{AreOf, one_told}
 abbrev one : Counts
 one = record { n = 1; w = 1 }
 
--- its script is one scan
+-- the script is one scan
 abbrev scans : Script
 scans = record { operations = Scan ∷ []; crash = None }
 
@@ -57,7 +57,7 @@ is_own t has = elim (two_turns t has) [
   | inr is ↦ subst (λ (u : OwnTurn). who u.item ≡ 1) is refl
 ]
 
--- it calls no update
+-- the process calls no update
 no_update : (i c word value : ℕ) → Contains made_up (own_turn c (Call i (Update word value)) Called) → ⊥
 no_update i c word value has = elim (two_turns (own_turn c (Call i (Update word value)) Called) has) [
   | inl is ↦
@@ -67,7 +67,7 @@ no_update i c word value has = elim (two_turns (own_turn c (Call i (Update word 
       (let out : ◌≡◌ {A = Outcome} (Answered (9 ∷ [])) Called = ap (λ (t : OwnTurn). t.outcome) is in absurd (cc))
 ]
 
--- and so every operation is a scan
+-- every operation is a scan
 abbrev IsScan : Action → Type 0
 IsScan (Sets word value) = ⊥
 IsScan (Sees view) = Unit {0}

@@ -12,10 +12,10 @@ use Rattle.snap_semantics.specs.declared.process.Outcome.{Outcome}
 use Rattle.snap_semantics.specs.declared.process.Outcome.TheVariants.{Called}
 use Rattle.snap_runs.specs.Operation.{EndedBefore, Operation}
 use Rattle.snap_runs.specs.Run.{outcome}
-use Rattle.snap_live_desk.specs.Shown.{SeatView}
-use Rattle.snap_live_desk.specs.Turns.{last_outcome, run_of, turns_of}
-use Rattle.snap_live_desk.specs.declared.seat_state.OwnTurn.{OwnTurn}
-use Rattle.snap_live_desk.specs.declared.seat_state.Setting.{Setting}
+use Rattle.snap_live.specs.Shown.{SeatView}
+use Rattle.snap_live.specs.Turns.{last_outcome, run_of, turns_of}
+use Rattle.snap_live.specs.declared.seat_state.OwnTurn.{OwnTurn}
+use Rattle.snap_live.specs.declared.seat_state.Setting.{Setting}
 use Rattle.snap_history_laws.specs.threads.DeskLaws.{CallsAfterNote, NotesOrderOperations, SeatsOwnWhatTheySaw, StandsBefore}
 use Rattle.snap_history_laws.specs.threads.Told.{IsEnd, IsToldLinearization, Told}
 use Rattle.snap_history_laws.proofs.threads.Turning.{told_is}

@@ -17,7 +17,7 @@ use Rattle.snap_runs.specs.Scan.{FinishedScan}
 use Rattle.snap_runs.specs.Update.{IsDone, PendingUpdate}
 use Rattle.snap_runs.proofs.Calls.{answer_ends, finish_ends, item_one, one_call}
 use Rattle.snap_runs.proofs.Operations.{ends_answer, ends_done}
-use Rattle.snap_live_desk.specs.Turns.{own_turn}
+use Rattle.snap_live.specs.Turns.{own_turn}
 use Rattle.snap_history_laws.specs.threads.Told.{IsEnd, IsToldCall, IsToldOutcome, NoEndBehind, NoEndBetween, WasTold, told_in}
 use Rattle.snap_history_laws.specs.threads.RunLaws.{OperationsAreTold}
 use Rattle.snap_history_laws.proofs.threads.Turning.{of_item, with_item}

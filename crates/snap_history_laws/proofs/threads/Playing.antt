@@ -8,8 +8,8 @@ use Rattle.snap_semantics.specs.declared.process.Item.{Item}
 use Rattle.snap_semantics.specs.declared.process.Item.TheVariants.{Step, Call, Crash}
 use Rattle.snap_semantics.specs.declared.process.Op.{Op}
 use Rattle.snap_sched.specs.ScriptText.{Script}
-use Rattle.snap_live_desk.specs.declared.seat.Turn.{Turn}
-use Rattle.snap_live_desk.specs.declared.seat_state.OwnTurn.{OwnTurn}
+use Rattle.snap_live.specs.declared.seat.Turn.{Turn}
+use Rattle.snap_live.specs.declared.seat_state.OwnTurn.{OwnTurn}
 use Rattle.snap_live.specs.Play.{Does, Due, IsCallOf, IsCrash, IsDue, IsPlay, IsStep, Plays, after_call, after_step}
 use Rattle.snap_live.specs.Play.{busy, over, rest}
 use Rattle.snap_live.specs.Script.{crashes_behind}

@@ -14,8 +14,8 @@ use Rattle.snap_semantics.specs.declared.process.Outcome.TheVariants.{Answered, 
 use Rattle.snap_runs.specs.Linearization.{Allows, RunsFrom, after}
 use Rattle.snap_runs.specs.Operation.{Action, EndedBefore, Operation, Sees, Sets}
 use Rattle.snap_runs.proofs.Order.{Apart, Pairs, all_pairs, keeps_order}
-use Rattle.snap_live_desk.specs.Turns.{own_turn}
-use Rattle.snap_live_desk.specs.declared.seat_state.OwnTurn.{OwnTurn}
+use Rattle.snap_live.specs.Turns.{own_turn}
+use Rattle.snap_live.specs.declared.seat_state.OwnTurn.{OwnTurn}
 use Rattle.snap_history_laws.specs.threads.Told.{IsEnd, IsLinearizableAsTold, IsToldLinearization, IsToldOperation}
 use Rattle.snap_history_laws.specs.threads.Told.{IsToldOutcome, Told, WasTold}
 
@@ -30,7 +30,7 @@ scanner seen =
 abbrev pub sample : ℕ → Told
 sample seen p = if nat_eq p 1 then updater else if nat_eq p 2 then scanner seen else []
 
--- their operations
+-- the operations of the sample
 abbrev pub update : Operation
 update = record { process = 1; call = 1; end = Some 3; action = Sets 1 5 }
 
@@ -68,7 +68,7 @@ end_of_updater t out h ends = elim (one_of _ _ _ (own_turn t h.0 out) h.1) [
   ]
 ]
 
--- and the scanner
+-- the scanner hears of the call of its scan alone
 call_of_scanner : (seen i c : ℕ) (op : Op) → Contains (scanner seen) (own_turn c (Call i op) Called) →
     (i ≡ 2) × (c ≡ 4) × (op ≡ Scan)
 call_of_scanner seen i c op h = elim (one_of _ _ _ (own_turn c (Call i op) Called) h) [
@@ -91,7 +91,7 @@ end_of_scanner seen t out h ends = elim (one_of _ _ _ (own_turn t h.0 out) h.1) 
   ]
 ]
 
--- So these are the operations, and there are no others.
+-- The operations that the threads hear of are the update and the scan, and no others.
 update_was_told : (seen : ℕ) → IsToldOperation (sample seen) update
 update_was_told seen = (
   (0, omega arith, refl),

@@ -18,10 +18,10 @@ use Rattle.snap_runs.specs.Operation.{Action, Operation, Sees, Sets}
 use Rattle.snap_runs.specs.Run.{IsValidRun, Run}
 use Rattle.snap_runs.proofs.Calls.{item_one}
 use Rattle.snap_shipped.specs.Kept.{NumbersSuffice, RunsKeepPromises}
-use Rattle.snap_live_desk.specs.Turns.{own_turn, run_of, setting_of, turns_of}
-use Rattle.snap_live_desk.specs.declared.seat.Turn.{Turn}
-use Rattle.snap_live_desk.specs.declared.seat_state.OwnTurn.{OwnTurn}
-use Rattle.snap_live_desk.specs.declared.seat_state.Setting.{Setting}
+use Rattle.snap_live.specs.Turns.{own_turn, run_of, setting_of, turns_of}
+use Rattle.snap_live.specs.declared.seat.Turn.{Turn}
+use Rattle.snap_live.specs.declared.seat_state.OwnTurn.{OwnTurn}
+use Rattle.snap_live.specs.declared.seat_state.Setting.{Setting}
 use Rattle.snap_live.specs.LiveRun.{IsLive}
 use Rattle.snap_live.specs.Play.{IsPlay}
 use Rattle.snap_live.specs.Script.{script_at}
@@ -56,7 +56,7 @@ one_or_not n p = elim (cases_lt 0 p) [
 told_of : (r : Run) → IsValidRun r → IsLinearizable r → IsLinearizableAsTold r.shape.w (told_in r)
 told_of r fits h = (let l = h fits in (l.0, (linearizations_are_told r fits l.0).0 l.1))
 
--- and over these seats
+-- desks tell of linearizations, over all seats
 pub desks_tell : DesksTellLinearizations
 desks_tell base seats kept h linear =
     let same : told_at seats ≡ told_in kept = λ k p. seats_are_told base seats kept h p k in
@@ -105,7 +105,7 @@ module _ (may : ℕ → ℕ → Bool → Type 0) (base : Setting) (scripts : Lis
         λ p not. no_turns r fits p (λ one. not (subst (λ (c : Counts). IsOneOf c.n p) shapes one));
   }
 
-  -- and nothing else is what is handed back
+  -- what is handed back is what the record has, and nothing else
   same_at : (told : Told) → IsToldLive base scripts turns told → (p : ℕ) → told p ≡ told_in r p
   same_at told is p = elim (one_or_not base.shape.n p) [
     | inl one ↦

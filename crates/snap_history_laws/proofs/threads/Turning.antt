@@ -12,8 +12,8 @@ use Rattle.snap_semantics.specs.declared.process.Item.TheVariants.{Step}
 use Rattle.snap_semantics.specs.declared.process.Outcome.{Outcome}
 use Rattle.snap_runs.specs.Run.{Run, state, item, outcome}
 use Rattle.snap_runs.proofs.Embedding.{next_state}
-use Rattle.snap_live_desk.specs.Turns.{own_turn, put_if, setting_of, turns_from}
-use Rattle.snap_live_desk.specs.declared.seat_state.OwnTurn.{OwnTurn}
+use Rattle.snap_live.specs.Turns.{own_turn, put_if, setting_of, turns_from}
+use Rattle.snap_live.specs.declared.seat_state.OwnTurn.{OwnTurn}
 use Rattle.snap_history_laws.specs.threads.Told.{told_in}
 
 -- the first of a list, or one behind it
@@ -87,7 +87,7 @@ module _ (r : Run) (p : ℕ) where
   pub told_is : (u : OwnTurn) → Contains (told_in r p) u → IsTurnAt u
   told_is u has = told_later 0 (length r.items) u (omega arith) has
 
-  -- and each item of the process has its turn
+  -- each item of the process has its turn
   kept : (mine : Bool) (u v : OwnTurn) (us : List OwnTurn) → Contains us u → Contains (put_if mine v us) u
   kept true u v us has = behind v u us has
   kept false u v us has = has

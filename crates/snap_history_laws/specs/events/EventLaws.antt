@@ -29,7 +29,7 @@ abbrev pub called_as : Action → Op
 called_as (Sets word value) = op.Update word value
 called_as (Sees view) = op.Scan
 
--- and how it ends
+-- how an action ends
 abbrev pub ends_as : Action → Happening
 ends_as (Sets word value) = what.Done
 ends_as (Sees view) = what.Answer view

@@ -7,11 +7,11 @@ use Rattle.snap_words.specs.declared.kind.KindTag.{KindTag}
 use Rattle.snap_shipped.specs.Kept.{update_turns}
 use Rattle.snap_shipped.specs.Shipped.{shipped}
 use Rattle.snap_chance.specs.Plan.{IsPlan, Plan}
-use Rattle.snap_failure.specs.declared.failures.StepBound.{StepBound}
-use Rattle.snap_failure.specs.declared.failures.StepBound.TheVariants as bound
-use Rattle.snap_failure.specs.declared.failures.Wanted.{Wanted}
-use Rattle.snap_failure.specs.Finding.{Finds}
-use Rattle.snap_failure.specs.declared.failures.Failure.{Failure}
+use Rattle.snap_hunt.specs.declared.failures.StepBound.{StepBound}
+use Rattle.snap_hunt.specs.declared.failures.StepBound.TheVariants as bound
+use Rattle.snap_hunt.specs.declared.failures.Wanted.{Wanted}
+use Rattle.snap_hunt.specs.Finding.{Finds}
+use Rattle.snap_hunt.specs.declared.failures.Failure.{Failure}
 use Rattle.snap_hunt.specs.Hunt.{IsFirst, run_of}
 use Rattle.snap_hunt.specs.declared.found.Found.{Found}
 
@@ -28,7 +28,7 @@ FindsNothing g =
     (p : Plan) (w : Wanted) (seed k : ℕ) (found : Option Failure) → IsPlan p → fits (shipped g).kind p.shape ≡ true →
     w.collects ≡ None → StepsSuffice g p.shape w.steps → Finds w (run_of (shipped g) p seed k) found → found ≡ None
 
--- So no hunt comes to a run that fails.
+-- No hunt comes to a run that fails.
 abbrev pub HuntsFindNone : KindTag → Type 0
 HuntsFindNone g =
     (p : Plan) (w : Wanted) (seed runs : ℕ) (first : Option Found) → IsPlan p →

@@ -28,7 +28,7 @@ IsSoOf r (judgement.NotLinearizable k) =
     (e : Event) × (slice_get (events_of r (length r.items)) (k - 1) ≡ Some e) × FailsAtItem r e.item
 IsSoOf r (judgement.Undecided k) = Unit {0}
 
--- So it is, where it is said of the history of the run.
+-- What is judged of the history of a run is so of the run.
 abbrev pub JudgementsAreOfRuns : Type 0
 JudgementsAreOfRuns = (most : ℕ) (r : Run) (j : Judgement) → IsListing r.source → IsValidRun r →
     IsRunJudgement most r j → IsSoOf r j

@@ -23,7 +23,7 @@ RunsAreToldByTheirHistories = (r : Run) → IsValidRun r → IsToldByItsHistory 
 
 -- The events of a run tell of each call and each end once.
 pub record TellsEachOnce (r : Run) : Type 0 where
-  -- their numbers rise, so that no item has two of them
+  -- the numbers of events rise, so that no item has two events
   pub rising : AllPairs (λ (a b : Event). a.item < b.item) (events_of r (length r.items))
   -- of the item that called an operation nothing else is told, nor of the item at which it ended
   pub one_call : (o : Operation) (e : Event) → IsOperation r o → Contains (events_of r (length r.items)) e →

@@ -8,8 +8,8 @@ use Rattle.snap_sched.specs.ScriptText.{Script}
 use Rattle.snap_runs.specs.Run.{IsValidRun, Run, run_of_items}
 use Rattle.snap_shipped.specs.Kept.{NumbersSuffice}
 use Rattle.snap_shipped.specs.Shipped.{shipped}
-use Rattle.snap_live_desk.specs.Shown.{SeatView}
-use Rattle.snap_live_desk.specs.declared.seat.Turn.{Turn}
+use Rattle.snap_live.specs.Shown.{SeatView}
+use Rattle.snap_live.specs.declared.seat.Turn.{Turn}
 use Rattle.snap_live.specs.LiveRun.{IsLive}
 use Rattle.snap_history_laws.specs.threads.DeskLaws.{IsClosed}
 use Rattle.snap_history_laws.specs.threads.ShippedLaws.{IsShapeFor, shipped_over}
@@ -37,12 +37,12 @@ ShippedRunsAreSeenLinearizable g =
     (let r = run_of_items (shipped g) s items in
     IsValidRun r → IsSeenLinearizable r)
 
--- So is what is kept of the turns of threads at a desk of such a listing, once the desk is closed.
+-- What is kept of the turns of threads at a desk of a shipped listing, once the desk is closed, is seen linearizable.
 abbrev pub ClosedDesksAreSeenLinearizable : Type 0
 ClosedDesksAreSeenLinearizable = (g : KindTag) (shape : Counts) (seats : List SeatView) (kept : Run) →
     IsShapeFor g shape → IsClosed (shipped_over g shape) seats kept → IsSeenLinearizable kept
 
--- So is what is kept of a live run of such a listing, where the gate of the run may answer `may`.
+-- What is kept of a live run of a shipped listing, where the gate of the run may answer `may`, is seen linearizable.
 abbrev pub LiveRunsAreSeenLinearizable : (may : ℕ → ℕ → Bool → Type 0) → Type 0
 LiveRunsAreSeenLinearizable may = (g : KindTag) (shape : Counts) (scripts : List Script) (limit : ℕ) (kept : Run)
     (turns : List (List Turn)) → IsShapeFor g shape →

@@ -20,7 +20,7 @@ pub record IsRunAgain (g : Setup) (items : List Item) (text : List ℕ) : Type 0
       perform_listing g.source (before_report text) (codes "run\n") ≡ Ok (printed_again (length items) text)
   pub one_part : parts_of (before_report text) ≡ before_report text ∷ []
 
--- So it is of each text that a live run may print.
+-- Each text that a live run may print is run again.
 abbrev pub LiveRunsAreRunAgain : Type 0
 LiveRunsAreRunAgain = (subject : Subject) (limit : ℕ) (input text : List ℕ) (g : Setup) →
     setup_of subject input ≡ Ok g → (live : IsLiveText g limit text) → IsRunAgain g live.items text

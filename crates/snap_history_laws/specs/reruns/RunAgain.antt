@@ -31,7 +31,7 @@ pub record IsReadAgain (g : Setup) (items : List Item) (text : List ℕ) : Type 
   pub reports : (s : Schedule) → schedule_of (before_report text) ≡ Ok s →
       report_at (run_over g.source s) (length s.items) ≡ report_in text
 
--- So it is of each text that a live run may print.
+-- Each text that a live run may print is cut.
 abbrev pub LiveRunsAreCut : Type 0
 LiveRunsAreCut = (subject : Subject) (limit : ℕ) (input text : List ℕ) (g : Setup) → setup_of subject input ≡ Ok g →
     (live : IsLiveText g limit text) → IsCut g live.items text

@@ -12,11 +12,11 @@ use Rattle.snap_semantics.specs.declared.process.Outcome.TheVariants.{Called}
 use Rattle.snap_runs.specs.Linearization.{IsLinearizable}
 use Rattle.snap_runs.specs.Operation.{EndedBefore, Operation}
 use Rattle.snap_runs.specs.Run.{IsValidRun, Run}
-use Rattle.snap_live_desk.specs.Closed.{HasSeat}
-use Rattle.snap_live_desk.specs.Shown.{DeskView, IsTurn, Keeps, SeatView, seat_of}
-use Rattle.snap_live_desk.specs.Turns.{setting_of, turns_of}
-use Rattle.snap_live_desk.specs.declared.seat_state.OwnTurn.{OwnTurn}
-use Rattle.snap_live_desk.specs.declared.seat_state.Setting.{Setting}
+use Rattle.snap_live.specs.Closed.{HasSeat}
+use Rattle.snap_live.specs.Shown.{DeskView, IsTurn, Keeps, SeatView, seat_of}
+use Rattle.snap_live.specs.Turns.{setting_of, turns_of}
+use Rattle.snap_live.specs.declared.seat_state.OwnTurn.{OwnTurn}
+use Rattle.snap_live.specs.declared.seat_state.Setting.{Setting}
 use Rattle.snap_history_laws.specs.threads.Told.{IsEnd, IsLinearizableAsTold, IsToldLinearization, Told, told_in}
 
 -- A desk was closed with this record, and these seats were handed in: what is said of them where a desk is closed.
@@ -32,7 +32,7 @@ abbrev pub told_at : List SeatView → Told
 told_at [] p = []
 told_at (s ∷ ss) p = if nat_eq p s.process then s.own else told_at ss p
 
--- They were told the turns of the record.
+-- The seats of a closed desk were told the turns of the record.
 abbrev pub SeatsAreToldTheRecord : Type 0
 SeatsAreToldTheRecord = (base : Setting) (seats : List SeatView) (kept : Run) → IsClosed base seats kept →
     (p : ℕ) → told_at seats p ≡ told_in kept p
@@ -47,11 +47,11 @@ DesksTellLinearizations = (base : Setting) (seats : List SeatView) (kept : Run) 
 abbrev pub OwnsWhatItSaw : SeatView → Type 0
 OwnsWhatItSaw s = (items : List Item) × IsPrefix items s.seen × (s.own ≡ turns_of s.desk.base s.process items)
 
--- the same desk and process
+-- two seats have the same desk and process
 abbrev pub IsSameSeat : SeatView → SeatView → Type 0
 IsSameSeat before after = (after.desk ≡ before.desk) × (after.process ≡ before.process)
 
--- So it is of a new seat, after each turn, and where a seat has seen more since then.
+-- Seats own what they saw: a new seat, a seat after each turn, and a seat that has seen more since then.
 pub record SeatsOwnWhatTheySaw : Type 0 where
   pub at_first : (desk : DeskView) (process : ℕ) → OwnsWhatItSaw (seat_of desk process)
   pub after_turn : (before after : SeatView) (x : Item) (number : ℕ) (outcome : Outcome) → IsSameSeat before after →

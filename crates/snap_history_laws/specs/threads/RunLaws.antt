@@ -10,7 +10,7 @@ use Rattle.snap_history_laws.specs.threads.Told.{IsToldLinearization, IsToldOper
 abbrev pub OperationsAreTold : Type 0
 OperationsAreTold = (r : Run) → IsValidRun r → (o : Operation) → IsOperation r o ↔ IsToldOperation (told_in r) o
 
--- So are its linearizations.
+-- The linearizations of a run are those of what its threads are told.
 abbrev pub LinearizationsAreTold : Type 0
 LinearizationsAreTold = (r : Run) → IsValidRun r → (os : List Operation) →
     IsLinearization r os ↔ IsToldLinearization r.shape.w (told_in r) os

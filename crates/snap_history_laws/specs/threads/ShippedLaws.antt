@@ -9,10 +9,10 @@ use Rattle.snap_sched.specs.ScriptText.{Script}
 use Rattle.snap_runs.specs.Operation.{Operation}
 use Rattle.snap_runs.specs.Run.{IsValidRun, Run}
 use Rattle.snap_shipped.specs.Shipped.{shipped}
-use Rattle.snap_live_desk.specs.Shown.{SeatView}
-use Rattle.snap_live_desk.specs.declared.seat.Turn.{Turn}
-use Rattle.snap_live_desk.specs.declared.seat_state.OwnTurn.{OwnTurn}
-use Rattle.snap_live_desk.specs.declared.seat_state.Setting.{Setting}
+use Rattle.snap_live.specs.Shown.{SeatView}
+use Rattle.snap_live.specs.declared.seat.Turn.{Turn}
+use Rattle.snap_live.specs.declared.seat_state.OwnTurn.{OwnTurn}
+use Rattle.snap_live.specs.declared.seat_state.Setting.{Setting}
 use Rattle.snap_live.specs.LiveRun.{IsLive, turns_at}
 use Rattle.snap_live.specs.Play.{IsPlay}
 use Rattle.snap_live.specs.Script.{script_at}
@@ -55,7 +55,8 @@ pub record TellsLinearizations (base : Setting) (scripts : List Script) (turns :
   pub linearizable : IsLinearizableAsTold base.shape.w (told_in kept)
   pub nobody_invented : NobodyIsInvented base.shape.n base.shape.w (told_in kept)
 
--- So it is where the listing is a shipped one, where the gate of the run may answer `may`.
+-- What the threads of a live run of a shipped listing are told is linearizable, where the gate of the run may answer
+-- `may`.
 abbrev pub LiveRunsAreLinearizable : (may : ℕ → ℕ → Bool → Type 0) → Type 0
 LiveRunsAreLinearizable may = (g : KindTag) (shape : Counts) (scripts : List Script) (limit : ℕ) (kept : Run)
     (turns : List (List Turn)) → IsShapeFor g shape →

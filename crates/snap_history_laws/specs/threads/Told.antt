@@ -11,8 +11,8 @@ use Rattle.snap_semantics.specs.declared.process.Outcome.TheVariants.{Answered, 
 use Rattle.snap_runs.specs.Linearization.{KeepsOrder, RunsFrom}
 use Rattle.snap_runs.specs.Operation.{Action, HasEnded, Operation, Sees, Sets}
 use Rattle.snap_runs.specs.Run.{Run}
-use Rattle.snap_live_desk.specs.Turns.{own_turn, setting_of, turns_of}
-use Rattle.snap_live_desk.specs.declared.seat_state.OwnTurn.{OwnTurn}
+use Rattle.snap_live.specs.Turns.{own_turn, setting_of, turns_of}
+use Rattle.snap_live.specs.declared.seat_state.OwnTurn.{OwnTurn}
 
 -- what was told to the thread of each process: its turns, each with its number, its item and what came of it
 abbrev pub Told : Type 0
@@ -26,7 +26,7 @@ told_in r p = turns_of (setting_of r) p r.items
 abbrev pub IsToldCall : List OwnTurn → (i c : ℕ) → Op → Type 0
 IsToldCall turns i c op = Contains turns (own_turn c (Call i op) Called)
 
--- It was told the number t of a turn of which this came.
+-- A thread was told the number t of a turn with this outcome.
 abbrev pub IsToldOutcome : List OwnTurn → (t : ℕ) → Outcome → Type 0
 IsToldOutcome turns t outcome = (x : Item) × Contains turns (own_turn t x outcome)
 
@@ -36,7 +36,7 @@ IsEnd (Answered view) = Unit {0}
 IsEnd Finished = Unit {0}
 IsEnd _ = ⊥
 
--- It was told of no end of an operation behind the number c; or of none before the number e.
+-- A thread was told of no end of an operation behind the number c; or of none before the number e.
 abbrev pub NoEndBehind : List OwnTurn → (c : ℕ) → Type 0
 NoEndBehind turns c = (t : ℕ) (outcome : Outcome) → c < t → IsToldOutcome turns t outcome → IsEnd outcome → ⊥
 
@@ -55,7 +55,7 @@ WasTold turns i c (Some e) (Sees view) =
 -- a scan of which no answer was told has seen no view
 WasTold turns i c None (Sees view) = ⊥
 
--- It is an operation of which its thread was told.
+-- An operation of which its thread was told.
 abbrev pub IsToldOperation : Told → Operation → Type 0
 IsToldOperation told o = WasTold (told o.process) o.process o.call o.end o.action
 
@@ -72,6 +72,6 @@ pub record IsToldLinearization (w : ℕ) (told : Told) (os : List Operation) : T
   -- the object runs them, from w zeros on, with the answers that were told
   pub runs : RunsFrom (replicate w 0) os
 
--- There is one.
+-- What the threads are told has a linearization.
 abbrev pub IsLinearizableAsTold : ℕ → Told → Type 0
 IsLinearizableAsTold w told = (os : List Operation) × IsToldLinearization w told os

@@ -1,5 +1,5 @@
--- `circles_refute` of snap_judge_reasons (src/lib.rt): the proof of what its contract says.
--- In a linearization each operation of a circle would stand before the next one, and so before itself.
+-- `circles_refute` of snap_judge_reasons (src/lib.rt): the proof of what its contract says. A history with a circle of
+-- reasons is not linearizable.
 use Rattle.snap_judge_reasons.proofs.Refuting.{circles_refute}
 use Rattle.snap_judge_reasons.proofs.circles_refute.Goals as goal
 

@@ -1,4 +1,5 @@
--- `page_output` of snap_page (src/lib.rt): the proof of what its contract says.
+-- `page_output` of snap_page (src/lib.rt): the proof of what its contract says. Hands a page the output for an input,
+-- or the line that says why there is none.
 use Rattle.std.proofs.Common.{◌≡◌, [], ◌∷◌, Ok, Err, Some, arith, length, subst, sym, take}
 use Rattle.snap_semantics.specs.declared.refusal.Refusal.TheVariants.{InputTooLong}
 use Rattle.snap_page.specs.Answer.{AnswersAsked, found_at_once}
@@ -36,7 +37,7 @@ returns-clause-answer c a named little =
     omega (arith, zero, one)) in
     (found.0, found.1, found.2.0, found.2.1)
 
--- and its length
+-- the text that is handed over, and its length
 pub returns-clause-needed : goal.returns-clause-needed
 returns-clause-needed c a named large =
     let input = c.args.input.now in

@@ -1,4 +1,6 @@
--- `page_picture` of snap_page (src/lib.rt): the proof of what its contract says.
+-- `page_picture` of snap_page (src/lib.rt): the proof of what its contract says. Hands a page the picture of a
+-- listing's run under a schedule, from one item to another, as the program that draws makes it, or the line that says
+-- why there is none.
 use Rattle.std.proofs.Common.{◌≡◌, [], ◌∷◌, Ok, Err, arith, length, take}
 use Rattle.snap_picture.specs.declared.refusal.PictureRefusal.TheVariants.{NoSuchItems}
 use Rattle.snap_page.specs.Picture.{drawn_code, drawn_text}
@@ -18,7 +20,7 @@ returns-clause-answer c little =
     omega (arith, zero, one)) in
     (found.0, found.1, found.2.0, found.2.1)
 
--- and its length
+-- the text that is handed over, and its length
 pub returns-clause-needed : goal.returns-clause-needed
 returns-clause-needed c large =
     let len = c.handed_picture.result.len in

@@ -8,7 +8,7 @@ use Rattle.snap_runs.specs.Run.{Run, run_of_items}
 use Rattle.snap_runs.specs.Snapshot.{Bounds, IsSnapshotRun}
 use Rattle.snap_shipped.specs.Shipped.{shipped, shipped_bounds}
 use Rattle.snap_shipped.specs.Kept.{RunsKeepPromises}
-use Rattle.snap_certification.specs.Certification.{PointsCertify, putting_line}
+use Rattle.snap_certify.specs.Certification.{PointsCertify, putting_line}
 use Rattle.snap_reading_laws.specs.certificates.Shipped.{RunsAreCertified}
 
 -- the first line that writes a word is the one at which updates write

@@ -100,7 +100,7 @@ wrote_view j l l' m m' act.Enter e h = absurd cc
 wrote_view j l l' m m' (act.Leave x) e h = absurd cc
 wrote_view j l l' m m' act.Other e h = absurd cc
 
--- and into a register of views
+-- an item that publishes writes into a register of views
 wrote_register : (j : ℕ) (l l' : Locals) (m m' : Memory) (a : Act) → publishes j a ≡ true → Tells l m a m' l' →
     view_register m' j ≡ named_view l (handed_on a)
 wrote_register j l l' m m' (act.Call op) e h = absurd cc
@@ -221,7 +221,7 @@ module _ (r : Run) (listing : IsListing r.source) (valid : IsValidRun r) where
       (step_at ss w).act at.1 (told r w listing valid less).went.tells
       ∙ sym (held_is (process w) w (handed_on (step_at ss w).act))
 
-  -- and so is a register of views
+  -- a register of views has the view that was written last
   view_written : (j k w : ℕ) → 0 < j → k ≤ most → last_before (wanted.Published j) ss k ≡ Some w →
       view_register (state r k).memory j ≡ handed_view r w
   view_written j k w one within e =
@@ -386,7 +386,7 @@ module _ (r : Run) (listing : IsListing r.source) (valid : IsValidRun r) where
       by_place (Some d) set is =
           (d, around_from i d w (last_before (wanted.Enter i) ss d) s (found (wanted.Sets i x) ss w d set).0 refl is)
 
-  -- it is a whole one
+  -- the lender's scan is a whole one
   lender_scans : (w : ℕ) (s : ScanPlaces) → w < most → lender_at ss (Some w) ≡ Some s →
       (link : ℕ) × FinishedScan r s.process (Some link) (suc s.from) (suc s.to) (handed_view r s.to)
   lender_scans w s within is =
@@ -404,7 +404,7 @@ module _ (r : Run) (listing : IsListing r.source) (valid : IsValidRun r) where
   lender_named i w None s one within is = absurd cc
   lender_named i w (Some x) s one within is = from_lender i w x (set_before ss i x w) s one within refl is
 
-  -- and may end with the view that was written
+  -- the lender's scan may end with the view that was written
   lender_returned : (w : ℕ) (s : ScanPlaces) → w < most → lender_at ss (Some w) ≡ Some s →
       handed_on (step_at ss s.to).act ≡ handed_on (step_at ss w).act → handed_view r w ≡ handed_view r s.to
   lender_returned w s within is same =

@@ -21,7 +21,7 @@ use Rattle.snap_semantics.specs.declared.process.Reason.{Reason}
 use Rattle.snap_semantics.specs.declared.process.Status.{Status}
 use Rattle.snap_semantics.specs.declared.process.Status.TheVariants.{Idle, Busy, Trapped, Crashed}
 use Rattle.snap_runs.specs.Run.{IsValidRun, Run, state, item as item_at, outcome as outcome_at}
-use Rattle.snap_values.specs.Sizes.{AreSized}
+use Rattle.snap_machine.specs.Sizes.{AreSized}
 use Rattle.snap_run_judge.proofs.Sizes.{HasSizes, IsSized, done_sized, initial_sized, own_sized, right_instr}
 use Rattle.snap_acts.specs.Loans.{step_at}
 use Rattle.snap_acts.specs.Trace.{act_of, context_of, plan_in, plan_of, plan_of_instr, returned, step_of, stepped}

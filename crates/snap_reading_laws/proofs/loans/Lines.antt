@@ -32,8 +32,8 @@ use Rattle.snap_semantics.specs.declared.process.Cause.TheVariants as cause
 use Rattle.snap_semantics.specs.declared.process.Op.{Op}
 use Rattle.snap_semantics.specs.declared.process.Op.TheVariants as op
 use Rattle.snap_asm_program.proofs.Declared.{is_view, is_words}
-use Rattle.snap_values.specs.Sizes.{AreSized}
-use Rattle.snap_values.proofs.Sizes.{view_sized}
+use Rattle.snap_machine.specs.Sizes.{AreSized}
+use Rattle.snap_machine.proofs.Sizes.{view_sized}
 use Rattle.snap_run_judge.proofs.Sizes.{HasSizes}
 use Rattle.snap_acts.specs.Trace.{plan_of_line, returned, spot_of, stepped, view_beside}
 use Rattle.snap_acts.specs.declared.act.Act.{Act}
@@ -131,7 +131,7 @@ module _ (l : Locals) (m : Memory) where
   plain : Went l m act.Other m l
   plain = kept l l m m act.Other refl refl refl refl tt
 
-  -- or sets a scalar
+  -- an item sets a scalar
   scalar : (x : Name) (v : ℕ) → Went l m act.Other m (with_scalar x v l)
   scalar x v = kept l (with_scalar x v l) m m act.Other refl refl refl refl tt
 

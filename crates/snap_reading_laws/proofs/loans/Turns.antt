@@ -198,7 +198,7 @@ pub record Begins (s : Source) (i : ℕ) (x : Item) (u : Status) (o : Outcome) (
   pub link : ℕ
   pub has : link_in u' ≡ Some link
 
--- or ends
+-- a scan of an update ends at an item
 pub record Returns (s : Source) (i : ℕ) (x : Item) (u : Status) (y : Name) : Type 0 where
   pub item : x ≡ item.Step i
   pub line : line_in s u ≡ Some (Return y)

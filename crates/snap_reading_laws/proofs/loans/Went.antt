@@ -22,7 +22,7 @@ word_in l spot = get_or (value_at spot.words l.words []) (spot.place - 1) no_wor
 abbrev pub view_in : Locals → Name → List ℕ
 view_in l x = value_at x l.views []
 
--- the same where there is a local
+-- the view of a local, if there is one
 abbrev pub named_view : Locals → Option Name → List ℕ
 named_view l None = []
 named_view l (Some x) = view_in l x
@@ -110,20 +110,20 @@ module _ (l : Locals) (m : Memory) where
     tells = tells;
   }
 
-  -- it is one that a process has written
+  -- a view that is looked at is one that a process has written
   pub looked : (x : Name) (j : ℕ) → 0 < j → length (view_in l x) ≡ length (view_register m j) →
       Went l m (act.Look j x) m (with_view x (view_register m j) l)
   looked x j one long =
       sets x (view_register m j) (act.Look j x) (λ y. refl) (one, with_there x (view_register m j) l.views long)
 
-  -- or the one beside a word
+  -- a view that is borrowed is the one beside a word
   pub borrowed : (x : Name) (spot : Spot) → 0 < spot.place → length (view_in l x) ≡ length (word_in l spot).view →
       Went l m (act.Borrow spot x) m (with_view x (word_in l spot).view l)
   borrowed x spot one long =
       sets x (word_in l spot).view (act.Borrow spot x) (λ y. refl)
       (one, with_there x (word_in l spot).view l.views long)
 
-  -- or is made
+  -- a view that is collected is made of words
   pub collected : (x : Name) (v : List ℕ) → Went l m (act.Collect x) m (with_view x v l)
   collected x v = sets x v (act.Collect x) (λ y. refl) tt
 

@@ -24,7 +24,7 @@ use Rattle.snap_debug.proofs.Contents.{both, contents_are, contents_same}
 any_so : {X : Type 0} (P Q : X → Type 0) (xs : List X) → ((x : X) → P x → Q x) → Any P xs → Any Q xs
 any_so P Q xs f h = (h.0, h.1, h.2, h.3, f h.1 h.4)
 
--- both hold
+-- two truths, both of which hold
 joined : (a b : Bool) → a ≡ true → b ≡ true → (a && b) ≡ true
 joined a b h k = cc
 
@@ -82,7 +82,7 @@ stop_found r m t h = by_breaks (list_any (reaches r t) m.breaks) refl
         inr (any_so (λ a. changes r t a ≡ true) (Changes r t) m.watches (changed r t)
         (Any-from_list_any (changes r t) m.watches rest))
 
--- and where there is one, the test finds it
+-- where there is a stop, the test finds it
 finds_stop : (r : Run) (m : Marks) (t : ℕ) → IsStop r m t → is_stop r m t ≡ true
 finds_stop r m t (inl h) =
     let met : list_any (reaches r t) m.breaks ≡ true =
@@ -99,7 +99,7 @@ finds_stop r m t (inr h) =
     last_true true b e = refl
     last_true false b e = e
 
--- so where the test finds none, there is none
+-- where the test finds no stop, there is none
 no_stop_there : (r : Run) (m : Marks) (t : ℕ) → is_stop r m t ≡ false → IsStop r m t → ⊥
 no_stop_there r m t none h = (let found : true ≡ false = sym (finds_stop r m t h) ∙ none in cc)
 

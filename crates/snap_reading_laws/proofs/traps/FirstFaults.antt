@@ -45,7 +45,7 @@ abbrev pub first_fault : KindTag → List Taken → Option Trouble
 first_fault kind [] = None
 first_fault kind (o ∷ os) = or_else (fault_of kind o.0 o.1) (first_fault kind os)
 
--- it is the first
+-- the fault that is found is the first
 pub is_first : (kind : KindTag) (os : List Taken) → IsFirstFault kind os (first_fault kind os)
 is_first kind [] = λ k. refl
 is_first kind (o ∷ os) = go (fault_of kind o.0 o.1) (first_fault kind os) refl (is_first kind os) where

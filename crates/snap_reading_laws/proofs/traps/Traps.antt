@@ -41,7 +41,7 @@ pub told_before : (r : Run) (t i : ℕ) (a : Activity) → AreDistinct (all_name
 told_before r t i a distinct =
     at_line r (state r t) i (state r t).memory a (instr_at r.source.lines a.line) (one_sort r t i distinct)
 
--- and the operand that is told is the first that it cannot take
+-- the operand that is told is the first that the line cannot take
 first_at_line : (r : Run) (S : State) (i : ℕ) (a : Activity) (o : Option Instr) →
     HaveOneSort (process_at S i).locals →
     IsFirstFault r.source.kind (operands_at (standing r i a (process_at S i).locals) o)

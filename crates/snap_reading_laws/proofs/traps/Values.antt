@@ -43,7 +43,7 @@ abbrev pub Takes : {A : Type 0} → Option Trouble → Result A Cause → Type 0
 Takes {A} None found = (v : A) × (found ≡ Ok v)
 Takes (Some t) found = found ≡ Err (trouble_cause t)
 
--- and the value, where there is one, is this
+-- a result has this value, if it has one
 abbrev pub Gives : {A : Type 0} → Option Trouble → A → Result A Cause → Type 0
 Gives None v found = found ≡ Ok v
 Gives (Some t) v found = found ≡ Err (trouble_cause t)

@@ -7,7 +7,7 @@ use Rattle.snap_semantics.specs.declared.process.Item.{Item}
 use Rattle.snap_runs.specs.Run.{IsValidRun, run_of_items}
 use Rattle.snap_shipped.specs.Shipped.{shipped, shipped_bounds}
 use Rattle.snap_shipped.specs.Kept.{NumbersSuffice}
-use Rattle.snap_certification.specs.Certification.{certification_of, write_line}
+use Rattle.snap_certify.specs.Certification.{certification_of, write_line}
 
 -- Every run of the listing that is shipped for this kind is certified, and its updates
 -- write at the line of the listing.

@@ -24,7 +24,7 @@ step r k = step_at (trace_of r) k
 abbrev pub held : Run → ℕ → Name → ℕ → List ℕ
 held r i x k = value_at x (process_at (state r k) i).locals.views []
 
--- the same where there is a local
+-- the view that is held, if there is a local
 abbrev pub held_if_named : Run → ℕ → Option Name → ℕ → List ℕ
 held_if_named r i None k = []
 held_if_named r i (Some x) k = held r i x k
@@ -58,10 +58,12 @@ pub record IsFollowed (r : Run) : Type 0 where
   -- a view that was written stood in the writer's local when the lender's scan ended, which is one of the writer
   pub lent : (w : ℕ) (s : ScanPlaces) → w < length r.items → lender_at (trace_of r) (Some w) ≡ Some s →
       (s.process ≡ (step r w).process) × (s.to < w) × (handed_view r w ≡ handed_at r w s.to)
-  -- that scan is a whole one of an update: it begins at a `call` line, and ends at a `return` line; items count from 1
+  -- the lender's scan is a whole one of an update: it begins at a `call` line, and ends at a `return` line; items count
+  -- from 1
   pub scans : (w : ℕ) (s : ScanPlaces) → w < length r.items → lender_at (trace_of r) (Some w) ≡ Some s →
       (link : ℕ) × FinishedScan r s.process (Some link) (suc s.from) (suc s.to) (handed_view r s.to)
-  -- where it returned the local that was written, as in a listing with one view local, it ended with that view
+  -- if the lender's scan returned the local that was written, as in a listing with one view local, it ended with that
+  -- view
   pub returned : (w : ℕ) (s : ScanPlaces) → w < length r.items → lender_at (trace_of r) (Some w) ≡ Some s →
       handed_on (step r s.to).act ≡ handed_on (step r w).act → handed_view r w ≡ handed_view r s.to
 

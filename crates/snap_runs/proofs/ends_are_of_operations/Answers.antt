@@ -1,6 +1,6 @@
--- `ends_are_of_operations` of snap_runs (src/lib.rt): the proof of what its contract says.
--- Each answer of a run, and each end of an update, is the end of one of its operations: what is said of the
--- operations of a run leaves out none that has ended.
+-- `ends_are_of_operations` of snap_runs (src/lib.rt): the proof of what its contract says. Each answer of a run, and
+-- each end of an update, is the end of one of its operations: a statement of all operations of a run leaves out none
+-- that has ended.
 use Rattle.snap_runs.proofs.Calls.{ends_are_of_operations}
 use Rattle.snap_runs.proofs.ends_are_of_operations.Goals as goal
 

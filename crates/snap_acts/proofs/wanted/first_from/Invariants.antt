@@ -1,5 +1,5 @@
--- `first_from` of snap_acts (src/wanted.rt): what holds at the head of each of its loops.
--- The first step from a place on that is what is wanted.
+-- `first_from` of snap_acts (src/wanted.rt): what holds at the head of each of its loops. Returns the first step from a
+-- place on that is as wanted.
 use Rattle.std.proofs.Common.{◌≡◌, ◌-◌, drop, length}
 use Rattle.snap_acts.specs.Searches.{first_meeting}
 use Rattle.snap_acts.proofs.wanted.first_from.Given as goal

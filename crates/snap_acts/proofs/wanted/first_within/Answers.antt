@@ -1,5 +1,5 @@
--- `first_within` of snap_acts (src/wanted.rt): the proof of what its contract says.
--- The first of so many places from one on at which there is what is wanted.
+-- `first_within` of snap_acts (src/wanted.rt): the proof of what its contract says. Returns the first of `count` places
+-- from `from` on at which a step is as wanted.
 use Rattle.std.proofs.Common.{◌<◌, ◌∙◌, length, sym, ap, arith}
 use Rattle.std.proofs.lemmas.List.{get_or_read}
 use Rattle.snap_acts.specs.declared.act.Step.{Step}

@@ -1,5 +1,5 @@
--- `first_within` of snap_acts (src/wanted.rt): what holds at the head of each of its loops.
--- The first of so many places from one on at which there is what is wanted.
+-- `first_within` of snap_acts (src/wanted.rt): what holds at the head of each of its loops. Returns the first of
+-- `count` places from `from` on at which a step is as wanted.
 use Rattle.std.proofs.Common.{◌≡◌, ◌+◌}
 use Rattle.snap_acts.specs.Searches.{first_within}
 use Rattle.snap_acts.proofs.wanted.first_within.Given as goal

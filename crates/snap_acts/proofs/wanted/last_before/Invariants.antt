@@ -1,5 +1,5 @@
--- `last_before` of snap_acts (src/wanted.rt): what holds at the head of each of its loops.
--- The last of the first places at which there is what is wanted.
+-- `last_before` of snap_acts (src/wanted.rt): what holds at the head of each of its loops. Returns the last of the
+-- first places at which a step is as wanted.
 use Rattle.std.proofs.Common.{◌≡◌, ◌≤◌}
 use Rattle.snap_acts.specs.Searches.{last_before}
 use Rattle.snap_acts.proofs.wanted.last_before.Given as goal

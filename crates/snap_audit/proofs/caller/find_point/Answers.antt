@@ -1,5 +1,5 @@
--- `find_point` of snap_audit (src/caller.rt): the proof of what its contract says.
--- The least of so many items, the first of which is this one, after which the values are a view.
+-- `find_point` of snap_audit (src/caller.rt): the proof of what its contract says. Returns the least of `count` items
+-- from `item` on after which the values are `view`.
 use Rattle.std.proofs.Common.{rules, ◌≡◌, ℕ, ◌≤◌, ◌<◌, ◌+◌, ◌-◌, false, drop, ap, sym, ◌∙◌, arith}
 use Rattle.std.specs.Prelude.{bytes_eq}
 use Rattle.snap_record.specs.History.{values_by}

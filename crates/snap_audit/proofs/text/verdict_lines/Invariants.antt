@@ -1,5 +1,5 @@
--- `verdict_lines` of snap_audit (src/text.rt): what holds at the head of each of its loops.
--- The lines of verdicts.
+-- `verdict_lines` of snap_audit (src/text.rt): what holds at the head of each of its loops. Appends the lines of
+-- verdicts.
 use Rattle.std.proofs.Common.{◌≡◌, ◌++◌, drop}
 use Rattle.snap_audit.specs.VerdictText.{verdict_lines}
 use Rattle.snap_audit.proofs.text.verdict_lines.Given as goal

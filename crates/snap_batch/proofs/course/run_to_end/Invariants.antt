@@ -1,5 +1,5 @@
--- `run_to_end` of snap_batch (src/course.rt): what holds at the head of each of its loops.
--- A program over a whole schedule.
+-- `run_to_end` of snap_batch (src/course.rt): what holds at the head of each of its loops. Runs `program` over the
+-- whole of `schedule`, and returns its course.
 use Rattle.std.specs.List.{flat_map}
 use Rattle.snap_sched.specs.Segments.{segment_items}
 use Rattle.snap_batch.proofs.Courses.{Going}

@@ -1,5 +1,5 @@
--- `keeps_promises` of snap_bounded (src/runs.rt): the proof of what its contract says.
--- What is promised of the run over a schedule.
+-- `keeps_promises` of snap_bounded (src/runs.rt): the proof of what its contract says. The run of B over a schedule
+-- keeps what is promised of it.
 use Rattle.snap_words.specs.declared.kind.KindTag.TheVariants as kind
 use Rattle.snap_record.proofs.Within.{run_fits}
 use Rattle.snap_runs_of_b.specs.ListingB.{listing_b}

@@ -1,9 +1,9 @@
--- `certification_over` of snap_certify (src/certification.rt): the proof of what its contract says.
--- The certification of the run of a program over a schedule.
+-- `certification_over` of snap_certify (src/certification.rt): the proof of what its contract says. Returns the
+-- certification of the run of a program over a schedule.
 use Rattle.std.proofs.Common.{ap, length, refl, sym, ◌∙◌}
 use Rattle.snap_runs.specs.Audit.{audit}
 use Rattle.snap_runs.specs.Run.{run_over}
-use Rattle.snap_certification.specs.Certification.{writes}
+use Rattle.snap_certify.specs.Certification.{writes}
 use Rattle.snap_audit.proofs.Watches.{whole_way}
 use Rattle.snap_certify.specs.Finding.{all_of, so_far}
 use Rattle.snap_certify.proofs.Worth.{lacks_nothing}

@@ -1,12 +1,12 @@
--- `certify` of snap_certify (src/certification.rt): the proof of what its contract says.
--- What a record is certified by, or the first thing that is missing: of the writes, in the order of the items, and
--- then of the points, in the order of the answers.
+-- `certify` of snap_certify (src/certification.rt): the proof of what its contract says. Returns what a record is
+-- certified by, or the first thing that is missing: of the writes, in the order of the items, and then of the points,
+-- in the order of the answers.
 use Rattle.std.proofs.Common.{◌≡◌}
 use Rattle.std.specs.Prelude.{IsOk, Ok}
 use Rattle.snap_runs.specs.Linearization.{IsLinearizable}
-use Rattle.snap_certification.specs.Certificate.{IsCertificate}
-use Rattle.snap_certification.specs.Certification.{Evidence, certificate_of, certification_of}
-use Rattle.snap_certification.specs.Certification.{seen_certification, write_line}
+use Rattle.snap_certify.specs.Certificate.{IsCertificate}
+use Rattle.snap_certify.specs.Certification.{Evidence, certificate_of, certification_of}
+use Rattle.snap_certify.specs.Certification.{seen_certification, write_line}
 use Rattle.snap_certify.proofs.Worth.{has_certificate, has_order, ok_then}
 use Rattle.snap_certify.proofs.certification.certify.Goals as goal
 

@@ -1,9 +1,9 @@
--- `conclude` of snap_certify (src/certification.rt): the proof of what its contract says.
--- The certification of a record.
+-- `conclude` of snap_certify (src/certification.rt): the proof of what its contract says. Returns the certification of
+-- a record.
 use Rattle.std.proofs.Common.{IfOk, ap, subst, ◌≡◌, ◌∙◌}
 use Rattle.snap_runs.specs.Run.{Run}
 use Rattle.snap_machine.specs.Configuration.{Configuration}
-use Rattle.snap_certification.specs.Certification.{certification_of, seen_certification}
+use Rattle.snap_certify.specs.Certification.{certification_of, seen_certification}
 use Rattle.snap_certify.proofs.Worth.{same_run}
 use Rattle.snap_certify.proofs.certification.conclude.Goals as goal
 

@@ -1,7 +1,7 @@
--- `points` of snap_certify (src/certification.rt): what holds at the head of each of its loops.
--- Whether each scan has its point.
+-- `points` of snap_certify (src/certification.rt): what holds at the head of each of its loops. Checks that each scan
+-- has its point.
 use Rattle.std.proofs.Common.{◌≡◌, drop}
-use Rattle.snap_certification.specs.Certification.{points}
+use Rattle.snap_certify.specs.Certification.{points}
 use Rattle.snap_certify.proofs.certification.points.Given as goal
 
 -- each scan so far has its point

@@ -1,7 +1,7 @@
--- `changed_line` of snap_certify (src/line.rt): the proof of what its contract says.
--- The line that the item executes which was passed last on the way, where it changes the values.
+-- `changed_line` of snap_certify (src/line.rt): the proof of what its contract says. Returns the line that the last
+-- passed item executes, if it changes the values, which were `past` before it.
 use Rattle.std.proofs.Common.{suc}
-use Rattle.snap_certification.specs.Certification.{seen_item}
+use Rattle.snap_certify.specs.Certification.{seen_item}
 use Rattle.snap_certify.proofs.Passing.{passed_still, unchanged}
 use Rattle.snap_certify.proofs.line.changed_line.Goals as goal
 

@@ -1,6 +1,5 @@
--- `find` of snap_certify (src/pass.rt): the proof of what its contract says.
--- What is found of the items of a program's run over a schedule, where updates write at a line; and what an audit has
--- to know of them.
+-- `find` of snap_certify (src/pass.rt): the proof of what its contract says. Returns what is found of the items of the
+-- run of `program` over `schedule`, where updates write at `line`; and what an audit has to know of them.
 use Rattle.std.proofs.Common.{ap, ◌∙◌}
 use Rattle.snap_runs.specs.Run.{run_over}
 use Rattle.snap_walk.specs.Walk.{Way}

@@ -1,5 +1,5 @@
--- `certify_run` of snap_certify (src/program.rt): the proof of what its contract says.
--- What the run of a program under a schedule is certified by, or what is missing, with the verdict on its record.
+-- `certify_run` of snap_certify (src/program.rt): the proof of what its contract says. Returns what the run of a
+-- program under a schedule is certified by.
 use Rattle.std.proofs.Common.{subst, ◌≡◌, ◌++◌}
 use Rattle.snap_judge.specs.declared.judgements.Judgement.{Judgement}
 use Rattle.snap_runs.specs.Run.{Run, run_over}

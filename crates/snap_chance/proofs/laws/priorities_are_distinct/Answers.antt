@@ -1,5 +1,5 @@
--- `priorities_are_distinct` of snap_chance (src/laws.rt): the proof of what its contract says.
--- Each process stands in the order once, whatever is drawn.
+-- `priorities_are_distinct` of snap_chance (src/laws.rt): the proof of what its contract says. Each process stands in
+-- the order of priorities once, whatever is drawn.
 use Rattle.snap_chance.proofs.Distinct.{distinct}
 use Rattle.snap_chance.proofs.laws.priorities_are_distinct.Goals as goal
 

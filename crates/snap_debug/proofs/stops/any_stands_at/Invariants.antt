@@ -1,5 +1,5 @@
--- `any_stands_at` of snap_debug (src/stops.rt): what holds at the head of each of its loops.
--- Whether it is at one of these.
+-- `any_stands_at` of snap_debug (src/stops.rt): what holds at the head of each of its loops. Returns whether process
+-- `i`, of this status, is at the line of one of `breaks`.
 use Rattle.std.proofs.Common.{◌≡◌, drop}
 use Rattle.std.specs.List.{list_any}
 use Rattle.snap_debug.specs.Stops.{stands_at}

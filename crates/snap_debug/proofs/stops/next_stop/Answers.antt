@@ -1,10 +1,10 @@
--- `next_stop` of snap_debug (src/stops.rt): the proof of what its contract says.
--- The first stop after a position, and the end where there is none.
+-- `next_stop` of snap_debug (src/stops.rt): the proof of what its contract says. Returns the first stop after a
+-- position, and the end if there is none.
 use Rattle.std.proofs.Common.{◌≡◌, ◌≤◌, ◌<◌, ◌+◌, ◌-◌, length, refl, ap, subst, sym, ◌∙◌, arith}
 use Rattle.std.specs.List.{list_any}
 use Rattle.snap_debug.specs.Marks.{next_stop}
 use Rattle.snap_debug.specs.Stops.{differs}
-use Rattle.snap_debug_checkpoints.specs.Recording.{IsCheckpoint}
+use Rattle.snap_debug.specs.Recording.{IsCheckpoint}
 use Rattle.snap_debug.proofs.Walks.{no_next, none_differs, walked}
 use Rattle.snap_debug.proofs.stops.next_stop.Goals as goal
 

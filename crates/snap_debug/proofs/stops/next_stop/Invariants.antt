@@ -1,10 +1,10 @@
--- `next_stop` of snap_debug (src/stops.rt): what holds at the head of each of its loops.
--- The first stop after a position, and the end where there is none.
+-- `next_stop` of snap_debug (src/stops.rt): what holds at the head of each of its loops. Returns the first stop after a
+-- position, and the end if there is none.
 use Rattle.std.proofs.Common.{◌≡◌, ◌≤◌, ◌-◌, false, length}
 use Rattle.std.specs.List.{list_any}
 use Rattle.snap_debug.specs.Marks.{next_stop}
 use Rattle.snap_debug.specs.Stops.{differs}
-use Rattle.snap_debug_checkpoints.specs.Recording.{IsCheckpoint}
+use Rattle.snap_debug.specs.Recording.{IsCheckpoint}
 use Rattle.snap_debug.proofs.stops.next_stop.Given as goal
 
 -- no stop was passed, and the watched registers are as they were

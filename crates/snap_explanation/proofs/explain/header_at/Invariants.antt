@@ -1,8 +1,8 @@
--- `header_at` of snap_explanation (src/explain.rt): what holds at the head of each of its loops.
--- Which header line is expected at this line.
+-- `header_at` of snap_explanation (src/explain.rt): what holds at the head of each of its loops. Returns which header
+-- line is expected at this line.
 use Rattle.std.proofs.Common.{◌≡◌, length}
 use Rattle.snap_explanation.specs.Explanation.{header_at}
-use Rattle.snap_expected.specs.declared.sorts.Header.TheVariants.{Kind}
+use Rattle.snap_explanation.specs.declared.line_sorts.Header.TheVariants.{Kind}
 use Rattle.snap_semantics.specs.Token.{text_lines}
 use Rattle.snap_explanation.proofs.explain.header_at.Given as goal
 

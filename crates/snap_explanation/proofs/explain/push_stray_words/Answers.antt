@@ -1,5 +1,5 @@
--- `push_stray_words` of snap_explanation (src/explain.rt): the proof of what its contract says.
--- Adds what is no token, and what is advised of it.
+-- `push_stray_words` of snap_explanation (src/explain.rt): the proof of what its contract says. Appends what is no
+-- token, and the advice on it.
 use Rattle.std.proofs.Common.{append_assoc, append-nil}
 use Rattle.snap_explanation.specs.Explanation.{stray_words}
 use Rattle.snap_explanation.proofs.explain.push_stray_words.Goals as goal

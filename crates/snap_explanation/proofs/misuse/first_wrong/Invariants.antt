@@ -1,7 +1,7 @@
--- `first_wrong` of snap_explanation (src/misuse.rt): what holds at the head of each of its loops.
--- The first token of a line with this instruction that is not right.
+-- `first_wrong` of snap_explanation (src/misuse.rt): what holds at the head of each of its loops. Returns the first
+-- token of a line with this instruction that is not right.
 use Rattle.std.proofs.Common.{◌≡◌, map, length}
-use Rattle.snap_expected.specs.Steps.{view_placed_token}
+use Rattle.snap_explanation.specs.Steps.{view_placed_token}
 use Rattle.snap_explanation.specs.Misuse.{first_wrong}
 use Rattle.snap_explanation.specs.Views.{view_names}
 use Rattle.snap_explanation.specs.declared.token_uses.Slot.TheVariants.{Value}

@@ -1,8 +1,8 @@
--- `plain_tokens` of snap_explanation (src/misuse.rt): what holds at the head of each of its loops.
--- Tokens without their columns.
+-- `plain_tokens` of snap_explanation (src/misuse.rt): what holds at the head of each of its loops. Returns the tokens
+-- without their columns.
 use Rattle.std.proofs.Common.{◌≡◌, ◌++◌, map, drop}
 use Rattle.snap_text.specs.Tokens.{view_token}
-use Rattle.snap_expected.specs.Steps.{view_placed_token}
+use Rattle.snap_explanation.specs.Steps.{view_placed_token}
 use Rattle.snap_explanation.specs.Names.{tokens_of_placed}
 use Rattle.snap_explanation.proofs.misuse.plain_tokens.Given as goal
 

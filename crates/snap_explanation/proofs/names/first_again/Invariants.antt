@@ -1,8 +1,8 @@
--- `first_again` of snap_explanation (src/names.rt): what holds at the head of each of its loops.
--- The first name that is one of these, or stands before.
+-- `first_again` of snap_explanation (src/names.rt): what holds at the head of each of its loops. Returns the first name
+-- of a header line that is one of `known`, or stands before in the line.
 use Rattle.std.proofs.Common.{◌≡◌, map, length}
 use Rattle.snap_explanation.specs.Names.{first_again}
-use Rattle.snap_expected.specs.Steps.{view_placed_token}
+use Rattle.snap_explanation.specs.Steps.{view_placed_token}
 use Rattle.snap_explanation.proofs.names.first_again.Given as goal
 
 abbrev pub invariant-loop-rest : goal.invariant-loop-rest

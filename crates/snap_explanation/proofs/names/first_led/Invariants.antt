@@ -1,8 +1,8 @@
--- `first_led` of snap_explanation (src/names.rt): what holds at the head of each of its loops.
--- The number of a line to which the word before it leads, where it is this one.
+-- `first_led` of snap_explanation (src/names.rt): what holds at the head of each of its loops. Returns the number of a
+-- line to which the word before it leads, if it is `number`.
 use Rattle.std.proofs.Common.{◌≡◌, map, length}
 use Rattle.snap_explanation.specs.Names.{first_led}
-use Rattle.snap_expected.specs.Steps.{view_placed_token}
+use Rattle.snap_explanation.specs.Steps.{view_placed_token}
 use Rattle.snap_explanation.proofs.names.first_led.Given as goal
 
 abbrev pub invariant-loop-rest : goal.invariant-loop-rest

@@ -1,5 +1,5 @@
--- `is_among` of snap_explanation (src/names.rt): what holds at the head of each of its loops.
--- Whether a word is one of these.
+-- `is_among` of snap_explanation (src/names.rt): what holds at the head of each of its loops. Returns whether a word is
+-- one of `words`.
 use Rattle.std.proofs.Common.{◌≡◌, map, length}
 use Rattle.snap_explanation.specs.Names.{is_among}
 use Rattle.snap_explanation.proofs.names.is_among.Given as goal

@@ -1,5 +1,5 @@
--- `nearest` of snap_explanation (src/names.rt): what holds at the head of each of its loops.
--- The first of these words that is one letter away and not reserved.
+-- `nearest` of snap_explanation (src/names.rt): what holds at the head of each of its loops. Returns the first of
+-- `words` that is one letter away and not reserved.
 use Rattle.std.proofs.Common.{◌≡◌, map, length}
 use Rattle.snap_explanation.specs.Names.{nearest}
 use Rattle.snap_explanation.proofs.names.nearest.Given as goal

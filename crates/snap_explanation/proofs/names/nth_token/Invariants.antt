@@ -1,8 +1,8 @@
--- `nth_token` of snap_explanation (src/names.rt): what holds at the head of each of its loops.
--- Token `index`, from 0.
+-- `nth_token` of snap_explanation (src/names.rt): what holds at the head of each of its loops. Returns token `index`,
+-- counted from 0; `None` where there are fewer.
 use Rattle.std.proofs.Common.{◌≡◌, map, length}
 use Rattle.snap_explanation.specs.Names.{nth_token}
-use Rattle.snap_expected.specs.Steps.{view_placed_token}
+use Rattle.snap_explanation.specs.Steps.{view_placed_token}
 use Rattle.snap_explanation.proofs.names.nth_token.Given as goal
 
 abbrev pub invariant-loop-rest : goal.invariant-loop-rest

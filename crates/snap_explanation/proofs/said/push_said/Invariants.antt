@@ -1,5 +1,5 @@
--- `push_said` of snap_explanation (src/said.rt): what holds at the head of each of its loops.
--- Adds pieces, one behind the other.
+-- `push_said` of snap_explanation (src/said.rt): what holds at the head of each of its loops. Appends pieces, one
+-- behind the other.
 use Rattle.std.proofs.Common.{drop}
 use Rattle.snap_explanation.specs.Said.{said}
 use Rattle.snap_explanation.proofs.Grown.{AddsBut}

@@ -1,5 +1,5 @@
--- `names_of` of snap_explanation (src/sorts.rt): what holds at the head of each of its loops.
--- The names of a sort among the words of header lines.
+-- `names_of` of snap_explanation (src/sorts.rt): what holds at the head of each of its loops. Returns the names of a
+-- sort among the words of header lines.
 use Rattle.std.proofs.Common.{◌≡◌, ◌++◌, None, map, length}
 use Rattle.snap_explanation.specs.Sorts.{names_of}
 use Rattle.snap_explanation.proofs.sorts.names_of.Given as goal

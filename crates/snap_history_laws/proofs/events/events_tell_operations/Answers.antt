@@ -1,6 +1,5 @@
--- `events_tell_operations` of snap_history_laws (src/events.rt): the proof of what its contract says.
--- The events of a run of any listing are the calls and the ends of its operations, and nothing that did not happen:
--- so what is proved of operations, as that they are linearizable, is said of the events that are printed.
+-- `events_tell_operations` of snap_history_laws (src/events.rt): the proof of what its contract says. The events of a
+-- run of any listing are the calls and the ends of its operations, and nothing that did not happen.
 use Rattle.snap_history_laws.proofs.events.Telling.{tells_operations}
 use Rattle.snap_history_laws.proofs.events.events_tell_operations.Goals as goal
 

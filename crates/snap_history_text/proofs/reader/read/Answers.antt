@@ -1,5 +1,5 @@
--- `read` of snap_history_text (src/reader.rt): the proof of what its contract says.
--- Reads a history.
+-- `read` of snap_history_text (src/reader.rt): the proof of what its contract says. Reads the history that `text`
+-- spells.
 use Rattle.snap_history_text.proofs.Follows.{whole_history}
 use Rattle.snap_history_text.proofs.reader.read.Goals as goal
 

@@ -1,10 +1,10 @@
--- `find_each` of snap_hunt (src/blocks.rt): the proof of what its contract says.
--- What fails in the runs of these numbers, whichever thread made each and when.
+-- `find_each` of snap_hunt (src/blocks.rt): the proof of what its contract says. Returns what fails in the runs of
+-- these numbers, whichever thread made each and when.
 use Rattle.std.proofs.Common.{◌∙◌, ap, ℕ}
 use Rattle.rayon.specs.Lists.{min_len_base}
 use Rattle.snap_runs.specs.Run.{Run}
-use Rattle.snap_failure.specs.Finding.{Finds}
-use Rattle.snap_failure.specs.declared.failures.Wanted.{Wanted}
+use Rattle.snap_hunt.specs.Finding.{Finds}
+use Rattle.snap_hunt.specs.declared.failures.Wanted.{Wanted}
 use Rattle.snap_hunt.specs.Hunt.{run_of}
 use Rattle.snap_hunt.proofs.Sides.{side_by_side}
 use Rattle.snap_hunt.proofs.blocks.find_each.Goals as goal

@@ -1,9 +1,9 @@
--- `numbers` of snap_hunt (src/blocks.rt): what holds at the head of each of its loops.
--- So many numbers, the first of which is this one.
+-- `numbers` of snap_hunt (src/blocks.rt): what holds at the head of each of its loops. Returns `count` numbers, the
+-- first of which is `from`.
 use Rattle.std.proofs.Common.{◌≡◌}
 use Rattle.std.specs.List.{range_with_len}
 use Rattle.snap_hunt.proofs.blocks.numbers.Given as goal
 
--- so many of them
+-- the numbers that are made so far
 abbrev pub invariant-loop-k : goal.invariant-loop-k
 invariant-loop-k l = l.numbers.items ≡ range_with_len l.from l.k

@@ -1,5 +1,5 @@
--- `may_have_all` of snap_hunt (src/draft.rt): what holds at the head of each of its loops.
--- Whether a schedule of a shape may have each of these items.
+-- `may_have_all` of snap_hunt (src/draft.rt): what holds at the head of each of its loops. Returns whether a schedule
+-- of `shape` may have each of `items`.
 use Rattle.std.proofs.Common.{take}
 use Rattle.std.specs.List.{AllByRecursion}
 use Rattle.snap_words.specs.Shape.{IsOneOf}
@@ -7,7 +7,7 @@ use Rattle.snap_semantics.specs.ScheduleText.{FitsItem}
 use Rattle.snap_semantics.specs.Table.{who}
 use Rattle.snap_hunt.proofs.draft.may_have_all.Given as goal
 
--- so far
+-- the items that are seen so far
 abbrev pub invariant-loop-item : goal.invariant-loop-item
 invariant-loop-item l = record {
   processes : AllByRecursion (λ x. IsOneOf l.shape.n (who x)) (take l.item-index l.items);

@@ -1,9 +1,9 @@
--- `in_block` of snap_hunt (src/hunt.rt): the proof of what its contract says.
--- The first of so many runs, from this one on, that fails.
+-- `in_block` of snap_hunt (src/hunt.rt): the proof of what its contract says. Returns the first of `count` runs, from
+-- `from` on, that fails.
 use Rattle.std.proofs.Common.{List, Option, subst, sym, ◌∙◌}
 use Rattle.std.specs.List.{AllZip}
-use Rattle.snap_failure.specs.Finding.{Finds}
-use Rattle.snap_failure.specs.declared.failures.Failure.{Failure}
+use Rattle.snap_hunt.specs.Finding.{Finds}
+use Rattle.snap_hunt.specs.declared.failures.Failure.{Failure}
 use Rattle.snap_hunt.specs.Hunt.{run_of}
 use Rattle.snap_hunt.proofs.Sides.{first_of_block}
 use Rattle.snap_hunt.proofs.hunt.in_block.Goals as goal

@@ -1,5 +1,5 @@
--- `turn_end` of snap_hunt (src/orders.rt): what holds at the head of each of its loops.
--- Where the items of one process that stand at a place end.
+-- `turn_end` of snap_hunt (src/orders.rt): what holds at the head of each of its loops. Returns where the items of one
+-- process that stand at a place end.
 use Rattle.std.proofs.Common.{◌≤◌, ◌-◌, length}
 use Rattle.snap_hunt.proofs.orders.turn_end.Given as goal
 

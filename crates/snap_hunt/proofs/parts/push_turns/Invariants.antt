@@ -1,5 +1,5 @@
--- `push_turns` of snap_hunt (src/parts.rt): what holds at the head of each of its loops.
--- Adds the segments of so many items of a process, which has so many.
+-- `push_turns` of snap_hunt (src/parts.rt): what holds at the head of each of its loops. Appends the segments of `size`
+-- items of a process, which has `turns` items.
 use Rattle.std.proofs.Common.{◌-◌}
 use Rattle.snap_hunt.proofs.parts.push_turns.Given as goal
 

@@ -1,5 +1,5 @@
--- `segments` of snap_hunt (src/parts.rt): what holds at the head of each of its loops.
--- The segments of so many items, one behind another.
+-- `segments` of snap_hunt (src/parts.rt): what holds at the head of each of its loops. Returns the segments of `size`
+-- items, one behind another.
 use Rattle.std.proofs.Common.{◌-◌, length}
 use Rattle.snap_hunt.proofs.parts.segments.Given as goal
 

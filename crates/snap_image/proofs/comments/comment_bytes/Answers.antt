@@ -1,8 +1,8 @@
--- `comment_bytes` of snap_image (src/comments.rt): the proof of what its contract says.
--- So many bytes of a comment.
+-- `comment_bytes` of snap_image (src/comments.rt): the proof of what its contract says. Reads `count` bytes of a
+-- comment.
 use Rattle.std.proofs.Common.{◌≡◌, ◌-◌, ◌+◌, List, ℕ, Err, ap, sym, ◌∙◌, arith}
 use Rattle.std.proofs.lemmas.Grind.{common_steps}
-use Rattle.snap_image_format.specs.ImageListing.{comment_bytes_in}
+use Rattle.snap_image.specs.ImageListing.{comment_bytes_in}
 use Rattle.snap_image.specs.DecoderSteps.{onto}
 use Rattle.snap_image.proofs.CommentBytes.{bytes_step, bytes_stop, bytes_end}
 use Rattle.snap_image.proofs.comments.comment_bytes.Goals as goal

@@ -1,7 +1,7 @@
--- `comment_bytes` of snap_image (src/comments.rt): what holds at the head of each of its loops.
--- So many bytes of a comment.
+-- `comment_bytes` of snap_image (src/comments.rt): what holds at the head of each of its loops. Reads `count` bytes of
+-- a comment.
 use Rattle.std.proofs.Common.{◌≡◌, ◌-◌}
-use Rattle.snap_image_format.specs.ImageListing.{comment_bytes_in}
+use Rattle.snap_image.specs.ImageListing.{comment_bytes_in}
 use Rattle.snap_image.specs.DecoderSteps.{onto}
 use Rattle.snap_image.proofs.comments.comment_bytes.Given as goal
 

@@ -1,6 +1,5 @@
--- `decode` of snap_image (src/decoder.rt): the proof of what its contract says.
--- The listing whose image these bytes are, with its comments, or the first reason why they are none: it is refused
--- exactly where no listing has this image in either version.
+-- `decode` of snap_image (src/decoder.rt): the proof of what its contract says. Decodes `image`, and returns the
+-- listing whose image it is, with its comments.
 use Rattle.snap_semantics.specs.declared.refusal.ImageRefusal.TheVariants.{NotAnImage, Version}
 use Rattle.snap_image.proofs.Exact.{only_images, every_image}
 use Rattle.snap_image.proofs.Opened.{unsigned, of_another_version}

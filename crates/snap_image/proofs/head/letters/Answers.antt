@@ -1,9 +1,8 @@
--- `letters` of snap_image (src/head.rt): the proof of what its contract says.
--- So many letters.
+-- `letters` of snap_image (src/head.rt): the proof of what its contract says. Reads a name of `count` letters.
 use Rattle.std.proofs.Common.{◌≡◌, ◌-◌, ◌+◌, ◌<◌, length, take, Ok, Err, sym, ap, ◌∙◌, ℕ, List, arith}
 use Rattle.std.proofs.lemmas.Grind.{common_steps}
 use Rattle.std.proofs.lemmas.List.{take_more_set}
-use Rattle.snap_image_format.specs.ImageListing.{letters_in}
+use Rattle.snap_image.specs.ImageListing.{letters_in}
 use Rattle.snap_image.specs.DecoderSteps.{onto}
 use Rattle.snap_image.proofs.Names.{letters_step, letters_stop, letters_bad, letters_end}
 use Rattle.snap_image.proofs.head.letters.Goals as goal

@@ -1,7 +1,6 @@
--- `letters` of snap_image (src/head.rt): what holds at the head of each of its loops.
--- So many letters.
+-- `letters` of snap_image (src/head.rt): what holds at the head of each of its loops. Reads a name of `count` letters.
 use Rattle.std.proofs.Common.{◌≡◌, ◌-◌, length, take}
-use Rattle.snap_image_format.specs.ImageListing.{letters_in}
+use Rattle.snap_image.specs.ImageListing.{letters_in}
 use Rattle.snap_image.specs.DecoderSteps.{onto}
 use Rattle.snap_image.proofs.head.letters.Given as goal
 

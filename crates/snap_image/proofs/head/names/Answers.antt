@@ -1,8 +1,7 @@
--- `names` of snap_image (src/head.rt): the proof of what its contract says.
--- So many names.
+-- `names` of snap_image (src/head.rt): the proof of what its contract says. Reads `count` names.
 use Rattle.std.proofs.Common.{◌≡◌, ◌≤◌, ◌<◌, ◌-◌, ◌++◌, length, Err, sym, ap, ◌∙◌, List, arith}
 use Rattle.std.proofs.lemmas.Grind.{common_steps}
-use Rattle.snap_image_format.specs.ImageListing.{names_in}
+use Rattle.snap_image.specs.ImageListing.{names_in}
 use Rattle.snap_semantics.specs.Source.{Name}
 use Rattle.snap_image.specs.Head.{known_names}
 use Rattle.snap_image.specs.DecoderSteps.{onto}

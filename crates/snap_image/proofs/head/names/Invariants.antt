@@ -1,7 +1,6 @@
--- `names` of snap_image (src/head.rt): what holds at the head of each of its loops.
--- So many names.
+-- `names` of snap_image (src/head.rt): what holds at the head of each of its loops. Reads `count` names.
 use Rattle.std.proofs.Common.{◌≡◌, ◌-◌, ◌++◌, length}
-use Rattle.snap_image_format.specs.ImageListing.{names_in}
+use Rattle.snap_image.specs.ImageListing.{names_in}
 use Rattle.snap_image.specs.Head.{known_names}
 use Rattle.snap_image.specs.DecoderSteps.{onto}
 use Rattle.snap_image.proofs.head.names.Given as goal

@@ -1,9 +1,8 @@
--- `lines` of snap_image (src/lines.rt): the proof of what its contract says.
--- So many lines, with their comments.
+-- `lines` of snap_image (src/lines.rt): the proof of what its contract says. Reads `count` lines, with their comments.
 use Rattle.std.proofs.Common.{sym, ◌∙◌, arith}
 use Rattle.std.proofs.lemmas.Grind.{common_steps}
 use Rattle.snap_semantics.specs.Answers.{IsRefusal}
-use Rattle.snap_image_format.specs.ImageListing.{lines_in}
+use Rattle.snap_image.specs.ImageListing.{lines_in}
 use Rattle.snap_listing_core.specs.Fields.{header_source}
 use Rattle.snap_image.specs.DecoderSteps.{listed}
 use Rattle.snap_image.proofs.LineSteps.{lines_step, fault_stops, lines_end}

@@ -1,7 +1,7 @@
--- `lines` of snap_image (src/lines.rt): what holds at the head of each of its loops.
--- So many lines, with their comments.
+-- `lines` of snap_image (src/lines.rt): what holds at the head of each of its loops. Reads `count` lines, with their
+-- comments.
 use Rattle.std.proofs.Common.{◌≡◌, ◌+◌, ◌-◌}
-use Rattle.snap_image_format.specs.ImageListing.{lines_in}
+use Rattle.snap_image.specs.ImageListing.{lines_in}
 use Rattle.snap_listing_core.specs.Fields.{header_source}
 use Rattle.snap_image.specs.DecoderSteps.{listed, onto_lines}
 use Rattle.snap_image.proofs.lines.lines.Given as goal

@@ -1,5 +1,5 @@
--- `schedules_for` of snap_input (src/in_turn.rt): what holds at the head of each of its loops.
--- Reads schedules whose shapes fit the kind of a program.
+-- `schedules_for` of snap_input (src/in_turn.rt): what holds at the head of each of its loops. Reads schedules whose
+-- shapes fit the kind of `program`.
 use Rattle.std.proofs.Common.{◌≡◌, List, ◌++◌, drop, map, Result, Ok}
 use Rattle.snap_semantics.specs.Answers.{◌>>=◌}
 use Rattle.snap_semantics.specs.Schedule.{Schedule}

@@ -1,5 +1,5 @@
--- `unwritten_edges` of snap_lint (src/edges.rt): what holds at the head of each of its loops.
--- Which line leads to which in an update that has written no word.
+-- `unwritten_edges` of snap_lint (src/edges.rt): what holds at the head of each of its loops. Returns the edges of an
+-- update that has written no word, where calls to the lines `silent` may come back without a write.
 use Rattle.std.proofs.Common.{◌≡◌, ◌++◌, drop}
 use Rattle.std.specs.List.{flat_map}
 use Rattle.snap_lint.specs.Flow.{unwritten_edges, unwritten_line_edges}

@@ -1,5 +1,5 @@
--- `reached` of snap_lint (src/marks.rt): what holds at the head of each of its loops.
--- The lines that are reached from these starts.
+-- `reached` of snap_lint (src/marks.rt): what holds at the head of each of its loops. Returns the lines that are
+-- reached from `starts` along `edges`.
 use Rattle.std.proofs.Common.{◌≡◌}
 use Rattle.snap_lint.specs.Marks.{marks_after}
 use Rattle.snap_lint.proofs.marks.reached.Given as goal

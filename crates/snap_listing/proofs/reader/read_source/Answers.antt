@@ -1,5 +1,5 @@
 -- `read_source`: the header and the lines that were read from a text make up a listing.
-use Rattle.snap_listing_grammar.proofs.SpelledLines.{lines_are_listing}
+use Rattle.snap_listing.proofs.SpelledLines.{lines_are_listing}
 use Rattle.snap_listing.proofs.reader.read_source.Goals as goal
 
 pub of-requires : goal.of-requires

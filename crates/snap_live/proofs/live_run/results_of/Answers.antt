@@ -1,5 +1,5 @@
--- `results_of` of snap_live (src/live_run.rt): the proof of what its contract says.
--- What the workers hand back, put together.
+-- `results_of` of snap_live (src/live_run.rt): the proof of what its contract says. Puts what the workers hand back
+-- together.
 use Rattle.std.proofs.Common.{◌∙◌, ap, sym, rules}
 use Rattle.snap_live.specs.Worker.{WorkedView}
 use Rattle.snap_live.specs.LiveRun.{then_first}

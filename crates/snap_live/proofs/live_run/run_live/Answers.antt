@@ -1,14 +1,13 @@
--- `run_live` of snap_live (src/live_run.rt): the proof of what its contract says.
--- Plays all scripts at once at a new desk, a worker in a thread for each process, and each with at most so many
--- turns, for each of which it asks the gate.
+-- `run_live` of snap_live (src/live_run.rt): the proof of what its contract says. Plays all scripts at once at a new
+-- desk, with a worker in a thread for each process.
 use Rattle.std.proofs.Common.{◌≡◌, ◌∙◌, List, ap, sym, subst}
 use Rattle.std.specs.Prelude.{All}
 use Rattle.snap_words.specs.Shape.{Counts}
 use Rattle.snap_semantics.specs.declared.fault.Fault.{Fault}
-use Rattle.snap_live_desk.specs.declared.seat_state.Setting.{Setting}
-use Rattle.snap_live_desk.specs.declared.refusal.LiveRefusal.{LiveRefusal}
+use Rattle.snap_live.specs.declared.seat_state.Setting.{Setting}
+use Rattle.snap_semantics.specs.declared.refusal.LiveRefusal.{LiveRefusal}
 use Rattle.snap_live.specs.LiveRun.{MayFault}
-use Rattle.snap_live_desk.specs.Shown.{DeskView, SeatView}
+use Rattle.snap_live.specs.Shown.{DeskView, SeatView}
 use Rattle.snap_live.proofs.Workers.{at_desk, nobody_missing, run_ends, run_faults}
 use Rattle.snap_live.proofs.live_run.run_live.Goals as goal
 

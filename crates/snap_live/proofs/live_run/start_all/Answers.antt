@@ -2,7 +2,7 @@
 -- Starts all workers.
 use Rattle.std.proofs.Common.{◌≡◌, ◌+◌, ◌-◌, ◌∙◌, ap, length, rules}
 use Rattle.snap_words.specs.Shape.{IsOneOf}
-use Rattle.snap_live_desk.specs.Shown.{SeatView, seat_of}
+use Rattle.snap_live.specs.Shown.{SeatView, seat_of}
 use Rattle.snap_live.specs.Script.{script_at}
 use Rattle.snap_live.proofs.Handles.{grows_as, maps_more, all_more}
 use Rattle.snap_live.proofs.live_run.start_all.Goals as goal

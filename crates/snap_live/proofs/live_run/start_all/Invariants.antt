@@ -4,7 +4,7 @@ use Rattle.std.proofs.Common.{◌≡◌, ◌-◌, length, map}
 use Rattle.std.specs.Prelude.{All}
 use Rattle.std.specs.Vec.Iter.{into_iter_items}
 use Rattle.snap_words.specs.Shape.{IsOneOf}
-use Rattle.snap_live_desk.specs.Shown.{seat_of}
+use Rattle.snap_live.specs.Shown.{seat_of}
 use Rattle.snap_live.specs.Script.{script_at}
 use Rattle.snap_live.proofs.live_run.start_all.Given as goal
 

@@ -1,5 +1,5 @@
--- `play_kind` of snap_live_output (src/played_text.rt): the proof of what its contract says.
--- Plays scripts over registers of a kind, and writes the history.
+-- `play_kind` of snap_live_output (src/played_text.rt): the proof of what its contract says. Plays scripts over
+-- registers of a kind, and returns the history as text.
 use Rattle.snap_live_output.proofs.Lives.{live_text}
 use Rattle.snap_live_output.proofs.played_text.play_kind.Goals as goal
 

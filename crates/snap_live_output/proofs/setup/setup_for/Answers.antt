@@ -1,5 +1,5 @@
--- `setup_for` of snap_live_output (src/setup.rt): the proof of what its contract says.
--- What the parts of an input say to play.
+-- `setup_for` of snap_live_output (src/setup.rt): the proof of what its contract says. Returns what the parts of an
+-- input say to play.
 use Rattle.std.proofs.Common.{map, sym}
 use Rattle.snap_input.specs.Parts.{parts_of}
 use Rattle.snap_input.proofs.Parting.{of_parts}

@@ -1,10 +1,10 @@
--- `call` of snap_machine (src/call.rt): the proof of what its contract says.
--- A call of process i.
+-- `call` of snap_machine (src/call.rt): the proof of what its contract says. Calls `op` at process `i`, which begins it
+-- or skips the call, and returns the outcome.
 use Rattle.std.proofs.Common.{◌≡◌, arith, slice_index_or, ◌-◌, None}
 use Rattle.std.proofs.lemmas.List.{get_or_default}
 use Rattle.snap_semantics.specs.Table.{call_skip}
 use Rattle.snap_machine.proofs.Steps.{called_is}
-use Rattle.snap_undo.proofs.States.{sized_at, sized_set}
+use Rattle.snap_machine.proofs.States.{sized_at, sized_set}
 use Rattle.snap_machine.proofs.call.call.Goals as goal
 
 pub returns-in-None-clause-done : goal.returns-in-None-clause-done

@@ -1,10 +1,10 @@
--- `crash` of snap_machine (src/call.rt): the proof of what its contract says.
--- A crash of process i.
+-- `crash` of snap_machine (src/call.rt): the proof of what its contract says. Crashes process `i`, and returns the
+-- outcome.
 use Rattle.std.proofs.Common.{arith, slice_index_or, ◌-◌, Some, None, refl}
 use Rattle.std.proofs.lemmas.List.{get_or_default}
 use Rattle.snap_semantics.specs.declared.process.Status.TheVariants.{Idle, Busy}
 use Rattle.snap_machine.proofs.Steps.{crashed_is}
-use Rattle.snap_undo.proofs.States.{sized_at, sized_set}
+use Rattle.snap_machine.proofs.States.{sized_at, sized_set}
 use Rattle.snap_machine.proofs.call.crash.Goals as goal
 
 pub returns-in-Busy-clause-done : goal.returns-in-Busy-clause-done

@@ -1,7 +1,7 @@
--- `copy_processes` of snap_machine (src/copies.rt): the proof of what its contract says.
--- Equal processes.
+-- `copy_processes` of snap_machine (src/copies.rt): the proof of what its contract says. Returns copies of the
+-- processes.
 use Rattle.std.proofs.Common.{map, ap, ◌∙◌}
-use Rattle.snap_values.specs.Seen.{seen_process}
+use Rattle.snap_machine.specs.SeenProcesses.{seen_process}
 use Rattle.snap_machine.proofs.Passed.{one_copied, all_passed}
 use Rattle.snap_machine.proofs.copies.copy_processes.Goals as goal
 

@@ -1,8 +1,8 @@
--- `copy_processes` of snap_machine (src/copies.rt): what holds at the head of each of its loops.
--- Equal processes.
+-- `copy_processes` of snap_machine (src/copies.rt): what holds at the head of each of its loops. Returns copies of the
+-- processes.
 use Rattle.std.proofs.Common.{◌≡◌, map, take}
 use Rattle.snap_semantics.specs.Source.{Source}
-use Rattle.snap_values.specs.Seen.{seen_process}
+use Rattle.snap_machine.specs.SeenProcesses.{seen_process}
 use Rattle.snap_machine.proofs.copies.copy_processes.Given as goal
 
 abbrev pub invariant-loop-process : goal.invariant-loop-process

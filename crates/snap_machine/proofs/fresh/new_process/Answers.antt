@@ -1,5 +1,5 @@
--- `new_process` of snap_machine (src/fresh.rt): the proof of what its contract says.
--- A process as it begins.
+-- `new_process` of snap_machine (src/fresh.rt): the proof of what its contract says. Returns a process in its initial
+-- state.
 use Rattle.std.proofs.Common.{List, length, replicate, refl, sym, ap, ◌∙◌}
 use Rattle.snap_words.specs.Kind.{initial_word}
 use Rattle.snap_words.specs.Shape.{places}

@@ -1,8 +1,8 @@
--- `new_processes` of snap_machine (src/fresh.rt): what holds at the head of each of its loops.
--- Processes as they begin.
+-- `new_processes` of snap_machine (src/fresh.rt): what holds at the head of each of its loops. Returns the processes of
+-- `shape` in their initial states.
 use Rattle.std.proofs.Common.{◌≡◌, map, replicate}
 use Rattle.snap_semantics.specs.State.{initial_process}
-use Rattle.snap_values.specs.Seen.{seen_process}
+use Rattle.snap_machine.specs.SeenProcesses.{seen_process}
 use Rattle.snap_machine.proofs.fresh.new_processes.Given as goal
 
 abbrev pub invariant-loop-k : goal.invariant-loop-k

@@ -1,5 +1,5 @@
--- `new_word_rows` of snap_machine (src/fresh.rt): what holds at the head of each of its loops.
--- `words` locals as they begin.
+-- `new_word_rows` of snap_machine (src/fresh.rt): what holds at the head of each of its loops. Returns `count` `words`
+-- locals in their initial state.
 use Rattle.std.proofs.Common.{◌≡◌, map, replicate}
 use Rattle.snap_words.specs.Kind.{initial_word}
 use Rattle.snap_words.specs.Shape.{places}

@@ -1,5 +1,5 @@
--- `push_answers` of snap_output (src/debug_output.rt): what holds at the head of each of its loops.
--- Commands, each with what a session answers to it.
+-- `push_answers` of snap_output (src/debug_output.rt): what holds at the head of each of its loops. Appends commands,
+-- each with the reply of a session.
 use Rattle.std.proofs.Common.{◌≡◌, ◌++◌, drop}
 use Rattle.snap_debug.specs.Session.{after_commands, replies_text}
 use Rattle.snap_output.proofs.debug_output.push_answers.Given as goal

@@ -1,5 +1,5 @@
--- `output_alone` of snap_output (src/outputs.rt): the proof of what its contract says.
--- The whole output for an input, or why there is none, in one thread.
+-- `output_alone` of snap_output (src/outputs.rt): the proof of what its contract says. Returns the whole output for
+-- `input`, made in one thread.
 use Rattle.std.proofs.Common.{rules, ◌≤◌, length, refl}
 use Rattle.snap_input.specs.Parts.{max_input}
 use Rattle.snap_tasks.specs.declared.task.Task.TheVariants as task

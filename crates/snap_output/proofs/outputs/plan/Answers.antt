@@ -1,15 +1,15 @@
--- `plan` of snap_output (src/outputs.rt): the proof of what its contract says.
--- The program and the schedule that a listing and a text are.
+-- `plan` of snap_output (src/outputs.rt): the proof of what its contract says. Returns the program of a listing and the
+-- schedule of a text.
 use Rattle.std.proofs.Common.{ℕ, List, Result, subst}
 use Rattle.snap_semantics.specs.Answers.{Answers}
 use Rattle.snap_semantics.specs.declared.refusal.Refusal.{Refusal}
 use Rattle.snap_input.specs.Parts.{parts_of}
-use Rattle.snap_run_output.specs.RunOutput.{end_text}
+use Rattle.snap_output.specs.RunOutput.{end_text}
 use Rattle.snap_output.proofs.Ended.{as_performed}
 use Rattle.snap_output.proofs.outputs.plan.Goals as goal
 
 pub returns-clause-output : goal.returns-clause-output
 returns-clause-output c =
     subst
-    (λ (answer : Result (List ℕ) Refusal). Answers (λ run. end_text run.program run.schedule) c.planned_run.result answer)
-    (as_performed c.args.subject (parts_of c.args.input.now)) c.planned_run.ensures.output
+    (λ (answer : Result (List ℕ) Refusal). Answers (λ run. end_text run.program run.schedule) c.plan_input.result answer)
+    (as_performed c.args.subject (parts_of c.args.input.now)) c.plan_input.ensures.output

@@ -1,10 +1,10 @@
--- `count` of snap_picture (src/sought.rt): what holds at the head of each of its loops.
--- How many shapes are what is counted.
+-- `count` of snap_picture (src/sought.rt): what holds at the head of each of its loops. Returns how many shapes are
+-- ones that are counted.
 use Rattle.std.proofs.Common.{◌≡◌, ◌+◌, ◌≤◌, drop}
 use Rattle.snap_picture.specs.Picture.{counted}
 use Rattle.snap_picture.proofs.sought.count.Given as goal
 
--- those that were counted, and those that are left
+-- the shapes that were counted, and those that are left
 abbrev pub invariant-loop-shape : goal.invariant-loop-shape
 invariant-loop-shape l =
     (l.found + counted l.sought (drop l.shape-index l.shapes) ≡ counted l.sought l.shapes) × (l.found ≤ l.shape-index)

@@ -1,5 +1,5 @@
--- `push_steps` of snap_picture (src/steps.rt): what holds at the head of each of its loops.
--- Adds what is drawn of all steps.
+-- `push_steps` of snap_picture (src/steps.rt): what holds at the head of each of its loops. Appends what is drawn of
+-- all steps.
 use Rattle.std.proofs.Common.{◌≡◌, ◌++◌}
 use Rattle.snap_picture.specs.Shapes.{shapes_to}
 use Rattle.snap_picture.proofs.steps.push_steps.Given as goal

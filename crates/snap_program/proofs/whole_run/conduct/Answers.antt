@@ -1,5 +1,5 @@
--- `conduct` of snap_program (src/whole_run.rt): the proof of what its contract says.
--- Reads the input, and then writes its whole output and nothing else.
+-- `conduct` of snap_program (src/whole_run.rt): the proof of what its contract says. Reads the input from `source`, and
+-- then writes its whole output to `sink` and nothing else.
 use Rattle.snap_program.proofs.whole_run.conduct.Goals as goal
 
 pub returns : goal.returns

@@ -1,8 +1,8 @@
--- `conduct_keeping` of snap_program (src/whole_run.rt): the proof of what its contract says.
--- Does the same, and keeps the input: where it is refused, it was kept.
+-- `conduct_keeping` of snap_program (src/whole_run.rt): the proof of what its contract says. Does what `conduct` does,
+-- and keeps the input in `kept`, even if it is refused.
 use Rattle.std.proofs.Common.{Err, ap, refl}
 use Rattle.snap_faults.specs.Faults.{of_input_fault}
-use Rattle.snap_devices.proofs.Runs.{need_not_keep, not_read, refused, sends, still_kept}
+use Rattle.snap_program.proofs.Runs.{need_not_keep, not_read, refused, sends, still_kept}
 use Rattle.snap_program.specs.TaskRun.{IsOutputOf, RefusesTask}
 use Rattle.snap_program.proofs.Refused.{why_task}
 use Rattle.snap_program.proofs.whole_run.conduct_keeping.Goals as goal

@@ -1,12 +1,12 @@
--- `conduct_survey` of snap_program (src/whole_run.rt): the proof of what its contract says.
--- Reads the input, writes its survey and nothing else, and answers whether all of its runs are clean.
+-- `conduct_survey` of snap_program (src/whole_run.rt): the proof of what its contract says. Reads the input from
+-- `source`, writes its survey to `sink` and nothing else, and returns whether all of its runs are clean.
 use Rattle.std.specs.Prelude.{◌≡◌, Ok}
 use Rattle.snap_output.specs.Output.{clean_of}
 use Rattle.snap_tasks.specs.declared.task.Task.TheVariants.{Survey}
-use Rattle.snap_devices.specs.WholeRun.{done_of}
+use Rattle.snap_program.specs.WholeRun.{done_of}
 use Rattle.snap_faults.specs.Faults.{of_input_fault}
 use Rattle.snap_program.specs.TaskRun.{IsSurveyOf, RefusesTask}
-use Rattle.snap_devices.proofs.Runs.{is_kept, not_read, nothing_found, passed_on, refused, sends, stops}
+use Rattle.snap_program.proofs.Runs.{is_kept, not_read, nothing_found, passed_on, refused, sends, stops}
 use Rattle.snap_program.proofs.Refused.{why_task}
 use Rattle.snap_program.proofs.whole_run.conduct_survey.Goals as goal
 

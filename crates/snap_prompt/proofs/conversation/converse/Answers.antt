@@ -1,11 +1,12 @@
--- `converse` of snap_prompt (src/conversation.rt): the proof of what its contract says.
--- Talks at a console about a program under a schedule.
+-- `converse` of snap_prompt (src/conversation.rt): the proof of what its contract says. Talks at `console` about
+-- `program` under `schedule`, from the position before its first item, to `quit` or the end of the input: each line is
+-- answered before the next prompt, and what is shown is a transcript of the lines.
 use Rattle.std.proofs.Common.{ℕ, List, Option, IfSome}
-use Rattle.snap_dialog.specs.Dialog.{IsBrokenOff, ShowsTranscriptPart}
-use Rattle.snap_dialog.specs.Event.{Event}
-use Rattle.snap_dialog.specs.TypedLines.{typed_lines}
-use Rattle.snap_dialog.proofs.Dialogs.{passed_first, shown_first}
-use Rattle.snap_dialog.proofs.Parts.{between_turns, on_err, shown_between}
+use Rattle.snap_streams.specs.Dialog.{IsBrokenOff, ShowsTranscriptPart}
+use Rattle.snap_streams.specs.Event.{Event}
+use Rattle.snap_streams.specs.TypedLines.{typed_lines}
+use Rattle.snap_streams.proofs.Dialogs.{passed_first, shown_first}
+use Rattle.snap_streams.proofs.Parts.{between_turns, on_err, shown_between}
 use Rattle.snap_runs.specs.Run.{run_over}
 use Rattle.snap_prompt.specs.Prompt.{Prompt, Says, next_line, opened_prompt, prompt_text}
 use Rattle.snap_prompt.proofs.conversation.converse.Goals as goal

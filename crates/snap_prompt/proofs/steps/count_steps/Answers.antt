@@ -1,5 +1,5 @@
--- `count_steps` of snap_prompt (src/steps.rt): the proof of what its contract says.
--- Lets a process step to a goal, and tells how many steps it took, at most this many.
+-- `count_steps` of snap_prompt (src/steps.rt): the proof of what its contract says. Lets a process step to a goal, and
+-- returns how many steps it took, at most `most`.
 use Rattle.std.proofs.Common.{◌∙◌, true, false, arith}
 use Rattle.snap_semantics.specs.State.{process_at}
 use Rattle.snap_prompt.specs.Reach.{steps_from}

@@ -1,5 +1,5 @@
--- `word_lines` of snap_report (src/register_text.rt): what holds at the head of each of its loops.
--- The lines of the words, from r[1] on.
+-- `word_lines` of snap_report (src/register_text.rt): what holds at the head of each of its loops. Appends the lines of
+-- the words, from r[1] on.
 use Rattle.std.proofs.Common.{◌≡◌, ◌++◌, ◌+◌, drop}
 use Rattle.snap_semantics.specs.Report.{word_lines}
 use Rattle.snap_report.proofs.register_text.word_lines.Given as goal

@@ -1,5 +1,5 @@
--- `judge_history` of snap_run_judge (src/judging.rt): the proof of what its contract says.
--- Judges whether the run of a program is linearizable of which this is the history.
+-- `judge_history` of snap_run_judge (src/judging.rt): the proof of what its contract says. Judges whether the run of
+-- `program` that has the history `history` is linearizable, and if it is not, at which event it fails.
 use Rattle.std.proofs.Common.{ℕ, ◌∙◌, subst, sym}
 use Rattle.snap_semantics.specs.IsListing.{IsListing}
 use Rattle.snap_judge.specs.History.{History, IsHistory}

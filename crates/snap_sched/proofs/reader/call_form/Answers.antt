@@ -1,5 +1,4 @@
--- `call_form` of snap_sched (src/reader.rt): the proof of what its contract says.
--- The form that a call is.
+-- `call_form` of snap_sched (src/reader.rt): the proof of what its contract says. Returns the form of a call.
 use Rattle.snap_sched.proofs.Again.{call_again}
 use Rattle.snap_sched.proofs.reader.call_form.Goals as goal
 

@@ -1,5 +1,5 @@
--- `survey_in_threads` of snap_survey (src/in_threads.rt): the proof of what its contract says.
--- The same, with the schedules read and run side by side.
+-- `survey_in_threads` of snap_survey (src/in_threads.rt): the proof of what its contract says. Returns what the runs of
+-- a listing under many schedules came to, and whether each of them is clean.
 use Rattle.std.proofs.Common.{map, sym}
 use Rattle.snap_input.specs.Parts.{parts_of}
 use Rattle.snap_survey.proofs.Judging.{of_input}

@@ -1,5 +1,5 @@
--- `note` of snap_survey (src/surveyed.rt): the proof of what its contract says.
--- Notes in a tally the item that was passed last.
+-- `note` of snap_survey (src/surveyed.rt): the proof of what its contract says. Notes the item that was passed last in
+-- a tally.
 use Rattle.std.proofs.Common.{ap, ◌∙◌}
 use Rattle.snap_semantics.specs.State.{State, process_at}
 use Rattle.snap_semantics.specs.Table.{who}

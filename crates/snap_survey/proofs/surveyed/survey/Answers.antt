@@ -1,5 +1,5 @@
--- `survey` of snap_survey (src/surveyed.rt): the proof of what its contract says.
--- What the run of a program over a schedule came to, and whether it is linearizable.
+-- `survey` of snap_survey (src/surveyed.rt): the proof of what its contract says. Returns what the run of `program`
+-- over `schedule` came to, and whether it is linearizable.
 use Rattle.std.proofs.Common.{◌≡◌, IfOk, ap, length, sym, subst, ◌∙◌}
 use Rattle.snap_runs.specs.Run.{Run}
 use Rattle.snap_walk.specs.Walk.{Way}

@@ -1,5 +1,5 @@
--- `surveys_alone` of snap_survey (src/surveys.rt): the proof of what its contract says.
--- What the run over each of these schedules came to, in the order of the schedules.
+-- `surveys_alone` of snap_survey (src/surveys.rt): the proof of what its contract says. Returns what the run over each
+-- of `schedules` came to, in their order.
 use Rattle.std.proofs.Common.{List, ◌+◌, arith, subst, sym, take}
 use Rattle.std.proofs.lemmas.List.{take_all}
 use Rattle.snap_semantics.specs.Schedule.{Schedule}

@@ -1,6 +1,5 @@
--- `call_front` of snap_text (src/calls.rt): the proof of what its contract says.
--- The process and the operation of the call that the first line is, where it has its line feed, and the lines behind
--- it.
+-- `call_front` of snap_text (src/calls.rt): the proof of what its contract says. Reads the first line, if it is a call
+-- with its line feed: its process, its operation, and the lines behind it.
 use Rattle.snap_text.proofs.CallLines.{call_begins}
 use Rattle.snap_text.proofs.calls.call_front.Goals as goal
 

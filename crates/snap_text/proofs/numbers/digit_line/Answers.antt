@@ -1,5 +1,5 @@
--- `digit_line` of snap_text (src/numbers.rt): the proof of what its contract says.
--- The number that the first line is, where it is one digit and its line feed, and the lines behind it.
+-- `digit_line` of snap_text (src/numbers.rt): the proof of what its contract says. Reads the first line if it is one
+-- digit and its line feed, and returns the lines behind it too.
 use Rattle.std.proofs.Common.{sym, ◌∙◌}
 use Rattle.snap_text.proofs.Digits.{digit_alone}
 use Rattle.snap_text.proofs.numbers.digit_line.Goals as goal

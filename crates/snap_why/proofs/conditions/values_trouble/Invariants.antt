@@ -1,5 +1,5 @@
--- `values_trouble` of snap_why (src/conditions.rt): what holds at the head of each of its loops.
--- The first of so many places whose new value traps.
+-- `values_trouble` of snap_why (src/conditions.rt): what holds at the head of each of its loops. Returns the trouble at
+-- the first of `count` places whose new value traps.
 use Rattle.std.proofs.Common.{◌≡◌, ◌+◌}
 use Rattle.snap_why.specs.Troubles.{values_trouble}
 use Rattle.snap_why.proofs.conditions.values_trouble.Given as goal

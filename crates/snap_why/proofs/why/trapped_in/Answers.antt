@@ -1,5 +1,5 @@
--- `trapped_in` of snap_why (src/why.rt): the proof of what its contract says.
--- The process that traps at an item of a schedule, which is one.
+-- `trapped_in` of snap_why (src/why.rt): the proof of what its contract says. Returns the process that traps at an item
+-- of `schedule`, which has such an item.
 use Rattle.snap_why.proofs.Traces.{all_of}
 use Rattle.snap_why.proofs.why.trapped_in.Goals as goal
 

@@ -1,5 +1,5 @@
--- `copy_views` of snap_words (src/copies.rt): what holds at the head of each of its loops.
--- Equal views.
+-- `copy_views` of snap_words (src/copies.rt): what holds at the head of each of its loops. Returns copies of `views`,
+-- in their order.
 use Rattle.std.proofs.Common.{◌≡◌, take}
 use Rattle.snap_words.proofs.copies.copy_views.Given as goal
 

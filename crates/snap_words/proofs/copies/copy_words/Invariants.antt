@@ -1,5 +1,5 @@
--- `copy_words` of snap_words (src/copies.rt): what holds at the head of each of its loops.
--- Equal words.
+-- `copy_words` of snap_words (src/copies.rt): what holds at the head of each of its loops. Returns copies of `words`,
+-- in their order.
 use Rattle.std.proofs.Common.{◌≡◌, take}
 use Rattle.snap_words.proofs.copies.copy_words.Given as goal
 

@@ -1,10 +1,11 @@
--- `talk_about` of snapdb (src/about.rt): the proof of what its contract says.
+-- `talk_about` of snapdb (src/about.rt): the proof of what its contract says. Talks at `console` about `program` under
+-- `schedule`.
 use Rattle.std.proofs.Common.{ℕ, List, Option, Result, Ok, Err, IfSome}
 use Rattle.std.specs.Prelude.{OnErr}
-use Rattle.snap_dialog.specs.Dialog.{ShowsTranscriptPart}
-use Rattle.snap_dialog.specs.TypedLines.{typed_lines}
-use Rattle.snap_dialog.proofs.Dialogs.{shown_first}
-use Rattle.snap_dialog.proofs.Parts.{shown_between}
+use Rattle.snap_streams.specs.Dialog.{ShowsTranscriptPart}
+use Rattle.snap_streams.specs.TypedLines.{typed_lines}
+use Rattle.snap_streams.proofs.Dialogs.{shown_first}
+use Rattle.snap_streams.proofs.Parts.{shown_between}
 use Rattle.snap_runs.specs.Run.{run_over}
 use Rattle.snap_prompt.specs.Prompt.{Prompt, Says, next_line, opened_prompt, prompt_text}
 use Rattle.snap_faults.specs.declared.fault.ProgramFault.{ProgramFault}

@@ -1,4 +1,5 @@
--- `talk_over` of snapdb (src/answers.rt): the proof of what its contract says.
+-- `talk_over` of snapdb (src/answers.rt): the proof of what its contract says. Talks about the listing of one text,
+-- under the schedule of another.
 use Rattle.std.proofs.Common.{inl, inr, ap, sym, ◌∙◌}
 use Rattle.snapdb.specs.Talk.{listing_in}
 use Rattle.snapdb.proofs.Talked.{talked, unlisted}

@@ -1,4 +1,5 @@
--- `draw_and_write` of snapdraw (src/answers.rt): the proof of what its contract says.
+-- `draw_and_write` of snapdraw (src/answers.rt): the proof of what its contract says. Draws, and writes what is drawn
+-- and nothing else.
 use Rattle.snapdraw.specs.Answer.{Draws}
 use Rattle.snap_named_files.specs.Texts.{view_texts}
 use Rattle.snapdraw.specs.Drawing.{options_of}

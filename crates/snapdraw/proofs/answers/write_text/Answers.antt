@@ -1,4 +1,4 @@
--- `write_text` of snapdraw (src/answers.rt): the proof of what its contract says.
+-- `write_text` of snapdraw (src/answers.rt): the proof of what its contract says. Writes a text.
 use Rattle.std.proofs.Common.{refl}
 use Rattle.snapdraw.proofs.answers.write_text.Goals as goal
 

@@ -1,5 +1,5 @@
--- `explain` of snaphunt (src/answers.rt): the proof of what its contract says.
--- Says why nothing, or not all, was printed, and explains it where that is asked for and there is memory for it.
+-- `explain` of snaphunt (src/answers.rt): the proof of what its contract says. Says why nothing, or not all, was
+-- printed, explains it if that is wanted and there is memory for it, and returns the status.
 use Rattle.std.proofs.Common.{ℕ, List, inr, ◌∙◌, subst}
 use Rattle.snap_faults.specs.Names.{Names, view_names}
 use Rattle.snap_faults.specs.Told.{Tells, TellsMore}
@@ -18,7 +18,7 @@ returns-in-Ok-clause-says g c =
     TellsMore (view_names c.names_of-names.result) c.args.fault.now more errors errors_after)
     (c.as_slice.ensures.value ∙ c.in-Ok.ensures) c.tell.ensures.says)
 
--- or the fault alone
+-- what is said is the explanation, or the fault alone
 pub returns-in-Err-clause-says : goal.returns-in-Err-clause-says
 returns-in-Err-clause-says g c =
     inr (subst (λ (n : Names). Tells n c.args.fault.now (g.E.ByteSink.state c.args.errors.now)

@@ -1,6 +1,7 @@
--- `hunt` of snaphunt (src/answers.rt): the proof of what its contract says.
+-- `hunt` of snaphunt (src/answers.rt): the proof of what its contract says. Hunts, says why if nothing, or not all, was
+-- printed, and returns the status.
 use Rattle.std.proofs.Common.{Err, []}
-use Rattle.snaphunt_command_line.specs.Search.{view_listed}
+use Rattle.snaphunt.specs.Search.{view_listed}
 use Rattle.snaphunt.proofs.Searches.{no_text}
 use Rattle.snaphunt.proofs.answers.hunt.Goals as goal
 

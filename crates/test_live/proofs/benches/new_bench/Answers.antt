@@ -3,7 +3,7 @@
 use Rattle.std.proofs.Common.{◌≡◌, ℕ, zero, suc, List, arith, refl, sym, subst}
 use Rattle.std.specs.Prelude.{All}
 use Rattle.std.proofs.lemmas.List.Elements.{All-push}
-use Rattle.snap_live_desk.specs.Shown.{DeskView, SeatView, seat_of, seats_of}
+use Rattle.snap_live.specs.Shown.{DeskView, SeatView, seat_of, seats_of}
 use Rattle.test_live.proofs.benches.new_bench.Goals as goal
 
 -- the new seats of a desk are of that desk

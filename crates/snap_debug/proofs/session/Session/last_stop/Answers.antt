@@ -1,5 +1,5 @@
--- `Session::last_stop` of snap_debug (src/session.rt): the proof of what its contract says.
--- The last stop before the position, and 0 where there is none.
+-- `Session::last_stop` of snap_debug (src/session.rt): the proof of what its contract says. Returns the last stop
+-- before the position, and 0 if there is none.
 use Rattle.std.proofs.Common.{◌≤◌, length, subst, sym}
 use Rattle.std.specs.Prelude.{IfOk}
 use Rattle.snap_debug.specs.Session.{Session}

@@ -1,8 +1,8 @@
--- `Machine::apply` of snap_machine (src/machine.rt): the proof of what its contract says.
--- One item of a schedule.
+-- `Machine::apply` of snap_machine (src/machine.rt): the proof of what its contract says. Does one item of a schedule,
+-- and returns its outcome.
 use Rattle.std.proofs.Common.{rules, ◌≡◌, length, map, refl, ap, subst, ◌∙◌}
-use Rattle.snap_values.specs.Seen.{seen_process}
-use Rattle.snap_line_effects.specs.Sizes.{AllSized}
+use Rattle.snap_machine.specs.SeenProcesses.{seen_process}
+use Rattle.snap_machine.specs.Sizes.{AllSized}
 use Rattle.snap_machine.proofs.Configurations.{stands_after}
 use Rattle.snap_machine.proofs.machine.Machine.apply.Goals as goal
 

@@ -1,8 +1,7 @@
--- `Machine::copy` of snap_machine (src/machine.rt): the proof of what its contract says.
--- An equal machine.
+-- `Machine::copy` of snap_machine (src/machine.rt): the proof of what its contract says. Returns a copy of the machine.
 use Rattle.std.proofs.Common.{map, ap, ◌∙◌}
 use Rattle.snap_regs.specs.Store.{Store}
-use Rattle.snap_values.specs.Seen.{seen_process}
+use Rattle.snap_machine.specs.SeenProcesses.{seen_process}
 use Rattle.snap_machine.proofs.Configurations.{stands_copy}
 use Rattle.snap_machine.proofs.machine.Machine.copy.Goals as goal
 

@@ -1,12 +1,12 @@
--- `Machine::new` of snap_machine (src/machine.rt): the proof of what its contract says.
--- A machine in the initial state.
+-- `Machine::new` of snap_machine (src/machine.rt): the proof of what its contract says. Returns a machine in the
+-- initial state.
 use Rattle.std.proofs.Common.{◌≡◌, map, replicate, sym, subst}
 use Rattle.std.proofs.lemmas.List.Elements.{All-replicate}
 use Rattle.snap_semantics.specs.State.{Process, initial_process}
-use Rattle.snap_values.specs.Seen.{seen_process}
-use Rattle.snap_line_effects.specs.Sizes.{AllSized, AreSized}
+use Rattle.snap_machine.specs.SeenProcesses.{seen_process}
+use Rattle.snap_machine.specs.Sizes.{AllSized, AreSized}
 use Rattle.snap_machine.proofs.Replicas.{length_of_map}
-use Rattle.snap_line_effects.proofs.Sizes.{AreSized-initial}
+use Rattle.snap_machine.proofs.Sizes.{AreSized-initial}
 use Rattle.snap_machine.proofs.machine.Machine.new.Goals as goal
 
 pub invariant_of-result : goal.invariant_of-result

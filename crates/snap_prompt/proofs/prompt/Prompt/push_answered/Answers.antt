@@ -1,11 +1,11 @@
--- `Prompt::push_answered` of snap_prompt (src/prompt.rt): the proof of what its contract says.
--- Adds what is answered to a line, and tells whether the dialog goes on.
+-- `Prompt::push_answered` of snap_prompt (src/prompt.rt): the proof of what its contract says. Appends an answer to a
+-- line, and returns whether the dialog goes on.
 use Rattle.std.proofs.Common.{◌≡◌, ℕ, List, Err, subst}
 use Rattle.snap_semantics.specs.Answers.{IsRefusal}
 use Rattle.snap_semantics.specs.declared.fault.Fault.{Fault}
 use Rattle.snap_semantics.specs.declared.fault.Fault.TheVariants.{Refused}
 use Rattle.snap_semantics.specs.declared.refusal.CommandRefusal.{CommandRefusal}
-use Rattle.snap_prompt_lines.specs.Ask.{ask_of}
+use Rattle.snap_prompt.specs.Ask.{ask_of}
 use Rattle.snap_prompt.proofs.Added.{asked_is_said, none_named, on_ok}
 use Rattle.snap_prompt.proofs.prompt.Prompt.push_answered.Goals as goal
 

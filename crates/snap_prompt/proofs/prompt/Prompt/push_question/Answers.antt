@@ -1,5 +1,5 @@
--- `Prompt::push_question` of snap_prompt (src/prompt.rt): the proof of what its contract says.
--- Adds what is asked before items go.
+-- `Prompt::push_question` of snap_prompt (src/prompt.rt): the proof of what its contract says. Appends the question
+-- before items are dropped.
 use Rattle.std.proofs.Common.{◌≡◌, ◌++◌, OnOk, codes, ℕ, ◌-◌, List, ◌∙◌, append_assoc, length, ap, refl, subst}
 use Rattle.std.specs.Prelude.{decimal}
 use Rattle.snap_debug.specs.Session.{Session, total}

@@ -1,5 +1,5 @@
--- `Registers::new` of snap_regs (src/registers.rt): the proof of what its contract says.
--- The registers of this shape, nobody having written any.
+-- `Registers::new` of snap_regs (src/registers.rt): the proof of what its contract says. Returns the registers of this
+-- shape, none of them written.
 use Rattle.std.proofs.Common.{◌≡◌, ◌∙◌, map, replicate}
 use Rattle.snap_words.specs.declared.address.Bank.TheVariants as bank
 use Rattle.snap_regs.specs.Store.{rows_in}

@@ -1,5 +1,5 @@
--- `Handshakes::get` of snap_words (src/handshakes.rt): the proof of what its contract says.
--- The handshake bit at a place, counted from 0.
+-- `Handshakes::get` of snap_words (src/handshakes.rt): the proof of what its contract says. Returns the handshake bit
+-- at `place`, counted from 0; `None` where there is none.
 use Rattle.std.proofs.Common.{◌∙◌, ℕ, List, ap, arith}
 use Rattle.std.specs.List.{slice_get}
 use Rattle.snap_words.proofs.Masks.{bit_in_mask, no_bit_past}

@@ -1,7 +1,7 @@
 -- `fn::run_all::scope` of snap_live (src/live_run.rt): the proof of what its contract says.
 use Rattle.std.proofs.Common.{◌≡◌, ◌-◌, ◌∙◌, List, ap, arith, length, map, rules, sym, vec_len}
 use Rattle.std.specs.Prelude.{All}
-use Rattle.snap_live_desk.specs.Shown.{SeatView}
+use Rattle.snap_live.specs.Shown.{SeatView}
 use Rattle.snap_live.specs.Script.{script_at}
 use Rattle.snap_live.proofs.Handles.{map_length}
 use Rattle.snap_live.proofs.Workers.{new_seats, seats_length, workers_of}

@@ -1,8 +1,0 @@
--- `certified_by_points` of snap_certification (src/lib.rt): the proof of what its contract says.
--- A run has a certificate exactly where its operations have linearization points: so a run of a listing of one's own
--- can be certified item by item.
-use Rattle.snap_certification.proofs.Certifying.{by_points}
-use Rattle.snap_certification.proofs.certified_by_points.Goals as goal
-
-pub returns : goal.returns
-returns c = by_points

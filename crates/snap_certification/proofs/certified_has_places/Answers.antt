@@ -1,7 +1,0 @@
--- `certified_has_places` of snap_certification (src/lib.rt): the proof of what its contract says.
--- In such a run each operation has its place.
-use Rattle.snap_certification.proofs.Certifying.{has_places}
-use Rattle.snap_certification.proofs.certified_has_places.Goals as goal
-
-pub returns : goal.returns
-returns c = has_places c.placed_by_points.ensures

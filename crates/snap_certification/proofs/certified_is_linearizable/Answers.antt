@@ -1,7 +1,0 @@
--- `certified_is_linearizable` of snap_certification (src/lib.rt): the proof of what its contract says.
--- A run that has a certificate is linearizable.
-use Rattle.snap_certification.proofs.Certifying.{is_linearizable}
-use Rattle.snap_certification.proofs.certified_is_linearizable.Goals as goal
-
-pub returns : goal.returns
-returns c = is_linearizable c.linearizable_by_points.ensures

@@ -1,2 +1,0 @@
--- The proofs of snap_command_line, by their modules.
-pub mod OfSubcommand

@@ -1,8 +1,0 @@
--- `skip` of snap_debug_checkpoints (src/recording.rt): what holds at the head of each of its loops.
--- Leaves so many items behind.
-use Rattle.std.proofs.Common.{◌≡◌, drop}
-use Rattle.snap_debug_checkpoints.proofs.recording.skip.Given as goal
-
--- so many are left behind
-abbrev pub invariant-loop-t : goal.invariant-loop-t
-invariant-loop-t l = l.items ≡ drop l._t l.fn.items

@@ -1,2 +1,0 @@
--- The proofs of snap_devices, by their modules.
-pub mod Runs

@@ -1,2 +1,0 @@
--- The definitions of snap_devices, by their modules.
-pub mod WholeRun

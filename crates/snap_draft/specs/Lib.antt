@@ -1,2 +1,0 @@
--- The definitions of snap_draft, by their modules.
-pub mod Drafted

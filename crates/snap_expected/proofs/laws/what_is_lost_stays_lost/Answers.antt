@@ -1,9 +1,0 @@
--- `what_is_lost_stays_lost` of snap_expected (src/laws.rt): the proof of what its contract says.
--- Where a line is lost at a token, so is each line that begins with the tokens up to it.
-use Rattle.std.proofs.Common.{arith}
-use Rattle.snap_expected.specs.Lost.{wanted_of}
-use Rattle.snap_expected.proofs.Stays.{stays}
-use Rattle.snap_expected.proofs.laws.what_is_lost_stays_lost.Goals as goal
-
-pub returns : goal.returns
-returns c = λ sort front t rest more p e f. stays front t rest more 0 (wanted_of sort) p e (omega (arith, f))

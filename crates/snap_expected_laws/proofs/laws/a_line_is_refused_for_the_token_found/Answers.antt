@@ -1,7 +1,0 @@
--- `a_line_is_refused_for_the_token_found` of snap_expected_laws (src/laws.rt): the proof of what its contract says.
--- A line is refused for what the token speaks of that is found, and for nothing before it.
-use Rattle.snap_expected_laws.proofs.FirstWrong.{refused_for_token}
-use Rattle.snap_expected_laws.proofs.laws.a_line_is_refused_for_the_token_found.Goals as goal
-
-pub returns : goal.returns
-returns c = refused_for_token

@@ -1,0 +1,15 @@
+-- `lost` of snap_expected (src/lost.rt): what holds at the head of each of its loops. Returns where tokens are lost of
+-- which `wanted` are wanted in a row.
+use Rattle.std.proofs.Common.{◌≡◌, ◌≤◌, ◌-◌, length, drop}
+use Rattle.snap_explanation.specs.Lost.{lost}
+use Rattle.snap_explanation.specs.Steps.{placed_tokens}
+use Rattle.snap_explanation.proofs.lost.lost.Given as goal
+
+-- the line goes on with the tokens so far
+abbrev pub invariant-loop-before : goal.invariant-loop-before
+invariant-loop-before l =
+    (l.before ≤ length l.tokens) × (lost l.before l.wanted.items (placed_tokens (drop l.before l.tokens))
+    ≡ lost 0 l.fn.wanted.items (placed_tokens l.tokens))
+
+abbrev pub decreases-loop-before : goal.decreases-loop-before
+decreases-loop-before l = length l.tokens - l.before

@@ -1,0 +1,30 @@
+-- The steps, tokens and places of the code that finds where a line is lost, viewed as those of its definitions.
+use Rattle.std.specs.Prelude.{List, map}
+use Rattle.snap_semantics.specs.Token.{Token}
+use Rattle.snap_text.specs.Tokens.{view_token}
+use Rattle.snap_explanation.specs.After.{Step, Takes, Passes, Refuses}
+use Rattle.snap_explanation.specs.Lost.{Place}
+use Rattle.snap_explanation.specs.Pieces.{PlacedToken, PlacedTokens}
+use Rattle.snap_explanation.specs.declared.after.Step as code
+use Rattle.snap_explanation.specs.declared.after.Step.TheVariants as made
+use Rattle.snap_explanation.specs.declared.lost.LostPlace.{LostPlace}
+use Rattle.snap_explanation.specs.declared.pieces.PlacedToken as token
+use Rattle.snap_explanation.specs.declared.pieces.PlacedTokens as tokens
+
+abbrev pub view_step : code.Step → Step
+view_step (made.Takes next) = Takes next.items
+view_step made.Passes = Passes
+view_step made.Refuses = Refuses
+
+abbrev pub view_placed_token : token.PlacedToken → PlacedToken
+view_placed_token t = record { column = t.column; token = view_token t.token }
+
+abbrev pub view_placed : tokens.PlacedTokens → PlacedTokens
+view_placed p = record { tokens = map view_placed_token p.tokens.items; stray = p.stray }
+
+-- tokens without their columns
+abbrev pub placed_tokens : List token.PlacedToken → List Token
+placed_tokens ts = map (λ (t : token.PlacedToken). view_token t.token) ts
+
+abbrev pub view_lost : LostPlace → Place
+view_lost p = record { before = p.before; wanted = p.wanted.items }

@@ -1,9 +1,0 @@
--- `no_point` of snap_failure (src/failing.rt): what holds at the head of each of its loops.
--- The first scan that has no point.
-use Rattle.std.proofs.Common.{◌≡◌, drop}
-use Rattle.snap_failure.specs.Failing.{no_point}
-use Rattle.snap_failure.proofs.failing.no_point.Given as goal
-
--- the first of all verdicts is the first of those that are left
-abbrev pub invariant-loop-verdict : goal.invariant-loop-verdict
-invariant-loop-verdict l = no_point (drop l.verdict-index l.verdicts) ≡ no_point l.verdicts

@@ -1,9 +1,0 @@
--- `verdicts_for` of snap_failure (src/failing.rt): the proof of what its contract says.
--- The verdicts on a run, where the first scan without a point, or with too many double collects, is asked for.
-use Rattle.std.proofs.Common.{ap, [], sym, ◌∙◌}
-use Rattle.std.proofs.lemmas.Result.{IfOk-weaker}
-use Rattle.snap_runs.specs.Audit.{audit}
-use Rattle.snap_audit.specs.Watch.{so_far}
-use Rattle.snap_failure.specs.Failing.{of_collects, of_points}
-use Rattle.snap_failure.proofs.Judging.{no_collects_asked, no_points_asked}
-use Rattle.snap_failure.proofs.failing.verdicts_for.Goals as goal

@@ -1,8 +1,0 @@
--- `steps_are_of_operations` of snap_failure (src/lib.rt): the proof of what its contract says.
--- Too many steps are those of an operation of the run that had not ended before; and where an operation takes too
--- many, whether it ends or not, that is found.
-use Rattle.snap_failure.proofs.Operations.{steps_are_of_operations}
-use Rattle.snap_failure.proofs.steps_are_of_operations.Goals as goal
-
-pub returns : goal.returns
-returns c = steps_are_of_operations

@@ -1,2 +1,0 @@
--- The definitions of snap_files, by their modules.
-pub mod FileTexts

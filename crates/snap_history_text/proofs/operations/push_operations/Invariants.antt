@@ -1,0 +1,10 @@
+-- `push_operations` of snap_judge_output (src/operations.rt): what holds at the head of each of its loops. Appends the
+-- lines of operations.
+use Rattle.std.proofs.Common.{◌≡◌, ◌++◌, drop}
+use Rattle.snap_history_text.specs.JudgementText.{operation_lines}
+use Rattle.snap_history_text.proofs.operations.push_operations.Given as goal
+
+abbrev pub invariant-loop-operation : goal.invariant-loop-operation
+invariant-loop-operation l =
+    l.out.items ++ operation_lines (drop l.operation-index l.operations)
+    ≡ l.fn.out.items ++ operation_lines l.fn.operations

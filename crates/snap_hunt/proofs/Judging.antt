@@ -1,0 +1,59 @@
+-- What is found where a run is judged, or where it is not; and verdicts that nobody asks for.
+use Rattle.std.proofs.Common.{◌≡◌, ℕ, inl, inr, Bool, true, false, List, Vec, Option, Some, None, is_some, length}
+use Rattle.std.proofs.Common.{if◌then◌else◌, map, refl, sym, ap, ◌∙◌}
+use Rattle.std.specs.Global.{Global}
+use Rattle.snap_words.specs.Shape.{IsOneOf}
+use Rattle.snap_runs.specs.Run.{Run}
+use Rattle.snap_runs.specs.declared.verdict.Verdict.{Verdict}
+use Rattle.snap_judge.specs.Kept.{operation_of}
+use Rattle.snap_judge.specs.declared.judgements.Judgement.TheVariants as judgement
+use Rattle.snap_judge.specs.declared.operation.Operation.{Operation}
+use Rattle.snap_run_judge.specs.RunHistory.{history_of}
+use Rattle.snap_run_judge.specs.RunJudgement.{IsRunJudgement}
+use Rattle.snap_hunt.specs.declared.failures.Failure.{Failure}
+use Rattle.snap_hunt.specs.declared.failures.Wanted.{Wanted}
+use Rattle.snap_hunt.specs.Failing.{first_seen, many_of, no_point, of_collects, of_points}
+use Rattle.snap_hunt.specs.Finding.{Finds, IsJudged, IsJudgedIf, failure_at}
+
+-- an order explains the history
+pub linearizable_so : (r : Run) (order : Vec Operation Global) →
+    IsRunJudgement 1000000 r (judgement.Linearizable order) → IsJudged r None
+linearizable_so r order h = inl (map operation_of order.items, h)
+
+-- a judgement that is undecided finds no failure
+pub undecided_so : (r : Run) (k : ℕ) → IsRunJudgement 1000000 r (judgement.Undecided k) → IsJudged r None
+undecided_so r k h = inr (k, h)
+
+-- a judgement that fails at an event finds the failure
+pub fails_so : (r : Run) (k : ℕ) (f : Failure) → IsRunJudgement 1000000 r (judgement.NotLinearizable k) →
+    f ≡ failure_at r k → IsJudged r (Some f)
+fails_so r k f h is = (k, h, is)
+
+pub is_event : (r : Run) (k : ℕ) → IsRunJudgement 1000000 r (judgement.NotLinearizable k) →
+    IsOneOf (length (history_of r).events) k
+is_event r k h = h.is_event
+
+-- what was judged, where something was found
+pub found_judged : (w : Wanted) (r : Run) (o : Option Failure) → IsJudgedIf w.linearizable r o → is_some o ≡ true →
+    Finds w r o
+found_judged w r (Some f) h e = record { judged = Some f; is_judged = h; is = refl }
+found_judged w r None h e = absurd cc
+
+-- what is seen is found, if nothing is judged to fail
+pub found_seen : (w : Wanted) (r : Run) (o found : Option Failure) → IsJudgedIf w.linearizable r o →
+    is_some o ≡ false → found ≡ first_seen w r → Finds w r found
+found_seen w r None found h e is = record { judged = None; is_judged = h; is = is }
+found_seen w r (Some f) found h e is = absurd cc
+
+-- verdicts do not matter where nobody asks for them
+pub no_points_asked : (w : Wanted) (vs us : List Verdict) → w.point ≡ false → of_points w vs ≡ of_points w us
+no_points_asked w vs us h =
+    ap (λ (b : Bool). if b then no_point vs else None) h ∙ sym (ap (λ (b : Bool). if b then no_point us else None) h)
+
+unasked : (o : Option ℕ) (vs us : List Verdict) → is_some o ≡ false → many_of vs o ≡ many_of us o
+unasked None vs us h = refl
+unasked (Some most) vs us h = absurd cc
+
+pub no_collects_asked : (w : Wanted) (vs us : List Verdict) → is_some w.collects ≡ false →
+    of_collects w vs ≡ of_collects w us
+no_collects_asked w vs us h = unasked w.collects vs us h

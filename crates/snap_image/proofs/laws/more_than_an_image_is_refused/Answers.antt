@@ -1,0 +1,7 @@
+-- `more_than_an_image_is_refused` of snap_image_format (src/laws.rt): the proof of what its contract says. No image is
+-- the beginning of another one.
+use Rattle.snap_image.proofs.AgainListing.{refuses_more}
+use Rattle.snap_image.proofs.laws.more_than_an_image_is_refused.Goals as goal
+
+pub returns : goal.returns
+returns c = refuses_more

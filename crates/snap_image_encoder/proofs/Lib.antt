@@ -1,2 +1,0 @@
--- The proofs of snap_image_encoder, by their modules.
-pub mod Heads

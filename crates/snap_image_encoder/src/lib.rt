@@ -1,6 +1,0 @@
-//! Listings to images.
-#![tactic(auto)]
-
-mod encoder;
-
-pub use encoder::encode;

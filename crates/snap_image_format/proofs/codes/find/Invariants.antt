@@ -1,9 +1,0 @@
--- `find` of snap_image_format (src/codes.rt): what holds at the head of each of its loops.
--- The first of these values with this code.
-use Rattle.std.proofs.Common.{◌≡◌, drop}
-use Rattle.snap_image_format.specs.ImageCodes.{coded}
-use Rattle.snap_image_format.proofs.codes.find.Given as goal
-
-abbrev pub invariant-loop-value : goal.invariant-loop-value
-invariant-loop-value g l =
-    coded g.T.Coded.table.code (drop l.value-index l.all) l.code ≡ coded g.T.Coded.table.code l.all l.code

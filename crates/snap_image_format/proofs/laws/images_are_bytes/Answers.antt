@@ -1,7 +1,0 @@
--- `images_are_bytes` of snap_image_format (src/laws.rt): the proof of what its contract says.
--- An image is bytes.
-use Rattle.snap_image_format.proofs.ImageBytes.{images_are_bytes}
-use Rattle.snap_image_format.proofs.laws.images_are_bytes.Goals as goal
-
-pub returns : goal.returns
-returns c = images_are_bytes

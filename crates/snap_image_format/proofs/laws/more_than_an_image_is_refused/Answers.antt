@@ -1,7 +1,0 @@
--- `more_than_an_image_is_refused` of snap_image_format (src/laws.rt): the proof of what its contract says.
--- No image begins another.
-use Rattle.snap_image_format.proofs.AgainListing.{refuses_more}
-use Rattle.snap_image_format.proofs.laws.more_than_an_image_is_refused.Goals as goal
-
-pub returns : goal.returns
-returns c = refuses_more

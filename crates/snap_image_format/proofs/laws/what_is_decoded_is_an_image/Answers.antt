@@ -1,7 +1,0 @@
--- `what_is_decoded_is_an_image` of snap_image_format (src/laws.rt): the proof of what its contract says.
--- What is decoded is a listing with comments, and the bytes are its image in some version.
-use Rattle.snap_image_format.proofs.SaidListing.{decodes_only}
-use Rattle.snap_image_format.proofs.laws.what_is_decoded_is_an_image.Goals as goal
-
-pub returns : goal.returns
-returns c = decodes_only

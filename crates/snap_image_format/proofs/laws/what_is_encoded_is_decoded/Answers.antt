@@ -1,7 +1,0 @@
--- `what_is_encoded_is_decoded` of snap_image_format (src/laws.rt): the proof of what its contract says.
--- Each image of every listing is decoded as that listing.
-use Rattle.snap_image_format.proofs.AgainListing.{decodes_all}
-use Rattle.snap_image_format.proofs.laws.what_is_encoded_is_decoded.Goals as goal
-
-pub returns : goal.returns
-returns c = decodes_all

@@ -1,2 +1,0 @@
--- The proofs of snap_image_operands, by their modules.
-pub mod FormUses

@@ -1,2 +1,0 @@
--- The definitions of snap_image_operands, by their modules.
-pub mod HasForm

@@ -1,1 +1,0 @@
--- The lemmas of snap_judge_output, by their modules.

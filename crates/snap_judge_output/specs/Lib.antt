@@ -1,2 +1,0 @@
--- The definitions of snap_judge_output, by their modules.
-pub mod JudgementText

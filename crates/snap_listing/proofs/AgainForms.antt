@@ -1,0 +1,601 @@
+-- The rule for numbered lines reads each spelled line again, where its names are names.
+use Rattle.std.proofs.Common.{◌≡◌, ℕ, ◌++◌, sym, ◌∙◌, ap, append_assoc, Bool, true, false}
+use Rattle.std.proofs.Common.{List, [], ◌∷◌, Option, Some, None, codes, refl}
+use Rattle.std.proofs.lemmas.List.{append-nil}
+use Rattle.std.specs.List.{AllByRecursion}
+use Rattle.snap_words.specs.declared.kind.Field.TheVariants as field
+use Rattle.snap_words.specs.declared.kind.KindTag.{KindTag}
+use Rattle.snap_words.specs.declared.kind.KindTag.TheVariants as kind
+use Rattle.snap_semantics.specs.declared.instr.BitBank.{BitBank}
+use Rattle.snap_semantics.specs.declared.instr.BitBank.TheVariants as bits
+use Rattle.snap_semantics.specs.declared.instr.Condition.{Condition}
+use Rattle.snap_semantics.specs.declared.instr.Expr.{Expr}
+use Rattle.snap_semantics.specs.declared.instr.Expr.TheVariants as expr
+use Rattle.snap_semantics.specs.declared.instr.Index.{Index}
+use Rattle.snap_semantics.specs.declared.instr.Index.TheVariants as index
+use Rattle.snap_semantics.specs.declared.instr.Instr.{Instr}
+use Rattle.snap_semantics.specs.declared.instr.Instr.TheVariants as instr
+use Rattle.snap_semantics.specs.declared.instr.Line.{Line}
+use Rattle.snap_semantics.specs.declared.instr.Range.{Range}
+use Rattle.snap_semantics.specs.declared.instr.Range.TheVariants as range
+use Rattle.snap_semantics.specs.declared.instr.Term.{Term}
+use Rattle.snap_semantics.specs.declared.instr.Term.TheVariants as term
+use Rattle.snap_semantics.specs.declared.instr.Tuple.{Tuple}
+use Rattle.snap_semantics.specs.declared.instr.Tuple.TheVariants as tuple
+use Rattle.snap_semantics.specs.declared.text.Symbol.TheVariants as symbol
+use Rattle.snap_semantics.specs.Rules.{◌>>=◌, identifier_at, symbol_at}
+use Rattle.snap_semantics.specs.IsListing.{IsName, HasIndex, HasExpr, HasCondition, HasWhere, HasTuple, HasForm}
+use Rattle.snap_semantics.specs.ListingForms.{name_at, number_index, place_index, identifier_index, index_at}
+use Rattle.snap_semantics.specs.ListingForms.{place_at, named_place_at, arg_term, row_term, field_term}
+use Rattle.snap_semantics.specs.ListingForms.{handshake_term, index_term, term_at, expr_at, comparison_at}
+use Rattle.snap_semantics.specs.ListingForms.{condition_at, where_at, range_at, target_at, let_form, let_place_form}
+use Rattle.snap_semantics.specs.ListingForms.{get_form, pair_at, bit_bank_at, bit_form, look_form, seq_tuple_at}
+use Rattle.snap_semantics.specs.ListingForms.{bits_tuple_at, multi_tuple_at, triple_at, tuple_at, put_form}
+use Rattle.snap_semantics.specs.ListingForms.{put_bit_form, put_view_form, view_data_form, view_of_form, each_form}
+use Rattle.snap_semantics.specs.ListingForms.{first_form, next_form, if_form, if_all_form, goto_form, call_form}
+use Rattle.snap_semantics.specs.ListingForms.{return_form, finish_form, form_of_keyword, is_line_number, line_form}
+use Rattle.snap_semantics.specs.RightUses.{IsRight, HasRightUses}
+use Rattle.snap_semantics.specs.Source.{Name, Source}
+use Rattle.snap_semantics.specs.Spelling.{in_parentheses, in_brackets, spelled_index, spelled_place, spelled_term}
+use Rattle.snap_semantics.specs.Spelling.{spelled_expr, spelled_condition, spelled_where, spelled_range}
+use Rattle.snap_semantics.specs.Spelling.{spelled_target, spelled_tuple, bank_keyword}
+use Rattle.snap_semantics.specs.Spelling.{spelled_pair, spelled_instr, spelled_line}
+use Rattle.snap_semantics.specs.Token.{Token, Identifier, Number, Sign}
+use Rattle.snap_semantics.specs.Uses.{Use, row, view, same_kind, index_uses, term_uses, expr_uses, condition_uses}
+use Rattle.snap_semantics.specs.Uses.{where_uses, tuple_uses, instr_uses}
+use Rattle.snap_listing.proofs.Alls.{all_rest}
+use Rattle.snap_listing.proofs.AgainTerms.{Names, names_first, names_rest, then_is, then_none, or_first}
+use Rattle.snap_listing.proofs.AgainTerms.{or_second, if_yes, name_read, index_again, bracket_again}
+use Rattle.snap_listing.proofs.AgainTerms.{place_again, pair_tokens, expr_again, condition_again}
+
+range_again : (g : Range) (rest : List Token) → range_at (spelled_range g ∷ rest) ≡ Some (g, rest)
+unfolding range_at
+range_again range.Processes rest = refl
+range_again range.Words rest = refl
+
+target_again : (k : ℕ) → target_at (spelled_target k) ≡ Some (k, [])
+unfolding target_at
+target_again k = refl
+
+-- an expression, and a place, to the end of the line
+last_expr : (q : Bool) (x : Expr) → HasExpr q x → Names (expr_uses x) → expr_at q (spelled_expr x) ≡ Some (x, [])
+last_expr q x h names =
+    ap (λ (ts : List Token). expr_at q ts) (sym (append-nil (spelled_expr x))) ∙ expr_again q x [] h names refl refl
+
+last_bracket : (q : Bool) (i : Index) → HasIndex q i → Names (index_uses i) →
+    place_at q (in_brackets (spelled_index i)) ≡ Some (i, [])
+last_bracket q i h names =
+    ap (λ (ts : List Token). place_at q ts) (sym (append-nil (in_brackets (spelled_index i))))
+    ∙ bracket_again q i [] h names
+
+let_again : (x : Name) (e : Expr) → HasExpr false e → IsName x → Names (expr_uses e) →
+    let_form (Identifier x ∷ Sign symbol.Equal ∷ spelled_expr e) ≡ Some (instr.Let x e)
+unfolding let_form
+let_again x e h name names =
+    let ts : List Token = Sign symbol.Equal ∷ spelled_expr e in
+    then_is (name_at (Identifier x ∷ ts)) (x, ts) _ _ (name_read x ts name)
+    (then_is (expr_at false (spelled_expr e)) (e, []) _ _ (last_expr false e h names) refl)
+
+no_let : (x : Name) (rest : List Token) → IsName x → let_form (Identifier x ∷ Sign symbol.OpenBracket ∷ rest) ≡ None
+unfolding let_form
+no_let x rest name =
+    let ts : List Token = Sign symbol.OpenBracket ∷ rest in
+    then_is (name_at (Identifier x ∷ ts)) (x, ts) _ _ (name_read x ts name) refl
+
+let_place_again : (x : Name) (i : Index) (e : Expr) → HasIndex false i →
+    HasExpr false e → IsName x → Names (index_uses i) → Names (expr_uses e) →
+    let_place_form (spelled_place x i ++ Sign symbol.Equal ∷ spelled_expr e) ≡ Some (instr.LetPlace x i e)
+unfolding let_place_form
+let_place_again x i e g h name ni ne =
+    let ts : List Token = Sign symbol.Equal ∷ spelled_expr e in
+    then_is (named_place_at false (spelled_place x i ++ ts)) ((x, i), ts) _ _ (place_again false x i ts g name ni)
+    (then_is (expr_at false (spelled_expr e)) (e, []) _ _ (last_expr false e h ne) refl)
+
+get_again : (x : Name) (i j : Index) → HasIndex false i → HasIndex false j →
+    IsName x → Names (index_uses i) → Names (index_uses j) →
+    get_form (spelled_place x i ++ Sign symbol.Equal ∷ Identifier (codes "r") ∷ in_brackets (spelled_index j))
+    ≡ Some (instr.Get x i j)
+unfolding get_form
+get_again x i j g h name ni nj =
+    let ts : List Token = Sign symbol.Equal ∷ Identifier (codes "r") ∷ in_brackets (spelled_index j) in
+    then_is (named_place_at false (spelled_place x i ++ ts)) ((x, i), ts) _ _ (place_again false x i ts g name ni)
+    (then_is (place_at false (in_brackets (spelled_index j))) (j, []) _ _ (last_bracket false j h nj) refl)
+
+bank_again : (b : BitBank) (rest : List Token) → bit_bank_at (Identifier (bank_keyword b) ∷ rest) ≡ Some (b, rest)
+unfolding bit_bank_at
+bank_again bits.Q rest = refl
+bank_again bits.P rest = refl
+
+pair_again : (i j : Index) (rest : List Token) → HasIndex false i → HasIndex false j → Names (index_uses i) →
+    Names (index_uses j) → pair_at (spelled_pair i j ++ rest) ≡ Some ((i, j), rest)
+unfolding pair_at
+pair_again i j rest g h ni nj =
+    let close : Token = Sign symbol.CloseBracket in
+    let first = spelled_index i in
+    let second = spelled_index j in
+    let behind : List Token = Sign symbol.Comma ∷ (second ++ close ∷ rest) in
+    then_is (index_at false (((first ++ Sign symbol.Comma ∷ second) ++ close ∷ []) ++ rest)) (i, behind) _ _
+    (ap (λ (ts : List Token). index_at false ts) (pair_tokens first second close rest)
+    ∙ index_again false i behind g ni)
+    (then_is (index_at false (second ++ close ∷ rest)) (j, close ∷ rest) _ _
+    (index_again false j (close ∷ rest) h nj) refl)
+
+last_pair : (i j : Index) → HasIndex false i → HasIndex false j → Names (index_uses i) → Names (index_uses j) →
+    pair_at (spelled_pair i j) ≡ Some ((i, j), [])
+last_pair i j g h ni nj =
+    ap (λ (ts : List Token). pair_at ts) (sym (append-nil (spelled_pair i j))) ∙ pair_again i j [] g h ni nj
+
+bit_again : (x : Name) (b : BitBank) (i j : Index) → HasIndex false i →
+    HasIndex false j → IsName x → Names (index_uses i) → Names (index_uses j) →
+    bit_form (Identifier x ∷ Sign symbol.Equal ∷ Identifier (bank_keyword b) ∷ spelled_pair i j)
+    ≡ Some (instr.Bit x b i j)
+unfolding bit_form
+bit_again x b i j g h name ni nj =
+    let pair = spelled_pair i j in
+    let ts : List Token = Sign symbol.Equal ∷ Identifier (bank_keyword b) ∷ pair in
+    then_is (name_at (Identifier x ∷ ts)) (x, ts) _ _ (name_read x ts name)
+    (then_is (bit_bank_at (Identifier (bank_keyword b) ∷ pair)) (b, pair) _ _ (bank_again b pair)
+    (then_is (pair_at pair) ((i, j), []) _ _ (last_pair i j g h ni nj) refl))
+
+look_again : (x : Name) (i : Index) → HasIndex false i → IsName x → Names (index_uses i) →
+    look_form (Identifier x ∷ Sign symbol.Equal ∷ Identifier (codes "v") ∷ in_brackets (spelled_index i))
+    ≡ Some (instr.Look x i)
+unfolding look_form
+look_again x i h name names =
+    let ts : List Token = Sign symbol.Equal ∷ Identifier (codes "v") ∷ in_brackets (spelled_index i) in
+    then_is (name_at (Identifier x ∷ ts)) (x, ts) _ _ (name_read x ts name)
+    (then_is (place_at false (in_brackets (spelled_index i))) (i, []) _ _ (last_bracket false i h names) refl)
+
+-- what ends a tuple
+abbrev closing : List Token
+closing = Sign symbol.CloseParenthesis ∷ []
+
+-- the tokens of a tuple, grouped as they are read
+part_tokens : (a b c : List Token) → b ++ closing ≡ c →
+    (a ++ Sign symbol.Comma ∷ b) ++ closing ≡ a ++ Sign symbol.Comma ∷ c
+part_tokens a b c e =
+    append_assoc a (Sign symbol.Comma ∷ b) closing ∙ ap (λ (ts : List Token). a ++ Sign symbol.Comma ∷ ts) e
+
+seq_tokens : (d q : List Token) (s : Name) →
+    (d ++ Sign symbol.Comma ∷ (q ++ Sign symbol.Comma ∷ Identifier s ∷ [])) ++ closing
+    ≡ d ++ Sign symbol.Comma ∷ (q ++ Sign symbol.Comma ∷ Identifier s ∷ closing)
+seq_tokens d q s =
+    part_tokens d (q ++ Sign symbol.Comma ∷ Identifier s ∷ []) (q ++ Sign symbol.Comma ∷ Identifier s ∷ closing)
+    (part_tokens q (Identifier s ∷ []) (Identifier s ∷ closing) refl)
+
+bits_tokens : (d t : List Token) (h s : Name) →
+    (d ++ Sign symbol.Comma ∷ Identifier h ∷ Sign symbol.Comma ∷ (t ++ Sign symbol.Comma ∷ Identifier s ∷ []))
+    ++ closing
+    ≡ d ++ Sign symbol.Comma ∷ Identifier h ∷ Sign symbol.Comma ∷ (t ++ Sign symbol.Comma ∷ Identifier s ∷ closing)
+bits_tokens d t h s =
+    part_tokens d (Identifier h ∷ Sign symbol.Comma ∷ (t ++ Sign symbol.Comma ∷ Identifier s ∷ []))
+    (Identifier h ∷ Sign symbol.Comma ∷ (t ++ Sign symbol.Comma ∷ Identifier s ∷ closing))
+    (ap (λ (ts : List Token). Identifier h ∷ Sign symbol.Comma ∷ ts)
+    (part_tokens t (Identifier s ∷ []) (Identifier s ∷ closing) refl))
+
+multi_tokens : (d i t : List Token) →
+    (d ++ Sign symbol.Comma ∷ (i ++ Sign symbol.Comma ∷ t)) ++ closing
+    ≡ d ++ Sign symbol.Comma ∷ (i ++ Sign symbol.Comma ∷ (t ++ closing))
+multi_tokens d i t =
+    part_tokens d (i ++ Sign symbol.Comma ∷ t) (i ++ Sign symbol.Comma ∷ (t ++ closing))
+    (part_tokens i t (t ++ closing) refl)
+
+seq_tuple_again : (d q : Expr) (s : Name) → HasExpr false d → HasExpr false q → Names (expr_uses d) →
+    Names (expr_uses q) → IsName s → seq_tuple_at (spelled_tuple (tuple.Seq d q s)) ≡ Some (tuple.Seq d q s, [])
+unfolding seq_tuple_at
+seq_tuple_again d q s g h nd nq name =
+    let third : List Token = Sign symbol.Comma ∷ Identifier s ∷ closing in
+    let second : List Token = Sign symbol.Comma ∷ (spelled_expr q ++ third) in
+    then_is (expr_at false
+    ((spelled_expr d ++ Sign symbol.Comma ∷ (spelled_expr q ++ Sign symbol.Comma ∷ Identifier s ∷ [])) ++ closing))
+    (d, second) _ _
+    (ap (λ (ts : List Token). expr_at false ts) (seq_tokens (spelled_expr d) (spelled_expr q) s)
+    ∙ expr_again false d second g nd refl refl)
+    (then_is (expr_at false (spelled_expr q ++ third)) (q, third) _ _ (expr_again false q third h nq refl refl)
+    (then_is (name_at (Identifier s ∷ closing)) (s, closing) _ _ (name_read s closing name) refl))
+
+bits_tuple_again : (d t : Expr) (x s : Name) → HasExpr false d → HasExpr false t →
+    Names (expr_uses d) → Names (expr_uses t) → IsName x → IsName s →
+    bits_tuple_at (spelled_tuple (tuple.Bits d x t s)) ≡ Some (tuple.Bits d x t s, [])
+unfolding bits_tuple_at
+bits_tuple_again d t x s g h nd nt nx ns =
+    let fourth : List Token = Sign symbol.Comma ∷ Identifier s ∷ closing in
+    let third : List Token = Sign symbol.Comma ∷ (spelled_expr t ++ fourth) in
+    let second : List Token = Sign symbol.Comma ∷ Identifier x ∷ third in
+    then_is (expr_at false ((spelled_expr d ++ Sign symbol.Comma ∷ Identifier x ∷ Sign symbol.Comma
+    ∷ (spelled_expr t ++ Sign symbol.Comma ∷ Identifier s ∷ [])) ++ closing))
+    (d, second) _ _
+    (ap (λ (ts : List Token). expr_at false ts) (bits_tokens (spelled_expr d) (spelled_expr t) x s)
+    ∙ expr_again false d second g nd refl refl)
+    (then_is (name_at (Identifier x ∷ third)) (x, third) _ _ (name_read x third nx)
+    (then_is (expr_at false (spelled_expr t ++ fourth)) (t, fourth) _ _ (expr_again false t fourth h nt refl refl)
+    (then_is (name_at (Identifier s ∷ closing)) (s, closing) _ _ (name_read s closing ns) refl)))
+
+multi_tuple_again : (d i t : Expr) → HasExpr false d → HasExpr false i → HasExpr false t →
+    Names (expr_uses d) → Names (expr_uses i) → Names (expr_uses t) →
+    multi_tuple_at (spelled_tuple (tuple.Multi d i t)) ≡ Some (tuple.Multi d i t, [])
+unfolding multi_tuple_at
+multi_tuple_again d i t f g h nd ni nt =
+    let third : List Token = Sign symbol.Comma ∷ (spelled_expr t ++ closing) in
+    let second : List Token = Sign symbol.Comma ∷ (spelled_expr i ++ third) in
+    then_is (expr_at false
+    ((spelled_expr d ++ Sign symbol.Comma ∷ (spelled_expr i ++ Sign symbol.Comma ∷ spelled_expr t)) ++ closing))
+    (d, second) _ _
+    (ap (λ (ts : List Token). expr_at false ts) (multi_tokens (spelled_expr d) (spelled_expr i) (spelled_expr t))
+    ∙ expr_again false d second f nd refl refl)
+    (then_is (expr_at false (spelled_expr i ++ third)) (i, third) _ _ (expr_again false i third g ni refl refl)
+    (then_is (expr_at false (spelled_expr t ++ closing)) (t, closing) _ _
+    (expr_again false t closing h nt refl refl) refl))
+
+-- what follows a name: nothing is found behind one that stands alone, nor where no comma follows
+abbrev Stops : {B : Type 0} → ((Name × List Token) → Option B) → Type 0
+Stops f = (x : Name) (ts : List Token) → symbol_at symbol.Comma ts ≡ None → f (x, ts) ≡ None
+
+index_stops : {B : Type 0} (i : Index) (rest : List Token) (f : (Name × List Token) → Option B) → Names (index_uses i) →
+    ((x : Name) → f (x, rest) ≡ None) → (name_at (spelled_index i ++ rest) >>= f) ≡ None
+unfolding name_at
+index_stops (index.Number k) rest f names g = refl
+index_stops index.Processes rest f names g = refl
+index_stops index.Words rest f names g = refl
+index_stops index.Me rest f names g = refl
+index_stops index.Word rest f names g = refl
+index_stops index.Place rest f names g = refl
+index_stops (index.Scalar x) rest f names g =
+    then_is (name_at (Identifier x ∷ rest)) (x, rest) f None (name_read x rest names.0) (g x)
+
+term_stops : {B : Type 0} (t : Term) (rest : List Token) (f : (Name × List Token) → Option B) → Names (term_uses t) →
+    ((x : Name) → f (x, rest) ≡ None) → Stops f → (name_at (spelled_term t ++ rest) >>= f) ≡ None
+unfolding name_at
+term_stops (term.Index i) rest f names g h = index_stops i rest f names g
+term_stops term.Arg rest f names g h = refl
+term_stops (term.Row x i) rest f names g h =
+    let ts : List Token = in_brackets (spelled_index i) ++ rest in
+    then_is (name_at (Identifier x ∷ ts)) (x, ts) f None (name_read x ts names.0) (h x ts refl)
+term_stops (term.Field field.Datum x i) rest f names g h = refl
+term_stops (term.Field field.Seq x i) rest f names g h = refl
+term_stops (term.Field field.Id x i) rest f names g h = refl
+term_stops (term.Field field.Toggle x i) rest f names g h = refl
+term_stops (term.Handshake x i j) rest f names g h = refl
+
+expr_stops : {B : Type 0} (e : Expr) (rest : List Token) (f : (Name × List Token) → Option B) → Names (expr_uses e) →
+    ((x : Name) → f (x, rest) ≡ None) → Stops f → (name_at (spelled_expr e ++ rest) >>= f) ≡ None
+unfolding name_at
+expr_stops (expr.Term t) rest f names g h = term_stops t rest f names g h
+expr_stops (expr.Sum t u) rest f names g h =
+    let plus : List Token = Sign symbol.Plus ∷ (spelled_term u ++ rest) in
+    ap (λ (ts : List Token). name_at ts >>= f) (append_assoc (spelled_term t) (Sign symbol.Plus ∷ spelled_term u) rest)
+    ∙ term_stops t plus f (names_first (term_uses t) (term_uses u) names) (λ x. h x plus refl) h
+expr_stops (expr.Not t) rest f names g h = refl
+
+-- three parts are no tuple of four
+no_bits : (d e x : Expr) (third : List Token) → HasExpr false d → Names (expr_uses d) → Names (expr_uses e) →
+    expr_at false third ≡ Some (x, closing) → bits_tuple_at (Sign symbol.OpenParenthesis
+    ∷ (spelled_expr d ++ Sign symbol.Comma ∷ (spelled_expr e ++ Sign symbol.Comma ∷ third))) ≡ None
+unfolding bits_tuple_at
+no_bits d e x third g nd ne found =
+    let behind : List Token = Sign symbol.Comma ∷ third in
+    let second : List Token = Sign symbol.Comma ∷ (spelled_expr e ++ behind) in
+    then_is (expr_at false (spelled_expr d ++ second)) (d, second) _ None (expr_again false d second g nd refl refl)
+    (expr_stops e behind _ ne (λ y. then_is (expr_at false third) (x, closing) _ None found refl)
+    (λ y ts none. then_none (symbol_at symbol.Comma ts) _ none))
+
+in_round : (ts us : List Token) → ts ≡ us → bits_tuple_at (Sign symbol.OpenParenthesis ∷ us) ≡ None →
+    bits_tuple_at (Sign symbol.OpenParenthesis ∷ ts) ≡ None
+in_round ts us e h = ap (λ (vs : List Token). bits_tuple_at (Sign symbol.OpenParenthesis ∷ vs)) e ∙ h
+
+seq_no_bits : (d q : Expr) (s : Name) → HasExpr false d → Names (expr_uses d) → Names (expr_uses q) → IsName s →
+    bits_tuple_at (spelled_tuple (tuple.Seq d q s)) ≡ None
+seq_no_bits d q s g nd nq name =
+    in_round _ _ (seq_tokens (spelled_expr d) (spelled_expr q) s)
+    (no_bits d q (expr.Term (term.Index (index.Scalar s))) (Identifier s ∷ closing) g nd nq
+    (expr_again false (expr.Term (term.Index (index.Scalar s))) closing tt (name, tt) refl refl))
+
+multi_no_bits : (d i t : Expr) → HasExpr false d → HasExpr false t → Names (expr_uses d) → Names (expr_uses i) →
+    Names (expr_uses t) → bits_tuple_at (spelled_tuple (tuple.Multi d i t)) ≡ None
+multi_no_bits d i t g h nd ni nt =
+    in_round _ _ (multi_tokens (spelled_expr d) (spelled_expr i) (spelled_expr t))
+    (no_bits d i t (spelled_expr t ++ closing) g nd ni (expr_again false t closing h nt refl refl))
+
+seq_triple : (k : KindTag) (ts : List Token) (t : Tuple) → same_kind k kind.Seq ≡ true →
+    seq_tuple_at ts ≡ Some (t, []) → triple_at k ts ≡ Some (t, [])
+unfolding triple_at
+seq_triple kind.Seq ts t e h = or_first (seq_tuple_at ts) _ _ h
+seq_triple kind.Bits ts t e h = absurd cc
+seq_triple kind.Multi ts t e h = absurd cc
+
+multi_triple : (k : KindTag) (ts : List Token) (t : Tuple) → same_kind k kind.Multi ≡ true →
+    multi_tuple_at ts ≡ Some (t, []) → triple_at k ts ≡ Some (t, [])
+unfolding triple_at
+multi_triple kind.Seq ts t e h = absurd cc
+multi_triple kind.Bits ts t e h = absurd cc
+multi_triple kind.Multi ts t e h = h
+
+tuple_again : (s : Source) (t : Tuple) → HasTuple t → AllByRecursion (IsRight s) (tuple_uses t) → Names (tuple_uses t) →
+    tuple_at s.kind (spelled_tuple t) ≡ Some (t, [])
+unfolding tuple_at
+tuple_again s (tuple.Seq d q x) h right names =
+    let us : List Use = view x ∷ [] in
+    let nd = names_first (expr_uses d) (expr_uses q ++ us) names.1 in
+    let later = names_rest (expr_uses d) (expr_uses q ++ us) names.1 in
+    let nq = names_first (expr_uses q) us later in
+    let last = names_rest (expr_uses q) us later in
+    let t = tuple.Seq d q x in
+    or_second (bits_tuple_at (spelled_tuple t)) _ _ (seq_no_bits d q x h.0 nd nq last.0)
+    (seq_triple s.kind (spelled_tuple t) t right.0 (seq_tuple_again d q x h.0 h.1 nd nq last.0))
+tuple_again s (tuple.Bits d y t x) h right names =
+    let us : List Use = view x ∷ [] in
+    let nd = names_first (expr_uses d) (row y ∷ (expr_uses t ++ us)) names.1 in
+    let later = names_rest (expr_uses d) (row y ∷ (expr_uses t ++ us)) names.1 in
+    let last = names_rest (expr_uses t) us later.1 in
+    or_first (bits_tuple_at (spelled_tuple (tuple.Bits d y t x))) _ _
+    (bits_tuple_again d t y x h.0 h.1 nd (names_first (expr_uses t) us later.1) later.0 last.0)
+tuple_again s (tuple.Multi d i t) h right names =
+    let nd = names_first (expr_uses d) (expr_uses i ++ expr_uses t) names.1 in
+    let later = names_rest (expr_uses d) (expr_uses i ++ expr_uses t) names.1 in
+    let ni = names_first (expr_uses i) (expr_uses t) later in
+    let nt = names_rest (expr_uses i) (expr_uses t) later in
+    let whole = tuple.Multi d i t in
+    or_second (bits_tuple_at (spelled_tuple whole)) _ _ (multi_no_bits d i t h.0 h.2 nd ni nt)
+    (multi_triple s.kind (spelled_tuple whole) whole right.0 (multi_tuple_again d i t h.0 h.1 h.2 nd ni nt))
+
+put_again : (s : Source) (i : Index) (t : Tuple) → HasIndex false i → HasTuple t →
+    AllByRecursion (IsRight s) (tuple_uses t) → Names (index_uses i) → Names (tuple_uses t) →
+    put_form s.kind (Identifier (codes "r") ∷ (in_brackets (spelled_index i) ++ Sign symbol.Equal ∷ spelled_tuple t))
+    ≡ Some (instr.Put i t)
+unfolding put_form
+put_again s i t g h right ni nt =
+    let ts : List Token = Sign symbol.Equal ∷ spelled_tuple t in
+    then_is (place_at false (in_brackets (spelled_index i) ++ ts)) (i, ts) _ _ (bracket_again false i ts g ni)
+    (then_is (tuple_at s.kind (spelled_tuple t)) (t, []) _ _ (tuple_again s t h right nt) refl)
+
+put_bit_again : (b : BitBank) (i j : Index) (e : Expr) → HasIndex false i → HasIndex false j →
+    HasExpr false e → Names (index_uses i) → Names (index_uses j) → Names (expr_uses e) →
+    put_bit_form (Identifier (bank_keyword b) ∷ (spelled_pair i j ++ Sign symbol.Equal ∷ spelled_expr e))
+    ≡ Some (instr.PutBit b i j e)
+unfolding put_bit_form
+put_bit_again b i j e f g h ni nj ne =
+    let behind : List Token = Sign symbol.Equal ∷ spelled_expr e in
+    let ts : List Token = spelled_pair i j ++ behind in
+    then_is (bit_bank_at (Identifier (bank_keyword b) ∷ ts)) (b, ts) _ _ (bank_again b ts)
+    (then_is (pair_at ts) ((i, j), behind) _ _ (pair_again i j behind f g ni nj)
+    (then_is (expr_at false (spelled_expr e)) (e, []) _ _ (last_expr false e h ne) refl))
+
+put_view_again : (i : Index) (x : Name) → HasIndex false i → Names (index_uses i) → IsName x →
+    put_view_form (Identifier (codes "v") ∷ (in_brackets (spelled_index i) ++ Sign symbol.Equal ∷ Identifier x ∷ []))
+    ≡ Some (instr.PutView i x)
+unfolding put_view_form
+put_view_again i x h names name =
+    let ts : List Token = Sign symbol.Equal ∷ Identifier x ∷ [] in
+    then_is (place_at false (in_brackets (spelled_index i) ++ ts)) (i, ts) _ _ (bracket_again false i ts h names)
+    (then_is (name_at (Identifier x ∷ [])) (x, []) _ _ (name_read x [] name) refl)
+
+bank_no_put : (k : KindTag) (b : BitBank) (rest : List Token) → put_form k (Identifier (bank_keyword b) ∷ rest) ≡ None
+unfolding put_form
+bank_no_put k bits.Q rest = refl
+bank_no_put k bits.P rest = refl
+
+view_no_put : (k : KindTag) (rest : List Token) → put_form k (Identifier (codes "v") ∷ rest) ≡ None
+unfolding put_form
+view_no_put k rest = refl
+
+view_no_put_bit : (rest : List Token) → put_bit_form (Identifier (codes "v") ∷ rest) ≡ None
+unfolding put_bit_form bit_bank_at
+view_no_put_bit rest = refl
+
+view_data_again : (x y : Name) → IsName x → IsName y →
+    view_data_form (Identifier x ∷ Sign symbol.Equal ∷ Identifier (codes "data") ∷ in_parentheses (Identifier y ∷ []))
+    ≡ Some (instr.ViewData x y)
+unfolding view_data_form
+view_data_again x y nx ny =
+    let end : List Token = Sign symbol.CloseParenthesis ∷ [] in
+    let ts : List Token =
+    Sign symbol.Equal ∷ Identifier (codes "data") ∷ Sign symbol.OpenParenthesis ∷ Identifier y ∷ end in
+    then_is (name_at (Identifier x ∷ ts)) (x, ts) _ _ (name_read x ts nx)
+    (then_is (name_at (Identifier y ∷ end)) (y, end) _ _ (name_read y end ny) refl)
+
+no_view_data : (x : Name) (rest : List Token) → IsName x →
+    view_data_form (Identifier x ∷ Sign symbol.Equal ∷ Identifier (codes "view") ∷ rest) ≡ None
+unfolding view_data_form
+no_view_data x rest name =
+    let ts : List Token = Sign symbol.Equal ∷ Identifier (codes "view") ∷ rest in
+    then_is (name_at (Identifier x ∷ ts)) (x, ts) _ _ (name_read x ts name) refl
+
+view_of_again : (x y : Name) (i : Index) → HasIndex false i → IsName x → IsName y → Names (index_uses i) →
+    view_of_form (Identifier x ∷ Sign symbol.Equal ∷ Identifier (codes "view") ∷ in_parentheses (spelled_place y i))
+    ≡ Some (instr.ViewOf x y i)
+unfolding view_of_form
+view_of_again x y i h nx ny ni =
+    let end : List Token = Sign symbol.CloseParenthesis ∷ [] in
+    let ts : List Token = Sign symbol.Equal ∷ Identifier (codes "view") ∷ in_parentheses (spelled_place y i) in
+    then_is (name_at (Identifier x ∷ ts)) (x, ts) _ _ (name_read x ts nx)
+    (then_is (named_place_at false (spelled_place y i ++ end)) ((y, i), end) _ _
+    (place_again false y i end h ny ni) refl)
+
+some_where : (k : Condition) → HasCondition true k → Names (condition_uses k) →
+    where_at (spelled_where (Some k)) ≡ Some (Some k, [])
+unfolding where_at
+some_where k h names =
+    or_first _ _ _
+    (then_is (condition_at true (spelled_condition k)) (k, []) _ _
+    (ap (λ (ts : List Token). condition_at true ts) (sym (append-nil (spelled_condition k)))
+    ∙ condition_again true k [] h names (refl, refl, refl)) refl)
+
+no_where : where_at [] ≡ Some (None, [])
+unfolding where_at
+no_where = refl
+
+where_again : (k : Option Condition) → HasWhere k → Names (where_uses k) → where_at (spelled_where k) ≡ Some (k, [])
+where_again None h names = no_where
+where_again (Some k) h names = some_where k h names
+
+where_expr : (x : Expr) (k : Option Condition) → HasExpr true x → Names (expr_uses x) →
+    expr_at true (spelled_expr x ++ spelled_where k) ≡ Some (x, spelled_where k)
+where_expr x None h names = expr_again true x [] h names refl refl
+where_expr x (Some k) h names = expr_again true x (Identifier (codes "where") ∷ spelled_condition k) h names refl refl
+
+each_again : (g : Range) (x : Name) (e : Expr) (k : Option Condition) → HasExpr true e →
+    HasWhere k → IsName x → Names (expr_uses e) → Names (where_uses k) →
+    each_form (spelled_range g ∷ Sign symbol.Colon ∷ Identifier x ∷ Sign symbol.OpenBracket ∷ Sign symbol.At
+    ∷ Sign symbol.CloseBracket ∷ Sign symbol.Equal ∷ (spelled_expr e ++ spelled_where k))
+    ≡ Some (instr.Each g x e k)
+unfolding each_form
+each_again g x e k h c name ne nk =
+    let body : List Token = spelled_expr e ++ spelled_where k in
+    let place : List Token =
+    Sign symbol.OpenBracket ∷ Sign symbol.At ∷ Sign symbol.CloseBracket ∷ Sign symbol.Equal ∷ body in
+    let ts : List Token = Sign symbol.Colon ∷ Identifier x ∷ place in
+    then_is (range_at (spelled_range g ∷ ts)) (g, ts) _ _ (range_again g ts)
+    (then_is (name_at (Identifier x ∷ place)) (x, place) _ _ (name_read x place name)
+    (then_is (expr_at true body) (e, spelled_where k) _ _ (where_expr e k h ne)
+    (then_is (where_at (spelled_where k)) (k, []) _ _ (where_again k c nk) refl)))
+
+-- a condition before `goto N`
+goto_condition : (q : Bool) (k : Condition) (target : ℕ) → HasCondition q k → Names (condition_uses k) →
+    condition_at q (spelled_condition k ++ spelled_target target) ≡ Some (k, spelled_target target)
+goto_condition q k target h names = condition_again q k (spelled_target target) h names (refl, refl, refl)
+
+first_again : (x : Name) (g : Range) (k : Condition) (target : ℕ) →
+    HasCondition true k → IsName x → Names (condition_uses k) →
+    first_form (Identifier x ∷ spelled_range g ∷ Sign symbol.Colon ∷ (spelled_condition k ++ spelled_target target))
+    ≡ Some (instr.First x g k target)
+unfolding first_form
+first_again x g k target h name names =
+    let body : List Token = spelled_condition k ++ spelled_target target in
+    let colon : List Token = Sign symbol.Colon ∷ body in
+    let ts : List Token = spelled_range g ∷ colon in
+    then_is (name_at (Identifier x ∷ ts)) (x, ts) _ _ (name_read x ts name)
+    (then_is (range_at ts) (g, colon) _ _ (range_again g colon)
+    (then_is (condition_at true body) (k, spelled_target target) _ _ (goto_condition true k target h names)
+    (then_is (target_at (spelled_target target)) (target, []) _ _ (target_again target) refl)))
+
+next_again : (x : Name) (g : Range) (target : ℕ) → IsName x →
+    next_form (Identifier x ∷ spelled_range g ∷ spelled_target target) ≡ Some (instr.Next x g target)
+unfolding next_form
+next_again x g target name =
+    let ts : List Token = spelled_range g ∷ spelled_target target in
+    then_is (name_at (Identifier x ∷ ts)) (x, ts) _ _ (name_read x ts name)
+    (then_is (range_at ts) (g, spelled_target target) _ _ (range_again g (spelled_target target))
+    (then_is (target_at (spelled_target target)) (target, []) _ _ (target_again target) refl))
+
+if_again : (k : Condition) (target : ℕ) → HasCondition false k → Names (condition_uses k) →
+    if_form (spelled_condition k ++ spelled_target target) ≡ Some (instr.If k target)
+unfolding if_form
+if_again k target h names =
+    then_is (condition_at false (spelled_condition k ++ spelled_target target)) (k, spelled_target target) _ _
+    (goto_condition false k target h names)
+    (then_is (target_at (spelled_target target)) (target, []) _ _ (target_again target) refl)
+
+-- `all` begins no condition
+no_if : (rest : List Token) → if_form (Identifier (codes "all") ∷ rest) ≡ None
+unfolding if_form condition_at comparison_at term_at arg_term row_term named_place_at name_at field_term
+    handshake_term index_term index_at number_index place_index identifier_index
+no_if rest = refl
+
+if_all_again : (g : Range) (k : Condition) (target : ℕ) → HasCondition true k → Names (condition_uses k) →
+    if_all_form
+    (Identifier (codes "all") ∷ spelled_range g ∷ Sign symbol.Colon ∷ (spelled_condition k ++ spelled_target target))
+    ≡ Some (instr.IfAll g k target)
+unfolding if_all_form
+if_all_again g k target h names =
+    let body : List Token = spelled_condition k ++ spelled_target target in
+    let colon : List Token = Sign symbol.Colon ∷ body in
+    then_is (range_at (spelled_range g ∷ colon)) (g, colon) _ _ (range_again g colon)
+    (then_is (condition_at true body) (k, spelled_target target) _ _ (goto_condition true k target h names)
+    (then_is (target_at (spelled_target target)) (target, []) _ _ (target_again target) refl))
+
+return_again : (x : Name) → IsName x → return_form (Identifier x ∷ []) ≡ Some (instr.Return x)
+unfolding return_form
+return_again x name = then_is (name_at (Identifier x ∷ [])) (x, []) _ _ (name_read x [] name) refl
+
+goto_again : (k : ℕ) → goto_form (Number k ∷ []) ≡ Some (instr.Goto k)
+unfolding goto_form
+goto_again k = refl
+
+call_again : (k : ℕ) → call_form (Number k ∷ []) ≡ Some (instr.Call k)
+unfolding call_form
+call_again k = refl
+
+finish_again : finish_form [] ≡ Some instr.Finish
+unfolding finish_form
+finish_again = refl
+
+-- the form of an instruction with its first keyword
+abbrev instr_form : KindTag → List Token → Option Instr
+instr_form g ts = identifier_at ts >>= λ (w : List ℕ × List Token). form_of_keyword g w.0 w.1
+
+instr_again : (s : Source) (i : Instr) → HasForm i → HasRightUses s i → Names (instr_uses i) →
+    instr_form s.kind (spelled_instr i) ≡ Some i
+unfolding form_of_keyword
+instr_again s (instr.Let x e) h right names =
+    or_first (let_form (Identifier x ∷ Sign symbol.Equal ∷ spelled_expr e)) _ _ (let_again x e h names.0 names.1)
+instr_again s (instr.LetPlace x i e) h right names =
+    let ts : List Token = spelled_place x i ++ Sign symbol.Equal ∷ spelled_expr e in
+    or_second (let_form ts) _ _
+    (no_let x ((spelled_index i ++ Sign symbol.CloseBracket ∷ []) ++ Sign symbol.Equal ∷ spelled_expr e) names.0)
+    (let_place_again x i e h.0 h.1 names.0 (names_first (index_uses i) (expr_uses e) names.1)
+    (names_rest (index_uses i) (expr_uses e) names.1))
+instr_again s (instr.Get x i j) h right names =
+    get_again x i j h.0 h.1 names.0 (names_first (index_uses i) (index_uses j) names.1)
+    (names_rest (index_uses i) (index_uses j) names.1)
+instr_again s (instr.Bit x b i j) h right names =
+    bit_again x b i j h.0 h.1 names.0 (names_first (index_uses i) (index_uses j) names.1.1)
+    (names_rest (index_uses i) (index_uses j) names.1.1)
+instr_again s (instr.Look x i) h right names = look_again x i h names.0 names.1.1
+instr_again s (instr.Put i t) h right names =
+    or_first (put_form s.kind
+    (Identifier (codes "r") ∷ (in_brackets (spelled_index i) ++ Sign symbol.Equal ∷ spelled_tuple t))) _ _
+    (put_again s i t h.0 h.1 (all_rest (IsRight s) (index_uses i) (tuple_uses t) right)
+    (names_first (index_uses i) (tuple_uses t) names)
+    (names_rest (index_uses i) (tuple_uses t) names))
+instr_again s (instr.PutBit b i j e) h right names =
+    let behind : List Token = spelled_pair i j ++ Sign symbol.Equal ∷ spelled_expr e in
+    let later = names_rest (index_uses i) (index_uses j ++ expr_uses e) names.1 in
+    or_second (put_form s.kind (Identifier (bank_keyword b) ∷ behind)) _ _ (bank_no_put s.kind b behind)
+    (or_first (put_bit_form (Identifier (bank_keyword b) ∷ behind)) _ _
+    (put_bit_again b i j e h.0 h.1 h.2 (names_first (index_uses i) (index_uses j ++ expr_uses e) names.1)
+    (names_first (index_uses j) (expr_uses e) later)
+    (names_rest (index_uses j) (expr_uses e) later)))
+instr_again s (instr.PutView i x) h right names =
+    let us : List Use = view x ∷ [] in
+    let behind : List Token = in_brackets (spelled_index i) ++ Sign symbol.Equal ∷ Identifier x ∷ [] in
+    let last = names_rest (index_uses i) us names.1 in
+    or_second (put_form s.kind (Identifier (codes "v") ∷ behind)) _ _ (view_no_put s.kind behind)
+    (or_second (put_bit_form (Identifier (codes "v") ∷ behind)) _ _ (view_no_put_bit behind)
+    (put_view_again i x h (names_first (index_uses i) us names.1) last.0))
+instr_again s (instr.ViewData x y) h right names =
+    or_first
+    (view_data_form (Identifier x ∷ Sign symbol.Equal ∷ Identifier (codes "data") ∷ in_parentheses (Identifier y ∷ [])))
+    _ _ (view_data_again x y names.0 names.1.0)
+instr_again s (instr.ViewOf x y i) h right names =
+    or_second (view_data_form
+    (Identifier x ∷ Sign symbol.Equal ∷ Identifier (codes "view") ∷ in_parentheses (spelled_place y i))) _ _
+    (no_view_data x (in_parentheses (spelled_place y i)) names.0)
+    (view_of_again x y i h names.0 names.1.1.0 names.1.1.1)
+instr_again s (instr.Each g x e k) h right names =
+    each_again g x e k h.0 h.1 names.0 (names_first (expr_uses e) (where_uses k) names.1)
+    (names_rest (expr_uses e) (where_uses k) names.1)
+instr_again s (instr.First x g k target) h right names = first_again x g k target h names.0 names.1
+instr_again s (instr.Next x g target) h right names = next_again x g target names.0
+instr_again s (instr.If k target) h right names =
+    or_first (if_form (spelled_condition k ++ spelled_target target)) _ _ (if_again k target h names)
+instr_again s (instr.IfAll g k target) h right names =
+    let ts : List Token = spelled_range g ∷ Sign symbol.Colon ∷ (spelled_condition k ++ spelled_target target) in
+    or_second (if_form (Identifier (codes "all") ∷ ts)) _ _ (no_if ts) (if_all_again g k target h names)
+instr_again s (instr.Goto target) h right names = goto_again target
+instr_again s (instr.Call target) h right names = call_again target
+instr_again s (instr.Return x) h right names = return_again x names.0
+instr_again s instr.Finish h right names = finish_again
+
+-- what comes of two rules, and then of a third
+then_both : {A B C : Type 0} (o : Option A) (f : A → Option B) (g : B → Option C) (x : B) (r : Option C) →
+    (o >>= f) ≡ Some x → g x ≡ r → (o >>= λ (y : A). f y >>= g) ≡ r
+then_both {A = A} None f g x r e h = absurd cc
+then_both {A = A} (Some y) f g x r e h = then_is (f y) x g r e h
+
+pub line_again : (s : Source) (line : Line) → is_line_number line.number ≡ true → HasForm line.instr →
+    HasRightUses s line.instr → Names (instr_uses line.instr) → line_form s.kind (spelled_line line) ≡ Some line
+unfolding line_form
+line_again s line number form right names =
+    then_both (identifier_at (spelled_instr line.instr))
+    (λ (w : List ℕ × List Token). form_of_keyword s.kind w.0 w.1) _ line.instr _
+    (instr_again s line.instr form right names) (if_yes (is_line_number line.number) _ _ _ number refl)

@@ -1,0 +1,9 @@
+-- `what_is_printed_is_read` of snap_listing_grammar (src/laws.rt): the proof of what its contract says.
+-- What is printed of a listing is read as that listing with its comments.
+use Rattle.snap_listing.proofs.AgainForms.{line_again}
+use Rattle.snap_listing.proofs.Printed.{printed_read}
+use Rattle.snap_listing.proofs.ReadsAll.{reads_all_spelled_by}
+use Rattle.snap_listing.proofs.laws.what_is_printed_is_read.Goals as goal
+
+pub returns : goal.returns
+returns c = printed_read (reads_all_spelled_by line_again)

@@ -1,0 +1,8 @@
+-- `what_is_spelled_is_read` of snap_listing_grammar (src/laws.rt): the proof of what its contract says.
+-- Every listing is read from every text that spells it.
+use Rattle.snap_listing.proofs.AgainForms.{line_again}
+use Rattle.snap_listing.proofs.ReadsAll.{reads_all_spelled_by}
+use Rattle.snap_listing.proofs.laws.what_is_spelled_is_read.Goals as goal
+
+pub returns : goal.returns
+returns c = reads_all_spelled_by line_again

@@ -1,7 +1,0 @@
--- `what_is_printed_is_spelled` of snap_listing_grammar (src/laws.rt): the proof of what its contract says.
--- What is printed of a listing spells it.
-use Rattle.snap_listing_grammar.proofs.Printed.{printed_spells}
-use Rattle.snap_listing_grammar.proofs.laws.what_is_printed_is_spelled.Goals as goal
-
-pub returns : goal.returns
-returns c = printed_spells

@@ -1,2 +1,0 @@
--- The definitions of snap_listing_grammar, by their modules.
-pub mod Laws

@@ -1,2 +1,0 @@
--- The proofs of snap_listing_printer, by their modules.
-pub mod Written

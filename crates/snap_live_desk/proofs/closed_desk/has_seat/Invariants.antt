@@ -1,8 +1,0 @@
--- `has_seat` of snap_live_desk (src/closed_desk.rt): what holds at the head of each of its loops.
--- Whether one of the seats is of this process.
-use Rattle.std.proofs.Common.{drop}
-use Rattle.snap_live_desk.specs.Closed.{HasSeat}
-use Rattle.snap_live_desk.proofs.closed_desk.has_seat.Given as goal
-
-abbrev pub invariant-loop-seat : goal.invariant-loop-seat
-invariant-loop-seat g l = HasSeat l.process l.seats → HasSeat l.process (drop l.seat-index l.seats)

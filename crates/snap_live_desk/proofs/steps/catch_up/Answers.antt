@@ -1,9 +1,0 @@
--- `catch_up` of snap_live_desk (src/steps.rt): the proof of what its contract says.
--- Nothing was added, and the seat sees the history.
-use Rattle.std.proofs.Common.{rules}
-use Rattle.snap_live_desk.proofs.Moves.{catches}
-use Rattle.snap_live_desk.proofs.steps.catch_up.Goals as goal
-
-pub store-requires : goal.store-requires
-store-requires g c =
-    (search rules, search rules, let s = c.requires.served in catches _ _ _ _ c.args.ticket _ _ s.0 s.1 c.requires.len)

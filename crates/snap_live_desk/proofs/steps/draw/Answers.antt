@@ -1,8 +1,0 @@
--- `draw` of snap_live_desk (src/steps.rt): the proof of what its contract says.
--- The ticket that a seat draws.
-use Rattle.std.proofs.Common.{rules}
-use Rattle.snap_live_desk.proofs.Moves.{draws_as}
-use Rattle.snap_live_desk.proofs.steps.draw.Goals as goal
-
-pub fetch_add-requires : goal.fetch_add-requires
-fetch_add-requires g c = (search rules, search rules, let i = c.requires.idle in draws_as _ _ _ _ i.0.0 i.0.1 i.1)

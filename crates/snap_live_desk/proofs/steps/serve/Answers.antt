@@ -1,9 +1,0 @@
--- `serve` of snap_live_desk (src/steps.rt): the proof of what its contract says.
--- The slot goes home, and the next ticket is served.
-use Rattle.std.proofs.Common.{rules}
-use Rattle.snap_live_desk.proofs.Moves.{serves_all}
-use Rattle.snap_live_desk.proofs.steps.serve.Goals as goal
-
-pub fetch_add-requires : goal.fetch_add-requires
-fetch_add-requires g c =
-    (search rules, search rules, let s = c.requires.served in serves_all _ _ _ _ c.args.ticket s.0 s.1 s.2)

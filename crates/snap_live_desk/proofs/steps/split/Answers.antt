@@ -1,8 +1,0 @@
--- `split` of snap_live_desk (src/steps.rt): the proof of what its contract says.
--- A new seat, which has seen as much, and may name a process if the old one might.
-use Rattle.std.proofs.Common.{rules}
-use Rattle.snap_live_desk.proofs.Moves.{splits}
-use Rattle.snap_live_desk.proofs.steps.split.Goals as goal
-
-pub split_seat-requires : goal.split_seat-requires
-split_seat-requires g c = (search rules, search rules, splits _ _ _ c.requires.idle.1)

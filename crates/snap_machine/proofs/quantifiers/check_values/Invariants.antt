@@ -1,0 +1,20 @@
+-- `check_values` of snap_values (src/quantifiers.rt): what holds at the head of each of its loops. Checks that each
+-- place from 1 to `count` has a new value.
+use Rattle.std.proofs.Common.{◌≡◌, Ok}
+use Rattle.snap_asm_program.specs.NamedLines.{name_at, named_expr, named_where}
+use Rattle.snap_semantics.specs.Answers.{◌>>=◌}
+use Rattle.snap_semantics.specs.Table.{each_value}
+use Rattle.snap_semantics.specs.Value.{at_place}
+use Rattle.snap_machine.specs.Quantifiers.{checked_values}
+use Rattle.snap_machine.specs.SeenProcesses.{seen_context}
+use Rattle.snap_machine.proofs.PlacesLeft.{left_of}
+use Rattle.snap_machine.proofs.quantifiers.check_values.Given as goal
+
+abbrev pub invariant-loop-passed : goal.invariant-loop-passed
+invariant-loop-passed g l =
+    ((left_of (λ p. each_value (at_place (seen_context g.K.Kind.as_word l.program l.context l.process) p)
+    (name_at l.program.rows l.slot) (named_expr l.program l.expr) (named_where l.program l.condition))
+    l.passed l.count >>= λ vs. Ok tt)
+    ≡ checked_values (seen_context g.K.Kind.as_word l.program l.context l.process) l.count
+    (name_at l.program.rows l.slot) (named_expr l.program l.expr) (named_where l.program l.condition))
+    × (record l.there { place = 0 } ≡ record l.context { place = 0 })

@@ -1,0 +1,346 @@
+-- After an item a report has as many lines of registers and of locals as before it, so that a trace compares them
+-- line by line.
+use Rattle.std.proofs.Common.{◌≡◌, ℕ, ◌+◌, ◌-◌, Bool, true, false, List, [], Option, Some, None, Result, Ok, Err}
+use Rattle.std.proofs.Common.{codes, nat_lt, if◌then◌else◌, slice_index_or, slice_set, refl, sym, ap, ◌∙◌, length-set}
+use Rattle.std.proofs.lemmas.List.{set-get_or}
+use Rattle.snap_words.specs.Shape.{Counts, places}
+use Rattle.snap_words.specs.declared.address.Bank.TheVariants as bank
+use Rattle.snap_words.specs.declared.kind.KindTag.{KindTag}
+use Rattle.snap_semantics.specs.Answers.{◌>>=◌}
+use Rattle.snap_semantics.specs.Report.{bank_lines, head_line, list_local, locals_lines, locals_text, number_local}
+use Rattle.snap_semantics.specs.Report.{process_lines, register_lines, view_lines, word_lines, words_local}
+use Rattle.snap_semantics.specs.Source.{Name, Source, instr_at, following}
+use Rattle.snap_semantics.specs.State.{Locals, Memory, Process, State, nobody, process_at, value_at}
+use Rattle.snap_semantics.specs.State.{with_memory_words, with_row, with_scalar, with_view, with_words}
+use Rattle.snap_semantics.specs.Table.{Effect, Goes, Answers, Finishes, on, first_true, first_goes, call_goes}
+use Rattle.snap_semantics.specs.Table.{return_goes, finish_goes, effect, effect_at, leave, step, call, called}
+use Rattle.snap_semantics.specs.Table.{call_skip, crash, done, conditions, range_end, all_true, tuple_word, with_bits}
+use Rattle.snap_semantics.specs.Table.{owned, bit_value, bank_of, bits_of, each_value, places_to, who, with_bit_at}
+use Rattle.snap_semantics.specs.Table.{with_memory_bits, with_memory_views}
+use Rattle.snap_semantics.specs.Value.{Context, at_place, condition_holds, each_of, expr_value, index_value, place_in}
+use Rattle.snap_words.specs.Word.{Word}
+use Rattle.snap_semantics.specs.declared.instr.BitBank.{BitBank}
+use Rattle.snap_semantics.specs.declared.instr.BitBank.TheVariants as bits
+use Rattle.snap_semantics.specs.declared.instr.Instr.{Instr}
+use Rattle.snap_semantics.specs.declared.instr.Instr.TheVariants.{Let, LetPlace, Get, Bit, Look, Put, PutBit, PutView}
+use Rattle.snap_semantics.specs.declared.instr.Instr.TheVariants.{ViewData, ViewOf, Each, First, Next, If, IfAll}
+use Rattle.snap_semantics.specs.declared.instr.Instr.TheVariants.{Goto, Call, Return, Finish}
+use Rattle.snap_semantics.specs.declared.process.Activity.{Activity}
+use Rattle.snap_semantics.specs.declared.process.Cause.{Cause}
+use Rattle.snap_semantics.specs.declared.process.Item.{Item}
+use Rattle.snap_semantics.specs.declared.process.Item.TheVariants as item
+use Rattle.snap_semantics.specs.declared.process.Op.{Op}
+use Rattle.snap_semantics.specs.declared.process.Op.TheVariants as op
+use Rattle.snap_semantics.specs.declared.process.Reason.{Reason}
+use Rattle.snap_semantics.specs.declared.process.Status.{Status}
+use Rattle.snap_semantics.specs.declared.process.Status.TheVariants.{Idle, Busy, Trapped, Crashed}
+use Rattle.snap_output.proofs.Wholes.{feeds, feeds_append}
+use Rattle.snap_output.proofs.Feeds.{head_feeds, list_set, locals_apart, number_set, registers_apart, row_set}
+use Rattle.snap_output.proofs.Feeds.{view_set, word_set, words_set}
+
+module _ (g : KindTag) (m0 : Memory) (l0 : Locals) where
+  -- registers and locals with as many lines
+  pub record Kept (m : Memory) (l : Locals) : Type 0 where
+    pub registers : feeds (register_lines g m) ≡ feeds (register_lines g m0)
+    pub locals : feeds (locals_text g l) ≡ feeds (locals_text g l0)
+
+  scalar_kept : (m : Memory) (l : Locals) (x : Name) (v : ℕ) → Kept m l → Kept m (with_scalar x v l)
+  scalar_kept m l x v h = record {
+    registers = h.registers;
+    locals =
+        locals_apart g (with_scalar x v l)
+        ∙ ap (λ n. n + feeds (locals_lines list_local l.rows)
+        + feeds (locals_lines (λ y vs. words_local g y 1 vs) l.words) + feeds (locals_lines list_local l.views))
+        (number_set x v l.scalars)
+        ∙ sym (locals_apart g l) ∙ h.locals;
+  }
+
+  row_kept : (m : Memory) (l : Locals) (x : Name) (v : List ℕ) → Kept m l → Kept m (with_row x v l)
+  row_kept m l x v h = record {
+    registers = h.registers;
+    locals =
+        locals_apart g (with_row x v l)
+        ∙ ap (λ n. feeds (locals_lines number_local l.scalars) + n
+        + feeds (locals_lines (λ y vs. words_local g y 1 vs) l.words) + feeds (locals_lines list_local l.views))
+        (list_set x v l.rows)
+        ∙ sym (locals_apart g l) ∙ h.locals;
+  }
+
+  view_kept : (m : Memory) (l : Locals) (x : Name) (v : List ℕ) → Kept m l → Kept m (with_view x v l)
+  view_kept m l x v h = record {
+    registers = h.registers;
+    locals =
+        locals_apart g (with_view x v l)
+        ∙ ap (λ n. feeds (locals_lines number_local l.scalars) + feeds (locals_lines list_local l.rows)
+        + feeds (locals_lines (λ y vs. words_local g y 1 vs) l.words) + n)
+        (list_set x v l.views)
+        ∙ sym (locals_apart g l) ∙ h.locals;
+  }
+
+  word_kept : (m : Memory) (l : Locals) (x : Name) (k : ℕ) (w : Word) → Kept m l →
+      Kept m (with_words x (slice_set (value_at x l.words []) k w) l)
+  word_kept m l x k w h = record {
+    registers = h.registers;
+    locals =
+        locals_apart g (with_words x (slice_set (value_at x l.words []) k w) l)
+        ∙ ap (λ n. feeds (locals_lines number_local l.scalars) + feeds (locals_lines list_local l.rows) + n
+        + feeds (locals_lines list_local l.views))
+        (words_set g x k w l.words)
+        ∙ sym (locals_apart g l) ∙ h.locals;
+  }
+
+  register_kept : (m : Memory) (l : Locals) (k : ℕ) (w : Word) → Kept m l →
+      Kept (with_memory_words (slice_set m.words k w) m) l
+  register_kept m l k w h = record {
+    registers =
+        registers_apart g (with_memory_words (slice_set m.words k w) m)
+        ∙ ap (λ n. n + feeds (bank_lines (codes "q") 1 m.q) + feeds (bank_lines (codes "p") 1 m.p)
+        + feeds (view_lines 1 m.views)) (word_set g m.words k w)
+        ∙ sym (registers_apart g m) ∙ h.registers;
+    locals = h.locals;
+  }
+
+  bit_kept : (b : BitBank) (m : Memory) (l : Locals) (i j x : ℕ) → Kept m l →
+      Kept (with_memory_bits b (with_bit_at (bits_of b m) i j x) m) l
+  bit_kept bits.Q m l i j x h = record {
+    registers =
+        registers_apart g (with_memory_bits bits.Q (with_bit_at m.q i j x) m)
+        ∙ ap (λ n.
+        feeds (word_lines g 1 m.words) + n + feeds (bank_lines (codes "p") 1 m.p) + feeds (view_lines 1 m.views))
+        (row_set (codes "q") 1 m.q i (slice_set (slice_index_or m.q i []) j x) refl
+        (length-set (slice_index_or m.q i []) j x))
+        ∙ sym (registers_apart g m) ∙ h.registers;
+    locals = h.locals;
+  }
+  bit_kept bits.P m l i j x h = record {
+    registers =
+        registers_apart g (with_memory_bits bits.P (with_bit_at m.p i j x) m)
+        ∙ ap (λ n.
+        feeds (word_lines g 1 m.words) + feeds (bank_lines (codes "q") 1 m.q) + n + feeds (view_lines 1 m.views))
+        (row_set (codes "p") 1 m.p i (slice_set (slice_index_or m.p i []) j x) refl
+        (length-set (slice_index_or m.p i []) j x))
+        ∙ sym (registers_apart g m) ∙ h.registers;
+    locals = h.locals;
+  }
+
+  views_kept : (m : Memory) (l : Locals) (k : ℕ) (v : List ℕ) → Kept m l →
+      Kept (with_memory_views (slice_set m.views k v) m) l
+  views_kept m l k v h = record {
+    registers =
+        registers_apart g (with_memory_views (slice_set m.views k v) m)
+        ∙ ap (λ n. feeds (word_lines g 1 m.words) + feeds (bank_lines (codes "q") 1 m.q)
+        + feeds (bank_lines (codes "p") 1 m.p) + n) (view_set m.views k v)
+        ∙ sym (registers_apart g m) ∙ h.registers;
+    locals = h.locals;
+  }
+
+  -- a line that goes on leaves as many
+  Keeps : Result Effect Cause → Type 0
+  Keeps (Ok (Goes m l link line)) = Kept m l
+  Keeps (Ok (Answers v)) = Unit {0}
+  Keeps (Ok Finishes) = Unit {0}
+  Keeps (Err c) = Unit {0}
+
+  -- a value that may trap, and what is done with it
+  bound : {A : Type 0} (r : Result A Cause) (f : A → Result Effect Cause) → ((v : A) → Keeps (f v)) → Keeps (r >>= f)
+  unfolding Keeps
+  bound (Ok v) f h = h v
+  bound (Err c) f h = tt
+
+  -- on to the following line, where there is one
+  onward : (o : Option ℕ) (m : Memory) (l : Locals) (link : Option ℕ) → Kept m l → Keeps (on o (Goes m l link))
+  unfolding Keeps
+  onward None m l link h = tt
+  onward (Some k) m l link h = h
+
+  -- to a line
+  goes : (m : Memory) (l : Locals) (link : Option ℕ) (line : ℕ) → Kept m l → Keeps (Ok (Goes m l link line))
+  unfolding Keeps
+  goes m l link line h = h
+
+  -- one of two
+  choice : (b : Bool) (y z : Result Effect Cause) → Keeps y → Keeps z → Keeps (if b then y else z)
+  choice true y z hy hz = hy
+  choice false y z hy hz = hz
+
+  -- a line `first`
+  first_keeps : (s : Source) (a : Activity) (m : Memory) (l : Locals) (y : Name) (target : ℕ) (o : Option ℕ) →
+      Kept m l → Keeps (first_goes s a m l y target o)
+  first_keeps s a m l y target None h = onward (following s.lines a.line) m l a.link h
+  first_keeps s a m l y target (Some p) h = goes m (with_scalar y p l) a.link target (scalar_kept m l y p h)
+
+  -- a line `call`
+  call_keeps : (s : Source) (a : Activity) (m : Memory) (l : Locals) (target : ℕ) (o : Option ℕ) → Kept m l →
+      Keeps (call_goes s a m l target o)
+  unfolding Keeps
+  call_keeps s a m l target (Some k) h = tt
+  call_keeps s a m l target None h = by_line (following s.lines a.line)
+    where
+      by_line : (o : Option ℕ) → Keeps (on o (λ k. Goes m l (Some k) target))
+      by_line None = tt
+      by_line (Some k) = h
+
+  -- a line `return`
+  return_keeps : (m : Memory) (l : Locals) (v : List ℕ) (o : Op) (link : Option ℕ) → Kept m l →
+      Keeps (return_goes m l v o link)
+  unfolding Keeps
+  return_keeps m l v op.Scan (Some link) h = h
+  return_keeps m l v (op.Update word value) (Some link) h = h
+  return_keeps m l v op.Scan None h = tt
+  return_keeps m l v (op.Update word value) None h = tt
+
+  -- a line `finish`
+  finish_keeps : (o : Op) (link : Option ℕ) → Keeps (finish_goes o link)
+  unfolding Keeps
+  finish_keeps (op.Update word value) None = tt
+  finish_keeps (op.Update word value) (Some link) = tt
+  finish_keeps op.Scan None = tt
+  finish_keeps op.Scan (Some link) = tt
+
+  -- each form of a line
+  keeps : (s : Source) (c : Context) (m : Memory) (a : Activity) (i : Instr) →
+      Kept m c.locals → Keeps (effect s c m a i)
+  keeps s c m a (Let y e) h =
+      bound (expr_value c e) _ (λ v. onward (following s.lines a.line) m _ a.link (scalar_kept m c.locals y v h))
+  keeps s c m a (LetPlace y i e) h =
+      bound (place_in (places c.shape) (index_value c i)) _
+      (λ p. bound (expr_value c e) _ (λ v. onward (following s.lines a.line) m _ a.link (row_kept m c.locals y _ h)))
+  keeps s c m a (Get y i j) h =
+      bound (place_in (places c.shape) (index_value c i)) _ (λ p. bound (place_in c.shape.w (index_value c j)) _
+      (λ r. onward (following s.lines a.line) m _ a.link (word_kept m c.locals y p _ h)))
+  keeps s c m a (Bit y b i j) h =
+      bound (place_in c.shape.n (index_value c i)) _
+      (λ p. bound (place_in c.shape.n (index_value c j)) _
+      (λ q. onward (following s.lines a.line) m _ a.link (scalar_kept m c.locals y _ h)))
+  keeps s c m a (Look y i) h =
+      bound (place_in c.shape.n (index_value c i)) _
+      (λ p. onward (following s.lines a.line) m _ a.link (view_kept m c.locals y _ h))
+  keeps s c m a (Put i t) h =
+      bound (place_in c.shape.w (index_value c i)) _ (λ p. bound (tuple_word c t) _ (λ parts. bound (with_bits parts) _
+      (λ word. bound (owned s.kind c bank.R (index_value c i) word) _
+      (λ w. onward (following s.lines a.line) _ c.locals a.link (register_kept m c.locals p w h)))))
+  keeps s c m a (PutBit b i j e) h =
+      bound (place_in c.shape.n (index_value c i)) _ (λ p.
+      bound (place_in c.shape.n (index_value c j)) _ (λ q. bound (expr_value c e) _
+      (λ v. bound (bit_value v) _ (λ bit. bound (owned s.kind c (bank_of b) (index_value c i) bit) _
+      (λ w. onward (following s.lines a.line) _ c.locals a.link (bit_kept b m c.locals p q w h))))))
+  keeps s c m a (PutView i y) h =
+      bound (place_in c.shape.n (index_value c i)) _ (λ p.
+      bound (owned s.kind c bank.V (index_value c i) (value_at y c.locals.views [])) _
+      (λ v. onward (following s.lines a.line) _ c.locals a.link (views_kept m c.locals p v h)))
+  keeps s c m a (ViewData y z) h = onward (following s.lines a.line) m _ a.link (view_kept m c.locals y _ h)
+  keeps s c m a (ViewOf y z i) h =
+      bound (place_in (places c.shape) (index_value c i)) _
+      (λ p. onward (following s.lines a.line) m _ a.link (view_kept m c.locals y _ h))
+  keeps s c m a (Each r y e k) h =
+      bound (each_of (λ p. each_value (at_place c p) y e k) (places_to (range_end c.shape r))) _
+      (λ vs. onward (following s.lines a.line) m _ a.link (row_kept m c.locals y _ h))
+  keeps s c m a (First y r k target) h =
+      bound (conditions c (range_end c.shape r) k) _ (λ bs. first_keeps s a m c.locals y target (first_true 1 bs) h)
+  keeps s c m a (Next y r target) h =
+      choice (nat_lt (value_at y c.locals.scalars 0) (range_end c.shape r)) _ _
+      (goes m _ a.link target (scalar_kept m c.locals y _ h))
+      (onward (following s.lines a.line) m _ a.link (scalar_kept m c.locals y 1 h))
+  keeps s c m a (If k target) h =
+      bound (condition_holds c k) _
+      (λ b. choice b _ _ (goes m c.locals a.link target h) (onward (following s.lines a.line) m c.locals a.link h))
+  keeps s c m a (IfAll r k target) h =
+      bound (conditions c (range_end c.shape r) k) _
+      (λ bs. choice (all_true bs) _ _ (goes m c.locals a.link target h)
+      (onward (following s.lines a.line) m c.locals a.link h))
+  keeps s c m a (Goto target) h = goes m c.locals a.link target h
+  keeps s c m a (Call target) h = call_keeps s a m c.locals target a.link h
+  keeps s c m a (Return y) h = return_keeps m c.locals (value_at y c.locals.views []) a.op a.link h
+  keeps s c m a Finish h = finish_keeps a.op a.link
+
+  -- the line at which a process stands, where there is one
+  keeps_at : (s : Source) (c : Context) (m : Memory) (a : Activity) (i : Option Instr) →
+      Kept m c.locals → Keeps (effect_at s c m a i)
+  unfolding Keeps
+  keeps_at s c m a None h = tt
+  keeps_at s c m a (Some i) h = keeps s c m a i h
+
+-- One process and the registers have changed, each into as many lines.
+pub record IsMove (g : KindTag) (i : ℕ) (S S' : State) : Type 0 where
+  pub process : Process
+  pub processes : S'.processes ≡ slice_set S.processes (i - 1) process
+  pub lines : feeds (process_lines g i process) ≡ feeds (process_lines g i (process_at S i))
+  pub registers : feeds (register_lines g S'.memory) ≡ feeds (register_lines g S.memory)
+
+stays : (g : KindTag) (i : ℕ) (S : State) → IsMove g i S S
+stays g i S = record {
+  process = process_at S i;
+  processes = sym (set-get_or S.processes (i - 1) nobody);
+  lines = refl;
+  registers = refl;
+}
+
+-- the process stands elsewhere
+status_feeds : (g : KindTag) (i : ℕ) (p q : Process) → feeds (locals_text g q.locals) ≡ feeds (locals_text g p.locals) →
+    feeds (process_lines g i q) ≡ feeds (process_lines g i p)
+status_feeds g i p q h =
+    feeds_append (head_line i q.status) (locals_text g q.locals)
+    ∙ ap (λ n. n + feeds (locals_text g q.locals)) (head_feeds i q.status ∙ sym (head_feeds i p.status))
+    ∙ ap (λ n. feeds (head_line i p.status) + n) h ∙ sym (feeds_append (head_line i p.status) (locals_text g p.locals))
+
+stands : (g : KindTag) (i : ℕ) (S : State) (t : Status) →
+    IsMove g i S (record {
+      memory = S.memory;
+      processes = slice_set S.processes (i - 1) (record { status = t; locals = (process_at S i).locals });
+    })
+stands g i S t = record {
+  process = record { status = t; locals = (process_at S i).locals };
+  processes = refl;
+  lines = status_feeds g i (process_at S i) (record { status = t; locals = (process_at S i).locals }) refl;
+  registers = refl;
+}
+
+left : (g : KindTag) (S : State) (i : ℕ) (a : Activity) (r : Result Effect Cause) →
+    Keeps g S.memory (process_at S i).locals r → IsMove g i S (leave S i a (process_at S i).locals r).0
+unfolding Keeps
+left g S i a (Ok (Goes m l link line)) h = record {
+  process = record { status = Busy (record { op = a.op; line = line; link = link }); locals = l };
+  processes = refl;
+  lines =
+      status_feeds g i (process_at S i)
+      (record { status = Busy (record { op = a.op; line = line; link = link }); locals = l }) h.locals;
+  registers = h.registers;
+}
+left g S i a (Ok (Answers v)) h = stands g i S Idle
+left g S i a (Ok Finishes) h = stands g i S Idle
+left g S i a (Err e) h = stands g i S (Trapped e a)
+
+stepped : (g : KindTag) (s : Source) (n : Counts) (S : State) (i : ℕ) (t : Status) →
+    IsMove g i S (step s n S i (process_at S i) t).0
+stepped g s n S i Idle = stays g i S
+stepped g s n S i (Trapped e a) = stays g i S
+stepped g s n S i (Crashed was) = stays g i S
+stepped g s n S i (Busy a) =
+    let p = process_at S i in
+    let c : Context = record { shape = n; me = i; op = a.op; locals = p.locals; place = 0 } in
+    left g S i a (effect_at s c S.memory a (instr_at s.lines a.line))
+    (keeps_at g S.memory p.locals s c S.memory a (instr_at s.lines a.line) (record { registers = refl; locals = refl }))
+
+asked : (g : KindTag) (s : Source) (S : State) (i : ℕ) (o : Op) (r : Option Reason) →
+    IsMove g i S (called s S i (process_at S i) o r).0
+asked g s S i o (Some r) = stays g i S
+asked g s S i o None = stands g i S _
+
+calls : (g : KindTag) (s : Source) (n : Counts) (S : State) (i : ℕ) (o : Op) (t : Status) →
+    IsMove g i S (call s n S i o (process_at S i) t).0
+calls g s n S i o Idle = asked g s S i o (call_skip s.kind n i o)
+calls g s n S i o (Busy a) = stays g i S
+calls g s n S i o (Trapped e a) = stays g i S
+calls g s n S i o (Crashed was) = stays g i S
+
+crashes : (g : KindTag) (S : State) (i : ℕ) (t : Status) → IsMove g i S (crash S i (process_at S i) t).0
+crashes g S i Idle = stands g i S (Crashed None)
+crashes g S i (Busy a) = stands g i S (Crashed (Some a))
+crashes g S i (Trapped e a) = stays g i S
+crashes g S i (Crashed was) = stays g i S
+
+-- what an item does
+pub moves : (g : KindTag) (s : Source) (n : Counts) (S : State) (x : Item) → IsMove g (who x) S (done s n S x).0
+moves g s n S (item.Step i) = stepped g s n S i (process_at S i).status
+moves g s n S (item.Call i o) = calls g s n S i o (process_at S i).status
+moves g s n S (item.Crash i) = crashes g S i (process_at S i).status

@@ -1,0 +1,16 @@
+-- `none_box` writes the SVG of a scan without a point, piece after piece, as its definition has it.
+use Rattle.std.proofs.Common.{append_assoc}
+use Rattle.snap_picture.specs.ShapeText.{none_box}
+use Rattle.snap_picture.proofs.bars.none_box.Goals as goal
+
+pub returns : goal.returns
+unfolding none_box
+returns c = λ well.
+    let e7 = c.push-3.ensures well in
+    let e6 = c.words_head.ensures e7.0 in
+    let e5 = c.push-2.ensures e6.0 in
+    let e4 = c.edges_text.ensures e5.0 in
+    let e3 = c.push.ensures e4.0 in
+    let e2 = c.span_text.ensures e3.0 in
+    let e1 = c.group_head.ensures e2.0 in
+    (e1.0, rw (e7.1, e6.1, e5.1, e4.1, e3.1, e2.1, e1.1) (simp append_assoc))

@@ -1,2 +1,0 @@
--- The definitions of snap_pipe, by their modules.
-pub mod Ended

@@ -1,3 +1,0 @@
--- The proofs of snap_prompt_lines, by their modules.
-pub mod Fronts
-pub mod Added

@@ -1,0 +1,241 @@
+-- A line that has the form of a shape, an item, a header line or a line of scripts is not lost (`lost_in` finds no
+-- place).
+use Rattle.std.proofs.Common.{◌≡◌, ℕ, ◌+◌, Bool, true, false, ◌&&◌, List, [], ◌∷◌, Option, Some, None, option_map}
+use Rattle.std.proofs.Common.{nat_lt, nat_le, bytes_eq, codes, if◌then◌else◌, refl, sym, ap, ◌∙◌, subst}
+use Rattle.std.specs.Prelude.{is_some}
+use Rattle.std.proofs.lemmas.Bool.{and_parts, or_left, or_right}
+use Rattle.snap_semantics.specs.declared.text.Symbol.TheVariants as symbol
+use Rattle.snap_semantics.specs.HeaderForms.{kind_of_keyword, kind_form, words_form, names_form, entry_form}
+use Rattle.snap_semantics.specs.ListingForms.{is_line_number}
+use Rattle.snap_semantics.specs.Rules.{◌>>=◌, or_else, number_at, identifier_at, keyword_at, symbol_at, end_at}
+use Rattle.snap_semantics.specs.ScheduleForms.{ItemForm, Steps, Calls, Crashes, spelled_call, is_count, shape_form}
+use Rattle.snap_semantics.specs.ScheduleForms.{step_form, steps_form, scan_form, update_form, crash_form, item_form}
+use Rattle.snap_semantics.specs.Token.{Token, Identifier, Number, Sign}
+use Rattle.snap_semantics.specs.declared.process.Op.TheVariants as op
+use Rattle.snap_sched.specs.declared.script_forms.ScriptForm.{ScriptForm}
+use Rattle.snap_sched.specs.ScriptForms.{as_call, call_form, is_turn, crash_at_form, script_form}
+use Rattle.snap_sched.specs.Spelling.{IsSpelling}
+use Rattle.snap_sched.proofs.Found.{item_found}
+use Rattle.snap_words.specs.Shape.{Counts}
+use Rattle.snap_words.specs.declared.kind.KindTag.{KindTag}
+use Rattle.snap_listing.proofs.HasForms.{Holds, then_with, either}
+use Rattle.snap_listing.proofs.SpelledTerms.{if_when, WordIs, word_is, NumberIs, number_is, KeywordIs}
+use Rattle.snap_listing.proofs.SpelledTerms.{keyword_is, SymbolIs, symbol_is, EndIs, end_is, on_cons}
+use Rattle.snap_explanation.specs.declared.wanted.Keyword.{Keyword}
+use Rattle.snap_explanation.specs.declared.wanted.Keyword.TheVariants as keyword
+use Rattle.snap_explanation.specs.declared.wanted.Wanted.{Wanted}
+use Rattle.snap_explanation.specs.declared.wanted.Wanted.TheVariants as wanted
+use Rattle.snap_explanation.specs.declared.line_sorts.LineSort.{LineSort}
+use Rattle.snap_explanation.specs.declared.line_sorts.LineSort.TheVariants as line
+use Rattle.snap_explanation.specs.declared.line_sorts.Header.TheVariants as header
+use Rattle.snap_explanation.specs.After.{one, maybe_begun}
+use Rattle.snap_explanation.specs.Lost.{Place, lost, lost_at, lost_in, step, stepped, may_end}
+use Rattle.snap_explanation.specs.Tests.{keyword_text, is_kind}
+
+-- a token that passes its test
+passes : (k : ℕ) (ws all : List Wanted) (ts : List Token) (o : Option (List Wanted)) (b : Bool) → b ≡ true →
+    lost_at k all (λ more. lost (k + 1) more ts) (stepped ws o (one b)) ≡ lost (k + 1) ws ts
+passes k ws all ts o b e = ap (λ (c : Bool). lost_at k all (λ more. lost (k + 1) more ts) (stepped ws o (one c))) e
+
+-- what is found tells that the line is not lost
+abbrev pub NotLost : {A : Type 0} → LineSort → List Token → A → Type 0
+NotLost sort ts x = lost_in sort ts ≡ None
+
+pub told : {A : Type 0} (sort : LineSort) (ts : List Token) (o : Option A) → Holds (NotLost sort ts) o →
+    is_some o ≡ true → lost_in sort ts ≡ None
+told sort ts None h e = absurd cc
+told sort ts (Some x) h e = h
+
+-- shapes
+shape_lost : (n w : ℕ) → is_count n ≡ true → is_count w ≡ true →
+    lost_in line.Shape (Identifier (codes "shape") ∷ Number n ∷ Number w ∷ []) ≡ None
+shape_lost n w e f =
+    passes 1 (wanted.Count ∷ []) (wanted.Count ∷ wanted.Count ∷ []) (Number w ∷ [])
+    (step (Number n) (wanted.Count ∷ [])) (is_count n) e
+    ∙ passes 2 [] (wanted.Count ∷ []) [] (step (Number w) []) (is_count w) f
+
+pub shape_goes : (ts : List Token) → Holds (NotLost line.Shape ts) (shape_form ts)
+unfolding shape_form
+shape_goes ts =
+    let P = NotLost {A = Counts} line.Shape ts in
+    then_with (KeywordIs (codes "shape") ts) P (keyword_at (codes "shape") ts) _
+    (keyword_is (codes "shape") ts) (λ rest e.
+    then_with (NumberIs rest) P (number_at rest) _ (number_is rest) (λ n f.
+    then_with (NumberIs n.1) P (number_at n.1) _ (number_is n.1) (λ w g.
+    then_with (EndIs w.1) P (end_at w.1) _ (end_is w.1) (λ z h.
+    if_when P (is_count n.0 && is_count w.0) _ _ (λ t.
+    let both = and_parts (is_count n.0) (is_count w.0) t in
+    let all : ts ≡ Identifier (codes "shape") ∷ Number n.0 ∷ Number w.0 ∷ [] =
+    e ∙ ap (λ (x : List Token). Identifier (codes "shape") ∷ x)
+    (f ∙ ap (λ (x : List Token). Number n.0 ∷ x) (g ∙ ap (λ (x : List Token). Number w.0 ∷ x) h)) in
+    ap (λ (x : List Token). lost_in line.Shape x) all ∙ shape_lost n.0 w.0 both.0 both.1) tt))))
+
+-- a form that is made of another one's
+pub mapped : {A B : Type 0} (P : Type 0) (f : A → B) (o : Option A) → Holds (λ (x : A). P) o →
+    Holds (λ (y : B). P) (option_map f o)
+mapped P f None h = h
+mapped P f (Some x) h = h
+
+closes : (sort : LineSort) (ts all : List Token) → ts ≡ all → lost_in sort all ≡ None → lost_in sort ts ≡ None
+closes sort ts all e h = ap (λ (x : List Token). lost_in sort x) e ∙ h
+
+-- items
+steps_lost : (i k : ℕ) → nat_lt 0 k ≡ true → lost_in line.Item (Number i ∷ Sign symbol.Star ∷ Number k ∷ []) ≡ None
+steps_lost i k e = passes 2 [] (wanted.Positive ∷ []) [] (step (Number k) []) (nat_lt 0 k) e
+
+pub item_goes : (ts : List Token) → Holds (NotLost line.Item ts) (item_form ts)
+unfolding item_form step_form steps_form scan_form update_form crash_form
+item_goes ts =
+    let P = NotLost {A = ItemForm} line.Item ts in
+    either P _ _
+    (then_with (NumberIs ts) P (number_at ts) _ (number_is ts) (λ i e.
+    then_with (EndIs i.1) P (end_at i.1) _ (end_is i.1)
+    (λ z h. closes line.Item ts _ (on_cons (Number i.0) ts i.1 [] e h) refl)))
+    (either P _ _
+    (then_with (NumberIs ts) P (number_at ts) _ (number_is ts) (λ i e.
+    then_with (SymbolIs symbol.Star i.1) P (symbol_at symbol.Star i.1) _ (symbol_is symbol.Star i.1) (λ a f.
+    then_with (NumberIs a) P (number_at a) _ (number_is a) (λ k g.
+    then_with (EndIs k.1) P (end_at k.1) _ (end_is k.1) (λ z h.
+    if_when P (nat_lt 0 k.0) _ _ (λ t.
+    closes line.Item ts _ (on_cons (Number i.0) ts i.1 _ e
+    (on_cons (Sign symbol.Star) i.1 a _ f (on_cons (Number k.0) a k.1 [] g h))) (steps_lost i.0 k.0 t)) tt)))))
+    (either P _ _
+    (then_with (NumberIs ts) P (number_at ts) _ (number_is ts) (λ i e.
+    then_with (KeywordIs (codes "scan") i.1) P (keyword_at (codes "scan") i.1) _ (keyword_is (codes "scan") i.1) (λ a f.
+    then_with (EndIs a) P (end_at a) _ (end_is a) (λ z h.
+    closes line.Item ts _ (on_cons (Number i.0) ts i.1 _ e (on_cons (Identifier (codes "scan")) i.1 a [] f h)) refl))))
+    (either P _ _
+    (then_with (NumberIs ts) P (number_at ts) _ (number_is ts) (λ i e.
+    then_with (KeywordIs (codes "update") i.1) P (keyword_at (codes "update") i.1) _
+    (keyword_is (codes "update") i.1) (λ a f.
+    then_with (NumberIs a) P (number_at a) _ (number_is a) (λ k g.
+    then_with (NumberIs k.1) P (number_at k.1) _ (number_is k.1) (λ x u.
+    then_with (EndIs x.1) P (end_at x.1) _ (end_is x.1) (λ z h.
+    closes line.Item ts _ (on_cons (Number i.0) ts i.1 _ e (on_cons (Identifier (codes "update")) i.1 a _ f
+    (on_cons (Number k.0) a k.1 _ g (on_cons (Number x.0) k.1 x.1 [] u h)))) refl))))))
+    (then_with (NumberIs ts) P (number_at ts) _ (number_is ts) (λ i e.
+    then_with (KeywordIs (codes "crash") i.1) P (keyword_at (codes "crash") i.1) _
+    (keyword_is (codes "crash") i.1) (λ a f.
+    then_with (EndIs a) P (end_at a) _ (end_is a) (λ z h.
+    closes line.Item ts _
+    (on_cons (Number i.0) ts i.1 _ e (on_cons (Identifier (codes "crash")) i.1 a [] f h)) refl)))))))
+
+-- header lines
+kind_lost : (w : List ℕ) →
+    Holds (λ (k : KindTag). lost_in (line.Header header.Kind) (Identifier (codes "kind") ∷ Identifier w ∷ []) ≡ None)
+    (kind_of_keyword w)
+kind_lost w =
+    let P = λ (k : KindTag). lost_in (line.Header header.Kind) (Identifier (codes "kind") ∷ Identifier w ∷ []) ≡ None in
+    if_when P (bytes_eq w (codes "seq")) _ _ (λ e. kind_by (rw e refl))
+    (if_when P (bytes_eq w (codes "bit")) _ _ (λ e. kind_by (or_right _ _ (or_left _ _ e)))
+    (if_when P (bytes_eq w (codes "multi")) _ _ (λ e. kind_by (or_right _ _ (or_right _ _ e))) tt))
+  where
+    kind_by : is_kind (Identifier w) ≡ true →
+        lost_in (line.Header header.Kind) (Identifier (codes "kind") ∷ Identifier w ∷ []) ≡ None
+    kind_by e = passes 1 [] (wanted.KindName ∷ []) [] (step (Identifier w) []) (is_kind (Identifier w)) e
+
+pub kind_goes : (ts : List Token) → Holds (NotLost (line.Header header.Kind) ts) (kind_form ts)
+unfolding kind_form
+kind_goes ts =
+    let P = NotLost {A = KindTag} (line.Header header.Kind) ts in
+    then_with (KeywordIs (codes "kind") ts) P (keyword_at (codes "kind") ts) _ (keyword_is (codes "kind") ts) (λ a e.
+    then_with (WordIs a) P (identifier_at a) _ (word_is a) (λ w f.
+    then_with _ P (kind_of_keyword w.0) _ (kind_lost w.0) (λ k g.
+    then_with (EndIs w.1) P (end_at w.1) _ (end_is w.1) (λ z h.
+    closes (line.Header header.Kind) ts _
+    (on_cons (Identifier (codes "kind")) ts a _ e (on_cons (Identifier w.0) a w.1 [] f h)) g))))
+
+-- identifiers to the end of the line
+words_go : (k : ℕ) (ts : List Token) →
+    Holds (λ (ws : List (List ℕ)). lost k (wanted.Names ∷ []) ts ≡ None) (words_form ts)
+words_go k [] = refl
+words_go k (Identifier w ∷ ts) =
+    then_with (λ (ws : List (List ℕ)). lost (k + 1) (wanted.Names ∷ []) ts ≡ None)
+    (λ (ws : List (List ℕ)). lost k (wanted.Names ∷ []) (Identifier w ∷ ts) ≡ None) (words_form ts) _
+    (words_go (k + 1) ts) (λ ws h. h)
+words_go k (Number n ∷ ts) = tt
+words_go k (Sign m ∷ ts) = tt
+
+pub holds_more : {A : Type 0} (Q P : A → Type 0) (o : Option A) → Holds Q o → ((x : A) → Q x → P x) → Holds P o
+holds_more Q P None h f = tt
+holds_more Q P (Some x) h f = f x h
+
+pub same_keyword : (x : Keyword) → bytes_eq (keyword_text x) (keyword_text x) ≡ true
+same_keyword keyword.Kind = refl
+same_keyword keyword.Scalar = refl
+same_keyword keyword.Row = refl
+same_keyword keyword.Words = refl
+same_keyword keyword.View = refl
+same_keyword keyword.Scan = refl
+same_keyword keyword.Update = refl
+same_keyword keyword.Shape = refl
+same_keyword keyword.Goto = refl
+same_keyword keyword.R = refl
+same_keyword keyword.V = refl
+
+keyword_first : (x : Keyword) (w : Wanted) (ts : List Token) →
+    lost 0 (wanted.Keyword x ∷ w ∷ []) (Identifier (keyword_text x) ∷ ts) ≡ lost 1 (w ∷ []) ts
+keyword_first x w ts =
+    passes 0 (w ∷ []) (wanted.Keyword x ∷ w ∷ []) ts (step (Identifier (keyword_text x)) (w ∷ []))
+    (bytes_eq (keyword_text x) (keyword_text x)) (same_keyword x)
+
+pub names_by : (x : Keyword) (ts : List Token) →
+    Holds (λ (ws : List (List ℕ)). lost 0 (wanted.Keyword x ∷ wanted.Names ∷ []) ts ≡ None)
+    (names_form (keyword_text x) ts)
+unfolding names_form
+names_by x ts =
+    let P = λ (ws : List (List ℕ)). lost 0 (wanted.Keyword x ∷ wanted.Names ∷ []) ts ≡ None in
+    then_with (KeywordIs (keyword_text x) ts) P (keyword_at (keyword_text x) ts) _
+    (keyword_is (keyword_text x) ts) (λ a e.
+    holds_more (λ (ws : List (List ℕ)). lost 1 (wanted.Names ∷ []) a ≡ None) P (words_form a) (words_go 1 a) (λ ws h.
+    ap (λ (y : List Token). lost 0 (wanted.Keyword x ∷ wanted.Names ∷ []) y) e ∙ keyword_first x wanted.Names a ∙ h))
+
+line_lost : (k : ℕ) → is_line_number k ≡ true → lost 1 (wanted.LineNumber ∷ []) (Number k ∷ []) ≡ None
+line_lost k e = passes 1 [] (wanted.LineNumber ∷ []) [] (step (Number k) []) (is_line_number k) e
+
+pub entry_by : (x : Keyword) (ts : List Token) →
+    Holds (λ (k : ℕ). lost 0 (wanted.Keyword x ∷ wanted.LineNumber ∷ []) ts ≡ None) (entry_form (keyword_text x) ts)
+unfolding entry_form
+entry_by x ts =
+    let P = λ (k : ℕ). lost 0 (wanted.Keyword x ∷ wanted.LineNumber ∷ []) ts ≡ None in
+    then_with (KeywordIs (keyword_text x) ts) P (keyword_at (keyword_text x) ts) _
+    (keyword_is (keyword_text x) ts) (λ a e.
+    then_with (NumberIs a) P (number_at a) _ (number_is a) (λ k f.
+    then_with (EndIs k.1) P (end_at k.1) _ (end_is k.1) (λ z h.
+    if_when P (is_line_number k.0) _ _ (λ t.
+    ap (λ (y : List Token). lost 0 (wanted.Keyword x ∷ wanted.LineNumber ∷ []) y) e
+    ∙ keyword_first x wanted.LineNumber a
+    ∙ ap (λ (y : List Token). lost 1 (wanted.LineNumber ∷ []) y) (on_cons (Number k.0) a k.1 [] f h) ∙ line_lost k.0 t)
+    tt)))
+
+-- scripts
+found_holds : {A : Type 0} (P : A → Type 0) (o : Option A) → ((x : A) → o ≡ Some x → P x) → Holds P o
+found_holds P None h = tt
+found_holds P (Some x) h = h x refl
+
+call_goes : (ts : List Token) (f : ItemForm) → IsSpelling f ts →
+    Holds (NotLost {A = ScriptForm} line.Script ts) (as_call f)
+call_goes ts (Steps i count) h = tt
+call_goes ts (Calls i op.Scan) h = closes line.Script ts (spelled_call i op.Scan) h refl
+call_goes ts (Calls i (op.Update word value)) h = closes line.Script ts (spelled_call i (op.Update word value)) h refl
+call_goes ts (Crashes i) h = tt
+
+turn_lost : (i k : ℕ) → is_turn k ≡ true →
+    lost_in line.Script (Number i ∷ Identifier (codes "crash") ∷ Number k ∷ []) ≡ None
+turn_lost i k e = passes 2 [] (wanted.Turn ∷ []) [] (step (Number k) []) (is_turn k) e
+
+pub script_goes : (ts : List Token) → Holds (NotLost {A = ScriptForm} line.Script ts) (script_form ts)
+unfolding script_form call_form crash_at_form
+script_goes ts =
+    let P = NotLost {A = ScriptForm} line.Script ts in
+    either P _ _
+    (then_with (λ (f : ItemForm). IsSpelling f ts) P (item_form ts) _
+    (found_holds (λ (f : ItemForm). IsSpelling f ts) (item_form ts) (item_found ts)) (λ f h. call_goes ts f h))
+    (then_with (NumberIs ts) P (number_at ts) _ (number_is ts) (λ i e.
+    then_with (KeywordIs (codes "crash") i.1) P (keyword_at (codes "crash") i.1) _
+    (keyword_is (codes "crash") i.1) (λ a f.
+    then_with (NumberIs a) P (number_at a) _ (number_is a) (λ k g.
+    then_with (EndIs k.1) P (end_at k.1) _ (end_is k.1) (λ z h.
+    if_when P (is_turn k.0) _ _ (λ t.
+    closes line.Script ts _ (on_cons (Number i.0) ts i.1 _ e
+    (on_cons (Identifier (codes "crash")) i.1 a _ f (on_cons (Number k.0) a k.1 [] g h))) (turn_lost i.0 k.0 t)) tt)))))

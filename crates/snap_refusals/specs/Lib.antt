@@ -1,2 +1,0 @@
--- The definitions of snap_refusals, by their modules.
-pub mod RefusalText

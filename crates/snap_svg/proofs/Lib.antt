@@ -1,3 +1,0 @@
--- The proofs of snap_svg, by their modules.
-pub mod Escapes
-pub mod Places

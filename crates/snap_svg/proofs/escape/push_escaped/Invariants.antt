@@ -1,9 +1,0 @@
--- `push_escaped` of snap_svg (src/escape.rt): what holds at the head of each of its loops.
--- Adds what stands for a text.
-use Rattle.std.proofs.Common.{take}
-use Rattle.snap_draft.specs.Drafted.{Adds}
-use Rattle.snap_svg.specs.Escape.{escaped}
-use Rattle.snap_svg.proofs.escape.push_escaped.Given as goal
-
-abbrev pub invariant-loop-byte : goal.invariant-loop-byte
-invariant-loop-byte l = Adds l.fn.out l.out (escaped (take l.byte-index l.text))

@@ -1,8 +1,0 @@
--- `lanes_text` of snap_svg (src/frame.rt): what holds at the head of each of its loops.
--- The lanes of so many processes.
-use Rattle.snap_draft.specs.Drafted.{Adds}
-use Rattle.snap_svg.specs.FrameText.{lanes_text}
-use Rattle.snap_svg.proofs.frame.lanes_text.Given as goal
-
-abbrev pub invariant-loop-k : goal.invariant-loop-k
-invariant-loop-k l = Adds l.fn.out l.out (lanes_text l.k)

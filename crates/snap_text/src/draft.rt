@@ -1,0 +1,79 @@
+//! `Draft`: a text that is put together.
+ghost use Rattle.std.specs.Prelude.{◌≡◌, [], false, true, decimal, MatchResult};
+ghost use Rattle.snap_semantics.specs.Report.{numbers_text};
+ghost use Rattle.snap_text.specs.Drafted.{Adds};
+
+use crate::push::{push_number, push_numbers, push_text};
+use std::alloc::{AllocError, Global};
+use std::marker::Model;
+
+/// A text that is put together piece by piece. Once memory ran out for a piece, the draft has
+/// failed, and takes no more.
+#[derive(Drop)]
+pub struct Draft {
+    bytes: Vec<u8>,
+    failed: bool,
+}
+
+impl Model for Draft {
+    ghost use Rattle.snap_text.specs.Drafted.{Drafted};
+
+    ghost Value = { Drafted };
+
+    ghost view = { λ d. record { text = d.bytes.items; failed = d.failed } };
+}
+
+impl Draft {
+    /// Returns an empty draft.
+    pub fn new(alloc: Global) -> Draft
+        ensures text { result.text ≡ [] }
+        ensures well { result.failed ≡ false }
+    {
+        Draft {
+            bytes: Vec::new(alloc),
+            failed: false,
+        }
+    }
+
+    /// Appends `text`.
+    pub fn push(&mut self, text: &[u8])
+        ensures { Adds self.old self.new text.now }
+    {
+        if !self.failed {
+            self.failed = push_text(&mut self.bytes, text).is_err();
+        }
+    }
+
+    /// Appends `number` in decimal digits.
+    pub fn push_number(&mut self, number: u64)
+        ensures { Adds self.old self.new (decimal number) }
+    {
+        if !self.failed {
+            self.failed = push_number(&mut self.bytes, number).is_err();
+        }
+    }
+
+    /// Appends each of `numbers` behind a space.
+    pub fn push_numbers(&mut self, numbers: &[u64])
+        ensures { Adds self.old self.new (numbers_text numbers.now) }
+    {
+        if !self.failed {
+            self.failed = push_numbers(&mut self.bytes, numbers).is_err();
+        }
+    }
+
+    /// Returns the whole text.
+    ///
+    /// # Errors
+    ///
+    /// `AllocError` where memory ran out for one of the pieces.
+    pub fn finish(self) -> Result<Vec<u8>, AllocError>
+        ensures { MatchResult result (λ text. (self.failed ≡ false) × (text.items ≡ self.text))
+            (λ _. self.failed ≡ true) }
+    {
+        if self.failed {
+            return Err(AllocError);
+        }
+        Ok(self.bytes)
+    }
+}

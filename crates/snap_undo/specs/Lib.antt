@@ -1,5 +1,0 @@
--- The definitions of snap_undo, by their modules.
-pub mod Undo
-pub mod Written
-pub mod Seen
-pub mod WritePlace

@@ -1,2 +1,0 @@
--- The definitions of snapdraw_command_line, by their modules.
-pub mod Drawings

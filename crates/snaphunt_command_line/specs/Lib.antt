@@ -1,2 +1,0 @@
--- The definitions of snaphunt_command_line, by their modules.
-pub mod Search

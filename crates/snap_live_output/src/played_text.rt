@@ -28,6 +28,7 @@ fn play_kind<K: Kind, G: Gate, R: Threads + Wait + Sync>(
         setup.now.scripts.scripts limit f) }
 {
     let live = run_live::<K, G, R>(rt, alloc, setup.program(), setup.scripts(), limit, gate)?;
+    // What `items` promises: the run of the record is a valid one.
     let _items = live.kept.items();
     Ok(history_text(alloc, &live.kept)?)
 }

@@ -120,6 +120,7 @@ pub fn overwritten<K: Kind>(
     ensures process { IfOk result (λ u. u.process ≡ who item) }
 {
     let i = who(item);
+    // What `shape` promises: the memory is one of the shape.
     let _shape = registers.shape();
     let process = &processes[(i - 1) as usize];
     let place = item_place(alloc, program, registers, process, item)?;

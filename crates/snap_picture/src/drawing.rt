@@ -61,7 +61,7 @@ fn window_between(
     if last - before > MOST_ITEMS {
         return Err(PictureRefusal::TooManyItems(last - before));
     }
-    // A shape has at least one process, and few.
+    // What `process_count` promises: there is at least one process, and there are few.
     let _processes = shape.process_count();
     match Window::new(before, last, shape, reads) {
         Some(window) => Ok(window),

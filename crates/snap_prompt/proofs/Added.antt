@@ -1,6 +1,7 @@
 -- What the prompt has added is said: what a line asks for, where no question was asked.
-use Rattle.std.proofs.Common.{◌≡◌, ◌+◌, ◌-◌, ◌^◌, ◌++◌, ◌∙◌, ℕ, Bool, min, List, Option, None, Result, Ok, Err}
+use Rattle.std.proofs.Common.{◌≡◌, ◌+◌, ◌-◌, ◌^◌, ◌∙◌, ℕ, Bool, min, List, Option, None, Result, Ok, Err}
 use Rattle.std.proofs.Common.{OnOk, ap, option_map, refl, subst, sym}
+use Rattle.snap_text.specs.Drafted.{Adds, Drafted}
 use Rattle.snap_streams.specs.Folder.{Kept}
 use Rattle.snap_semantics.specs.declared.refusal.CommandRefusal.{CommandRefusal}
 use Rattle.snap_prompt.specs.Ask.{ask_of}
@@ -17,17 +18,17 @@ on_ok (Ok x) p f = f p
 on_ok (Err e) p f = tt
 
 -- what is added is the same if what is said is
-pub same_added : (s t : Said) (old new : List ℕ) → s ≡ t → IsAdded t old new → IsAdded s old new
+pub same_added : (s t : Said) (old new : Drafted) → s ≡ t → IsAdded t old new → IsAdded s old new
 same_added s t old new is adds = subst (λ (y : Said). IsAdded y old new) (sym is) adds
 
 -- something that is said
-pub it_is_said : (s : Said) (old new : List ℕ) → IsAdded s old new → (it : List ℕ) × IsSaid s it × (new ≡ old ++ it)
+pub it_is_said : (s : Said) (old new : Drafted) → IsAdded s old new → (it : List ℕ) × IsSaid s it × Adds old new it
 it_is_said (text x) old new adds = (x, refl, adds)
 it_is_said (why r t) old new adds = adds
 it_is_said (saved name) old new adds = adds
 
 -- what is said of a file that was to be saved
-pub saved_is_added : (name kept : List ℕ) (before after : Option (List Kept)) (old new : List ℕ) →
+pub saved_is_added : (name kept : List ℕ) (before after : Option (List Kept)) (old new : Drafted) →
     Saves name kept before after old new → IsAdded (saved name) old new
 saved_is_added name kept before after old new saves = (outcome_line name saves.0, (saves.0, refl), saves.2)
 
@@ -59,9 +60,9 @@ asked_now p v line n r is counts none unsaved asks =
     ∙ ap (λ (k : ℕ). asked (with_lines k v) (ask_of k line)) (sym counts)
     ∙ ap (λ (x : Result Ask CommandRefusal). asked (with_lines n v) x) asks
 
-pub asked_is_said : (p v : Prompt) (line : List ℕ) (n : ℕ) (r : Result Ask CommandRefusal) (old new : List ℕ) → v ≡ p →
+pub asked_is_said : (p v : Prompt) (line : List ℕ) (n : ℕ) (r : Result Ask CommandRefusal) (old new : Drafted) → v ≡ p →
     n ≡ min (v.lines + 1) (2 ^ 64 - 1) → v.question ≡ None → saving_of line ≡ None → ask_of n line ≡ r →
-    IsAdded (asked (with_lines n v) r).said old new → (it : List ℕ) × Says p line it × (new ≡ old ++ it)
+    IsAdded (asked (with_lines n v) r).said old new → (it : List ℕ) × Says p line it × Adds old new it
 asked_is_said p v line n r old new is counts none unsaved asks adds =
     it_is_said (answer_line p line).said old new
     (same_added (answer_line p line).said (asked (with_lines n v) r).said old new

@@ -3,6 +3,7 @@
 use Rattle.std.specs.Prelude.{◌≡◌, ℕ, List, ◌++◌, Option, Result, Ok, Err, codes}
 use Rattle.std.specs.declared.io.ErrorKind.{ErrorKind}
 use Rattle.std.specs.declared.io.ErrorKind.TheVariants as kind
+use Rattle.snap_text.specs.Drafted.{Adds, Drafted}
 use Rattle.snap_streams.specs.Folder.{Keeps, Kept}
 
 -- why a file was not written, for a person
@@ -24,6 +25,6 @@ abbrev pub IsSavedLine : (name it : List ℕ) → Type 0
 IsSavedLine name it = (done : Result (Unit {0}) ErrorKind) × (it ≡ outcome_line name done)
 
 -- What is said of a text that was put into a folder under a name is so: that it was saved where the folder has kept it.
-abbrev pub Saves : (name text : List ℕ) → (before after : Option (List Kept)) → (old new : List ℕ) → Type 0
+abbrev pub Saves : (name text : List ℕ) → (before after : Option (List Kept)) → (old new : Drafted) → Type 0
 Saves name text before after old new =
-    (done : Result (Unit {0}) ErrorKind) × Keeps done before after name text × (new ≡ old ++ outcome_line name done)
+    (done : Result (Unit {0}) ErrorKind) × Keeps done before after name text × Adds old new (outcome_line name done)

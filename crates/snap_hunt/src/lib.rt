@@ -28,7 +28,7 @@ mod values;
 pub use alone::first_failing_alone;
 pub use failures::{Failure, FailureKind, OwnSteps, StepBound, Wanted};
 pub use found::Found;
-pub use hunt::{Watcher, first_failing};
+pub use hunt::{Hunt, Watcher, first_failing};
 pub use over::failure_over;
 pub use shrink::shrunk;
 pub use step_laws::steps_are_of_operations;

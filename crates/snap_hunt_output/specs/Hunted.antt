@@ -2,6 +2,7 @@
 -- schedule whose run fails as it does (`IsPrinted`); `asked_source`, the listing that is asked for, or why it is
 -- refused.
 use Rattle.std.specs.Prelude.{◌≡◌, ℕ, List, Option, Some, None, Result, Ok, Err, ⊤, if◌then◌else◌}
+use Rattle.snap_words.specs.Kind.{fits}
 use Rattle.snap_words.specs.declared.shape.WordFault.TheVariants.{BadShape}
 use Rattle.snap_semantics.specs.Answers.{◌>>=◌, refused_as}
 use Rattle.snap_semantics.specs.Listing.{listing_of}
@@ -20,7 +21,7 @@ use Rattle.snap_hunt.specs.declared.failures.Wanted.{Wanted}
 use Rattle.snap_hunt.specs.Hunt.{IsFirst}
 use Rattle.snap_hunt.specs.declared.found.Found.{Found}
 use Rattle.snap_hunt.specs.Shrinking.{IsShrunk}
-use Rattle.snap_hunt_output.specs.HuntRequest.{fits_kind, owned}
+use Rattle.snap_hunt_output.specs.HuntRequest.{owned}
 use Rattle.snap_hunt_output.specs.Check.{run_in_input}
 use Rattle.snap_hunt_output.specs.Input.{input_text}
 use Rattle.snap_hunt_output.specs.declared.hunt_request.HuntRequest.{HuntRequest}
@@ -65,7 +66,7 @@ IsHuntedOf l text a (hunted.Fails k f input) = IsFound l text a k f input.items
 abbrev pub asked_source : List ℕ → HuntRequest → Result Source Refusal
 asked_source text a = do
   l ← refused_as refusal.Listing (listing_of text)
-  if fits_kind l.kind a.plan.shape then Ok l else Err (refusal.Words BadShape)
+  if fits l.kind a.plan.shape then Ok l else Err (refusal.Words BadShape)
 
 -- what a hunt comes to, for the listing that a text is
 pub record IsHunted (text : List ℕ) (a : HuntRequest) (h : Hunted) : Type 0 where

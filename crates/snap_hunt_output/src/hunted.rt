@@ -11,15 +11,15 @@ ghost use Rattle.snap_hunt_output.specs.Hunted.{IsDue, IsFaultOf, IsHunted, IsHu
 ghost use Rattle.snap_hunt_output.specs.Hunted.{IsNoRefusal, IsPrinted, Says, asked_source};
 
 use crate::check::{InputRun, run_in_input};
-use crate::hunt_request::{HuntRequest, fits_kind, owned};
+use crate::hunt_request::{HuntRequest, owned};
 use crate::input::input_text;
 use snap_asm_program::Program;
 use snap_chance::{Plan, schedule_of};
 use snap_faults::ProgramFault;
 use snap_hunt::{
-    Failure, Found, Wanted, Watcher, failure_over, first_failing, first_failing_alone, shrunk,
+    Failure, Found, Hunt, Wanted, Watcher, failure_over, first_failing, first_failing_alone, shrunk,
 };
-use snap_input::{MAX_INPUT, program_of};
+use snap_input::{MAX_INPUT, fits, program_of};
 use snap_semantics::{Fault, Refusal};
 use snap_words::WordFault;
 use std::alloc::Global;
@@ -160,16 +160,13 @@ fn hunt_program<W: Watcher>(
     ensures fault { IfErr result (IsFaultOf program.now asked.now) }
 {
     let plan = owned(program.kind(), &asked.plan);
-    let found = first_failing(
-        rt,
-        alloc,
+    let hunt = Hunt {
         program,
-        &plan,
-        &asked.wanted,
-        asked.seed,
-        asked.runs,
-        watcher,
-    )?;
+        plan: &plan,
+        wanted: &asked.wanted,
+        seed: asked.seed,
+    };
+    let found = first_failing(rt, alloc, &hunt, asked.runs, watcher)?;
     hunted_of(alloc, listing, program, &plan, asked, found)
 }
 
@@ -186,7 +183,13 @@ fn hunt_program_alone(
     ensures fault { IfErr result (IsFaultOf program.now asked.now) }
 {
     let plan = owned(program.kind(), &asked.plan);
-    let found = first_failing_alone(alloc, program, &plan, &asked.wanted, asked.seed, asked.runs)?;
+    let hunt = Hunt {
+        program,
+        plan: &plan,
+        wanted: &asked.wanted,
+        seed: asked.seed,
+    };
+    let found = first_failing_alone(alloc, &hunt, asked.runs)?;
     hunted_of(alloc, listing, program, &plan, asked, found)
 }
 
@@ -199,7 +202,7 @@ fn asked_program(
     ensures { Answers (λ p. p) result (asked_source listing.now asked.now) }
 {
     let program = program_of(alloc, listing)?;
-    if !fits_kind(program.kind(), asked.plan.shape()) {
+    if !fits(program.kind(), asked.plan.shape()) {
         return Err(Fault::Refused(Refusal::Words(WordFault::BadShape)));
     }
     Ok(program)

@@ -1,7 +1,6 @@
 //! `Setup`: what a live run plays, which is a listing and a script for each process; and how an
 //! input is read as one.
 ghost use Rattle.std.specs.Prelude.{◌≡◌, ◌<◌, ◌≤◌, Err, length, map};
-ghost use Rattle.snap_words.specs.Kind.{fits};
 ghost use Rattle.snap_semantics.specs.Answers.{Answers, refused_as};
 ghost use Rattle.snap_semantics.specs.declared.fault.Fault.TheVariants.{Refused};
 ghost use Rattle.snap_semantics.specs.declared.refusal.Refusal.{Refusal};
@@ -12,11 +11,11 @@ ghost use Rattle.snap_input.specs.Input.{checked_parts};
 ghost use Rattle.snap_input.specs.Parts.{max_input, parts_of};
 
 use snap_asm_program::Program;
-use snap_input::{MAX_INPUT, parts_for, program_for, texts_for};
+use snap_input::{MAX_INPUT, Prepared, fits, prepare};
 use snap_sched::Scripts;
 use snap_semantics::{Fault, Refusal};
 use snap_tasks::Subject;
-use snap_words::{Bits, Kind, KindTag, Multi, Seq, Shape, WordFault};
+use snap_words::WordFault;
 use std::alloc::Global;
 use std::marker::Model;
 
@@ -62,17 +61,6 @@ impl Setup {
     }
 }
 
-/// Returns whether there are registers of a kind and a shape.
-fn fits(kind: KindTag, shape: Shape) -> bool
-    ensures { result ≡ fits kind shape }
-{
-    match kind {
-        KindTag::Seq => Seq::fits(shape),
-        KindTag::Bits => Bits::fits(shape),
-        KindTag::Multi => Multi::fits(shape),
-    }
-}
-
 /// Reads scripts.
 fn read_scripts(alloc: Global, text: &[u8]) -> Result<Scripts, Fault<Refusal>>
     ensures { Answers (λ s. s) result (refused_as refusal.Schedule (scripts_of text.now)) }
@@ -103,17 +91,15 @@ fn setup_texts(alloc: Global, program: Program, texts: &[&[u8]]) -> Result<Setup
 }
 
 /// Returns what the parts of an input say to play.
-#[tactic(auto, unfolding(snap_input::specs::Input::parted))]
+#[tactic(auto, unfolding(snap_input::specs::Input::parted, snap_input::specs::Input::prepared))]
 fn setup_for(alloc: Global, subject: Subject, input: &[u8]) -> Result<Setup, Fault<Refusal>>
     requires { length input.now ≤ max_input }
     ensures setup { Answers (λ s. s) result (setup_for subject (parts_of input.now)) }
     ensures counted { (r : Refusal) → checked_parts subject 1 (parts_of input.now) ≡ Err r →
         result ≡ Err (Refused r) }
 {
-    let parts = parts_for(alloc, subject, 1, input)?;
-    let program = program_for(alloc, subject, parts.as_slice())?;
-    let texts = texts_for(subject, parts.as_slice());
-    setup_texts(alloc, program, texts)
+    let Prepared { program, texts } = prepare(alloc, subject, 1, input)?;
+    setup_texts(alloc, program, texts.as_slice())
 }
 
 /// Returns what `input` says to play: a listing, or the shipped one, and scripts.

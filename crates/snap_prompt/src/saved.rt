@@ -1,5 +1,5 @@
 //! `push_saved`: a schedule is saved as a file, and what the debugger's prompt says of that.
-ghost use Rattle.std.specs.Prelude.{◌≡◌, ◌++◌, Err, OnOk};
+ghost use Rattle.std.specs.Prelude.{◌≡◌, ◌++◌, Err, IfOk, OnOk};
 ghost use Rattle.snap_prompt.specs.Saved.{Saves, outcome_line, save_reason};
 
 use snap_streams::Folder;
@@ -52,17 +52,18 @@ fn push_outcome(
     }
 }
 
-/// Keeps a text under a name, and adds what is said of that.
+/// Keeps a text under a name, and adds what is said of that. Returns whether it was kept.
 pub(crate) fn push_saved<S: Folder>(
     out: &mut Vec<u8>,
     folder: &mut S,
     name: &[u8],
     text: &[u8],
     replaces: bool,
-) -> Result<(), AllocError>
-    ensures { OnOk result (Saves name.now text.now (S.kept folder.old) (S.kept folder.new)
-        out.old.items out.new.items) }
+) -> Result<bool, AllocError>
+    ensures { IfOk result (λ is_saved. Saves name.now text.now (S.kept folder.old)
+        (S.kept folder.new) out.old.items out.new.items is_saved) }
 {
     let done = folder.keep(name, text, replaces);
-    push_outcome(out, name, done)
+    push_outcome(out, name, done)?;
+    Ok(done.is_ok())
 }

@@ -1,6 +1,6 @@
 -- What the prompt has added is said: what a line asks for, where no question was asked.
 use Rattle.std.proofs.Common.{◌≡◌, ◌+◌, ◌-◌, ◌^◌, ◌++◌, ◌∙◌, ℕ, Bool, true, false, min, List, Option, None, Some}
-use Rattle.std.proofs.Common.{OnOk, Result, Ok, Err, ap, option_map, refl, subst, sym}
+use Rattle.std.proofs.Common.{IfOk, OnOk, Result, Ok, Err, ap, option_map, refl, subst, sym}
 use Rattle.std.specs.Prelude.{is_ok, not, ◌&&◌}
 use Rattle.std.specs.declared.io.ErrorKind.{ErrorKind}
 use Rattle.snap_streams.specs.Dialog.{Adds, Next}
@@ -190,3 +190,13 @@ asked_adds p v line n r old new after more is counts none unnamed asks adds stat
     ap (λ (o : Option Question). saves_under o line) (ap (λ (x : Prompt). x.question) (sym is) ∙ none)
     ∙ ap (λ (f : Option (List ℕ × Bool)). option_map (λ x. x.0) f) unnamed in
     answers_so p line it.0 old new (asked (with_lines n v) r) after more asked_so under it.1 it.2 state on
+
+pub asked_adds_all : {E : Type 0} (done : Result Bool E) (p v : Prompt) (line : List ℕ) (n : ℕ)
+    (r : Result Ask CommandRefusal) (old new : List ℕ) (after : Prompt) → v ≡ p → n ≡ min (v.lines + 1) (2 ^ 64 - 1) →
+    v.question ≡ None → saving_of line ≡ None → ask_of n line ≡ r →
+    OnOk done (IsAdded (asked (with_lines n v) r).said old new) → OnOk done (after ≡ (asked (with_lines n v) r).state) →
+    IfOk done (λ more. more ≡ (asked (with_lines n v) r).goes_on) →
+    IfOk done (λ more. Adds Says next_line p line old new after more)
+asked_adds_all (Ok more) p v line n r old new after is counts none unnamed asks adds state on =
+    asked_adds p v line n r old new after more is counts none unnamed asks adds state on
+asked_adds_all (Err e) p v line n r old new after is counts none unnamed asks adds state on = tt

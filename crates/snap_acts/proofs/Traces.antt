@@ -15,13 +15,13 @@ use Rattle.snap_walk.specs.Walk.{Passes, Way}
 use Rattle.snap_walk.proofs.Ways.{all_items, items_more}
 use Rattle.snap_walk.specs.declared.passed.Passed.{Passed}
 use Rattle.snap_acts.specs.Tells.{Tells}
-use Rattle.snap_acts.specs.Trace.{act_of, line_number, plan_of, step_of, steps_of, trace_of}
+use Rattle.snap_acts.specs.Trace.{act_of, line_number, intent_of, step_of, steps_of, trace_of}
 use Rattle.snap_acts.specs.declared.act.Act.{Act}
-use Rattle.snap_acts.specs.declared.act.Step.{Step}
-use Rattle.snap_acts.specs.declared.plan.Plan.{Plan}
+use Rattle.snap_acts.specs.declared.act.TraceStep.{TraceStep}
+use Rattle.snap_acts.specs.declared.intent.Intent.{Intent}
 
 -- what the first t items did
-abbrev pub steps_to : Run → ℕ → List Step
+abbrev pub steps_to : Run → ℕ → List TraceStep
 steps_to r t = steps_of r.source r.shape (initial r.source r.shape) 1 (take t r.items)
 
 -- what items did, and what one behind them did
@@ -51,23 +51,24 @@ pub all_steps : (r : Run) (t : ℕ) → t ≡ length r.items → steps_to r t �
 all_steps r t end = ap (steps_of r.source r.shape (initial r.source r.shape) 1) (all_items r t end)
 
 -- What is told of the item that was passed is what it did, from the state before it and the state after it.
-pub passed_is : (w w' : Way) (p : Passed) (x : Item) (i line : ℕ) (S S' : State) (m : Configuration) (plan : Plan)
+pub passed_is : (w w' : Way) (p : Passed) (x : Item) (i line : ℕ) (S S' : State) (m : Configuration) (intent : Intent)
     (a : Act) → Passes w p w' → x ≡ item w.run (suc w.at) → i ≡ who x → S ≡ state w.run w.at →
     S' ≡ state w'.run w'.at → m.source ≡ w.run.source → m.shape ≡ w.run.shape → m.state ≡ state w.run w.at →
-    line ≡ line_number (line_of (process_at S i).status) → plan ≡ plan_of m.source m.shape m.state x →
-    a ≡ act_of plan S' (who x) x p.outcome →
-    ◌≡◌ {A = Step} (record { process = i; item = p.number; line = line; act = a })
+    line ≡ line_number (line_of (process_at S i).status) → intent ≡ intent_of m.source m.shape m.state x →
+    a ≡ act_of intent S' (who x) x p.outcome →
+    ◌≡◌ {A = TraceStep} (record { process = i; item = p.number; line = line; act = a })
     (step_of w.run.source w.run.shape (state w.run w.at) (suc w.at) (item w.run (suc w.at)))
 unfolding step_of
-passed_is w w' p x i line S S' m plan a is x_is i_is S_is S'_is source shape state_is line_is plan_is a_is =
+passed_is w w' p x i line S S' m intent a is x_is i_is S_is S'_is source shape state_is line_is intent_is a_is =
     let after_is : S' ≡ (done w.run.source w.run.shape (state w.run w.at) (item w.run (suc w.at))).0 =
     S'_is ∙ ap (λ (v : Way). state v.run v.at) is.way ∙ next_state w.run w.at is.left in
     let number = is.number in
     let outcome_is = is.outcome in
-    rw (a_is, plan_is, line_is, i_is, source, shape, state_is, S_is, after_is, number, outcome_is, x_is) refl
+    rw (a_is, intent_is, line_is, i_is, source, shape, state_is, S_is, after_is, number, outcome_is, x_is) refl
 
 -- a step more is told of this run
-pub one_more : (r : Run) (w w' : Way) (steps steps' : List Step) (s : Step) → w.run ≡ r → steps ≡ steps_to w.run w.at →
+pub one_more : (r : Run) (w w' : Way) (steps steps' : List TraceStep) (s : TraceStep) → w.run ≡ r →
+    steps ≡ steps_to w.run w.at →
     Tells w s w' → steps' ≡ steps ++ s ∷ [] →
     (w'.run ≡ r) × (w'.at ≤ length w'.run.items) × (steps' ≡ steps_to w'.run w'.at)
 one_more r w w' steps steps' s run so_far is more =

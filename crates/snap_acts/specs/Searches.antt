@@ -1,13 +1,14 @@
--- `Wanted`: searches in the trace of a run for the first or the last step of a sort, such as the end of an operation.
+-- `StepPattern`: searches in the trace of a run for the first or the last step of a sort, such as the end of an
+-- operation.
 use Rattle.std.specs.Prelude.{ℕ, zero, suc, ◌+◌, Bool, true, false, ◌&&◌, ◌||◌, List, [], ◌∷◌}
 use Rattle.std.specs.Prelude.{Option, Some, None, bytes_eq, nat_eq, if◌then◌else◌, get_or}
 use Rattle.snap_semantics.specs.Source.{Name}
 use Rattle.snap_acts.specs.declared.act.Act.{Act}
 use Rattle.snap_acts.specs.declared.act.Act.TheVariants as act
 use Rattle.snap_acts.specs.declared.act.Spot.{Spot}
-use Rattle.snap_acts.specs.declared.act.Step.{Step}
-use Rattle.snap_acts.specs.declared.wanted.Wanted.{Wanted}
-use Rattle.snap_acts.specs.declared.wanted.Wanted.TheVariants as wanted
+use Rattle.snap_acts.specs.declared.act.TraceStep.{TraceStep}
+use Rattle.snap_acts.specs.declared.searches.StepPattern.{StepPattern}
+use Rattle.snap_acts.specs.declared.searches.StepPattern.TheVariants as wanted
 
 -- an operation ends
 abbrev pub is_end : Act → Bool
@@ -64,7 +65,7 @@ is_answer_or_trap act.Trap = true
 is_answer_or_trap _ = false
 
 -- whether a step is what is wanted
-abbrev pub meets : Wanted → Step → Bool
+abbrev pub meets : StepPattern → TraceStep → Bool
 meets (wanted.End i) s = nat_eq s.process i && is_end s.act
 meets (wanted.Leave i) s = nat_eq s.process i && is_leave s.act
 meets (wanted.Closing i) s = nat_eq s.process i && (is_leave s.act || is_end s.act)
@@ -77,21 +78,21 @@ meets (wanted.Sets i x) s = nat_eq s.process i && sets_view x s.act
 meets wanted.AnswerOrTrap s = is_answer_or_trap s.act
 
 -- the first of these steps that is what is wanted
-abbrev pub first_meeting : Wanted → List Step → Option Step
+abbrev pub first_meeting : StepPattern → List TraceStep → Option TraceStep
 first_meeting w [] = None
 first_meeting w (s ∷ ss) = if meets w s then Some s else first_meeting w ss
 
 -- stands where there is no step
-abbrev pub no_step : Step
+abbrev pub no_step : TraceStep
 no_step = record { process = 0; item = 0; line = 0; act = act.Other }
 
 -- the last of the first k places at which there is what is wanted; places count from 0
-abbrev pub last_before : Wanted → List Step → ℕ → Option ℕ
+abbrev pub last_before : StepPattern → List TraceStep → ℕ → Option ℕ
 last_before w ss zero = None
 last_before w ss (suc k) = if meets w (get_or ss k no_step) then Some k else last_before w ss k
 
 -- the first of so many places from place k on at which there is what is wanted
-abbrev pub first_within : Wanted → List Step → ℕ → ℕ → Option ℕ
+abbrev pub first_within : StepPattern → List TraceStep → ℕ → ℕ → Option ℕ
 first_within w ss k zero = None
 first_within w ss k (suc count) =
     if meets w (get_or ss k no_step) then Some k else first_within w ss (k + 1) count

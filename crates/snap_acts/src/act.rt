@@ -49,7 +49,7 @@ pub enum Act {
 /// An item of a process, the line at which the process stood, 0 if it had none, and what the item
 /// did.
 #[derive(Drop)]
-pub struct Step {
+pub struct TraceStep {
     pub process: u32,
     pub item: u64,
     pub line: u64,

@@ -4,13 +4,13 @@
 #![tactic(auto)]
 
 mod act;
+mod intent;
 mod loans;
-mod plan;
+mod searches;
 mod tracer;
-mod wanted;
 
-pub use act::{Act, Spot, Step};
+pub use act::{Act, Spot, TraceStep};
+pub use intent::index_value;
 pub use loans::{Borrowed, ScanPlaces, lender_at, source_at, view_taken};
-pub use plan::index_value;
+pub use searches::{StepPattern, first_from, first_within, last_before};
 pub use tracer::trace;
-pub use wanted::{Wanted, first_from, first_within, last_before};

@@ -5,8 +5,8 @@ ghost use Rattle.snap_acts.specs.Loans.{set_for, source_at, source_by};
 ghost use Rattle.snap_acts.specs.Loans.{taken_in, view_taken, word_read, write_read};
 ghost use Rattle.snap_acts.specs.Searches.{takes_view};
 
-use crate::wanted::{Wanted, first_within, last_before};
-use crate::{Act, Step};
+use crate::searches::{StepPattern, first_within, last_before};
+use crate::{Act, TraceStep};
 use snap_semantics::Name;
 
 /// A scan: its process, and the places of the trace at which it began and ended, counted from 0.
@@ -51,16 +51,16 @@ fn takes_view(act: &Act) -> bool
 }
 
 /// Returns the last place before one at which a process set a view local.
-fn set_before(steps: &[Step], process: u32, view: Name, k: usize) -> Option<usize>
+fn set_before(steps: &[TraceStep], process: u32, view: Name, k: usize) -> Option<usize>
     requires { k ≤ length steps.now }
     ensures place { result ≡ set_before steps.now process view k }
     ensures within { IfSome result (λ d. d < k) }
 {
-    last_before(steps, k, Wanted::Sets(process, view))
+    last_before(steps, k, StepPattern::Sets(process, view))
 }
 
 /// Returns the place at which the view was set that the item at a place hands on.
-fn set_for(steps: &[Step], k: usize) -> Option<usize>
+fn set_for(steps: &[TraceStep], k: usize) -> Option<usize>
     requires { k ≤ length steps.now }
     ensures place { result ≡ set_for steps.now k }
     ensures within { IfSome result (λ d. d < k) }
@@ -80,25 +80,25 @@ fn word_read(act: &Act) -> Option<u64>
 }
 
 /// Returns the place at which the word was written that the item at a place reads.
-fn write_read(steps: &[Step], place: Option<usize>) -> Option<usize>
+fn write_read(steps: &[TraceStep], place: Option<usize>) -> Option<usize>
     requires { IfSome place (λ k. k < length steps.now) }
     ensures place { result ≡ write_read steps.now place }
     ensures within { IfSome result (λ k. k < length steps.now) }
 {
     let k = place?;
-    last_before(steps, k, Wanted::WriteOf(word_read(&steps[k].act)?))
+    last_before(steps, k, StepPattern::WriteOf(word_read(&steps[k].act)?))
 }
 
 /// Returns the place at which the view was written that the item at a place sets.
-fn source_by(steps: &[Step], k: usize, process: u32, act: &Act) -> Option<usize>
+fn source_by(steps: &[TraceStep], k: usize, process: u32, act: &Act) -> Option<usize>
     requires { k < length steps.now }
     ensures place { result ≡ source_by steps.now k process act.now }
     ensures within { IfSome result (λ w. w < length steps.now) }
 {
     match act {
-        Act::Look(j, _) => last_before(steps, k, Wanted::Published(*j)),
+        Act::Look(j, _) => last_before(steps, k, StepPattern::Published(*j)),
         Act::Borrow(spot, _) => {
-            let read = last_before(steps, k, Wanted::ReadInto(process, *spot));
+            let read = last_before(steps, k, StepPattern::ReadInto(process, *spot));
             write_read(steps, read)
         }
         _ => None,
@@ -106,7 +106,7 @@ fn source_by(steps: &[Step], k: usize, process: u32, act: &Act) -> Option<usize>
 }
 
 /// Returns the place at which the view was written that the item at a place sets.
-pub fn source_at(steps: &[Step], place: Option<usize>) -> Option<usize>
+pub fn source_at(steps: &[TraceStep], place: Option<usize>) -> Option<usize>
     requires { IfSome place (λ k. k < length steps.now) }
     ensures place { result ≡ source_at steps.now place }
     ensures within { IfSome result (λ w. w < length steps.now) }
@@ -118,7 +118,7 @@ pub fn source_at(steps: &[Step], place: Option<usize>) -> Option<usize>
 /// Returns the scan of an update of a process within which a place lies, and which ended before
 /// another place.
 fn scan_around(
-    steps: &[Step],
+    steps: &[TraceStep],
     process: u32,
     before: usize,
     place: Option<usize>,
@@ -129,8 +129,8 @@ fn scan_around(
     ensures within { IfSome result (λ s. s.to < length steps.now) }
 {
     let place = place?;
-    let from = last_before(steps, place, Wanted::Enter(process))?;
-    let to = first_within(steps, from, before - from, Wanted::Leave(process))?;
+    let from = last_before(steps, place, StepPattern::Enter(process))?;
+    let to = first_within(steps, from, before - from, StepPattern::Leave(process))?;
     if place < to {
         Some(ScanPlaces { process, from, to })
     } else {
@@ -139,7 +139,7 @@ fn scan_around(
 }
 
 /// Returns the scan that saw the view that was written at a place.
-pub fn lender_at(steps: &[Step], place: Option<usize>) -> Option<ScanPlaces>
+pub fn lender_at(steps: &[TraceStep], place: Option<usize>) -> Option<ScanPlaces>
     requires { IfSome place (λ k. k < length steps.now) }
     ensures scan { result ≡ lender_at steps.now place }
     ensures within { IfSome result (λ s. s.to < length steps.now) }
@@ -149,7 +149,7 @@ pub fn lender_at(steps: &[Step], place: Option<usize>) -> Option<ScanPlaces>
 }
 
 /// Returns the place at which a scan took the view that it ends with.
-fn taken_in(steps: &[Step], scan: ScanPlaces) -> Option<usize>
+fn taken_in(steps: &[TraceStep], scan: ScanPlaces) -> Option<usize>
     requires { scan.to ≤ length steps.now }
     ensures place { result ≡ taken_in steps.now scan }
     ensures within { IfSome result (λ k. k < length steps.now) }
@@ -164,7 +164,7 @@ fn taken_in(steps: &[Step], scan: ScanPlaces) -> Option<usize>
 
 /// Returns the view that a scan took and ends with.
 #[tactic(auto, unfolding(crate::specs::Loans::view_taken))]
-pub fn view_taken(steps: &[Step], scan: ScanPlaces) -> Option<Borrowed>
+pub fn view_taken(steps: &[TraceStep], scan: ScanPlaces) -> Option<Borrowed>
     requires { scan.to ≤ length steps.now }
     ensures view { result ≡ view_taken steps.now scan }
     ensures within { IfSome result (λ b. IfSome b.lender (λ s. s.to ≤ length steps.now)) }

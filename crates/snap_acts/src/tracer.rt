@@ -1,4 +1,4 @@
-//! `trace`: what each item of a run did, as a `Step`.
+//! `trace`: what each item of a run did, as a `TraceStep`.
 ghost use Rattle.std.specs.Prelude.{◌≡◌, length, IfOk, MatchOption};
 ghost use Rattle.snap_words.specs.Shape.{IsOneOf};
 ghost use Rattle.snap_semantics.specs.Readers.{line_of};
@@ -9,8 +9,8 @@ ghost use Rattle.snap_acts.specs.Tells.{Tells};
 ghost use Rattle.snap_acts.specs.Trace.{act_of, call_act, line_number, returned};
 ghost use Rattle.snap_acts.specs.Trace.{stands_at, stepped, trace_of};
 
-use crate::act::{Act, Step};
-use crate::plan::{Plan, plan_of};
+use crate::act::{Act, TraceStep};
+use crate::intent::{Intent, intent_of};
 use snap_asm_program::Program;
 use snap_machine::Machine;
 use snap_sched::Schedule;
@@ -30,21 +30,21 @@ fn stands_at(line: Option<u64>, target: u64) -> bool
 }
 
 /// Returns what a step did, by what it was about to do.
-fn stepped<K: Kind>(machine: &Machine<K>, i: u32, plan: Plan) -> Result<Act, AllocError>
+fn stepped<K: Kind>(machine: &Machine<K>, i: u32, intent: Intent) -> Result<Act, AllocError>
     requires { IsOneOf machine.now.shape.n i }
-    ensures { IfOk result (λ a. a ≡ stepped plan machine.now.state i) }
+    ensures { IfOk result (λ a. a ≡ stepped intent machine.now.state i) }
 {
-    match plan {
-        Plan::Write(word, view) => Ok(Act::Write(word, machine.values()?, view)),
-        Plan::Publish(k, view) => Ok(Act::Publish(k, view)),
-        Plan::Read(word, spot) => Ok(Act::Read(word, spot)),
-        Plan::Look(k, view) => Ok(Act::Look(k, view)),
-        Plan::Borrow(spot, view) => Ok(Act::Borrow(spot, view)),
-        Plan::Collect(view) => Ok(Act::Collect(view)),
-        Plan::Test(target) => Ok(Act::Test(stands_at(machine.line(i), target))),
-        Plan::Enter => Ok(Act::Enter),
-        Plan::Leave(view) => Ok(Act::Leave(view)),
-        Plan::Other => Ok(Act::Other),
+    match intent {
+        Intent::Write(word, view) => Ok(Act::Write(word, machine.values()?, view)),
+        Intent::Publish(k, view) => Ok(Act::Publish(k, view)),
+        Intent::Read(word, spot) => Ok(Act::Read(word, spot)),
+        Intent::Look(k, view) => Ok(Act::Look(k, view)),
+        Intent::Borrow(spot, view) => Ok(Act::Borrow(spot, view)),
+        Intent::Collect(view) => Ok(Act::Collect(view)),
+        Intent::Test(target) => Ok(Act::Test(stands_at(machine.line(i), target))),
+        Intent::Enter => Ok(Act::Enter),
+        Intent::Leave(view) => Ok(Act::Leave(view)),
+        Intent::Other => Ok(Act::Other),
     }
 }
 
@@ -60,11 +60,11 @@ fn call_act(item: Item) -> Act
 }
 
 /// Returns the view local that a line was about to return.
-fn returned(plan: Plan) -> Option<Name>
-    ensures { result ≡ returned plan }
+fn returned(intent: Intent) -> Option<Name>
+    ensures { result ≡ returned intent }
 {
-    match plan {
-        Plan::Leave(view) => Some(view),
+    match intent {
+        Intent::Leave(view) => Some(view),
         _ => None,
     }
 }
@@ -72,17 +72,17 @@ fn returned(plan: Plan) -> Option<Name>
 /// Returns what an item did, by what it was about to do and its outcome.
 fn act_of<K: Kind>(
     machine: &Machine<K>,
-    plan: Plan,
+    intent: Intent,
     item: Item,
     outcome: Outcome,
 ) -> Result<Act, AllocError>
     requires { IsOneOf machine.now.shape.n (who item) }
-    ensures { IfOk result (λ a. a ≡ act_of plan machine.now.state (who item) item outcome) }
+    ensures { IfOk result (λ a. a ≡ act_of intent machine.now.state (who item) item outcome) }
 {
     match outcome {
         Outcome::Called => Ok(call_act(item)),
-        Outcome::Stepped => stepped(machine, who(item), plan),
-        Outcome::Answered(view) => Ok(Act::Answer(view, returned(plan))),
+        Outcome::Stepped => stepped(machine, who(item), intent),
+        Outcome::Answered(view) => Ok(Act::Answer(view, returned(intent))),
         Outcome::Finished => Ok(Act::Done),
         Outcome::Trapped(_) => Ok(Act::Trap),
         Outcome::Crashed => Ok(Act::Crash),
@@ -101,7 +101,7 @@ fn line_number(line: Option<u64>) -> u64
 }
 
 /// Does the next item of a run, if there is one, and returns what it did.
-fn next_step<K: Kind>(walk: &mut Walk<'_, K>) -> Result<Option<Step>, AllocError>
+fn next_step<K: Kind>(walk: &mut Walk<'_, K>) -> Result<Option<TraceStep>, AllocError>
     ensures { IfOk result (λ o. MatchOption o (walk.old.at ≡ length walk.old.run.items)
         (λ step. Tells walk.old step walk.new)) }
 {
@@ -110,7 +110,7 @@ fn next_step<K: Kind>(walk: &mut Walk<'_, K>) -> Result<Option<Step>, AllocError
     };
     let process = who(item);
     let line = line_number(walk.machine().line(process));
-    let plan = plan_of(walk.machine(), item);
+    let intent = intent_of(walk.machine(), item);
     let Some(
         Passed {
             number,
@@ -121,8 +121,8 @@ fn next_step<K: Kind>(walk: &mut Walk<'_, K>) -> Result<Option<Step>, AllocError
     else {
         return Ok(None);
     };
-    let act = act_of(walk.machine(), plan, item, outcome)?;
-    Ok(Some(Step {
+    let act = act_of(walk.machine(), intent, item, outcome)?;
+    Ok(Some(TraceStep {
         process,
         item: number,
         line,
@@ -139,7 +139,7 @@ pub fn trace<K: Kind>(
     alloc: Global,
     program: &Program,
     schedule: &Schedule,
-) -> Result<Vec<Step>, AllocError>
+) -> Result<Vec<TraceStep>, AllocError>
     requires { program.now.kind ≡ K.TAG }
     ensures { IfOk result (λ v. v.items ≡ trace_of (run_over program.now schedule.now)) }
 {

@@ -1,5 +1,6 @@
 //! The printed text of an audit: a line for the verdict on each answered scan.
-ghost use Rattle.std.specs.Prelude.{◌≡◌, ◌++◌, IfOk, OnOk};
+ghost use Rattle.std.specs.Prelude.{◌≡◌, IfOk};
+ghost use Rattle.snap_text.specs.Drafted.{Adds};
 ghost use Rattle.snap_runs.specs.Run.{run_over};
 ghost use Rattle.snap_audit.specs.VerdictText.{audit_text, point_text, verdict_line, verdict_lines};
 
@@ -8,17 +9,17 @@ use snap_asm_program::Program;
 use snap_record::Record;
 use snap_runs::Verdict;
 use snap_sched::Schedule;
-use snap_text::{push_number, push_text};
+use snap_text::Draft;
 use snap_words::Kind;
 use std::alloc::{AllocError, Global};
 
 /// Appends a point, or that there is none.
-fn point_text(out: &mut Vec<u8>, point: Option<u64>) -> Result<(), AllocError>
-    ensures { OnOk result (out.new.items ≡ out.old.items ++ point_text point) }
+fn point_text(out: &mut Draft, point: Option<u64>)
+    ensures { Adds out.old out.new (point_text point) }
 {
     match point {
-        Some(item) => push_number(out, item),
-        None => push_text(out, b"none"),
+        Some(item) => out.push_number(item),
+        None => out.push(b"none"),
     }
 }
 
@@ -27,21 +28,20 @@ fn point_text(out: &mut Vec<u8>, point: Option<u64>) -> Result<(), AllocError>
 /// # Errors
 ///
 /// `AllocError` where memory runs out.
-#[tactic(auto, using(snap_text::proofs::Texts::joined))]
-pub fn push_verdict_line(out: &mut Vec<u8>, verdict: &Verdict) -> Result<(), AllocError>
-    ensures { OnOk result (out.new.items ≡ out.old.items ++ verdict_line verdict.now) }
+pub fn push_verdict_line(out: &mut Draft, verdict: &Verdict)
+    ensures { Adds out.old out.new (verdict_line verdict.now) }
 {
-    push_text(out, b"scan ")?;
-    push_number(out, u64::from(verdict.process))?;
-    push_text(out, b" call ")?;
-    push_number(out, verdict.call)?;
-    push_text(out, b" answer ")?;
-    push_number(out, verdict.answer)?;
-    push_text(out, b" point ")?;
-    point_text(out, verdict.point)?;
-    push_text(out, b" collects ")?;
-    push_number(out, verdict.collects)?;
-    push_text(out, b"\n")
+    out.push(b"scan ");
+    out.push_number(u64::from(verdict.process));
+    out.push(b" call ");
+    out.push_number(verdict.call);
+    out.push(b" answer ");
+    out.push_number(verdict.answer);
+    out.push(b" point ");
+    point_text(out, verdict.point);
+    out.push(b" collects ");
+    out.push_number(verdict.collects);
+    out.push(b"\n");
 }
 
 /// Returns the line of a verdict, `scan I call C answer E point P collects N`.
@@ -52,28 +52,27 @@ pub fn push_verdict_line(out: &mut Vec<u8>, verdict: &Verdict) -> Result<(), All
 pub fn verdict_line(alloc: Global, verdict: &Verdict) -> Result<Vec<u8>, AllocError>
     ensures { IfOk result (λ line. line.items ≡ verdict_line verdict.now) }
 {
-    let mut line = Vec::new(alloc);
-    push_verdict_line(&mut line, verdict)?;
-    Ok(line)
+    let mut line = Draft::new(alloc);
+    push_verdict_line(&mut line, verdict);
+    line.finish()
 }
 
 /// Appends the lines of verdicts.
-fn verdict_lines(out: &mut Vec<u8>, verdicts: &[Verdict]) -> Result<(), AllocError>
-    ensures { OnOk result (out.new.items ≡ out.old.items ++ verdict_lines verdicts.now) }
+fn verdict_lines(out: &mut Draft, verdicts: &[Verdict])
+    ensures { Adds out.old out.new (verdict_lines verdicts.now) }
 {
     for verdict in verdicts {
-        push_verdict_line(out, verdict)?;
+        push_verdict_line(out, verdict);
     }
-    Ok(())
 }
 
 /// Returns the text of verdicts, a line for each.
 fn text_of(alloc: Global, verdicts: &[Verdict]) -> Result<Vec<u8>, AllocError>
     ensures { IfOk result (λ out. out.items ≡ verdict_lines verdicts.now) }
 {
-    let mut out = Vec::new(alloc);
-    verdict_lines(&mut out, verdicts)?;
-    Ok(out)
+    let mut out = Draft::new(alloc);
+    verdict_lines(&mut out, verdicts);
+    out.finish()
 }
 
 /// Returns the audit of a record, a line for each verdict.

@@ -3,6 +3,7 @@
 ghost use Rattle.std.specs.Prelude.{◌≡◌, ◌<◌, ◌+◌, [], ◌∷◌, ◌++◌, ◌^◌};
 ghost use Rattle.std.specs.Prelude.{true, IfOk, OnOk, replicate};
 ghost use Rattle.std.specs.List.{AllByRecursion};
+ghost use Rattle.snap_text.specs.Drafted.{Adds};
 ghost use Rattle.snap_words.specs.Shape.{IsOneOf};
 ghost use Rattle.snap_semantics.specs.Run.{event_of};
 ghost use Rattle.snap_semantics.specs.Schedule.{Schedule};
@@ -12,13 +13,13 @@ ghost use Rattle.snap_semantics.specs.declared.process.Item.TheVariants.{Step};
 ghost use Rattle.snap_batch.specs.Courses.{DoesNothing, Takes};
 ghost use Rattle.snap_batch.specs.End.{IsEnd, end_report};
 
-use crate::own_code::OwnCode;
 use snap_asm_program::Program;
-use snap_machine::Machine;
+use snap_machine::{Machine, OwnCode};
 use snap_record::event_of;
 use snap_report::report;
 use snap_sched::Schedule;
 use snap_semantics::{Event, Item, Outcome, Status, who};
+use snap_text::Draft;
 use snap_words::Kind;
 use std::alloc::{AllocError, Global};
 
@@ -112,9 +113,9 @@ impl<K: Kind> Course<K> {
     ///
     /// `AllocError` where memory runs out.
     #[tactic(auto, using(crate::proofs::Ends::end_reported))]
-    pub fn push_report(&self, out: &mut Vec<u8>) -> Result<(), AllocError>
+    pub fn push_report(&self, out: &mut Draft)
         ensures { (l : Source) (s : Schedule) → IsEnd l s self.now →
-            OnOk result (out.new.items ≡ out.old.items ++ end_report l s) }
+            Adds out.old out.new (end_report l s) }
     {
         report(
             out,
@@ -122,7 +123,7 @@ impl<K: Kind> Course<K> {
             self.events.as_slice(),
             self.done,
             self.done,
-        )
+        );
     }
 }
 

@@ -7,14 +7,13 @@ ghost use Rattle.std.specs.Prelude.{◌≡◌, IfOk, map};
 ghost use Rattle.snap_batch.specs.End.{end_report};
 
 mod course;
-mod own_code;
 
 pub use course::{Course, run_to_end};
-pub use own_code::OwnCode;
 use rayon::prelude::*;
 use snap_asm_program::Program;
 pub use snap_report::Report;
 use snap_sched::Schedule;
+use snap_text::Draft;
 use snap_words::{Bits, Kind, KindTag, Multi, Seq};
 use std::alloc::{AllocError, Global};
 use std::thread::Threads;
@@ -29,9 +28,9 @@ fn report_of<K: Kind>(
     ensures { IfOk result (λ report. report ≡ end_report program.now schedule.now) }
 {
     let course = run_to_end::<K>(alloc, program, schedule)?;
-    let mut text = Vec::new(alloc);
-    course.push_report(&mut text)?;
-    Ok(Report::of(text))
+    let mut text = Draft::new(alloc);
+    course.push_report(&mut text);
+    Ok(Report::of(text.finish()?))
 }
 
 /// Returns the report of the end of a schedule.

@@ -1,4 +1,4 @@
-//! Laws of certificates.
+//! Laws of certificates: a run that has one is linearizable.
 ghost use Rattle.snap_certify.specs.Certification.{CertifiedExactly};
 ghost use Rattle.snap_certify.specs.Certification.{CertifiedHasCertificate, PointsCertify};
 ghost use Rattle.snap_certify.specs.Certificate.{CertifiedByPoints, CertifiedHasPlaces};

@@ -1,6 +1,6 @@
 //! `certification_text`: the printed certification of a run, a line for each operation in the order
 //! of linearization points, or the line of what is missing and a verdict on the run.
-ghost use Rattle.std.specs.Prelude.{◌≡◌, ◌++◌, IfOk, OnOk, codes, drop};
+ghost use Rattle.std.specs.Prelude.{◌≡◌, ◌++◌, IfOk, codes, drop};
 ghost use Rattle.snap_text.specs.Drafted.{Adds};
 ghost use Rattle.snap_certify.specs.Certification.{seen_certification};
 ghost use Rattle.snap_certify.specs.CertificationText.{
@@ -27,7 +27,7 @@ use crate::{Certification, Lack, Missing, UpdateWrite, certify};
 use snap_record::Record;
 use snap_run_judge::{MOST_CONFIGURATIONS, judge_record, push_verdict};
 use snap_runs::Verdict;
-use snap_text::{Draft, push_number, push_text};
+use snap_text::Draft;
 use snap_words::Kind;
 use std::alloc::{AllocError, Global};
 
@@ -104,41 +104,39 @@ fn places_text(out: &mut Draft, writes: &[UpdateWrite], scans: &[Verdict])
 }
 
 /// Appends what is missing, in words.
-fn lack_text(out: &mut Vec<u8>, lack: Lack) -> Result<(), AllocError>
-    ensures { OnOk result (out.new.items ≡ out.old.items ++ lack_text lack) }
+fn lack_text(out: &mut Draft, lack: Lack)
+    ensures { Adds out.old out.new (lack_text lack) }
 {
     match lack {
-        Lack::Line => push_text(out, b"another line changes the values"),
-        Lack::Update => push_text(out, b"a scan executes the line at which updates write"),
-        Lack::FirstWrite => push_text(out, b"the update writes twice"),
-        Lack::OwnValue => push_text(out, b"the update writes something else"),
-        Lack::Write => push_text(out, b"the update ends without its write"),
-        Lack::Point => push_text(out, b"the scan has no point"),
+        Lack::Line => out.push(b"another line changes the values"),
+        Lack::Update => out.push(b"a scan executes the line at which updates write"),
+        Lack::FirstWrite => out.push(b"the update writes twice"),
+        Lack::OwnValue => out.push(b"the update writes something else"),
+        Lack::Write => out.push(b"the update ends without its write"),
+        Lack::Point => out.push(b"the scan has no point"),
     }
 }
 
 /// Appends `: WHAT`.
-#[tactic(auto, using(snap_text::proofs::Texts::joined))]
-fn reason_text(out: &mut Vec<u8>, lack: Lack) -> Result<(), AllocError>
-    ensures { OnOk result (out.new.items ≡ out.old.items ++ reason_text lack) }
+fn reason_text(out: &mut Draft, lack: Lack)
+    ensures { Adds out.old out.new (reason_text lack) }
 {
-    push_text(out, b": ")?;
-    lack_text(out, lack)?;
-    push_text(out, b"\n")
+    out.push(b": ");
+    lack_text(out, lack);
+    out.push(b"\n");
 }
 
 /// Appends `process I call C item T: WHAT`.
-#[tactic(auto, using(snap_text::proofs::Texts::joined))]
-fn missing_line(out: &mut Vec<u8>, missing: &Missing) -> Result<(), AllocError>
-    ensures { OnOk result (out.new.items ≡ out.old.items ++ missing_line missing.now) }
+fn missing_line(out: &mut Draft, missing: &Missing)
+    ensures { Adds out.old out.new (missing_line missing.now) }
 {
-    push_text(out, b"process ")?;
-    push_number(out, u64::from(missing.process))?;
-    push_text(out, b" call ")?;
-    push_number(out, missing.call)?;
-    push_text(out, b" item ")?;
-    push_number(out, missing.item)?;
-    reason_text(out, missing.lack)
+    out.push(b"process ");
+    out.push_number(u64::from(missing.process));
+    out.push(b" call ");
+    out.push_number(missing.call);
+    out.push(b" item ");
+    out.push_number(missing.item);
+    reason_text(out, missing.lack);
 }
 
 /// Returns the text of a certified run: its operations in the order of their places.
@@ -160,9 +158,9 @@ fn certified_text(
 fn missing_text(alloc: Global, missing: &Missing) -> Result<Vec<u8>, AllocError>
     ensures { IfOk result (λ out. out.items ≡ missing_line missing.now) }
 {
-    let mut out = Vec::new(alloc);
-    missing_line(&mut out, missing)?;
-    Ok(out)
+    let mut out = Draft::new(alloc);
+    missing_line(&mut out, missing);
+    out.finish()
 }
 
 /// Returns the text of a certification.
@@ -179,7 +177,6 @@ pub(crate) fn text_of(alloc: Global, certification: &Certification) -> Result<Ve
 }
 
 /// Returns `text`, and behind it the verdict on the run of `history`.
-#[tactic(auto, using(snap_text::proofs::Texts::joined))]
 pub(crate) fn with_verdict<K: Kind>(
     alloc: Global,
     history: &Record<K>,
@@ -190,9 +187,9 @@ pub(crate) fn with_verdict<K: Kind>(
         × (out.items ≡ text.items ++ verdict_text (history_of history.now) j)) }
 {
     let judgement = judge_record(alloc, history, MOST_CONFIGURATIONS)?;
-    let mut out = text;
-    push_verdict(&mut out, history, &judgement)?;
-    Ok(out)
+    let mut out = Draft::of(text);
+    push_verdict(&mut out, history, &judgement);
+    out.finish()
 }
 
 /// Returns what a record is certified by, a line for each operation in the order of places; or what

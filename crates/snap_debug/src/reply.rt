@@ -1,5 +1,6 @@
 //! `Reply`: the text that a debugger session answers to a command, and a function for each reply.
-ghost use Rattle.std.specs.Prelude.{◌≡◌, ◌++◌, IfOk, OnOk, length, zero};
+ghost use Rattle.std.specs.Prelude.{◌≡◌, ◌++◌, IfOk, false, length, zero};
+ghost use Rattle.snap_text.specs.Drafted.{Adds};
 ghost use Rattle.snap_words.specs.Shape.{IsOneOf};
 ghost use Rattle.snap_semantics.specs.Readers.{contents};
 ghost use Rattle.snap_semantics.specs.Report.{position_line, process_lines, values_line};
@@ -15,7 +16,7 @@ use snap_report::{
     event_lines, head_lines, outcome_text, position_line, process_lines, register_line, values_line,
 };
 use snap_semantics::{Event, Outcome};
-use snap_text::{push_number, push_text};
+use snap_text::Draft;
 use snap_words::{Address, Kind};
 use std::alloc::{AllocError, Global};
 use std::marker::Model;
@@ -35,6 +36,19 @@ impl Model for Reply {
 }
 
 impl Reply {
+    /// Returns the reply that a draft is put together to.
+    ///
+    /// # Errors
+    ///
+    /// `AllocError` where memory ran out for one of the pieces.
+    fn of(draft: Draft) -> Result<Reply, AllocError>
+        ensures { IfOk result (λ r. (r ≡ draft.text) × (draft.failed ≡ false)) }
+    {
+        Ok(Reply {
+            text: draft.finish()?,
+        })
+    }
+
     /// Returns the bytes of the reply.
     pub fn as_slice(&self) -> &[u8]
         ensures { result.now ≡ self.now }
@@ -44,24 +58,23 @@ impl Reply {
 }
 
 /// Returns `marks M`.
-#[tactic(auto, using(snap_text::proofs::Texts::joined))]
 pub(crate) fn marks_reply(alloc: Global, marks: &Marks) -> Result<Reply, AllocError>
     ensures { IfOk result (λ r. r ≡ marks_line marks.now) }
 {
-    let mut text = Vec::new(alloc);
-    push_text(&mut text, b"marks ")?;
-    push_number(&mut text, marks.count() as u64)?;
-    push_text(&mut text, b"\n")?;
-    Ok(Reply { text })
+    let mut text = Draft::new(alloc);
+    text.push(b"marks ");
+    text.push_number(marks.count() as u64);
+    text.push(b"\n");
+    Reply::of(text)
 }
 
 /// Returns the line of a position.
 pub(crate) fn position_reply(alloc: Global, position: u64, total: u64) -> Result<Reply, AllocError>
     ensures { IfOk result (λ r. r ≡ position_line position total) }
 {
-    let mut text = Vec::new(alloc);
-    position_line(&mut text, position, total)?;
-    Ok(Reply { text })
+    let mut text = Draft::new(alloc);
+    position_line(&mut text, position, total);
+    Reply::of(text)
 }
 
 /// Returns the line of a register.
@@ -73,9 +86,9 @@ pub(crate) fn register_reply<K: Kind>(
     ensures { IfOk result (λ r. r ≡ register_line machine.now.source.kind a.bank a.i a.j
         (contents machine.now.state.memory a.bank a.i a.j)) }
 {
-    let mut text = Vec::new(alloc);
-    register_line(&mut text, machine, a)?;
-    Ok(Reply { text })
+    let mut text = Draft::new(alloc);
+    register_line(&mut text, machine, a);
+    Reply::of(text)
 }
 
 /// Returns the lines of a process.
@@ -88,9 +101,9 @@ pub(crate) fn process_reply<K: Kind>(
     ensures { IfOk result (λ r. r ≡ process_lines machine.now.source.kind i
         (process_at machine.now.state i)) }
 {
-    let mut text = Vec::new(alloc);
-    process_lines(&mut text, machine, i)?;
-    Ok(Reply { text })
+    let mut text = Draft::new(alloc);
+    process_lines(&mut text, machine, i);
+    Reply::of(text)
 }
 
 /// Returns the line of the values.
@@ -100,43 +113,40 @@ pub(crate) fn values_reply<K: Kind>(
 ) -> Result<Reply, AllocError>
     ensures { IfOk result (λ r. r ≡ values_line (values machine.now.state)) }
 {
-    let mut text = Vec::new(alloc);
-    values_line(&mut text, machine)?;
-    Ok(Reply { text })
+    let mut text = Draft::new(alloc);
+    values_line(&mut text, machine);
+    Reply::of(text)
 }
 
 /// Returns how many events there are, and their lines.
-#[tactic(auto, using(snap_text::proofs::Texts::joined))]
 pub(crate) fn events_reply(alloc: Global, events: &[Event]) -> Result<Reply, AllocError>
     ensures { IfOk result (λ r. r ≡ events_text events.now) }
 {
-    let mut text = Vec::new(alloc);
-    push_text(&mut text, b"events ")?;
-    push_number(&mut text, events.len() as u64)?;
-    push_text(&mut text, b"\n")?;
-    event_lines(&mut text, events)?;
-    Ok(Reply { text })
+    let mut text = Draft::new(alloc);
+    text.push(b"events ");
+    text.push_number(events.len() as u64);
+    text.push(b"\n");
+    event_lines(&mut text, events);
+    Reply::of(text)
 }
 
 /// Appends the last item's process, and its outcome.
-#[tactic(auto, using(snap_text::proofs::Texts::joined))]
-fn last_text(out: &mut Vec<u8>, last: &Option<(u32, Outcome)>) -> Result<(), AllocError>
-    ensures { OnOk result (out.new.items ≡ out.old.items ++ last_text last.now) }
+fn last_text(out: &mut Draft, last: &Option<(u32, Outcome)>)
+    ensures { Adds out.old out.new (last_text last.now) }
 {
     match last {
-        None => push_text(out, b"last none\n"),
+        None => out.push(b"last none\n"),
         Some((process, outcome)) => {
-            push_text(out, b"last ")?;
-            push_number(out, u64::from(*process))?;
-            push_text(out, b" ")?;
-            outcome_text(out, outcome)?;
-            push_text(out, b"\n")
+            out.push(b"last ");
+            out.push_number(u64::from(*process));
+            out.push(b" ");
+            outcome_text(out, outcome);
+            out.push(b"\n");
         }
     }
 }
 
 /// Returns the line of the position, the last item and where the processes stand.
-#[tactic(auto, using(snap_text::proofs::Texts::joined))]
 pub(crate) fn where_reply<K: Kind>(
     alloc: Global,
     machine: &Machine<K>,
@@ -147,9 +157,9 @@ pub(crate) fn where_reply<K: Kind>(
     ensures { IfOk result (λ r. r ≡ position_line position total ++ last_text last.now
         ++ head_lines 1 machine.now.state.processes) }
 {
-    let mut text = Vec::new(alloc);
-    position_line(&mut text, position, total)?;
-    last_text(&mut text, last)?;
-    head_lines(&mut text, machine)?;
-    Ok(Reply { text })
+    let mut text = Draft::new(alloc);
+    position_line(&mut text, position, total);
+    last_text(&mut text, last);
+    head_lines(&mut text, machine);
+    Reply::of(text)
 }

@@ -36,6 +36,7 @@ use snap_machine::Machine;
 use snap_report::{Report, report};
 use snap_sched::Schedule;
 use snap_semantics::{CommandRefusal, Fault, Outcome, who};
+use snap_text::Draft;
 use snap_words::{Address, Kind};
 use std::alloc::{AllocError, Global};
 use std::marker::Model;
@@ -456,14 +457,14 @@ impl<K: Kind> Session<K> {
     pub fn report(&self) -> Result<Report, AllocError>
         ensures { IfOk result (λ t. t ≡ report_at self.now.run self.now.position) }
     {
-        let mut text = Vec::new(self.alloc);
+        let mut text = Draft::new(self.alloc);
         report(
             &mut text,
             self.machine(),
             self.recording.events(self.position()),
             self.position(),
             self.total(),
-        )?;
-        Ok(Report::of(text))
+        );
+        Ok(Report::of(text.finish()?))
     }
 }

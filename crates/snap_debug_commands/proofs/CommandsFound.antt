@@ -14,7 +14,7 @@ use Rattle.snap_semantics.specs.Token.{Token, Identifier, Number, TextLine, text
 use Rattle.snap_text.specs.Lines.{line_tokens, found_lines}
 use Rattle.snap_text.specs.Tokens.{IsSound}
 use Rattle.snap_text.proofs.Sound.{AreSound, lines_sound}
-use Rattle.snap_sched.proofs.Found.{bind_found, number_found, end_found, keyword_found}
+use Rattle.snap_text.proofs.TokensFound.{bind_found, number_found, end_found, keyword_found}
 use Rattle.snap_debug_commands.specs.CommandForms.{keyword_form, number_form, numbers_form, place_form, bit_form}
 use Rattle.snap_debug_commands.specs.CommandForms.{address_form, breakpoint_form, register_form, moving_form}
 use Rattle.snap_debug_commands.specs.CommandForms.{marking_form, showing_form, command_form, spelled_address}

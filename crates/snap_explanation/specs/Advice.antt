@@ -5,9 +5,9 @@ use Rattle.snap_semantics.specs.declared.text.Symbol.TheVariants as symbol
 use Rattle.snap_semantics.specs.Token.{Token, is_digit, is_lexeme_byte}
 use Rattle.snap_explanation.specs.declared.line_sorts.LineSort.{LineSort}
 use Rattle.snap_explanation.specs.declared.line_sorts.LineSort.TheVariants as line
-use Rattle.snap_explanation.specs.declared.wanted.Keyword.TheVariants as keyword
-use Rattle.snap_explanation.specs.declared.wanted.Wanted.{Wanted}
-use Rattle.snap_explanation.specs.declared.wanted.Wanted.TheVariants as wanted
+use Rattle.snap_explanation.specs.declared.expected.Keyword.TheVariants as keyword
+use Rattle.snap_explanation.specs.declared.expected.Expected.{Expected}
+use Rattle.snap_explanation.specs.declared.expected.Expected.TheVariants as wanted
 use Rattle.snap_explanation.specs.After.{may_pass}
 use Rattle.snap_explanation.specs.Pieces.{PlacedToken}
 use Rattle.snap_explanation.specs.Tests.{is_symbol, is_identifier, is_name, is_line}
@@ -24,17 +24,17 @@ use Rattle.snap_explanation.specs.Names.{letters_of}
 use Rattle.snap_explanation.specs.Said.{rows, ranges, by_word, by_byte}
 
 -- whether advice is of what stands behind this: where names may follow, it is of names
-abbrev pub passes : Wanted → Bool
+abbrev pub passes : Expected → Bool
 passes wanted.Names = false
 passes w = may_pass w
 
 -- the first that has to stand there, where one has to
-abbrev pub firm : List Wanted → Option Wanted
+abbrev pub firm : List Expected → Option Expected
 firm [] = None
 firm (w ∷ ws) = if passes w then firm ws else Some w
 
 -- the table of what is advised at a piece, where this has to stand
-abbrev pub hints : Option Wanted → List (List ℕ × List ℕ)
+abbrev pub hints : Option Expected → List (List ℕ × List ℕ)
 hints None = rows END_HINTS.now
 hints (Some (wanted.Symbol symbol.CloseBracket)) = rows INDEX_HINTS.now
 hints (Some (wanted.Symbol symbol.Equal)) = rows SUM_HINTS.now
@@ -54,7 +54,7 @@ abbrev pub of_word : List ℕ → Token → List ℕ
 of_word x t = if is_identifier t then x else []
 
 -- what is advised at a token of which that table says nothing
-abbrev pub otherwise : Option Wanted → Token → List ℕ
+abbrev pub otherwise : Option Expected → Token → List ℕ
 otherwise (Some (wanted.Keyword keyword.Goto)) t = []
 otherwise (Some (wanted.Keyword keyword.R)) t = []
 otherwise (Some (wanted.Keyword keyword.V)) t = []
@@ -76,12 +76,12 @@ otherwise (Some wanted.Shown) t = REGISTERS.now
 otherwise _ t = []
 
 -- whether what a process does in a schedule has to stand there, or nothing
-abbrev pub is_act : List Wanted → Bool
+abbrev pub is_act : List Expected → Bool
 is_act (wanted.Act ∷ ws) = true
 is_act _ = false
 
 -- what is advised at a token that does not go on with what is wanted, and at the piece that it is
-abbrev pub advice : List Wanted → Token → List ℕ → List ℕ
+abbrev pub advice : List Expected → Token → List ℕ → List ℕ
 advice ws t piece = if is_act ws then [] else by_word (hints (firm ws)) (otherwise (firm ws) t) piece
 
 -- the first token, where it is a word; else nothing

@@ -2,16 +2,16 @@
 use Rattle.std.specs.Prelude.{List, map}
 use Rattle.snap_semantics.specs.Token.{Token}
 use Rattle.snap_text.specs.Tokens.{view_token}
-use Rattle.snap_explanation.specs.After.{Step, Takes, Passes, Refuses}
+use Rattle.snap_explanation.specs.After.{TokenStep, Takes, Passes, Refuses}
 use Rattle.snap_explanation.specs.Lost.{Place}
 use Rattle.snap_explanation.specs.Pieces.{PlacedToken, PlacedTokens}
-use Rattle.snap_explanation.specs.declared.after.Step as code
-use Rattle.snap_explanation.specs.declared.after.Step.TheVariants as made
+use Rattle.snap_explanation.specs.declared.after.TokenStep as code
+use Rattle.snap_explanation.specs.declared.after.TokenStep.TheVariants as made
 use Rattle.snap_explanation.specs.declared.lost.LostPlace.{LostPlace}
 use Rattle.snap_explanation.specs.declared.pieces.PlacedToken as token
 use Rattle.snap_explanation.specs.declared.pieces.PlacedTokens as tokens
 
-abbrev pub view_step : code.Step → Step
+abbrev pub view_step : code.TokenStep → TokenStep
 view_step (made.Takes next) = Takes next.items
 view_step made.Passes = Passes
 view_step made.Refuses = Refuses

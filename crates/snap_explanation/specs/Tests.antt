@@ -5,8 +5,8 @@ use Rattle.snap_semantics.specs.declared.text.Symbol.{Symbol}
 use Rattle.snap_semantics.specs.declared.text.Symbol.TheVariants as symbol
 use Rattle.snap_semantics.specs.ListingForms.{is_reserved, is_line_number}
 use Rattle.snap_semantics.specs.Token.{Token, Identifier, Number, Sign, same_symbol}
-use Rattle.snap_explanation.specs.declared.wanted.Keyword.{Keyword}
-use Rattle.snap_explanation.specs.declared.wanted.Keyword.TheVariants as keyword
+use Rattle.snap_explanation.specs.declared.expected.Keyword.{Keyword}
+use Rattle.snap_explanation.specs.declared.expected.Keyword.TheVariants as keyword
 
 -- whether a token is this word
 abbrev pub is_word : List ℕ → Token → Bool

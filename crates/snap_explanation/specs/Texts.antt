@@ -3,9 +3,9 @@ use Rattle.std.specs.Prelude.{ℕ, true, false, List, [], ◌∷◌, ◌++◌, i
 use Rattle.snap_semantics.specs.declared.instr.Join.TheVariants.{And, Or}
 use Rattle.snap_semantics.specs.declared.text.Symbol.{Symbol}
 use Rattle.snap_semantics.specs.Layout.{symbol_text}
-use Rattle.snap_explanation.specs.declared.wanted.Keyword.{Keyword}
-use Rattle.snap_explanation.specs.declared.wanted.Wanted.{Wanted}
-use Rattle.snap_explanation.specs.declared.wanted.Wanted.TheVariants as wanted
+use Rattle.snap_explanation.specs.declared.expected.Keyword.{Keyword}
+use Rattle.snap_explanation.specs.declared.expected.Expected.{Expected}
+use Rattle.snap_explanation.specs.declared.expected.Expected.TheVariants as wanted
 use Rattle.snap_explanation.specs.After.{may_pass}
 use Rattle.snap_explanation.specs.Tests.{keyword_text}
 use Rattle.snap_explanation.specs.declared.wording.TheConstants.{EXPECTED, OR, FOUND, END_OF_LINE, NUMBER}
@@ -24,7 +24,7 @@ symbol_words m = QUOTE.now ++ symbol_text m ++ QUOTE.now
 abbrev pub keyword_words : Keyword → List ℕ
 keyword_words k = QUOTE.now ++ keyword_text k ++ QUOTE.now
 
-abbrev pub wanted_words : Wanted → List ℕ
+abbrev pub wanted_words : Expected → List ℕ
 wanted_words (wanted.Symbol m) = symbol_words m
 wanted_words (wanted.Keyword k) = keyword_words k
 wanted_words wanted.Number = NUMBER.now
@@ -66,7 +66,7 @@ wanted_words wanted.Register = REGISTER.now
 wanted_words wanted.Shown = SHOWN.now
 
 -- all that may stand next
-abbrev pub expected_words : List Wanted → List ℕ
+abbrev pub expected_words : List Expected → List ℕ
 expected_words [] = END_OF_LINE.now
 expected_words (w ∷ ws) = if may_pass w then wanted_words w ++ OR.now ++ expected_words ws else wanted_words w
 
@@ -75,5 +75,5 @@ abbrev pub found_words : List ℕ → List ℕ
 found_words [] = FOUND.now ++ END_OF_LINE.now ++ LINE_END.now
 found_words (b ∷ piece) = FOUND.now ++ QUOTE.now ++ said_cut (b ∷ piece) ++ QUOTE_END.now
 
-unfoldable pub expected_line : List Wanted → List ℕ → List ℕ
+unfoldable pub expected_line : List Expected → List ℕ → List ℕ
 expected_line ws piece = EXPECTED.now ++ expected_words ws ++ found_words piece

@@ -10,12 +10,12 @@ ghost use Rattle.snap_explanation.specs.Advice.{numbered_advice, form_advice, st
 ghost use Rattle.snap_explanation.specs.Said.{view_row};
 
 use crate::after::may_pass;
+use crate::expected::{Expected, Keyword};
 use crate::line_sorts::LineSort;
 use crate::names::letters_of;
 use crate::pieces::{PlacedToken, is_lexeme_byte};
 use crate::tables::{by_byte, by_word};
 use crate::tests::{is_identifier, is_line, is_name, is_symbol};
-use crate::wanted::{Keyword, Wanted};
 use crate::wording::{
     BYTE_HINTS, COMMAND_FORMS, COMMANDS, COMPARISON_HINTS, END_HINTS, HEADERS, INDEX_HINTS,
     INSTRUCTION_FORMS, INSTRUCTION_HINTS, INSTRUCTIONS, ITEM, JOIN_HINTS, LEXEME_HINTS, LOCAL,
@@ -27,17 +27,17 @@ use snap_text::Token;
 
 /// Returns whether the advice is of what stands behind `wanted`: where names may follow, it is of
 /// names.
-fn passes(wanted: Wanted) -> bool
+fn passes(wanted: Expected) -> bool
     ensures { result ≡ passes wanted }
 {
     match wanted {
-        Wanted::Names => false,
+        Expected::Names => false,
         _ => may_pass(wanted),
     }
 }
 
 /// Returns the first part that has to stand there, if one has to.
-fn firm(wanted: &[Wanted]) -> Option<Wanted>
+fn firm(wanted: &[Expected]) -> Option<Expected>
     ensures { result ≡ firm wanted.now }
 {
     let mut rest = wanted;
@@ -51,59 +51,59 @@ fn firm(wanted: &[Wanted]) -> Option<Wanted>
 }
 
 /// Returns the table of the advice at a piece, where `wanted` has to stand.
-fn hints(wanted: Option<Wanted>) -> &'static [(&'static [u8], &'static [u8])]
+fn hints(wanted: Option<Expected>) -> &'static [(&'static [u8], &'static [u8])]
     ensures { map view_row result.now ≡ hints wanted }
 {
     match wanted {
         None => END_HINTS,
-        Some(Wanted::Symbol(Symbol::CloseBracket)) => INDEX_HINTS,
-        Some(Wanted::Symbol(Symbol::Equal)) => SUM_HINTS,
-        Some(Wanted::Keyword(Keyword::Goto)) => JOIN_HINTS,
-        Some(Wanted::Name | Wanted::Index(_)) => NAME_HINTS,
-        Some(Wanted::Term(_) | Wanted::Expr(_) | Wanted::SecondPart) => VALUE_HINTS,
-        Some(Wanted::Condition(_) | Wanted::Test) => COMPARISON_HINTS,
-        Some(Wanted::Instruction) => INSTRUCTION_HINTS,
+        Some(Expected::Symbol(Symbol::CloseBracket)) => INDEX_HINTS,
+        Some(Expected::Symbol(Symbol::Equal)) => SUM_HINTS,
+        Some(Expected::Keyword(Keyword::Goto)) => JOIN_HINTS,
+        Some(Expected::Name | Expected::Index(_)) => NAME_HINTS,
+        Some(Expected::Term(_) | Expected::Expr(_) | Expected::SecondPart) => VALUE_HINTS,
+        Some(Expected::Condition(_) | Expected::Test) => COMPARISON_HINTS,
+        Some(Expected::Instruction) => INSTRUCTION_HINTS,
         _ => &[],
     }
 }
 
 /// Returns the advice at a token of which the table says nothing.
-fn otherwise(wanted: Option<Wanted>, token: &Token<'_>) -> &'static [u8]
+fn otherwise(wanted: Option<Expected>, token: &Token<'_>) -> &'static [u8]
     ensures { result.now ≡ otherwise wanted (view_token token.now) }
 {
     match wanted {
-        Some(Wanted::Keyword(Keyword::Goto | Keyword::R | Keyword::V | Keyword::Shape)) => b"",
-        Some(Wanted::Keyword(_)) => HEADERS,
-        Some(Wanted::Name | Wanted::Index(_)) if is_identifier(token) => RESERVED,
+        Some(Expected::Keyword(Keyword::Goto | Keyword::R | Keyword::V | Keyword::Shape)) => b"",
+        Some(Expected::Keyword(_)) => HEADERS,
+        Some(Expected::Name | Expected::Index(_)) if is_identifier(token) => RESERVED,
         Some(
-            Wanted::Term(_)
-            | Wanted::Expr(_)
-            | Wanted::Condition(_)
-            | Wanted::SecondPart
-            | Wanted::Test,
+            Expected::Term(_)
+            | Expected::Expr(_)
+            | Expected::Condition(_)
+            | Expected::SecondPart
+            | Expected::Test,
         ) if is_identifier(token) => VALUES,
-        Some(Wanted::Names) => NAMES,
-        Some(Wanted::LineNumber) if is_identifier(token) => TARGET,
-        Some(Wanted::Instruction) if is_name(token) => LOCAL,
-        Some(Wanted::Command) => COMMANDS,
-        Some(Wanted::Register | Wanted::Shown) => REGISTERS,
+        Some(Expected::Names) => NAMES,
+        Some(Expected::LineNumber) if is_identifier(token) => TARGET,
+        Some(Expected::Instruction) if is_name(token) => LOCAL,
+        Some(Expected::Command) => COMMANDS,
+        Some(Expected::Register | Expected::Shown) => REGISTERS,
         _ => b"",
     }
 }
 
 /// Returns whether what a process does in a schedule has to stand there, or nothing.
-fn is_act(wanted: &[Wanted]) -> bool
+fn is_act(wanted: &[Expected]) -> bool
     ensures { result ≡ is_act wanted.now }
 {
     match wanted {
-        [Wanted::Act, ..] => true,
+        [Expected::Act, ..] => true,
         _ => false,
     }
 }
 
 /// Returns the advice at a token that does not go on with what is wanted, and at the piece that it
 /// is.
-pub fn advice(wanted: &[Wanted], token: &Token<'_>, piece: &[u8]) -> &'static [u8]
+pub fn advice(wanted: &[Expected], token: &Token<'_>, piece: &[u8]) -> &'static [u8]
     ensures { result.now ≡ advice wanted.now (view_token token.now) piece.now }
 {
     if is_act(wanted) {

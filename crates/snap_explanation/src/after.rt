@@ -1,5 +1,5 @@
-//! What a line of an input may have next after a token, `Step` by step: the grammar of listings,
-//! schedules, scripts and commands.
+//! What a line of an input may have next after a token, `TokenStep` by step: the grammar of
+//! listings, schedules, scripts and commands.
 ghost use Rattle.std.specs.Prelude.{◌≡◌, IfOk, OnOk, List, codes};
 ghost use Rattle.snap_text.specs.Tokens.{view_token};
 ghost use Rattle.snap_explanation.specs.After.{Takes, and_then, one, begun, maybe_begun};
@@ -16,100 +16,104 @@ ghost use Rattle.snap_explanation.specs.After.{is_watch, is_short, after_command
 ghost use Rattle.snap_explanation.specs.After.{may_pass, Passes, Refuses};
 ghost use Rattle.snap_explanation.specs.Steps.{view_step};
 
+use crate::expected::{Expected, Keyword};
 use crate::tests::{
     is_bit_bank, is_field, is_fixed_index, is_identifier, is_index, is_kind, is_line, is_name,
     is_number, is_positive, is_range, is_relation, is_symbol, is_within, is_word, keyword_text,
 };
-use crate::wanted::{Keyword, Wanted};
 use snap_listing::join_keyword;
 use snap_semantics::{Join, Symbol};
 use snap_text::Token;
 use snap_words::{MAX_COUNT, MAX_ITEMS};
 use std::alloc::{AllocError, Global};
 
-const OPEN_BRACKET: Wanted = Wanted::Symbol(Symbol::OpenBracket);
+const OPEN_BRACKET: Expected = Expected::Symbol(Symbol::OpenBracket);
 
-const CLOSE_BRACKET: Wanted = Wanted::Symbol(Symbol::CloseBracket);
+const CLOSE_BRACKET: Expected = Expected::Symbol(Symbol::CloseBracket);
 
-const OPEN_PARENTHESIS: Wanted = Wanted::Symbol(Symbol::OpenParenthesis);
+const OPEN_PARENTHESIS: Expected = Expected::Symbol(Symbol::OpenParenthesis);
 
-const CLOSE_PARENTHESIS: Wanted = Wanted::Symbol(Symbol::CloseParenthesis);
+const CLOSE_PARENTHESIS: Expected = Expected::Symbol(Symbol::CloseParenthesis);
 
-const COMMA: Wanted = Wanted::Symbol(Symbol::Comma);
+const COMMA: Expected = Expected::Symbol(Symbol::Comma);
 
-const EQUAL: Wanted = Wanted::Symbol(Symbol::Equal);
+const EQUAL: Expected = Expected::Symbol(Symbol::Equal);
 
-const COLON: Wanted = Wanted::Symbol(Symbol::Colon);
+const COLON: Expected = Expected::Symbol(Symbol::Colon);
 
-const GOTO: Wanted = Wanted::Keyword(Keyword::Goto);
+const GOTO: Expected = Expected::Keyword(Keyword::Goto);
 
 /// What a token does where something is wanted: it is taken or passed over.
 #[derive(Drop)]
-pub enum Step {
+pub enum TokenStep {
     /// The token is the front of what is wanted; the rest is wanted next.
-    Takes(Vec<Wanted>),
+    Takes(Vec<Expected>),
     /// The token is no part of what is wanted, which may be nothing.
     Passes,
     Refuses,
 }
 
 /// Returns a step that takes the token, with `next` wanted next.
-fn takes(alloc: Global, next: &[Wanted]) -> Result<Step, AllocError>
+fn takes(alloc: Global, next: &[Expected]) -> Result<TokenStep, AllocError>
     ensures { IfOk result (λ step. view_step step ≡ Takes next.now) }
 {
-    Ok(Step::Takes(Vec::from_slice(alloc, next)?))
+    Ok(TokenStep::Takes(Vec::from_slice(alloc, next)?))
 }
 
 /// Returns `step` with `more` wanted behind it.
-fn and_then(step: Step, more: &[Wanted]) -> Result<Step, AllocError>
+fn and_then(step: TokenStep, more: &[Expected]) -> Result<TokenStep, AllocError>
     ensures { IfOk result (λ made. view_step made ≡ and_then more.now (view_step step)) }
 {
     match step {
-        Step::Takes(mut next) => {
+        TokenStep::Takes(mut next) => {
             next.extend_from_slice(more)?;
-            Ok(Step::Takes(next))
+            Ok(TokenStep::Takes(next))
         }
-        Step::Passes => Ok(Step::Passes),
-        Step::Refuses => Ok(Step::Refuses),
+        TokenStep::Passes => Ok(TokenStep::Passes),
+        TokenStep::Refuses => Ok(TokenStep::Refuses),
     }
 }
 
 /// Returns a step over one token that passes a test.
-fn one(alloc: Global, passed: bool) -> Result<Step, AllocError>
+fn one(alloc: Global, passed: bool) -> Result<TokenStep, AllocError>
     ensures { IfOk result (λ step. view_step step ≡ one passed) }
 {
     begun(alloc, passed, &[])
 }
 
 /// Returns a step over tokens that begin with one that passes a test.
-fn begun(alloc: Global, passed: bool, next: &[Wanted]) -> Result<Step, AllocError>
+fn begun(alloc: Global, passed: bool, next: &[Expected]) -> Result<TokenStep, AllocError>
     ensures { IfOk result (λ step. view_step step ≡ begun passed next.now) }
 {
     if passed {
         takes(alloc, next)
     } else {
-        Ok(Step::Refuses)
+        Ok(TokenStep::Refuses)
     }
 }
 
 /// Returns a step over tokens that begin with one that passes a test, or over nothing.
-fn maybe_begun(alloc: Global, passed: bool, next: &[Wanted]) -> Result<Step, AllocError>
+fn maybe_begun(alloc: Global, passed: bool, next: &[Expected]) -> Result<TokenStep, AllocError>
     ensures { IfOk result (λ step. view_step step ≡ maybe_begun passed next.now) }
 {
     if passed {
         takes(alloc, next)
     } else {
-        Ok(Step::Passes)
+        Ok(TokenStep::Passes)
     }
 }
 
 /// Steps through a term.
-fn after_term(alloc: Global, in_quantifier: bool, token: &Token<'_>) -> Result<Step, AllocError>
+fn after_term(
+    alloc: Global,
+    in_quantifier: bool,
+    token: &Token<'_>,
+) -> Result<TokenStep, AllocError>
     ensures { IfOk result (λ step. view_step step
         ≡ after_term in_quantifier (view_token token.now)) }
 {
     if is_name(token) {
-        takes(alloc, &[Wanted::PlaceOption(in_quantifier)])
+        takes(alloc, &[Expected::PlaceOption(in_quantifier)])
     } else if is_word(b"arg", token) {
         takes(alloc, &[])
     } else if is_fixed_index(in_quantifier, token) {
@@ -119,9 +123,9 @@ fn after_term(alloc: Global, in_quantifier: bool, token: &Token<'_>) -> Result<S
             alloc,
             &[
                 OPEN_PARENTHESIS,
-                Wanted::Name,
+                Expected::Name,
                 OPEN_BRACKET,
-                Wanted::Index(in_quantifier),
+                Expected::Index(in_quantifier),
                 CLOSE_BRACKET,
                 CLOSE_PARENTHESIS,
             ],
@@ -131,30 +135,34 @@ fn after_term(alloc: Global, in_quantifier: bool, token: &Token<'_>) -> Result<S
             alloc,
             &[
                 OPEN_PARENTHESIS,
-                Wanted::Name,
+                Expected::Name,
                 OPEN_BRACKET,
-                Wanted::Index(in_quantifier),
+                Expected::Index(in_quantifier),
                 CLOSE_BRACKET,
                 COMMA,
-                Wanted::Index(in_quantifier),
+                Expected::Index(in_quantifier),
                 CLOSE_PARENTHESIS,
             ],
         )
     } else {
-        Ok(Step::Refuses)
+        Ok(TokenStep::Refuses)
     }
 }
 
 /// Steps through `not` and a term, or one or two terms.
-fn after_expr(alloc: Global, in_quantifier: bool, token: &Token<'_>) -> Result<Step, AllocError>
+fn after_expr(
+    alloc: Global,
+    in_quantifier: bool,
+    token: &Token<'_>,
+) -> Result<TokenStep, AllocError>
     ensures { IfOk result (λ step. view_step step
         ≡ after_expr in_quantifier (view_token token.now)) }
 {
     if is_word(b"not", token) {
-        return takes(alloc, &[Wanted::Term(in_quantifier)]);
+        return takes(alloc, &[Expected::Term(in_quantifier)]);
     }
     let term = after_term(alloc, in_quantifier, token)?;
-    and_then(term, &[Wanted::SumOption(in_quantifier)])
+    and_then(term, &[Expected::SumOption(in_quantifier)])
 }
 
 /// Steps through one to four comparisons.
@@ -162,7 +170,7 @@ fn after_condition(
     alloc: Global,
     in_quantifier: bool,
     token: &Token<'_>,
-) -> Result<Step, AllocError>
+) -> Result<TokenStep, AllocError>
     ensures { IfOk result (λ step. view_step step
         ≡ after_condition in_quantifier (view_token token.now)) }
 {
@@ -170,15 +178,19 @@ fn after_condition(
     and_then(
         term,
         &[
-            Wanted::Relation,
-            Wanted::Term(in_quantifier),
-            Wanted::FirstJoin(in_quantifier),
+            Expected::Relation,
+            Expected::Term(in_quantifier),
+            Expected::FirstJoin(in_quantifier),
         ],
     )
 }
 
 /// Steps through what stands behind one comparison.
-fn after_first(alloc: Global, in_quantifier: bool, token: &Token<'_>) -> Result<Step, AllocError>
+fn after_first(
+    alloc: Global,
+    in_quantifier: bool,
+    token: &Token<'_>,
+) -> Result<TokenStep, AllocError>
     ensures { IfOk result (λ step. view_step step
         ≡ after_first in_quantifier (view_token token.now)) }
 {
@@ -186,24 +198,24 @@ fn after_first(alloc: Global, in_quantifier: bool, token: &Token<'_>) -> Result<
         takes(
             alloc,
             &[
-                Wanted::Term(in_quantifier),
-                Wanted::Relation,
-                Wanted::Term(in_quantifier),
-                Wanted::SecondJoin(Join::And, in_quantifier),
+                Expected::Term(in_quantifier),
+                Expected::Relation,
+                Expected::Term(in_quantifier),
+                Expected::SecondJoin(Join::And, in_quantifier),
             ],
         )
     } else if is_word(b"or", token) {
         takes(
             alloc,
             &[
-                Wanted::Term(in_quantifier),
-                Wanted::Relation,
-                Wanted::Term(in_quantifier),
-                Wanted::SecondJoin(Join::Or, in_quantifier),
+                Expected::Term(in_quantifier),
+                Expected::Relation,
+                Expected::Term(in_quantifier),
+                Expected::SecondJoin(Join::Or, in_quantifier),
             ],
         )
     } else {
-        Ok(Step::Passes)
+        Ok(TokenStep::Passes)
     }
 }
 
@@ -213,7 +225,7 @@ fn after_second(
     join: Join,
     in_quantifier: bool,
     token: &Token<'_>,
-) -> Result<Step, AllocError>
+) -> Result<TokenStep, AllocError>
     ensures { IfOk result (λ step. view_step step
         ≡ after_second join in_quantifier (view_token token.now)) }
 {
@@ -221,10 +233,10 @@ fn after_second(
         alloc,
         is_word(join_keyword(join), token),
         &[
-            Wanted::Term(in_quantifier),
-            Wanted::Relation,
-            Wanted::Term(in_quantifier),
-            Wanted::ThirdJoin(join, in_quantifier),
+            Expected::Term(in_quantifier),
+            Expected::Relation,
+            Expected::Term(in_quantifier),
+            Expected::ThirdJoin(join, in_quantifier),
         ],
     )
 }
@@ -235,7 +247,7 @@ fn after_third(
     join: Join,
     in_quantifier: bool,
     token: &Token<'_>,
-) -> Result<Step, AllocError>
+) -> Result<TokenStep, AllocError>
     ensures { IfOk result (λ step. view_step step
         ≡ after_third join in_quantifier (view_token token.now)) }
 {
@@ -243,39 +255,39 @@ fn after_third(
         alloc,
         is_word(join_keyword(join), token),
         &[
-            Wanted::Term(in_quantifier),
-            Wanted::Relation,
-            Wanted::Term(in_quantifier),
+            Expected::Term(in_quantifier),
+            Expected::Relation,
+            Expected::Term(in_quantifier),
         ],
     )
 }
 
 /// Steps through the second part of a tuple, and what stands behind it.
-fn after_second_part(alloc: Global, token: &Token<'_>) -> Result<Step, AllocError>
+fn after_second_part(alloc: Global, token: &Token<'_>) -> Result<TokenStep, AllocError>
     ensures { IfOk result (λ step. view_step step ≡ after_second_part (view_token token.now)) }
 {
     if is_name(token) {
-        return takes(alloc, &[Wanted::BehindName]);
+        return takes(alloc, &[Expected::BehindName]);
     }
     let part = after_expr(alloc, false, token)?;
-    and_then(part, &[COMMA, Wanted::Expr(false), CLOSE_PARENTHESIS])
+    and_then(part, &[COMMA, Expected::Expr(false), CLOSE_PARENTHESIS])
 }
 
 /// Steps through what stands behind a name at the front of the second part of a tuple.
-fn after_second_name(alloc: Global, token: &Token<'_>) -> Result<Step, AllocError>
+fn after_second_name(alloc: Global, token: &Token<'_>) -> Result<TokenStep, AllocError>
     ensures { IfOk result (λ step. view_step step ≡ after_second_name (view_token token.now)) }
 {
     if is_symbol(Symbol::Comma, token) {
-        takes(alloc, &[Wanted::Expr(false), Wanted::BehindThird])
+        takes(alloc, &[Expected::Expr(false), Expected::BehindThird])
     } else if is_symbol(Symbol::OpenBracket, token) {
         takes(
             alloc,
             &[
-                Wanted::Index(false),
+                Expected::Index(false),
                 CLOSE_BRACKET,
-                Wanted::SumOption(false),
+                Expected::SumOption(false),
                 COMMA,
-                Wanted::Expr(false),
+                Expected::Expr(false),
                 CLOSE_PARENTHESIS,
             ],
         )
@@ -283,27 +295,27 @@ fn after_second_name(alloc: Global, token: &Token<'_>) -> Result<Step, AllocErro
         takes(
             alloc,
             &[
-                Wanted::Term(false),
+                Expected::Term(false),
                 COMMA,
-                Wanted::Expr(false),
+                Expected::Expr(false),
                 CLOSE_PARENTHESIS,
             ],
         )
     } else {
-        Ok(Step::Refuses)
+        Ok(TokenStep::Refuses)
     }
 }
 
 /// Steps through what stands behind the third part of a tuple whose second part is a name.
-fn after_third_part(alloc: Global, token: &Token<'_>) -> Result<Step, AllocError>
+fn after_third_part(alloc: Global, token: &Token<'_>) -> Result<TokenStep, AllocError>
     ensures { IfOk result (λ step. view_step step ≡ after_third_part (view_token token.now)) }
 {
     if is_symbol(Symbol::Comma, token) {
-        takes(alloc, &[Wanted::Name, CLOSE_PARENTHESIS])
+        takes(alloc, &[Expected::Name, CLOSE_PARENTHESIS])
     } else if is_symbol(Symbol::CloseParenthesis, token) {
         takes(alloc, &[])
     } else {
-        Ok(Step::Refuses)
+        Ok(TokenStep::Refuses)
     }
 }
 
@@ -312,7 +324,7 @@ fn after_place_option(
     alloc: Global,
     in_quantifier: bool,
     token: &Token<'_>,
-) -> Result<Step, AllocError>
+) -> Result<TokenStep, AllocError>
     ensures { IfOk result (λ step. view_step step
         ≡ after_place_option in_quantifier (view_token token.now)) }
 {
@@ -320,7 +332,7 @@ fn after_place_option(
     maybe_begun(
         alloc,
         begins,
-        &[Wanted::Index(in_quantifier), CLOSE_BRACKET],
+        &[Expected::Index(in_quantifier), CLOSE_BRACKET],
     )
 }
 
@@ -329,24 +341,24 @@ fn after_sum_option(
     alloc: Global,
     in_quantifier: bool,
     token: &Token<'_>,
-) -> Result<Step, AllocError>
+) -> Result<TokenStep, AllocError>
     ensures { IfOk result (λ step. view_step step
         ≡ after_sum_option in_quantifier (view_token token.now)) }
 {
     let begins = is_symbol(Symbol::Plus, token);
-    maybe_begun(alloc, begins, &[Wanted::Term(in_quantifier)])
+    maybe_begun(alloc, begins, &[Expected::Term(in_quantifier)])
 }
 
 /// Steps through `where` and a condition, or nothing.
-fn after_where_option(alloc: Global, token: &Token<'_>) -> Result<Step, AllocError>
+fn after_where_option(alloc: Global, token: &Token<'_>) -> Result<TokenStep, AllocError>
     ensures { IfOk result (λ step. view_step step ≡ after_where_option (view_token token.now)) }
 {
     let begins = is_word(b"where", token);
-    maybe_begun(alloc, begins, &[Wanted::Condition(true)])
+    maybe_begun(alloc, begins, &[Expected::Condition(true)])
 }
 
 /// Steps through `q` or `p`, and `[I,J]`.
-fn after_bit(alloc: Global, token: &Token<'_>) -> Result<Step, AllocError>
+fn after_bit(alloc: Global, token: &Token<'_>) -> Result<TokenStep, AllocError>
     ensures { IfOk result (λ step. view_step step ≡ after_bit (view_token token.now)) }
 {
     begun(
@@ -354,28 +366,28 @@ fn after_bit(alloc: Global, token: &Token<'_>) -> Result<Step, AllocError>
         is_bit_bank(token),
         &[
             OPEN_BRACKET,
-            Wanted::Index(false),
+            Expected::Index(false),
             COMMA,
-            Wanted::Index(false),
+            Expected::Index(false),
             CLOSE_BRACKET,
         ],
     )
 }
 
 /// Steps through a tuple.
-fn after_tuple(alloc: Global, token: &Token<'_>) -> Result<Step, AllocError>
+fn after_tuple(alloc: Global, token: &Token<'_>) -> Result<TokenStep, AllocError>
     ensures { IfOk result (λ step. view_step step ≡ after_tuple (view_token token.now)) }
 {
     let begins = is_symbol(Symbol::OpenParenthesis, token);
     begun(
         alloc,
         begins,
-        &[Wanted::Expr(false), COMMA, Wanted::SecondPart],
+        &[Expected::Expr(false), COMMA, Expected::SecondPart],
     )
 }
 
 /// Steps through the register that a `put` writes, and what it writes.
-fn after_target(alloc: Global, token: &Token<'_>) -> Result<Step, AllocError>
+fn after_target(alloc: Global, token: &Token<'_>) -> Result<TokenStep, AllocError>
     ensures { IfOk result (λ step. view_step step ≡ after_target (view_token token.now)) }
 {
     if is_word(b"r", token) {
@@ -383,10 +395,10 @@ fn after_target(alloc: Global, token: &Token<'_>) -> Result<Step, AllocError>
             alloc,
             &[
                 OPEN_BRACKET,
-                Wanted::Index(false),
+                Expected::Index(false),
                 CLOSE_BRACKET,
                 EQUAL,
-                Wanted::Tuple,
+                Expected::Tuple,
             ],
         )
     } else if is_word(b"v", token) {
@@ -394,77 +406,80 @@ fn after_target(alloc: Global, token: &Token<'_>) -> Result<Step, AllocError>
             alloc,
             &[
                 OPEN_BRACKET,
-                Wanted::Index(false),
+                Expected::Index(false),
                 CLOSE_BRACKET,
                 EQUAL,
-                Wanted::Name,
+                Expected::Name,
             ],
         )
     } else {
         let bit = after_bit(alloc, token)?;
-        and_then(bit, &[EQUAL, Wanted::Expr(false)])
+        and_then(bit, &[EQUAL, Expected::Expr(false)])
     }
 }
 
 /// Steps through `data(W)` or `view(W[I])`.
-fn after_view_source(alloc: Global, token: &Token<'_>) -> Result<Step, AllocError>
+fn after_view_source(alloc: Global, token: &Token<'_>) -> Result<TokenStep, AllocError>
     ensures { IfOk result (λ step. view_step step ≡ after_view_source (view_token token.now)) }
 {
     if is_word(b"data", token) {
-        takes(alloc, &[OPEN_PARENTHESIS, Wanted::Name, CLOSE_PARENTHESIS])
+        takes(
+            alloc,
+            &[OPEN_PARENTHESIS, Expected::Name, CLOSE_PARENTHESIS],
+        )
     } else if is_word(b"view", token) {
         takes(
             alloc,
             &[
                 OPEN_PARENTHESIS,
-                Wanted::Name,
+                Expected::Name,
                 OPEN_BRACKET,
-                Wanted::Index(false),
+                Expected::Index(false),
                 CLOSE_BRACKET,
                 CLOSE_PARENTHESIS,
             ],
         )
     } else {
-        Ok(Step::Refuses)
+        Ok(TokenStep::Refuses)
     }
 }
 
 /// Steps through what stands behind `if`.
-fn after_if(alloc: Global, token: &Token<'_>) -> Result<Step, AllocError>
+fn after_if(alloc: Global, token: &Token<'_>) -> Result<TokenStep, AllocError>
     ensures { IfOk result (λ step. view_step step ≡ after_if (view_token token.now)) }
 {
     if is_word(b"all", token) {
         return takes(
             alloc,
             &[
-                Wanted::Range,
+                Expected::Range,
                 COLON,
-                Wanted::Condition(true),
+                Expected::Condition(true),
                 GOTO,
-                Wanted::Number,
+                Expected::Number,
             ],
         );
     }
     let condition = after_condition(alloc, false, token)?;
-    and_then(condition, &[GOTO, Wanted::Number])
+    and_then(condition, &[GOTO, Expected::Number])
 }
 
 /// Steps through an instruction, by its first word.
-fn after_instruction(alloc: Global, token: &Token<'_>) -> Result<Step, AllocError>
+fn after_instruction(alloc: Global, token: &Token<'_>) -> Result<TokenStep, AllocError>
     ensures { IfOk result (λ step. view_step step ≡ after_instruction (view_token token.now)) }
 {
     if is_word(b"let", token) {
         takes(
             alloc,
             &[
-                Wanted::Name,
-                Wanted::PlaceOption(false),
+                Expected::Name,
+                Expected::PlaceOption(false),
                 EQUAL,
-                Wanted::Expr(false),
+                Expected::Expr(false),
             ],
         )
     } else if is_word(b"view", token) {
-        takes(alloc, &[Wanted::Name, EQUAL, Wanted::ViewSource])
+        takes(alloc, &[Expected::Name, EQUAL, Expected::ViewSource])
     } else {
         after_register_instruction(alloc, token)
     }
@@ -472,7 +487,7 @@ fn after_instruction(alloc: Global, token: &Token<'_>) -> Result<Step, AllocErro
 
 /// Steps through an instruction that reads or writes a register, or another one that sets no local
 /// from values alone.
-fn after_register_instruction(alloc: Global, token: &Token<'_>) -> Result<Step, AllocError>
+fn after_register_instruction(alloc: Global, token: &Token<'_>) -> Result<TokenStep, AllocError>
     ensures { IfOk result (λ step. view_step step
         ≡ after_register_instruction (view_token token.now)) }
 {
@@ -480,40 +495,40 @@ fn after_register_instruction(alloc: Global, token: &Token<'_>) -> Result<Step, 
         takes(
             alloc,
             &[
-                Wanted::Name,
+                Expected::Name,
                 OPEN_BRACKET,
-                Wanted::Index(false),
+                Expected::Index(false),
                 CLOSE_BRACKET,
                 EQUAL,
-                Wanted::Keyword(Keyword::R),
+                Expected::Keyword(Keyword::R),
                 OPEN_BRACKET,
-                Wanted::Index(false),
+                Expected::Index(false),
                 CLOSE_BRACKET,
             ],
         )
     } else if is_word(b"bit", token) {
-        takes(alloc, &[Wanted::Name, EQUAL, Wanted::Bit])
+        takes(alloc, &[Expected::Name, EQUAL, Expected::Bit])
     } else if is_word(b"look", token) {
         takes(
             alloc,
             &[
-                Wanted::Name,
+                Expected::Name,
                 EQUAL,
-                Wanted::Keyword(Keyword::V),
+                Expected::Keyword(Keyword::V),
                 OPEN_BRACKET,
-                Wanted::Index(false),
+                Expected::Index(false),
                 CLOSE_BRACKET,
             ],
         )
     } else if is_word(b"put", token) {
-        takes(alloc, &[Wanted::Target])
+        takes(alloc, &[Expected::Target])
     } else {
         after_range_instruction(alloc, token)
     }
 }
 
 /// Steps through an instruction that goes over `n` or `w` places, or one of control.
-fn after_range_instruction(alloc: Global, token: &Token<'_>) -> Result<Step, AllocError>
+fn after_range_instruction(alloc: Global, token: &Token<'_>) -> Result<TokenStep, AllocError>
     ensures { IfOk result (λ step. view_step step
         ≡ after_range_instruction (view_token token.now)) }
 {
@@ -521,105 +536,108 @@ fn after_range_instruction(alloc: Global, token: &Token<'_>) -> Result<Step, All
         takes(
             alloc,
             &[
-                Wanted::Range,
+                Expected::Range,
                 COLON,
-                Wanted::Name,
+                Expected::Name,
                 OPEN_BRACKET,
-                Wanted::Symbol(Symbol::At),
+                Expected::Symbol(Symbol::At),
                 CLOSE_BRACKET,
                 EQUAL,
-                Wanted::Expr(true),
-                Wanted::WhereOption,
+                Expected::Expr(true),
+                Expected::WhereOption,
             ],
         )
     } else if is_word(b"first", token) {
         takes(
             alloc,
             &[
-                Wanted::Name,
-                Wanted::Range,
+                Expected::Name,
+                Expected::Range,
                 COLON,
-                Wanted::Condition(true),
+                Expected::Condition(true),
                 GOTO,
-                Wanted::Number,
+                Expected::Number,
             ],
         )
     } else if is_word(b"next", token) {
-        takes(alloc, &[Wanted::Name, Wanted::Range, GOTO, Wanted::Number])
+        takes(
+            alloc,
+            &[Expected::Name, Expected::Range, GOTO, Expected::Number],
+        )
     } else {
         after_control_instruction(alloc, token)
     }
 }
 
 /// Steps through an instruction that leads elsewhere, or ends an operation.
-fn after_control_instruction(alloc: Global, token: &Token<'_>) -> Result<Step, AllocError>
+fn after_control_instruction(alloc: Global, token: &Token<'_>) -> Result<TokenStep, AllocError>
     ensures { IfOk result (λ step. view_step step
         ≡ after_control_instruction (view_token token.now)) }
 {
     if is_word(b"if", token) {
-        takes(alloc, &[Wanted::Test])
+        takes(alloc, &[Expected::Test])
     } else if is_word(b"goto", token) {
-        takes(alloc, &[Wanted::Number])
+        takes(alloc, &[Expected::Number])
     } else if is_word(b"call", token) {
-        takes(alloc, &[Wanted::Number])
+        takes(alloc, &[Expected::Number])
     } else if is_word(b"return", token) {
-        takes(alloc, &[Wanted::Name])
+        takes(alloc, &[Expected::Name])
     } else if is_word(b"finish", token) {
         takes(alloc, &[])
     } else {
-        Ok(Step::Refuses)
+        Ok(TokenStep::Refuses)
     }
 }
 
 /// Steps through what a process does in a schedule.
-fn after_act(alloc: Global, token: &Token<'_>) -> Result<Step, AllocError>
+fn after_act(alloc: Global, token: &Token<'_>) -> Result<TokenStep, AllocError>
     ensures { IfOk result (λ step. view_step step ≡ after_act (view_token token.now)) }
 {
     if is_symbol(Symbol::Star, token) {
-        takes(alloc, &[Wanted::Positive])
+        takes(alloc, &[Expected::Positive])
     } else if is_word(b"scan", token) {
         takes(alloc, &[])
     } else if is_word(b"update", token) {
-        takes(alloc, &[Wanted::Number, Wanted::Number])
+        takes(alloc, &[Expected::Number, Expected::Number])
     } else if is_word(b"crash", token) {
         takes(alloc, &[])
     } else {
-        Ok(Step::Passes)
+        Ok(TokenStep::Passes)
     }
 }
 
 /// Steps through what a process of a live run does.
-fn after_script_act(alloc: Global, token: &Token<'_>) -> Result<Step, AllocError>
+fn after_script_act(alloc: Global, token: &Token<'_>) -> Result<TokenStep, AllocError>
     ensures { IfOk result (λ step. view_step step ≡ after_script_act (view_token token.now)) }
 {
     if is_word(b"scan", token) {
         takes(alloc, &[])
     } else if is_word(b"update", token) {
-        takes(alloc, &[Wanted::Number, Wanted::Number])
+        takes(alloc, &[Expected::Number, Expected::Number])
     } else if is_word(b"crash", token) {
-        takes(alloc, &[Wanted::Turn])
+        takes(alloc, &[Expected::Turn])
     } else {
-        Ok(Step::Refuses)
+        Ok(TokenStep::Refuses)
     }
 }
 
 /// Steps through a register, as a command names it.
-fn after_register(alloc: Global, token: &Token<'_>) -> Result<Step, AllocError>
+fn after_register(alloc: Global, token: &Token<'_>) -> Result<TokenStep, AllocError>
     ensures { IfOk result (λ step. view_step step ≡ after_register (view_token token.now)) }
 {
     if is_word(b"r", token) {
-        takes(alloc, &[Wanted::Number])
+        takes(alloc, &[Expected::Number])
     } else if is_word(b"v", token) {
-        takes(alloc, &[Wanted::Number])
+        takes(alloc, &[Expected::Number])
     } else if is_bit_bank(token) {
-        takes(alloc, &[Wanted::Number, Wanted::Number])
+        takes(alloc, &[Expected::Number, Expected::Number])
     } else {
-        Ok(Step::Refuses)
+        Ok(TokenStep::Refuses)
     }
 }
 
 /// Steps through a register or a process, as a command names it.
-fn after_shown(alloc: Global, token: &Token<'_>) -> Result<Step, AllocError>
+fn after_shown(alloc: Global, token: &Token<'_>) -> Result<TokenStep, AllocError>
     ensures { IfOk result (λ step. view_step step ≡ after_shown (view_token token.now)) }
 {
     if is_number(token) {
@@ -662,39 +680,39 @@ fn is_short(token: &Token<'_>) -> bool
 }
 
 /// Steps through a command.
-fn after_command(alloc: Global, token: &Token<'_>) -> Result<Step, AllocError>
+fn after_command(alloc: Global, token: &Token<'_>) -> Result<TokenStep, AllocError>
     ensures { IfOk result (λ step. view_step step ≡ after_command (view_token token.now)) }
 {
     if is_move(token) {
-        takes(alloc, &[Wanted::Number])
+        takes(alloc, &[Expected::Number])
     } else if is_breakpoint(token) {
-        takes(alloc, &[Wanted::Number, Wanted::Number])
+        takes(alloc, &[Expected::Number, Expected::Number])
     } else if is_watch(token) {
-        takes(alloc, &[Wanted::Register])
+        takes(alloc, &[Expected::Register])
     } else if is_word(b"show", token) {
-        takes(alloc, &[Wanted::Shown])
+        takes(alloc, &[Expected::Shown])
     } else {
         one(alloc, is_short(token))
     }
 }
 
 /// Returns whether a token is what is wanted, if that is one token.
-fn is_single(wanted: Wanted, token: &Token<'_>) -> bool
+fn is_single(wanted: Expected, token: &Token<'_>) -> bool
     ensures { result ≡ is_single wanted (view_token token.now) }
 {
     match wanted {
-        Wanted::Symbol(symbol) => is_symbol(symbol, token),
-        Wanted::Keyword(keyword) => is_word(keyword_text(keyword), token),
-        Wanted::Number => is_number(token),
-        Wanted::LineNumber => is_line(token),
-        Wanted::Count => is_within(1, MAX_COUNT, token),
-        Wanted::Positive => is_positive(token),
-        Wanted::Turn => is_within(1, MAX_ITEMS, token),
-        Wanted::Name => is_name(token),
-        Wanted::Index(q) => is_index(q, token),
-        Wanted::Range => is_range(token),
-        Wanted::Relation => is_relation(token),
-        Wanted::KindName => is_kind(token),
+        Expected::Symbol(symbol) => is_symbol(symbol, token),
+        Expected::Keyword(keyword) => is_word(keyword_text(keyword), token),
+        Expected::Number => is_number(token),
+        Expected::LineNumber => is_line(token),
+        Expected::Count => is_within(1, MAX_COUNT, token),
+        Expected::Positive => is_positive(token),
+        Expected::Turn => is_within(1, MAX_ITEMS, token),
+        Expected::Name => is_name(token),
+        Expected::Index(q) => is_index(q, token),
+        Expected::Range => is_range(token),
+        Expected::Relation => is_relation(token),
+        Expected::KindName => is_kind(token),
         _ => false,
     }
 }
@@ -704,51 +722,51 @@ fn is_single(wanted: Wanted, token: &Token<'_>) -> bool
 /// # Errors
 ///
 /// `AllocError` where memory runs out.
-pub fn after(alloc: Global, wanted: Wanted, token: &Token<'_>) -> Result<Step, AllocError>
+pub fn after(alloc: Global, wanted: Expected, token: &Token<'_>) -> Result<TokenStep, AllocError>
     ensures { IfOk result (λ step. view_step step ≡ after wanted (view_token token.now)) }
 {
     match wanted {
-        Wanted::Names => maybe_begun(alloc, is_identifier(token), &[Wanted::Names]),
-        Wanted::Instruction => after_instruction(alloc, token),
-        Wanted::Term(q) => after_term(alloc, q, token),
-        Wanted::PlaceOption(q) => after_place_option(alloc, q, token),
-        Wanted::Expr(q) => after_expr(alloc, q, token),
-        Wanted::SumOption(q) => after_sum_option(alloc, q, token),
-        Wanted::Condition(q) => after_condition(alloc, q, token),
-        Wanted::FirstJoin(q) => after_first(alloc, q, token),
-        Wanted::SecondJoin(join, q) => after_second(alloc, join, q, token),
-        Wanted::ThirdJoin(join, q) => after_third(alloc, join, q, token),
-        Wanted::WhereOption => after_where_option(alloc, token),
-        Wanted::Target => after_target(alloc, token),
-        Wanted::Bit => after_bit(alloc, token),
-        Wanted::Tuple => after_tuple(alloc, token),
-        Wanted::SecondPart => after_second_part(alloc, token),
-        Wanted::BehindName => after_second_name(alloc, token),
-        Wanted::BehindThird => after_third_part(alloc, token),
-        Wanted::ViewSource => after_view_source(alloc, token),
-        Wanted::Test => after_if(alloc, token),
-        Wanted::Act => after_act(alloc, token),
-        Wanted::ScriptAct => after_script_act(alloc, token),
-        Wanted::Command => after_command(alloc, token),
-        Wanted::Register => after_register(alloc, token),
-        Wanted::Shown => after_shown(alloc, token),
+        Expected::Names => maybe_begun(alloc, is_identifier(token), &[Expected::Names]),
+        Expected::Instruction => after_instruction(alloc, token),
+        Expected::Term(q) => after_term(alloc, q, token),
+        Expected::PlaceOption(q) => after_place_option(alloc, q, token),
+        Expected::Expr(q) => after_expr(alloc, q, token),
+        Expected::SumOption(q) => after_sum_option(alloc, q, token),
+        Expected::Condition(q) => after_condition(alloc, q, token),
+        Expected::FirstJoin(q) => after_first(alloc, q, token),
+        Expected::SecondJoin(join, q) => after_second(alloc, join, q, token),
+        Expected::ThirdJoin(join, q) => after_third(alloc, join, q, token),
+        Expected::WhereOption => after_where_option(alloc, token),
+        Expected::Target => after_target(alloc, token),
+        Expected::Bit => after_bit(alloc, token),
+        Expected::Tuple => after_tuple(alloc, token),
+        Expected::SecondPart => after_second_part(alloc, token),
+        Expected::BehindName => after_second_name(alloc, token),
+        Expected::BehindThird => after_third_part(alloc, token),
+        Expected::ViewSource => after_view_source(alloc, token),
+        Expected::Test => after_if(alloc, token),
+        Expected::Act => after_act(alloc, token),
+        Expected::ScriptAct => after_script_act(alloc, token),
+        Expected::Command => after_command(alloc, token),
+        Expected::Register => after_register(alloc, token),
+        Expected::Shown => after_shown(alloc, token),
         single => one(alloc, is_single(single, token)),
     }
 }
 
 /// Returns whether nothing may stand for what is wanted.
-pub fn may_pass(wanted: Wanted) -> bool
+pub fn may_pass(wanted: Expected) -> bool
     ensures { result ≡ may_pass wanted }
 {
     match wanted {
-        Wanted::Names
-        | Wanted::PlaceOption(_)
-        | Wanted::SumOption(_)
-        | Wanted::FirstJoin(_)
-        | Wanted::SecondJoin(_, _)
-        | Wanted::ThirdJoin(_, _)
-        | Wanted::WhereOption
-        | Wanted::Act => true,
+        Expected::Names
+        | Expected::PlaceOption(_)
+        | Expected::SumOption(_)
+        | Expected::FirstJoin(_)
+        | Expected::SecondJoin(_, _)
+        | Expected::ThirdJoin(_, _)
+        | Expected::WhereOption
+        | Expected::Act => true,
         _ => false,
     }
 }

@@ -4,6 +4,7 @@
 
 mod advice;
 mod after;
+mod expected;
 mod explain;
 mod history;
 mod inputs;
@@ -23,10 +24,10 @@ mod tables;
 mod tests;
 mod texts;
 mod token_uses;
-mod wanted;
 mod wording;
 
 pub use after::may_pass;
+pub use expected::{Expected, Keyword};
 pub use explain::explanation;
 pub use history::history_explanation;
 pub use laws::what_is_lost_stays_lost;
@@ -36,4 +37,3 @@ pub use live::turn_limit_explanation;
 pub use lost::{LostPlace, lost_in};
 pub use pieces::{PlacedToken, PlacedTokens, is_lexeme_byte, piece_len, placed_tokens};
 pub use tests::{is_bit_bank, is_identifier, is_line, is_name, is_symbol, is_word};
-pub use wanted::{Keyword, Wanted};

@@ -6,10 +6,10 @@ ghost use Rattle.snap_explanation.specs.Lost.{step, may_end, lost, wanted_of_hea
 ghost use Rattle.snap_explanation.specs.Lost.{lost_in};
 ghost use Rattle.snap_explanation.specs.Steps.{placed_tokens, view_lost};
 
-use crate::after::{Step, after, may_pass};
+use crate::after::{TokenStep, after, may_pass};
+use crate::expected::{Expected, Keyword};
 use crate::line_sorts::{Header, LineSort};
 use crate::pieces::PlacedToken;
-use crate::wanted::{Keyword, Wanted};
 use snap_semantics::Symbol;
 use snap_text::Token;
 use std::alloc::{AllocError, Global};
@@ -18,7 +18,7 @@ use std::alloc::{AllocError, Global};
 #[derive(Drop)]
 pub struct LostPlace {
     pub before: usize,
-    pub wanted: Vec<Wanted>,
+    pub wanted: Vec<Expected>,
 }
 
 /// Returns what is wanted behind `token`, where `wanted` are wanted in a row; `None` if the line
@@ -26,27 +26,27 @@ pub struct LostPlace {
 fn step(
     alloc: Global,
     token: &Token<'_>,
-    wanted: &[Wanted],
-) -> Result<Option<Vec<Wanted>>, AllocError>
+    wanted: &[Expected],
+) -> Result<Option<Vec<Expected>>, AllocError>
     ensures { IfOk result (λ next. option_map vec_items next
         ≡ step (view_token token.now) wanted.now) }
 {
     let mut rest = wanted;
     while let [first, behind @ ..] = rest {
         match after(alloc, *first, token)? {
-            Step::Takes(mut next) => {
+            TokenStep::Takes(mut next) => {
                 next.extend_from_slice(behind)?;
                 return Ok(Some(next));
             }
-            Step::Passes => rest = behind,
-            Step::Refuses => return Ok(None),
+            TokenStep::Passes => rest = behind,
+            TokenStep::Refuses => return Ok(None),
         }
     }
     Ok(None)
 }
 
 /// Returns whether a line may end where `wanted` are wanted in a row.
-fn may_end(wanted: &[Wanted]) -> bool
+fn may_end(wanted: &[Expected]) -> bool
     ensures { result ≡ may_end wanted.now }
 {
     let mut rest = wanted;
@@ -62,7 +62,7 @@ fn may_end(wanted: &[Wanted]) -> bool
 /// Returns where tokens are lost of which `wanted` are wanted in a row.
 fn lost(
     alloc: Global,
-    wanted: Vec<Wanted>,
+    wanted: Vec<Expected>,
     tokens: &[PlacedToken<'_>],
 ) -> Result<Option<LostPlace>, AllocError>
     ensures { IfOk result (λ place. option_map view_lost place
@@ -85,19 +85,19 @@ fn lost(
 }
 
 /// Returns the parts of a header line.
-fn wanted_of_header(alloc: Global, header: Header) -> Result<Vec<Wanted>, AllocError>
+fn wanted_of_header(alloc: Global, header: Header) -> Result<Vec<Expected>, AllocError>
     ensures { IfOk result (λ wanted. wanted.items ≡ wanted_of_header header) }
 {
     let (keyword, rest) = match header {
-        Header::Kind => (Keyword::Kind, Wanted::KindName),
-        Header::Scalars => (Keyword::Scalar, Wanted::Names),
-        Header::Rows => (Keyword::Row, Wanted::Names),
-        Header::Words => (Keyword::Words, Wanted::Names),
-        Header::Views => (Keyword::View, Wanted::Names),
-        Header::Scan => (Keyword::Scan, Wanted::LineNumber),
-        Header::Update => (Keyword::Update, Wanted::LineNumber),
+        Header::Kind => (Keyword::Kind, Expected::KindName),
+        Header::Scalars => (Keyword::Scalar, Expected::Names),
+        Header::Rows => (Keyword::Row, Expected::Names),
+        Header::Words => (Keyword::Words, Expected::Names),
+        Header::Views => (Keyword::View, Expected::Names),
+        Header::Scan => (Keyword::Scan, Expected::LineNumber),
+        Header::Update => (Keyword::Update, Expected::LineNumber),
     };
-    Vec::from_slice(alloc, &[Wanted::Keyword(keyword), rest])
+    Vec::from_slice(alloc, &[Expected::Keyword(keyword), rest])
 }
 
 /// Returns the parts of a line of this sort.
@@ -105,26 +105,26 @@ fn wanted_of_header(alloc: Global, header: Header) -> Result<Vec<Wanted>, AllocE
 /// # Errors
 ///
 /// `AllocError` where memory runs out.
-pub fn wanted_of(alloc: Global, sort: LineSort) -> Result<Vec<Wanted>, AllocError>
+pub fn wanted_of(alloc: Global, sort: LineSort) -> Result<Vec<Expected>, AllocError>
     ensures { IfOk result (λ wanted. wanted.items ≡ wanted_of sort) }
 {
-    let wanted: &[Wanted] = match sort {
+    let wanted: &[Expected] = match sort {
         LineSort::Header(header) => return wanted_of_header(alloc, header),
         LineSort::Numbered => {
             &[
-                Wanted::LineNumber,
-                Wanted::Symbol(Symbol::Colon),
-                Wanted::Instruction,
+                Expected::LineNumber,
+                Expected::Symbol(Symbol::Colon),
+                Expected::Instruction,
             ]
         }
         LineSort::Shape => &[
-            Wanted::Keyword(Keyword::Shape),
-            Wanted::Count,
-            Wanted::Count,
+            Expected::Keyword(Keyword::Shape),
+            Expected::Count,
+            Expected::Count,
         ],
-        LineSort::Item => &[Wanted::Number, Wanted::Act],
-        LineSort::Script => &[Wanted::Number, Wanted::ScriptAct],
-        LineSort::Command => &[Wanted::Command],
+        LineSort::Item => &[Expected::Number, Expected::Act],
+        LineSort::Script => &[Expected::Number, Expected::ScriptAct],
+        LineSort::Command => &[Expected::Command],
     };
     Vec::from_slice(alloc, wanted)
 }

@@ -7,7 +7,7 @@ ghost use Rattle.snap_explanation.specs.Tests.{is_line, is_within, is_positive, 
 ghost use Rattle.snap_explanation.specs.Tests.{is_range, is_relation, is_fixed_index, is_index};
 ghost use Rattle.snap_explanation.specs.Tests.{is_field, is_kind, is_bit_bank};
 
-use crate::wanted::Keyword;
+use crate::expected::Keyword;
 use snap_listing::{is_line_number, is_reserved};
 use snap_semantics::Symbol;
 use snap_text::Token;

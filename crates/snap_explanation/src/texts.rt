@@ -5,8 +5,8 @@ ghost use Rattle.snap_explanation.specs.Texts.{symbol_words, keyword_words, want
 ghost use Rattle.snap_explanation.specs.Texts.{expected_words, found_words, expected_line};
 
 use crate::after::may_pass;
+use crate::expected::{Expected, Keyword};
 use crate::said::{Said, push_said};
-use crate::wanted::{Keyword, Wanted};
 use crate::wording::{
     ACT, AND_ALONE, AND_OR, BEHIND_NAME, BEHIND_THIRD, BIT, COMMAND, COMPARISON, COUNT,
     END_OF_LINE, EXPECTED, FOUND, INDEX, INDEX_OR_PLACE, INSTRUCTION, KIND_NAME, LINE_END,
@@ -54,48 +54,48 @@ fn keyword_words(keyword: Keyword) -> &'static [u8]
 }
 
 /// Returns the words for what is wanted.
-fn wanted_words(wanted: Wanted) -> &'static [u8]
+fn wanted_words(wanted: Expected) -> &'static [u8]
     ensures { result.now ≡ wanted_words wanted }
 {
     match wanted {
-        Wanted::Symbol(symbol) => symbol_words(symbol),
-        Wanted::Keyword(keyword) => keyword_words(keyword),
-        Wanted::Number => NUMBER,
-        Wanted::LineNumber => LINE_NUMBER,
-        Wanted::Count => COUNT,
-        Wanted::Positive => POSITIVE,
-        Wanted::Turn => TURN,
-        Wanted::Name | Wanted::Names => NAME,
-        Wanted::Index(false) => INDEX,
-        Wanted::Index(true) => INDEX_OR_PLACE,
-        Wanted::Range => RANGE,
-        Wanted::Relation => RELATION,
-        Wanted::KindName => KIND_NAME,
-        Wanted::Instruction => INSTRUCTION,
-        Wanted::Term(_) | Wanted::Expr(_) | Wanted::SecondPart => VALUE,
-        Wanted::PlaceOption(_) => OPEN_BRACKET,
-        Wanted::SumOption(_) => PLUS,
-        Wanted::Condition(_) => COMPARISON,
-        Wanted::FirstJoin(_) => AND_OR,
-        Wanted::SecondJoin(Join::And, _) | Wanted::ThirdJoin(Join::And, _) => AND_ALONE,
-        Wanted::SecondJoin(Join::Or, _) | Wanted::ThirdJoin(Join::Or, _) => OR_ALONE,
-        Wanted::WhereOption => WHERE,
-        Wanted::Target | Wanted::Register => REGISTER,
-        Wanted::Bit => BIT,
-        Wanted::Tuple => TUPLE,
-        Wanted::BehindName => BEHIND_NAME,
-        Wanted::BehindThird => BEHIND_THIRD,
-        Wanted::ViewSource => VIEW_SOURCE,
-        Wanted::Test => TEST,
-        Wanted::Act => ACT,
-        Wanted::ScriptAct => SCRIPT_ACT,
-        Wanted::Command => COMMAND,
-        Wanted::Shown => SHOWN,
+        Expected::Symbol(symbol) => symbol_words(symbol),
+        Expected::Keyword(keyword) => keyword_words(keyword),
+        Expected::Number => NUMBER,
+        Expected::LineNumber => LINE_NUMBER,
+        Expected::Count => COUNT,
+        Expected::Positive => POSITIVE,
+        Expected::Turn => TURN,
+        Expected::Name | Expected::Names => NAME,
+        Expected::Index(false) => INDEX,
+        Expected::Index(true) => INDEX_OR_PLACE,
+        Expected::Range => RANGE,
+        Expected::Relation => RELATION,
+        Expected::KindName => KIND_NAME,
+        Expected::Instruction => INSTRUCTION,
+        Expected::Term(_) | Expected::Expr(_) | Expected::SecondPart => VALUE,
+        Expected::PlaceOption(_) => OPEN_BRACKET,
+        Expected::SumOption(_) => PLUS,
+        Expected::Condition(_) => COMPARISON,
+        Expected::FirstJoin(_) => AND_OR,
+        Expected::SecondJoin(Join::And, _) | Expected::ThirdJoin(Join::And, _) => AND_ALONE,
+        Expected::SecondJoin(Join::Or, _) | Expected::ThirdJoin(Join::Or, _) => OR_ALONE,
+        Expected::WhereOption => WHERE,
+        Expected::Target | Expected::Register => REGISTER,
+        Expected::Bit => BIT,
+        Expected::Tuple => TUPLE,
+        Expected::BehindName => BEHIND_NAME,
+        Expected::BehindThird => BEHIND_THIRD,
+        Expected::ViewSource => VIEW_SOURCE,
+        Expected::Test => TEST,
+        Expected::Act => ACT,
+        Expected::ScriptAct => SCRIPT_ACT,
+        Expected::Command => COMMAND,
+        Expected::Shown => SHOWN,
     }
 }
 
 /// Appends all that may stand next.
-fn push_expected(out: &mut Draft, wanted: &[Wanted])
+fn push_expected(out: &mut Draft, wanted: &[Expected])
     ensures { Adds out.old out.new (expected_words wanted.now) }
 {
     let mut rest = wanted;
@@ -138,7 +138,7 @@ fn push_found(out: &mut Draft, piece: &[u8])
 
 /// Appends what was expected at a place, and what stands there.
 #[tactic(auto, unfolding(crate::specs::Texts::expected_line))]
-pub fn push_expected_line(out: &mut Draft, wanted: &[Wanted], piece: &[u8])
+pub fn push_expected_line(out: &mut Draft, wanted: &[Expected], piece: &[u8])
     ensures { Adds out.old out.new (expected_line wanted.now piece.now) }
 {
     out.push(EXPECTED);

@@ -1,5 +1,6 @@
 //! `fault_line`: the line that a program says for a fault.
-ghost use Rattle.std.specs.Prelude.{◌≡◌, ◌++◌, IfOk, OnOk, codes, option_map};
+ghost use Rattle.std.specs.Prelude.{◌≡◌, ◌++◌, IfOk, codes, option_map};
+ghost use Rattle.snap_text.specs.Drafted.{Adds};
 ghost use Rattle.snap_faults.specs.FaultText.{fault_line, fault_text, history_refusal_text};
 ghost use Rattle.snap_faults.specs.FaultText.{live_refusal_text, model_refusal_text, refused_file};
 ghost use Rattle.snap_faults.specs.FaultText.{refused_in};
@@ -12,30 +13,30 @@ use crate::refusal_text::{push_numbered, push_refused};
 use snap_history_text::HistoryRefusal;
 use snap_semantics::{LiveRefusal, ModelRefusal, Refusal};
 use snap_streams::reason;
-use snap_text::push_text;
+use snap_text::Draft;
 use std::alloc::{AllocError, Global};
 use std::io::ErrorKind;
 
-fn push_live_refusal(out: &mut Vec<u8>, refusal: &LiveRefusal) -> Result<(), AllocError>
-    ensures { OnOk result (out.new.items ≡ out.old.items ++ live_refusal_text refusal.now) }
+fn push_live_refusal(out: &mut Draft, refusal: &LiveRefusal)
+    ensures { Adds out.old out.new (live_refusal_text refusal.now) }
 {
     match refusal {
         LiveRefusal::Full(count) => push_numbered(out, b"V1 Full", *count),
         LiveRefusal::TurnLimit(process) => {
-            push_numbered(out, b"V2 TurnLimit", u64::from(*process))
+            push_numbered(out, b"V2 TurnLimit", u64::from(*process));
         }
         LiveRefusal::SeatMissing(process) => {
-            push_numbered(out, b"V3 SeatMissing", u64::from(*process))
+            push_numbered(out, b"V3 SeatMissing", u64::from(*process));
         }
     }
 }
 
-fn push_history_refusal(out: &mut Vec<u8>, refusal: &HistoryRefusal) -> Result<(), AllocError>
-    ensures { OnOk result (out.new.items ≡ out.old.items ++ history_refusal_text refusal.now) }
+fn push_history_refusal(out: &mut Draft, refusal: &HistoryRefusal)
+    ensures { Adds out.old out.new (history_refusal_text refusal.now) }
 {
     match refusal {
-        HistoryRefusal::TooLong => push_text(out, b"H1 TooLong"),
-        HistoryRefusal::BadShape => push_text(out, b"H2 BadShape"),
+        HistoryRefusal::TooLong => out.push(b"H1 TooLong"),
+        HistoryRefusal::BadShape => out.push(b"H2 BadShape"),
         HistoryRefusal::BadEvent(line) => push_numbered(out, b"H3 BadEvent", *line),
         HistoryRefusal::NoSuchProcess(line) => push_numbered(out, b"H4 NoSuchProcess", *line),
         HistoryRefusal::NotRising(line) => push_numbered(out, b"H5 NotRising", *line),
@@ -47,11 +48,11 @@ fn push_history_refusal(out: &mut Vec<u8>, refusal: &HistoryRefusal) -> Result<(
     }
 }
 
-fn push_model_refusal(out: &mut Vec<u8>, refusal: &ModelRefusal) -> Result<(), AllocError>
-    ensures { OnOk result (out.new.items ≡ out.old.items ++ model_refusal_text refusal.now) }
+fn push_model_refusal(out: &mut Draft, refusal: &ModelRefusal)
+    ensures { Adds out.old out.new (model_refusal_text refusal.now) }
 {
     match refusal {
-        ModelRefusal::TooLarge => push_text(out, b"M1 TooLarge"),
+        ModelRefusal::TooLarge => out.push(b"M1 TooLarge"),
         ModelRefusal::BadNumber(number) => push_numbered(out, b"M2 BadNumber", *number),
     }
 }
@@ -67,19 +68,17 @@ fn file_of<'a>(names: &Names<'a>, which: Which) -> Option<&'a str>
 }
 
 /// Appends the front of a line about a file, with its name if it has one.
-#[tactic(auto, using(snap_text::proofs::Texts::joined))]
-fn push_front(out: &mut Vec<u8>, program: &str, file: Option<&str>) -> Result<(), AllocError>
-    ensures { OnOk result (out.new.items
-        ≡ out.old.items ++ front program.now (option_map (λ name. name.now) file.entry)) }
+fn push_front(out: &mut Draft, program: &str, file: Option<&str>)
+    ensures { Adds out.old out.new (front program.now (option_map (λ name. name.now) file.entry)) }
 {
     match file {
         Some(file) => {
-            push_text(out, program.as_bytes())?;
-            push_text(out, b": ")?;
-            push_text(out, file.as_bytes())?;
-            push_text(out, b": ")
+            out.push(program.as_bytes());
+            out.push(b": ");
+            out.push(file.as_bytes());
+            out.push(b": ");
         }
-        None => Ok(()),
+        None => {}
     }
 }
 
@@ -94,82 +93,65 @@ fn refused_file(refusal: &Refusal) -> Which
 }
 
 /// Appends that a file, or an input that has no name, is refused.
-#[tactic(auto, using(snap_text::proofs::Texts::joined))]
-fn push_refused_in(
-    out: &mut Vec<u8>,
-    names: &Names<'_>,
-    which: Which,
-    refusal: &Refusal,
-) -> Result<(), AllocError>
-    ensures { OnOk result (out.new.items
-        ≡ out.old.items ++ refused_in (view_names names.now) which refusal.now) }
+fn push_refused_in(out: &mut Draft, names: &Names<'_>, which: Which, refusal: &Refusal)
+    ensures { Adds out.old out.new (refused_in (view_names names.now) which refusal.now) }
 {
-    push_front(out, names.program, file_of(names, which))?;
-    push_refused(out, refusal)
+    push_front(out, names.program, file_of(names, which));
+    push_refused(out, refusal);
 }
 
 /// Appends why a file was not read.
-#[tactic(auto, using(snap_text::proofs::Texts::joined))]
-fn push_unread(
-    out: &mut Vec<u8>,
-    names: &Names<'_>,
-    which: Which,
-    kind: ErrorKind,
-) -> Result<(), AllocError>
-    ensures { OnOk result (out.new.items ≡ out.old.items
-        ++ fault_text (view_names names.now) (Unread which kind)) }
+fn push_unread(out: &mut Draft, names: &Names<'_>, which: Which, kind: ErrorKind)
+    ensures { Adds out.old out.new (fault_text (view_names names.now) (Unread which kind)) }
 {
-    push_front(out, names.program, file_of(names, which))?;
-    push_text(out, reason(kind).as_bytes())
+    push_front(out, names.program, file_of(names, which));
+    out.push(reason(kind).as_bytes());
 }
 
 /// Appends that what a hunt found is not that of its input.
-#[tactic(auto, using(snap_text::proofs::Texts::joined))]
-fn push_unsaid(out: &mut Vec<u8>, program: &str) -> Result<(), AllocError>
-    ensures { OnOk result (out.new.items ≡ out.old.items
-        ++ (program.now ++ codes ": the run that was found is not that of the input")) }
+fn push_unsaid(out: &mut Draft, program: &str)
+    ensures { Adds out.old out.new
+        ((program.now ++ codes ": the run that was found is not that of the input")) }
 {
-    push_text(out, program.as_bytes())?;
-    push_text(out, b": the run that was found is not that of the input")
+    out.push(program.as_bytes());
+    out.push(b": the run that was found is not that of the input");
 }
 
 /// Appends the text on a fault.
-#[tactic(auto, using(snap_text::proofs::Texts::joined))]
-fn push_fault(out: &mut Vec<u8>, names: &Names<'_>, fault: &ProgramFault) -> Result<(), AllocError>
-    ensures { OnOk result (out.new.items
-        ≡ out.old.items ++ fault_text (view_names names.now) fault.now) }
+fn push_fault(out: &mut Draft, names: &Names<'_>, fault: &ProgramFault)
+    ensures { Adds out.old out.new (fault_text (view_names names.now) fault.now) }
 {
     match fault {
-        ProgramFault::Memory => push_text(out, b"refused: Memory"),
+        ProgramFault::Memory => out.push(b"refused: Memory"),
         ProgramFault::Refused(refusal) => {
-            push_refused_in(out, names, refused_file(refusal), refusal)
+            push_refused_in(out, names, refused_file(refusal), refusal);
         }
         ProgramFault::Live(refusal) => {
-            push_text(out, b"refused: ")?;
-            push_live_refusal(out, refusal)
+            out.push(b"refused: ");
+            push_live_refusal(out, refusal);
         }
         ProgramFault::History(refusal) => {
-            push_text(out, b"refused: ")?;
-            push_history_refusal(out, refusal)
+            out.push(b"refused: ");
+            push_history_refusal(out, refusal);
         }
         ProgramFault::Model(refusal) => {
-            push_text(out, b"refused: ")?;
-            push_model_refusal(out, refusal)
+            out.push(b"refused: ");
+            push_model_refusal(out, refusal);
         }
         ProgramFault::NoSuchItems(total) => {
-            push_numbered(out, b"refused: D1 NoSuchItems", *total)
+            push_numbered(out, b"refused: D1 NoSuchItems", *total);
         }
         ProgramFault::TooManyItems(count) => {
-            push_numbered(out, b"refused: D2 TooManyItems", *count)
+            push_numbered(out, b"refused: D2 TooManyItems", *count);
         }
         ProgramFault::Unsaid => push_unsaid(out, names.program),
         ProgramFault::TooLong(which) => {
-            push_refused_in(out, names, *which, &Refusal::InputTooLong)
+            push_refused_in(out, names, *which, &Refusal::InputTooLong);
         }
         ProgramFault::Unread(which, kind) => push_unread(out, names, *which, *kind),
-        ProgramFault::Read => push_text(out, b"read fault"),
+        ProgramFault::Read => out.push(b"read fault"),
         ProgramFault::Write(count) => push_numbered(out, b"write fault after", *count),
-        ProgramFault::Show => push_text(out, b"write fault"),
+        ProgramFault::Show => out.push(b"write fault"),
     }
 }
 
@@ -186,8 +168,8 @@ pub fn fault_line(
 ) -> Result<Vec<u8>, AllocError>
     ensures { IfOk result (λ line. line.items ≡ fault_line (view_names names.now) fault.now) }
 {
-    let mut line = Vec::new(alloc);
-    push_fault(&mut line, names, fault)?;
-    line.push(b'\n')?;
-    Ok(line)
+    let mut line = Draft::new(alloc);
+    push_fault(&mut line, names, fault);
+    line.push(b"\n");
+    line.finish()
 }

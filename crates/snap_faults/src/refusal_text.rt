@@ -1,6 +1,7 @@
 //! The text of a `Refusal` of an input: its code, name and number. `refusal_line` is the whole
 //! line.
-ghost use Rattle.std.specs.Prelude.{◌≡◌, ◌++◌, OnOk, IfOk};
+ghost use Rattle.std.specs.Prelude.{◌≡◌, IfOk};
+ghost use Rattle.snap_text.specs.Drafted.{Adds};
 ghost use Rattle.snap_faults.specs.RefusalText.{
   numbered,
   listing_refusal_text,
@@ -14,7 +15,7 @@ ghost use Rattle.snap_faults.specs.RefusalText.{
 
 use snap_debug_commands::push_refusal as push_command_refusal;
 use snap_semantics::{ImageRefusal, ListingRefusal, Refusal, ScheduleRefusal};
-use snap_text::{push_number, push_text};
+use snap_text::Draft;
 use snap_words::WordFault;
 use std::alloc::{AllocError, Global};
 
@@ -23,19 +24,19 @@ use std::alloc::{AllocError, Global};
 /// # Errors
 ///
 /// `AllocError` where memory runs out.
-pub fn push_numbered(out: &mut Vec<u8>, name: &[u8], number: u64) -> Result<(), AllocError>
-    ensures { OnOk result (out.new.items ≡ out.old.items ++ numbered name.now number) }
+pub fn push_numbered(out: &mut Draft, name: &[u8], number: u64)
+    ensures { Adds out.old out.new (numbered name.now number) }
 {
-    push_text(out, name)?;
-    push_text(out, b" ")?;
-    push_number(out, number)
+    out.push(name);
+    out.push(b" ");
+    out.push_number(number);
 }
 
-fn push_listing_refusal(out: &mut Vec<u8>, refusal: &ListingRefusal) -> Result<(), AllocError>
-    ensures { OnOk result (out.new.items ≡ out.old.items ++ listing_refusal_text refusal.now) }
+fn push_listing_refusal(out: &mut Draft, refusal: &ListingRefusal)
+    ensures { Adds out.old out.new (listing_refusal_text refusal.now) }
 {
     match refusal {
-        ListingRefusal::TooLong => push_text(out, b"L1 TooLong"),
+        ListingRefusal::TooLong => out.push(b"L1 TooLong"),
         ListingRefusal::BadHeader(line) => push_numbered(out, b"L2 BadHeader", *line),
         ListingRefusal::BadLine(line) => push_numbered(out, b"L3 BadLine", *line),
         ListingRefusal::NumberNotRising(line) => push_numbered(out, b"L4 NumberNotRising", *line),
@@ -48,49 +49,48 @@ fn push_listing_refusal(out: &mut Vec<u8>, refusal: &ListingRefusal) -> Result<(
     }
 }
 
-#[tactic(auto, using(snap_text::proofs::Texts::joined))]
-fn push_image_refusal(out: &mut Vec<u8>, refusal: &ImageRefusal) -> Result<(), AllocError>
-    ensures { OnOk result (out.new.items ≡ out.old.items ++ image_refusal_text refusal.now) }
+fn push_image_refusal(out: &mut Draft, refusal: &ImageRefusal)
+    ensures { Adds out.old out.new (image_refusal_text refusal.now) }
 {
     match refusal {
-        ImageRefusal::NotAnImage => push_text(out, b"I1 NotAnImage"),
-        ImageRefusal::Version => push_text(out, b"I2 Version"),
-        ImageRefusal::Truncated => push_text(out, b"I3 Truncated"),
+        ImageRefusal::NotAnImage => out.push(b"I1 NotAnImage"),
+        ImageRefusal::Version => out.push(b"I2 Version"),
+        ImageRefusal::Truncated => out.push(b"I3 Truncated"),
         ImageRefusal::BadCode(offset) => push_numbered(out, b"I4 BadCode", *offset),
         ImageRefusal::Invalid(refusal) => {
-            push_text(out, b"I5 Invalid ")?;
-            push_listing_refusal(out, refusal)
+            out.push(b"I5 Invalid ");
+            push_listing_refusal(out, refusal);
         }
-        ImageRefusal::Extra => push_text(out, b"I6 Extra"),
+        ImageRefusal::Extra => out.push(b"I6 Extra"),
     }
 }
 
-fn push_schedule_refusal(out: &mut Vec<u8>, refusal: &ScheduleRefusal) -> Result<(), AllocError>
-    ensures { OnOk result (out.new.items ≡ out.old.items ++ schedule_refusal_text refusal.now) }
+fn push_schedule_refusal(out: &mut Draft, refusal: &ScheduleRefusal)
+    ensures { Adds out.old out.new (schedule_refusal_text refusal.now) }
 {
     match refusal {
-        ScheduleRefusal::TooLong => push_text(out, b"S1 TooLong"),
-        ScheduleRefusal::BadShape => push_text(out, b"S2 BadShape"),
+        ScheduleRefusal::TooLong => out.push(b"S1 TooLong"),
+        ScheduleRefusal::BadShape => out.push(b"S2 BadShape"),
         ScheduleRefusal::BadItem(line) => push_numbered(out, b"S3 BadItem", *line),
         ScheduleRefusal::TooManyItems(line) => push_numbered(out, b"S4 TooManyItems", *line),
         ScheduleRefusal::NoSuchProcess(line) => push_numbered(out, b"S5 NoSuchProcess", *line),
     }
 }
 
-fn push_word_fault(out: &mut Vec<u8>, fault: &WordFault) -> Result<(), AllocError>
-    ensures { OnOk result (out.new.items ≡ out.old.items ++ word_fault_text fault.now) }
+fn push_word_fault(out: &mut Draft, fault: &WordFault)
+    ensures { Adds out.old out.new (word_fault_text fault.now) }
 {
     match fault {
-        WordFault::BadShape => push_text(out, b"W1 BadShape"),
-        WordFault::NotABit => push_text(out, b"W2 NotABit"),
+        WordFault::BadShape => out.push(b"W1 BadShape"),
+        WordFault::NotABit => out.push(b"W2 NotABit"),
     }
 }
 
-fn push_refusal(out: &mut Vec<u8>, refusal: &Refusal) -> Result<(), AllocError>
-    ensures { OnOk result (out.new.items ≡ out.old.items ++ refusal_text refusal.now) }
+fn push_refusal(out: &mut Draft, refusal: &Refusal)
+    ensures { Adds out.old out.new (refusal_text refusal.now) }
 {
     match refusal {
-        Refusal::InputTooLong => push_text(out, b"P1 InputTooLong"),
+        Refusal::InputTooLong => out.push(b"P1 InputTooLong"),
         Refusal::WrongParts(found) => push_numbered(out, b"P2 WrongParts", *found),
         Refusal::Listing(refusal) => push_listing_refusal(out, refusal),
         Refusal::Image(refusal) => push_image_refusal(out, refusal),
@@ -105,12 +105,11 @@ fn push_refusal(out: &mut Vec<u8>, refusal: &Refusal) -> Result<(), AllocError>
 /// # Errors
 ///
 /// `AllocError` where memory runs out.
-#[tactic(auto, using(snap_text::proofs::Texts::joined))]
-pub fn push_refused(out: &mut Vec<u8>, refusal: &Refusal) -> Result<(), AllocError>
-    ensures { OnOk result (out.new.items ≡ out.old.items ++ refused_text refusal.now) }
+pub fn push_refused(out: &mut Draft, refusal: &Refusal)
+    ensures { Adds out.old out.new (refused_text refusal.now) }
 {
-    push_text(out, b"refused: ")?;
-    push_refusal(out, refusal)
+    out.push(b"refused: ");
+    push_refusal(out, refusal);
 }
 
 /// Returns the line that says why an input is refused.
@@ -121,8 +120,8 @@ pub fn push_refused(out: &mut Vec<u8>, refusal: &Refusal) -> Result<(), AllocErr
 pub fn refusal_line(alloc: Global, refusal: &Refusal) -> Result<Vec<u8>, AllocError>
     ensures { IfOk result (λ line. line.items ≡ refusal_line refusal.now) }
 {
-    let mut line = Vec::new(alloc);
-    push_refused(&mut line, refusal)?;
-    line.push(b'\n')?;
-    Ok(line)
+    let mut line = Draft::new(alloc);
+    push_refused(&mut line, refusal);
+    line.push(b"\n");
+    line.finish()
 }

@@ -1,5 +1,5 @@
 //! What is written of a judgement of a history.
-ghost use Rattle.std.specs.Prelude.{◌≡◌, ◌++◌, IfOk, OnOk, length};
+ghost use Rattle.std.specs.Prelude.{◌≡◌, IfOk, length};
 ghost use Rattle.snap_words.specs.Shape.{IsOneOf};
 ghost use Rattle.snap_semantics.specs.declared.event.Event.{Event};
 ghost use Rattle.snap_history_text.specs.JudgementText.{NamesEvent, judgement_text};
@@ -7,6 +7,7 @@ ghost use Rattle.snap_history_text.specs.JudgementText.{NamesEvent, judgement_te
 use crate::operations::push_linearizable;
 use crate::verdicts::{push_not_linearizable, push_undecided};
 use snap_judge::{History, Judgement};
+use snap_text::Draft;
 use std::alloc::{AllocError, Global};
 
 /// Returns what is written of a judgement of `history`.
@@ -22,13 +23,13 @@ pub fn judgement_text(
     requires { NamesEvent history.now judgement.now }
     ensures { IfOk result (λ text. text.items ≡ judgement_text history.now judgement.now) }
 {
-    let mut out = Vec::new(alloc);
+    let mut out = Draft::new(alloc);
     match judgement {
-        Judgement::Linearizable(order) => push_linearizable(&mut out, order.as_slice())?,
+        Judgement::Linearizable(order) => push_linearizable(&mut out, order.as_slice()),
         Judgement::NotLinearizable(count) => {
-            push_not_linearizable(&mut out, &history.events[*count - 1])?;
+            push_not_linearizable(&mut out, &history.events[*count - 1]);
         }
-        Judgement::Undecided(count) => push_undecided(&mut out, &history.events[*count - 1])?,
+        Judgement::Undecided(count) => push_undecided(&mut out, &history.events[*count - 1]),
     }
-    Ok(out)
+    out.finish()
 }

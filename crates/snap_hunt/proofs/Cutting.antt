@@ -24,20 +24,20 @@ unfolding FailsWith HoldsWith
 found_or_not l w shape xs s None is h = subst (λ (t : Schedule). Finds w (run_over l t) None) is h
 found_or_not l w shape xs s (Some f) is h = (f, subst (λ (t : Schedule). Finds w (run_over l t) (Some f)) is h)
 
--- whether a draft fails, if that is what a test tells
+-- whether a candidate fails, if that is what a test tells
 pub told : (l : Source) (w : Wanted) (shape : Counts) (xs : List Item) (s : Schedule) (found : Option Failure) (b : Bool) →
     s ≡ record { shape = shape; items = xs } → Finds w (run_over l s) found → b ≡ is_some found →
     TellsWhether l w shape xs b
 told l w shape xs s found b is h same =
     subst (λ (c : Bool). TellsWhether l w shape xs c) (sym same) (found_or_not l w shape xs s found is h)
 
--- a draft fails if the test says so
+-- a candidate fails if the test says so
 pub told_so : (l : Source) (w : Wanted) (shape : Counts) (xs ys : List Item) (b : Bool) → TellsWhether l w shape xs b →
     b ≡ true → xs ≡ ys → FailsWith l w shape ys
 told_so l w shape xs ys true h so same = subst (λ (zs : List Item). FailsWith l w shape zs) same h
 told_so l w shape xs ys false h so same = absurd cc
 
--- a draft does not fail if the test says so
+-- a candidate does not fail if the test says so
 pub told_not : (l : Source) (w : Wanted) (shape : Counts) (xs ys : List Item) (b : Bool) → TellsWhether l w shape xs b →
     b ≡ false → xs ≡ ys → HoldsWith l w shape ys
 told_not l w shape xs ys false h so same = subst (λ (zs : List Item). HoldsWith l w shape zs) same h
@@ -132,7 +132,7 @@ left_fails l w s shape at count xs ys h le is fails =
           record { processes = h.within.processes; words = h.within.words; items = omega (arith, within, left, le) };
     }
 
--- what is left of a draft is shorter
+-- what is left of a candidate is shorter
 pub left_shorter : (at count : ℕ) (xs ys : List Item) → at < length xs → 0 < count →
     ys ≡ without at count xs → length ys < length xs
 left_shorter at count xs ys lt some is =

@@ -9,7 +9,7 @@ use Rattle.snap_semantics.specs.Source.{Source}
 use Rattle.snap_runs.specs.Run.{run_of_items}
 use Rattle.snap_hunt.specs.Finding.{Finds, FindsSome}
 use Rattle.snap_hunt.specs.declared.failures.Wanted.{Wanted}
-use Rattle.snap_hunt.specs.declared.draft.Draft.{Draft}
+use Rattle.snap_hunt.specs.declared.candidate.Candidate.{Candidate}
 
 -- items without so many of them at a place, which counts from 0
 abbrev pub without : (at count : ℕ) → List Item → List Item
@@ -53,11 +53,11 @@ pub record IsShrunk (l : Source) (w : Wanted) (s t : Schedule) : Type 0 where
   pub shrinks : Shrinks l w s t
   pub small : IsSmall l w t.shape t.items
 
--- a draft as a schedule
-abbrev pub drawn : Draft → Schedule
+-- a candidate as a schedule
+abbrev pub drawn : Candidate → Schedule
 drawn d = record { shape = d.shape; items = d.items.items }
 
--- from a schedule to a draft that is no larger, of fewer processes or words, whose run fails
-pub record Narrows (l : Source) (w : Wanted) (s : Schedule) (d : Draft) : Type 0 where
+-- from a schedule to a candidate that is no larger, of fewer processes or words, whose run fails
+pub record Narrows (l : Source) (w : Wanted) (s : Schedule) (d : Candidate) : Type 0 where
   pub shrinks : Shrinks l w s (drawn d)
   pub fewer : d.shape.n + d.shape.w < s.shape.n + s.shape.w

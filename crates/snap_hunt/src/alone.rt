@@ -4,32 +4,24 @@ ghost use Rattle.std.specs.Prelude.{◌+◌, ◌-◌, ◌<◌, ◌≤◌, ◌^�
 ghost use Rattle.snap_hunt.specs.Hunt.{IsFirst};
 
 use crate::blocks::find;
-use crate::failures::Wanted;
 use crate::found::Found;
-use snap_asm_program::Program;
-use snap_chance::Plan;
+use crate::hunt::Hunt;
 use std::alloc::{AllocError, Global};
 
 /// Returns run number `run`, if it fails.
 #[tactic(auto, using(crate::proofs::Sides::alone))]
-fn in_run(
-    alloc: Global,
-    program: &Program,
-    plan: &Plan,
-    wanted: &Wanted,
-    seed: u64,
-    run: u64,
-) -> Result<Option<Found>, AllocError>
+fn in_run(alloc: Global, hunt: &Hunt<'_>, run: u64) -> Result<Option<Found>, AllocError>
     requires { run + 1 < 2 ^ 64 }
-    ensures { IfOk result (IsFirst program.now plan.now wanted.now seed run (run + 1)) }
+    ensures { IfOk result (IsFirst hunt.now.program.now hunt.now.plan.now
+        hunt.now.wanted.now hunt.now.seed run (run + 1)) }
 {
-    match find(alloc, program, plan, wanted, seed, run)? {
+    match find(alloc, hunt, run)? {
         Some(failure) => Ok(Some(Found { run, failure })),
         None => Ok(None),
     }
 }
 
-/// Returns the first run that fails, of the first `runs` that `seed` gives, and what fails in it;
+/// Returns the first run that fails, of the first `runs` of `hunt`, and what fails in it;
 /// `None` where no failure is found in any of them. The answer is that of `first_failing`, without
 /// threads.
 ///
@@ -38,18 +30,16 @@ fn in_run(
 /// `AllocError` where memory runs out.
 pub fn first_failing_alone(
     alloc: Global,
-    program: &Program,
-    plan: &Plan,
-    wanted: &Wanted,
-    seed: u64,
+    hunt: &Hunt<'_>,
     runs: u64,
 ) -> Result<Option<Found>, AllocError>
     requires { runs < 2 ^ 63 }
-    ensures { IfOk result (IsFirst program.now plan.now wanted.now seed 0 runs) }
+    ensures { IfOk result (IsFirst hunt.now.program.now hunt.now.plan.now
+        hunt.now.wanted.now hunt.now.seed 0 runs) }
 {
     let mut run = 0;
     while run < runs {
-        let found = in_run(alloc, program, plan, wanted, seed, run)?;
+        let found = in_run(alloc, hunt, run)?;
         if found.is_some() {
             return Ok(found);
         }

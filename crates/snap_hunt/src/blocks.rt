@@ -6,12 +6,12 @@ ghost use Rattle.std.specs.List.{AllZip, range_with_len};
 ghost use Rattle.snap_hunt.specs.Finding.{Finds};
 ghost use Rattle.snap_hunt.specs.Hunt.{IsFirstIn, run_of};
 
-use crate::failures::{Failure, Wanted};
+use crate::failures::Failure;
 use crate::found::Found;
+use crate::hunt::Hunt;
 use crate::over::failure_over;
 use rayon::prelude::*;
-use snap_asm_program::Program;
-use snap_chance::{Plan, schedule_of};
+use snap_chance::schedule_of;
 use std::alloc::{AllocError, Global};
 use std::thread::Threads;
 
@@ -20,18 +20,12 @@ const FEW: usize = 64;
 
 /// Returns what fails in the run of this number.
 #[tactic(auto, using(crate::proofs::Runs::found_over))]
-pub(crate) fn find(
-    alloc: Global,
-    program: &Program,
-    plan: &Plan,
-    wanted: &Wanted,
-    seed: u64,
-    run: u64,
-) -> Result<Option<Failure>, AllocError>
-    ensures { IfOk result (Finds wanted.now (run_of program.now plan.now seed run)) }
+pub(crate) fn find(alloc: Global, hunt: &Hunt<'_>, run: u64) -> Result<Option<Failure>, AllocError>
+    ensures { IfOk result (Finds hunt.now.wanted.now
+        (run_of hunt.now.program.now hunt.now.plan.now hunt.now.seed run)) }
 {
-    let schedule = schedule_of(alloc, seed, run, plan)?;
-    failure_over(alloc, program, &schedule, wanted)
+    let schedule = schedule_of(alloc, hunt.seed, run, hunt.plan)?;
+    failure_over(alloc, hunt.program, &schedule, hunt.wanted)
 }
 
 /// Returns `count` numbers, the first of which is `from`.
@@ -50,23 +44,22 @@ pub(crate) fn numbers(alloc: Global, from: u64, count: u64) -> Result<Vec<u64>, 
 pub(crate) fn find_each(
     rt: &(impl Threads + Sync),
     alloc: Global,
-    program: &Program,
-    plan: &Plan,
-    wanted: &Wanted,
-    seed: u64,
+    hunt: &Hunt<'_>,
     runs: &[u64],
 ) -> Result<Vec<Option<Failure>>, AllocError>
     ensures { IfOk result (λ v. AllZip (λ k found.
-        Finds wanted.now (run_of program.now plan.now seed k) found) runs.now v.items) }
+        Finds hunt.now.wanted.now (run_of hunt.now.program.now hunt.now.plan.now hunt.now.seed k)
+        found) runs.now v.items) }
 {
     let found: Result<Vec<Option<Failure>>, AllocError> = runs
         .par_iter()
         .with_min_len(FEW)
         .map(
             |run: &u64| -> Result<Option<Failure>, AllocError>
-                ensures { IfOk result (Finds wanted.entry.now
-                    (run_of program.entry.now plan.entry.now seed run.now)) }
-            { find(alloc, program, plan, wanted, seed, *run) },
+                ensures { IfOk result (Finds hunt.entry.now.wanted.now
+                    (run_of hunt.entry.now.program.now hunt.entry.now.plan.now
+                    hunt.entry.now.seed run.now)) }
+            { find(alloc, hunt, *run) },
         )
         .collect(rt, alloc)?;
     found

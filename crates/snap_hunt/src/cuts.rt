@@ -10,7 +10,7 @@ use snap_semantics::{Item, who};
 use snap_words::Shape;
 use std::alloc::{AllocError, Global};
 
-/// Some of the items of a draft.
+/// Some of the items of a candidate.
 #[derive(Clone, Copy)]
 pub(crate) enum Cut {
     /// A number of items, from a place on.

@@ -2,7 +2,7 @@
 //! shape that goes along with it, line by line.
 ghost use Rattle.std.specs.Prelude.{◌≡◌};
 
-use crate::draft::{Draft, has_process};
+use crate::candidate::{Candidate, has_process};
 use crate::places::{Gone, Place, item_left};
 use snap_asm_program::Program;
 use snap_machine::{Local, Machine};
@@ -133,40 +133,40 @@ fn follow_items<K: Kind>(
     Ok(items)
 }
 
-/// Returns the items of the run that goes along with that of a draft, for a kind.
+/// Returns the items of the run that goes along with that of a candidate, for a kind.
 fn followed_in<K: Kind>(
     alloc: Global,
     program: &Program,
-    draft: &Draft,
+    candidate: &Candidate,
     gone: Gone,
     shape: Shape,
 ) -> Result<Vec<Item>, AllocError>
     requires { program.now.kind ≡ K.TAG }
 {
-    let mut leader = Machine::<K>::new(alloc, program, draft.shape)?;
+    let mut leader = Machine::<K>::new(alloc, program, candidate.shape)?;
     let mut machine = Machine::<K>::new(alloc, program, shape)?;
     follow_items(
         alloc,
         &mut leader,
         &mut machine,
-        draft.items.as_slice(),
+        candidate.items.as_slice(),
         gone,
     )
 }
 
-/// Returns the items of a run of a smaller shape that goes along with that of a draft, line by
-/// line. The smaller run waits while the draft is at what is gone, for instance in loops over the
-/// processes, which end sooner in the smaller run.
+/// Returns the items of a run of a smaller shape that goes along with that of a candidate, line by
+/// line. The smaller run waits while the candidate is at what is gone, for instance in loops over
+/// the processes, which end sooner in the smaller run.
 pub(crate) fn followed(
     alloc: Global,
     program: &Program,
-    draft: &Draft,
+    candidate: &Candidate,
     gone: Gone,
     shape: Shape,
 ) -> Result<Vec<Item>, AllocError> {
     match program.kind() {
-        KindTag::Seq => followed_in::<Seq>(alloc, program, draft, gone, shape),
-        KindTag::Bits => followed_in::<Bits>(alloc, program, draft, gone, shape),
-        KindTag::Multi => followed_in::<Multi>(alloc, program, draft, gone, shape),
+        KindTag::Seq => followed_in::<Seq>(alloc, program, candidate, gone, shape),
+        KindTag::Bits => followed_in::<Bits>(alloc, program, candidate, gone, shape),
+        KindTag::Multi => followed_in::<Multi>(alloc, program, candidate, gone, shape),
     }
 }

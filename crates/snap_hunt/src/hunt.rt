@@ -1,5 +1,5 @@
-//! `first_failing`: the first run that fails, of the runs that a seed gives; and `Watcher`, which
-//! hears how far the hunt has come.
+//! `Hunt` and `first_failing`: the runs that a seed gives, and the first of them that fails; and
+//! `Watcher`, which hears how far the hunt has come.
 ghost use Rattle.std.specs.Prelude.{◌≡◌, ◌+◌, ◌-◌, ◌<◌, ◌≤◌, ◌^◌, IfOk};
 ghost use Rattle.snap_hunt.specs.Hunt.{IsFirst};
 
@@ -13,6 +13,15 @@ use std::thread::Threads;
 
 /// How many runs are made before a test whether one has failed.
 const BLOCK: u64 = 1_024;
+
+/// The runs of a program in which a hunt looks for failures: those that a seed gives by a plan.
+#[derive(Clone, Copy)]
+pub struct Hunt<'a> {
+    pub program: &'a Program,
+    pub plan: &'a Plan,
+    pub wanted: &'a Wanted,
+    pub seed: u64,
+}
 
 /// Who is told how far a hunt has come.
 pub trait Watcher {
@@ -28,18 +37,16 @@ pub trait Watcher {
 fn in_block(
     rt: &(impl Threads + Sync),
     alloc: Global,
-    program: &Program,
-    plan: &Plan,
-    wanted: &Wanted,
-    seed: u64,
+    hunt: &Hunt<'_>,
     from: u64,
     count: u64,
 ) -> Result<Option<Found>, AllocError>
     requires { from + count < 2 ^ 64 }
-    ensures { IfOk result (IsFirst program.now plan.now wanted.now seed from (from + count)) }
+    ensures { IfOk result (IsFirst hunt.now.program.now hunt.now.plan.now
+        hunt.now.wanted.now hunt.now.seed from (from + count)) }
 {
     let runs = numbers(alloc, from, count)?;
-    let found = find_each(rt, alloc, program, plan, wanted, seed, runs.as_slice())?;
+    let found = find_each(rt, alloc, hunt, runs.as_slice())?;
     Ok(first_of(from, found.as_slice()))
 }
 
@@ -47,20 +54,18 @@ fn in_block(
 fn first_in_blocks<W: Watcher>(
     rt: &(impl Threads + Sync),
     alloc: Global,
-    program: &Program,
-    plan: &Plan,
-    wanted: &Wanted,
-    seed: u64,
+    hunt: &Hunt<'_>,
     runs: u64,
     watcher: &mut W,
 ) -> Result<Option<Found>, AllocError>
     requires { runs < 2 ^ 63 }
-    ensures { IfOk result (IsFirst program.now plan.now wanted.now seed 0 runs) }
+    ensures { IfOk result (IsFirst hunt.now.program.now hunt.now.plan.now
+        hunt.now.wanted.now hunt.now.seed 0 runs) }
 {
     let mut from = 0;
     while from < runs {
         let count = BLOCK.min(runs - from);
-        let found = in_block(rt, alloc, program, plan, wanted, seed, from, count)?;
+        let found = in_block(rt, alloc, hunt, from, count)?;
         if found.is_some() {
             return Ok(found);
         }
@@ -70,8 +75,8 @@ fn first_in_blocks<W: Watcher>(
     Ok(None)
 }
 
-/// Returns the first run that fails, of the first `runs` that `seed` gives, and what fails in it;
-/// `None` where no failure is found in any of them.
+/// Returns the first run that fails, of the first `runs` of `hunt`, and what fails in it; `None`
+/// where no failure is found in any of them.
 ///
 /// # Errors
 ///
@@ -79,17 +84,15 @@ fn first_in_blocks<W: Watcher>(
 pub fn first_failing<W: Watcher>(
     rt: &(impl Threads + Sync),
     alloc: Global,
-    program: &Program,
-    plan: &Plan,
-    wanted: &Wanted,
-    seed: u64,
+    hunt: &Hunt<'_>,
     runs: u64,
     watcher: &mut W,
 ) -> Result<Option<Found>, AllocError>
     requires { runs < 2 ^ 63 }
-    ensures { IfOk result (IsFirst program.now plan.now wanted.now seed 0 runs) }
+    ensures { IfOk result (IsFirst hunt.now.program.now hunt.now.plan.now
+        hunt.now.wanted.now hunt.now.seed 0 runs) }
 {
-    let found = first_in_blocks(rt, alloc, program, plan, wanted, seed, runs, watcher);
+    let found = first_in_blocks(rt, alloc, hunt, runs, watcher);
     watcher.ended();
     found
 }

@@ -2,8 +2,8 @@
 ghost use Rattle.std.specs.Prelude.{IfOk};
 ghost use Rattle.snap_hunt.specs.Shrinking.{Fails, IsShrunk, drawn};
 
+use crate::candidate::{Candidate, candidate_of};
 use crate::cuts::schedule_with;
-use crate::draft::{Draft, draft_of};
 use crate::failures::Wanted;
 use crate::trials::Shrinker;
 use snap_asm_program::Program;
@@ -15,14 +15,15 @@ use std::alloc::{AllocError, Global};
 const LONG: usize = 256;
 
 impl Shrinker<'_> {
-    /// Shrinks a draft in each way once, single items last.
+    /// Shrinks a candidate in each way once, single items last.
     #[tactic(auto, using(crate::proofs::Cutting::onward, crate::proofs::Cutting::onward_small))]
-    fn made_smaller(&self, draft: Draft) -> Result<Draft, AllocError>
-        requires { Fails self.now.program.now self.now.wanted.now draft.shape draft.items.items }
+    fn made_smaller(&self, candidate: Candidate) -> Result<Candidate, AllocError>
+        requires { Fails self.now.program.now self.now.wanted.now candidate.shape
+            candidate.items.items }
         ensures { IfOk result (λ d.
-            IsShrunk self.now.program.now self.now.wanted.now (drawn draft) (drawn d)) }
+            IsShrunk self.now.program.now self.now.wanted.now (drawn candidate) (drawn d)) }
     {
-        let short = self.drop_segments(draft, LONG)?;
+        let short = self.drop_segments(candidate, LONG)?;
         let fewer = self.drop_operations(short)?;
         let shorter = self.drop_segments(fewer, 1)?;
         let least = self.drop_items(shorter)?;
@@ -31,15 +32,16 @@ impl Shrinker<'_> {
         self.drop_items(plain)
     }
 
-    /// Shrinks a draft in each way, until none leads to fewer items.
+    /// Shrinks a candidate in each way, until none leads to fewer items.
     #[tactic(auto, using(crate::proofs::Cutting::onward, crate::proofs::Cutting::onward_small))]
-    fn made_small(&self, draft: Draft) -> Result<Draft, AllocError>
-        requires { Fails self.now.program.now self.now.wanted.now draft.shape draft.items.items }
+    fn made_small(&self, candidate: Candidate) -> Result<Candidate, AllocError>
+        requires { Fails self.now.program.now self.now.wanted.now candidate.shape
+            candidate.items.items }
         ensures { IfOk result (λ d.
-            IsShrunk self.now.program.now self.now.wanted.now (drawn draft) (drawn d)) }
+            IsShrunk self.now.program.now self.now.wanted.now (drawn candidate) (drawn d)) }
     {
-        let mut before = draft.items.len();
-        let mut kept = self.made_smaller(draft)?;
+        let mut before = candidate.items.len();
+        let mut kept = self.made_smaller(candidate)?;
         while kept.items.len() < before {
             before = kept.items.len();
             kept = self.made_smaller(kept)?;
@@ -71,9 +73,9 @@ pub fn shrunk(
         program,
         wanted,
     };
-    let mut kept = shrinker.made_small(draft_of(alloc, schedule)?)?;
-    while let Some(draft) = shrinker.narrower(&kept, owns)? {
-        kept = shrinker.made_small(draft)?;
+    let mut kept = shrinker.made_small(candidate_of(alloc, schedule)?)?;
+    while let Some(candidate) = shrinker.narrower(&kept, owns)? {
+        kept = shrinker.made_small(candidate)?;
     }
     schedule_with(alloc, kept.shape, kept.items.as_slice())
 }

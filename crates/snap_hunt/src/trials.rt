@@ -1,12 +1,12 @@
-//! Whether the run still fails once a failing schedule is made smaller: `still_fails` of a draft,
-//! the `better` of two, and an item that is `removable`.
+//! Whether the run still fails once a failing schedule is made smaller: `still_fails` of a
+//! candidate, the `better` of two, and an item that is `removable`.
 ghost use Rattle.std.specs.Prelude.{◌≡◌, ◌<◌, ℕ, length, true, false, IfOk, IsTrue, MatchOption};
 ghost use Rattle.snap_semantics.specs.ScheduleText.{IsSchedule};
 ghost use Rattle.snap_hunt.specs.Shrinking.{Fails, FailsWith, IsSmall, Shrinks, TellsWhether};
 ghost use Rattle.snap_hunt.specs.Shrinking.{drawn, without};
 
+use crate::candidate::{Candidate, is_schedule, is_within};
 use crate::cuts::{schedule_with, without};
-use crate::draft::{Draft, is_schedule, is_within};
 use crate::failures::Wanted;
 use crate::over::failure_over;
 use snap_asm_program::Program;
@@ -34,22 +34,22 @@ impl Shrinker<'_> {
         Ok(failure_over(self.alloc, self.program, &schedule, self.wanted)?.is_some())
     }
 
-    /// Returns whether a draft is a schedule whose run fails.
+    /// Returns whether a candidate is a schedule whose run fails.
     #[tactic(auto, using(crate::proofs::Cutting::fails_by))]
-    pub(crate) fn still_fails(&self, draft: &Draft) -> Result<bool, AllocError>
+    pub(crate) fn still_fails(&self, candidate: &Candidate) -> Result<bool, AllocError>
         ensures { IfOk result (λ b. IsTrue b
-            → Fails self.now.program.now self.now.wanted.now draft.now.shape
-            draft.now.items.items) }
+            → Fails self.now.program.now self.now.wanted.now candidate.now.shape
+            candidate.now.items.items) }
     {
-        if !is_schedule(draft.shape, draft.items.as_slice()) {
+        if !is_schedule(candidate.shape, candidate.items.as_slice()) {
             return Ok(false);
         }
-        self.fails_with(draft.shape, draft.items.as_slice())
+        self.fails_with(candidate.shape, candidate.items.as_slice())
     }
 
     /// Returns `other` if it is no larger than `kept` and its run fails, or else `kept`.
     #[tactic(auto, using(crate::proofs::Cutting::itself))]
-    pub(crate) fn better(&self, kept: Draft, other: Draft) -> Result<Draft, AllocError>
+    pub(crate) fn better(&self, kept: Candidate, other: Candidate) -> Result<Candidate, AllocError>
         requires { Fails self.now.program.now self.now.wanted.now kept.shape kept.items.items }
         ensures { IfOk result (λ d.
             Shrinks self.now.program.now self.now.wanted.now (drawn kept) (drawn d)) }

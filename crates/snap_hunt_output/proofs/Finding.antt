@@ -3,12 +3,12 @@
 use Rattle.std.proofs.Common.{◌≡◌, ℕ, List, Option, Some, None, Ok, refl, sym, ap, subst, ◌∙◌}
 use Rattle.snap_hunt_output.specs.Hunted.{IsDue, IsFaultOf, IsFirstOf, IsFound, IsHunted, IsHuntedOf, IsNoRefusal}
 use Rattle.snap_hunt_output.specs.Hunted.{IsPrinted, Says, asked_source}
-use Rattle.snap_hunt_output.specs.Asked.{owned}
+use Rattle.snap_hunt_output.specs.HuntRequest.{owned}
 use Rattle.snap_hunt_output.specs.Check.{run_in_input}
 use Rattle.snap_hunt_output.specs.Input.{input_text}
 use Rattle.snap_faults.specs.declared.fault.ProgramFault.{ProgramFault}
 use Rattle.snap_faults.specs.declared.fault.ProgramFault.TheVariants.{Memory, Unsaid}
-use Rattle.snap_hunt_output.specs.declared.asked.Asked.{Asked}
+use Rattle.snap_hunt_output.specs.declared.hunt_request.HuntRequest.{HuntRequest}
 use Rattle.snap_hunt_output.specs.declared.hunted.Hunted.{Hunted}
 use Rattle.snap_semantics.specs.Schedule.{Schedule}
 use Rattle.snap_semantics.specs.ScheduleText.{IsSchedule}
@@ -44,7 +44,7 @@ fails_over l p w one seed k s f g is h kind only found = record {
 }
 
 -- an input is the text of a small schedule whose run fails so
-pub printed_by : (l : Source) (p : Plan) (text : List ℕ) (a : Asked) (k : ℕ) (kind g : FailureKind) (f : Failure)
+pub printed_by : (l : Source) (p : Plan) (text : List ℕ) (a : HuntRequest) (k : ℕ) (kind g : FailureKind) (f : Failure)
     (input : List ℕ) (w : Wanted) (s small : Schedule) → g ≡ kind → w ≡ with_only g a.wanted → s ≡ schedule_of a.seed k p
     → IsShrunk l w s small → Finds w (run_over l small) (Some f) → input ≡ input_text text a.seed k f small →
     IsPrinted l p text a k kind f input
@@ -64,7 +64,7 @@ pub said : (w : Wanted) (input : List ℕ) (l : Source) (s : Schedule) (f : Fail
 said w input l s f is h = (run_over l s, is, h)
 
 -- a run that was found, with the input of a small one
-pub found_by : (l : Source) (text : List ℕ) (a : Asked) (x : Found) (f : Failure) (input : List ℕ) (p : Plan)
+pub found_by : (l : Source) (text : List ℕ) (a : HuntRequest) (x : Found) (f : Failure) (input : List ℕ) (p : Plan)
     (g : FailureKind) (w : Wanted) → p ≡ owned l.kind a.plan → IsFirst l p a.wanted a.seed 0 a.runs (Some x) →
     kind_of f ≡ kind_of x.failure → g ≡ kind_of x.failure → w ≡ with_only g a.wanted →
     IsPrinted l p text a x.run (kind_of x.failure) f input → Says w input f → IsFound l text a x.run f input
@@ -81,25 +81,26 @@ found_by l text a x f input p g w plan first same kind only printed says = recor
 }
 
 -- what a hunt of a program comes to is what one of its listing does
-pub hunted_by : (text : List ℕ) (a : Asked) (l : Source) (h : Hunted) →
+pub hunted_by : (text : List ℕ) (a : HuntRequest) (l : Source) (h : Hunted) →
     asked_source text a ≡ Ok l → IsHuntedOf l text a h → IsHunted text a h
 hunted_by text a l h is hunted = record { listing = l; is = is; hunted = hunted }
 
 -- none of the runs fails
-pub none_by : (l : Source) (a : Asked) (p : Plan) (r : Option Found) → p ≡ owned l.kind a.plan →
+pub none_by : (l : Source) (a : HuntRequest) (p : Plan) (r : Option Found) → p ≡ owned l.kind a.plan →
     IsFirst l p a.wanted a.seed 0 a.runs r → r ≡ None → IsFirstOf l a None
 none_by l a p r plan first none =
     subst (λ o. IsFirstOf l a o) none (subst (λ q. IsFirst l q a.wanted a.seed 0 a.runs r) plan first)
 
 -- a fault that refuses nothing, where a run fails
-pub fault_by : (l : Source) (a : Asked) (p : Plan) (x : Found) (e : ProgramFault) → p ≡ owned l.kind a.plan →
+pub fault_by : (l : Source) (a : HuntRequest) (p : Plan) (x : Found) (e : ProgramFault) → p ≡ owned l.kind a.plan →
     IsFirst l p a.wanted a.seed 0 a.runs (Some x) → IsNoRefusal e → IsFaultOf l a e
 fault_by l a p x Memory plan first h = tt
 fault_by l a p x Unsaid plan first h = (x, subst (λ q. IsFirst l q a.wanted a.seed 0 a.runs (Some x)) plan first)
 fault_by l a p x e plan first h = h
 
 -- a fault of a hunt of the listing that is asked for
-pub due_by : (text : List ℕ) (a : Asked) (l : Source) (e : ProgramFault) → asked_source text a ≡ Ok l → IsFaultOf l a e →
+pub due_by : (text : List ℕ) (a : HuntRequest) (l : Source) (e : ProgramFault) → asked_source text a ≡ Ok l →
+    IsFaultOf l a e →
     IsDue text a e
 due_by text a l Memory is h = tt
 due_by text a l Unsaid is h = (l, is, h)

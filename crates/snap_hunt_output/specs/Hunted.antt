@@ -2,6 +2,7 @@
 -- schedule whose run fails as it does (`IsPrinted`); `asked_source`, the listing that is asked for, or why it is
 -- refused.
 use Rattle.std.specs.Prelude.{◌≡◌, ℕ, List, Option, Some, None, Result, Ok, Err, ⊤, if◌then◌else◌}
+use Rattle.snap_words.specs.Kind.{fits}
 use Rattle.snap_words.specs.declared.shape.WordFault.TheVariants.{BadShape}
 use Rattle.snap_semantics.specs.Answers.{◌>>=◌, refused_as}
 use Rattle.snap_semantics.specs.Listing.{listing_of}
@@ -20,23 +21,24 @@ use Rattle.snap_hunt.specs.declared.failures.Wanted.{Wanted}
 use Rattle.snap_hunt.specs.Hunt.{IsFirst}
 use Rattle.snap_hunt.specs.declared.found.Found.{Found}
 use Rattle.snap_hunt.specs.Shrinking.{IsShrunk}
-use Rattle.snap_hunt_output.specs.Asked.{fits_kind, owned}
+use Rattle.snap_hunt_output.specs.HuntRequest.{owned}
 use Rattle.snap_hunt_output.specs.Check.{run_in_input}
 use Rattle.snap_hunt_output.specs.Input.{input_text}
-use Rattle.snap_hunt_output.specs.declared.asked.Asked.{Asked}
+use Rattle.snap_hunt_output.specs.declared.hunt_request.HuntRequest.{HuntRequest}
 use Rattle.snap_hunt_output.specs.declared.hunted.Hunted.{Hunted}
 use Rattle.snap_hunt_output.specs.declared.hunted.Hunted.TheVariants as hunted
 use Rattle.snap_faults.specs.declared.fault.ProgramFault.{ProgramFault}
 use Rattle.snap_faults.specs.declared.fault.ProgramFault.TheVariants.{Memory, Refused, Unsaid}
 
 -- what a hunt of a listing is to find: the first of the runs that are asked for in which something fails, or none
-abbrev pub IsFirstOf : Source → Asked → Option Found → Type 0
+abbrev pub IsFirstOf : Source → HuntRequest → Option Found → Type 0
 IsFirstOf l a = IsFirst l (owned l.kind a.plan) a.wanted a.seed 0 a.runs
 
 -- The text is that of the listing, of a note, and of a small schedule: it has no more processes, words and items than
 -- that of run k, this fails in its run, and without any one of its items nothing of this kind is found in the run.
 -- The note has the seed, the run and what fails.
-pub record IsPrinted (l : Source) (p : Plan) (text : List ℕ) (a : Asked) (k : ℕ) (kind : FailureKind) (f : Failure)
+pub record IsPrinted (l : Source) (p : Plan) (text : List ℕ) (a : HuntRequest) (k : ℕ) (kind : FailureKind) (f :
+    Failure)
     (input : List ℕ) : Type 0 where
   pub small : Schedule
   pub shrunk : IsShrunk l (with_only kind a.wanted) (schedule_of a.seed k p) small
@@ -49,25 +51,25 @@ Says w input f = (r : Run) × (run_in_input input ≡ Ok r) × Finds w r (Some f
 
 -- A run is the first one that fails, and the input is the text of a small schedule in whose run a failure of the same
 -- kind is found. Read as the debugger reads it, the input has a run that fails so.
-pub record IsFound (l : Source) (text : List ℕ) (a : Asked) (k : ℕ) (f : Failure) (input : List ℕ) : Type 0 where
+pub record IsFound (l : Source) (text : List ℕ) (a : HuntRequest) (k : ℕ) (f : Failure) (input : List ℕ) : Type 0 where
   pub found : Failure
   pub first : IsFirstOf l a (Some (record { run = k; failure = found }))
   pub alike : kind_of found ≡ kind_of f
   pub printed : IsPrinted l (owned l.kind a.plan) text a k (kind_of f) f input
   pub says : Says (with_only (kind_of f) a.wanted) input f
 
-abbrev pub IsHuntedOf : Source → List ℕ → Asked → Hunted → Type 0
+abbrev pub IsHuntedOf : Source → List ℕ → HuntRequest → Hunted → Type 0
 IsHuntedOf l text a hunted.NoneFails = IsFirstOf l a None
 IsHuntedOf l text a (hunted.Fails k f input) = IsFound l text a k f input.items
 
 -- the listing of a hunt; it is refused as `check` refuses it, and where the shape does not fit its kind
-abbrev pub asked_source : List ℕ → Asked → Result Source Refusal
+abbrev pub asked_source : List ℕ → HuntRequest → Result Source Refusal
 asked_source text a = do
   l ← refused_as refusal.Listing (listing_of text)
-  if fits_kind l.kind a.plan.shape then Ok l else Err (refusal.Words BadShape)
+  if fits l.kind a.plan.shape then Ok l else Err (refusal.Words BadShape)
 
 -- what a hunt comes to, for the listing that a text is
-pub record IsHunted (text : List ℕ) (a : Asked) (h : Hunted) : Type 0 where
+pub record IsHunted (text : List ℕ) (a : HuntRequest) (h : Hunted) : Type 0 where
   pub listing : Source
   pub is : asked_source text a ≡ Ok listing
   pub hunted : IsHuntedOf listing text a h
@@ -79,13 +81,13 @@ IsNoRefusal Unsaid = ⊤
 IsNoRefusal _ = ⊥
 
 -- a fault of a hunt of a listing: it refuses nothing, and unless memory ran out a run fails
-abbrev pub IsFaultOf : Source → Asked → ProgramFault → Type 0
+abbrev pub IsFaultOf : Source → HuntRequest → ProgramFault → Type 0
 IsFaultOf l a Memory = ⊤
 IsFaultOf l a Unsaid = (x : Found) × IsFirstOf l a (Some x)
 IsFaultOf l a _ = ⊥
 
 -- a fault that is due: a refusal is that of what is asked for, and where nothing is refused it is one of its listing
-abbrev pub IsDue : List ℕ → Asked → ProgramFault → Type 0
+abbrev pub IsDue : List ℕ → HuntRequest → ProgramFault → Type 0
 IsDue text a Memory = ⊤
 IsDue text a (Refused r) = asked_source text a ≡ Err r
 IsDue text a Unsaid = (l : Source) × (asked_source text a ≡ Ok l) × ((x : Found) × IsFirstOf l a (Some x))

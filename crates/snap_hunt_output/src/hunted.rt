@@ -6,20 +6,20 @@ ghost use Rattle.snap_hunt.specs.Finding.{Finds};
 ghost use Rattle.snap_hunt.specs.Kinds.{kind_of};
 ghost use Rattle.snap_semantics.specs.Answers.{Answers};
 ghost use Rattle.snap_hunt.specs.Hunt.{IsFirst, run_of};
-ghost use Rattle.snap_hunt_output.specs.Asked.{owned};
+ghost use Rattle.snap_hunt_output.specs.HuntRequest.{owned};
 ghost use Rattle.snap_hunt_output.specs.Hunted.{IsDue, IsFaultOf, IsHunted, IsHuntedOf};
 ghost use Rattle.snap_hunt_output.specs.Hunted.{IsNoRefusal, IsPrinted, Says, asked_source};
 
-use crate::asked::{Asked, fits_kind, owned};
 use crate::check::{InputRun, run_in_input};
+use crate::hunt_request::{HuntRequest, owned};
 use crate::input::input_text;
 use snap_asm_program::Program;
 use snap_chance::{Plan, schedule_of};
 use snap_faults::ProgramFault;
 use snap_hunt::{
-    Failure, Found, Wanted, Watcher, failure_over, first_failing, first_failing_alone, shrunk,
+    Failure, Found, Hunt, Wanted, Watcher, failure_over, first_failing, first_failing_alone, shrunk,
 };
-use snap_input::{MAX_INPUT, program_of};
+use snap_input::{MAX_INPUT, fits, program_of};
 use snap_semantics::{Fault, Refusal};
 use snap_words::WordFault;
 use std::alloc::Global;
@@ -52,7 +52,7 @@ fn small_input(
     listing: &[u8],
     program: &Program,
     plan: &Plan,
-    asked: &Asked,
+    asked: &HuntRequest,
     found: &Found,
 ) -> Result<SmallInput, ProgramFault>
     requires { Finds asked.now.wanted (run_of program.now plan.now asked.now.seed found.now.run)
@@ -122,7 +122,7 @@ fn hunted_of(
     listing: &[u8],
     program: &Program,
     plan: &Plan,
-    asked: &Asked,
+    asked: &HuntRequest,
     found: Option<Found>,
 ) -> Result<Hunted, ProgramFault>
     requires plan { plan.now ≡ owned program.now.kind asked.now.plan }
@@ -152,7 +152,7 @@ fn hunt_program<W: Watcher>(
     alloc: Global,
     listing: &[u8],
     program: &Program,
-    asked: &Asked,
+    asked: &HuntRequest,
     watcher: &mut W,
 ) -> Result<Hunted, ProgramFault>
     requires { asked.now.runs < 2 ^ 63 }
@@ -160,16 +160,13 @@ fn hunt_program<W: Watcher>(
     ensures fault { IfErr result (IsFaultOf program.now asked.now) }
 {
     let plan = owned(program.kind(), &asked.plan);
-    let found = first_failing(
-        rt,
-        alloc,
+    let hunt = Hunt {
         program,
-        &plan,
-        &asked.wanted,
-        asked.seed,
-        asked.runs,
-        watcher,
-    )?;
+        plan: &plan,
+        wanted: &asked.wanted,
+        seed: asked.seed,
+    };
+    let found = first_failing(rt, alloc, &hunt, asked.runs, watcher)?;
     hunted_of(alloc, listing, program, &plan, asked, found)
 }
 
@@ -179,23 +176,33 @@ fn hunt_program_alone(
     alloc: Global,
     listing: &[u8],
     program: &Program,
-    asked: &Asked,
+    asked: &HuntRequest,
 ) -> Result<Hunted, ProgramFault>
     requires { asked.now.runs < 2 ^ 63 }
     ensures hunted { IfOk result (IsHuntedOf program.now listing.now asked.now) }
     ensures fault { IfErr result (IsFaultOf program.now asked.now) }
 {
     let plan = owned(program.kind(), &asked.plan);
-    let found = first_failing_alone(alloc, program, &plan, &asked.wanted, asked.seed, asked.runs)?;
+    let hunt = Hunt {
+        program,
+        plan: &plan,
+        wanted: &asked.wanted,
+        seed: asked.seed,
+    };
+    let found = first_failing_alone(alloc, &hunt, asked.runs)?;
     hunted_of(alloc, listing, program, &plan, asked, found)
 }
 
 /// Returns the program of a listing, if the shape fits its kind.
-fn asked_program(alloc: Global, listing: &[u8], asked: &Asked) -> Result<Program, Fault<Refusal>>
+fn asked_program(
+    alloc: Global,
+    listing: &[u8],
+    asked: &HuntRequest,
+) -> Result<Program, Fault<Refusal>>
     ensures { Answers (λ p. p) result (asked_source listing.now asked.now) }
 {
     let program = program_of(alloc, listing)?;
-    if !fits_kind(program.kind(), asked.plan.shape()) {
+    if !fits(program.kind(), asked.plan.shape()) {
         return Err(Fault::Refused(Refusal::Words(WordFault::BadShape)));
     }
     Ok(program)
@@ -213,7 +220,7 @@ pub fn hunt_listing<W: Watcher>(
     rt: &(impl Threads + Sync),
     alloc: Global,
     listing: &[u8],
-    asked: &Asked,
+    asked: &HuntRequest,
     watcher: &mut W,
 ) -> Result<Hunted, ProgramFault>
     requires { asked.now.runs < 2 ^ 63 }
@@ -231,7 +238,11 @@ pub fn hunt_listing<W: Watcher>(
 /// The reason why `listing` is refused, as elsewhere or because the shape does not fit its kind;
 /// `Memory` where memory runs out.
 #[tactic(auto, using(crate::proofs::Finding::hunted_by, crate::proofs::Finding::due_by))]
-pub fn hunt_alone(alloc: Global, listing: &[u8], asked: &Asked) -> Result<Hunted, ProgramFault>
+pub fn hunt_alone(
+    alloc: Global,
+    listing: &[u8],
+    asked: &HuntRequest,
+) -> Result<Hunted, ProgramFault>
     requires { asked.now.runs < 2 ^ 63 }
     ensures hunted { IfOk result (IsHunted listing.now asked.now) }
     ensures refused { IfErr result (IsDue listing.now asked.now) }

@@ -1,11 +1,11 @@
 //! What a hunt writes: an input of a run that fails, or that none does.
 #![tactic(auto)]
 
-mod asked;
 mod check;
+mod hunt_request;
 mod hunted;
 mod input;
 
-pub use asked::Asked;
 pub use check::{InputRun, run_in_input};
+pub use hunt_request::HuntRequest;
 pub use hunted::{Hunted, hunt_alone, hunt_listing};

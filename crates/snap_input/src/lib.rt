@@ -17,6 +17,6 @@ pub use in_threads::read_side_by_side;
 pub use in_turn::{read_schedule, read_schedules, schedules_for};
 pub use part_counts::{MAX_INPUT, count_texts, parts_for};
 pub use parts::{count_separators, split_parts};
-pub use schedules::schedule_for;
+pub use schedules::{fits, schedule_for};
 pub use snap_tasks::Subject;
 pub use subject::{program_for, shipped, texts_for};

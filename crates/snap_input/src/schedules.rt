@@ -1,6 +1,7 @@
 //! `schedule_for`: reads the schedule in a part of an input, whose shape is to fit the kind of the
-//! program.
+//! program; `fits`: whether it does.
 ghost use Rattle.std.specs.Prelude.{◌≡◌};
+ghost use Rattle.snap_words.specs.Kind.{fits};
 ghost use Rattle.snap_semantics.specs.Answers.{Answers, refused_as};
 ghost use Rattle.snap_semantics.specs.Schedule.{schedule_of};
 ghost use Rattle.snap_semantics.specs.declared.refusal.Refusal.TheVariants as refusal;
@@ -9,8 +10,19 @@ ghost use Rattle.snap_input.specs.Schedules.{schedule_for};
 use snap_asm_program::Program;
 use snap_sched::Schedule;
 use snap_semantics::{Fault, Refusal};
-use snap_words::{Kind, WordFault};
+use snap_words::{Bits, Kind, KindTag, Multi, Seq, Shape, WordFault};
 use std::alloc::Global;
+
+/// Returns whether registers of `kind` can have `shape`.
+pub fn fits(kind: KindTag, shape: Shape) -> bool
+    ensures { result ≡ fits kind shape }
+{
+    match kind {
+        KindTag::Seq => Seq::fits(shape),
+        KindTag::Bits => Bits::fits(shape),
+        KindTag::Multi => Multi::fits(shape),
+    }
+}
 
 /// Reads a schedule.
 fn read_schedule(alloc: Global, text: &[u8]) -> Result<Schedule, Fault<Refusal>>

@@ -1,6 +1,5 @@
 -- A judgement of a history names an event of it; and what stands behind a text is an order of what was before.
-use Rattle.std.proofs.Common.{◌≡◌, ℕ, ◌-◌, List, [], ◌∷◌, ◌++◌, Result, Ok, Err}
-use Rattle.std.specs.Prelude.{OnOk}
+use Rattle.std.proofs.Common.{◌≡◌, ℕ, ◌-◌, List, [], ◌∷◌, ◌++◌}
 use Rattle.snap_judge.specs.History.{History}
 use Rattle.snap_judge.specs.Judgement.{IsJudgement}
 use Rattle.snap_judge.specs.Linearizable.{up_to}
@@ -18,11 +17,9 @@ names_event most h (judgement.Linearizable order) is = tt
 names_event most h (judgement.NotLinearizable k) is = is.is_event
 names_event most h (judgement.Undecided k) is = is.0
 
-pub was_before : {E : Type 0} (result : Result (Unit {0}) E) (most : ℕ) (h : History) (k : ℕ) (j : Judgement)
-    (text longer : List ℕ) → IsJudgement most (up_to (k - 1) h) j → OnOk result (longer ≡ text ++ before_text j) →
-    OnOk result (WasBefore most h k text longer)
-was_before (Ok done) most h k j text longer is there = (j, is, there)
-was_before (Err e) most h k j text longer is there = tt
+pub was_before : (most : ℕ) (h : History) (k : ℕ) (j : Judgement) (text longer : List ℕ) →
+    IsJudgement most (up_to (k - 1) h) j → longer ≡ text ++ before_text j → WasBefore most h k text longer
+was_before most h k j text longer is there = (j, is, there)
 
 circle : (h : History) (rs : List Reason) → IsCircle h rs → IsCircleOrNone h rs
 circle h [] is = tt

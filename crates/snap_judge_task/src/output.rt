@@ -6,7 +6,7 @@ ghost use Rattle.snap_judge_task.specs.Judged.{found_at_once};
 ghost use Rattle.snap_judge_task.specs.JudgeAnswer.{AnswersHistory, AnswersJudge, TellsOf};
 ghost use Rattle.snap_faults.specs.declared.fault.ProgramFault.{ProgramFault};
 
-use crate::failing::push_more;
+use crate::failing::with_more;
 use crate::run_history::history_in;
 use snap_faults::ProgramFault;
 use snap_history_text::judgement_text;
@@ -29,8 +29,8 @@ fn told(alloc: Global, history: History, most: u64) -> Result<JudgeOutput, Alloc
     ensures { IfOk result (λ out. TellsOf most history out.text.items out.word) }
 {
     let judgement = judge(alloc, &history, most as usize)?;
-    let mut text = judgement_text(alloc, &history, &judgement)?;
-    push_more(alloc, &mut text, history, &judgement, most)?;
+    let judged = judgement_text(alloc, &history, &judgement)?;
+    let text = with_more(alloc, judged, history, &judgement, most)?;
     let word = word_of(&judgement);
     Ok(JudgeOutput { text, word })
 }

@@ -12,21 +12,20 @@ use crate::listing::read_listing;
 use snap_listing::kind_keyword;
 use snap_listing_core::Listing;
 use snap_semantics::{Fault, Refusal};
-use snap_text::{push_number, push_text};
+use snap_text::Draft;
 use std::alloc::{AllocError, Global};
 
 /// Returns the kind of a listing, and how many numbered lines it has.
-#[tactic(auto, using(snap_text::proofs::Texts::joined))]
 fn check_line(alloc: Global, listing: &Listing) -> Result<Vec<u8>, AllocError>
     ensures { IfOk result (λ line. line.items ≡ check_line listing.now) }
 {
-    let mut line = Vec::new(alloc);
-    push_text(&mut line, b"ok: ")?;
-    push_text(&mut line, kind_keyword(listing.kind()))?;
-    push_text(&mut line, b", ")?;
-    push_number(&mut line, listing.lines().len() as u64)?;
-    push_text(&mut line, b" lines\n")?;
-    Ok(line)
+    let mut line = Draft::new(alloc);
+    line.push(b"ok: ");
+    line.push(kind_keyword(listing.kind()));
+    line.push(b", ");
+    line.push_number(listing.lines().len() as u64);
+    line.push(b" lines\n");
+    line.finish()
 }
 
 /// Returns the line that the task `check` writes of `text`.

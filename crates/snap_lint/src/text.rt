@@ -1,6 +1,7 @@
 //! `lint_of`: what the task `lint` writes of a text, the warnings of the listing, or why it is no
 //! listing.
-ghost use Rattle.std.specs.Prelude.{◌≡◌, ◌<◌, ◌++◌, Err, IfOk, OnOk, length};
+ghost use Rattle.std.specs.Prelude.{◌≡◌, ◌<◌, Err, IfOk, length};
+ghost use Rattle.snap_text.specs.Drafted.{Adds};
 ghost use Rattle.snap_semantics.specs.declared.fault.Fault.TheVariants.{Refused};
 ghost use Rattle.snap_semantics.specs.declared.refusal.ListingRefusal.TheVariants.{TooLong};
 ghost use Rattle.snap_semantics.specs.declared.refusal.Refusal.TheVariants as refusal;
@@ -13,7 +14,7 @@ use crate::listing::read_listing;
 use crate::{Concern, Warning, warnings};
 use snap_listing_core::Listing;
 use snap_semantics::{Fault, Refusal};
-use snap_text::{push_number, push_text};
+use snap_text::Draft;
 use std::alloc::{AllocError, Global};
 
 /// Returns what is said of a line.
@@ -32,26 +33,25 @@ fn concern_text(concern: Concern) -> &'static [u8]
 }
 
 /// Appends the line of a warning.
-#[tactic(auto, using(snap_text::proofs::Texts::joined))]
-fn push_warning(out: &mut Vec<u8>, warning: &Warning) -> Result<(), AllocError>
-    ensures { OnOk result (out.new.items ≡ out.old.items ++ warning_line warning.now) }
+fn push_warning(out: &mut Draft, warning: &Warning)
+    ensures { Adds out.old out.new (warning_line warning.now) }
 {
-    push_text(out, b"line ")?;
-    push_number(out, warning.line)?;
-    push_text(out, b": ")?;
-    push_text(out, concern_text(warning.concern))?;
-    push_text(out, b"\n")
+    out.push(b"line ");
+    out.push_number(warning.line);
+    out.push(b": ");
+    out.push(concern_text(warning.concern));
+    out.push(b"\n");
 }
 
 /// Returns the lines of warnings.
 fn warnings_text(alloc: Global, warnings: &[Warning]) -> Result<Vec<u8>, AllocError>
     ensures { IfOk result (λ out. out.items ≡ warnings_text warnings.now) }
 {
-    let mut out = Vec::new(alloc);
+    let mut out = Draft::new(alloc);
     for warning in warnings {
-        push_warning(&mut out, warning)?;
+        push_warning(&mut out, warning);
     }
-    Ok(out)
+    out.finish()
 }
 
 /// Returns the text of the warnings of `listing`.

@@ -1,7 +1,6 @@
 //! `Setup`: what a live run plays, which is a listing and a script for each process; and how an
 //! input is read as one.
 ghost use Rattle.std.specs.Prelude.{◌≡◌, ◌<◌, ◌≤◌, Err, length, map};
-ghost use Rattle.snap_words.specs.Kind.{fits};
 ghost use Rattle.snap_semantics.specs.Answers.{Answers, refused_as};
 ghost use Rattle.snap_semantics.specs.declared.fault.Fault.TheVariants.{Refused};
 ghost use Rattle.snap_semantics.specs.declared.refusal.Refusal.{Refusal};
@@ -12,11 +11,11 @@ ghost use Rattle.snap_input.specs.Input.{checked_parts};
 ghost use Rattle.snap_input.specs.Parts.{max_input, parts_of};
 
 use snap_asm_program::Program;
-use snap_input::{MAX_INPUT, parts_for, program_for, texts_for};
+use snap_input::{MAX_INPUT, fits, parts_for, program_for, texts_for};
 use snap_sched::Scripts;
 use snap_semantics::{Fault, Refusal};
 use snap_tasks::Subject;
-use snap_words::{Bits, Kind, KindTag, Multi, Seq, Shape, WordFault};
+use snap_words::WordFault;
 use std::alloc::Global;
 use std::marker::Model;
 
@@ -59,17 +58,6 @@ impl Setup {
     {
         let _shape = self.scripts.shape();
         &self.scripts
-    }
-}
-
-/// Returns whether there are registers of a kind and a shape.
-fn fits(kind: KindTag, shape: Shape) -> bool
-    ensures { result ≡ fits kind shape }
-{
-    match kind {
-        KindTag::Seq => Seq::fits(shape),
-        KindTag::Bits => Bits::fits(shape),
-        KindTag::Multi => Multi::fits(shape),
     }
 }
 

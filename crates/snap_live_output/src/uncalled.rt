@@ -1,6 +1,7 @@
 //! The calls that items of a live run skipped, and the text on them: an update whose word does not
 //! exist, or is another process's.
 ghost use Rattle.std.specs.Prelude.{◌≡◌, ◌++◌, IfOk, OnOk, length};
+ghost use Rattle.snap_text.specs.Drafted.{Adds};
 ghost use Rattle.snap_live_output.specs.Uncalled.{line_front, others_line, others_text};
 ghost use Rattle.snap_live_output.specs.Uncalled.{by_process, calls_of, skipped_calls, uncalled};
 ghost use Rattle.snap_live_output.specs.Uncalled.{uncalled_calls, uncalled_item, uncalled_line};
@@ -12,7 +13,7 @@ use snap_record::History;
 use snap_report::{op_text, reason_text};
 use snap_sched::Script;
 use snap_semantics::{Item, Op, Reason};
-use snap_text::{push_number, push_text};
+use snap_text::Draft;
 use snap_words::{KindTag, Shape};
 use std::alloc::{AllocError, Global};
 
@@ -114,67 +115,64 @@ fn uncalled_calls(
 
 /// Appends the front of a line.
 #[tactic(auto, unfolding(crate::specs::Uncalled::line_front))]
-fn push_front(out: &mut Vec<u8>) -> Result<(), AllocError>
-    ensures { OnOk result (out.new.items ≡ out.old.items ++ line_front) }
+fn push_front(out: &mut Draft)
+    ensures { Adds out.old out.new line_front }
 {
-    push_text(out, b"not called: ")
+    out.push(b"not called: ");
 }
 
 /// Appends a line for an operation that calls nothing.
-#[tactic(auto, using(snap_text::proofs::Texts::joined), unfolding(crate::specs::Uncalled::uncalled_line))]
-fn push_line(out: &mut Vec<u8>, call: &UncalledCall) -> Result<(), AllocError>
-    ensures { OnOk result (out.new.items ≡ out.old.items ++ uncalled_line call.now) }
+#[tactic(auto, unfolding(crate::specs::Uncalled::uncalled_line))]
+fn push_line(out: &mut Draft, call: &UncalledCall)
+    ensures { Adds out.old out.new (uncalled_line call.now) }
 {
-    push_front(out)?;
-    push_text(out, b"process ")?;
-    push_number(out, call.process)?;
-    push_text(out, b" ")?;
-    op_text(out, call.op)?;
-    push_text(out, b" ")?;
-    reason_text(out, call.reason)?;
-    push_text(out, b"\n")
+    push_front(out);
+    out.push(b"process ");
+    out.push_number(call.process);
+    out.push(b" ");
+    op_text(out, call.op);
+    out.push(b" ");
+    reason_text(out, call.reason);
+    out.push(b"\n");
 }
 
 /// Appends a line for each of `calls`.
-#[tactic(auto, using(snap_text::proofs::Texts::joined))]
-fn push_lines(out: &mut Vec<u8>, calls: &[UncalledCall]) -> Result<(), AllocError>
-    ensures { OnOk result (out.new.items ≡ out.old.items ++ uncalled_lines calls.now) }
+fn push_lines(out: &mut Draft, calls: &[UncalledCall])
+    ensures { Adds out.old out.new (uncalled_lines calls.now) }
 {
     for call in calls {
-        push_line(out, call)?;
+        push_line(out, call);
     }
-    Ok(())
 }
 
 /// Appends a line for `count` other operations.
-#[tactic(auto, using(snap_text::proofs::Texts::joined), unfolding(crate::specs::Uncalled::others_text))]
-fn push_others_text(out: &mut Vec<u8>, count: u64) -> Result<(), AllocError>
-    ensures { OnOk result (out.new.items ≡ out.old.items ++ others_text count) }
+#[tactic(auto, unfolding(crate::specs::Uncalled::others_text))]
+fn push_others_text(out: &mut Draft, count: u64)
+    ensures { Adds out.old out.new (others_text count) }
 {
-    push_front(out)?;
-    push_number(out, count)?;
-    push_text(out, b" more\n")
+    push_front(out);
+    out.push_number(count);
+    out.push(b" more\n");
 }
 
 /// Appends a line for `count` other operations, if there are any.
-#[tactic(auto, using(snap_text::proofs::Texts::joined))]
-fn push_others(out: &mut Vec<u8>, count: u64) -> Result<(), AllocError>
-    ensures { OnOk result (out.new.items ≡ out.old.items ++ others_line count) }
+fn push_others(out: &mut Draft, count: u64)
+    ensures { Adds out.old out.new (others_line count) }
 {
     if count == 0 {
-        return Ok(());
+        return;
     }
-    push_others_text(out, count)
+    push_others_text(out, count);
 }
 
 /// Appends a line for each of the first eight of `calls`, and one for the others.
-#[tactic(auto, using(snap_text::proofs::Texts::joined), unfolding(crate::specs::Uncalled::uncalled_text))]
-fn push_calls(out: &mut Vec<u8>, calls: &[UncalledCall]) -> Result<(), AllocError>
-    ensures { OnOk result (out.new.items ≡ out.old.items ++ uncalled_text calls.now) }
+#[tactic(auto, unfolding(crate::specs::Uncalled::uncalled_text))]
+fn push_calls(out: &mut Draft, calls: &[UncalledCall])
+    ensures { Adds out.old out.new (uncalled_text calls.now) }
 {
     let listed = LINES.min(calls.len());
-    push_lines(out, &calls[..listed])?;
-    push_others(out, (calls.len() - listed) as u64)
+    push_lines(out, &calls[..listed]);
+    push_others(out, (calls.len() - listed) as u64);
 }
 
 /// Returns the text on the calls that the items of a live run skipped; an empty text if there are
@@ -183,7 +181,6 @@ fn push_calls(out: &mut Vec<u8>, calls: &[UncalledCall]) -> Result<(), AllocErro
 /// # Errors
 ///
 /// `AllocError` where memory runs out.
-#[tactic(auto, using(snap_text::proofs::Texts::joined))]
 pub(crate) fn uncalled_text(
     alloc: Global,
     setup: &Setup,
@@ -193,7 +190,7 @@ pub(crate) fn uncalled_text(
         out.items ≡ uncalled_text (uncalled_calls setup.now items.now.items)) }
 {
     let calls = uncalled_calls(alloc, setup, items)?;
-    let mut out = Vec::new(alloc);
-    push_calls(&mut out, calls.as_slice())?;
-    Ok(out)
+    let mut out = Draft::new(alloc);
+    push_calls(&mut out, calls.as_slice());
+    out.finish()
 }

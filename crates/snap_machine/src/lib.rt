@@ -13,6 +13,7 @@ mod local_lines;
 mod locals;
 mod machine;
 mod overwrites;
+mod own_code;
 mod puts;
 mod quantifiers;
 mod register_lines;
@@ -36,6 +37,7 @@ pub use locals::{
 };
 pub use machine::Machine;
 pub use overwrites::overwritten;
+pub use own_code::OwnCode;
 pub use quantifiers::{check_values, first_place, holds_at_all, range_end, row_value};
 pub use register_lines::{line_bit, line_get, line_look, line_put, line_put_bit, line_put_view};
 pub use reversal::revert;

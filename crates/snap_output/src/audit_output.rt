@@ -6,8 +6,8 @@ ghost use Rattle.snap_output.specs.ScheduleOutput.{audit_listing};
 
 use snap_asm_program::Program;
 use snap_audit::audit_text_over;
-use snap_batch::OwnCode;
 use snap_input::schedule_for;
+use snap_machine::OwnCode;
 use snap_semantics::{Fault, Refusal};
 use snap_words::{Bits, Kind, KindTag, Multi, Seq};
 use std::alloc::Global;

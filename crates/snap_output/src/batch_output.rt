@@ -1,6 +1,7 @@
 //! `batch_program`: what the task `batch` writes, the report of the end of each of many schedules of
 //! one listing. The schedules are read and run one after another or side by side.
-ghost use Rattle.std.specs.Prelude.{◌≡◌, ◌++◌, ◌<◌, ◌^◌, Ok, IfOk, OnOk, length, map};
+ghost use Rattle.std.specs.Prelude.{◌≡◌, ◌<◌, ◌^◌, Ok, IfOk, length, map};
+ghost use Rattle.snap_text.specs.Drafted.{Adds};
 ghost use Rattle.snap_semantics.specs.Answers.{Answers};
 ghost use Rattle.snap_batch.specs.Reports.{numbered_report, reports_text};
 ghost use Rattle.snap_output.specs.ScheduleOutput.{batch_text};
@@ -10,30 +11,28 @@ use snap_batch::{batch, batch_alone};
 use snap_input::{read_schedules, read_side_by_side};
 use snap_report::Report;
 use snap_semantics::{Fault, Refusal};
-use snap_text::{push_number, push_text};
+use snap_text::Draft;
 use std::alloc::{AllocError, Global};
 use std::thread::Threads;
 
 /// Appends a report behind the line of its number.
-#[tactic(auto, using(snap_text::proofs::Texts::joined))]
-fn push_report(out: &mut Vec<u8>, number: u64, report: &Report) -> Result<(), AllocError>
-    ensures { OnOk result (out.new.items ≡ out.old.items ++ numbered_report number report.now) }
+fn push_report(out: &mut Draft, number: u64, report: &Report)
+    ensures { Adds out.old out.new (numbered_report number report.now) }
 {
-    push_text(out, b"schedule ")?;
-    push_number(out, number)?;
-    push_text(out, b"\n")?;
-    push_text(out, report.as_slice())
+    out.push(b"schedule ");
+    out.push_number(number);
+    out.push(b"\n");
+    out.push(report.as_slice());
 }
 
 /// Appends reports, each behind the line of its number.
-fn push_reports(out: &mut Vec<u8>, reports: &[Report]) -> Result<(), AllocError>
+fn push_reports(out: &mut Draft, reports: &[Report])
     requires { length reports.now < 2 ^ 64 }
-    ensures { OnOk result (out.new.items ≡ out.old.items ++ reports_text 1 reports.now) }
+    ensures { Adds out.old out.new (reports_text 1 reports.now) }
 {
     for k in 0..reports.len() {
-        push_report(out, k as u64 + 1, &reports[k])?;
+        push_report(out, k as u64 + 1, &reports[k]);
     }
-    Ok(())
 }
 
 /// Returns reports, each behind the line of its number.
@@ -41,9 +40,9 @@ fn reports_text(alloc: Global, reports: &[Report]) -> Result<Vec<u8>, AllocError
     requires { length reports.now < 2 ^ 64 }
     ensures { IfOk result (λ out. out.items ≡ reports_text 1 reports.now) }
 {
-    let mut out = Vec::new(alloc);
-    push_reports(&mut out, reports)?;
-    Ok(out)
+    let mut out = Draft::new(alloc);
+    push_reports(&mut out, reports);
+    out.finish()
 }
 
 /// Returns the report of the end of `program` under each of `texts`, behind the line of its number.

@@ -1,6 +1,7 @@
 //! `perform`: what is written for a listing, a schedule and debugger commands, each command with
 //! its reply.
 ghost use Rattle.std.specs.Prelude.{◌≡◌, ◌++◌, Err, IfOk, OnOk, Some};
+ghost use Rattle.snap_text.specs.Drafted.{Adds};
 ghost use Rattle.snap_runs.specs.Run.{run_over};
 ghost use Rattle.snap_semantics.specs.Answers.{Answers, refused_as};
 ghost use Rattle.snap_semantics.specs.declared.fault.Fault.TheVariants.{Refused};
@@ -18,7 +19,7 @@ use snap_debug::{Command, Session, push_command, push_refusal_line};
 use snap_input::{program_of, schedule_for};
 use snap_sched::Schedule;
 use snap_semantics::{Fault, ListingRefusal, Refusal};
-use snap_text::push_text;
+use snap_text::Draft;
 use snap_words::{Bits, Kind, KindTag, Multi, Seq};
 use std::alloc::{AllocError, Global};
 
@@ -34,33 +35,36 @@ fn read_commands(alloc: Global, text: &[u8]) -> Result<Vec<Command>, Fault<Refus
 }
 
 /// Appends a command behind `> `, and the reply of a session.
-#[tactic(auto, using(snap_text::proofs::Texts::joined))]
 fn push_answer<K: Kind>(
-    out: &mut Vec<u8>,
+    out: &mut Draft,
     session: &mut Session<K>,
     command: &Command,
 ) -> Result<(), AllocError>
-    ensures reply { OnOk result (out.new.items ≡ out.old.items
-        ++ command_reply session.old command.now) }
+    ensures reply { OnOk result (Adds out.old out.new (command_reply session.old command.now)) }
     ensures session { OnOk result (session.new ≡ (answer session.old command.now).0) }
 {
-    push_text(out, b"> ")?;
-    push_command(out, command)?;
+    out.push(b"> ");
+    push_command(out, command);
     match session.command(command) {
-        Ok(reply) => push_text(out, reply.as_slice()),
-        Err(Fault::Refused(refusal)) => push_refusal_line(out, &refusal),
+        Ok(reply) => {
+            out.push(reply.as_slice());
+            Ok(())
+        }
+        Err(Fault::Refused(refusal)) => {
+            push_refusal_line(out, &refusal);
+            Ok(())
+        }
         Err(Fault::Memory) => Err(AllocError),
     }
 }
 
 /// Appends commands, each with the reply of a session.
 fn push_answers<K: Kind>(
-    out: &mut Vec<u8>,
+    out: &mut Draft,
     session: &mut Session<K>,
     commands: &[Command],
 ) -> Result<(), AllocError>
-    ensures replies { OnOk result (out.new.items ≡ out.old.items
-        ++ replies_text session.old commands.now) }
+    ensures replies { OnOk result (Adds out.old out.new (replies_text session.old commands.now)) }
     ensures session { OnOk result (session.new ≡ after_commands session.old commands.now) }
 {
     for command in commands {
@@ -70,11 +74,12 @@ fn push_answers<K: Kind>(
 }
 
 /// Appends the report of the position of a session.
-fn push_session_report<K: Kind>(out: &mut Vec<u8>, session: &Session<K>) -> Result<(), AllocError>
-    ensures { OnOk result (out.new.items ≡ out.old.items ++ session_report session.now) }
+fn push_session_report<K: Kind>(out: &mut Draft, session: &Session<K>) -> Result<(), AllocError>
+    ensures { OnOk result (Adds out.old out.new (session_report session.now)) }
 {
     let report = session.report()?;
-    push_text(out, report.as_slice())
+    out.push(report.as_slice());
+    Ok(())
 }
 
 /// Returns the replies of a session to commands, and the report of the position that they reach.
@@ -86,10 +91,10 @@ fn answers<K: Kind>(
     ensures { IfOk result (λ out. out.items ≡ replies_text session.old commands.now
         ++ session_report (after_commands session.old commands.now)) }
 {
-    let mut out = Vec::new(alloc);
+    let mut out = Draft::new(alloc);
     push_answers(&mut out, session, commands)?;
     push_session_report(&mut out, session)?;
-    Ok(out)
+    out.finish()
 }
 
 /// Returns the replies to commands on a program under a schedule, and the report of the position

@@ -1,6 +1,7 @@
 //! The trace of one item of a run: its outcome, the line of the listing that it ran, and what it
 //! changed in the report.
-ghost use Rattle.std.specs.Prelude.{◌≡◌, [], ◌++◌, IfOk, OnOk};
+ghost use Rattle.std.specs.Prelude.{◌≡◌, [], ◌++◌, IfOk, OnOk, false};
+ghost use Rattle.snap_text.specs.Drafted.{Adds};
 ghost use Rattle.snap_words.specs.Shape.{IsOneOf};
 ghost use Rattle.snap_semantics.specs.Run.{event_of};
 ghost use Rattle.snap_semantics.specs.Table.{done, who};
@@ -11,7 +12,7 @@ use snap_listing::LineTexts;
 use snap_machine::{Machine, WritePlace};
 use snap_report::{event_lines, head_line, outcome_text, written_local, written_shared};
 use snap_semantics::{Event, Happening, Item, Outcome, Status, who};
-use snap_text::{push_changes, push_number, push_text};
+use snap_text::{Draft, push_changes};
 use snap_words::Kind;
 use std::alloc::{AllocError, Global};
 
@@ -51,117 +52,113 @@ fn events_of(
 }
 
 /// Appends the line of a local, with its process in place of its first space.
-#[tactic(auto, using(snap_text::proofs::Texts::joined))]
-fn push_of_process(out: &mut Vec<u8>, i: u32, line: &[u8]) -> Result<(), AllocError>
-    ensures { OnOk result (out.new.items ≡ out.old.items ++ of_process i line.now) }
+fn push_of_process(out: &mut Draft, i: u32, line: &[u8])
+    ensures { Adds out.old out.new (of_process i line.now) }
 {
     match line {
-        [] => Ok(()),
+        [] => {}
         [_, rest @ ..] => {
-            push_text(out, b"process ")?;
-            push_number(out, u64::from(i))?;
-            push_text(out, rest)
+            out.push(b"process ");
+            out.push_number(u64::from(i));
+            out.push(rest);
         }
     }
 }
 
 /// Makes the text of what an item that writes at `place` can change in a report, and of events:
 /// each line names its owner. The line of a local is made in memory of its own.
-#[tactic(auto, using(snap_text::proofs::Texts::joined))]
 fn touched_text<K: Kind>(
-    text: &mut Vec<u8>,
-    local: &mut Vec<u8>,
+    text: &mut Draft,
+    local: &mut Draft,
     machine: &Machine<K>,
     i: u32,
     place: WritePlace,
     events: &[Event],
 ) -> Result<(), AllocError>
     requires { IsOneOf machine.now.shape.n i }
-    ensures { OnOk result (text.new.items ≡ touched_text machine.now.source.kind i place
-        machine.now.state events.now) }
+    ensures { OnOk result (text.new.failed ≡ false →
+        text.new.text ≡ touched_text machine.now.source.kind i place machine.now.state events.now) }
 {
     text.clear();
-    written_shared(text, machine, place)?;
-    head_line(text, machine, i)?;
+    written_shared(text, machine, place);
+    head_line(text, machine, i);
     local.clear();
-    written_local(local, machine, i, place)?;
-    push_of_process(text, i, local.as_slice())?;
-    event_lines(text, events)
+    written_local(local, machine, i, place);
+    push_of_process(text, i, local.text()?);
+    event_lines(text, events);
+    Ok(())
 }
 
 /// Appends ` at ` and the text of the line that was run, if one was.
-#[tactic(auto, using(snap_text::proofs::Texts::joined))]
-fn push_run(out: &mut Vec<u8>, texts: &LineTexts, run: Option<u64>) -> Result<(), AllocError>
-    ensures { OnOk result (out.new.items ≡ out.old.items ++ run_text texts.now run) }
+fn push_run(out: &mut Draft, texts: &LineTexts, run: Option<u64>)
+    ensures { Adds out.old out.new (run_text texts.now run) }
 {
     let Some(number) = run else {
-        return Ok(());
+        return;
     };
     match texts.with_number(number) {
         Some(text) => {
-            push_text(out, b" at ")?;
-            push_text(out, text)
+            out.push(b" at ");
+            out.push(text);
         }
-        None => Ok(()),
+        None => {}
     }
 }
 
 /// Appends `item T I `.
-#[tactic(auto, using(snap_text::proofs::Texts::joined))]
-fn push_numbers(out: &mut Vec<u8>, number: u64, process: u32) -> Result<(), AllocError>
-    ensures { OnOk result (out.new.items ≡ out.old.items ++ number_text number process) }
+fn push_numbers(out: &mut Draft, number: u64, process: u32)
+    ensures { Adds out.old out.new (number_text number process) }
 {
-    push_text(out, b"item ")?;
-    push_number(out, number)?;
-    push_text(out, b" ")?;
-    push_number(out, u64::from(process))?;
-    push_text(out, b" ")
+    out.push(b"item ");
+    out.push_number(number);
+    out.push(b" ");
+    out.push_number(u64::from(process));
+    out.push(b" ");
 }
 
 /// Appends `item T I OUTCOME`, and the line that was run.
-#[tactic(auto, using(snap_text::proofs::Texts::joined), unfolding(crate::specs::Step::head_text))]
+#[tactic(auto, unfolding(crate::specs::Step::head_text))]
 fn push_did(
-    out: &mut Vec<u8>,
+    out: &mut Draft,
     texts: &LineTexts,
     number: u64,
     process: u32,
     outcome: &Outcome,
     run: Option<u64>,
-) -> Result<(), AllocError>
-    ensures { OnOk result (out.new.items ≡ out.old.items ++ head_text texts.now number process
-        outcome.now run) }
+)
+    ensures { Adds out.old out.new (head_text texts.now number process outcome.now run) }
 {
-    push_numbers(out, number, process)?;
-    outcome_text(out, outcome)?;
-    push_run(out, texts, run)?;
-    push_text(out, b"\n")
+    push_numbers(out, number, process);
+    outcome_text(out, outcome);
+    push_run(out, texts, run);
+    out.push(b"\n");
 }
 
 /// What is written, and texts that are made anew for each item, in the same memory.
 #[derive(Drop)]
 pub(crate) struct Sheet {
-    out: Vec<u8>,
-    before: Vec<u8>,
-    after: Vec<u8>,
-    local: Vec<u8>,
+    out: Draft,
+    before: Draft,
+    after: Draft,
+    local: Draft,
 }
 
 impl Sheet {
     /// Returns a sheet without text.
     pub(crate) fn new(alloc: Global) -> Sheet
-        ensures { result.out.items ≡ [] }
+        ensures { result.out.text ≡ [] }
     {
         Sheet {
-            out: Vec::new(alloc),
-            before: Vec::new(alloc),
-            after: Vec::new(alloc),
-            local: Vec::new(alloc),
+            out: Draft::new(alloc),
+            before: Draft::new(alloc),
+            after: Draft::new(alloc),
+            local: Draft::new(alloc),
         }
     }
 
     /// Returns the text of the sheet.
-    pub(crate) fn into_text(self) -> Vec<u8>
-        ensures { result.items ≡ self.out.items }
+    pub(crate) fn into_text(self) -> Result<Vec<u8>, AllocError>
+        ensures { IfOk result (λ text. text.items ≡ self.out.text) }
     {
         let Sheet {
             out,
@@ -169,12 +166,12 @@ impl Sheet {
             after: _,
             local: _,
         } = self;
-        out
+        out.finish()
     }
 }
 
 /// Does item number `number`, and appends what it did and what it changed.
-#[tactic(auto, using(snap_text::proofs::Texts::joined), unfolding(crate::specs::Step::done_text))]
+#[tactic(auto, unfolding(crate::specs::Step::done_text))]
 pub(crate) fn push_item<K: Kind>(
     sheet: &mut Sheet,
     alloc: Global,
@@ -184,7 +181,7 @@ pub(crate) fn push_item<K: Kind>(
     item: Item,
 ) -> Result<(), AllocError>
     requires { IsOneOf machine.old.shape.n (who item) }
-    ensures text { OnOk result (sheet.new.out.items ≡ sheet.old.out.items ++ done_text texts.now
+    ensures text { OnOk result (sheet.new.out.text ≡ sheet.old.out.text ++ done_text texts.now
         machine.old.source machine.old.shape machine.old.state number item) }
     ensures state { OnOk result (machine.new.state
         ≡ (done machine.old.source machine.old.shape machine.old.state item).0) }
@@ -199,7 +196,7 @@ pub(crate) fn push_item<K: Kind>(
     let place = machine.overwritten(item)?.write_place();
     touched_text(&mut sheet.before, &mut sheet.local, machine, i, place, &[])?;
     let outcome = machine.apply(item)?;
-    push_did(&mut sheet.out, texts, number, i, &outcome, run)?;
+    push_did(&mut sheet.out, texts, number, i, &outcome, run);
     let events = events_of(alloc, number, item, outcome)?;
     touched_text(
         &mut sheet.after,
@@ -209,8 +206,9 @@ pub(crate) fn push_item<K: Kind>(
         place,
         events.as_slice(),
     )?;
-    let before = sheet.before.as_slice();
-    let after = sheet.after.as_slice();
-    push_changes(&mut sheet.out, before, after)?;
+    let before = sheet.before.text()?;
+    let after = sheet.after.text()?;
+    push_changes(&mut sheet.out, before, after);
+    let _well = sheet.out.text()?;
     Ok(())
 }

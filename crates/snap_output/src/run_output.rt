@@ -11,7 +11,7 @@ use snap_input::read_schedule;
 use snap_report::position_line;
 use snap_sched::Schedule;
 use snap_semantics::{Fault, Refusal};
-use snap_text::push_text;
+use snap_text::Draft;
 use snap_words::{Bits, Kind, KindTag, Multi, Seq};
 use std::alloc::{AllocError, Global};
 
@@ -36,7 +36,6 @@ fn end_of<K: Kind>(
 
 /// Returns the reply of a session without marks to `run` at the beginning of a schedule, and the
 /// report of the end. No session is opened for it.
-#[tactic(auto, using(snap_text::proofs::Texts::joined))]
 fn run_kind<K: Kind>(
     alloc: Global,
     program: &Program,
@@ -47,11 +46,11 @@ fn run_kind<K: Kind>(
 {
     let total = schedule.items().len();
     let course = end_of::<K>(alloc, program, schedule)?;
-    let mut out = Vec::new(alloc);
-    push_text(&mut out, b"> run\n")?;
-    position_line(&mut out, total, total)?;
-    course.push_report(&mut out)?;
-    Ok(out)
+    let mut out = Draft::new(alloc);
+    out.push(b"> run\n");
+    position_line(&mut out, total, total);
+    course.push_report(&mut out);
+    out.finish()
 }
 
 /// Returns the reply to `run` and the report of the end, whatever the kind of the program.

@@ -34,5 +34,5 @@ pub fn trace<K: Kind>(
         number += 1;
         push_item(&mut sheet, alloc, &texts, &mut machine, number, item)?;
     }
-    Ok(sheet.into_text())
+    sheet.into_text()
 }

@@ -8,16 +8,16 @@ use Rattle.snap_semantics.specs.declared.fault.Fault.TheVariants as fault
 use Rattle.snap_semantics.specs.declared.refusal.Refusal.{Refusal}
 use Rattle.snap_semantics.specs.declared.event.Event.{Event}
 use Rattle.snap_page.specs.Answer.{AnswersAsked, IsAnswerFor}
-use Rattle.snap_page.specs.declared.asked.Asked.{Asked}
+use Rattle.snap_page.specs.declared.page_request.PageRequest.{PageRequest}
 use Rattle.snap_hunt_output.specs.Hunted.{IsDue, IsHunted}
-use Rattle.snap_hunt_output.specs.declared.asked.Asked as hunt
+use Rattle.snap_hunt_output.specs.declared.hunt_request.HuntRequest as hunt
 use Rattle.snap_hunt_output.specs.declared.hunted.Hunted.{Hunted}
 use Rattle.snap_faults.specs.declared.fault.ProgramFault.{ProgramFault}
 use Rattle.snap_page.specs.Hunt.{IsHuntAnswer}
 use Rattle.snap_picture.specs.Picture.{AnswersPicture, IsPictureBy}
 use Rattle.snap_picture.specs.declared.refusal.PictureRefusal.{PictureRefusal}
 
-module _ (a : Asked) (input : List ℕ) (result : Result (Vec ℕ Global) (Fault Refusal))
+module _ (a : PageRequest) (input : List ℕ) (result : Result (Vec ℕ Global) (Fault Refusal))
     (given : AnswersAsked a input result) where
   -- what is said of whatever was answered; it is said of everything only where there was no memory
   pub told : (Tells : Result (List ℕ) Refusal → Type 0) →
@@ -48,7 +48,7 @@ module _ (IsWrong : Option Event → Type 0) (picture : Option Event → Result 
     of (Err fault.Memory) h says = absurd (apart (λ d. says d tt))
 
 -- What a hunt comes to, or a fault of it, is an answer of it.
-pub hunted : (listing : List ℕ) (a b : hunt.Asked) (result : Result Hunted ProgramFault) → a ≡ b →
+pub hunted : (listing : List ℕ) (a b : hunt.HuntRequest) (result : Result Hunted ProgramFault) → a ≡ b →
     IfOk result (IsHunted listing a) → IfErr result (IsDue listing a) → IsHuntAnswer listing b result
-hunted listing a b (Ok h) same is due = subst (λ (x : hunt.Asked). IsHunted listing x h) same is
-hunted listing a b (Err why) same is due = subst (λ (x : hunt.Asked). IsDue listing x why) same due
+hunted listing a b (Ok h) same is due = subst (λ (x : hunt.HuntRequest). IsHunted listing x h) same is
+hunted listing a b (Err why) same is due = subst (λ (x : hunt.HuntRequest). IsDue listing x why) same due

@@ -12,7 +12,7 @@ use Rattle.snap_input.specs.Input.{checked_parts}
 use Rattle.snap_input.specs.Parts.{max_input, parts_of}
 use Rattle.snap_output.specs.AtOnce.{why}
 use Rattle.snap_page.specs.Answer.{found_at_once}
-use Rattle.snap_page.specs.declared.asked.Asked.TheVariants.{Judge}
+use Rattle.snap_page.specs.declared.page_request.PageRequest.TheVariants.{Judge}
 
 of_parts : {A : Type 0} (x : Result A Refusal) (r : Refusal) → why x ≡ Some r →
     judging.why (refused_as judge.Refused x) ≡ Some (judge.Refused r)

@@ -16,8 +16,8 @@ use Rattle.snap_output.specs.AtOnce.{unknown_version, wrong_head, wrong_version}
 use Rattle.snap_input.specs.Input.{checked_parts, texts_for}
 use Rattle.snap_page.specs.Answer.{found_at_once}
 use Rattle.snap_page.specs.Page.{needs_no_memory}
-use Rattle.snap_page.specs.declared.asked.Asked.{Asked}
-use Rattle.snap_page.specs.declared.asked.Asked.TheVariants.{Do, Judge}
+use Rattle.snap_page.specs.declared.page_request.PageRequest.{PageRequest}
+use Rattle.snap_page.specs.declared.page_request.PageRequest.TheVariants.{Do, Judge}
 use Rattle.snap_tasks.specs.declared.task.Task.{Task}
 use Rattle.snap_tasks.specs.declared.task.Task.TheVariants as task
 
@@ -87,7 +87,7 @@ task_short (task.Batch s) input =
 task_short (task.Survey s) input =
     count_short (λ ts. nat_lt 0 (length ts) && nat_le (length ts) 4096) (texts_for s (parts_of input)) (parts_of input)
 
-asked_short : (a : Asked) (input : List ℕ) → Short (found_at_once a input)
+asked_short : (a : PageRequest) (input : List ℕ) → Short (found_at_once a input)
 asked_short (Do t) input =
     either (nat_lt max_input (length input)) (Some refusal.InputTooLong) (refused_at_once t input)
     (of_one refusal.InputTooLong refl) (task_short t input)
@@ -98,6 +98,6 @@ asked_short (Judge s) input =
     (of_one refusal.InputTooLong refl) (count_short one texts (parts_of input))
 
 -- what is found at once needs no memory to be handed
-pub needs_none : (a : Asked) (input : List ℕ) (r : Refusal) →
+pub needs_none : (a : PageRequest) (input : List ℕ) (r : Refusal) →
     found_at_once a input ≡ Some r → needs_no_memory r ≡ true
 needs_none a input = asked_short a input

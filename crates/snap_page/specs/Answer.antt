@@ -17,8 +17,8 @@ use Rattle.snap_input.specs.Input.{checked_parts}
 use Rattle.snap_input.specs.Parts.{max_input, parts_of}
 use Rattle.snap_output.specs.AtOnce as task
 use Rattle.snap_output.specs.Output.{IsAnswerTo}
-use Rattle.snap_page.specs.declared.asked.Asked.{Asked}
-use Rattle.snap_page.specs.declared.asked.Asked.TheVariants.{Do, Judge}
+use Rattle.snap_page.specs.declared.page_request.PageRequest.{PageRequest}
+use Rattle.snap_page.specs.declared.page_request.PageRequest.TheVariants.{Do, Judge}
 
 -- how many configurations a search meets at most for a page
 abbrev pub page_configurations : ℕ
@@ -34,18 +34,18 @@ IsJudgedRun s input (Ok text) = (word : Linearizability) × IsJudged (judge_requ
 IsJudgedRun s input (Err r) = judged (source.Run s) input ≡ Err (judge.Refused r)
 
 -- What is answered to what a page asks: the output, or the reason why there is none.
-abbrev pub IsAnswerFor : Asked → List ℕ → Result (List ℕ) Refusal → Type 0
+abbrev pub IsAnswerFor : PageRequest → List ℕ → Result (List ℕ) Refusal → Type 0
 IsAnswerFor (Do t) input answer = IsAnswerTo t input answer
 IsAnswerFor (Judge s) input answer = IsJudgedRun s input answer
 
 -- What a call that allocates returns; a want of memory may stand in its place.
-abbrev pub AnswersAsked : Asked → List ℕ → Result (Vec ℕ Global) (Fault Refusal) → Type 0
+abbrev pub AnswersAsked : PageRequest → List ℕ → Result (Vec ℕ Global) (Fault Refusal) → Type 0
 AnswersAsked a input (Ok out) = IsAnswerFor a input (Ok out.items)
 AnswersAsked a input (Err fault.Memory) = ⊤
 AnswersAsked a input (Err (fault.Refused r)) = IsAnswerFor a input (Err r)
 
 -- the refusal that is found before any memory is asked for
-abbrev pub found_at_once : Asked → List ℕ → Option Refusal
+abbrev pub found_at_once : PageRequest → List ℕ → Option Refusal
 found_at_once (Do t) input = task.found_at_once t input
 found_at_once (Judge s) input =
     if nat_lt max_input (length input) then Some refusal.InputTooLong else

@@ -8,7 +8,7 @@ use Rattle.snap_hunt.specs.declared.failures.StepBound.TheVariants.{Shipped}
 use Rattle.snap_hunt.specs.declared.failures.Wanted.{Wanted}
 use Rattle.snap_faults.specs.RefusalText.{refusal_line}
 use Rattle.snap_hunt_output.specs.Hunted.{IsDue, IsHunted}
-use Rattle.snap_hunt_output.specs.declared.asked.Asked.{Asked}
+use Rattle.snap_hunt_output.specs.declared.hunt_request.HuntRequest.{HuntRequest}
 use Rattle.snap_hunt_output.specs.declared.hunted.Hunted.{Hunted}
 use Rattle.snap_hunt_output.specs.declared.hunted.Hunted.TheVariants as hunted
 use Rattle.snap_faults.specs.declared.fault.ProgramFault.{ProgramFault}
@@ -33,12 +33,12 @@ abbrev pub hunt_wanted : Wanted
 hunt_wanted = record { linearizable = true; point = false; trap = true; steps = Some Shipped; collects = None }
 
 -- what a page's hunt is asked for: so many runs of a seed
-abbrev pub hunt_asked : (n w seed runs : ℕ) → Asked
+abbrev pub hunt_asked : (n w seed runs : ℕ) → HuntRequest
 hunt_asked n w seed runs =
     record { plan = hunt_plan (record { n = n; w = w }); wanted = hunt_wanted; seed = seed; runs = runs }
 
 -- what a hunt of a listing's text comes to, or a fault that is due
-abbrev pub IsHuntAnswer : (listing : List ℕ) → Asked → Result Hunted ProgramFault → Type 0
+abbrev pub IsHuntAnswer : (listing : List ℕ) → HuntRequest → Result Hunted ProgramFault → Type 0
 IsHuntAnswer listing a (Ok h) = IsHunted listing a h
 IsHuntAnswer listing a (Err why) = IsDue listing a why
 

@@ -12,8 +12,8 @@ use Rattle.snap_tasks.specs.declared.request.Request.{Request}
 use Rattle.snap_tasks.specs.declared.request.Request.TheVariants.{Do, Live, Judge, Model}
 use Rattle.snap_tasks.specs.declared.subject.Subject.{Subject}
 use Rattle.snap_tasks.specs.declared.subject.Subject.TheVariants.{FirstPart, Shipped}
-use Rattle.snap_page.specs.declared.asked.Asked.{Asked}
-use Rattle.snap_page.specs.declared.asked.Asked.TheVariants as asked
+use Rattle.snap_page.specs.declared.page_request.PageRequest.{PageRequest}
+use Rattle.snap_page.specs.declared.page_request.PageRequest.TheVariants as asked
 
 -- the listing of this name: that which is shipped for a kind, or where there is no name the first part of the input
 abbrev pub subject_of : List ℕ → Option Subject
@@ -25,7 +25,7 @@ abbrev pub options_for : Subject → Options
 options_for s = record { subject = s; limit = 1; history = false; most = 1; crashes = 0 }
 
 -- a page has one thread, in which no scripts are played, and writes no models
-abbrev pub asked_in : Subject → Option Request → Option Asked
+abbrev pub asked_in : Subject → Option Request → Option PageRequest
 asked_in s (Some (Do t)) = Some (asked.Do t)
 asked_in s (Some (Judge r)) = Some (asked.Judge s)
 asked_in s (Some (Live _ limit)) = None
@@ -33,15 +33,15 @@ asked_in s (Some (Model _ crashes)) = None
 asked_in s None = None
 
 -- what a subcommand asks for
-abbrev pub asked_for : (subcommand : List ℕ) → Subject → Option Asked
+abbrev pub asked_for : (subcommand : List ℕ) → Subject → Option PageRequest
 asked_for subcommand s = asked_in s (request_of subcommand (options_for s))
 
-abbrev pub asked_with : (subcommand : List ℕ) → Option Subject → Option Asked
+abbrev pub asked_with : (subcommand : List ℕ) → Option Subject → Option PageRequest
 asked_with subcommand None = None
 asked_with subcommand (Some s) = asked_for subcommand s
 
 -- what a page asks for by its names
-abbrev pub asked_of : (subcommand shipped : List ℕ) → Option Asked
+abbrev pub asked_of : (subcommand shipped : List ℕ) → Option PageRequest
 asked_of subcommand shipped = asked_with subcommand (subject_of shipped)
 
 -- 0 with an output, 1 with a refusal

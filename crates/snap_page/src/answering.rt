@@ -3,9 +3,9 @@ ghost use Rattle.std.specs.Prelude.{◌≡◌, Err, Some};
 ghost use Rattle.snap_semantics.specs.declared.fault.Fault.TheVariants.{Refused};
 ghost use Rattle.snap_semantics.specs.declared.refusal.Refusal.{Refusal};
 ghost use Rattle.snap_page.specs.Answer.{AnswersAsked, found_at_once, judge_request};
-ghost use Rattle.snap_page.specs.declared.asked.Asked.TheVariants.{Judge};
+ghost use Rattle.snap_page.specs.declared.page_request.PageRequest.TheVariants.{Judge};
 
-use crate::asked::Asked;
+use crate::page_request::PageRequest;
 use snap_faults::ProgramFault;
 use snap_judge_task::judge_input;
 use snap_output::output_alone;
@@ -47,13 +47,17 @@ fn judged_run(alloc: Global, subject: Subject, input: &[u8]) -> Result<Vec<u8>, 
 /// # Errors
 ///
 /// `Refused` with the reason why `input` is refused; `Memory` where memory runs out.
-pub fn answer_to(alloc: Global, asked: &Asked, input: &[u8]) -> Result<Vec<u8>, Fault<Refusal>>
+pub fn answer_to(
+    alloc: Global,
+    asked: &PageRequest,
+    input: &[u8],
+) -> Result<Vec<u8>, Fault<Refusal>>
     ensures output { AnswersAsked asked.now input.now result }
     ensures at_once { (r : Refusal) → found_at_once asked.now input.now ≡ Some r →
         result ≡ Err (Refused r) }
 {
     match asked {
-        Asked::Do(task) => output_alone(alloc, task, input),
-        Asked::Judge(subject) => judged_run(alloc, *subject, input),
+        PageRequest::Do(task) => output_alone(alloc, task, input),
+        PageRequest::Judge(subject) => judged_run(alloc, *subject, input),
     }
 }

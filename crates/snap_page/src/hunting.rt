@@ -7,7 +7,7 @@ use crate::handed::{Handed, handed_refusal, handed_text};
 use snap_chance::{Pace, Plan};
 use snap_faults::ProgramFault;
 use snap_hunt::{StepBound, Wanted};
-use snap_hunt_output::{Asked, Hunted};
+use snap_hunt_output::{HuntRequest, Hunted};
 use snap_words::Shape;
 use std::alloc::Global;
 
@@ -31,7 +31,7 @@ fn wanted() -> Wanted
 }
 
 /// Returns the hunt over `runs` runs of a seed, if there can be one.
-pub fn hunt_asked(n: u64, w: u64, seed: u64, runs: u64) -> Option<Asked>
+pub fn hunt_asked(n: u64, w: u64, seed: u64, runs: u64) -> Option<HuntRequest>
     ensures asked { IfSome result (λ a. (a ≡ hunt_asked n w seed runs) × IsHuntable n w runs) }
     ensures none { result ≡ None → ¬ (IsHuntable n w runs) }
 {
@@ -39,7 +39,7 @@ pub fn hunt_asked(n: u64, w: u64, seed: u64, runs: u64) -> Option<Asked>
         return None;
     }
     match Shape::new(n, w) {
-        Ok(shape) => Some(Asked {
+        Ok(shape) => Some(HuntRequest {
             plan: Plan::new(shape, Pace::Mixed, TURNS, 0, 1),
             wanted: wanted(),
             seed,

@@ -11,19 +11,19 @@ ghost use Rattle.snap_picture.specs.declared.refusal.PictureRefusal.{PictureRefu
 ghost use Rattle.snap_semantics.specs.declared.refusal.Refusal.{Refusal};
 ghost use Rattle.snap_hunt_output.specs.declared.hunted.Hunted.{Hunted};
 ghost use Rattle.snap_faults.specs.declared.fault.ProgramFault.{ProgramFault};
-ghost use Rattle.snap_page.specs.declared.asked.Asked.{Asked};
+ghost use Rattle.snap_page.specs.declared.page_request.PageRequest.{PageRequest};
 
 mod answering;
-mod asked;
 mod drawing;
 mod handed;
 mod hunting;
+mod page_request;
 
 use answering::answer_to;
-use asked::asked_of;
 use drawing::{drawn, handed_picture};
 use handed::{Handed, handed_answer};
 use hunting::{handed_hunt, hunt_asked};
+use page_request::asked_of;
 use snap_hunt_output::hunt_alone;
 use snap_picture::{LEGEND, Look, STYLE};
 use std::alloc::Global;
@@ -43,13 +43,16 @@ pub extern "C" fn page_output(
     ensures code { result.code < 5 }
     ensures no_task { result.code ≡ 4 ↔ asked_of subcommand.now shipped.now ≡ None }
     ensures small { result.code ≡ 3 ↔ length room.old < result.len }
-    ensures answer { (a : Asked) → asked_of subcommand.now shipped.now ≡ Some a → result.code < 2 →
+    ensures answer { (a : PageRequest) → asked_of subcommand.now shipped.now ≡ Some a → result.code
+        < 2 →
         (answer : Result (List ℕ) Refusal) × IsAnswerFor a input.now answer
         × (result.code ≡ answer_code answer) × (take result.len room.new ≡ answer_text answer) }
-    ensures needed { (a : Asked) → asked_of subcommand.now shipped.now ≡ Some a → result.code ≡ 3 →
+    ensures needed { (a : PageRequest) → asked_of subcommand.now shipped.now ≡ Some a → result.code
+        ≡ 3 →
         (answer : Result (List ℕ) Refusal) × IsAnswerFor a input.now answer
         × (result.len ≡ length (answer_text answer)) }
-    ensures at_once { (a : Asked) (r : Refusal) → asked_of subcommand.now shipped.now ≡ Some a →
+    ensures at_once { (a : PageRequest) (r : Refusal) → asked_of subcommand.now shipped.now ≡ Some
+        a →
         found_at_once a input.now ≡ Some r →
         result.code ≡ 1 ⊎ result.code ≡ 3 }
 {

@@ -17,7 +17,7 @@ use std::alloc::{AllocError, Global};
 fn first_period<K: Kind>(
     alloc: Global,
     history: &Record<K>,
-    steps: &[Step],
+    steps: &[TraceStep],
 ) -> Result<Shape, AllocError>
     ensures { IfOk result (λ s. s ≡ first_period history.now steps.now) }
 {
@@ -33,7 +33,7 @@ fn first_period<K: Kind>(
 pub fn shapes<K: Kind>(
     alloc: Global,
     history: &Record<K>,
-    steps: &[Step],
+    steps: &[TraceStep],
 ) -> Result<Vec<Shape>, AllocError>
     ensures { IfOk result (λ v. v.items ≡ shapes_by history.now steps.now) }
 {

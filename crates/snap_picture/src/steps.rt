@@ -3,7 +3,7 @@
 ghost use Rattle.std.specs.Prelude.{◌≡◌, ◌≤◌, ◌<◌, ◌+◌, ◌++◌, ◌∷◌, []};
 ghost use Rattle.std.specs.Prelude.{IfOk, IfSome, OnOk, drop, length, option_map};
 ghost use Rattle.snap_acts.specs.Searches.{last_before};
-ghost use Rattle.snap_acts.specs.declared.wanted.Wanted.TheVariants as wanted;
+ghost use Rattle.snap_acts.specs.declared.searches.StepPattern.TheVariants as wanted;
 ghost use Rattle.snap_picture.specs.declared.shape.Shape.TheVariants as shape;
 ghost use Rattle.snap_picture.specs.Shapes.{
   bar_of,
@@ -22,12 +22,14 @@ ghost use Rattle.snap_picture.specs.Shapes.{
 };
 
 use crate::shape::{Bar, End, Loan, Period, Read, Shape, Span, Spot, Write, Written};
-use snap_acts::{Act, ScanPlaces, Step, Wanted, first_from, last_before, lender_at, source_at};
+use snap_acts::{
+    Act, ScanPlaces, StepPattern, TraceStep, first_from, last_before, lender_at, source_at,
+};
 use snap_semantics::Op;
 use snap_words::View;
 use std::alloc::{AllocError, Global};
 
-fn spot_of(step: &Step) -> Spot
+fn spot_of(step: &TraceStep) -> Spot
     ensures { result ≡ spot_of step.now }
 {
     Spot {
@@ -38,7 +40,7 @@ fn spot_of(step: &Step) -> Spot
 }
 
 /// Returns the item of a step, and the last item if there is none.
-fn item_or(last: u64, step: Option<&Step>) -> u64
+fn item_or(last: u64, step: Option<&TraceStep>) -> u64
     ensures { result ≡ item_or last (option_map (λ s. s.now) step.entry) }
 {
     match step {
@@ -60,7 +62,7 @@ fn end_by(alloc: Global, act: &Act) -> Result<End, AllocError>
     }
 }
 
-fn end_of(alloc: Global, step: Option<&Step>) -> Result<End, AllocError>
+fn end_of(alloc: Global, step: Option<&TraceStep>) -> Result<End, AllocError>
     ensures { IfOk result (λ e. e ≡ end_of (option_map (λ s. s.now) step.entry)) }
 {
     match step {
@@ -72,14 +74,14 @@ fn end_of(alloc: Global, step: Option<&Step>) -> Result<End, AllocError>
 /// Returns the operation that the step before a place called.
 fn bar_of(
     alloc: Global,
-    steps: &[Step],
+    steps: &[TraceStep],
     from: usize,
-    step: &Step,
+    step: &TraceStep,
     op: Op,
 ) -> Result<Bar, AllocError>
     ensures { IfOk result (λ b. b ≡ bar_of (length steps.now) step.now op (drop from steps.now)) }
 {
-    let found = first_from(steps, from, Wanted::End(step.process));
+    let found = first_from(steps, from, StepPattern::End(step.process));
     let end = end_of(alloc, found)?;
     Ok(Bar {
         process: step.process,
@@ -91,10 +93,10 @@ fn bar_of(
 }
 
 /// Returns the scan of an update that the step before a place began.
-fn embedded_of(steps: &[Step], from: usize, step: &Step) -> Span
+fn embedded_of(steps: &[TraceStep], from: usize, step: &TraceStep) -> Span
     ensures { result ≡ embedded_of (length steps.now) step.now (drop from steps.now) }
 {
-    let found = first_from(steps, from, Wanted::Closing(step.process));
+    let found = first_from(steps, from, StepPattern::Closing(step.process));
     Span {
         process: step.process,
         from: step.item,
@@ -103,10 +105,10 @@ fn embedded_of(steps: &[Step], from: usize, step: &Step) -> Span
 }
 
 /// Returns the values from an item on, up to the next write from a place on.
-pub(crate) fn period_of(steps: &[Step], from: usize, item: u64, values: View) -> Shape
+pub(crate) fn period_of(steps: &[TraceStep], from: usize, item: u64, values: View) -> Shape
     ensures { result ≡ period_of (length steps.now) item values (drop from steps.now) }
 {
-    let found = first_from(steps, from, Wanted::Write);
+    let found = first_from(steps, from, StepPattern::Write);
     Shape::Values(Period {
         from: item,
         to: item_or(steps.len() as u64, found),
@@ -115,7 +117,7 @@ pub(crate) fn period_of(steps: &[Step], from: usize, item: u64, values: View) ->
 }
 
 /// Returns who wrote at a place, if there is one.
-fn written_at(steps: &[Step], place: Option<usize>) -> Option<Written>
+fn written_at(steps: &[TraceStep], place: Option<usize>) -> Option<Written>
     requires { IfSome place (λ k. k < length steps.now) }
     ensures { result ≡ written_at steps.now place }
 {
@@ -129,8 +131,8 @@ fn written_at(steps: &[Step], place: Option<usize>) -> Option<Written>
 /// Appends an arrow from the lender's scan to the step that takes its view.
 fn push_loan(
     shapes: &mut Vec<Shape>,
-    steps: &[Step],
-    step: &Step,
+    steps: &[TraceStep],
+    step: &TraceStep,
     lender: Option<ScanPlaces>,
 ) -> Result<(), AllocError>
     requires { IfSome lender (λ s. s.to < length steps.now) }
@@ -151,9 +153,9 @@ fn push_loan(
 /// Appends an arrow to the step at a place, if it takes the view of a scan.
 fn push_loan_of(
     shapes: &mut Vec<Shape>,
-    steps: &[Step],
+    steps: &[TraceStep],
     k: usize,
-    step: &Step,
+    step: &TraceStep,
 ) -> Result<(), AllocError>
     requires { k < length steps.now }
     ensures { OnOk result (shapes.new.items ≡ shapes.old.items ++ loan_of steps.now k step.now) }
@@ -166,9 +168,9 @@ fn push_loan_of(
 fn push_write(
     alloc: Global,
     shapes: &mut Vec<Shape>,
-    steps: &[Step],
+    steps: &[TraceStep],
     from: usize,
-    step: &Step,
+    step: &TraceStep,
     word: u64,
     values: &View,
 ) -> Result<(), AllocError>
@@ -186,7 +188,7 @@ fn push_write(
 }
 
 /// Returns the read of a word by the step at a place.
-fn read_of(steps: &[Step], k: usize, step: &Step, word: u64) -> Shape
+fn read_of(steps: &[TraceStep], k: usize, step: &TraceStep, word: u64) -> Shape
     requires { k ≤ length steps.now }
     ensures { result ≡ shape.Read (record {
       spot = spot_of step.now;
@@ -194,7 +196,7 @@ fn read_of(steps: &[Step], k: usize, step: &Step, word: u64) -> Shape
       written = written_at steps.now (last_before (wanted.WriteOf word) steps.now k);
     }) }
 {
-    let place = last_before(steps, k, Wanted::WriteOf(word));
+    let place = last_before(steps, k, StepPattern::WriteOf(word));
     Shape::Read(Read {
         spot: spot_of(step),
         word,
@@ -214,9 +216,9 @@ fn push(shapes: &mut Vec<Shape>, shape: Shape) -> Result<(), AllocError>
 fn push_bar(
     alloc: Global,
     shapes: &mut Vec<Shape>,
-    steps: &[Step],
+    steps: &[TraceStep],
     from: usize,
-    step: &Step,
+    step: &TraceStep,
     op: Op,
 ) -> Result<(), AllocError>
     ensures { OnOk result (shapes.new.items ≡ shapes.old.items
@@ -230,9 +232,9 @@ fn push_bar(
 fn push_shapes_of(
     alloc: Global,
     shapes: &mut Vec<Shape>,
-    steps: &[Step],
+    steps: &[TraceStep],
     k: usize,
-    step: &Step,
+    step: &TraceStep,
 ) -> Result<(), AllocError>
     requires { k < length steps.now }
     ensures { OnOk result (shapes.new.items ≡ shapes.old.items
@@ -259,7 +261,7 @@ fn push_shapes_of(
 fn push_shapes_at(
     alloc: Global,
     shapes: &mut Vec<Shape>,
-    steps: &[Step],
+    steps: &[TraceStep],
     k: usize,
 ) -> Result<(), AllocError>
     requires { k < length steps.now }
@@ -272,7 +274,7 @@ fn push_shapes_at(
 pub(crate) fn push_steps(
     alloc: Global,
     shapes: &mut Vec<Shape>,
-    steps: &[Step],
+    steps: &[TraceStep],
 ) -> Result<(), AllocError>
     ensures { OnOk result (shapes.new.items ≡ shapes.old.items
         ++ shapes_to steps.now (length steps.now)) }

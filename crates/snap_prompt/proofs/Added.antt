@@ -3,14 +3,15 @@ use Rattle.std.proofs.Common.{◌≡◌, ◌+◌, ◌-◌, ◌^◌, ◌++◌, �
 use Rattle.std.proofs.Common.{IfOk, OnOk, Result, Ok, Err, ap, option_map, refl, subst, sym}
 use Rattle.std.specs.Prelude.{is_ok, not, ◌&&◌}
 use Rattle.std.specs.declared.io.ErrorKind.{ErrorKind}
-use Rattle.snap_streams.specs.Dialog.{Adds, Next}
+use Rattle.snap_text.specs.Drafted.{Adds, Drafted}
+use Rattle.snap_streams.specs.Dialog.{Next}
 use Rattle.snap_streams.specs.Folder.{Keeps, Kept, with_kept}
 use Rattle.snap_semantics.specs.ScheduleText.{schedule_text}
 use Rattle.snap_semantics.specs.declared.refusal.CommandRefusal.{CommandRefusal}
 use Rattle.snap_prompt.specs.Ask.{ask_of, is_yes}
 use Rattle.snap_prompt.specs.SaveForm.{saving_of}
 use Rattle.snap_prompt.specs.declared.ask.Ask.{Ask}
-use Rattle.snap_prompt.specs.Prompt.{Answer, Prompt, Says, SavesPrompt, after_saving, answer_line, answered_to, asked}
+use Rattle.snap_prompt.specs.Prompt.{AddsReply, Answer, Prompt, Says, SavesPrompt, after_saving, answer_line, answered_to, asked}
 use Rattle.snap_prompt.specs.Prompt.{counted, decided, in_words, next_line, next_where, saved_or_asked, saves_under}
 use Rattle.snap_prompt.specs.Prompt.{says, schedule_of_run}
 use Rattle.snap_prompt.specs.Said.{IsAdded, IsSaid, Said, saved, text, why}
@@ -23,11 +24,11 @@ on_ok (Ok x) p f = f p
 on_ok (Err e) p f = tt
 
 -- what is added is the same if what is said is
-pub same_added : (s t : Said) (old new : List ℕ) → s ≡ t → IsAdded t old new → IsAdded s old new
+pub same_added : (s t : Said) (old new : Drafted) → s ≡ t → IsAdded t old new → IsAdded s old new
 same_added s t old new is adds = subst (λ (y : Said). IsAdded y old new) (sym is) adds
 
 -- something that is said
-pub it_is_said : (s : Said) (old new : List ℕ) → IsAdded s old new → (it : List ℕ) × IsSaid s it × (new ≡ old ++ it)
+pub it_is_said : (s : Said) (old new : Drafted) → IsAdded s old new → (it : List ℕ) × IsSaid s it × Adds old new it
 it_is_said (text x) old new adds = (x, refl, adds)
 it_is_said (why r t) old new adds = adds
 it_is_said (saved name) old new adds = adds
@@ -53,7 +54,7 @@ and_false true = refl
 and_false false = refl
 
 -- a schedule that was to be saved under a name: whether it was, what is said of it, and what is unsaved then
-pub saves_so : (p v : Prompt) (name written : List ℕ) (after : Option (List Kept)) (old new : List ℕ)
+pub saves_so : (p v : Prompt) (name written : List ℕ) (after : Option (List Kept)) (old new : Drafted)
     (is_saved unsaved : Bool) → v ≡ p → Saves name written v.kept after old new is_saved →
     written ≡ schedule_text (schedule_of_run v.session.run) → unsaved ≡ (v.has_unsaved && not is_saved) →
     SavesPrompt p name old new (with_folder v unsaved after)
@@ -61,7 +62,7 @@ saves_so p v name written after old new is_saved unsaved is saves is_text left =
     subst (λ (x : Prompt). SavesPrompt x name old new (with_folder v unsaved after)) is
     (go saves.0 saves.1 saves.2 saves.3) where
       go : (done : Result (Unit {0}) ErrorKind) → Keeps done v.kept after name written →
-          new ≡ old ++ outcome_line name done → is_saved ≡ is_ok done →
+          Adds old new (outcome_line name done) → is_saved ≡ is_ok done →
           SavesPrompt v name old new (with_folder v unsaved after)
       go (Ok done) keeps adds ok =
           let none : unsaved ≡ false =
@@ -107,8 +108,8 @@ with_lines n p = record {
 
 -- An answer that is known, of a line that saves nothing: what is said and what comes of it are the answer's.
 answers_so : (p : Prompt) (line it old new : List ℕ) (a : Answer Said) (after : Prompt) (more : Bool) →
-    answer_line p line ≡ a → saves_under p.question line ≡ None → IsSaid a.said it → new ≡ old ++ it →
-    after ≡ a.state → more ≡ a.goes_on → Adds Says next_line p line old new after more
+    answer_line p line ≡ a → saves_under p.question line ≡ None → IsSaid a.said it → Adds old new it →
+    after ≡ a.state → more ≡ a.goes_on → AddsReply p line old new after more
 answers_so p line it old new a after more is unsaved says adds state on =
     let next : next_line p line it ≡ next_where p None line it =
     ap (λ (o : Option (List ℕ)). next_where p o line it) unsaved in (
@@ -138,11 +139,11 @@ saves_nothing p v line q is some =
     ap (λ (o : Option Question). saves_under o line) (ap (λ (x : Prompt). x.question) (sym is) ∙ some)
 
 -- the answer to a question
-pub decided_adds : (p v : Prompt) (line : List ℕ) (n : ℕ) (q : Question) (agreed : Bool) (old new : List ℕ)
+pub decided_adds : (p v : Prompt) (line : List ℕ) (n : ℕ) (q : Question) (agreed : Bool) (old new : Drafted)
     (after : Prompt) (more : Bool) → v ≡ p → n ≡ min (v.lines + 1) (2 ^ 64 - 1) → v.question ≡ Some q →
-    agreed ≡ is_yes line → new ≡ old ++ (decided (with_lines n v) q agreed).said →
+    agreed ≡ is_yes line → Adds old new (decided (with_lines n v) q agreed).said →
     after ≡ (decided (with_lines n v) q agreed).state → more ≡ (decided (with_lines n v) q agreed).goes_on →
-    Adds Says next_line p line old new after more
+    AddsReply p line old new after more
 decided_adds p v line n q agreed old new after more is counts some says_yes adds state on =
     answers_so p line (decided (with_lines n v) q agreed).said old new (in_words (decided (with_lines n v) q agreed)) after
     more
@@ -151,10 +152,10 @@ decided_adds p v line n q agreed old new after more is counts some says_yes adds
     (saves_nothing p v line q is some) refl adds state on
 
 -- a line that names a file
-pub saving_adds : (p v : Prompt) (line : List ℕ) (n : ℕ) (file : List ℕ × Bool) (old new : List ℕ)
+pub saving_adds : (p v : Prompt) (line : List ℕ) (n : ℕ) (file : List ℕ × Bool) (old new : Drafted)
     (after : Prompt) (more : Bool) → v ≡ p → n ≡ min (v.lines + 1) (2 ^ 64 - 1) → v.question ≡ None →
     saving_of line ≡ Some file → SavesPrompt (with_lines n v) file.0 old new after → more ≡ true →
-    Adds Says next_line p line old new after more
+    AddsReply p line old new after more
 saving_adds p v line n file old new after more is counts none names saves on =
     let counted_so = counts_line p v line n is counts in
     let it = saves.0 in
@@ -175,11 +176,11 @@ saving_adds p v line n file old new after more is counts none names saves on =
     )
 
 -- any other line
-pub asked_adds : (p v : Prompt) (line : List ℕ) (n : ℕ) (r : Result Ask CommandRefusal) (old new : List ℕ)
+pub asked_adds : (p v : Prompt) (line : List ℕ) (n : ℕ) (r : Result Ask CommandRefusal) (old new : Drafted)
     (after : Prompt) (more : Bool) → v ≡ p → n ≡ min (v.lines + 1) (2 ^ 64 - 1) → v.question ≡ None →
     saving_of line ≡ None → ask_of n line ≡ r → IsAdded (asked (with_lines n v) r).said old new →
     after ≡ (asked (with_lines n v) r).state → more ≡ (asked (with_lines n v) r).goes_on →
-    Adds Says next_line p line old new after more
+    AddsReply p line old new after more
 asked_adds p v line n r old new after more is counts none unnamed asks adds state on =
     let it = it_is_said (asked (with_lines n v) r).said old new adds in
     let asked_so : answer_line p line ≡ asked (with_lines n v) r =
@@ -192,11 +193,11 @@ asked_adds p v line n r old new after more is counts none unnamed asks adds stat
     answers_so p line it.0 old new (asked (with_lines n v) r) after more asked_so under it.1 it.2 state on
 
 pub asked_adds_all : {E : Type 0} (done : Result Bool E) (p v : Prompt) (line : List ℕ) (n : ℕ)
-    (r : Result Ask CommandRefusal) (old new : List ℕ) (after : Prompt) → v ≡ p → n ≡ min (v.lines + 1) (2 ^ 64 - 1) →
+    (r : Result Ask CommandRefusal) (old new : Drafted) (after : Prompt) → v ≡ p → n ≡ min (v.lines + 1) (2 ^ 64 - 1) →
     v.question ≡ None → saving_of line ≡ None → ask_of n line ≡ r →
     OnOk done (IsAdded (asked (with_lines n v) r).said old new) → OnOk done (after ≡ (asked (with_lines n v) r).state) →
     IfOk done (λ more. more ≡ (asked (with_lines n v) r).goes_on) →
-    IfOk done (λ more. Adds Says next_line p line old new after more)
+    IfOk done (λ more. AddsReply p line old new after more)
 asked_adds_all (Ok more) p v line n r old new after is counts none unnamed asks adds state on =
     asked_adds p v line n r old new after more is counts none unnamed asks adds state on
 asked_adds_all (Err e) p v line n r old new after is counts none unnamed asks adds state on = tt

@@ -2,6 +2,7 @@
 use Rattle.std.specs.Prelude.{◌≡◌, ℕ, ◌+◌, ◌-◌, ◌^◌, List, [], ◌++◌, length, min, Bool, ◌&&◌, true, false, Option, Some}
 use Rattle.std.specs.Prelude.{None, Result, Ok, Err, codes, decimal, nat_eq, if◌then◌else◌, option_map}
 use Rattle.snap_streams.specs.Dialog.{Next}
+use Rattle.snap_text.specs.Drafted.{Adds, Drafted}
 use Rattle.snap_streams.specs.Folder.{Kept, with_kept}
 use Rattle.snap_semantics.specs.Report.{position_line}
 use Rattle.snap_semantics.specs.Schedule.{Schedule}
@@ -330,8 +331,8 @@ after_saving p name true = record {
 after_saving p name false = p
 
 -- what is said of a schedule that was to be saved under a name was added, and the prompt is as it is after that
-abbrev pub SavesPrompt : Prompt → (name old new : List ℕ) → Prompt → Type 0
-SavesPrompt p name old new after = (it : List ℕ) × IsSavedLine name it × (new ≡ old ++ it)
+abbrev pub SavesPrompt : Prompt → (name : List ℕ) → (old new : Drafted) → Prompt → Type 0
+SavesPrompt p name old new after = (it : List ℕ) × IsSavedLine name it × Adds old new it
     × (after ≡ after_saving p name (tells_saved it))
 
 -- and what comes of a line to which this was answered
@@ -341,3 +342,8 @@ next_where p (Some name) line it = record { state = after_saving (counted p) nam
 
 abbrev pub next_line : Prompt → (line it : List ℕ) → Next Prompt
 next_line p line it = next_where p (saves_under p.question line) line it
+
+-- an answer to a line was added to a draft, and this is what comes of it
+abbrev pub AddsReply : Prompt → (line : List ℕ) → (old new : Drafted) → Prompt → Bool → Type 0
+AddsReply p line old new after more = (it : List ℕ) × Says p line it × Adds old new it
+    × (after ≡ (next_line p line it).state) × (more ≡ (next_line p line it).goes_on)

@@ -3,6 +3,7 @@
 use Rattle.std.specs.Prelude.{◌≡◌, ℕ, List, ◌++◌, [], ◌∷◌, Bool, false, nat_eq, Option, Result, Ok, Err, codes, is_ok}
 use Rattle.std.specs.declared.io.ErrorKind.{ErrorKind}
 use Rattle.std.specs.declared.io.ErrorKind.TheVariants as kind
+use Rattle.snap_text.specs.Drafted.{Adds, Drafted}
 use Rattle.snap_streams.specs.Folder.{Keeps, Kept}
 
 -- why a file was not written, for a person
@@ -30,8 +31,8 @@ tells_saved (b ∷ bs) = nat_eq b 115
 
 -- What is said of a text that was put into a folder under a name is so: that it was saved where the folder has kept it,
 -- and nothing else; and this tells whether it was.
-abbrev pub Saves : (name text : List ℕ) → (before after : Option (List Kept)) → (old new : List ℕ) →
+abbrev pub Saves : (name text : List ℕ) → (before after : Option (List Kept)) → (old new : Drafted) →
     (is_saved : Bool) → Type 0
 Saves name text before after old new is_saved =
-    (done : Result (Unit {0}) ErrorKind) × Keeps done before after name text × (new ≡ old ++ outcome_line name done)
+    (done : Result (Unit {0}) ErrorKind) × Keeps done before after name text × Adds old new (outcome_line name done)
     × (is_saved ≡ is_ok done)

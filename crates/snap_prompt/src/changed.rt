@@ -1,30 +1,30 @@
 //! `state_text`: the report of a machine's state, by which the prompt finds what a move of the
 //! session changed.
-ghost use Rattle.std.specs.Prelude.{◌≡◌, ◌++◌, IfOk, OnOk};
+ghost use Rattle.std.specs.Prelude.{◌≡◌, IfOk};
+ghost use Rattle.snap_text.specs.Drafted.{Adds};
 ghost use Rattle.snap_semantics.specs.Report.{processes_lines};
 ghost use Rattle.snap_prompt.specs.Changed.{state_text};
 
 use snap_machine::Machine;
 use snap_report::{process_lines, register_lines};
-use snap_text::push_owned_lines;
+use snap_text::{Draft, push_owned_lines};
 use snap_words::Kind;
 use std::alloc::{AllocError, Global};
 
 /// Appends the lines of the processes, from process 1 on.
-fn processes_lines<K: Kind>(out: &mut Vec<u8>, machine: &Machine<K>) -> Result<(), AllocError>
-    ensures { OnOk result (out.new.items ≡ out.old.items
-        ++ processes_lines machine.now.source.kind 1 machine.now.state.processes) }
+fn processes_lines<K: Kind>(out: &mut Draft, machine: &Machine<K>)
+    ensures { Adds out.old out.new
+        (processes_lines machine.now.source.kind 1 machine.now.state.processes) }
 {
     let shape = machine.shape();
     for k in 0..shape.n() {
-        process_lines(out, machine, k as u32 + 1)?;
+        process_lines(out, machine, k as u32 + 1);
     }
-    Ok(())
 }
 
 /// Returns the report of a machine's state: its registers, and its processes with their locals.
 /// Each line names its owner.
-#[tactic(auto, using(snap_text::proofs::Texts::joined), unfolding(crate::specs::Changed::state_text))]
+#[tactic(auto, unfolding(crate::specs::Changed::state_text))]
 pub(crate) fn state_text<K: Kind>(
     alloc: Global,
     machine: &Machine<K>,
@@ -32,10 +32,10 @@ pub(crate) fn state_text<K: Kind>(
     ensures { IfOk result (λ text.
         text.items ≡ state_text machine.now.source.kind machine.now.state) }
 {
-    let mut lines = Vec::new(alloc);
-    register_lines(&mut lines, machine)?;
-    processes_lines(&mut lines, machine)?;
-    let mut text = Vec::new(alloc);
-    push_owned_lines(&mut text, lines.as_slice())?;
-    Ok(text)
+    let mut lines = Draft::new(alloc);
+    register_lines(&mut lines, machine);
+    processes_lines(&mut lines, machine);
+    let mut text = Draft::new(alloc);
+    push_owned_lines(&mut text, lines.text()?);
+    text.finish()
 }

@@ -11,6 +11,7 @@ use snap_debug::Session;
 use snap_listing::LineTexts;
 use snap_sched::Schedule;
 use snap_semantics::CommandRefusal;
+use snap_text::Draft;
 use snap_why::push_why;
 use snap_words::Kind;
 use std::alloc::{AllocError, Global};
@@ -19,7 +20,7 @@ use std::alloc::{AllocError, Global};
 #[tactic(auto, unfolding(crate::specs::Explained::explained))]
 pub(crate) fn push_explained<K: Kind>(
     alloc: Global,
-    out: &mut Vec<u8>,
+    out: &mut Draft,
     session: &Session<K>,
     schedule: &Schedule,
     texts: &LineTexts,
@@ -28,10 +29,11 @@ pub(crate) fn push_explained<K: Kind>(
     requires schedule { schedule.now ≡ schedule_of_run session.now.run }
     requires texts { texts.now ≡ map written session.now.run.source.lines }
     ensures { OnOk result
-        (IsAdded (explained session.now item) out.old.items out.new.items) }
+        (IsAdded (explained session.now item) out.old out.new) }
 {
     if session.total() < item {
-        return push_refused_line(out, session, &CommandRefusal::NoSuchPosition);
+        push_refused_line(out, session, &CommandRefusal::NoSuchPosition);
+        return Ok(());
     }
     push_why::<K>(alloc, out, session.program(), schedule, texts, item)
 }

@@ -1,9 +1,8 @@
 //! `push_help`: what lines at the debugger's prompt can ask for, by subject.
-ghost use Rattle.std.specs.Prelude.{◌≡◌, ◌++◌, OnOk};
+ghost use Rattle.snap_text.specs.Drafted.{Adds};
 ghost use Rattle.snap_prompt.specs.Help.{help_text};
 
-use snap_text::push_text;
-use std::alloc::AllocError;
+use snap_text::Draft;
 
 const MOVING: &[u8] = b"To move:
   step K, back K     K items on or back; `s` and `b` alone: one item
@@ -46,14 +45,14 @@ back, run, goto and show; b I N is break I N. An empty line is the last line aga
 ";
 
 /// Appends the list of requests.
-#[tactic(auto, using(snap_text::proofs::Texts::joined), unfolding(crate::specs::Help::help_text))]
-pub(crate) fn push_help(out: &mut Vec<u8>) -> Result<(), AllocError>
-    ensures { OnOk result (out.new.items ≡ out.old.items ++ help_text) }
+#[tactic(auto, unfolding(crate::specs::Help::help_text))]
+pub(crate) fn push_help(out: &mut Draft)
+    ensures { Adds out.old out.new help_text }
 {
-    push_text(out, MOVING)?;
-    push_text(out, STOPS)?;
-    push_text(out, LOOKING)?;
-    push_text(out, ADDING)?;
-    push_text(out, KEEPING)?;
-    push_text(out, SHORT)
+    out.push(MOVING);
+    out.push(STOPS);
+    out.push(LOOKING);
+    out.push(ADDING);
+    out.push(KEEPING);
+    out.push(SHORT);
 }

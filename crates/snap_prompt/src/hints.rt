@@ -1,5 +1,6 @@
 //! What the debugger's prompt says of a line that it refuses: why, and what would have been right.
-ghost use Rattle.std.specs.Prelude.{◌≡◌, ◌++◌, OnOk, codes};
+ghost use Rattle.std.specs.Prelude.{◌≡◌, codes};
+ghost use Rattle.snap_text.specs.Drafted.{Adds};
 ghost use Rattle.snap_prompt.specs.Hints.{added_hint, first_number, hint_text, last_number};
 ghost use Rattle.snap_prompt.specs.Hints.{range_text, refused_addition, refused_line};
 ghost use Rattle.snap_prompt.specs.Hints.{refused_steps, registers_text, standing_line};
@@ -8,9 +9,8 @@ use crate::NoSteps;
 use snap_debug::{Session, push_refusal};
 use snap_faults::push_refused;
 use snap_semantics::{CommandRefusal, Line, Refusal, ScheduleRefusal};
-use snap_text::{push_number, push_text};
+use snap_text::Draft;
 use snap_words::{Kind, KindTag, Shape};
-use std::alloc::AllocError;
 
 /// Returns the number of the first of `lines`, and 0 if there is none.
 fn first_number(lines: &[Line]) -> u64
@@ -34,34 +34,29 @@ fn last_number(lines: &[Line]) -> u64
 }
 
 /// Appends a range of numbers.
-#[tactic(auto, using(snap_text::proofs::Texts::joined))]
-fn push_range(out: &mut Vec<u8>, what: &[u8], from: u64, to: u64) -> Result<(), AllocError>
-    ensures { OnOk result (out.new.items ≡ out.old.items ++ range_text what.now from to) }
+fn push_range(out: &mut Draft, what: &[u8], from: u64, to: u64)
+    ensures { Adds out.old out.new (range_text what.now from to) }
 {
-    push_text(out, b": ")?;
-    push_text(out, what)?;
-    push_text(out, b" ")?;
-    push_number(out, from)?;
-    push_text(out, b" to ")?;
-    push_number(out, to)
+    out.push(b": ");
+    out.push(what);
+    out.push(b" ");
+    out.push_number(from);
+    out.push(b" to ");
+    out.push_number(to);
 }
 
 /// Appends the range of the lines of the listing.
-pub(crate) fn push_lines_range<K: Kind>(
-    out: &mut Vec<u8>,
-    session: &Session<K>,
-    what: &[u8],
-) -> Result<(), AllocError>
-    ensures { let lines = session.now.run.source.lines in OnOk result (out.new.items
-        ≡ out.old.items ++ range_text what.now (first_number lines) (last_number 0 lines)) }
+pub(crate) fn push_lines_range<K: Kind>(out: &mut Draft, session: &Session<K>, what: &[u8])
+    ensures { let lines = session.now.run.source.lines in Adds out.old out.new
+        (range_text what.now (first_number lines) (last_number 0 lines)) }
 {
     let lines = session.program().listing().lines();
-    push_range(out, what, first_number(lines), last_number(lines))
+    push_range(out, what, first_number(lines), last_number(lines));
 }
 
 /// Appends which registers there are.
-fn push_registers(out: &mut Vec<u8>, kind: KindTag, shape: Shape) -> Result<(), AllocError>
-    ensures { OnOk result (out.new.items ≡ out.old.items ++ registers_text kind shape) }
+fn push_registers(out: &mut Draft, kind: KindTag, shape: Shape)
+    ensures { Adds out.old out.new (registers_text kind shape) }
 {
     match kind {
         KindTag::Seq => push_range(out, b"the registers are r", 1, shape.w()),
@@ -83,119 +78,106 @@ and r",
 
 /// Appends what would have been right.
 #[tactic(auto, unfolding(crate::specs::Hints::hint_text))]
-fn push_hint<K: Kind>(
-    out: &mut Vec<u8>,
-    session: &Session<K>,
-    refusal: &CommandRefusal,
-) -> Result<(), AllocError>
-    ensures { OnOk result (out.new.items ≡ out.old.items ++ hint_text session.now refusal.now) }
+fn push_hint<K: Kind>(out: &mut Draft, session: &Session<K>, refusal: &CommandRefusal)
+    ensures { Adds out.old out.new (hint_text session.now refusal.now) }
 {
     match refusal {
-        CommandRefusal::BadCommand(_) => push_text(out, b": `help` says what can be typed"),
+        CommandRefusal::BadCommand(_) => out.push(b": `help` says what can be typed"),
         CommandRefusal::NoSuchLine => push_lines_range(out, session, b"the lines are"),
         CommandRefusal::NoSuchProcess => {
-            push_range(out, b"the processes are", 1, session.machine().shape().n())
+            push_range(out, b"the processes are", 1, session.machine().shape().n());
         }
         CommandRefusal::NoSuchRegister => {
-            push_registers(out, session.program().kind(), session.machine().shape())
+            push_registers(out, session.program().kind(), session.machine().shape());
         }
         CommandRefusal::NoSuchPosition => {
-            push_range(out, b"the positions are", 0, session.total())
+            push_range(out, b"the positions are", 0, session.total());
         }
         CommandRefusal::TooManyMarks => {
-            push_text(
-                out,
-                b": 64 are set, and `clear` and `unwatch` take them away",
-            )
+            out.push(b": 64 are set, and `clear` and `unwatch` take them away");
         }
-        CommandRefusal::TooLong => push_text(out, b": a line has at most 1048576 bytes"),
+        CommandRefusal::TooLong => out.push(b": a line has at most 1048576 bytes"),
     }
 }
 
 /// Appends the line of a refused command.
-#[tactic(auto, using(snap_text::proofs::Texts::joined), unfolding(crate::specs::Hints::refused_line))]
+#[tactic(auto, unfolding(crate::specs::Hints::refused_line))]
 pub(crate) fn push_refused_line<K: Kind>(
-    out: &mut Vec<u8>,
+    out: &mut Draft,
     session: &Session<K>,
     refusal: &CommandRefusal,
-) -> Result<(), AllocError>
-    ensures { OnOk result (out.new.items ≡ out.old.items ++ refused_line session.now refusal.now) }
+)
+    ensures { Adds out.old out.new (refused_line session.now refusal.now) }
 {
-    push_text(out, b"refused: ")?;
-    push_refusal(out, refusal)?;
-    push_hint(out, session, refusal)?;
-    push_text(out, b"\n")
+    out.push(b"refused: ");
+    push_refusal(out, refusal);
+    push_hint(out, session, refusal);
+    out.push(b"\n");
 }
 
 /// Appends what would have been right to add.
-fn push_added_hint<K: Kind>(
-    out: &mut Vec<u8>,
-    session: &Session<K>,
-    refusal: &ScheduleRefusal,
-) -> Result<(), AllocError>
-    ensures { OnOk result (out.new.items ≡ out.old.items ++ added_hint session.now refusal.now) }
+fn push_added_hint<K: Kind>(out: &mut Draft, session: &Session<K>, refusal: &ScheduleRefusal)
+    ensures { Adds out.old out.new (added_hint session.now refusal.now) }
 {
     match refusal {
         ScheduleRefusal::NoSuchProcess(_) => {
-            push_range(out, b"the processes are", 1, session.machine().shape().n())
+            push_range(out, b"the processes are", 1, session.machine().shape().n());
         }
         ScheduleRefusal::TooLong
         | ScheduleRefusal::BadShape
         | ScheduleRefusal::BadItem(_)
         | ScheduleRefusal::TooManyItems(_) => {
-            push_text(out, b": a schedule has at most 1000000 items")
+            out.push(b": a schedule has at most 1000000 items");
         }
     }
 }
 
 /// Appends the line of an addition that is refused.
-#[tactic(auto, using(snap_text::proofs::Texts::joined), unfolding(crate::specs::Hints::refused_addition))]
+#[tactic(auto, unfolding(crate::specs::Hints::refused_addition))]
 pub(crate) fn push_refused_addition<K: Kind>(
-    out: &mut Vec<u8>,
+    out: &mut Draft,
     session: &Session<K>,
     refusal: ScheduleRefusal,
-) -> Result<(), AllocError>
-    ensures { OnOk result (out.new.items ≡ out.old.items ++ refused_addition session.now refusal) }
+)
+    ensures { Adds out.old out.new (refused_addition session.now refusal) }
 {
-    push_refused(out, &Refusal::Schedule(refusal))?;
-    push_added_hint(out, session, &refusal)?;
-    push_text(out, b"\n")
+    push_refused(out, &Refusal::Schedule(refusal));
+    push_added_hint(out, session, &refusal);
+    out.push(b"\n");
 }
 
 /// Appends the line of a process that takes no steps because of its status.
-#[tactic(auto, using(snap_text::proofs::Texts::joined))]
-fn push_standing(out: &mut Vec<u8>, process: u64, how: &[u8]) -> Result<(), AllocError>
-    ensures { OnOk result (out.new.items ≡ out.old.items ++ standing_line process how.now) }
+fn push_standing(out: &mut Draft, process: u64, how: &[u8])
+    ensures { Adds out.old out.new (standing_line process how.now) }
 {
-    push_text(out, b"refused: process ")?;
-    push_number(out, process)?;
-    push_text(out, b" ")?;
-    push_text(out, how)?;
-    push_text(out, b"\n")
+    out.push(b"refused: process ");
+    out.push_number(process);
+    out.push(b" ");
+    out.push(how);
+    out.push(b"\n");
 }
 
 /// Appends why a process takes no steps to a goal. A refusal of the schedule names the line.
 #[tactic(auto, unfolding(crate::specs::Hints::refused_steps))]
 pub(crate) fn push_refused_steps<K: Kind>(
-    out: &mut Vec<u8>,
+    out: &mut Draft,
     session: &Session<K>,
     line: u64,
     process: u64,
     why: NoSteps,
-) -> Result<(), AllocError>
-    ensures { OnOk result (out.new.items ≡ out.old.items
-        ++ refused_steps session.now line process why) }
+)
+    ensures { Adds out.old out.new (refused_steps session.now line process why) }
 {
     match why {
         NoSteps::NoSuchProcess => {
-            push_refused_line(out, session, &CommandRefusal::NoSuchProcess)
+            push_refused_line(out, session, &CommandRefusal::NoSuchProcess);
         }
         NoSteps::NoSuchLine => push_refused_line(out, session, &CommandRefusal::NoSuchLine),
         NoSteps::Idle => push_standing(out, process, b"is idle: `call` gives it an operation"),
         NoSteps::Trapped => push_standing(out, process, b"has trapped: it takes no more steps"),
         NoSteps::Crashed => push_standing(out, process, b"has crashed: it takes no more steps"),
         NoSteps::Full => {
-            push_refused_addition(out, session, ScheduleRefusal::TooManyItems(line))
+            push_refused_addition(out, session, ScheduleRefusal::TooManyItems(line));
         }
     }
 }

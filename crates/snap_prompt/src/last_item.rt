@@ -1,6 +1,7 @@
 //! The last item before the position of a prompt's session, as it is shown after a move: its
 //! outcome, and the line that it ran.
-ghost use Rattle.std.specs.Prelude.{◌≡◌, ◌<◌, ◌≤◌, ◌++◌, ◌-◌, IfOk, OnOk, Some, length, map};
+ghost use Rattle.std.specs.Prelude.{◌≡◌, ◌<◌, ◌≤◌, ◌-◌, IfOk, OnOk, Some, length, map};
+ghost use Rattle.snap_text.specs.Drafted.{Adds};
 ghost use Rattle.std.specs.List.{AllByRecursion};
 ghost use Rattle.snap_words.specs.Shape.{IsOneOf};
 ghost use Rattle.snap_semantics.specs.Readers.{line_of};
@@ -16,7 +17,7 @@ use snap_debug::{Command, Reply, Session};
 use snap_listing::LineTexts;
 use snap_report::outcome_text;
 use snap_semantics::{CommandRefusal, Fault, Outcome};
-use snap_text::{push_number, push_text};
+use snap_text::Draft;
 use snap_words::Kind;
 use std::alloc::AllocError;
 
@@ -90,64 +91,61 @@ fn line_run<K: Kind>(
 }
 
 /// Appends ` at ` and the text of the line that was run, if one was.
-fn push_run(out: &mut Vec<u8>, texts: &LineTexts, line: Option<u64>) -> Result<(), AllocError>
-    ensures { OnOk result (out.new.items ≡ out.old.items ++ run_text texts.now line) }
+fn push_run(out: &mut Draft, texts: &LineTexts, line: Option<u64>)
+    ensures { Adds out.old out.new (run_text texts.now line) }
 {
     let Some(number) = line else {
-        return Ok(());
+        return;
     };
     match texts.with_number(number) {
         Some(text) => {
-            push_text(out, b" at ")?;
-            push_text(out, text)
+            out.push(b" at ");
+            out.push(text);
         }
-        None => Ok(()),
+        None => {}
     }
 }
 
 /// Appends `item T I `.
-#[tactic(auto, using(snap_text::proofs::Texts::joined))]
-fn push_item_head(out: &mut Vec<u8>, number: u64, process: u32) -> Result<(), AllocError>
-    ensures { OnOk result (out.new.items ≡ out.old.items ++ item_head number process) }
+fn push_item_head(out: &mut Draft, number: u64, process: u32)
+    ensures { Adds out.old out.new (item_head number process) }
 {
-    push_text(out, b"item ")?;
-    push_number(out, number)?;
-    push_text(out, b" ")?;
-    push_number(out, u64::from(process))?;
-    push_text(out, b" ")
+    out.push(b"item ");
+    out.push_number(number);
+    out.push(b" ");
+    out.push_number(u64::from(process));
+    out.push(b" ");
 }
 
 /// Appends `item T I OUTCOME`, and the line that it ran.
-#[tactic(auto, using(snap_text::proofs::Texts::joined))]
 fn push_item_line(
-    out: &mut Vec<u8>,
+    out: &mut Draft,
     texts: &LineTexts,
     number: u64,
     process: u32,
     outcome: &Outcome,
     line: Option<u64>,
-) -> Result<(), AllocError>
-    ensures { OnOk result (out.new.items ≡ out.old.items
-        ++ item_line texts.now number (Some (process, outcome.now)) line) }
+)
+    ensures { Adds out.old out.new (item_line texts.now number (Some (process, outcome.now)) line) }
 {
-    push_item_head(out, number, process)?;
-    outcome_text(out, outcome)?;
-    push_run(out, texts, line)?;
-    push_text(out, b"\n")
+    push_item_head(out, number, process);
+    outcome_text(out, outcome);
+    push_run(out, texts, line);
+    out.push(b"\n");
 }
 
 /// Appends the text on the last item, if there is one.
 #[tactic(auto, using(crate::proofs::LastItems::is_one), unfolding(crate::specs::Changed::item_text))]
 pub(crate) fn push_item<K: Kind>(
-    out: &mut Vec<u8>,
+    out: &mut Draft,
     texts: &LineTexts,
     session: &mut Session<K>,
 ) -> Result<(), AllocError>
     requires texts { texts.now ≡ map written session.old.run.source.lines }
     requires processes { AllByRecursion
         (λ x. IsOneOf session.old.run.shape.n (who x)) session.old.run.items }
-    ensures text { OnOk result (out.new.items ≡ out.old.items
-        ++ item_text session.old.run session.old.position) }
+    ensures text { OnOk result (Adds out.old out.new
+        (item_text session.old.run session.old.position)) }
     ensures same { OnOk result (session.new ≡ session.old) }
     ensures run { session.new.run ≡ session.old.run }
 {
@@ -156,5 +154,6 @@ pub(crate) fn push_item<K: Kind>(
         return Ok(());
     };
     let line = line_run(session, process, &outcome)?;
-    push_item_line(out, texts, position, process, &outcome, line)
+    push_item_line(out, texts, position, process, &outcome, line);
+    Ok(())
 }

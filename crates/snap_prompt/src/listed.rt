@@ -1,6 +1,7 @@
 //! What the prompt answers to `list`: the lines of the listing around the one at which a process
 //! is, or all of them.
-ghost use Rattle.std.specs.Prelude.{◌≡◌, ◌++◌, OnOk, map};
+ghost use Rattle.std.specs.Prelude.{◌≡◌, map};
+ghost use Rattle.snap_text.specs.Drafted.{Adds};
 ghost use Rattle.snap_words.specs.Shape.{IsOneOf};
 ghost use Rattle.snap_listing.specs.LineTexts.{text_with, written};
 ghost use Rattle.snap_prompt.specs.Listed.{is_near, list_text, pointer_text, marked_line};
@@ -11,9 +12,8 @@ use snap_debug::Session;
 use snap_listing::LineTexts;
 use snap_report::head_line;
 use snap_semantics::{CommandRefusal, Line};
-use snap_text::push_text;
+use snap_text::Draft;
 use snap_words::Kind;
-use std::alloc::AllocError;
 
 /// Returns whether a number is at most eight from the line at which a process stands. If the
 /// process stands at none, each number is near.
@@ -27,102 +27,73 @@ fn is_near(line: Option<u64>, number: u64) -> bool
 }
 
 /// Appends the mark of the line at which a process stands, or the space of another one.
-fn push_mark(out: &mut Vec<u8>, line: Option<u64>, number: u64) -> Result<(), AllocError>
-    ensures { OnOk result (out.new.items ≡ out.old.items ++ pointer_text line number) }
+fn push_mark(out: &mut Draft, line: Option<u64>, number: u64)
+    ensures { Adds out.old out.new (pointer_text line number) }
 {
     match line {
-        Some(line) if line == number => push_text(out, b"> "),
-        _ => push_text(out, b"  "),
+        Some(line) if line == number => out.push(b"> "),
+        _ => out.push(b"  "),
     }
 }
 
 /// Appends the text of a line.
-fn push_line_text(out: &mut Vec<u8>, texts: &LineTexts, number: u64) -> Result<(), AllocError>
-    ensures { OnOk result (out.new.items ≡ out.old.items
-        ++ text_or_none (text_with texts.now number)) }
+fn push_line_text(out: &mut Draft, texts: &LineTexts, number: u64)
+    ensures { Adds out.old out.new (text_or_none (text_with texts.now number)) }
 {
     match texts.with_number(number) {
-        Some(text) => push_text(out, text),
-        None => Ok(()),
+        Some(text) => out.push(text),
+        None => {}
     }
 }
 
 /// Appends a line, marked if a process stands at it.
-#[tactic(auto, using(snap_text::proofs::Texts::joined))]
-fn push_marked_line(
-    out: &mut Vec<u8>,
-    texts: &LineTexts,
-    line: Option<u64>,
-    number: u64,
-) -> Result<(), AllocError>
-    ensures { OnOk result (out.new.items ≡ out.old.items ++ marked_line texts.now line number) }
+fn push_marked_line(out: &mut Draft, texts: &LineTexts, line: Option<u64>, number: u64)
+    ensures { Adds out.old out.new (marked_line texts.now line number) }
 {
-    push_mark(out, line, number)?;
-    push_line_text(out, texts, number)?;
-    push_text(out, b"\n")
+    push_mark(out, line, number);
+    push_line_text(out, texts, number);
+    out.push(b"\n");
 }
 
 /// Appends a line if it is near.
-fn push_near_line(
-    out: &mut Vec<u8>,
-    texts: &LineTexts,
-    line: Option<u64>,
-    number: u64,
-) -> Result<(), AllocError>
-    ensures { OnOk result (out.new.items ≡ out.old.items ++ near_line texts.now line number) }
+fn push_near_line(out: &mut Draft, texts: &LineTexts, line: Option<u64>, number: u64)
+    ensures { Adds out.old out.new (near_line texts.now line number) }
 {
     if is_near(line, number) {
-        push_marked_line(out, texts, line, number)
-    } else {
-        Ok(())
+        push_marked_line(out, texts, line, number);
     }
 }
 
 /// Appends the lines that are near.
-fn push_near_lines(
-    out: &mut Vec<u8>,
-    texts: &LineTexts,
-    line: Option<u64>,
-    lines: &[Line],
-) -> Result<(), AllocError>
-    ensures { OnOk result (out.new.items ≡ out.old.items ++ near_lines texts.now line lines.now) }
+fn push_near_lines(out: &mut Draft, texts: &LineTexts, line: Option<u64>, lines: &[Line])
+    ensures { Adds out.old out.new (near_lines texts.now line lines.now) }
 {
     for l in lines {
-        push_near_line(out, texts, line, l.number)?;
+        push_near_line(out, texts, line, l.number);
     }
-    Ok(())
 }
 
 /// Appends the status of a process, and the lines around its own; all lines if it stands at none.
-#[tactic(auto, using(snap_text::proofs::Texts::joined), unfolding(crate::specs::Listed::stand_text))]
-fn push_stand<K: Kind>(
-    out: &mut Vec<u8>,
-    texts: &LineTexts,
-    session: &Session<K>,
-    process: u32,
-) -> Result<(), AllocError>
+#[tactic(auto, unfolding(crate::specs::Listed::stand_text))]
+fn push_stand<K: Kind>(out: &mut Draft, texts: &LineTexts, session: &Session<K>, process: u32)
     requires texts { texts.now ≡ map written session.now.run.source.lines }
     requires process { IsOneOf session.now.run.shape.n process }
-    ensures { OnOk result (out.new.items ≡ out.old.items ++ stand_text session.now process) }
+    ensures { Adds out.old out.new (stand_text session.now process) }
 {
-    head_line(out, session.machine(), process)?;
+    head_line(out, session.machine(), process);
     let line = session.machine().line(process);
-    push_near_lines(out, texts, line, session.program().listing().lines())
+    push_near_lines(out, texts, line, session.program().listing().lines());
 }
 
 /// Appends where process `i` stands, and the lines around; or that there is no such process.
 #[tactic(auto, unfolding(crate::specs::Listed::list_text))]
-pub(crate) fn push_list<K: Kind>(
-    out: &mut Vec<u8>,
-    texts: &LineTexts,
-    session: &Session<K>,
-    i: u64,
-) -> Result<(), AllocError>
+pub(crate) fn push_list<K: Kind>(out: &mut Draft, texts: &LineTexts, session: &Session<K>, i: u64)
     requires { texts.now ≡ map written session.now.run.source.lines }
-    ensures { OnOk result (out.new.items ≡ out.old.items ++ list_text session.now i) }
+    ensures { Adds out.old out.new (list_text session.now i) }
 {
     if i == 0 || session.machine().shape().n() < i {
-        return push_refused_line(out, session, &CommandRefusal::NoSuchProcess);
+        push_refused_line(out, session, &CommandRefusal::NoSuchProcess);
+        return;
     }
-    push_stand(out, texts, session, i as u32)
+    push_stand(out, texts, session, i as u32);
 }

@@ -21,10 +21,10 @@ use Rattle.snap_words.specs.declared.kind.KindTag.{KindTag}
 use Rattle.snap_listing.proofs.HasForms.{Holds, then_with, either}
 use Rattle.snap_listing.proofs.SpelledTerms.{if_when, WordIs, word_is, NumberIs, number_is, KeywordIs}
 use Rattle.snap_listing.proofs.SpelledTerms.{keyword_is, SymbolIs, symbol_is, EndIs, end_is, on_cons}
-use Rattle.snap_explanation.specs.declared.wanted.Keyword.{Keyword}
-use Rattle.snap_explanation.specs.declared.wanted.Keyword.TheVariants as keyword
-use Rattle.snap_explanation.specs.declared.wanted.Wanted.{Wanted}
-use Rattle.snap_explanation.specs.declared.wanted.Wanted.TheVariants as wanted
+use Rattle.snap_explanation.specs.declared.expected.Keyword.{Keyword}
+use Rattle.snap_explanation.specs.declared.expected.Keyword.TheVariants as keyword
+use Rattle.snap_explanation.specs.declared.expected.Expected.{Expected}
+use Rattle.snap_explanation.specs.declared.expected.Expected.TheVariants as wanted
 use Rattle.snap_explanation.specs.declared.line_sorts.LineSort.{LineSort}
 use Rattle.snap_explanation.specs.declared.line_sorts.LineSort.TheVariants as line
 use Rattle.snap_explanation.specs.declared.line_sorts.Header.TheVariants as header
@@ -33,7 +33,7 @@ use Rattle.snap_explanation.specs.Lost.{Place, lost, lost_at, lost_in, step, ste
 use Rattle.snap_explanation.specs.Tests.{keyword_text, is_kind}
 
 -- a token that passes its test
-passes : (k : ℕ) (ws all : List Wanted) (ts : List Token) (o : Option (List Wanted)) (b : Bool) → b ≡ true →
+passes : (k : ℕ) (ws all : List Expected) (ts : List Token) (o : Option (List Expected)) (b : Bool) → b ≡ true →
     lost_at k all (λ more. lost (k + 1) more ts) (stepped ws o (one b)) ≡ lost (k + 1) ws ts
 passes k ws all ts o b e = ap (λ (c : Bool). lost_at k all (λ more. lost (k + 1) more ts) (stepped ws o (one c))) e
 
@@ -173,7 +173,7 @@ same_keyword keyword.Goto = refl
 same_keyword keyword.R = refl
 same_keyword keyword.V = refl
 
-keyword_first : (x : Keyword) (w : Wanted) (ts : List Token) →
+keyword_first : (x : Keyword) (w : Expected) (ts : List Token) →
     lost 0 (wanted.Keyword x ∷ w ∷ []) (Identifier (keyword_text x) ∷ ts) ≡ lost 1 (w ∷ []) ts
 keyword_first x w ts =
     passes 0 (w ∷ []) (wanted.Keyword x ∷ w ∷ []) ts (step (Identifier (keyword_text x)) (w ∷ []))

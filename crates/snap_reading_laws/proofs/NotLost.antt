@@ -7,7 +7,7 @@ use Rattle.snap_semantics.specs.ScheduleForms.{shape_form, item_form}
 use Rattle.snap_semantics.specs.Token.{Token}
 use Rattle.snap_sched.specs.ScriptForms.{script_form}
 use Rattle.snap_debug_commands.specs.CommandForms.{command_form}
-use Rattle.snap_explanation.specs.declared.wanted.Keyword.TheVariants as keyword
+use Rattle.snap_explanation.specs.declared.expected.Keyword.TheVariants as keyword
 use Rattle.snap_explanation.specs.declared.line_sorts.Header.TheVariants as header
 use Rattle.snap_explanation.specs.declared.line_sorts.LineSort.{LineSort}
 use Rattle.snap_explanation.specs.declared.line_sorts.LineSort.TheVariants as line

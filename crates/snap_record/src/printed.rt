@@ -14,6 +14,7 @@ use crate::record::Record;
 use snap_machine::Machine;
 use snap_report::Report;
 use snap_semantics::{Event, Outcome};
+use snap_text::Draft;
 use snap_words::{Address, Kind};
 use std::alloc::{AllocError, Global};
 
@@ -55,9 +56,9 @@ pub fn report_at<K: Kind>(
     ensures { IfOk result (λ report. report
         ≡ report_text machine.now.source.kind machine.now.state events.now position total) }
 {
-    let mut text = Vec::new(alloc);
-    snap_report::report(&mut text, machine, events, position, total)?;
-    Ok(Report::of(text))
+    let mut text = Draft::new(alloc);
+    snap_report::report(&mut text, machine, events, position, total);
+    Ok(Report::of(text.finish()?))
 }
 
 /// Returns the line of the register at `address`: its address and its contents.
@@ -74,9 +75,9 @@ pub fn register_line<K: Kind>(
         IfOk result (λ text. text.items
         ≡ register_line machine.now.source.kind address.bank address.i address.j read) }
 {
-    let mut text = Vec::new(alloc);
-    snap_report::register_line(&mut text, machine, address)?;
-    Ok(text)
+    let mut text = Draft::new(alloc);
+    snap_report::register_line(&mut text, machine, address);
+    text.finish()
 }
 
 /// Returns the lines of process `i`: its status, and its locals.
@@ -93,9 +94,9 @@ pub fn process_lines<K: Kind>(
     ensures { IfOk result (λ text. text.items
         ≡ process_lines machine.now.source.kind i (process_at machine.now.state i)) }
 {
-    let mut text = Vec::new(alloc);
-    snap_report::process_lines(&mut text, machine, i)?;
-    Ok(text)
+    let mut text = Draft::new(alloc);
+    snap_report::process_lines(&mut text, machine, i);
+    text.finish()
 }
 
 /// Returns the line of the status of process `i`.
@@ -112,9 +113,9 @@ pub fn head_line<K: Kind>(
     ensures { IfOk result (λ text. text.items
         ≡ head_line i (process_at machine.now.state i).status) }
 {
-    let mut text = Vec::new(alloc);
-    snap_report::head_line(&mut text, machine, i)?;
-    Ok(text)
+    let mut text = Draft::new(alloc);
+    snap_report::head_line(&mut text, machine, i);
+    text.finish()
 }
 
 /// Returns the line of the values.
@@ -125,9 +126,9 @@ pub fn head_line<K: Kind>(
 pub fn values_line<K: Kind>(alloc: Global, machine: &Machine<K>) -> Result<Vec<u8>, AllocError>
     ensures { IfOk result (λ text. text.items ≡ values_line (values machine.now.state)) }
 {
-    let mut text = Vec::new(alloc);
-    snap_report::values_line(&mut text, machine)?;
-    Ok(text)
+    let mut text = Draft::new(alloc);
+    snap_report::values_line(&mut text, machine);
+    text.finish()
 }
 
 /// Returns the line of an event.
@@ -138,9 +139,9 @@ pub fn values_line<K: Kind>(alloc: Global, machine: &Machine<K>) -> Result<Vec<u
 pub fn event_line(alloc: Global, event: &Event) -> Result<Vec<u8>, AllocError>
     ensures { IfOk result (λ text. text.items ≡ event_line event.now) }
 {
-    let mut text = Vec::new(alloc);
-    snap_report::event_line(&mut text, event)?;
-    Ok(text)
+    let mut text = Draft::new(alloc);
+    snap_report::event_line(&mut text, event);
+    text.finish()
 }
 
 /// Returns the words of an outcome.
@@ -151,7 +152,7 @@ pub fn event_line(alloc: Global, event: &Event) -> Result<Vec<u8>, AllocError>
 pub fn outcome_text(alloc: Global, outcome: &Outcome) -> Result<Vec<u8>, AllocError>
     ensures { IfOk result (λ text. text.items ≡ outcome_text outcome.now) }
 {
-    let mut text = Vec::new(alloc);
-    snap_report::outcome_text(&mut text, outcome)?;
-    Ok(text)
+    let mut text = Draft::new(alloc);
+    snap_report::outcome_text(&mut text, outcome);
+    text.finish()
 }

@@ -1,44 +1,41 @@
 //! The printed texts of operations and events.
-ghost use Rattle.std.specs.Prelude.{◌≡◌, ◌++◌, OnOk};
+ghost use Rattle.snap_text.specs.Drafted.{Adds};
 ghost use Rattle.snap_semantics.specs.Report.{op_text, happening_text, event_line, event_lines};
 
 use snap_semantics::{Event, Happening, Op};
-use snap_text::{push_number, push_numbers, push_text};
-use std::alloc::AllocError;
+use snap_text::Draft;
 
 /// Appends an operation.
 ///
 /// # Errors
 ///
 /// `AllocError` where memory runs out.
-#[tactic(auto, using(snap_text::proofs::Texts::joined))]
-pub fn op_text(out: &mut Vec<u8>, op: Op) -> Result<(), AllocError>
-    ensures { OnOk result (out.new.items ≡ out.old.items ++ op_text op) }
+pub fn op_text(out: &mut Draft, op: Op)
+    ensures { Adds out.old out.new (op_text op) }
 {
     match op {
-        Op::Scan => push_text(out, b"scan"),
+        Op::Scan => out.push(b"scan"),
         Op::Update { word, value } => {
-            push_text(out, b"update ")?;
-            push_number(out, word)?;
-            push_text(out, b" ")?;
-            push_number(out, value)
+            out.push(b"update ");
+            out.push_number(word);
+            out.push(b" ");
+            out.push_number(value);
         }
     }
 }
 
 /// Appends what a caller sees.
-#[tactic(auto, using(snap_text::proofs::Texts::joined))]
-fn happening_text(out: &mut Vec<u8>, what: &Happening) -> Result<(), AllocError>
-    ensures { OnOk result (out.new.items ≡ out.old.items ++ happening_text what.now) }
+fn happening_text(out: &mut Draft, what: &Happening)
+    ensures { Adds out.old out.new (happening_text what.now) }
 {
     match what {
         Happening::Call(op) => op_text(out, *op),
         Happening::Answer(view) => {
-            push_text(out, b"answer")?;
-            push_numbers(out, view.as_slice())
+            out.push(b"answer");
+            out.push_numbers(view.as_slice());
         }
-        Happening::Done => push_text(out, b"done"),
-        Happening::Crash => push_text(out, b"crash"),
+        Happening::Done => out.push(b"done"),
+        Happening::Crash => out.push(b"crash"),
     }
 }
 
@@ -47,17 +44,16 @@ fn happening_text(out: &mut Vec<u8>, what: &Happening) -> Result<(), AllocError>
 /// # Errors
 ///
 /// `AllocError` where memory runs out.
-#[tactic(auto, using(snap_text::proofs::Texts::joined))]
-pub fn event_line(out: &mut Vec<u8>, event: &Event) -> Result<(), AllocError>
-    ensures { OnOk result (out.new.items ≡ out.old.items ++ event_line event.now) }
+pub fn event_line(out: &mut Draft, event: &Event)
+    ensures { Adds out.old out.new (event_line event.now) }
 {
-    push_text(out, b"event ")?;
-    push_number(out, event.item)?;
-    push_text(out, b" ")?;
-    push_number(out, u64::from(event.process))?;
-    push_text(out, b" ")?;
-    happening_text(out, &event.what)?;
-    push_text(out, b"\n")
+    out.push(b"event ");
+    out.push_number(event.item);
+    out.push(b" ");
+    out.push_number(u64::from(event.process));
+    out.push(b" ");
+    happening_text(out, &event.what);
+    out.push(b"\n");
 }
 
 /// Appends the lines of events.
@@ -65,11 +61,10 @@ pub fn event_line(out: &mut Vec<u8>, event: &Event) -> Result<(), AllocError>
 /// # Errors
 ///
 /// `AllocError` where memory runs out.
-pub fn event_lines(out: &mut Vec<u8>, events: &[Event]) -> Result<(), AllocError>
-    ensures { OnOk result (out.new.items ≡ out.old.items ++ event_lines events.now) }
+pub fn event_lines(out: &mut Draft, events: &[Event])
+    ensures { Adds out.old out.new (event_lines events.now) }
 {
     for event in events {
-        event_line(out, event)?;
+        event_line(out, event);
     }
-    Ok(())
 }

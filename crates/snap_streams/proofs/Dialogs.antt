@@ -5,7 +5,7 @@ use Rattle.std.specs.Prelude.{map}
 use Rattle.std.specs.Io.KnownBytes.{Appends}
 use Rattle.std.specs.Io.BufRead.{take_through, drop_through, DropsThrough}
 use Rattle.std.proofs.lemmas.Bool.{true≢false}
-use Rattle.snap_streams.specs.Dialog.{Adds, AreTurns, EndsAtLast, GoesOn, IsAnswered, IsBehind, IsDialog, IsTranscript}
+use Rattle.snap_streams.specs.Dialog.{Replies, AreTurns, EndsAtLast, GoesOn, IsAnswered, IsBehind, IsDialog, IsTranscript}
 use Rattle.snap_streams.specs.Dialog.{IsTranscriptPart, IsTurn, IsTurnTextPart, Next, SaysOrEnds}
 use Rattle.snap_streams.specs.Dialog.{ShowsTranscript, Turn, next_or_end}
 use Rattle.snap_streams.specs.Event.{Event, said, typed, Passes, PassesAll}
@@ -64,8 +64,8 @@ first_of_lines b (c ∷ cs) = elim (b == 10)
 -- what was added to a text, said of a copy of it
 pub of_copy : {S : Type 0} (says : S → List ℕ → List ℕ → Type 0) (next : S → List ℕ → List ℕ → Next S)
     (now later : S) (line told written blank : List ℕ) (more : Bool) → told ≡ written →
-    Adds (SaysOrEnds says) (next_or_end next) now line blank written later more →
-    Adds (SaysOrEnds says) (next_or_end next) now line blank told later more
+    Replies (SaysOrEnds says) (next_or_end next) now line blank written later more →
+    Replies (SaysOrEnds says) (next_or_end next) now line blank told later more
 of_copy says next now later line told written blank more is h = (h.0, h.1, is ∙ h.2, h.3, h.4)
 
 -- what holds of a first line and the lines of the rest holds of the typed lines
@@ -244,7 +244,7 @@ module _ {S : Type 0} (prompt : S → List ℕ) (says : S → List ℕ → List 
   pub turn_passed : (now later : S) (more : Bool) (u v w x : Option (List Event))
       (asked line same told empty blank : List ℕ) → empty ≡ [] → blank ≡ [] → asked ≡ empty ++ prompt now →
       same ≡ line → Passes u v (said asked) → Passes v w (typed line) → Passes w x (said told) →
-      Adds (SaysOrEnds says) (next_or_end next) now same blank told later more →
+      Replies (SaysOrEnds says) (next_or_end next) now same blank told later more →
       TurnPassed prompt says next now later more u x
   turn_passed now later more u v w x asked line same told empty blank none nothing is_prompt is_line first second third
       adds =
@@ -262,7 +262,7 @@ module _ {S : Type 0} (prompt : S → List ℕ) (says : S → List ℕ → List 
       (asked line same told empty blank : List ℕ) → empty ≡ [] → blank ≡ [] → asked ≡ empty ++ prompt now →
       same ≡ line → Appends u v asked → after ≡ left → IfSome after (λ xs. line ≡ kept (take_through 10 xs)) →
       still ≡ v → Appends still w told →
-      Adds (SaysOrEnds says) (next_or_end next) now same blank told later more →
+      Replies (SaysOrEnds says) (next_or_end next) now same blank told later more →
       TurnShown prompt says next now later more left u w
   turn_shown now later more None after u v still w asked line same told empty blank none nothing is_prompt is_line
       first at read is_still second adds = tt

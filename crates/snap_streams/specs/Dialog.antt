@@ -41,9 +41,9 @@ module _ {S : Type 0} (next : S → (line answer : List ℕ) → Next S) where
 
 -- An answer to a line was added behind a text, and this is what comes of it: the respondent from there on, and whether
 -- the dialog goes on.
-abbrev pub Adds : {S : Type 0} → (S → List ℕ → List ℕ → Type 0) → (S → (line answer : List ℕ) → Next S) → S →
+abbrev pub Replies : {S : Type 0} → (S → List ℕ → List ℕ → Type 0) → (S → (line answer : List ℕ) → Next S) → S →
     (line old new : List ℕ) → S → Bool → Type 0
-Adds says next s line old new after more = (answer : List ℕ) × says s line answer × (new ≡ old ++ answer)
+Replies says next s line old new after more = (answer : List ℕ) × says s line answer × (new ≡ old ++ answer)
     × (after ≡ (next s line answer).state) × (more ≡ (next s line answer).goes_on)
 
 -- what is behind an answer: nothing, where it ends the dialog

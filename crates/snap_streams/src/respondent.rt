@@ -1,6 +1,6 @@
 //! `Respondent`: the partner of a dialog, who answers its lines.
 ghost use Rattle.std.specs.Prelude.{◌≡◌, ℕ, List, ◌++◌, IfOk, OnOk};
-ghost use Rattle.snap_streams.specs.Dialog.{Adds, Next};
+ghost use Rattle.snap_streams.specs.Dialog.{Replies, Next};
 
 use std::alloc::AllocError;
 
@@ -29,6 +29,6 @@ pub trait Respondent {
     ///
     /// `AllocError` where memory runs out.
     fn push_answer(&mut self, out: &mut Vec<u8>, line: &[u8]) -> Result<bool, AllocError>
-        ensures { IfOk result (λ more. Adds says next_of self.old line.now
+        ensures { IfOk result (λ more. Replies says next_of self.old line.now
             out.old.items out.new.items self.new more) };
 }

@@ -1,8 +1,8 @@
 //! `talk`: a dialog of a respondent at a console, turn by turn, from its first prompt to its end.
 ghost use Rattle.std.specs.Prelude.{◌≡◌, ◌++◌, ℕ, List, None, IfErr, IfOk, IfSome, OnErr, OnOk};
 ghost use Rattle.std.specs.Io.BufRead.{DropsThrough};
-ghost use Rattle.snap_streams.specs.Dialog.{Adds, IsBrokenOff, IsDialog, SaysOrEnds, ShowsTranscript};
-ghost use Rattle.snap_streams.specs.Dialog.{ShowsTranscriptPart, next_or_end};
+ghost use Rattle.snap_streams.specs.Dialog.{IsBrokenOff, IsDialog, Replies, SaysOrEnds};
+ghost use Rattle.snap_streams.specs.Dialog.{ShowsTranscript, ShowsTranscriptPart, next_or_end};
 ghost use Rattle.snap_streams.specs.Failures.{MayEndDialog, failure_of};
 ghost use Rattle.snap_streams.specs.Talks.{PartPassed, PartShown, TurnPassed, TurnShown};
 ghost use Rattle.snap_streams.specs.TypedLines.{typed_lines};
@@ -19,7 +19,7 @@ fn push_answer_or_end<P: Respondent>(
     out: &mut Vec<u8>,
     line: &[u8],
 ) -> Result<bool, AllocError>
-    ensures { IfOk result (λ more. Adds (SaysOrEnds P.says) (next_or_end P.next_of)
+    ensures { IfOk result (λ more. Replies (SaysOrEnds P.says) (next_or_end P.next_of)
         partner.old line.now out.old.items out.new.items partner.new more) }
 {
     if line.is_empty() {

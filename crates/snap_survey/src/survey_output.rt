@@ -1,6 +1,7 @@
 //! `survey_runs`: what the runs of one listing over many schedules came to, a line for each and one
 //! for all of them.
-ghost use Rattle.std.specs.Prelude.{◌≡◌, ◌++◌, IfOk, OnOk, map};
+ghost use Rattle.std.specs.Prelude.{◌≡◌, IfOk, map};
+ghost use Rattle.snap_text.specs.Drafted.{Adds};
 ghost use Rattle.std.specs.List.{list_all};
 ghost use Rattle.snap_survey.specs.SurveyText.{survey_lines, surveys_text};
 ghost use Rattle.snap_survey.specs.Surveys.{AnswersSurvey, WereJudgedOver};
@@ -12,27 +13,27 @@ use crate::{JudgedSurvey, summary_line, summary_of, survey_line};
 use snap_asm_program::Program;
 use snap_input::read_schedules;
 use snap_semantics::{Fault, Refusal};
+use snap_text::Draft;
 use std::alloc::{AllocError, Global};
 use std::thread::Threads;
 
 /// Appends the lines of surveys, each with the number of its schedule.
-fn push_survey_lines(out: &mut Vec<u8>, surveys: &[JudgedSurvey]) -> Result<(), AllocError>
-    ensures { OnOk result (out.new.items ≡ out.old.items ++ survey_lines 1 surveys.now) }
+fn push_survey_lines(out: &mut Draft, surveys: &[JudgedSurvey])
+    ensures { Adds out.old out.new (survey_lines 1 surveys.now) }
 {
     for k in 0..surveys.len() {
-        survey_line(out, k as u64 + 1, &surveys[k])?;
+        survey_line(out, k as u64 + 1, &surveys[k]);
     }
-    Ok(())
 }
 
 /// Returns a line for each survey, and one for all of them.
 fn surveys_text(alloc: Global, surveys: &[JudgedSurvey]) -> Result<Vec<u8>, AllocError>
     ensures { IfOk result (λ out. out.items ≡ surveys_text surveys.now) }
 {
-    let mut out = Vec::new(alloc);
-    push_survey_lines(&mut out, surveys)?;
-    summary_line(&mut out, &summary_of(surveys))?;
-    Ok(out)
+    let mut out = Draft::new(alloc);
+    push_survey_lines(&mut out, surveys);
+    summary_line(&mut out, &summary_of(surveys));
+    out.finish()
 }
 
 /// Returns whether a run is not found to be not linearizable, and no item trapped its process.

@@ -12,7 +12,7 @@ pub mod Lexemes
 pub mod Sound
 pub mod Space
 pub mod Splits
-pub mod Texts
 pub mod Places
 pub mod Putting
 pub mod Printing
+pub mod TokensFound

@@ -1,12 +1,12 @@
 //! `push_owned_lines`: the lines of a text, each indented one with its
 //! owner, the first two words of the line above that is not indented.
-ghost use Rattle.std.specs.Prelude.{◌≡◌, ◌≤◌, ◌++◌, [], OnOk, codes, length};
+ghost use Rattle.std.specs.Prelude.{◌≡◌, ◌≤◌, [], codes, length};
 ghost use Rattle.snap_semantics.specs.Token.{lines_of};
+ghost use Rattle.snap_text.specs.Drafted.{Adds};
 ghost use Rattle.snap_text.specs.Owned.{next_owner, owned_line, owned_text, two_words, word_len};
 
 use crate::changed::split_line;
-use crate::push_text;
-use std::alloc::AllocError;
+use crate::draft::Draft;
 
 /// Returns how many bytes stand before the first space.
 fn word_len(bytes: &[u8]) -> usize
@@ -43,35 +43,30 @@ fn next_owner<'a>(owner: &'a [u8], line: &'a [u8]) -> &'a [u8]
 }
 
 /// Appends a line, with `owner` in place of its first space if it is indented.
-fn push_owned_line(out: &mut Vec<u8>, owner: &[u8], line: &[u8]) -> Result<(), AllocError>
-    ensures { OnOk result (out.new.items ≡ out.old.items ++ owned_line owner.now line.now) }
+fn push_owned_line(out: &mut Draft, owner: &[u8], line: &[u8])
+    ensures { Adds out.old out.new (owned_line owner.now line.now) }
 {
     match line {
         [b' ', rest @ ..] => {
-            push_text(out, owner)?;
-            push_text(out, rest)
+            out.push(owner);
+            out.push(rest);
         }
-        _ => push_text(out, line),
+        _ => out.push(line),
     }
 }
 
 /// Appends the lines of `text`, each indented one with its owner: the first two words of the
 /// nearest line above that is not indented.
-///
-/// # Errors
-///
-/// `AllocError` where memory runs out.
-pub fn push_owned_lines(out: &mut Vec<u8>, text: &[u8]) -> Result<(), AllocError>
-    ensures { OnOk result (out.new.items ≡ out.old.items ++ owned_text [] (lines_of text.now)) }
+pub fn push_owned_lines(out: &mut Draft, text: &[u8])
+    ensures { Adds out.old out.new (owned_text [] (lines_of text.now)) }
 {
     let mut rest = text;
     let mut owner: &[u8] = b"";
     while !rest.is_empty() {
         let (line, behind) = split_line(rest);
-        push_owned_line(out, owner, line)?;
-        push_text(out, b"\n")?;
+        push_owned_line(out, owner, line);
+        out.push(b"\n");
         owner = next_owner(owner, line);
         rest = behind;
     }
-    Ok(())
 }

@@ -115,6 +115,7 @@ impl<'a, K: Kind> Walk<'a, K> {
     /// # Errors
     ///
     /// `AllocError` where memory runs out; the walk is as before then.
+    #[inline(always)]
     pub fn next(&mut self) -> Result<Option<Passed>, AllocError>
         ensures passed { IfOk result (λ o.
             MatchOption o ((self.old.at ≡ length self.old.run.items) × (self.new ≡ self.old))

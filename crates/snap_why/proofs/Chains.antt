@@ -1,14 +1,14 @@
 -- What `why` prints of a chain of borrowed views: after a scan comes the lender, whose view it took, and so on.
 use Rattle.std.proofs.Common.{◌≡◌, ◌<◌, ◌≤◌, ◌-◌, ◌++◌, ◌∙◌, ℕ, zero, suc, List, Option, Some, None, IfSome, sym}
 use Rattle.std.proofs.Common.{subst, append_assoc, arith}
-use Rattle.snap_acts.specs.declared.act.Step.{Step}
+use Rattle.snap_acts.specs.declared.act.TraceStep.{TraceStep}
 use Rattle.snap_acts.specs.Loans.{view_taken}
 use Rattle.snap_acts.specs.declared.loans.Borrowed.{Borrowed}
 use Rattle.snap_acts.specs.declared.loans.ScanPlaces.{ScanPlaces}
 use Rattle.snap_why.specs.Answer.{chain_lines, lender_of, view_lines}
 
 -- once the view of a scan is told, its lender's is next
-pub goes_on : (ss : List Step) (next : Option ScanPlaces) (s : ScanPlaces) (left : ℕ)
+pub goes_on : (ss : List TraceStep) (next : Option ScanPlaces) (s : ScanPlaces) (left : ℕ)
     (out out' all : List ℕ) (v : Option Borrowed) (l : Option ScanPlaces) →
     0 < left → next ≡ Some s → v ≡ view_taken ss s → l ≡ lender_of v → out' ≡ out ++ view_lines ss s.process v →
     out ++ chain_lines ss next left ≡ all → out' ++ chain_lines ss l (left - 1) ≡ all

@@ -16,7 +16,7 @@ use Rattle.snap_record.specs.Record.{with_items}
 use Rattle.snap_acts.specs.Trace.{step_of, steps_of, trace_of}
 use Rattle.snap_acts.specs.declared.act.Act.{Act}
 use Rattle.snap_acts.specs.declared.act.Act.TheVariants as act
-use Rattle.snap_acts.specs.declared.act.Step.{Step}
+use Rattle.snap_acts.specs.declared.act.TraceStep.{TraceStep}
 use Rattle.snap_acts.specs.Loans.{step_at}
 use Rattle.snap_why.specs.Why.{trapped_at, trapped_by}
 
@@ -67,12 +67,12 @@ one_of s d (suc k) i right within e =
     (each s d.shape (initial s d.shape) 1 d.items k right.processes less)
 
 -- a place that is found in the trace is that of an item of the run
-pub all_of : (s : Source) (d : Schedule) (ss : List Step) (t : ℕ) (r : Option ℕ) →
+pub all_of : (s : Source) (d : Schedule) (ss : List TraceStep) (t : ℕ) (r : Option ℕ) →
     IsSchedule d → ss ≡ trace_of (run_over s d) → t ≤ length d.items →
     r ≡ trapped_at ss t → IfSome r (λ (i : ℕ). IsOneOf d.shape.n i)
 all_of s d ss t None right is within e = tt
 all_of s d ss t (Some i) right is within e =
-    one_of s d t i right within (subst (λ (xs : List Step). trapped_at xs t ≡ Some i) is (sym e))
+    one_of s d t i right within (subst (λ (xs : List TraceStep). trapped_at xs t ≡ Some i) is (sym e))
 
 -- the run of the first items ends as that of all is after them
 pub first_items : (r : Run) (s : Source) (d : Schedule) (c : ℕ) →

@@ -9,7 +9,7 @@ use Rattle.snap_judge.specs.declared.judgements.Judgement.{Judgement}
 use Rattle.snap_run_judge.specs.RunHistory.{history_of}
 use Rattle.snap_run_judge.specs.RunJudgement.{IsRunJudgement, most_configurations}
 use Rattle.snap_run_judge.specs.VerdictText.{verdict_text}
-use Rattle.snap_acts.specs.declared.act.Step.{Step}
+use Rattle.snap_acts.specs.declared.act.TraceStep.{TraceStep}
 use Rattle.snap_acts.specs.Loans.{view_taken, step_at}
 use Rattle.snap_acts.specs.declared.loans.Borrowed.{Borrowed}
 use Rattle.snap_acts.specs.declared.loans.ScanPlaces.{ScanPlaces}
@@ -44,36 +44,36 @@ IsPointText r t None text = (j : Judgement) × IsRunJudgement most_configuration
     × (text ≡ no_point_lines (run_until r t) j)
 
 -- a scan of an update
-abbrev pub scan_lines : List Step → ScanPlaces → List ℕ
+abbrev pub scan_lines : List TraceStep → ScanPlaces → List ℕ
 scan_lines ss s =
     goto_line (codes "its scan began") (step_at ss s.from).item
     ++ goto_line (codes "its scan ended") (step_at ss s.to).item
 
 -- the scan that saw a view, where one is there
-abbrev pub lender_lines : List Step → Option ScanPlaces → List ℕ
+abbrev pub lender_lines : List TraceStep → Option ScanPlaces → List ℕ
 lender_lines ss None = codes "it is of no scan of an update\n"
 lender_lines ss (Some s) = scan_lines ss s
 
 -- who wrote a view at a place, and the scan that saw it
-abbrev pub writer_lines : List Step → ℕ → Option ScanPlaces → List ℕ
+abbrev pub writer_lines : List TraceStep → ℕ → Option ScanPlaces → List ℕ
 writer_lines ss k lender =
     process_text (step_at ss k).process ++ goto_line (codes " wrote it") (step_at ss k).item ++ lender_lines ss lender
 
 -- the lines of who wrote a view, if a process had written it
-unfoldable pub written_lines : List Step → Option ℕ → Option ScanPlaces → List ℕ
+unfoldable pub written_lines : List TraceStep → Option ℕ → Option ScanPlaces → List ℕ
 written_lines ss None lender = codes "no process had written it\n"
 written_lines ss (Some k) lender = writer_lines ss k lender
 
 -- a view that was taken
-abbrev pub taken_lines : List Step → Borrowed → List ℕ
+abbrev pub taken_lines : List TraceStep → Borrowed → List ℕ
 taken_lines ss b = goto_line (codes " took a view") (step_at ss b.taken).item ++ written_lines ss b.written b.lender
 
-abbrev pub taken_or_own : List Step → Option Borrowed → List ℕ
+abbrev pub taken_or_own : List TraceStep → Option Borrowed → List ℕ
 taken_or_own ss None = codes " took no view: it read these values itself\n"
 taken_or_own ss (Some b) = taken_lines ss b
 
 -- the view that process i took, where its scan took one
-unfoldable pub view_lines : List Step → ℕ → Option Borrowed → List ℕ
+unfoldable pub view_lines : List TraceStep → ℕ → Option Borrowed → List ℕ
 view_lines ss i view = process_text i ++ taken_or_own ss view
 
 -- the lender's scan, where a view was taken
@@ -82,7 +82,7 @@ lender_of None = None
 lender_of (Some b) = b.lender
 
 -- the views that a scan, its lender's scan, and so on took, so many at most
-abbrev pub chain_lines : List Step → Option ScanPlaces → ℕ → List ℕ
+abbrev pub chain_lines : List TraceStep → Option ScanPlaces → ℕ → List ℕ
 chain_lines ss s zero = []
 chain_lines ss None (suc more) = []
 chain_lines ss (Some s) (suc more) =
@@ -97,7 +97,7 @@ unfoldable pub call_lines : Verdict → List ℕ
 call_lines v = verdict_line v ++ codes "call" ++ goto_text v.call
 
 -- why the scan of a verdict answered so, where these are the steps of its run, so many, and this is said of its point
-unfoldable pub answer_lines : List Step → ℕ → Verdict → ℕ → (point : List ℕ) → List ℕ
+unfoldable pub answer_lines : List TraceStep → ℕ → Verdict → ℕ → (point : List ℕ) → List ℕ
 answer_lines ss count v t point = call_lines v ++ point ++ chain_lines ss (Some (scan_places v t)) count
 
 -- the first of these verdicts of a scan that item t answers

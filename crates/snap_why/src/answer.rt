@@ -1,19 +1,19 @@
 //! What `why` prints of an answered scan: its point, its double collects, and from whom it borrowed
 //! its view, if it did.
-ghost use Rattle.std.specs.Prelude.{◌≡◌, ◌≤◌, ◌<◌, ◌++◌, ◌-◌, IfSome, OnOk, Some, get_or, length};
+ghost use Rattle.std.specs.Prelude.{◌≡◌, ◌≤◌, ◌<◌, ◌-◌, IfSome, Some, get_or, length};
+ghost use Rattle.snap_text.specs.Drafted.{Adds};
 ghost use Rattle.snap_acts.specs.Loans.{step_at};
 ghost use Rattle.snap_why.specs.Answer.{answer_lines, call_lines, chain_lines, goto_line};
 ghost use Rattle.snap_why.specs.Answer.{goto_text, lender_lines, lender_of};
 ghost use Rattle.snap_why.specs.Answer.{process_text, scan_lines, taken_lines, taken_or_own};
 ghost use Rattle.snap_why.specs.Answer.{verdict_with, view_lines, writer_lines, written_lines};
 
-use snap_acts::{Borrowed, ScanPlaces, Step, view_taken};
+use snap_acts::{Borrowed, ScanPlaces, TraceStep, view_taken};
 use snap_audit::{Verdict, push_verdict_line};
-use snap_text::{push_number, push_text};
-use std::alloc::AllocError;
+use snap_text::Draft;
 
 /// Returns the item of the step at a place, and 0 if there is none.
-pub(crate) fn item_at(steps: &[Step], place: usize) -> u64
+pub(crate) fn item_at(steps: &[TraceStep], place: usize) -> u64
     ensures { result ≡ (step_at steps.now place).item }
 {
     if place < steps.len() {
@@ -24,7 +24,7 @@ pub(crate) fn item_at(steps: &[Step], place: usize) -> u64
 }
 
 /// Returns the process of the step at a place, and 0 if there is none.
-fn process_at(steps: &[Step], place: usize) -> u32
+fn process_at(steps: &[TraceStep], place: usize) -> u32
     ensures { result ≡ (step_at steps.now place).process }
 {
     if place < steps.len() {
@@ -35,123 +35,101 @@ fn process_at(steps: &[Step], place: usize) -> u32
 }
 
 /// Appends the command that goes to an item.
-#[tactic(auto, using(snap_text::proofs::Texts::joined), unfolding(crate::specs::Answer::goto_text))]
-pub(crate) fn push_goto(out: &mut Vec<u8>, item: u64) -> Result<(), AllocError>
-    ensures { OnOk result (out.new.items ≡ out.old.items ++ goto_text item) }
+#[tactic(auto, unfolding(crate::specs::Answer::goto_text))]
+pub(crate) fn push_goto(out: &mut Draft, item: u64)
+    ensures { Adds out.old out.new (goto_text item) }
 {
-    push_text(out, b": goto ")?;
-    push_number(out, item)?;
-    push_text(out, b"\n")
+    out.push(b": goto ");
+    out.push_number(item);
+    out.push(b"\n");
 }
 
 /// Appends `process I`.
-#[tactic(auto, using(snap_text::proofs::Texts::joined), unfolding(crate::specs::Answer::process_text))]
-pub(crate) fn push_process(out: &mut Vec<u8>, process: u32) -> Result<(), AllocError>
-    ensures { OnOk result (out.new.items ≡ out.old.items ++ process_text process) }
+#[tactic(auto, unfolding(crate::specs::Answer::process_text))]
+pub(crate) fn push_process(out: &mut Draft, process: u32)
+    ensures { Adds out.old out.new (process_text process) }
 {
-    push_text(out, b"process ")?;
-    push_number(out, u64::from(process))
+    out.push(b"process ");
+    out.push_number(u64::from(process));
 }
 
 /// Appends what happened at an item, and the command that goes there.
-#[tactic(auto, using(snap_text::proofs::Texts::joined), unfolding(crate::specs::Answer::goto_line))]
-pub(crate) fn push_goto_line(out: &mut Vec<u8>, what: &[u8], item: u64) -> Result<(), AllocError>
-    ensures { OnOk result (out.new.items ≡ out.old.items ++ goto_line what.now item) }
+#[tactic(auto, unfolding(crate::specs::Answer::goto_line))]
+pub(crate) fn push_goto_line(out: &mut Draft, what: &[u8], item: u64)
+    ensures { Adds out.old out.new (goto_line what.now item) }
 {
-    push_text(out, what)?;
-    push_goto(out, item)
+    out.push(what);
+    push_goto(out, item);
 }
 
 /// Appends a scan of an update.
-#[tactic(auto, using(snap_text::proofs::Texts::joined))]
-fn push_scan(out: &mut Vec<u8>, steps: &[Step], scan: ScanPlaces) -> Result<(), AllocError>
-    ensures { OnOk result (out.new.items ≡ out.old.items ++ scan_lines steps.now scan) }
+fn push_scan(out: &mut Draft, steps: &[TraceStep], scan: ScanPlaces)
+    ensures { Adds out.old out.new (scan_lines steps.now scan) }
 {
-    push_goto_line(out, b"its scan began", item_at(steps, scan.from))?;
-    push_goto_line(out, b"its scan ended", item_at(steps, scan.to))
+    push_goto_line(out, b"its scan began", item_at(steps, scan.from));
+    push_goto_line(out, b"its scan ended", item_at(steps, scan.to));
 }
 
 /// Appends the scan that saw a view, if it is in the trace.
-fn push_lender(
-    out: &mut Vec<u8>,
-    steps: &[Step],
-    scan: Option<ScanPlaces>,
-) -> Result<(), AllocError>
-    ensures { OnOk result (out.new.items ≡ out.old.items ++ lender_lines steps.now scan) }
+fn push_lender(out: &mut Draft, steps: &[TraceStep], scan: Option<ScanPlaces>)
+    ensures { Adds out.old out.new (lender_lines steps.now scan) }
 {
     match scan {
         Some(scan) => push_scan(out, steps, scan),
-        None => push_text(out, b"it is of no scan of an update\n"),
+        None => out.push(b"it is of no scan of an update\n"),
     }
 }
 
 /// Appends who wrote a view at a place, and the scan that saw it.
-#[tactic(auto, using(snap_text::proofs::Texts::joined))]
-fn push_writer(
-    out: &mut Vec<u8>,
-    steps: &[Step],
-    place: usize,
-    lender: Option<ScanPlaces>,
-) -> Result<(), AllocError>
-    ensures { OnOk result (out.new.items ≡ out.old.items ++ writer_lines steps.now place lender) }
+fn push_writer(out: &mut Draft, steps: &[TraceStep], place: usize, lender: Option<ScanPlaces>)
+    ensures { Adds out.old out.new (writer_lines steps.now place lender) }
 {
-    push_process(out, process_at(steps, place))?;
-    push_goto_line(out, b" wrote it", item_at(steps, place))?;
-    push_lender(out, steps, lender)
+    push_process(out, process_at(steps, place));
+    push_goto_line(out, b" wrote it", item_at(steps, place));
+    push_lender(out, steps, lender);
 }
 
 /// Appends who wrote the borrowed view, if a process had written it.
 #[tactic(auto, unfolding(crate::specs::Answer::written_lines))]
 fn push_written(
-    out: &mut Vec<u8>,
-    steps: &[Step],
+    out: &mut Draft,
+    steps: &[TraceStep],
     written: Option<usize>,
     lender: Option<ScanPlaces>,
-) -> Result<(), AllocError>
-    ensures { OnOk result (out.new.items ≡ out.old.items
-        ++ written_lines steps.now written lender) }
+)
+    ensures { Adds out.old out.new (written_lines steps.now written lender) }
 {
     match written {
         Some(place) => push_writer(out, steps, place, lender),
-        None => push_text(out, b"no process had written it\n"),
+        None => out.push(b"no process had written it\n"),
     }
 }
 
 /// Appends a view that was taken.
-#[tactic(auto, using(snap_text::proofs::Texts::joined))]
-fn push_taken(out: &mut Vec<u8>, steps: &[Step], view: Borrowed) -> Result<(), AllocError>
-    ensures { OnOk result (out.new.items ≡ out.old.items ++ taken_lines steps.now view) }
+fn push_taken(out: &mut Draft, steps: &[TraceStep], view: Borrowed)
+    ensures { Adds out.old out.new (taken_lines steps.now view) }
 {
-    push_goto_line(out, b" took a view", item_at(steps, view.taken))?;
-    push_written(out, steps, view.written, view.lender)
+    push_goto_line(out, b" took a view", item_at(steps, view.taken));
+    push_written(out, steps, view.written, view.lender);
 }
 
 /// Appends the borrowed view, or that there is none.
-fn push_taken_or_own(
-    out: &mut Vec<u8>,
-    steps: &[Step],
-    view: Option<Borrowed>,
-) -> Result<(), AllocError>
-    ensures { OnOk result (out.new.items ≡ out.old.items ++ taken_or_own steps.now view) }
+fn push_taken_or_own(out: &mut Draft, steps: &[TraceStep], view: Option<Borrowed>)
+    ensures { Adds out.old out.new (taken_or_own steps.now view) }
 {
     match view {
         Some(view) => push_taken(out, steps, view),
-        None => push_text(out, b" took no view: it read these values itself\n"),
+        None => out.push(b" took no view: it read these values itself\n"),
     }
 }
 
 /// Appends the view that a process took, if its scan took one.
-#[tactic(auto, using(snap_text::proofs::Texts::joined), unfolding(crate::specs::Answer::view_lines))]
-fn push_view(
-    out: &mut Vec<u8>,
-    steps: &[Step],
-    process: u32,
-    view: Option<Borrowed>,
-) -> Result<(), AllocError>
-    ensures { OnOk result (out.new.items ≡ out.old.items ++ view_lines steps.now process view) }
+#[tactic(auto, unfolding(crate::specs::Answer::view_lines))]
+fn push_view(out: &mut Draft, steps: &[TraceStep], process: u32, view: Option<Borrowed>)
+    ensures { Adds out.old out.new (view_lines steps.now process view) }
 {
-    push_process(out, process)?;
-    push_taken_or_own(out, steps, view)
+    push_process(out, process);
+    push_taken_or_own(out, steps, view);
 }
 
 /// Returns the lender's scan, if a view was taken.
@@ -162,57 +140,55 @@ fn lender_of(view: Option<Borrowed>) -> Option<ScanPlaces>
 }
 
 /// Appends the views that a scan, its lender's scan, and so on took.
-fn push_chain(out: &mut Vec<u8>, steps: &[Step], first: ScanPlaces) -> Result<(), AllocError>
+fn push_chain(out: &mut Draft, steps: &[TraceStep], first: ScanPlaces)
     requires { first.to ≤ length steps.now }
-    ensures { OnOk result (out.new.items ≡ out.old.items
-        ++ chain_lines steps.now (Some first) (length steps.now)) }
+    ensures { Adds out.old out.new (chain_lines steps.now (Some first) (length steps.now)) }
 {
     let mut next = Some(first);
     let mut left = steps.len();
     while left > 0 {
         let Some(scan) = next else {
-            return Ok(());
+            return;
         };
         let view = view_taken(steps, scan);
-        push_view(out, steps, scan.process, view)?;
+        push_view(out, steps, scan.process, view);
         next = lender_of(view);
         left -= 1;
     }
-    Ok(())
 }
 
 /// Appends a verdict, and the call.
-#[tactic(auto, using(snap_text::proofs::Texts::joined), unfolding(crate::specs::Answer::call_lines))]
-fn push_call(out: &mut Vec<u8>, verdict: &Verdict) -> Result<(), AllocError>
-    ensures { OnOk result (out.new.items ≡ out.old.items ++ call_lines verdict.now) }
+#[tactic(auto, unfolding(crate::specs::Answer::call_lines))]
+fn push_call(out: &mut Draft, verdict: &Verdict)
+    ensures { Adds out.old out.new (call_lines verdict.now) }
 {
-    push_verdict_line(out, verdict)?;
-    push_text(out, b"call")?;
-    push_goto(out, verdict.call)
+    push_verdict_line(out, verdict);
+    out.push(b"call");
+    push_goto(out, verdict.call);
 }
 
 /// Appends why the scan of a verdict answered so, which an item answers, with what is said of its
 /// point.
-#[tactic(auto, using(snap_text::proofs::Texts::joined), unfolding(crate::specs::Answer::answer_lines))]
+#[tactic(auto, unfolding(crate::specs::Answer::answer_lines))]
 pub(crate) fn push_answer(
-    out: &mut Vec<u8>,
-    steps: &[Step],
+    out: &mut Draft,
+    steps: &[TraceStep],
     verdict: &Verdict,
     item: u64,
     point: &[u8],
-) -> Result<(), AllocError>
+)
     requires { item ≤ length steps.now }
-    ensures { OnOk result (out.new.items ≡ out.old.items
-        ++ answer_lines steps.now (length steps.now) verdict.now item point.now) }
+    ensures { Adds out.old out.new
+        (answer_lines steps.now (length steps.now) verdict.now item point.now) }
 {
-    push_call(out, verdict)?;
-    push_text(out, point)?;
+    push_call(out, verdict);
+    out.push(point);
     let scan = ScanPlaces {
         process: verdict.process,
         from: verdict.call.saturating_sub(1) as usize,
         to: item.saturating_sub(1) as usize,
     };
-    push_chain(out, steps, scan)
+    push_chain(out, steps, scan);
 }
 
 /// Returns the verdict of the scan that an item answers.

@@ -12,7 +12,7 @@ use snap_asm_program::Program;
 use snap_record::Record;
 use snap_run_judge::{MOST_CONFIGURATIONS, judge_record, push_verdict};
 use snap_sched::Schedule;
-use snap_text::push_text;
+use snap_text::Draft;
 use snap_words::Kind;
 use std::alloc::{AllocError, Global};
 
@@ -20,9 +20,9 @@ use std::alloc::{AllocError, Global};
 fn point_line(alloc: Global, point: u64) -> Result<Vec<u8>, AllocError>
     ensures { IfOk result (λ text. text.items ≡ goto_line (codes "point") point) }
 {
-    let mut text = Vec::new(alloc);
-    push_goto_line(&mut text, b"point", point)?;
-    Ok(text)
+    let mut text = Draft::new(alloc);
+    push_goto_line(&mut text, b"point", point);
+    text.finish()
 }
 
 /// Returns that a scan has no point, and the verdict on the run of a record, which ends with its
@@ -33,14 +33,11 @@ fn no_point_lines<K: Kind>(alloc: Global, record: &Record<K>) -> Result<Vec<u8>,
         × (text.items ≡ no_point_lines record.now j)) }
 {
     let judgement = judge_record(alloc, record, MOST_CONFIGURATIONS)?;
-    let mut text = Vec::new(alloc);
-    push_text(
-        &mut text,
-        b"point: none, memory never held this from the call to the answer\n",
-    )?;
-    push_text(&mut text, b"up to this answer: ")?;
-    push_verdict(&mut text, record, &judgement)?;
-    Ok(text)
+    let mut text = Draft::new(alloc);
+    text.push(b"point: none, memory never held this from the call to the answer\n");
+    text.push(b"up to this answer: ");
+    push_verdict(&mut text, record, &judgement);
+    text.finish()
 }
 
 /// Returns the text on the point of a scan, which an item answers. If there is none, the run up to

@@ -1,5 +1,5 @@
 //! The printed text of a `Trouble`, the operand at which a line traps.
-ghost use Rattle.std.specs.Prelude.{◌≡◌, ◌++◌, OnOk};
+ghost use Rattle.snap_text.specs.Drafted.{Adds};
 ghost use Rattle.snap_why.specs.declared.trouble.Trouble.TheVariants.{LargeSum, NoBit};
 ghost use Rattle.snap_why.specs.declared.trouble.Trouble.TheVariants.{NoPlace, NotOwn};
 ghost use Rattle.snap_why.specs.TroubleText.{bank_text, index_text, register_text};
@@ -7,115 +7,106 @@ ghost use Rattle.snap_why.specs.TroubleText.{second_text, trouble_text, valued_i
 
 use crate::trouble::Trouble;
 use snap_semantics::Index;
-use snap_text::{push_number, push_text};
+use snap_text::Draft;
 use snap_words::Bank;
-use std::alloc::AllocError;
 
 /// Appends an index as it stands in a listing.
-fn push_index(out: &mut Vec<u8>, index: &Index) -> Result<(), AllocError>
-    ensures { OnOk result (out.new.items ≡ out.old.items ++ index_text index.now) }
+fn push_index(out: &mut Draft, index: &Index)
+    ensures { Adds out.old out.new (index_text index.now) }
 {
     match index {
-        Index::Number(number) => push_number(out, *number),
-        Index::Processes => push_text(out, b"n"),
-        Index::Words => push_text(out, b"w"),
-        Index::Me => push_text(out, b"me"),
-        Index::Word => push_text(out, b"word"),
-        Index::Place => push_text(out, b"@"),
-        Index::Scalar(name) => push_text(out, name.letters()),
+        Index::Number(number) => out.push_number(*number),
+        Index::Processes => out.push(b"n"),
+        Index::Words => out.push(b"w"),
+        Index::Me => out.push(b"me"),
+        Index::Word => out.push(b"word"),
+        Index::Place => out.push(b"@"),
+        Index::Scalar(name) => out.push(name.letters()),
     }
 }
 
 /// Appends the letter of a bank.
-fn push_bank(out: &mut Vec<u8>, bank: Bank) -> Result<(), AllocError>
-    ensures { OnOk result (out.new.items ≡ out.old.items ++ bank_text bank) }
+fn push_bank(out: &mut Draft, bank: Bank)
+    ensures { Adds out.old out.new (bank_text bank) }
 {
     match bank {
-        Bank::R => push_text(out, b"r"),
-        Bank::Q => push_text(out, b"q"),
-        Bank::P => push_text(out, b"p"),
-        Bank::V => push_text(out, b"v"),
+        Bank::R => out.push(b"r"),
+        Bank::Q => out.push(b"q"),
+        Bank::P => out.push(b"p"),
+        Bank::V => out.push(b"v"),
     }
 }
 
 /// Appends a second index, if there is one.
-#[tactic(auto, using(snap_text::proofs::Texts::joined))]
-fn push_second(out: &mut Vec<u8>, j: u64) -> Result<(), AllocError>
-    ensures { OnOk result (out.new.items ≡ out.old.items ++ second_text j) }
+fn push_second(out: &mut Draft, j: u64)
+    ensures { Adds out.old out.new (second_text j) }
 {
-    if j == 0 {
-        return push_text(out, b"");
+    if j != 0 {
+        out.push(b" ");
+        out.push_number(j);
     }
-    push_text(out, b" ")?;
-    push_number(out, j)
 }
 
 /// Appends an index with its value.
-#[tactic(auto, using(snap_text::proofs::Texts::joined), unfolding(crate::specs::TroubleText::valued_index))]
-fn push_valued_index(out: &mut Vec<u8>, index: &Index, value: u64) -> Result<(), AllocError>
-    ensures { OnOk result (out.new.items ≡ out.old.items ++ valued_index index.now value) }
+#[tactic(auto, unfolding(crate::specs::TroubleText::valued_index))]
+fn push_valued_index(out: &mut Draft, index: &Index, value: u64)
+    ensures { Adds out.old out.new (valued_index index.now value) }
 {
-    push_text(out, b"the index ")?;
-    push_index(out, index)?;
-    push_text(out, b" is ")?;
-    push_number(out, value)
+    out.push(b"the index ");
+    push_index(out, index);
+    out.push(b" is ");
+    out.push_number(value);
 }
 
 /// Appends a register.
-#[tactic(auto, using(snap_text::proofs::Texts::joined))]
-fn push_register(out: &mut Vec<u8>, bank: Bank, i: u64, j: u64) -> Result<(), AllocError>
-    ensures { OnOk result (out.new.items ≡ out.old.items ++ register_text bank i j) }
+fn push_register(out: &mut Draft, bank: Bank, i: u64, j: u64)
+    ensures { Adds out.old out.new (register_text bank i j) }
 {
-    push_text(out, b"the register ")?;
-    push_bank(out, bank)?;
-    push_text(out, b" ")?;
-    push_number(out, i)?;
-    push_second(out, j)
+    out.push(b"the register ");
+    push_bank(out, bank);
+    out.push(b" ");
+    out.push_number(i);
+    push_second(out, j);
 }
 
 /// Appends an index that is no place.
-#[tactic(auto, using(snap_text::proofs::Texts::joined))]
-fn push_no_place(out: &mut Vec<u8>, index: &Index, value: u64, count: u64) -> Result<(), AllocError>
-    ensures { OnOk result (out.new.items ≡ out.old.items
-        ++ trouble_text (NoPlace index.now value count)) }
+fn push_no_place(out: &mut Draft, index: &Index, value: u64, count: u64)
+    ensures { Adds out.old out.new (trouble_text (NoPlace index.now value count)) }
 {
-    push_valued_index(out, index, value)?;
-    push_text(out, b", and its places are 1 to ")?;
-    push_number(out, count)?;
-    push_text(out, b"\n")
+    push_valued_index(out, index, value);
+    out.push(b", and its places are 1 to ");
+    out.push_number(count);
+    out.push(b"\n");
 }
 
 /// Appends a sum that is above 2^64 - 1.
-#[tactic(auto, using(snap_text::proofs::Texts::joined))]
-fn push_large_sum(out: &mut Vec<u8>, left: u64, right: u64) -> Result<(), AllocError>
-    ensures { OnOk result (out.new.items ≡ out.old.items ++ trouble_text (LargeSum left right)) }
+fn push_large_sum(out: &mut Draft, left: u64, right: u64)
+    ensures { Adds out.old out.new (trouble_text (LargeSum left right)) }
 {
-    push_text(out, b"the sum ")?;
-    push_number(out, left)?;
-    push_text(out, b" + ")?;
-    push_number(out, right)?;
-    push_text(out, b" is above 18446744073709551615\n")
+    out.push(b"the sum ");
+    out.push_number(left);
+    out.push(b" + ");
+    out.push_number(right);
+    out.push(b" is above 18446744073709551615\n");
 }
 
 /// Appends a value that is no bit.
-#[tactic(auto, using(snap_text::proofs::Texts::joined))]
-fn push_no_bit(out: &mut Vec<u8>, value: u64) -> Result<(), AllocError>
-    ensures { OnOk result (out.new.items ≡ out.old.items ++ trouble_text (NoBit value)) }
+fn push_no_bit(out: &mut Draft, value: u64)
+    ensures { Adds out.old out.new (trouble_text (NoBit value)) }
 {
-    push_text(out, b"the value to be written is ")?;
-    push_number(out, value)?;
-    push_text(out, b", which is no bit\n")
+    out.push(b"the value to be written is ");
+    out.push_number(value);
+    out.push(b", which is no bit\n");
 }
 
 /// Appends a register of another process.
-#[tactic(auto, using(snap_text::proofs::Texts::joined))]
-fn push_not_own(out: &mut Vec<u8>, bank: Bank, i: u64, j: u64) -> Result<(), AllocError>
-    ensures { OnOk result (out.new.items ≡ out.old.items ++ trouble_text (NotOwn bank i j)) }
+fn push_not_own(out: &mut Draft, bank: Bank, i: u64, j: u64)
+    ensures { Adds out.old out.new (trouble_text (NotOwn bank i j)) }
 {
-    push_register(out, bank, i, j)?;
-    push_text(out, b" is written by process ")?;
-    push_number(out, i)?;
-    push_text(out, b" alone\n")
+    push_register(out, bank, i, j);
+    out.push(b" is written by process ");
+    out.push_number(i);
+    out.push(b" alone\n");
 }
 
 /// Appends the text on an operand at which a line traps.
@@ -123,8 +114,8 @@ fn push_not_own(out: &mut Vec<u8>, bank: Bank, i: u64, j: u64) -> Result<(), All
 /// # Errors
 ///
 /// `AllocError` where memory runs out.
-pub fn push_trouble(out: &mut Vec<u8>, trouble: &Trouble) -> Result<(), AllocError>
-    ensures { OnOk result (out.new.items ≡ out.old.items ++ trouble_text trouble.now) }
+pub fn push_trouble(out: &mut Draft, trouble: &Trouble)
+    ensures { Adds out.old out.new (trouble_text trouble.now) }
 {
     match trouble {
         Trouble::NoPlace(index, value, count) => push_no_place(out, index, *value, *count),

@@ -1,7 +1,8 @@
 //! `push_why`: what `why` prints of an item of a run, be it the answer of a scan, a trap, or
 //! neither.
-ghost use Rattle.std.specs.Prelude.{◌≡◌, ◌≤◌, ◌<◌, ◌++◌, ℕ, List};
+ghost use Rattle.std.specs.Prelude.{◌≡◌, ◌≤◌, ◌<◌, ℕ, List};
 ghost use Rattle.std.specs.Prelude.{IfOk, IfSome, OnOk, None, length, map, option_map};
+ghost use Rattle.snap_text.specs.Drafted.{Adds};
 ghost use Rattle.snap_words.specs.Shape.{IsOneOf};
 ghost use Rattle.snap_semantics.specs.State.{process_at};
 ghost use Rattle.snap_runs.specs.Audit.{audit};
@@ -16,13 +17,13 @@ ghost use Rattle.snap_why.specs.Why.{nothing_lines, trapped_at, trapped_by};
 use crate::answer::{item_at, push_answer, push_goto_line, verdict_with};
 use crate::point::point_text;
 use crate::trap::push_trap;
-use snap_acts::{Act, Step, Wanted, first_from, last_before, trace};
+use snap_acts::{Act, StepPattern, TraceStep, first_from, last_before, trace};
 use snap_asm_program::Program;
 use snap_audit::{Verdict, audit};
 use snap_listing::LineTexts;
 use snap_record::{Record, record_over};
 use snap_sched::Schedule;
-use snap_text::push_text;
+use snap_text::Draft;
 use snap_words::Kind;
 use std::alloc::{AllocError, Global};
 
@@ -40,7 +41,7 @@ fn verdicts_over<K: Kind>(
 }
 
 /// Returns the process that a step leaves trapped.
-fn trapped_by(step: &Step) -> Option<u32>
+fn trapped_by(step: &TraceStep) -> Option<u32>
     ensures { result ≡ trapped_by step.now.process step.now.act }
 {
     match &step.act {
@@ -50,7 +51,7 @@ fn trapped_by(step: &Step) -> Option<u32>
 }
 
 /// Returns the process that traps at an item.
-fn trapped_at(steps: &[Step], item: u64) -> Option<u32>
+fn trapped_at(steps: &[TraceStep], item: u64) -> Option<u32>
     requires { item ≤ length steps.now }
     ensures { result ≡ trapped_at steps.now item }
 {
@@ -62,7 +63,7 @@ fn trapped_at(steps: &[Step], item: u64) -> Option<u32>
 }
 
 /// Returns the item of a step.
-fn item_of(step: Option<&Step>) -> Option<u64>
+fn item_of(step: Option<&TraceStep>) -> Option<u64>
     ensures { result ≡ item_of (option_map (λ s. s.now) step.entry) }
 {
     match step {
@@ -72,7 +73,7 @@ fn item_of(step: Option<&Step>) -> Option<u64>
 }
 
 /// Returns the item of the step at a place.
-fn item_there(steps: &[Step], place: Option<usize>) -> Option<u64>
+fn item_there(steps: &[TraceStep], place: Option<usize>) -> Option<u64>
     ensures { result ≡ item_there steps.now place }
 {
     match place {
@@ -82,7 +83,7 @@ fn item_there(steps: &[Step], place: Option<usize>) -> Option<u64>
 }
 
 /// Returns the process that traps at an item of `schedule`, which has such an item.
-fn trapped_in(program: &Program, schedule: &Schedule, steps: &[Step], item: u64) -> Option<u32>
+fn trapped_in(program: &Program, schedule: &Schedule, steps: &[TraceStep], item: u64) -> Option<u32>
     requires steps { steps.now ≡ trace_of (run_over program.now schedule.now) }
     requires within { item ≤ length schedule.now.items }
     requires as_many { item ≤ length steps.now }
@@ -94,8 +95,8 @@ fn trapped_in(program: &Program, schedule: &Schedule, steps: &[Step], item: u64)
 }
 
 /// Appends that there is nothing to explain from here on, and where there was.
-fn push_last(out: &mut Vec<u8>, last: Option<u64>) -> Result<(), AllocError>
-    ensures { OnOk result (out.new.items ≡ out.old.items ++ nothing_line None last) }
+fn push_last(out: &mut Draft, last: Option<u64>)
+    ensures { Adds out.old out.new (nothing_line None last) }
 {
     match last {
         Some(item) => push_goto_line(
@@ -103,8 +104,7 @@ fn push_last(out: &mut Vec<u8>, last: Option<u64>) -> Result<(), AllocError>
             b"nothing to explain here; the last answer or trap",
             item,
         ),
-        None => push_text(
-            out,
+        None => out.push(
             b"nothing to explain here, nor at another item: no scan is answered, \
 and no process traps\n",
         ),
@@ -112,8 +112,8 @@ and no process traps\n",
 }
 
 /// Appends that there is nothing to explain, and where there is.
-fn push_nothing(out: &mut Vec<u8>, next: Option<u64>, last: Option<u64>) -> Result<(), AllocError>
-    ensures { OnOk result (out.new.items ≡ out.old.items ++ nothing_line next last) }
+fn push_nothing(out: &mut Draft, next: Option<u64>, last: Option<u64>)
+    ensures { Adds out.old out.new (nothing_line next last) }
 {
     match next {
         Some(item) => push_goto_line(
@@ -127,13 +127,13 @@ fn push_nothing(out: &mut Vec<u8>, next: Option<u64>, last: Option<u64>) -> Resu
 
 /// Appends that there is nothing to explain of an item, and where there is.
 #[tactic(auto, unfolding(crate::specs::Why::nothing_lines))]
-fn push_nothing_at(out: &mut Vec<u8>, steps: &[Step], item: u64) -> Result<(), AllocError>
+fn push_nothing_at(out: &mut Draft, steps: &[TraceStep], item: u64)
     requires { item ≤ length steps.now }
-    ensures { OnOk result (out.new.items ≡ out.old.items ++ nothing_lines steps.now item) }
+    ensures { Adds out.old out.new (nothing_lines steps.now item) }
 {
-    let next = first_from(steps, item as usize, Wanted::AnswerOrTrap);
-    let last = last_before(steps, item as usize, Wanted::AnswerOrTrap);
-    push_nothing(out, item_of(next), item_there(steps, last))
+    let next = first_from(steps, item as usize, StepPattern::AnswerOrTrap);
+    let last = last_before(steps, item as usize, StepPattern::AnswerOrTrap);
+    push_nothing(out, item_of(next), item_there(steps, last));
 }
 
 /// Returns the record of the first items of a schedule.
@@ -160,7 +160,7 @@ pub(crate) fn record_of_first<K: Kind>(
 /// Appends why the process of an item trapped.
 fn push_trap_at<K: Kind>(
     alloc: Global,
-    out: &mut Vec<u8>,
+    out: &mut Draft,
     program: &Program,
     schedule: &Schedule,
     texts: &LineTexts,
@@ -172,11 +172,12 @@ fn push_trap_at<K: Kind>(
     requires texts { texts.now ≡ map written program.now.lines }
     requires process { IsOneOf schedule.now.shape.n process }
     ensures { let s = state (run_over program.now schedule.now) item in OnOk result
-        (out.new.items ≡ out.old.items ++ trap_lines program.now schedule.now.shape s process
-        (process_at s process).status) }
+        (Adds out.old out.new
+        (trap_lines program.now schedule.now.shape s process (process_at s process).status)) }
 {
     let record = record_of_first::<K>(alloc, program, schedule, item)?;
-    push_trap(out, texts, record.machine(), process)
+    push_trap(out, texts, record.machine(), process);
+    Ok(())
 }
 
 /// Appends why the scan that item `item` answered had this answer, or why the process of the item
@@ -189,7 +190,7 @@ fn push_trap_at<K: Kind>(
 #[tactic(auto, using(crate::proofs::Traces::as_many))]
 pub fn push_why<K: Kind>(
     alloc: Global,
-    out: &mut Vec<u8>,
+    out: &mut Draft,
     program: &Program,
     schedule: &Schedule,
     texts: &LineTexts,
@@ -199,16 +200,20 @@ pub fn push_why<K: Kind>(
     requires within { item ≤ length schedule.now.items }
     requires texts { texts.now ≡ map written program.now.lines }
     ensures { OnOk result ((text : List ℕ) × IsWhy (run_over program.now schedule.now) item text
-        × (out.new.items ≡ out.old.items ++ text)) }
+        × Adds out.old out.new text) }
 {
     let verdicts = verdicts_over::<K>(alloc, program, schedule)?;
     let steps = trace::<K>(alloc, program, schedule)?;
     if let Some(verdict) = verdict_with(verdicts.as_slice(), item) {
         let point = point_text::<K>(alloc, program, schedule, verdict.point, item)?;
-        return push_answer(out, steps.as_slice(), &verdict, item, point.as_slice());
+        push_answer(out, steps.as_slice(), &verdict, item, point.as_slice());
+        return Ok(());
     }
     match trapped_in(program, schedule, steps.as_slice(), item) {
-        Some(process) => { push_trap_at::<K>(alloc, out, program, schedule, texts, item, process) }
-        None => push_nothing_at(out, steps.as_slice(), item),
+        Some(process) => push_trap_at::<K>(alloc, out, program, schedule, texts, item, process),
+        None => {
+            push_nothing_at(out, steps.as_slice(), item);
+            Ok(())
+        }
     }
 }

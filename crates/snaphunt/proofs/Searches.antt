@@ -13,7 +13,7 @@ use Rattle.snap_streams.specs.declared.file_fault.FileFault.{FileFault}
 use Rattle.snap_streams.specs.declared.file_fault.FileFault.TheVariants as file
 use Rattle.snap_streams.proofs.Texts.{text_read}
 use Rattle.snap_hunt_output.specs.Hunted.{IsDue}
-use Rattle.snap_hunt_output.specs.declared.asked.Asked.{Asked}
+use Rattle.snap_hunt_output.specs.declared.hunt_request.HuntRequest.{HuntRequest}
 use Rattle.snap_hunt_output.specs.declared.hunted.Hunted.{Hunted}
 use Rattle.snaphunt.specs.Search.{Named, File, Shipped}
 use Rattle.snaphunt.specs.Answer.{Hunts, HuntsIn}
@@ -41,7 +41,7 @@ file_unread files name e h =
     unread files name e read.0 read.1 read.2
 
 -- a hunt came to nothing, and nothing was printed
-pub nothing_came : (text : List ℕ) (a : Asked) (e : ProgramFault) (sink : SinkState) → IsDue text a e →
+pub nothing_came : (text : List ℕ) (a : HuntRequest) (e : ProgramFault) (sink : SinkState) → IsDue text a e →
     HuntsIn text a (Err e) sink sink
 nothing_came text a fault.Memory sink h = (Err fault.Memory, h, refl)
 nothing_came text a (fault.Write n) sink h = absurd h
@@ -63,21 +63,21 @@ no_write files (File name) n h = no_write_read n h.0 h.2
 no_write files (Shipped g) n h = no_write_shipped n h.0 (Err (fault.Write n)) refl h.1
 
 -- there is no text to hunt in, and nothing was printed
-pub no_text : (files : List ℕ → Option (Result (List ℕ) ErrorKind)) (named : Named) (a : Asked) (e : ProgramFault)
+pub no_text : (files : List ℕ → Option (Result (List ℕ) ErrorKind)) (named : Named) (a : HuntRequest) (e : ProgramFault)
     (text : List ℕ) (sink : SinkState) →
     GivesText files named (Err e) → Hunts files named a text (Err e) sink sink
 no_text files named a fault.Memory text sink h = (Err fault.Memory, tt, refl)
 no_text files named a (fault.Write n) text sink h = absurd (no_write files named n h)
 no_text files named a e text sink h = (Err e, inl h, (refl, refl))
 
-in_text : (files : List ℕ → Option (Result (List ℕ) ErrorKind)) (named : Named) (a : Asked) (text : List ℕ)
+in_text : (files : List ℕ → Option (Result (List ℕ) ErrorKind)) (named : Named) (a : HuntRequest) (text : List ℕ)
     (r : Result Hunted ProgramFault) → IsText files named (Ok text) → ComesTo text a r → IsSearched files named a text r
 in_text files named a text (Ok h) is comes = (is, comes)
 in_text files named a text (Err fault.Memory) is comes = tt
 in_text files named a text (Err e) is comes = inr (is, comes)
 
 -- there is one, and this was printed of a hunt in it
-pub with_text : (files : List ℕ → Option (Result (List ℕ) ErrorKind)) (named : Named) (a : Asked) (text : List ℕ)
+pub with_text : (files : List ℕ → Option (Result (List ℕ) ErrorKind)) (named : Named) (a : HuntRequest) (text : List ℕ)
     (done : Result Hunted ProgramFault) (sink sink_after : SinkState) → IsText files named (Ok text) →
     HuntsIn text a done sink sink_after → Hunts files named a text done sink sink_after
 with_text files named a text done sink sink_after is h = (h.0, in_text files named a text h.0 is h.1, h.2)

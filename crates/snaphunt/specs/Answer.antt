@@ -13,7 +13,7 @@ use Rattle.snap_faults.specs.declared.fault.ProgramFault.TheVariants as fault
 use Rattle.snap_semantics.specs.declared.refusal.Refusal.TheVariants as refusal
 use Rattle.snap_explanation.specs.Explanation.{explanation}
 use Rattle.snap_explanation.specs.declared.layout.Layout.TheVariants as layout
-use Rattle.snap_hunt_output.specs.declared.asked.Asked.{Asked}
+use Rattle.snap_hunt_output.specs.declared.hunt_request.HuntRequest.{HuntRequest}
 use Rattle.snap_hunt_output.specs.declared.hunted.Hunted.{Hunted}
 use Rattle.snap_hunt_output.specs.declared.hunted.Hunted.TheVariants as hunted
 use Rattle.snaphunt.specs.Search.{Named, File, Shipped, view_listed}
@@ -34,7 +34,7 @@ names_of (Shipped kind) = of_program (codes "snaphunt")
 
 -- What was printed of a hunt that came to this, or of one that came to nothing: all of its text; or what the sink took
 -- before it failed or took nothing; or nothing at all.
-abbrev pub Prints : Asked → (came done : Result Hunted ProgramFault) → (sink sink_after : SinkState) → Type 0
+abbrev pub Prints : HuntRequest → (came done : Result Hunted ProgramFault) → (sink sink_after : SinkState) → Type 0
 Prints a came (Ok h) sink sink_after =
     (came ≡ Ok h) × ((u : Result (Unit {0}) Unsent) × (u ≡ Ok tt) × Sends unsent u (hunted_text a h) sink sink_after)
 Prints a came (Err (fault.Write n)) sink sink_after =
@@ -44,13 +44,13 @@ Prints a came (Err fault.Memory) sink sink_after = sink ≡ sink_after
 Prints a came (Err f) sink sink_after = (came ≡ Err f) × (sink ≡ sink_after)
 
 -- What was done about a hunt in the runs of the listing that a text is, and what was printed of it.
-abbrev pub HuntsIn : (text : List ℕ) → Asked → Result Hunted ProgramFault → (sink sink_after : SinkState) → Type 0
+abbrev pub HuntsIn : (text : List ℕ) → HuntRequest → Result Hunted ProgramFault → (sink sink_after : SinkState) → Type 0
 HuntsIn text a done sink sink_after =
     (came : Result Hunted ProgramFault) × ComesTo text a came × Prints a came done sink sink_after
 
 -- What was done about a search in the runs of the listing that is named, whose text this is where it has one, and what
 -- was printed of it.
-abbrev pub Hunts : (files : List ℕ → Option (Result (List ℕ) ErrorKind)) → Named → Asked → (text : List ℕ) →
+abbrev pub Hunts : (files : List ℕ → Option (Result (List ℕ) ErrorKind)) → Named → HuntRequest → (text : List ℕ) →
     Result Hunted ProgramFault → (sink sink_after : SinkState) → Type 0
 Hunts files named a text done sink sink_after =
     (came : Result Hunted ProgramFault) × IsSearched files named a text came × Prints a came done sink sink_after

@@ -13,7 +13,7 @@ use Rattle.snap_faults.specs.declared.files.Which.TheVariants as which
 use Rattle.snap_streams.specs.FileTexts.{IsTextOf}
 use Rattle.snap_streams.specs.declared.file_fault.FileFault.{FileFault}
 use Rattle.snap_hunt_output.specs.Hunted.{IsDue, IsHunted}
-use Rattle.snap_hunt_output.specs.declared.asked.Asked.{Asked}
+use Rattle.snap_hunt_output.specs.declared.hunt_request.HuntRequest.{HuntRequest}
 use Rattle.snap_hunt_output.specs.declared.hunted.Hunted.{Hunted}
 use Rattle.snap_hunt_output.specs.declared.hunted.Hunted.TheVariants as hunted
 use Rattle.snaphunt.specs.Search.{Named, File, Shipped}
@@ -36,13 +36,13 @@ GivesText files named (Err fault.Memory) = ⊤
 GivesText files named (Err f) = IsText files named (Err f)
 
 -- A hunt in the runs of the listing that a text is comes to this.
-abbrev pub ComesTo : List ℕ → Asked → Result Hunted ProgramFault → Type 0
+abbrev pub ComesTo : List ℕ → HuntRequest → Result Hunted ProgramFault → Type 0
 ComesTo text a (Ok h) = IsHunted text a h
 ComesTo text a (Err f) = IsDue text a f
 
 -- There is no text for this reason, or there is one, and the hunt in it has this result. A want of memory may stand in
 -- the place of all.
-abbrev pub IsSearched : (files : List ℕ → Option (Result (List ℕ) ErrorKind)) → Named → Asked → (text : List ℕ) →
+abbrev pub IsSearched : (files : List ℕ → Option (Result (List ℕ) ErrorKind)) → Named → HuntRequest → (text : List ℕ) →
     Result Hunted ProgramFault → Type 0
 IsSearched files named a text (Err fault.Memory) = ⊤
 IsSearched files named a text (Ok h) = IsText files named (Ok text) × IsHunted text a h
@@ -50,10 +50,10 @@ IsSearched files named a text (Err f) =
     IsText files named (Err f) ⊎ (IsText files named (Ok text) × ComesTo text a (Err f))
 
 -- what is printed where none of the runs fails
-abbrev pub none_text : Asked → List ℕ
+abbrev pub none_text : HuntRequest → List ℕ
 none_text a = codes "none of " ++ decimal a.runs ++ codes " runs of seed " ++ decimal a.seed ++ codes " fails\n"
 
 -- what is printed of what a hunt came to
-abbrev pub hunted_text : Asked → Hunted → List ℕ
+abbrev pub hunted_text : HuntRequest → Hunted → List ℕ
 hunted_text a hunted.NoneFails = none_text a
 hunted_text a (hunted.Fails k f input) = input.items

@@ -16,7 +16,7 @@ use snap_faults::{
     Names, ProgramFault, complain, fault_status, help, say_no_memory, say_no_text, tell,
 };
 use snap_hunt::Watcher;
-use snap_hunt_output::{Asked, Hunted, hunt_listing};
+use snap_hunt_output::{HuntRequest, Hunted, hunt_listing};
 use snap_semantics::Refusal;
 use snap_streams::{ByteSink, FileSource, say, write_all};
 use std::alloc::{AllocError, Global};
@@ -52,7 +52,7 @@ fn hunted_status(hunted: &Hunted) -> u8
 /// Prints the result of a hunt.
 fn print<W: ByteSink>(
     alloc: Global,
-    asked: &Asked,
+    asked: &HuntRequest,
     hunted: Hunted,
     sink: &mut W,
 ) -> Result<Hunted, ProgramFault>
@@ -74,7 +74,7 @@ fn hunt_in<W: Watcher, S: ByteSink>(
     threads: &(impl Threads + Sync),
     alloc: Global,
     listing: &[u8],
-    asked: &Asked,
+    asked: &HuntRequest,
     watcher: &mut W,
     sink: &mut S,
 ) -> Result<Hunted, ProgramFault>

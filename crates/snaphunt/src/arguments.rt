@@ -8,7 +8,7 @@ use clap::error::ErrorKind;
 use clap::{Arg, ArgAction, ArgMatches, Command, Error};
 use snap_chance::{MAX_TURNS, Pace, Plan};
 use snap_hunt::{StepBound, Wanted};
-use snap_hunt_output::Asked;
+use snap_hunt_output::HuntRequest;
 use snap_options::is_given;
 use snap_tasks::kind_of;
 use snap_words::{KindTag, MAX_COUNT, Shape};
@@ -83,7 +83,7 @@ pub enum Listed<'a> {
 #[derive(Clone, Copy)]
 pub struct Search<'a> {
     pub listed: Listed<'a>,
-    pub asked: Asked,
+    pub asked: HuntRequest,
     pub explains: bool,
 }
 
@@ -324,7 +324,7 @@ fn search_of<'a>(arguments: &ArgMatches<'a>) -> Option<Search<'a>>
     }
     Some(Search {
         listed: listed_of(arguments.get_str("LISTING"), shipped)?,
-        asked: Asked {
+        asked: HuntRequest {
             plan: plan_of(arguments)?,
             wanted: wanted_of(arguments)?,
             seed: number_of(arguments, "seed")?,

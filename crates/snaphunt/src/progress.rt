@@ -2,7 +2,7 @@
 
 use snap_hunt::Watcher;
 use snap_streams::{Std, say};
-use snap_text::{push_number, push_text};
+use snap_text::Draft;
 use std::alloc::{AllocError, Global};
 use std::io::IsTerminal;
 use std::time::Instant;
@@ -16,17 +16,17 @@ fn line_of(
     pace: u64,
     left: u64,
 ) -> Result<Vec<u8>, AllocError> {
-    let mut line = Vec::new(alloc);
-    push_text(&mut line, b"\r")?;
-    push_number(&mut line, runs)?;
-    push_text(&mut line, b" of ")?;
-    push_number(&mut line, all)?;
-    push_text(&mut line, b" runs tried, ")?;
-    push_number(&mut line, pace)?;
-    push_text(&mut line, b" a second, ")?;
-    push_number(&mut line, left)?;
-    push_text(&mut line, b" s left  ")?;
-    Ok(line)
+    let mut line = Draft::new(alloc);
+    line.push(b"\r");
+    line.push_number(runs);
+    line.push(b" of ");
+    line.push_number(all);
+    line.push(b" runs tried, ");
+    line.push_number(pace);
+    line.push(b" a second, ");
+    line.push_number(left);
+    line.push(b" s left  ");
+    line.finish()
 }
 
 /// Says how far a hunt is, once a second, if standard error is a terminal. The last line stays

@@ -8,10 +8,10 @@ ghost use Rattle.snaphunt.specs.Search.{view_listed};
 
 use crate::arguments::Listed;
 use snap_faults::{ProgramFault, Which, of_file};
-use snap_hunt_output::{Asked, Hunted};
+use snap_hunt_output::{HuntRequest, Hunted};
 use snap_shipped::{text_b, text_m, text_u};
 use snap_streams::FileSource;
-use snap_text::{push_number, push_text};
+use snap_text::Draft;
 use snap_words::KindTag;
 use std::alloc::{AllocError, Global};
 
@@ -51,23 +51,22 @@ pub(crate) fn text_of<F: FileSource>(
 }
 
 /// Returns what is printed if none of the runs fails.
-#[tactic(auto, using(snap_text::proofs::Texts::joined))]
-fn none_text(alloc: Global, asked: &Asked) -> Result<Vec<u8>, AllocError>
+fn none_text(alloc: Global, asked: &HuntRequest) -> Result<Vec<u8>, AllocError>
     ensures { IfOk result (λ text. text.items ≡ none_text asked.now) }
 {
-    let mut text = Vec::new(alloc);
-    push_text(&mut text, b"none of ")?;
-    push_number(&mut text, asked.runs)?;
-    push_text(&mut text, b" runs of seed ")?;
-    push_number(&mut text, asked.seed)?;
-    push_text(&mut text, b" fails\n")?;
-    Ok(text)
+    let mut text = Draft::new(alloc);
+    text.push(b"none of ");
+    text.push_number(asked.runs);
+    text.push(b" runs of seed ");
+    text.push_number(asked.seed);
+    text.push(b" fails\n");
+    text.finish()
 }
 
 /// Returns what is printed of the result of a hunt.
 pub(crate) fn hunted_text(
     alloc: Global,
-    asked: &Asked,
+    asked: &HuntRequest,
     hunted: &Hunted,
 ) -> Result<Vec<u8>, AllocError>
     ensures { IfOk result (λ text. text.items ≡ hunted_text asked.now hunted.now) }

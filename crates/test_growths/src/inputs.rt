@@ -3,7 +3,7 @@
 ghost use Rattle.std.specs.Prelude.{◌≡◌, IfOk};
 ghost use Rattle.snap_words.specs.declared.kind.KindTag.TheVariants.{Seq};
 
-use crate::trouble::Trouble;
+use crate::scene_fault::SceneFault;
 use snap_asm::load_listing;
 use snap_asm_program::Program;
 use snap_input::split_parts;
@@ -40,7 +40,7 @@ pub struct Inputs<'a> {
 }
 
 /// Reads standard input.
-pub fn read(rt: &HostRuntime) -> Result<Vec<u8>, Trouble> {
+pub fn read(rt: &HostRuntime) -> Result<Vec<u8>, SceneFault> {
     let mut input = Vec::new(rt.alloc());
     let _count = rt.reader().read_to_end(&mut input)?;
     Ok(input)
@@ -48,22 +48,22 @@ pub fn read(rt: &HostRuntime) -> Result<Vec<u8>, Trouble> {
 
 impl<'a> Inputs<'a> {
     /// Returns the two parts of an input.
-    pub fn of(alloc: Global, input: &'a [u8]) -> Result<Inputs<'a>, Trouble> {
+    pub fn of(alloc: Global, input: &'a [u8]) -> Result<Inputs<'a>, SceneFault> {
         let parts = split_parts(alloc, input)?;
         match (parts.get(0), parts.get(1)) {
             (Some(single), Some(multi)) => Ok(Inputs { single, multi }),
-            _ => Err(Trouble::Unknown),
+            _ => Err(SceneFault::Unknown),
         }
     }
 }
 
 /// Returns the program of the unbounded single-writer listing.
-pub fn single(alloc: Global) -> Result<Program, Trouble>
+pub fn single(alloc: Global) -> Result<Program, SceneFault>
     ensures { IfOk result (λ p. p.kind ≡ Seq) }
 {
     let program = load_listing(alloc, snap_single::listing(alloc)?.into_listing())?;
     if program.kind() != KindTag::Seq {
-        return Err(Trouble::Refused);
+        return Err(SceneFault::Refused);
     }
     Ok(program)
 }

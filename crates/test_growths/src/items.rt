@@ -6,6 +6,7 @@ ghost use Rattle.snap_semantics.specs.Table.{who};
 
 use crate::inputs::QUICK;
 use crate::outcomes::tell_outcome;
+use crate::scene_fault::SceneFault;
 use crate::trials::{tell, tried};
 use crate::trouble::Trouble;
 use snap_asm::load_listing;
@@ -13,14 +14,15 @@ use snap_machine::Machine;
 use snap_report::report;
 use snap_sched::{Schedule, read};
 use snap_semantics::{Item, Outcome, who};
+use snap_text::Draft;
 use snap_words::{Bits, KindTag};
 use std::alloc::{AllocError, Global};
 
 /// Returns a machine of the bounded single-writer listing, for a schedule.
-fn new_machine(alloc: Global, schedule: &Schedule) -> Result<Machine<Bits>, Trouble> {
+fn new_machine(alloc: Global, schedule: &Schedule) -> Result<Machine<Bits>, SceneFault> {
     let program = load_listing(alloc, snap_bounded::listing(alloc)?.into_listing())?;
     if program.kind() != KindTag::Bits {
-        return Err(Trouble::Refused);
+        return Err(SceneFault::Refused);
     }
     Ok(Machine::new(alloc, &program, schedule.shape())?)
 }
@@ -34,17 +36,17 @@ fn has_process(machine: &Machine<Bits>, item: Item) -> bool
 }
 
 /// Does an item.
-fn apply(machine: &mut Machine<Bits>, item: Item) -> Result<Outcome, Trouble> {
+fn apply(machine: &mut Machine<Bits>, item: Item) -> Result<Outcome, SceneFault> {
     if !has_process(machine, item) {
-        return Err(Trouble::Refused);
+        return Err(SceneFault::Refused);
     }
     Ok(machine.apply(item)?)
 }
 
 /// Does an item, and takes it back.
-fn apply_and_revert(machine: &mut Machine<Bits>, item: Item) -> Result<Outcome, Trouble> {
+fn apply_and_revert(machine: &mut Machine<Bits>, item: Item) -> Result<Outcome, SceneFault> {
     if !has_process(machine, item) {
-        return Err(Trouble::Refused);
+        return Err(SceneFault::Refused);
     }
     let (outcome, undo) = machine.apply_undo(item)?;
     machine.revert(undo);
@@ -53,25 +55,29 @@ fn apply_and_revert(machine: &mut Machine<Bits>, item: Item) -> Result<Outcome, 
 
 /// Returns the report of a machine, with no events.
 fn report_of(alloc: Global, machine: &Machine<Bits>) -> Result<Vec<u8>, AllocError> {
-    let mut text = Vec::new(alloc);
-    report(&mut text, machine, &[], 0, 0)?;
-    Ok(text)
+    let mut text = Draft::new(alloc);
+    report(&mut text, machine, &[], 0, 0);
+    text.finish()
 }
 
 /// Writes the report of a machine.
-fn tell_report(rt: &HostRuntime, machine: &Machine<Bits>) -> Result<(), Trouble> {
+fn tell_report(rt: &HostRuntime, machine: &Machine<Bits>) -> Result<(), SceneFault> {
     let text = tried!(rt, report_of(rt.alloc(), machine));
     tell(rt, text.as_slice())
 }
 
 /// Does an item, and writes its outcome.
-fn do_item(rt: &HostRuntime, machine: &mut Machine<Bits>, item: Item) -> Result<(), Trouble> {
+fn do_item(rt: &HostRuntime, machine: &mut Machine<Bits>, item: Item) -> Result<(), SceneFault> {
     let outcome = tried!(rt, apply(machine, item));
     tell_outcome(rt, &outcome)
 }
 
 /// Does an item, takes it back, writes its outcome, and does it again.
-fn do_item_twice(rt: &HostRuntime, machine: &mut Machine<Bits>, item: Item) -> Result<(), Trouble> {
+fn do_item_twice(
+    rt: &HostRuntime,
+    machine: &mut Machine<Bits>,
+    item: Item,
+) -> Result<(), SceneFault> {
     let outcome = tried!(rt, apply_and_revert(machine, item));
     tell_outcome(rt, &outcome)?;
     let _outcome = tried!(rt, apply(machine, item));
@@ -83,7 +89,7 @@ fn do_items(
     rt: &HostRuntime,
     machine: &mut Machine<Bits>,
     schedule: &Schedule,
-) -> Result<(), Trouble> {
+) -> Result<(), SceneFault> {
     for item in schedule.items().iter() {
         do_item(rt, machine, item)?;
     }
@@ -95,7 +101,7 @@ fn do_items_twice(
     rt: &HostRuntime,
     machine: &mut Machine<Bits>,
     schedule: &Schedule,
-) -> Result<(), Trouble> {
+) -> Result<(), SceneFault> {
     for item in schedule.items().iter() {
         do_item_twice(rt, machine, item)?;
     }
@@ -103,7 +109,7 @@ fn do_items_twice(
 }
 
 /// Does each item of a schedule.
-pub fn play(rt: &HostRuntime) -> Result<(), Trouble> {
+pub fn play(rt: &HostRuntime) -> Result<(), SceneFault> {
     let schedule = read(rt.alloc(), QUICK)?;
     let mut machine = new_machine(rt.alloc(), &schedule)?;
     do_items(rt, &mut machine, &schedule)?;
@@ -111,7 +117,7 @@ pub fn play(rt: &HostRuntime) -> Result<(), Trouble> {
 }
 
 /// Does each item of a schedule, takes it back, and does it again.
-pub fn play_back(rt: &HostRuntime) -> Result<(), Trouble> {
+pub fn play_back(rt: &HostRuntime) -> Result<(), SceneFault> {
     let schedule = read(rt.alloc(), QUICK)?;
     let mut machine = new_machine(rt.alloc(), &schedule)?;
     do_items_twice(rt, &mut machine, &schedule)?;

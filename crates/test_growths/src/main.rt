@@ -7,19 +7,19 @@ mod debug_outputs;
 mod inputs;
 mod items;
 mod outcomes;
+mod scene_fault;
 mod scripts;
 mod seats;
 mod sessions;
 mod texts;
 mod trials;
-mod trouble;
 
 use inputs::Inputs;
+use scene_fault::SceneFault;
 use std::io::Write;
 use std::process::ExitCode;
 use std::sync::Wait;
 use std::thread::Threads;
-use trouble::Trouble;
 
 /// The scenes, in the order in which `all` goes through them.
 const SCENES: &[&str] = &[
@@ -32,7 +32,7 @@ fn play(
     threads: &(impl Threads + Wait + Sync),
     inputs: &Inputs,
     name: &str,
-) -> Result<(), Trouble> {
+) -> Result<(), SceneFault> {
     match name {
         "perform" => debug_outputs::play(rt, inputs),
         "texts" => texts::play(rt, inputs),
@@ -42,7 +42,7 @@ fn play(
         "batch" => batches::play(rt, threads),
         "seats" => seats::play(rt, threads),
         "scripts" => scripts::play(rt, threads),
-        _ => Err(Trouble::Unknown),
+        _ => Err(SceneFault::Unknown),
     }
 }
 
@@ -52,7 +52,7 @@ fn play_each(
     threads: &(impl Threads + Wait + Sync),
     inputs: &Inputs,
     names: &[&str],
-) -> Result<(), Trouble> {
+) -> Result<(), SceneFault> {
     for name in names {
         println!(rt; "{name}")?;
         play(rt, threads, inputs, name)?;
@@ -61,10 +61,10 @@ fn play_each(
 }
 
 /// Plays what the first word of the command line names.
-fn play_asked(rt: &HostRuntime, threads: &(impl Threads + Wait + Sync)) -> Result<(), Trouble> {
+fn play_asked(rt: &HostRuntime, threads: &(impl Threads + Wait + Sync)) -> Result<(), SceneFault> {
     let words = std::env::args(rt)?.collect::<Vec<String>>(rt.alloc())?;
     let Some(name) = words.get(1) else {
-        return Err(Trouble::Unknown);
+        return Err(SceneFault::Unknown);
     };
     let input = inputs::read(rt)?;
     let inputs = Inputs::of(rt.alloc(), input.as_slice())?;
@@ -75,14 +75,14 @@ fn play_asked(rt: &HostRuntime, threads: &(impl Threads + Wait + Sync)) -> Resul
 }
 
 /// Says why a scene was not played to its end, and gives the status of that.
-fn complain(rt: &HostRuntime, trouble: Trouble) -> u8 {
-    let _said = rt.stderr().write_all(trouble.line());
-    trouble.status()
+fn complain(rt: &HostRuntime, fault: SceneFault) -> u8 {
+    let _said = rt.stderr().write_all(fault.line());
+    fault.status()
 }
 
 fn main(rt: HostRuntime) -> ExitCode {
     match play_asked(&rt, &rt) {
         Ok(()) => ExitCode::from(0),
-        Err(trouble) => ExitCode::from(complain(&rt, trouble)),
+        Err(fault) => ExitCode::from(complain(&rt, fault)),
     }
 }

@@ -1,24 +1,24 @@
 //! Writes what comes of the calls in a scene: the line of an item's outcome, and the report of a
 //! record.
+use crate::scene_fault::SceneFault;
 use crate::trials::{tell, tried};
-use crate::trouble::Trouble;
 use snap_record::Record;
 use snap_report::{outcome_text, report};
 use snap_semantics::Outcome;
-use snap_text::push_text;
+use snap_text::Draft;
 use snap_words::Kind;
 use std::alloc::{AllocError, Global};
 
 /// Returns the line of an outcome.
 fn outcome_line(alloc: Global, outcome: &Outcome) -> Result<Vec<u8>, AllocError> {
-    let mut line = Vec::new(alloc);
-    outcome_text(&mut line, outcome)?;
-    push_text(&mut line, b"\n")?;
-    Ok(line)
+    let mut line = Draft::new(alloc);
+    outcome_text(&mut line, outcome);
+    line.push(b"\n");
+    line.finish()
 }
 
 /// Writes the outcome of an item.
-pub fn tell_outcome(rt: &HostRuntime, outcome: &Outcome) -> Result<(), Trouble> {
+pub fn tell_outcome(rt: &HostRuntime, outcome: &Outcome) -> Result<(), SceneFault> {
     let line = tried!(rt, outcome_line(rt.alloc(), outcome));
     tell(rt, line.as_slice())
 }
@@ -29,7 +29,7 @@ pub fn tell_outcome(rt: &HostRuntime, outcome: &Outcome) -> Result<(), Trouble> 
 ///
 /// `AllocError` where memory runs out.
 pub fn record_report<K: Kind>(alloc: Global, record: &Record<K>) -> Result<Vec<u8>, AllocError> {
-    let mut text = Vec::new(alloc);
+    let mut text = Draft::new(alloc);
     let position = record.items().len();
     report(
         &mut text,
@@ -37,6 +37,6 @@ pub fn record_report<K: Kind>(alloc: Global, record: &Record<K>) -> Result<Vec<u
         record.events(),
         position,
         position,
-    )?;
-    Ok(text)
+    );
+    text.finish()
 }

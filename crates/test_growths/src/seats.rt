@@ -5,8 +5,8 @@ ghost use Rattle.snap_words.specs.declared.kind.KindTag.TheVariants as kind;
 
 use crate::inputs::single;
 use crate::outcomes::{record_report, tell_outcome};
+use crate::scene_fault::SceneFault;
 use crate::trials::{tell, tried};
-use crate::trouble::Trouble;
 use snap_asm_program::Program;
 use snap_live::{Desk, Seat, Turn, close, open};
 use snap_semantics::Op;
@@ -26,7 +26,7 @@ struct Bench {
 }
 
 /// Returns a new desk with one process and one word.
-fn new_bench(alloc: Global, program: &Program) -> Result<Bench, Trouble>
+fn new_bench(alloc: Global, program: &Program) -> Result<Bench, SceneFault>
     requires { program.now.kind ≡ kind.Seq }
 {
     let (desk, seats) = open::<Seq>(alloc, program, Shape::new(1, 1)?)?;
@@ -44,21 +44,21 @@ fn due(number: u64) -> Option<Op> {
 }
 
 /// Makes a turn of the seat. Whatever comes of it, the seat has asked for one more.
-fn turn<R: Wait>(rt: &R, bench: &mut Bench, number: u64) -> Result<Turn, Trouble> {
+fn turn<R: Wait>(rt: &R, bench: &mut Bench, number: u64) -> Result<Turn, SceneFault> {
     if bench.seats.is_empty() {
-        return Err(Trouble::Refused);
+        return Err(SceneFault::Refused);
     }
     let seat = &mut bench.seats[0];
     let asked = seat.asked();
     if asked >= 2 * TURNS {
-        return Err(Trouble::Refused);
+        return Err(SceneFault::Refused);
     }
     let answer = match due(number) {
         Some(op) => seat.call(rt, &bench.desk, op),
         None => seat.step(rt, &bench.desk),
     };
     if seat.asked() != asked + 1 {
-        return Err(Trouble::Changed);
+        return Err(SceneFault::Changed);
     }
     Ok(answer?)
 }
@@ -69,24 +69,24 @@ fn take_turn(
     threads: &impl Wait,
     bench: &mut Bench,
     number: u64,
-) -> Result<(), Trouble> {
+) -> Result<(), SceneFault> {
     let Turn { number, outcome } = tried!(rt, turn(threads, bench, number));
     print!(rt; "{number} ")?;
     tell_outcome(rt, &outcome)
 }
 
 /// Closes the desk, and reports the record of all turns.
-fn end(rt: &HostRuntime, bench: Bench) -> Result<(), Trouble> {
+fn end(rt: &HostRuntime, bench: Bench) -> Result<(), SceneFault> {
     let Bench { desk, seats } = bench;
     let Ok(record) = close(desk, seats) else {
-        return Err(Trouble::Changed);
+        return Err(SceneFault::Changed);
     };
     let report = tried!(rt, record_report(rt.alloc(), &record));
     tell(rt, report.as_slice())
 }
 
 /// Opens a desk, lets its one seat take its turns, and closes it.
-pub fn play(rt: &HostRuntime, threads: &impl Wait) -> Result<(), Trouble> {
+pub fn play(rt: &HostRuntime, threads: &impl Wait) -> Result<(), SceneFault> {
     let program = single(rt.alloc())?;
     let mut bench = tried!(rt, new_bench(rt.alloc(), &program));
     for number in 1..=TURNS {

@@ -1,5 +1,5 @@
 //! Makes a call once more if it wanted memory, and says so on standard error.
-use crate::trouble::Trouble;
+use crate::scene_fault::SceneFault;
 use std::io::Write;
 
 /// Makes a call, and once more if it wanted memory, which is said on standard error; and returns
@@ -9,7 +9,7 @@ macro_rules! tried {
         match $call {
             Ok(answer) => answer,
             Err(error) => {
-                $crate::trials::wants_memory($rt, $crate::trouble::Trouble::from(error))?;
+                $crate::trials::wants_memory($rt, $crate::scene_fault::SceneFault::from(error))?;
                 $call?
             }
         }
@@ -18,15 +18,15 @@ macro_rules! tried {
 
 pub(crate) use tried;
 
-/// Says that a call wanted memory; any other trouble is handed back.
-pub fn wants_memory(rt: &HostRuntime, trouble: Trouble) -> Result<(), Trouble> {
-    if trouble != Trouble::Memory {
-        return Err(trouble);
+/// Says that a call wanted memory; any other fault is handed back.
+pub fn wants_memory(rt: &HostRuntime, fault: SceneFault) -> Result<(), SceneFault> {
+    if fault != SceneFault::Memory {
+        return Err(fault);
     }
     Ok(rt.stderr().write_all(b"again\n")?)
 }
 
 /// Writes a text to standard output.
-pub fn tell(rt: &HostRuntime, text: &[u8]) -> Result<(), Trouble> {
+pub fn tell(rt: &HostRuntime, text: &[u8]) -> Result<(), SceneFault> {
     Ok(rt.stdout().write_all(text)?)
 }

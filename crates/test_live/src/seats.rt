@@ -9,6 +9,7 @@ use snap_live::{Desk, LiveFault, LiveRun, Seat, Turn, Turns, close};
 use snap_record::Record;
 use snap_report::report;
 use snap_semantics::{Event, Happening, Item, Op, Outcome, Reason, who};
+use snap_text::Draft;
 use snap_words::{Seq, Shape};
 use std::alloc::{AllocError, Global};
 use std::process::Abort;
@@ -302,7 +303,7 @@ fn check_events(rt: &impl Abort, events: &[Event]) {
 
 /// Returns the report of all items of a record.
 fn report_of(alloc: Global, record: &Record<Seq>) -> Result<Vec<u8>, AllocError> {
-    let mut text = Vec::new(alloc);
+    let mut text = Draft::new(alloc);
     let position = record.items().len();
     report(
         &mut text,
@@ -310,8 +311,8 @@ fn report_of(alloc: Global, record: &Record<Seq>) -> Result<Vec<u8>, AllocError>
         record.events(),
         position,
         position,
-    )?;
-    Ok(text)
+    );
+    text.finish()
 }
 
 /// Checks that the words have what was written, and that the report is that of the items.

@@ -2,7 +2,7 @@
 //! are written.
 use snap_debug::{Breakpoint, Command, fault_line, push_command, push_refusal, read_commands};
 use snap_semantics::{CommandRefusal, Fault};
-use snap_text::{line_count, push_text};
+use snap_text::{Draft, line_count, push_text};
 use snap_words::{Address, Bank};
 use std::alloc::{AllocError, Global};
 use std::process::Abort;
@@ -162,11 +162,11 @@ fn reads_each_cut_or_refuses_its_last_line(rt: HostRuntime) {
 
 /// Returns the text of commands.
 fn text_of(alloc: Global, commands: &[Command]) -> Result<Vec<u8>, AllocError> {
-    let mut text = Vec::new(alloc);
+    let mut text = Draft::new(alloc);
     for command in commands {
-        push_command(&mut text, command)?;
+        push_command(&mut text, command);
     }
-    Ok(text)
+    text.finish()
 }
 
 #[test]
@@ -210,9 +210,9 @@ fn is_written(
     refusal: CommandRefusal,
     name: &[u8],
 ) -> Result<(), Fail> {
-    let mut text = Vec::new(alloc);
-    push_refusal(&mut text, &refusal)?;
-    assert_eq!(rt; text.as_slice(), name);
+    let mut text = Draft::new(alloc);
+    push_refusal(&mut text, &refusal);
+    assert_eq!(rt; text.text()?, name);
     let shown = format!(in alloc; "{refusal}")?;
     assert_eq!(rt; shown.as_bytes(), name);
     let mut line = Vec::new(alloc);

@@ -4,7 +4,7 @@ use snap_asm_program::Program;
 use snap_debug::{Session, push_refusal_line, read_commands};
 use snap_sched::{Schedule, read};
 use snap_semantics::{CommandRefusal, Fault};
-use snap_text::push_text;
+use snap_text::Draft;
 use snap_words::{KindTag, Seq};
 use std::alloc::Global;
 use std::process::Abort;
@@ -39,15 +39,15 @@ fn session(rt: &impl Abort, alloc: Global, schedule: &[u8]) -> Result<Session<Se
 
 /// Returns the replies to commands, refused ones among them.
 fn replies(alloc: Global, session: &mut Session<Seq>, commands: &[u8]) -> Result<Vec<u8>, Fail> {
-    let mut text = Vec::new(alloc);
+    let mut text = Draft::new(alloc);
     for command in &read_commands(alloc, commands)? {
         match session.command(command) {
-            Ok(reply) => push_text(&mut text, reply.as_slice())?,
-            Err(Fault::Refused(refusal)) => push_refusal_line(&mut text, &refusal)?,
+            Ok(reply) => text.push(reply.as_slice()),
+            Err(Fault::Refused(refusal)) => push_refusal_line(&mut text, &refusal),
             Err(Fault::Memory) => return Err(Fail::from(Fault::<CommandRefusal>::Memory)),
         }
     }
-    Ok(text)
+    Ok(text.finish()?)
 }
 
 /// Checks the replies to commands over a schedule.

@@ -9,6 +9,7 @@ use snap_audit::{audit, push_verdict_line};
 use snap_record::{MAX_ITEMS, Record, RecordFault};
 use snap_semantics::{Item, Op, Outcome, Reason};
 use snap_shipped::text_u;
+use snap_text::Draft;
 use snap_words::{KindTag, Seq, Shape};
 use std::alloc::Global;
 use std::process::Abort;
@@ -75,11 +76,11 @@ fn check_audit(
     record: &Record<Seq>,
     wanted: &[u8],
 ) -> Result<(), Fail> {
-    let mut text = Vec::new(alloc);
+    let mut text = Draft::new(alloc);
     for verdict in &audit(alloc, record)? {
-        push_verdict_line(&mut text, verdict)?;
+        push_verdict_line(&mut text, verdict);
     }
-    assert_eq!(rt; text.as_slice(), wanted);
+    assert_eq!(rt; text.text()?, wanted);
     Ok(())
 }
 

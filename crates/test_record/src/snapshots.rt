@@ -2,6 +2,7 @@
 use snap_audit::audit_text;
 use snap_record::Record;
 use snap_report::report;
+use snap_text::Draft;
 use snap_words::{Bits, Kind, Multi, Seq};
 use std::alloc::{AllocError, Global};
 use std::process::Abort;
@@ -70,7 +71,7 @@ event 14 1 done\n";
 
 /// Returns the report of all items of a record.
 fn report_of(alloc: Global, record: &Record<Seq>) -> Result<Vec<u8>, AllocError> {
-    let mut text = Vec::new(alloc);
+    let mut text = Draft::new(alloc);
     let position = record.items().len();
     report(
         &mut text,
@@ -78,8 +79,8 @@ fn report_of(alloc: Global, record: &Record<Seq>) -> Result<Vec<u8>, AllocError>
         record.events(),
         position,
         position,
-    )?;
-    Ok(text)
+    );
+    text.finish()
 }
 
 /// Checks that the values after `t` items are `wanted` alone.

@@ -15,7 +15,7 @@ use std::test::Fail;
 /// What a word is to have: its datum, sequence number, writer and toggle, its second handshake bit,
 /// its handshake bits and its view.
 #[derive(Clone, Copy)]
-struct Wanted {
+struct WantedWord {
     datum: Option<u64>,
     seq: Option<u64>,
     id: Option<u64>,
@@ -45,7 +45,7 @@ fn has_handshakes<K: Kind>(word: &K::Word, want: &[u64]) -> bool {
 }
 
 /// Returns whether the fields of a word and its second handshake bit are as wanted.
-fn has_fields<K: Kind>(word: &K::Word, want: &Wanted) -> bool {
+fn has_fields<K: Kind>(word: &K::Word, want: &WantedWord) -> bool {
     K::field(word, Field::Datum) == want.datum
         && K::field(word, Field::Seq) == want.seq
         && K::field(word, Field::Id) == want.id
@@ -54,14 +54,18 @@ fn has_fields<K: Kind>(word: &K::Word, want: &Wanted) -> bool {
 }
 
 /// Returns whether a word is as wanted.
-fn is_word<K: Kind>(word: &K::Word, want: &Wanted) -> bool {
+fn is_word<K: Kind>(word: &K::Word, want: &WantedWord) -> bool {
     has_fields::<K>(word, want)
         && has_handshakes::<K>(word, want.handshakes)
         && is_row(K::view(word), want.view)
 }
 
 /// Returns whether the copy of a word is as wanted.
-fn copies_as<K: Kind>(alloc: Global, word: &K::Word, want: &Wanted) -> Result<bool, AllocError> {
+fn copies_as<K: Kind>(
+    alloc: Global,
+    word: &K::Word,
+    want: &WantedWord,
+) -> Result<bool, AllocError> {
     let copy = K::copy(alloc, word)?;
     Ok(is_word::<K>(&copy, want) && same_handshakes::<K>(&copy, word))
 }
@@ -71,7 +75,7 @@ fn builds_as<K: Kind>(
     alloc: Global,
     shape: Shape,
     given: AnyWord,
-    want: &Wanted,
+    want: &WantedWord,
 ) -> Result<bool, AllocError>
     requires { is_sized K.TAG shape (word_of_any given) ≡ true }
 {
@@ -92,7 +96,7 @@ fn is_refused<K: Kind>(shape: Shape, given: AnyWord) -> bool
 }
 
 /// Returns whether a word that nobody has written is as wanted.
-fn begins_as<K: Kind>(alloc: Global, shape: Shape, want: &Wanted) -> Result<bool, AllocError> {
+fn begins_as<K: Kind>(alloc: Global, shape: Shape, want: &WantedWord) -> Result<bool, AllocError> {
     let word = K::initial(alloc, shape)?;
     Ok(is_word::<K>(&word, want))
 }
@@ -152,7 +156,7 @@ fn kinds(rt: HostRuntime) {
 #[test]
 fn seq(rt: HostRuntime) -> Result<(), Fail> {
     let shape = Shape::new(2, 2)?;
-    let built = Wanted {
+    let built = WantedWord {
         datum: Some(7),
         seq: Some(8),
         id: None,
@@ -162,7 +166,7 @@ fn seq(rt: HostRuntime) -> Result<(), Fail> {
         view: Some(&[5, 6]),
     };
     assert!(rt; builds_as::<Seq>(rt.alloc(), shape, parts(rt.alloc(), 2, 2)?, &built)?);
-    let new = Wanted {
+    let new = WantedWord {
         datum: Some(0),
         seq: Some(0),
         view: Some(&[0, 0]),
@@ -175,7 +179,7 @@ fn seq(rt: HostRuntime) -> Result<(), Fail> {
 #[test]
 fn bits(rt: HostRuntime) -> Result<(), Fail> {
     let shape = Shape::new(2, 2)?;
-    let built = Wanted {
+    let built = WantedWord {
         datum: Some(7),
         seq: None,
         id: None,
@@ -187,7 +191,7 @@ fn bits(rt: HostRuntime) -> Result<(), Fail> {
     assert!(rt; builds_as::<Bits>(rt.alloc(), shape, parts(rt.alloc(), 1, 1)?, &built)?);
     assert!(rt; is_refused::<Bits>(shape, parts(rt.alloc(), 2, 1)?));
     assert!(rt; is_refused::<Bits>(shape, parts(rt.alloc(), 1, 2)?));
-    let new = Wanted {
+    let new = WantedWord {
         datum: Some(0),
         toggle: Some(0),
         handshake: Some(0),
@@ -222,7 +226,7 @@ fn many_handshakes(rt: HostRuntime) -> Result<(), Fail> {
 #[test]
 fn multi(rt: HostRuntime) -> Result<(), Fail> {
     let shape = Shape::new(2, 3)?;
-    let built = Wanted {
+    let built = WantedWord {
         datum: Some(7),
         seq: None,
         id: Some(9),
@@ -233,7 +237,7 @@ fn multi(rt: HostRuntime) -> Result<(), Fail> {
     };
     assert!(rt; builds_as::<Multi>(rt.alloc(), shape, parts(rt.alloc(), 1, 2)?, &built)?);
     assert!(rt; is_refused::<Multi>(shape, parts(rt.alloc(), 2, 0)?));
-    let new = Wanted {
+    let new = WantedWord {
         datum: Some(0),
         id: Some(0),
         toggle: Some(0),

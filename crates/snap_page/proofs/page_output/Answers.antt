@@ -3,7 +3,7 @@
 use Rattle.std.proofs.Common.{◌≡◌, [], ◌∷◌, Ok, Err, Some, arith, length, subst, sym, take}
 use Rattle.snap_semantics.specs.declared.refusal.Refusal.TheVariants.{InputTooLong}
 use Rattle.snap_page.specs.Answer.{AnswersAsked, found_at_once}
-use Rattle.snap_page.specs.declared.asked.Asked.{Asked}
+use Rattle.snap_page.specs.declared.page_request.PageRequest.{PageRequest}
 use Rattle.snap_page.specs.Page.{answer_code, answer_text}
 use Rattle.snap_page.proofs.Answered.{told}
 use Rattle.snap_page.proofs.Short.{needs_none}
@@ -16,7 +16,8 @@ returns-clause-at_once c a r named found =
     let told = c.asked_of.ensures in
     let same : c.in-Some.asked ≡ a = cc in
     c.handed_answer.ensures.at_once r
-    (c.answer_to-answer.ensures.at_once r (subst (λ (k : Asked). found_at_once k input ≡ Some r) (sym same) found))
+    (c.answer_to-answer.ensures.at_once r (subst (λ (k : PageRequest). found_at_once k input ≡ Some r) (sym same)
+    found))
     (needs_none a input r found)
 
 -- the answer that was handed
@@ -30,7 +31,7 @@ returns-clause-answer c a named little =
     let room = take c.handed_answer.result.len c.handed_answer.new.room in
     let found =
     told a input c.answer_to-answer.result
-    (subst (λ (k : Asked). AnswersAsked k input c.answer_to-answer.result) same c.answer_to-answer.ensures.output)
+    (subst (λ (k : PageRequest). AnswersAsked k input c.answer_to-answer.result) same c.answer_to-answer.ensures.output)
     (λ d. (code ≡ answer_code d) × (room ≡ answer_text d))
     (λ d is. c.handed_answer.ensures.answer d is little)
     (λ all. let zero : code ≡ 0 = (all (Ok [])).0 in let one : code ≡ 1 = (all (Err InputTooLong)).0 in
@@ -46,6 +47,6 @@ returns-clause-needed c a named large =
     let same : c.in-Some.asked ≡ a = cc in
     let len = c.handed_answer.result.len in
     told a input c.answer_to-answer.result
-    (subst (λ (k : Asked). AnswersAsked k input c.answer_to-answer.result) same c.answer_to-answer.ensures.output)
+    (subst (λ (k : PageRequest). AnswersAsked k input c.answer_to-answer.result) same c.answer_to-answer.ensures.output)
     (λ d. len ≡ length (answer_text d)) (λ d is. c.handed_answer.ensures.needed d is large)
     (λ all. let zero : len ≡ 0 = all (Ok []) in let one : len ≡ 1 = all (Ok (0 ∷ [])) in omega (arith, zero, one))

@@ -20,18 +20,19 @@ use Rattle.snap_acts.specs.Searches.{takes_view, writes_word}
 use Rattle.snap_acts.specs.declared.act.Act.{Act}
 use Rattle.snap_acts.specs.declared.act.Act.TheVariants as act
 use Rattle.snap_acts.specs.declared.act.Spot.{Spot}
-use Rattle.snap_acts.specs.declared.act.Step.{Step}
+use Rattle.snap_acts.specs.declared.act.TraceStep.{TraceStep}
 use Rattle.snap_acts.specs.declared.loans.Borrowed.{Borrowed}
 use Rattle.snap_acts.specs.declared.loans.ScanPlaces.{ScanPlaces}
-use Rattle.snap_acts.specs.declared.wanted.Wanted.{Wanted}
-use Rattle.snap_acts.specs.declared.wanted.Wanted.TheVariants as wanted
+use Rattle.snap_acts.specs.declared.searches.StepPattern.{StepPattern}
+use Rattle.snap_acts.specs.declared.searches.StepPattern.TheVariants as wanted
 use Rattle.snap_reading_laws.specs.loans.Held.{HasHandedOn, IsFollowed, handed_view, held, held_if_named}
 use Rattle.snap_reading_laws.proofs.loans.Items.{told}
 use Rattle.snap_reading_laws.proofs.loans.Named.{both_true, numbers_differ}
 use Rattle.snap_reading_laws.proofs.loans.Scans.{found, is_first, scan_is}
 use Rattle.snap_reading_laws.proofs.loans.Went.{Tells, named_view, register, view_in, view_register, word_in}
 
-first_below : (w : Wanted) (ss : List Step) (k count e : ℕ) → first_within w ss k count ≡ Some e → e < k + count
+first_below : (w : StepPattern) (ss : List TraceStep) (k count e : ℕ) → first_within w ss k count ≡ Some e →
+    e < k + count
 first_below w ss k zero e is = absurd cc
 first_below w ss k (suc count) e is = by_first (meets w (step_at ss k)) (first_below w ss (k + 1) count e) is
   where
@@ -41,7 +42,7 @@ first_below w ss k (suc count) e is = by_first (meets w (step_at ss k)) (first_b
     by_first false more is = let less = more is in omega (arith, less)
 
 -- what only such items change stays from the last of them on
-module _ {A : Type 0} (F : ℕ → A) (w : Wanted) (ss : List Step) (most : ℕ)
+module _ {A : Type 0} (F : ℕ → A) (w : StepPattern) (ss : List TraceStep) (most : ℕ)
     (frame : (k : ℕ) → k < most → meets w (step_at ss k) ≡ false → F (suc k) ≡ F k) where
   since : (k g : ℕ) → k ≤ most → last_before w ss k ≡ Some g → F k ≡ F (suc g)
   since zero g within e = absurd cc
@@ -159,7 +160,7 @@ has_read spot l l' m m' (act.Leave x) e h = absurd cc
 has_read spot l l' m m' act.Other e h = absurd cc
 
 module _ (r : Run) (listing : IsListing r.source) (valid : IsValidRun r) where
-  abbrev ss : List Step
+  abbrev ss : List TraceStep
   ss = trace_of r
 
   abbrev most : ℕ

@@ -24,7 +24,7 @@ use Rattle.snap_runs.specs.Run.{IsValidRun, Run, state, item as item_at, outcome
 use Rattle.snap_machine.specs.Sizes.{AreSized}
 use Rattle.snap_run_judge.proofs.Sizes.{HasSizes, IsSized, done_sized, initial_sized, own_sized, right_instr}
 use Rattle.snap_acts.specs.Loans.{step_at}
-use Rattle.snap_acts.specs.Trace.{act_of, context_of, plan_in, plan_of, plan_of_instr, returned, step_of, stepped}
+use Rattle.snap_acts.specs.Trace.{act_of, context_of, intent_in, intent_of, intent_of_instr, returned, step_of, stepped}
 use Rattle.snap_acts.specs.Trace.{steps_of, trace_of}
 use Rattle.snap_acts.specs.declared.act.Act.{Act}
 use Rattle.snap_acts.specs.declared.act.Act.TheVariants as act
@@ -61,9 +61,9 @@ module _ (s : Source) (shape : Counts) where
 
   leave_told : (i : ℕ) (S : State) (a : Activity) (x : Item) (c : Context) (found : Option Instr)
       (e : Result Effect Cause) → IsOneOf shape.n i → length S.processes ≡ shape.n →
-      ((S' : State) → Leaves (process_at S i).locals S.memory (stepped (plan_of_instr c found) S' i)
-      (returned (plan_of_instr c found)) e) → (let r = leave S i a (process_at S i).locals e in
-      Told shape.n i S (act_of (plan_of_instr c found) r.0 i x r.1) r.0)
+      ((S' : State) → Leaves (process_at S i).locals S.memory (stepped (intent_of_instr c found) S' i)
+      (returned (intent_of_instr c found)) e) → (let r = leave S i a (process_at S i).locals e in
+      Told shape.n i S (act_of (intent_of_instr c found) r.0 i x r.1) r.0)
   leave_told i S a x c found (Ok (Goes m l link line)) one count h =
       let q : Process = record { status = Busy (record { op = a.op; line = line; link = link }); locals = l } in
       let S' : State = record { memory = m; processes = slice_set S.processes (i - 1) q } in
@@ -71,7 +71,7 @@ module _ (s : Source) (shape : Counts) where
   leave_told i S a x c found (Ok (Answers v)) one count h =
       let l : Locals = (process_at S i).locals in
       set_told i S _ S.memory (record { status = Idle; locals = l }) one count
-      (kept l l S.memory S.memory (act.Answer v (returned (plan_of_instr c found))) refl refl refl refl (h S))
+      (kept l l S.memory S.memory (act.Answer v (returned (intent_of_instr c found))) refl refl refl refl (h S))
   leave_told i S a x c found (Ok Finishes) one count h =
       let l : Locals = (process_at S i).locals in
       set_told i S _ S.memory (record { status = Idle; locals = l }) one count
@@ -84,7 +84,7 @@ module _ (s : Source) (shape : Counts) where
   module _ (listing : IsListing s) where
     leaves_at : (S' : State) (c : Context) (m : Memory) (a : Activity) (found : Option Instr) →
         instr_at s.lines a.line ≡ found → AreSized s c.shape c.locals → HasSizes s c.shape m →
-        Leaves c.locals m (stepped (plan_of_instr c found) S' c.me) (returned (plan_of_instr c found))
+        Leaves c.locals m (stepped (intent_of_instr c found) S' c.me) (returned (intent_of_instr c found))
         (effect_at s c m a found)
     leaves_at S' c m a None e h of = tt
     leaves_at S' c m a (Some i) e h of =
@@ -92,7 +92,7 @@ module _ (s : Source) (shape : Counts) where
 
     step_told : (i : ℕ) (S : State) (x : Item) (status : Status) → IsSized s shape S → IsOneOf shape.n i →
         (let r = step s shape S i (process_at S i) status in
-        Told shape.n i S (act_of (plan_in s shape i (process_at S i) status) r.0 i x r.1) r.0)
+        Told shape.n i S (act_of (intent_in s shape i (process_at S i) status) r.0 i x r.1) r.0)
     step_told i S x Idle sized one = skipped i S act.Skip one (λ l m. kept l l m m act.Skip refl refl refl refl tt)
     step_told i S x (Trapped c a) sized one =
         skipped i S act.Skip one (λ l m. kept l l m m act.Skip refl refl refl refl tt)
@@ -107,7 +107,7 @@ module _ (s : Source) (shape : Counts) where
 
     called_told : (i : ℕ) (S : State) (o : Op) (why : Option Reason) → IsSized s shape S → IsOneOf shape.n i →
         (let r = called s S i (process_at S i) o why in
-        Told shape.n i S (act_of (plan_of s shape S (item.Call i o)) r.0 i (item.Call i o) r.1) r.0)
+        Told shape.n i S (act_of (intent_of s shape S (item.Call i o)) r.0 i (item.Call i o) r.1) r.0)
     called_told i S o (Some reason) sized one =
         skipped i S act.Skip one (λ l m. kept l l m m act.Skip refl refl refl refl tt)
     called_told i S o None sized one =
@@ -117,7 +117,7 @@ module _ (s : Source) (shape : Counts) where
 
     call_told : (i : ℕ) (S : State) (o : Op) (status : Status) → IsSized s shape S → IsOneOf shape.n i →
         (let r = call s shape S i o (process_at S i) status in
-        Told shape.n i S (act_of (plan_of s shape S (item.Call i o)) r.0 i (item.Call i o) r.1) r.0)
+        Told shape.n i S (act_of (intent_of s shape S (item.Call i o)) r.0 i (item.Call i o) r.1) r.0)
     call_told i S o Idle sized one = called_told i S o (call_skip s.kind shape i o) sized one
     call_told i S o (Busy a) sized one =
         skipped i S act.Skip one (λ l m. kept l l m m act.Skip refl refl refl refl tt)
@@ -136,7 +136,7 @@ module _ (s : Source) (shape : Counts) where
 
     crash_told : (i : ℕ) (S : State) (status : Status) → IsSized s shape S → IsOneOf shape.n i →
         (let r = crash S i (process_at S i) status in
-        Told shape.n i S (act_of (plan_of s shape S (item.Crash i)) r.0 i (item.Crash i) r.1) r.0)
+        Told shape.n i S (act_of (intent_of s shape S (item.Crash i)) r.0 i (item.Crash i) r.1) r.0)
     crash_told i S (Busy a) sized one = crashed_told i S _ refl sized one
     crash_told i S Idle sized one = crashed_told i S _ refl sized one
     crash_told i S (Trapped c a) sized one =

@@ -1,4 +1,4 @@
--- What each form of a line leaves of the views and words is as its plan tells (`Went`).
+-- What each form of a line leaves of the views and words is as its intent tells (`Went`).
 use Rattle.std.proofs.Common.{rules, ◌≡◌, ℕ, ◌-◌, ◌<◌, ◌≤◌, Bool, true, false, ◌&&◌, nat_lt, nat_le, List, []}
 use Rattle.std.proofs.Common.{Option, Some, None, Result, Ok, Err, if◌then◌else◌, get_or, length}
 use Rattle.std.proofs.Common.{slice_set, refl, sym, subst, ap, ◌∙◌, arith}
@@ -35,7 +35,7 @@ use Rattle.snap_asm_program.proofs.Declared.{is_view, is_words}
 use Rattle.snap_machine.specs.Sizes.{AreSized}
 use Rattle.snap_machine.proofs.Sizes.{view_sized}
 use Rattle.snap_run_judge.proofs.Sizes.{HasSizes}
-use Rattle.snap_acts.specs.Trace.{plan_of_line, returned, spot_of, stepped, view_beside}
+use Rattle.snap_acts.specs.Trace.{intent_of_line, returned, spot_of, stepped, view_beside}
 use Rattle.snap_acts.specs.declared.act.Act.{Act}
 use Rattle.snap_acts.specs.declared.act.Act.TheVariants as act
 use Rattle.snap_reading_laws.proofs.loans.Went.{Went, kept, named_view, view_in, view_register, word_in}
@@ -163,7 +163,7 @@ module _ (l : Locals) (m : Memory) where
 -- each form of a line
 pub leaves : (s : Source) (S : State) (c : Context) (m : Memory) (a : Activity) (i : Instr) →
     AreSized s c.shape c.locals → HasSizes s c.shape m → HasRightUses s i →
-    Leaves c.locals m (stepped (plan_of_line c i) S c.me) (returned (plan_of_line c i)) (effect s c m a i)
+    Leaves c.locals m (stepped (intent_of_line c i) S c.me) (returned (intent_of_line c i)) (effect s c m a i)
 leaves s S c m a (Let x e) h of right =
     bound c.locals m act.Other None (expr_value c e) _ (λ v is.
     onward c.locals m act.Other (following s.lines a.line) m _ a.link (scalar c.locals m x v))
@@ -173,7 +173,7 @@ leaves s S c m a (LetPlace x i e) h of right =
     onward c.locals m act.Other (following s.lines a.line) m _ a.link
     (kept c.locals _ m m act.Other refl refl refl refl tt)))
 leaves s S c m a (Get x i j) h of right =
-    let t : Act = stepped (plan_of_line c (Get x i j)) S c.me in
+    let t : Act = stepped (intent_of_line c (Get x i j)) S c.me in
     let old : List Word = value_at x c.locals.words [] in
     bound c.locals m t None (place_in (places c.shape) (index_value c i)) _ (λ k there.
     bound c.locals m t None (place_in c.shape.w (index_value c j)) _ (λ r read.
@@ -193,7 +193,7 @@ leaves s S c m a (Bit x b i j) h of right =
     bound c.locals m act.Other None (place_in c.shape.n (index_value c j)) _ (λ r read.
     onward c.locals m act.Other (following s.lines a.line) m _ a.link (scalar c.locals m x _)))
 leaves s S c m a (Look x i) h of right =
-    let t : Act = stepped (plan_of_line c (Look x i)) S c.me in
+    let t : Act = stepped (intent_of_line c (Look x i)) S c.me in
     bound c.locals m t None (place_in c.shape.n (index_value c i)) _ (λ k there.
     let from = place_there c.shape.n (index_value c i) k there in
     let rows : length m.views ≡ c.shape.n = of.view_count ∙ ap (λ (b : Bool). if b then c.shape.n else 0) right.1.0 in
@@ -206,7 +206,7 @@ leaves s S c m a (Look x i) h of right =
     (subst (λ (n : ℕ). Went c.locals m t m (with_view x (get_or m.views n []) c.locals)) from.is
     (looked c.locals m x (index_value c i) from.first (own ∙ sym long))))
 leaves s S c m a (Put i parts_of) h of right =
-    let t : Act = stepped (plan_of_line c (Put i parts_of)) S c.me in
+    let t : Act = stepped (intent_of_line c (Put i parts_of)) S c.me in
     bound c.locals m t None (place_in c.shape.w (index_value c i)) _ (λ r there.
     bound c.locals m t None (tuple_word c parts_of) _ (λ parts is.
     bound c.locals m t None (with_bits parts) _ (λ word tested.
@@ -234,7 +234,7 @@ leaves s S c m a (PutBit b i j e) h of right =
     (kept c.locals c.locals m (with_memory_bits b rows m) act.Other (bits_words b rows m) (bits_views b rows m)
     refl refl tt))))))
 leaves s S c m a (PutView i x) h of right =
-    let t : Act = stepped (plan_of_line c (PutView i x)) S c.me in
+    let t : Act = stepped (intent_of_line c (PutView i x)) S c.me in
     bound c.locals m t None (place_in c.shape.n (index_value c i)) _ (λ k there.
     bound c.locals m t None (owned s.kind c bank.V (index_value c i) (value_at x c.locals.views [])) _ (λ v own.
     let to = place_there c.shape.n (index_value c i) k there in
@@ -251,7 +251,7 @@ leaves s S c m a (PutView i x) h of right =
 leaves s S c m a (ViewData x y) h of right =
     onward c.locals m (act.Collect x) (following s.lines a.line) m _ a.link (collected c.locals m x _)
 leaves s S c m a (ViewOf x y i) h of right =
-    let t : Act = stepped (plan_of_line c (ViewOf x y i)) S c.me in
+    let t : Act = stepped (intent_of_line c (ViewOf x y i)) S c.me in
     bound c.locals m t None (place_in (places c.shape) (index_value c i)) _ (λ k there.
     let from = place_there (places c.shape) (index_value c i) k there in
     let words : List Word = value_at y c.locals.words [] in
@@ -284,7 +284,7 @@ leaves s S c m a (If k target) h of right =
     choice c.locals m act.Other None b _ _ (plain c.locals m)
     (onward c.locals m act.Other (following s.lines a.line) m c.locals a.link (plain c.locals m)))
 leaves s S c m a (IfAll g k target) h of right =
-    let t : Act = stepped (plan_of_line c (IfAll g k target)) S c.me in
+    let t : Act = stepped (intent_of_line c (IfAll g k target)) S c.me in
     let stays : Went c.locals m t m c.locals = kept c.locals c.locals m m t refl refl refl refl tt in
     bound c.locals m t None (conditions c (range_end c.shape g) k) _ (λ bs are.
     choice c.locals m t None (all_true bs) _ _ stays

@@ -21,16 +21,16 @@ use Rattle.snap_acts.specs.Loans.{handed_on, step_at}
 use Rattle.snap_acts.specs.Searches.{first_within, is_enter, is_leave, last_before, meets}
 use Rattle.snap_acts.specs.declared.act.Act.{Act}
 use Rattle.snap_acts.specs.declared.act.Act.TheVariants as act
-use Rattle.snap_acts.specs.declared.act.Step.{Step}
-use Rattle.snap_acts.specs.declared.wanted.Wanted.{Wanted}
-use Rattle.snap_acts.specs.declared.wanted.Wanted.TheVariants as wanted
+use Rattle.snap_acts.specs.declared.act.TraceStep.{TraceStep}
+use Rattle.snap_acts.specs.declared.searches.StepPattern.{StepPattern}
+use Rattle.snap_acts.specs.declared.searches.StepPattern.TheVariants as wanted
 use Rattle.snap_reading_laws.specs.loans.Held.{handed_view, held, held_if_named}
 use Rattle.snap_reading_laws.proofs.loans.Items.{told, turn}
 use Rattle.snap_reading_laws.proofs.loans.Named.{both_true, numbers_differ}
 use Rattle.snap_reading_laws.proofs.loans.Turns.{Begins, IsStuck, Returns}
 
 -- what is found is there
-pub found : (w : Wanted) (ss : List Step) (k g : ℕ) → last_before w ss k ≡ Some g →
+pub found : (w : StepPattern) (ss : List TraceStep) (k g : ℕ) → last_before w ss k ≡ Some g →
     (g < k) × (meets w (step_at ss g) ≡ true)
 found w ss zero g e = absurd cc
 found w ss (suc k) g e = by_last (meets w (step_at ss k)) refl (found w ss k g) e
@@ -43,12 +43,13 @@ found w ss (suc k) g e = by_last (meets w (step_at ss k)) refl (found w ss k g) 
     by_last false is more e = let there = more e in let less = there.0 in (omega (arith, less), there.1)
 
 -- the first place at which there is what is wanted
-pub record IsFirst (w : Wanted) (ss : List Step) (k e : ℕ) : Type 0 where
+pub record IsFirst (w : StepPattern) (ss : List TraceStep) (k e : ℕ) : Type 0 where
   pub there : meets w (step_at ss e) ≡ true
   pub after : k ≤ e
   pub first : (t : ℕ) → k ≤ t → t < e → meets w (step_at ss t) ≡ false
 
-pub is_first : (w : Wanted) (ss : List Step) (k count e : ℕ) → first_within w ss k count ≡ Some e → IsFirst w ss k e
+pub is_first : (w : StepPattern) (ss : List TraceStep) (k count e : ℕ) → first_within w ss k count ≡ Some e →
+    IsFirst w ss k e
 is_first w ss k zero e is = absurd cc
 is_first w ss k (suc count) e is =
     by_first (meets w (step_at ss k)) refl (is_first w ss (k + 1) count e) is
@@ -141,7 +142,7 @@ stands_nowhere s (Trapped c a) i h line = absurd cc
 stands_nowhere s (Crashed was) i h line = absurd cc
 
 module _ (r : Run) (listing : IsListing r.source) (valid : IsValidRun r) (i : ℕ) (one : IsOneOf r.shape.n i) where
-  abbrev ss : List Step
+  abbrev ss : List TraceStep
   ss = trace_of r
 
   abbrev most : ℕ

@@ -31,7 +31,8 @@ use Rattle.snap_semantics.specs.declared.process.Status.{Status}
 use Rattle.snap_semantics.specs.declared.process.Status.TheVariants.{Idle, Busy, Trapped, Crashed}
 use Rattle.snap_runs.specs.Scan.{IsCallLine, line_in, link_in}
 use Rattle.snap_acts.specs.Searches.{is_leave}
-use Rattle.snap_acts.specs.Trace.{act_of, context_of, plan_in, plan_of, plan_of_instr, plan_of_line, returned, step_of}
+use Rattle.snap_acts.specs.Trace.{act_of, context_of, intent_in, intent_of}
+use Rattle.snap_acts.specs.Trace.{intent_of_instr, intent_of_line, returned, step_of}
 use Rattle.snap_acts.specs.Trace.{stepped}
 use Rattle.snap_acts.specs.declared.act.Act.{Act}
 use Rattle.snap_acts.specs.declared.act.Act.TheVariants as act
@@ -96,7 +97,7 @@ finish_links i op.Scan link = tt
 
 -- each form of a line
 links : (s : Source) (S : State) (c : Context) (m : Memory) (a : Activity) (i : Instr) →
-    Links i (stepped (plan_of_line c i) S c.me) a.link (effect s c m a i)
+    Links i (stepped (intent_of_line c i) S c.me) a.link (effect s c m a i)
 links s S c m a (Let x e) =
     bound (Let x e) act.Other a.link (expr_value c e) _
     (λ v. onward (Let x e) act.Other a.link (following s.lines a.line) m _ a.link refl)
@@ -107,7 +108,7 @@ links s S c m a (LetPlace x i e) =
     (λ v. onward j act.Other a.link (following s.lines a.line) m _ a.link refl))
 links s S c m a (Get x i k) =
     let j = Get x i k in
-    let t : Act = stepped (plan_of_line c j) S c.me in
+    let t : Act = stepped (intent_of_line c j) S c.me in
     bound j t a.link (place_in (places c.shape) (index_value c i)) _ (λ p.
     bound j t a.link (place_in c.shape.w (index_value c k)) _
     (λ r. onward j t a.link (following s.lines a.line) m _ a.link refl))
@@ -118,12 +119,12 @@ links s S c m a (Bit x b i k) =
     (λ r. onward j act.Other a.link (following s.lines a.line) m _ a.link refl))
 links s S c m a (Look x i) =
     let j = Look x i in
-    let t : Act = stepped (plan_of_line c j) S c.me in
+    let t : Act = stepped (intent_of_line c j) S c.me in
     bound j t a.link (place_in c.shape.n (index_value c i)) _
     (λ p. onward j t a.link (following s.lines a.line) m _ a.link refl)
 links s S c m a (Put i u) =
     let j = Put i u in
-    let t : Act = stepped (plan_of_line c j) S c.me in
+    let t : Act = stepped (intent_of_line c j) S c.me in
     bound j t a.link (place_in c.shape.w (index_value c i)) _ (λ r. bound j t a.link (tuple_word c u) _ (λ parts.
     bound j t a.link (with_bits parts) _ (λ word. bound j t a.link (owned s.kind c bank.R (index_value c i) word) _
     (λ x. onward j t a.link (following s.lines a.line) _ c.locals a.link refl))))
@@ -136,7 +137,7 @@ links s S c m a (PutBit b i k e) =
     (λ x. onward j act.Other a.link (following s.lines a.line) _ c.locals a.link refl)))))
 links s S c m a (PutView i x) =
     let j = PutView i x in
-    let t : Act = stepped (plan_of_line c j) S c.me in
+    let t : Act = stepped (intent_of_line c j) S c.me in
     bound j t a.link (place_in c.shape.n (index_value c i)) _ (λ p.
     bound j t a.link (owned s.kind c bank.V (index_value c i) (value_at x c.locals.views [])) _
     (λ v. onward j t a.link (following s.lines a.line) _ c.locals a.link refl))
@@ -144,7 +145,7 @@ links s S c m a (ViewData x y) =
     onward (ViewData x y) (act.Collect x) a.link (following s.lines a.line) m _ a.link refl
 links s S c m a (ViewOf x y i) =
     let j = ViewOf x y i in
-    let t : Act = stepped (plan_of_line c j) S c.me in
+    let t : Act = stepped (intent_of_line c j) S c.me in
     bound j t a.link (place_in (places c.shape) (index_value c i)) _
     (λ p. onward j t a.link (following s.lines a.line) m _ a.link refl)
 links s S c m a (Each g x e k) =
@@ -162,7 +163,7 @@ links s S c m a (If k target) =
     (onward (If k target) act.Other a.link (following s.lines a.line) m c.locals a.link refl))
 links s S c m a (IfAll g k target) =
     let j = IfAll g k target in
-    let t : Act = stepped (plan_of_line c j) S c.me in
+    let t : Act = stepped (intent_of_line c j) S c.me in
     bound j t a.link (conditions c (range_end c.shape g) k) _ (λ bs. choice j t a.link (all_true bs) _ _ refl
     (onward j t a.link (following s.lines a.line) m c.locals a.link refl))
 links s S c m a (Goto target) = refl
@@ -256,14 +257,15 @@ module _ (s : Source) (shape : Counts) (i : ℕ) where
 
   leave_turn : (S : State) (a : Activity) (c : Context) (j : Instr) (e : Result Effect Cause) → IsOneOf shape.n i →
       length S.processes ≡ shape.n → instr_at s.lines a.line ≡ Some j →
-      ((S' : State) → Links j (stepped (plan_of_line c j) S' i) a.link e) →
+      ((S' : State) → Links j (stepped (intent_of_line c j) S' i) a.link e) →
       ((y : Name) (k : ℕ) (w : Cause) → j ≡ Return y → a.link ≡ Some k → e ≡ Err w → ⊥) →
       (let r = leave S i a (process_at S i).locals e in
-      Turn s i (item.Step i) (Busy a) (act_of (plan_of_line c j) r.0 i (item.Step i) r.1) r.1 (process_at r.0 i).status)
+      Turn s i (item.Step i) (Busy a) (act_of (intent_of_line c j) r.0 i (item.Step i) r.1) r.1 (process_at r.0
+      i).status)
   leave_turn S a c j (Ok (Goes m l link line)) one count there h fails =
       let q : Process = record { status = Busy (record { op = a.op; line = line; link = link }); locals = l } in
       let S' : State = record { memory = m; processes = slice_set S.processes (i - 1) q } in
-      let t : Act = stepped (plan_of_line c j) S' i in
+      let t : Act = stepped (intent_of_line c j) S' i in
       subst (Turn s i (item.Step i) (Busy a) t outcome.Stepped) (own_status S m q one count) (record {
         enters = λ is. (let g = subst (λ (v : Act). IsLinked j v a.link link) is (h S') in record {
           item = refl;
@@ -282,12 +284,12 @@ module _ (s : Source) (shape : Counts) (i : ℕ) where
         stuck = λ none. absurd none;
         returns = λ y k is line has.
             let same : j ≡ Return y = (let both : Some j ≡ Some (Return y) = sym there ∙ line in cc) in
-            ap (λ (v : Instr). is_leave (stepped (plan_of_line c v) S' i)) same;
+            ap (λ (v : Instr). is_leave (stepped (intent_of_line c v) S' i)) same;
       })
   leave_turn S a c j (Ok (Answers v)) one count there h fails =
       let q : Process = record { status = Idle; locals = (process_at S i).locals } in
       subst (Turn s i (item.Step i) (Busy a) _ (outcome.Answered v)) (own_status S S.memory q one count)
-      (stops (item.Step i) (Busy a) (act.Answer v (returned (plan_of_line c j))) (outcome.Answered v) Idle
+      (stops (item.Step i) (Busy a) (act.Answer v (returned (intent_of_line c j))) (outcome.Answered v) Idle
       (λ is. absurd cc) (λ y is. absurd cc) (λ k has. none_some a.link k (h S) has) (λ none. absurd none)
       (λ y k is line has. none_some a.link k (h S) has))
   leave_turn S a c j (Ok Finishes) one count there h fails =
@@ -306,7 +308,7 @@ module _ (s : Source) (shape : Counts) (i : ℕ) where
   busy_turn : (S : State) (a : Activity) (c : Context) (found : Option Instr) → IsOneOf shape.n i →
       length S.processes ≡ shape.n → instr_at s.lines a.line ≡ found → c.me ≡ i →
       (let r = leave S i a (process_at S i).locals (effect_at s c S.memory a found) in
-      Turn s i (item.Step i) (Busy a) (act_of (plan_of_instr c found) r.0 i (item.Step i) r.1) r.1
+      Turn s i (item.Step i) (Busy a) (act_of (intent_of_instr c found) r.0 i (item.Step i) r.1) r.1
       (process_at r.0 i).status)
   busy_turn S a c None one count there me =
       let q : Process = record { status = Trapped cause.OffEnd a; locals = (process_at S i).locals } in
@@ -317,14 +319,14 @@ module _ (s : Source) (shape : Counts) (i : ℕ) where
       (λ y k is line has. absurd (let both : None ≡ Some (Return y) = sym there ∙ line in cc)))
   busy_turn S a c (Some j) one count there me =
       leave_turn S a c j (effect s c S.memory a j) one count there
-      (λ S'. subst (λ (k : ℕ). Links j (stepped (plan_of_line c j) S' k) a.link (effect s c S.memory a j)) me
+      (λ S'. subst (λ (k : ℕ). Links j (stepped (intent_of_line c j) S' k) a.link (effect s c S.memory a j)) me
       (links s S' c S.memory a j))
       (λ y k w is has e. return_goes_on S.memory c.locals (value_at y c.locals.views []) a.op a.link k w has
       (subst (λ (v : Instr). effect s c S.memory a v ≡ Err w) is e))
 
   step_turn : (S : State) (u : Status) → (process_at S i).status ≡ u → IsOneOf shape.n i →
       length S.processes ≡ shape.n → (let r = step s shape S i (process_at S i) u in
-      Turn s i (item.Step i) u (act_of (plan_in s shape i (process_at S i) u) r.0 i (item.Step i) r.1) r.1
+      Turn s i (item.Step i) u (act_of (intent_in s shape i (process_at S i) u) r.0 i (item.Step i) r.1) r.1
       (process_at r.0 i).status)
   step_turn S Idle is one count =
       subst (Turn s i (item.Step i) Idle act.Skip _) (sym is) (rests (item.Step i) Idle _ (λ y same line. absurd cc))
@@ -339,7 +341,7 @@ module _ (s : Source) (shape : Counts) (i : ℕ) where
 
   called_turn : (S : State) (o : Op) (why : Option Reason) → (process_at S i).status ≡ Idle → IsOneOf shape.n i →
       length S.processes ≡ shape.n → (let r = called s S i (process_at S i) o why in
-      Turn s i (item.Call i o) Idle (act_of (plan_of s shape S (item.Call i o)) r.0 i (item.Call i o) r.1) r.1
+      Turn s i (item.Call i o) Idle (act_of (intent_of s shape S (item.Call i o)) r.0 i (item.Call i o) r.1) r.1
       (process_at r.0 i).status)
   called_turn S o (Some reason) is one count =
       subst (Turn s i (item.Call i o) Idle act.Skip _) (sym is)
@@ -351,7 +353,7 @@ module _ (s : Source) (shape : Counts) (i : ℕ) where
 
   call_turn : (S : State) (o : Op) (u : Status) → (process_at S i).status ≡ u → IsOneOf shape.n i →
       length S.processes ≡ shape.n → (let r = call s shape S i o (process_at S i) u in
-      Turn s i (item.Call i o) u (act_of (plan_of s shape S (item.Call i o)) r.0 i (item.Call i o) r.1) r.1
+      Turn s i (item.Call i o) u (act_of (intent_of s shape S (item.Call i o)) r.0 i (item.Call i o) r.1) r.1
       (process_at r.0 i).status)
   call_turn S o Idle is one count = called_turn S o (call_skip s.kind shape i o) is one count
   call_turn S o (Busy a) is one count =
@@ -379,7 +381,7 @@ module _ (s : Source) (shape : Counts) (i : ℕ) where
 
   crash_turn : (S : State) (u : Status) → (process_at S i).status ≡ u → IsOneOf shape.n i →
       length S.processes ≡ shape.n → (let r = crash S i (process_at S i) u in
-      Turn s i (item.Crash i) u (act_of (plan_of s shape S (item.Crash i)) r.0 i (item.Crash i) r.1) r.1
+      Turn s i (item.Crash i) u (act_of (intent_of s shape S (item.Crash i)) r.0 i (item.Crash i) r.1) r.1
       (process_at r.0 i).status)
   crash_turn S (Busy a) is one count = crashed_turn S (Busy a) (Some a) one count
   crash_turn S Idle is one count = crashed_turn S Idle None one count

@@ -12,12 +12,12 @@ use Rattle.snap_acts.specs.Trace.{trace_of}
 use Rattle.snap_acts.specs.Loans.{handed_on, lender_at, source_of, step_at, view_taken}
 use Rattle.snap_acts.specs.declared.act.Act.{Act}
 use Rattle.snap_acts.specs.declared.act.Act.TheVariants as act
-use Rattle.snap_acts.specs.declared.act.Step.{Step}
+use Rattle.snap_acts.specs.declared.act.TraceStep.{TraceStep}
 use Rattle.snap_acts.specs.declared.loans.Borrowed.{Borrowed}
 use Rattle.snap_acts.specs.declared.loans.ScanPlaces.{ScanPlaces}
 
 -- the step at place k of a run's trace
-abbrev pub step : Run → ℕ → Step
+abbrev pub step : Run → ℕ → TraceStep
 step r k = step_at (trace_of r) k
 
 -- the view in local x of process i before place k

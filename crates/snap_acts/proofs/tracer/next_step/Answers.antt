@@ -19,9 +19,10 @@ returns g c =
       step =
           passed_is w w' p c.in-Some.item c.who-process.result
           c.line_number-line.result c.machine.result.now.state c.machine-3.result.now.state
-          c.machine-2.result.now c.plan_of-plan.result c.in_ok-act.act is c.in-Some.ensures.1 c.who-process.ensures
+          c.machine-2.result.now c.intent_of-intent.result c.in_ok-act.act is c.in-Some.ensures.1 c.who-process.ensures
           c.machine.ensures.state c.machine-3.ensures.state c.machine-2.ensures.source c.machine-2.ensures.shape
-          c.machine-2.ensures.state (c.line_number-line.ensures ∙ ap line_number c.line.ensures) c.plan_of-plan.ensures
+          c.machine-2.ensures.state (c.line_number-line.ensures ∙ ap line_number c.line.ensures)
+          c.intent_of-intent.ensures
           c.in_ok-act.ensures;
       way = is.way;
     }

@@ -1,9 +1,11 @@
 -- `verdict_lines` of snap_audit (src/text.rt): what holds at the head of each of its loops. Appends the lines of
 -- verdicts.
-use Rattle.std.proofs.Common.{◌≡◌, ◌++◌, drop}
+use Rattle.std.proofs.Common.{◌≡◌, ◌++◌, drop, false}
 use Rattle.snap_audit.specs.VerdictText.{verdict_lines}
 use Rattle.snap_audit.proofs.text.verdict_lines.Given as goal
 
 abbrev pub invariant-loop-verdict : goal.invariant-loop-verdict
 invariant-loop-verdict l =
-    l.out.items ++ verdict_lines (drop l.verdict-index l.verdicts) ≡ l.fn.out.items ++ verdict_lines l.verdicts
+    l.out.failed ≡ false →
+    (l.fn.out.failed ≡ false)
+    × (l.out.text ++ verdict_lines (drop l.verdict-index l.verdicts) ≡ l.fn.out.text ++ verdict_lines l.verdicts)

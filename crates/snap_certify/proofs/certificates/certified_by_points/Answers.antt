@@ -1,4 +1,4 @@
--- `certified_by_points` of snap_certification (src/lib.rt): the proof of what its contract says. A run has a
+-- `certified_by_points` of snap_certify (src/certificates.rt): the proof of what its contract says. A run has a
 -- certificate exactly if its operations have linearization points: a run of a listing of one's own can be certified
 -- item by item.
 use Rattle.snap_certify.proofs.Certifying.{by_points}

@@ -1,4 +1,4 @@
--- `events_until` of snap_debug_checkpoints (src/recording.rt): the proof of what its contract says. Returns the events
+-- `events_until` of snap_debug (src/recording.rt): the proof of what its contract says. Returns the events
 -- of the first `position` items.
 use Rattle.std.proofs.Common.{◌<◌, subst, sym, ◌∙◌}
 use Rattle.snap_semantics.specs.declared.event.Event.{Event}

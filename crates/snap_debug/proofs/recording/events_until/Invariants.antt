@@ -1,4 +1,4 @@
--- `events_until` of snap_debug_checkpoints (src/recording.rt): what holds at the head of each of its loops. Returns the
+-- `events_until` of snap_debug (src/recording.rt): what holds at the head of each of its loops. Returns the
 -- events of the first `position` items.
 use Rattle.std.proofs.Common.{◌≡◌, ◌-◌, ◌++◌, drop, length, take}
 use Rattle.snap_debug.proofs.Recordings.{until}

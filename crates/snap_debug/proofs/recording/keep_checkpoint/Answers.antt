@@ -1,4 +1,4 @@
--- `keep_checkpoint` of snap_debug_checkpoints (src/recording.rt): the proof of what its contract says. Keeps a copy of
+-- `keep_checkpoint` of snap_debug (src/recording.rt): the proof of what its contract says. Keeps a copy of
 -- the machine, if a checkpoint is due.
 use Rattle.std.proofs.Common.{length, ap, ◌∙◌}
 use Rattle.snap_record.proofs.Longer.{join_all}

@@ -1,5 +1,5 @@
--- `what_is_lost_stays_lost` of snap_expected (src/laws.rt): the proof of what its contract says. A line that is lost at
--- a token is lost whatever follows that token.
+-- `what_is_lost_stays_lost` of snap_explanation (src/laws.rt): the proof of what its contract says. A line that is lost
+-- at a token is lost whatever follows that token.
 use Rattle.std.proofs.Common.{arith}
 use Rattle.snap_explanation.specs.Lost.{wanted_of}
 use Rattle.snap_explanation.proofs.Stays.{stays}

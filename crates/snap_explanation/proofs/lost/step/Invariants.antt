@@ -1,4 +1,4 @@
--- `step` of snap_expected (src/lost.rt): what holds at the head of each of its loops. Returns what is wanted behind
+-- `step` of snap_explanation (src/lost.rt): what holds at the head of each of its loops. Returns what is wanted behind
 -- `token`, where `wanted` are wanted in a row; `None` if the line does not go on with it.
 use Rattle.std.proofs.Common.{◌≡◌, length}
 use Rattle.snap_text.specs.Tokens.{view_token}

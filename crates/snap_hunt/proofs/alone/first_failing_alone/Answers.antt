@@ -8,7 +8,7 @@ pub returns-then-is_some : goal.returns-then-is_some
 returns-then-is_some c =
     let run = c.loop-run.run in
     let in_all : run + 1 ≤ c.args.runs = omega (arith, c.loop-run.invariant.inside) in
-    found_first c.args.program.now c.args.plan.now c.args.wanted.now c.args.seed run (run + 1)
+    found_first c.args.hunt.now.program.now c.args.hunt.now.plan.now c.args.hunt.now.wanted.now c.args.hunt.now.seed run (run + 1)
     c.args.runs c.in_ok-found.found in_all c.loop-run.invariant.none
     c.in_ok-found.ensures (sym c.is_some.ensures ∙ c.if-is_some.true)
 
@@ -18,7 +18,7 @@ loop-run-preserved c =
     record {
       inside = omega (arith, c.loop-run.invariant.inside);
       none =
-          none_more c.args.program.now c.args.plan.now c.args.wanted.now c.args.seed run (run + 1)
+          none_more c.args.hunt.now.program.now c.args.hunt.now.plan.now c.args.hunt.now.wanted.now c.args.hunt.now.seed run (run + 1)
           c.in_ok-found.found c.loop-run.invariant.none c.in_ok-found.ensures
           (sym c.is_some.ensures ∙ c.if-is_some.false);
     }

@@ -9,7 +9,7 @@ use Rattle.snap_hunt.proofs.alone.first_failing_alone.Given as goal
 abbrev pub invariant-loop-run : goal.invariant-loop-run
 invariant-loop-run l = record {
   inside : l.run ≤ l.runs;
-  none : NothingBefore l.program l.plan l.wanted l.seed 0 l.run;
+  none : NothingBefore l.hunt.program.now l.hunt.plan.now l.hunt.wanted.now l.hunt.seed 0 l.run;
 }
 
 abbrev pub decreases-loop-run : goal.decreases-loop-run

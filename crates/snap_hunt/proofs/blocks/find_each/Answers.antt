@@ -15,7 +15,7 @@ returns g c =
     let base = ap min_len_base c.map.ensures.base ∙ c.with_min_len.ensures.base in
     let held = c.map.result.f in
     side_by_side (λ (x : Wanted × (ℕ → Run)) k o. Finds x.0 (x.1 k) o)
-    (held.3.now, run_of held.1.now held.2.now held.4.now)
-    (c.args.wanted.now, run_of c.args.program.now c.args.plan.now c.args.seed)
-    (ap (λ f. (f.3.now, run_of f.1.now f.2.now f.4.now)) c.map.ensures.f) h.1.0 c.args.runs.now
+    (held.1.now.wanted.now, run_of held.1.now.program.now held.1.now.plan.now held.1.now.seed)
+    (c.args.hunt.now.wanted.now, run_of c.args.hunt.now.program.now c.args.hunt.now.plan.now c.args.hunt.now.seed)
+    (ap (λ f. (f.1.now.wanted.now, run_of f.1.now.program.now f.1.now.plan.now f.1.now.seed)) c.map.ensures.f) h.1.0 c.args.runs.now
     (h.1.1 ∙ (ap (λ it. it.slice.now) base ∙ c.par_iter.ensures)) h.0 c.in_ok-found.found h.1.2 h.2

@@ -1,4 +1,4 @@
--- `failure` of snap_failure (src/failing.rt): the proof of what its contract says. Returns the first wanted failure of
+-- `failure` of snap_hunt (src/failing.rt): the proof of what its contract says. Returns the first wanted failure of
 -- a run, behind its last item: that it is not linearizable, or what is seen in it.
 use Rattle.std.proofs.Common.{◌≡◌, List, Option, ap, length, refl, subst, sym, ◌∙◌}
 use Rattle.snap_words.specs.Shape.{Counts}

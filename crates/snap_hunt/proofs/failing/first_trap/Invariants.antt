@@ -1,4 +1,4 @@
--- `first_trap` of snap_failure (src/failing.rt): what holds at the head of each of its loops. Returns the least process
+-- `first_trap` of snap_hunt (src/failing.rt): what holds at the head of each of its loops. Returns the least process
 -- that has trapped.
 use Rattle.std.proofs.Common.{◌≡◌, ◌+◌, ◌-◌}
 use Rattle.snap_hunt.specs.Failing.{first_trap}

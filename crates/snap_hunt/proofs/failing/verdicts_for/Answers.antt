@@ -1,4 +1,4 @@
--- `verdicts_for` of snap_failure (src/failing.rt): the proof of what its contract says. Returns the verdicts on a run,
+-- `verdicts_for` of snap_hunt (src/failing.rt): the proof of what its contract says. Returns the verdicts on a run,
 -- if the first scan without a point, or with too many double collects, is wanted.
 use Rattle.std.proofs.Common.{ap, [], sym, ◌∙◌}
 use Rattle.std.proofs.lemmas.Result.{IfOk-weaker}

@@ -9,7 +9,7 @@ returns-then-is_some g c =
     let from = c.loop-from.from in
     let in_all : from + c.min-count.result ≤ c.args.runs =
     omega (arith, c.min-count.ensures, c.loop-from.invariant.inside) in
-    found_first c.args.program.now c.args.plan.now c.args.wanted.now c.args.seed from (from + c.min-count.result)
+    found_first c.args.hunt.now.program.now c.args.hunt.now.plan.now c.args.hunt.now.wanted.now c.args.hunt.now.seed from (from + c.min-count.result)
     c.args.runs c.in_ok-found.found in_all c.loop-from.invariant.none
     c.in_ok-found.ensures (sym c.is_some.ensures ∙ c.if-is_some.true)
 
@@ -19,7 +19,7 @@ loop-from-preserved g c =
     record {
       inside = omega (arith, c.min-count.ensures, c.loop-from.invariant.inside);
       none =
-          none_more c.args.program.now c.args.plan.now c.args.wanted.now c.args.seed from (from + c.min-count.result)
+          none_more c.args.hunt.now.program.now c.args.hunt.now.plan.now c.args.hunt.now.wanted.now c.args.hunt.now.seed from (from + c.min-count.result)
           c.in_ok-found.found c.loop-from.invariant.none c.in_ok-found.ensures
           (sym c.is_some.ensures ∙ c.if-is_some.false);
     }

@@ -8,7 +8,7 @@ use Rattle.snap_hunt.proofs.hunt.first_in_blocks.Given as goal
 abbrev pub invariant-loop-from : goal.invariant-loop-from
 invariant-loop-from g l = record {
   inside : l.from ≤ l.runs;
-  none : NothingBefore l.program l.plan l.wanted l.seed 0 l.from;
+  none : NothingBefore l.hunt.program.now l.hunt.plan.now l.hunt.wanted.now l.hunt.seed 0 l.from;
 }
 
 abbrev pub decreases-loop-from : goal.decreases-loop-from

@@ -10,10 +10,10 @@ use Rattle.snap_hunt.proofs.hunt.in_block.Goals as goal
 
 pub returns : goal.returns
 returns g c =
-    let l = c.args.program.now in
-    let p = c.args.plan.now in
-    let w = c.args.wanted.now in
-    let seed = c.args.seed in
+    let l = c.args.hunt.now.program.now in
+    let p = c.args.hunt.now.plan.now in
+    let w = c.args.hunt.now.wanted.now in
+    let seed = c.args.hunt.now.seed in
     let runs = c.as_slice.result.now in
     first_of_block l p w seed c.args.from c.args.count runs c.as_slice-2.result.now c.first_of.result
     (c.as_slice.ensures.value ∙ c.in_ok-runs.ensures)

@@ -1,4 +1,4 @@
--- `failure_of_run` of snap_failure (src/over.rt): the proof of what its contract says. Returns what fails in the run of
+-- `failure_of_run` of snap_hunt (src/over.rt): the proof of what its contract says. Returns what fails in the run of
 -- a program of a kind, with no bound on steps.
 use Rattle.std.proofs.Common.{◌≡◌, IfOk, None, ap, length, sym, subst, ◌∙◌}
 use Rattle.snap_runs.specs.Run.{Run}

@@ -1,4 +1,4 @@
--- `failure_of_steps` of snap_failure (src/over.rt): the proof of what its contract says. Returns what fails in the run
+-- `failure_of_steps` of snap_hunt (src/over.rt): the proof of what its contract says. Returns what fails in the run
 -- of a program of a kind, with this bound on steps.
 use Rattle.std.proofs.Common.{◌≡◌, IfOk, ap, length, sym, subst, ◌∙◌}
 use Rattle.snap_words.specs.Shape.{Counts}

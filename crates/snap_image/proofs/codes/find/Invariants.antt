@@ -1,4 +1,4 @@
--- `find` of snap_image_format (src/codes.rt): what holds at the head of each of its loops. Returns the first of these
+-- `find` of snap_image (src/codes.rt): what holds at the head of each of its loops. Returns the first of these
 -- values with this code.
 use Rattle.std.proofs.Common.{◌≡◌, drop}
 use Rattle.snap_image.specs.ImageCodes.{coded}

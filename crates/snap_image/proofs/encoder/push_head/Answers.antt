@@ -1,4 +1,4 @@
--- `push_head` of snap_image_encoder (src/encoder.rt): the proof of what its contract says. Appends what stands before
+-- `push_head` of snap_image (src/encoder.rt): the proof of what its contract says. Appends what stands before
 -- the lines.
 use Rattle.std.proofs.Common.{◌∙◌}
 use Rattle.snap_image.proofs.Heads.{head_pushed}

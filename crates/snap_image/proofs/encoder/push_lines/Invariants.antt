@@ -1,4 +1,4 @@
--- `push_lines` of snap_image_encoder (src/encoder.rt): what holds at the head of each of its loops. Appends lines, each
+-- `push_lines` of snap_image (src/encoder.rt): what holds at the head of each of its loops. Appends lines, each
 -- with its comment behind it.
 use Rattle.std.proofs.Common.{◌≡◌, ◌++◌, drop, length, map}
 use Rattle.std.specs.List.{AllByRecursion}

@@ -1,4 +1,4 @@
--- `push_names` of snap_image_encoder (src/encoder.rt): what holds at the head of each of its loops. Appends names, each
+-- `push_names` of snap_image (src/encoder.rt): what holds at the head of each of its loops. Appends names, each
 -- behind its length.
 use Rattle.std.proofs.Common.{◌≡◌, ◌++◌, drop}
 use Rattle.std.specs.List.{AllByRecursion}

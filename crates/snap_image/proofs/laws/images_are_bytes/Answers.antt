@@ -1,4 +1,4 @@
--- `images_are_bytes` of snap_image_format (src/laws.rt): the proof of what its contract says. An image consists of
+-- `images_are_bytes` of snap_image (src/laws.rt): the proof of what its contract says. An image consists of
 -- bytes.
 use Rattle.snap_image.proofs.ImageBytes.{images_are_bytes}
 use Rattle.snap_image.proofs.laws.images_are_bytes.Goals as goal

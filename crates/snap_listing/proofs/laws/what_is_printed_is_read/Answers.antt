@@ -1,4 +1,4 @@
--- `what_is_printed_is_read` of snap_listing_grammar (src/laws.rt): the proof of what its contract says.
+-- `what_is_printed_is_read` of snap_listing (src/laws.rt): the proof of what its contract says.
 -- What is printed of a listing is read as that listing with its comments.
 use Rattle.snap_listing.proofs.AgainForms.{line_again}
 use Rattle.snap_listing.proofs.Printed.{printed_read}

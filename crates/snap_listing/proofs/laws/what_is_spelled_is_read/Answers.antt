@@ -1,4 +1,4 @@
--- `what_is_spelled_is_read` of snap_listing_grammar (src/laws.rt): the proof of what its contract says.
+-- `what_is_spelled_is_read` of snap_listing (src/laws.rt): the proof of what its contract says.
 -- Every listing is read from every text that spells it.
 use Rattle.snap_listing.proofs.AgainForms.{line_again}
 use Rattle.snap_listing.proofs.ReadsAll.{reads_all_spelled_by}

@@ -1,4 +1,4 @@
--- `find_text` of snap_listing_printer (src/line_texts.rt): what holds at the head of each of its loops. Returns the
+-- `find_text` of snap_listing (src/line_texts.rt): what holds at the head of each of its loops. Returns the
 -- text of the line with this number.
 use Rattle.std.proofs.Common.{◌≡◌, ◌-◌, drop, length, map}
 use Rattle.snap_listing.specs.LineTexts.{seen_line, text_with}

@@ -1,4 +1,4 @@
--- `numbered_texts` of snap_listing_printer (src/line_texts.rt): what holds at the head of each of its loops. Returns
+-- `numbered_texts` of snap_listing (src/line_texts.rt): what holds at the head of each of its loops. Returns
 -- the numbers of `lines`, each with its line of the text.
 use Rattle.std.proofs.Common.{◌≡◌, ◌++◌, drop, map}
 use Rattle.snap_listing.specs.LineTexts.{seen_line, texts_from}

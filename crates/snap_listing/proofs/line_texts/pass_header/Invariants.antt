@@ -1,4 +1,4 @@
--- `pass_header` of snap_listing_printer (src/line_texts.rt): what holds at the head of each of its loops.
+-- `pass_header` of snap_listing (src/line_texts.rt): what holds at the head of each of its loops.
 -- Passes over the lines before the numbered ones.
 use Rattle.std.proofs.Common.{◌≡◌, drop}
 use Rattle.snap_listing.proofs.line_texts.pass_header.Given as goal

@@ -1,4 +1,4 @@
--- `push_lines` of snap_listing_printer (src/printer.rt): what holds at the head of each of its loops. Appends the
+-- `push_lines` of snap_listing (src/printer.rt): what holds at the head of each of its loops. Appends the
 -- numbered lines, each with its comment.
 use Rattle.std.proofs.Common.{◌≡◌, ◌++◌, map, drop, length}
 use Rattle.snap_semantics.specs.CanonicalText.{commented_text}

@@ -1,4 +1,4 @@
--- `first_missing` of snap_live_desk (src/closed_desk.rt): what holds at the head of each of its loops. Returns the
+-- `first_missing` of snap_live (src/closed_desk.rt): what holds at the head of each of its loops. Returns the
 -- least process that has no seat.
 use Rattle.std.proofs.Common.{ℕ, ◌≤◌}
 use Rattle.snap_live.specs.Closed.{HasSeat}

@@ -1,4 +1,4 @@
--- `gather` of snap_live_desk (src/closed_desk.rt): the proof of what its contract says. Returns one seat of the table
+-- `gather` of snap_live (src/closed_desk.rt): the proof of what its contract says. Returns one seat of the table
 -- that knows what all of `seats` know.
 use Rattle.std.proofs.Common.{◌+◌, ◌∙◌, List, rules, subst, get_or, sym}
 use Rattle.std.specs.Prelude.{All}

@@ -1,4 +1,4 @@
--- `gather` of snap_live_desk (src/closed_desk.rt): what holds at the head of each of its loops. Returns one seat of the
+-- `gather` of snap_live (src/closed_desk.rt): what holds at the head of each of its loops. Returns one seat of the
 -- table that knows what all of `seats` know.
 use Rattle.std.proofs.Common.{◌≡◌}
 use Rattle.std.specs.Prelude.{All}

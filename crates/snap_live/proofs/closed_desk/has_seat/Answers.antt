@@ -1,4 +1,4 @@
--- `has_seat` of snap_live_desk (src/closed_desk.rt): the proof of what its contract says. Returns whether one of the
+-- `has_seat` of snap_live (src/closed_desk.rt): the proof of what its contract says. Returns whether one of the
 -- seats is of this process.
 use Rattle.std.proofs.Common.{ap, sym, ◌∙◌}
 use Rattle.snap_live.specs.Shown.{SeatView}

@@ -1,4 +1,4 @@
--- `has_seat` of snap_live_desk (src/closed_desk.rt): what holds at the head of each of its loops. Returns whether one
+-- `has_seat` of snap_live (src/closed_desk.rt): what holds at the head of each of its loops. Returns whether one
 -- of the seats is of this process.
 use Rattle.std.proofs.Common.{drop}
 use Rattle.snap_live.specs.Closed.{HasSeat}

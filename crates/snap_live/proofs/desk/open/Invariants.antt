@@ -1,4 +1,4 @@
--- `open` of snap_live_desk (src/desk.rt): what holds at the head of each of its loops. Returns a desk before the first
+-- `open` of snap_live (src/desk.rt): what holds at the head of each of its loops. Returns a desk before the first
 -- item of a program over a shape, with a seat for each process.
 use Rattle.std.proofs.Common.{◌≡◌, ◌≤◌, [], vec_len}
 use Rattle.std.specs.Prelude.{vec_capacity}

@@ -1,4 +1,4 @@
--- `catch_up` of snap_live_desk (src/steps.rt): the proof of what its contract says. Adds nothing, and lets the seat see
+-- `catch_up` of snap_live (src/steps.rt): the proof of what its contract says. Adds nothing, and lets the seat see
 -- the history.
 use Rattle.std.proofs.Common.{rules}
 use Rattle.snap_live.proofs.Moves.{catches}

@@ -1,4 +1,4 @@
--- `draw` of snap_live_desk (src/steps.rt): the proof of what its contract says. Draws a ticket for a seat, and returns
+-- `draw` of snap_live (src/steps.rt): the proof of what its contract says. Draws a ticket for a seat, and returns
 -- it.
 use Rattle.std.proofs.Common.{rules}
 use Rattle.snap_live.proofs.Moves.{draws_as}

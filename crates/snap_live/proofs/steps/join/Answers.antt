@@ -1,4 +1,4 @@
--- `join` of snap_live_desk (src/steps.rt): the proof of what its contract says. Joins `other` into `seat`, with what it
+-- `join` of snap_live (src/steps.rt): the proof of what its contract says. Joins `other` into `seat`, with what it
 -- has seen and its turns.
 use Rattle.std.proofs.Common.{rules, ap, ◌∙◌}
 use Rattle.snap_live.specs.Rule.{Mine}

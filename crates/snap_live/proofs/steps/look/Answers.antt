@@ -1,4 +1,4 @@
--- `look` of snap_live_desk (src/steps.rt): the proof of what its contract says. Returns whether the ticket is served;
+-- `look` of snap_live (src/steps.rt): the proof of what its contract says. Returns whether the ticket is served;
 -- the seat has the record then.
 use Rattle.std.proofs.Common.{rules}
 use mathlib.Core.Option.{none}

@@ -1,4 +1,4 @@
--- `name` of snap_live_desk (src/steps.rt): the proof of what its contract says. Takes the next process for the seat
+-- `name` of snap_live (src/steps.rt): the proof of what its contract says. Takes the next process for the seat
 -- that may name a process.
 use Rattle.std.proofs.Common.{rules}
 use Rattle.snap_live.proofs.Moves.{names_as}

@@ -1,4 +1,4 @@
--- `publish` of snap_live_desk (src/steps.rt): what holds at the head of each of its loops. Adds the item to the
+-- `publish` of snap_live (src/steps.rt): what holds at the head of each of its loops. Adds the item to the
 -- history.
 use Rattle.snap_live.proofs.steps.publish.Given as goal
 

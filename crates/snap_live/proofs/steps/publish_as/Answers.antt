@@ -1,4 +1,4 @@
--- `publish_as` of snap_live_desk (src/steps.rt): the proof of what its contract says. Adds the item, which the entry
+-- `publish_as` of snap_live (src/steps.rt): the proof of what its contract says. Adds the item, which the entry
 -- names, to the history.
 use Rattle.std.proofs.Common.{rules}
 use Rattle.snap_live.proofs.Moves.{publishes_as}

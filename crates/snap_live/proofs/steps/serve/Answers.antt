@@ -1,4 +1,4 @@
--- `serve` of snap_live_desk (src/steps.rt): the proof of what its contract says. Brings the slot home, so that the next
+-- `serve` of snap_live (src/steps.rt): the proof of what its contract says. Brings the slot home, so that the next
 -- ticket is served.
 use Rattle.std.proofs.Common.{rules}
 use Rattle.snap_live.proofs.Moves.{serves_all}

@@ -1,4 +1,4 @@
--- `split` of snap_live_desk (src/steps.rt): the proof of what its contract says. Returns a new seat, which has seen as
+-- `split` of snap_live (src/steps.rt): the proof of what its contract says. Returns a new seat, which has seen as
 -- much, and may name a process if the old one might.
 use Rattle.std.proofs.Common.{rules}
 use Rattle.snap_live.proofs.Moves.{splits}

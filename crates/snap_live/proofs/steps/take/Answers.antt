@@ -1,4 +1,4 @@
--- `take` of snap_live_desk (src/steps.rt): the proof of what its contract says. Takes the record, which leaves the slot
+-- `take` of snap_live (src/steps.rt): the proof of what its contract says. Takes the record, which leaves the slot
 -- empty.
 use Rattle.std.proofs.Common.{rules}
 use Rattle.snap_live.proofs.Held.{front}

@@ -1,8 +1,10 @@
 -- The loop of `push_lines` (src/uncalled.rt): the lines so far, and those of the calls that are left.
-use Rattle.std.proofs.Common.{◌≡◌, ◌++◌, drop}
+use Rattle.std.proofs.Common.{◌≡◌, ◌++◌, drop, false}
 use Rattle.snap_live_output.specs.Uncalled.{uncalled_lines}
 use Rattle.snap_live_output.proofs.uncalled.push_lines.Given as goal
 
 abbrev pub invariant-loop-call : goal.invariant-loop-call
 invariant-loop-call l =
-    l.out.items ++ uncalled_lines (drop l.call-index l.calls) ≡ l.fn.out.items ++ uncalled_lines l.calls
+    l.out.failed ≡ false →
+    (l.fn.out.failed ≡ false)
+    × (l.out.text ++ uncalled_lines (drop l.call-index l.calls) ≡ l.fn.out.text ++ uncalled_lines l.calls)

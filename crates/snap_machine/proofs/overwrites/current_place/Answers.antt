@@ -1,4 +1,4 @@
--- `current_place` of snap_undo (src/overwrites.rt): the proof of what its contract says. Returns the contents of the
+-- `current_place` of snap_machine (src/overwrites.rt): the proof of what its contract says. Returns the contents of the
 -- place that the line of a process writes.
 use Rattle.std.proofs.Common.{Option, sym, subst}
 use Rattle.snap_words.specs.declared.kind.KindTag.{KindTag}

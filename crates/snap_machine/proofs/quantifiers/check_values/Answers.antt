@@ -1,4 +1,4 @@
--- `check_values` of snap_values (src/quantifiers.rt): the proof of what its contract says. Checks that each place from
+-- `check_values` of snap_machine (src/quantifiers.rt): the proof of what its contract says. Checks that each place from
 -- 1 to `count` has a new value.
 use Rattle.std.proofs.Common.{◌≡◌, ℕ, ◌+◌, List, Ok, Err, refl, sym, ap, ◌∙◌, arith}
 use Rattle.std.proofs.lemmas.Result.{err_from_is_err_and}

@@ -1,4 +1,4 @@
--- `first_place` of snap_values (src/quantifiers.rt): what holds at the head of each of its loops. Returns the least
+-- `first_place` of snap_machine (src/quantifiers.rt): what holds at the head of each of its loops. Returns the least
 -- place, from 1 to `count`, at which a condition holds; `None` where it holds at none.
 use Rattle.std.proofs.Common.{◌≡◌, ◌+◌, Ok}
 use Rattle.snap_asm_program.specs.NamedLines.{named_condition}

@@ -1,4 +1,4 @@
--- `new_row` of snap_line_effects (src/rows.rt): the proof of what its contract says. Returns a row with the new values
+-- `new_row` of snap_machine (src/rows.rt): the proof of what its contract says. Returns a row with the new values
 -- of `count` places, and the old values of the places behind them.
 use Rattle.std.proofs.Common.{◌≡◌, refl, ℕ, ◌+◌, List, [], ◌∷◌, ◌++◌, drop, Ok, Err, sym, ap, ◌∙◌, arith, append_assoc}
 use Rattle.std.proofs.lemmas.Result.{err_from_is_err_and}

@@ -1,4 +1,4 @@
--- `audit` of snap_run_output (src/inputs.rt): the proof of what its contract says. Returns the verdicts on a listing
+-- `audit` of snap_output (src/inputs.rt): the proof of what its contract says. Returns the verdicts on a listing
 -- under a schedule.
 use Rattle.std.proofs.Common.{map, sym}
 use Rattle.snap_output.specs.ScheduleOutput.{verdicts_text}

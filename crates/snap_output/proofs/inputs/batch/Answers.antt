@@ -1,4 +1,4 @@
--- `batch` of snap_run_output (src/inputs.rt): the proof of what its contract says. Returns the reports of a listing
+-- `batch` of snap_output (src/inputs.rt): the proof of what its contract says. Returns the reports of a listing
 -- under many schedules.
 use Rattle.std.proofs.Common.{map, sym}
 use Rattle.snap_input.specs.Parts.{parts_of}

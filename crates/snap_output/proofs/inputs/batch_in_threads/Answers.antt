@@ -1,4 +1,4 @@
--- `batch_in_threads` of snap_run_output (src/inputs.rt): the proof of what its contract says. Returns what `batch`
+-- `batch_in_threads` of snap_output (src/inputs.rt): the proof of what its contract says. Returns what `batch`
 -- returns, with the schedules read and run side by side.
 use Rattle.std.proofs.Common.{map, sym}
 use Rattle.snap_input.specs.Parts.{parts_of}

@@ -1,4 +1,4 @@
--- `plan_input` of snap_run_output (src/inputs.rt): the proof of what its contract says.
+-- `plan_input` of snap_output (src/inputs.rt): the proof of what its contract says.
 -- The program and the schedule that an input asks to run.
 use Rattle.std.proofs.Common.{map, sym}
 use Rattle.snap_output.specs.RunOutput.{end_text, ended_text}

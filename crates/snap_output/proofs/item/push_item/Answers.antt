@@ -1,4 +1,4 @@
--- `push_item` of snap_run_trace (src/item.rt): the proof of what its contract says. Does item number `number`, and
+-- `push_item` of snap_output (src/item.rt): the proof of what its contract says. Does item number `number`, and
 -- appends what it did and what it changed.
 use Rattle.std.proofs.Common.{◌≡◌, ℕ, ◌-◌, ◌<◌, List, [], ◌++◌, length, ap, ◌∙◌, arith, subst}
 use Rattle.snap_semantics.specs.declared.event.Event.{Event}

@@ -1,4 +1,4 @@
--- `trace` of snap_run_trace (src/run_trace.rt): the proof of what its contract says. Returns what each item of the run
+-- `trace` of snap_output (src/run_trace.rt): the proof of what its contract says. Returns what each item of the run
 -- of `program` over `schedule` did, and what it changed.
 use Rattle.std.proofs.Common.{◌≡◌, ◌+◌, ◌++◌, ap, arith, map, sym, ◌∙◌}
 use Rattle.snap_semantics.specs.Source.{Source}
@@ -16,7 +16,7 @@ loop-item-init g c =
     c.texts.view_is ∙ c.in_ok-texts.ensures ∙ ap (λ (s : Source). map written s.lines) c.listing.ensures in (
       begun (run_over c.args.program.now c.args.schedule.now)
           (map seen_line c.texts.inside.lines.items) c.in_ok-machine.machine
-          c.new-sheet.result.out.items c.iter-left.result texts_are
+          c.new-sheet.result.out.text c.iter-left.result texts_are
           (ap (λ (m : Configuration). m.source) c.in_ok-machine.ensures)
           (ap (λ (m : Configuration). m.shape) c.in_ok-machine.ensures ∙ c.shape-shape.ensures.shape)
           (ap (λ (m : Configuration). m.state) c.in_ok-machine.ensures
@@ -34,14 +34,14 @@ overflow_add-number g c =
       arith,
       next_few (run_over c.args.program.now c.args.schedule.now)
           (map seen_line c.texts.inside.lines.items) c.loop-item.machine
-          c.loop-item.number c.loop-item.sheet.out.items c.loop-item.left c.loop-item.invariant.0,
+          c.loop-item.number c.loop-item.sheet.out.text c.loop-item.left c.loop-item.invariant.0,
     )
 
 pub push_item-requires-after_bounds : goal.push_item-requires-after_bounds
 push_item-requires-after_bounds g c =
     λ κs bounds. next_fits (run_over c.args.program.now c.args.schedule.now)
     (map seen_line c.texts.inside.lines.items) c.loop-item.machine
-    c.loop-item.number c.loop-item.sheet.out.items c.loop-item.left c.next.new.self c.in-Some.item
+    c.loop-item.number c.loop-item.sheet.out.text c.loop-item.left c.next.new.self c.in-Some.item
     c.loop-item.invariant.0 c.in-Some.ensures.steps
 
 pub loop-item-preserved : goal.loop-item-preserved
@@ -49,12 +49,12 @@ loop-item-preserved g c =
     let seen : c.in_ok-texts.texts ≡ map seen_line c.texts.inside.lines.items = sym c.texts.view_is in (
       one_more (run_over c.args.program.now c.args.schedule.now)
           (map seen_line c.texts.inside.lines.items) c.loop-item.machine c.push_item.new.machine
-          c.loop-item.number c.loop-item.sheet.out.items c.push_item.new.sheet.out.items c.loop-item.left c.next.new.self
+          c.loop-item.number c.loop-item.sheet.out.text c.push_item.new.sheet.out.text c.loop-item.left c.next.new.self
           c.in-Some.item c.loop-item.invariant.0
           c.in-Some.ensures.steps c.in_ok-push_item.ensures.source c.in_ok-push_item.ensures.shape
           c.in_ok-push_item.ensures.state
           (c.in_ok-push_item.ensures.text
-          ∙ ap (λ ts. c.loop-item.sheet.out.items ++ done_text ts c.loop-item.machine.source c.loop-item.machine.shape
+          ∙ ap (λ ts. c.loop-item.sheet.out.text ++ done_text ts c.loop-item.machine.source c.loop-item.machine.shape
           c.loop-item.machine.state (c.loop-item.number + 1) c.in-Some.item) seen),
       tt,
       tt,
@@ -65,4 +65,4 @@ returns g c =
     c.into_text.ensures
     ∙ all_told (run_over c.args.program.now c.args.schedule.now)
     (map seen_line c.texts.inside.lines.items) c.loop-item.machine
-    c.loop-item.number c.loop-item.sheet.out.items c.loop-item.left c.loop-item.invariant.0 c.in_default.ensures.steps.0
+    c.loop-item.number c.loop-item.sheet.out.text c.loop-item.left c.loop-item.invariant.0 c.in_default.ensures.steps.0

@@ -1,4 +1,4 @@
--- `request_by` of snap_command_line (src/arguments.rt): the proof of what its contract says. Returns the request of the
+-- `request_by` of snap_program (src/arguments.rt): the proof of what its contract says. Returns the request of the
 -- arguments of a subcommand.
 use Rattle.std.proofs.Common.{sym}
 use Rattle.clap.specs.Matches.{found_of}

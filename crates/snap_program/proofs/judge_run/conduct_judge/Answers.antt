@@ -1,4 +1,4 @@
--- `conduct_judge` of snap_devices (src/judge_run.rt): the proof of what its contract says. Reads the input from
+-- `conduct_judge` of snap_program (src/judge_run.rt): the proof of what its contract says. Reads the input from
 -- `source`, judges it, writes the judgement to `sink` and nothing else, and returns the word for it.
 use Rattle.std.specs.Prelude.{Ok}
 use Rattle.snap_program.specs.WholeRun.{IsJudgeOf, RefusesJudge, done_of}

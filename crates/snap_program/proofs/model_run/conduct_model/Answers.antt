@@ -1,4 +1,4 @@
--- `conduct_model` of snap_devices (src/model_run.rt): the proof of what its contract says. Reads the input from
+-- `conduct_model` of snap_program (src/model_run.rt): the proof of what its contract says. Reads the input from
 -- `source`, and writes the model of its listing and scripts to `sink`, in which at most `crashes` processes crash at
 -- any time.
 use Rattle.snap_program.specs.ModelOutput.{MayModel, RefusesModel}

@@ -1,4 +1,4 @@
--- `edited` of snap_prompt_lines (src/edits.rt): the proof of what its contract says. Returns the first `count` items of
+-- `edited` of snap_prompt (src/edits.rt): the proof of what its contract says. Returns the first `count` items of
 -- `schedule`, and those of `addition` behind them.
 use Rattle.std.proofs.Common.{List, ◌++◌, take, ap, ◌∙◌}
 use Rattle.snap_semantics.specs.Schedule.{form_items}

@@ -7,19 +7,26 @@ use Rattle.snap_report.proofs.Lines.{few_views, line_pushed, no_line_left, view_
 use Rattle.snap_report.proofs.register_text.view_lines.Goals as goal
 
 pub loop-i-preserved : goal.loop-i-preserved
-loop-i-preserved g c =
+loop-i-preserved g c = λ well.
     let m = c.args.machine.now in
-    line_pushed (view_line) (view_lines) (λ n. refl)
-    (λ n x xs. refl) m.state.memory.views c.loop-i.i c.args.out.now.items
-    c.loop-i.out.items c.register_line.new.out.items _
-    (view_there m.source.kind m.state.memory c.loop-i.i) c.in_ok-register_line.ensures c.loop-i.invariant
+    let added = c.register_line.ensures well in
+    let held = c.loop-i.invariant added.0 in (
+      held.0,
+      line_pushed (view_line) (view_lines) (λ n. refl)
+          (λ n x xs. refl) m.state.memory.views c.loop-i.i c.args.out.now.text
+          c.loop-i.out.text c.register_line.new.out.text _
+          (view_there m.source.kind m.state.memory c.loop-i.i) added.1 held.1,
+    )
 
 pub returns : goal.returns
-returns g c =
+returns g c = λ well.
     let m = c.args.machine.now in
+    let held = c.loop-i.invariant well in
     let few = few_views g.K.Kind.TAG m.shape m.state.memory c.shape.ensures.registers in
     let count = c.n-count.ensures ∙ ap (λ (s : Counts). s.n) c.shape.ensures.shape in
-    let within : length m.state.memory.views ≤ c.loop-i.i = omega (arith, few, count) in
-    no_line_left (view_line) (view_lines) (λ n. refl)
-    (λ n x xs. refl) m.state.memory.views c.loop-i.i c.args.out.now.items
-    c.loop-i.out.items within c.loop-i.invariant
+    let within : length m.state.memory.views ≤ c.loop-i.i = omega (arith, few, count) in (
+      held.0,
+      no_line_left (view_line) (view_lines) (λ n. refl)
+          (λ n x xs. refl) m.state.memory.views c.loop-i.i c.args.out.now.text
+          c.loop-i.out.text within held.1,
+    )

@@ -1,4 +1,4 @@
--- `take_turn` of snap_dialog (src/turns.rt): the proof of what its contract says. Takes one turn: shows the prompt,
+-- `take_turn` of snap_streams (src/turns.rt): the proof of what its contract says. Takes one turn: shows the prompt,
 -- reads a line, and shows its answer, in that order; and returns whether another turn follows.
 use Rattle.std.proofs.Common.{◌∙◌, refl}
 use Rattle.snap_streams.proofs.Dialogs.{of_copy, turn_passed, turn_shown}

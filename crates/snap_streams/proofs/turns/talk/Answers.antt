@@ -1,4 +1,4 @@
--- `talk` of snap_dialog (src/turns.rt): the proof of what its contract says. Talks with `partner` at `console` until
+-- `talk` of snap_streams (src/turns.rt): the proof of what its contract says. Talks with `partner` at `console` until
 -- the dialog ends.
 use Rattle.snap_streams.proofs.Dialogs.{passed_all, passed_more, shown_all, shown_more}
 use Rattle.snap_streams.proofs.Parts.{between_turns, on_err, shown_between, shown_within, turn_taken, within_turn}

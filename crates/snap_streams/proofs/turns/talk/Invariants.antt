@@ -1,4 +1,4 @@
--- `talk` of snap_dialog (src/turns.rt): what holds at the head of each of its loops. Talks with `partner` at `console`
+-- `talk` of snap_streams (src/turns.rt): what holds at the head of each of its loops. Talks with `partner` at `console`
 -- until the dialog ends.
 use Rattle.std.specs.Prelude.{◌≡◌, None}
 use Rattle.snap_streams.specs.Talks.{HasPassed, HasShown, HasTaken}

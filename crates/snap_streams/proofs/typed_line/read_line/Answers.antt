@@ -1,4 +1,4 @@
--- `read_line` of snap_dialog (src/typed_line.rt): the proof of what its contract says. Reads a line up to and with its
+-- `read_line` of snap_streams (src/typed_line.rt): the proof of what its contract says. Reads a line up to and with its
 -- line feed, or to the end of the input.
 use Rattle.std.proofs.Common.{subst}
 use Rattle.snap_streams.specs.TypedLines.{GivesNext}

@@ -1,4 +1,4 @@
--- `read_line` of snap_dialog (src/typed_line.rt): what holds at the head of each of its loops. Reads a line up to and
+-- `read_line` of snap_streams (src/typed_line.rt): what holds at the head of each of its loops. Reads a line up to and
 -- with its line feed, or to the end of the input.
 use Rattle.std.specs.Prelude.{◌≡◌, false}
 use Rattle.snap_streams.specs.Talks.{HasKept, HasTaken}

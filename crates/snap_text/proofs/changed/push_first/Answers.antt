@@ -16,37 +16,46 @@ no_lines (b ∷ bytes) e =
     absurd (omega (arith, h))
 
 pub returns-then-is_empty-clause-text : goal.returns-then-is_empty-clause-text
-returns-then-is_empty-clause-text c =
+returns-then-is_empty-clause-text c = λ well.
+    let added = c.push_line.ensures well in
     let line = c.split_line.result.0.now in
     let rest = lines_of c.split_line.result.1.now in
-    let none : lines_of c.args.before.now ≡ [] = no_lines c.args.before.now c.if-is_empty.ensures in
-    then_added c.args.out.now.items c.push_line.new.out.items (text_between (lines_of c.args.before.now) rest) _
-    (line_with (codes "+ ") line) (text_between [] rest)
-    c.in_ok-push_line.ensures
-    (ap (λ xs. text_between xs (lines_of c.args.after.now)) none
-    ∙ ap (λ ys. text_between [] ys) c.split_line.ensures.lines ∙ one_added rest line)
-    (ap (λ xs. text_between xs rest) none)
+    let none : lines_of c.args.before.now ≡ [] = no_lines c.args.before.now c.if-is_empty.ensures in (
+      added.0,
+      then_added c.args.out.now.text c.push_line.new.out.text (text_between (lines_of c.args.before.now) rest) _
+          (line_with (codes "+ ") line) (text_between [] rest)
+          added.1
+          (ap (λ xs. text_between xs (lines_of c.args.after.now)) none
+          ∙ ap (λ ys. text_between [] ys) c.split_line.ensures.lines ∙ one_added rest line)
+          (ap (λ xs. text_between xs rest) none),
+    )
 
 pub returns-then-is_empty-2-clause-text : goal.returns-then-is_empty-2-clause-text
-returns-then-is_empty-2-clause-text c =
+returns-then-is_empty-2-clause-text c = λ well.
+    let added = c.push_line-then-is_empty-2.ensures well in
     let line = c.split_line-then-is_empty-2.result.0.now in
     let rest = lines_of c.split_line-then-is_empty-2.result.1.now in
-    let none : lines_of c.args.after.now ≡ [] = no_lines c.args.after.now c.if-is_empty-2.ensures in
-    then_added c.args.out.now.items c.push_line-then-is_empty-2.new.out.items
-    (text_between rest (lines_of c.args.after.now)) _ (line_with (codes "- ") line) (text_between rest [])
-    c.in_ok-push_line-2.ensures
-    (ap (λ ys. text_between (lines_of c.args.before.now) ys) none
-    ∙ ap (λ xs. text_between xs []) c.split_line-then-is_empty-2.ensures.lines ∙ one_removed rest line)
-    (ap (λ ys. text_between rest ys) none)
+    let none : lines_of c.args.after.now ≡ [] = no_lines c.args.after.now c.if-is_empty-2.ensures in (
+      added.0,
+      then_added c.args.out.now.text c.push_line-then-is_empty-2.new.out.text
+          (text_between rest (lines_of c.args.after.now)) _ (line_with (codes "- ") line) (text_between rest [])
+          added.1
+          (ap (λ ys. text_between (lines_of c.args.before.now) ys) none
+          ∙ ap (λ xs. text_between xs []) c.split_line-then-is_empty-2.ensures.lines ∙ one_removed rest line)
+          (ap (λ ys. text_between rest ys) none),
+    )
 
 pub returns-clause-text : goal.returns-clause-text
-returns-clause-text c =
+returns-clause-text c = λ well.
+    let added = c.push_replaced.ensures well in
     let old = c.split_line-2.result in
-    let new = c.split_line-3.result in
-    then_added c.args.out.now.items c.push_replaced.new.out.items
-    (text_between (lines_of old.1.now) (lines_of new.1.now)) _ (replaced_text old.0.now new.0.now) _
-    c.in_ok-push_replaced.ensures
-    (ap (λ xs. text_between xs (lines_of c.args.after.now)) c.split_line-2.ensures.lines
-    ∙ ap (λ ys. text_between (old.0.now ∷ lines_of old.1.now) ys) c.split_line-3.ensures.lines
-    ∙ one_replaced (lines_of old.1.now) (lines_of new.1.now) old.0.now new.0.now)
-    refl
+    let new = c.split_line-3.result in (
+      added.0,
+      then_added c.args.out.now.text c.push_replaced.new.out.text
+          (text_between (lines_of old.1.now) (lines_of new.1.now)) _ (replaced_text old.0.now new.0.now) _
+          added.1
+          (ap (λ xs. text_between xs (lines_of c.args.after.now)) c.split_line-2.ensures.lines
+          ∙ ap (λ ys. text_between (old.0.now ∷ lines_of old.1.now) ys) c.split_line-3.ensures.lines
+          ∙ one_replaced (lines_of old.1.now) (lines_of new.1.now) old.0.now new.0.now)
+          refl,
+    )

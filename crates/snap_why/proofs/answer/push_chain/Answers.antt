@@ -6,11 +6,15 @@ use Rattle.snap_why.proofs.answer.push_chain.Goals as goal
 
 pub loop-left-preserved : goal.loop-left-preserved
 loop-left-preserved c = (
-  goes_on c.args.steps.now c.loop-left.next c.in-Some.scan c.loop-left.left c.loop-left.out.items
-      c.push_view.new.out.items _ c.view_taken-view.result
-      c.lender_of-next.result (let t = c.loop-left-test.true in omega (arith, t)) c.in-Some.is
-      c.view_taken-view.ensures.view c.lender_of-next.ensures
-      c.in_ok-push_view.ensures c.loop-left.invariant.0,
+  λ well.
+      let added = c.push_view.ensures well in
+      let held = c.loop-left.invariant.0 added.0 in (
+        held.0,
+        goes_on c.args.steps.now c.loop-left.next c.in-Some.scan c.loop-left.left c.loop-left.out.text
+            c.push_view.new.out.text _ c.view_taken-view.result
+            c.lender_of-next.result (let t = c.loop-left-test.true in omega (arith, t)) c.in-Some.is
+            c.view_taken-view.ensures.view c.lender_of-next.ensures added.1 held.1,
+      ),
   lender_within c.view_taken-view.result c.lender_of-next.result _ c.lender_of-next.ensures
       c.view_taken-view.ensures.within,
 )

@@ -1,4 +1,4 @@
--- `Recording::advance` of snap_debug_checkpoints (src/recording.rt): the proof of what its contract says. Does the next
+-- `Recording::advance` of snap_debug (src/recording.rt): the proof of what its contract says. Does the next
 -- item of `current`, and returns its process and its outcome.
 use Rattle.std.proofs.Common.{◌+◌, refl}
 use Rattle.snap_debug.proofs.Recordings.{checkpoint_next}

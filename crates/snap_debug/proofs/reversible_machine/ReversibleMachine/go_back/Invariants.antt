@@ -1,4 +1,4 @@
--- `ReversibleMachine::go_back` of snap_debug_checkpoints (src/reversible_machine.rt): what holds at the head of each of
+-- `ReversibleMachine::go_back` of snap_debug (src/reversible_machine.rt): what holds at the head of each of
 -- its loops. Goes back to `position`.
 use Rattle.std.proofs.Common.{◌≡◌, ◌≤◌, ◌-◌}
 use Rattle.snap_runs.specs.Run.{Run}

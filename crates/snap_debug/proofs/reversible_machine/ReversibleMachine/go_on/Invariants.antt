@@ -1,4 +1,4 @@
--- `ReversibleMachine::go_on` of snap_debug_checkpoints (src/reversible_machine.rt): what holds at the head of each of
+-- `ReversibleMachine::go_on` of snap_debug (src/reversible_machine.rt): what holds at the head of each of
 -- its loops. Goes on to `position`, or as far as there is memory.
 use Rattle.std.proofs.Common.{◌≡◌, ◌≤◌, ◌-◌}
 use Rattle.snap_debug.specs.Recording.{IsReversible, start}

@@ -1,4 +1,4 @@
--- `ReversibleMachine::step_back` of snap_debug_checkpoints (src/reversible_machine.rt): the proof of what its contract
+-- `ReversibleMachine::step_back` of snap_debug (src/reversible_machine.rt): the proof of what its contract
 -- says. Takes the last item back.
 use Rattle.std.proofs.Common.{◌≡◌, ◌+◌, ◌-◌, arith}
 use Rattle.snap_debug.proofs.ReversibleMachines.{can_put, leads_back}

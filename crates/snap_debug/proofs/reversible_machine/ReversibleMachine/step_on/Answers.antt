@@ -1,4 +1,4 @@
--- `ReversibleMachine::step_on` of snap_debug_checkpoints (src/reversible_machine.rt): the proof of what its contract
+-- `ReversibleMachine::step_on` of snap_debug (src/reversible_machine.rt): the proof of what its contract
 -- says. Does the next item.
 use Rattle.std.proofs.Common.{◌+◌, refl, sym}
 use Rattle.snap_debug.proofs.ReversibleMachines.{leads_on}

@@ -4,4 +4,4 @@ use Rattle.snap_hunt.proofs.trials.Shrinker.join_once.Given as goal
 
 -- what is kept still fails
 abbrev pub invariant-loop-at : goal.invariant-loop-at
-invariant-loop-at l = Shrinks l.self.program.now l.self.wanted.now (drawn l.fn.draft) (drawn l.kept)
+invariant-loop-at l = Shrinks l.self.program.now l.self.wanted.now (drawn l.fn.candidate) (drawn l.kept)

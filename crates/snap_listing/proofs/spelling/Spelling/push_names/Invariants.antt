@@ -1,4 +1,4 @@
--- `Spelling::push_names` of snap_listing_printer (src/spelling.rt): what holds at the head of each of its loops.
+-- `Spelling::push_names` of snap_listing (src/spelling.rt): what holds at the head of each of its loops.
 use Rattle.std.proofs.Common.{◌≡◌, ◌∷◌, ◌++◌, map, drop}
 use Rattle.std.specs.Prelude.{false}
 use Rattle.snap_semantics.specs.Token.{Identifier}

@@ -1,4 +1,4 @@
--- `Seat::turn` of snap_live_desk (src/seat.rt): the proof of what its contract says. Makes a turn with an item of the
+-- `Seat::turn` of snap_live (src/seat.rt): the proof of what its contract says. Makes a turn with an item of the
 -- seat's process.
 use Rattle.std.proofs.Common.{subst, ◌+◌}
 use Rattle.snap_live.specs.Shown.{IsTurn, SeatView}

@@ -1,4 +1,4 @@
--- `History::push_reserved` of snap_history (src/items.rt): the proof of what its contract says. Appends an item, for
+-- `History::push_reserved` of snap_record (src/items.rt): the proof of what its contract says. Appends an item, for
 -- which there is room.
 use Rattle.std.proofs.Common.{[], ◌∷◌, ◌++◌, sym, ap, ◌∙◌}
 use Rattle.snap_semantics.specs.declared.process.Item.{Item}

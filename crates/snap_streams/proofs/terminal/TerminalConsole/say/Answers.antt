@@ -1,4 +1,4 @@
--- `TerminalConsole::say` of snap_dialog (src/terminal.rt): the proof of what its contract says.
+-- `TerminalConsole::say` of snap_streams (src/terminal.rt): the proof of what its contract says.
 use Rattle.snap_streams.proofs.Parts.{sent_in_part}
 use Rattle.snap_streams.proofs.terminal.TerminalConsole.say.Goals as goal
 

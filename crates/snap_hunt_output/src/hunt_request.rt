@@ -1,14 +1,14 @@
-//! `Asked`: the input of a hunt; and its plan, suited to the kind of the listing.
+//! `HuntRequest`: the input of a hunt; and its plan, suited to the kind of the listing.
 ghost use Rattle.std.specs.Prelude.{◌≡◌};
-ghost use Rattle.snap_hunt_output.specs.Asked.{fits_kind, owned, owns_words};
+ghost use Rattle.snap_hunt_output.specs.HuntRequest.{owned, owns_words};
 
 use snap_chance::Plan;
 use snap_hunt::Wanted;
-use snap_words::{KindTag, Shape};
+use snap_words::KindTag;
 
 /// The plan of a hunt and the failures that it looks for.
 #[derive(Clone, Copy)]
-pub struct Asked {
+pub struct HuntRequest {
     pub plan: Plan,
     pub wanted: Wanted,
     pub seed: u64,
@@ -23,13 +23,6 @@ fn owns_words(kind: KindTag) -> bool
         KindTag::Seq | KindTag::Bits => true,
         KindTag::Multi => false,
     }
-}
-
-/// Returns whether a shape fits a kind.
-pub(crate) fn fits_kind(kind: KindTag, shape: Shape) -> bool
-    ensures { result ≡ fits_kind kind shape }
-{
-    !owns_words(kind) || shape.n() == shape.w()
 }
 
 /// Returns the plan for the listings of a kind.

@@ -1,4 +1,4 @@
-//! `Draft`: a shape and items that may be a schedule, while a failing schedule is shrunk.
+//! `Candidate`: a shape and items that may be a schedule, while a failing schedule is shrunk.
 ghost use Rattle.std.specs.Prelude.{◌≡◌, IfOk, IsTrue};
 ghost use Rattle.std.specs.List.{AllByRecursion};
 ghost use Rattle.snap_words.specs.Shape.{IsOneOf};
@@ -14,16 +14,16 @@ use std::alloc::{AllocError, Global};
 
 /// A shape and items, which are known to be a schedule only once they are tried.
 #[derive(Drop)]
-pub(crate) struct Draft {
+pub(crate) struct Candidate {
     pub(crate) shape: Shape,
     pub(crate) items: Vec<Item>,
 }
 
-/// Returns the draft of a schedule.
-pub(crate) fn draft_of(alloc: Global, schedule: &Schedule) -> Result<Draft, AllocError>
+/// Returns the candidate of a schedule.
+pub(crate) fn candidate_of(alloc: Global, schedule: &Schedule) -> Result<Candidate, AllocError>
     ensures { IfOk result (λ d. drawn d ≡ schedule.now) }
 {
-    Ok(Draft {
+    Ok(Candidate {
         shape: schedule.shape(),
         items: items_of(alloc, schedule)?,
     })
@@ -80,11 +80,11 @@ pub(crate) fn is_schedule(shape: Shape, items: &[Item]) -> bool
         && may_have_all(shape, items)
 }
 
-/// Returns whether a draft has no more processes, words and items than another.
-pub(crate) fn is_within(draft: &Draft, other: &Draft) -> bool
-    ensures { IsTrue result → IsWithin (drawn draft.now) (drawn other.now) }
+/// Returns whether a candidate has no more processes, words and items than another.
+pub(crate) fn is_within(candidate: &Candidate, other: &Candidate) -> bool
+    ensures { IsTrue result → IsWithin (drawn candidate.now) (drawn other.now) }
 {
-    draft.shape.n() <= other.shape.n()
-        && draft.shape.w() <= other.shape.w()
-        && draft.items.len() <= other.items.len()
+    candidate.shape.n() <= other.shape.n()
+        && candidate.shape.w() <= other.shape.w()
+        && candidate.items.len() <= other.items.len()
 }

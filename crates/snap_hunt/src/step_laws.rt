@@ -1,4 +1,4 @@
-//! Laws of operations.
+//! The steps that are counted in a run are those of its operations.
 ghost use Rattle.snap_hunt.specs.Operations.{StepsAreOfOperations};
 
 /// An operation of too many steps is one of the run that had not ended before; and if an operation

@@ -1,4 +1,4 @@
-//! `Wanted`: what a line of an input is to have next, a token or tokens in a row by their rule.
+//! `Expected`: what a line of an input is to have next, a token or tokens in a row by their rule.
 use snap_semantics::{Join, Symbol};
 
 /// A word of a line that stands for itself.
@@ -22,7 +22,7 @@ pub enum Keyword {
 /// A part of a line: a token, or tokens in a row by their rule. A rule with a `bool` is that of
 /// quantifiers, where `@` may be an index, if it is true.
 #[derive(Clone, Copy)]
-pub enum Wanted {
+pub enum Expected {
     Symbol(Symbol),
     Keyword(Keyword),
     Number,

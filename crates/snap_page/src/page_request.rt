@@ -7,7 +7,7 @@ use snap_tasks::{Options, Request, Subject, Task, kind_of, request_of};
 
 /// What a page wants.
 #[derive(Clone, Copy)]
-pub enum Asked {
+pub enum PageRequest {
     /// A task of the program.
     Do(Task),
     /// Whether the run of a listing under a schedule is linearizable.
@@ -54,19 +54,19 @@ fn options_for(subject: Subject) -> Options
 /// Returns what the name of a subcommand means on a page. A page cannot run `live`, since it has
 /// one thread, and writes no model.
 #[tactic(auto, using(crate::proofs::Names::no_task))]
-fn asked_for(subcommand: &[u8], subject: Subject) -> Option<Asked>
+fn asked_for(subcommand: &[u8], subject: Subject) -> Option<PageRequest>
     ensures { result ≡ asked_for subcommand.now subject }
 {
     let name = text_of(subcommand)?;
     match request_of(name, &options_for(subject))? {
-        Request::Do(task) => Some(Asked::Do(task)),
-        Request::Judge(_) => Some(Asked::Judge(subject)),
+        Request::Do(task) => Some(PageRequest::Do(task)),
+        Request::Judge(_) => Some(PageRequest::Judge(subject)),
         Request::Live(_, _) | Request::Model(_, _) => None,
     }
 }
 
 /// Returns what the names of a page mean: the subcommand, and the kind whose listing is shipped.
-pub fn asked_of(subcommand: &[u8], shipped: &[u8]) -> Option<Asked>
+pub fn asked_of(subcommand: &[u8], shipped: &[u8]) -> Option<PageRequest>
     ensures { result ≡ asked_of subcommand.now shipped.now }
 {
     let subject = subject_of(shipped)?;

@@ -1,12 +1,12 @@
-//! `Plan`: what the line that an item is about to run will do: write or read a word, write or take
-//! a view, or test.
+//! `Intent`: what the line that an item is about to run will do: write or read a word, write or
+//! take a view, or test.
 ghost use Rattle.std.specs.Prelude.{◌≡◌};
 ghost use Rattle.snap_words.specs.Shape.{IsOneOf};
 ghost use Rattle.snap_semantics.specs.Source.{instr_at};
 ghost use Rattle.snap_semantics.specs.State.{process_at, value_at};
 ghost use Rattle.snap_semantics.specs.Table.{who};
 ghost use Rattle.snap_semantics.specs.Value.{index_value, word_of};
-ghost use Rattle.snap_acts.specs.Trace.{context_of, plan_of, plan_of_instr, plan_of_line};
+ghost use Rattle.snap_acts.specs.Trace.{context_of, intent_of, intent_of_instr, intent_of_line};
 ghost use Rattle.snap_acts.specs.Trace.{spot_of, view_beside};
 
 use crate::act::Spot;
@@ -16,7 +16,7 @@ use snap_words::Kind;
 
 /// What a line is about to do, with its indices taken.
 #[derive(Clone, Copy)]
-pub(crate) enum Plan {
+pub(crate) enum Intent {
     Write(u64, Option<Name>),
     Publish(u64, Name),
     Read(u64, Spot),
@@ -96,55 +96,57 @@ fn view_beside(tuple: &Tuple) -> Option<Name>
 }
 
 /// Returns what a line is about to do.
-fn plan_of_line<K: Kind>(machine: &Machine<K>, i: u32, op: Op, instr: &Instr) -> Plan
+fn intent_of_line<K: Kind>(machine: &Machine<K>, i: u32, op: Op, instr: &Instr) -> Intent
     requires { IsOneOf machine.now.shape.n i }
-    ensures { result ≡ plan_of_line
+    ensures { result ≡ intent_of_line
         (context_of machine.now.shape i (process_at machine.now.state i) op) instr.now }
 {
     match instr {
-        Instr::Put(k, tuple) => { Plan::Write(index_value(machine, i, op, *k), view_beside(tuple)) }
-        Instr::PutView(k, view) => Plan::Publish(index_value(machine, i, op, *k), *view),
-        Instr::Get(words, k, word) => Plan::Read(
+        Instr::Put(k, tuple) => {
+            Intent::Write(index_value(machine, i, op, *k), view_beside(tuple))
+        }
+        Instr::PutView(k, view) => Intent::Publish(index_value(machine, i, op, *k), *view),
+        Instr::Get(words, k, word) => Intent::Read(
             index_value(machine, i, op, *word),
             spot_of(machine, i, op, *words, *k),
         ),
-        Instr::Look(view, k) => Plan::Look(index_value(machine, i, op, *k), *view),
+        Instr::Look(view, k) => Intent::Look(index_value(machine, i, op, *k), *view),
         Instr::ViewOf(view, words, k) => {
-            Plan::Borrow(spot_of(machine, i, op, *words, *k), *view)
+            Intent::Borrow(spot_of(machine, i, op, *words, *k), *view)
         }
-        Instr::ViewData(view, _) => Plan::Collect(*view),
-        Instr::IfAll(_, _, target) => Plan::Test(*target),
-        Instr::Call(_) => Plan::Enter,
-        Instr::Return(view) => Plan::Leave(*view),
-        _ => Plan::Other,
+        Instr::ViewData(view, _) => Intent::Collect(*view),
+        Instr::IfAll(_, _, target) => Intent::Test(*target),
+        Instr::Call(_) => Intent::Enter,
+        Instr::Return(view) => Intent::Leave(*view),
+        _ => Intent::Other,
     }
 }
 
 /// Returns what the line is about to do at which a process stands.
-fn plan_at<K: Kind>(machine: &Machine<K>, i: u32, activity: Activity) -> Plan
+fn intent_at<K: Kind>(machine: &Machine<K>, i: u32, activity: Activity) -> Intent
     requires { IsOneOf machine.now.shape.n i }
-    ensures { result ≡ plan_of_instr
+    ensures { result ≡ intent_of_instr
         (context_of machine.now.shape i (process_at machine.now.state i) activity.op)
         (instr_at machine.now.source.lines activity.line) }
 {
     match machine.program().listing().instr(activity.line) {
-        Some(instr) => plan_of_line(machine, i, activity.op, instr),
-        None => Plan::Other,
+        Some(instr) => intent_of_line(machine, i, activity.op, instr),
+        None => Intent::Other,
     }
 }
 
 /// Returns what an item is about to do.
-pub(crate) fn plan_of<K: Kind>(machine: &Machine<K>, item: Item) -> Plan
+pub(crate) fn intent_of<K: Kind>(machine: &Machine<K>, item: Item) -> Intent
     requires { IsOneOf machine.now.shape.n (who item) }
-    ensures { result ≡ plan_of machine.now.source machine.now.shape machine.now.state item }
+    ensures { result ≡ intent_of machine.now.source machine.now.shape machine.now.state item }
 {
     let Item::Step(i) = item else {
-        return Plan::Other;
+        return Intent::Other;
     };
     match machine.status(i) {
-        Status::Busy(activity) => plan_at(machine, i, activity),
-        Status::Idle => Plan::Other,
-        Status::Trapped(_, _) => Plan::Other,
-        Status::Crashed(_) => Plan::Other,
+        Status::Busy(activity) => intent_at(machine, i, activity),
+        Status::Idle => Intent::Other,
+        Status::Trapped(_, _) => Intent::Other,
+        Status::Crashed(_) => Intent::Other,
     }
 }

@@ -1,5 +1,5 @@
-//! `Wanted`, `first_from`, `first_within` and `last_before`: searches in the trace of a run for a step, such as the
-//! end of an operation or a write.
+//! `StepPattern`, `first_from`, `first_within` and `last_before`: searches in the trace of a run
+//! for a step, such as the end of an operation or a write.
 ghost use Rattle.std.specs.Prelude.{◌≡◌, ◌+◌, ◌≤◌, ◌<◌, IfSome, drop, length, option_map};
 ghost use Rattle.snap_acts.specs.Searches.{
   first_meeting,
@@ -17,12 +17,12 @@ ghost use Rattle.snap_acts.specs.Searches.{
   writes_word,
 };
 
-use crate::{Act, Spot, Step};
+use crate::{Act, Spot, TraceStep};
 use snap_semantics::Name;
 
 /// A step that is searched for.
 #[derive(Clone, Copy)]
-pub enum Wanted {
+pub enum StepPattern {
     /// The end of an operation of a process.
     End(u32),
     /// The end of the scan of an update of a process.
@@ -137,25 +137,25 @@ fn is_answer_or_trap(act: &Act) -> bool
 }
 
 /// Returns whether a step is as wanted.
-fn meets(wanted: &Wanted, step: &Step) -> bool
+fn meets(wanted: &StepPattern, step: &TraceStep) -> bool
     ensures { result ≡ meets wanted.now step.now }
 {
     match wanted {
-        Wanted::End(i) => step.process == *i && is_end(&step.act),
-        Wanted::Leave(i) => step.process == *i && is_leave(&step.act),
-        Wanted::Closing(i) => step.process == *i && (is_leave(&step.act) || is_end(&step.act)),
-        Wanted::Write => is_write(&step.act),
-        Wanted::WriteOf(k) => writes_word(*k, &step.act),
-        Wanted::ReadInto(i, spot) => step.process == *i && reads_into(spot, &step.act),
-        Wanted::Published(k) => publishes(*k, &step.act),
-        Wanted::Enter(i) => step.process == *i && is_enter(&step.act),
-        Wanted::Sets(i, view) => step.process == *i && sets_view(view, &step.act),
-        Wanted::AnswerOrTrap => is_answer_or_trap(&step.act),
+        StepPattern::End(i) => step.process == *i && is_end(&step.act),
+        StepPattern::Leave(i) => step.process == *i && is_leave(&step.act),
+        StepPattern::Closing(i) => step.process == *i && (is_leave(&step.act) || is_end(&step.act)),
+        StepPattern::Write => is_write(&step.act),
+        StepPattern::WriteOf(k) => writes_word(*k, &step.act),
+        StepPattern::ReadInto(i, spot) => step.process == *i && reads_into(spot, &step.act),
+        StepPattern::Published(k) => publishes(*k, &step.act),
+        StepPattern::Enter(i) => step.process == *i && is_enter(&step.act),
+        StepPattern::Sets(i, view) => step.process == *i && sets_view(view, &step.act),
+        StepPattern::AnswerOrTrap => is_answer_or_trap(&step.act),
     }
 }
 
 /// Returns the first step from a place on that is as wanted.
-pub fn first_from(steps: &[Step], from: usize, wanted: Wanted) -> Option<&Step>
+pub fn first_from(steps: &[TraceStep], from: usize, wanted: StepPattern) -> Option<&TraceStep>
     ensures { option_map (λ s. s.now) result ≡ first_meeting wanted (drop from steps.now) }
 {
     let mut k = from;
@@ -169,7 +169,7 @@ pub fn first_from(steps: &[Step], from: usize, wanted: Wanted) -> Option<&Step>
 }
 
 /// Returns the last of the first places at which a step is as wanted.
-pub fn last_before(steps: &[Step], count: usize, wanted: Wanted) -> Option<usize>
+pub fn last_before(steps: &[TraceStep], count: usize, wanted: StepPattern) -> Option<usize>
     requires { count ≤ length steps.now }
     ensures place { result ≡ last_before wanted steps.now count }
     ensures within { IfSome result (λ k. k < count) }
@@ -185,7 +185,12 @@ pub fn last_before(steps: &[Step], count: usize, wanted: Wanted) -> Option<usize
 }
 
 /// Returns the first of `count` places from `from` on at which a step is as wanted.
-pub fn first_within(steps: &[Step], from: usize, count: usize, wanted: Wanted) -> Option<usize>
+pub fn first_within(
+    steps: &[TraceStep],
+    from: usize,
+    count: usize,
+    wanted: StepPattern,
+) -> Option<usize>
     requires { from + count ≤ length steps.now }
     ensures place { result ≡ first_within wanted steps.now from count }
     ensures within { IfSome result (λ k. k < from + count) }

@@ -1,8 +1,8 @@
--- `first_within` of snap_acts (src/wanted.rt): what holds at the head of each of its loops. Returns the first of
+-- `first_within` of snap_acts (src/searches.rt): what holds at the head of each of its loops. Returns the first of
 -- `count` places from `from` on at which a step is as wanted.
 use Rattle.std.proofs.Common.{◌≡◌, ◌+◌}
 use Rattle.snap_acts.specs.Searches.{first_within}
-use Rattle.snap_acts.proofs.wanted.first_within.Given as goal
+use Rattle.snap_acts.proofs.searches.first_within.Given as goal
 
 abbrev pub invariant-loop-left : goal.invariant-loop-left
 invariant-loop-left l =

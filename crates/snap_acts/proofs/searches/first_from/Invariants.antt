@@ -1,8 +1,8 @@
--- `first_from` of snap_acts (src/wanted.rt): what holds at the head of each of its loops. Returns the first step from a
--- place on that is as wanted.
+-- `first_from` of snap_acts (src/searches.rt): what holds at the head of each of its loops. Returns the first step from
+-- a place on that is as wanted.
 use Rattle.std.proofs.Common.{◌≡◌, ◌-◌, drop, length}
 use Rattle.snap_acts.specs.Searches.{first_meeting}
-use Rattle.snap_acts.proofs.wanted.first_from.Given as goal
+use Rattle.snap_acts.proofs.searches.first_from.Given as goal
 
 abbrev pub invariant-loop-k : goal.invariant-loop-k
 invariant-loop-k l = first_meeting l.wanted (drop l.k l.steps) ≡ first_meeting l.wanted (drop l.from l.steps)

@@ -1,18 +1,17 @@
--- The operations of scripts that call nothing, whatever the interleaving: their word is not there, or it is another
--- process's.
-use Rattle.std.specs.Prelude.{ℕ, ◌+◌, ◌-◌, List, [], ◌∷◌, ◌++◌, Option, Some, None, Result, Ok, codes, decimal}
+-- The calls that items of a live run skipped: their word is not there, or it is another process's.
+use Rattle.std.specs.Prelude.{◌≡◌, ℕ, ◌+◌, ◌-◌, Bool, List, [], ◌∷◌, ◌++◌, Option, Some, None, Ok, codes, decimal}
 use Rattle.std.specs.Prelude.{length, nat_eq, option_map, take, if◌then◌else◌}
 use Rattle.snap_words.specs.declared.kind.KindTag.{KindTag}
 use Rattle.snap_words.specs.Shape.{Counts}
-use Rattle.snap_semantics.specs.Answers.{◌>>=◌}
 use Rattle.snap_semantics.specs.Report.{op_text}
 use Rattle.snap_semantics.specs.Table.{call_skip}
+use Rattle.snap_semantics.specs.declared.process.Item.{Item}
+use Rattle.snap_semantics.specs.declared.process.Item.TheVariants.{Step, Call, Crash}
 use Rattle.snap_semantics.specs.declared.process.Op.{Op}
-use Rattle.snap_semantics.specs.declared.refusal.Refusal.{Refusal}
 use Rattle.snap_sched.specs.ScriptText.{Script}
 use Rattle.snap_report.specs.OutcomeText.{reason_text}
 use Rattle.snap_tasks.specs.declared.subject.Subject.{Subject}
-use Rattle.snap_live_output.specs.LiveOutput.{Setup, setup_of}
+use Rattle.snap_live_output.specs.LiveOutput.{IsGatedText, Setup, setup_of}
 use Rattle.snap_live_output.specs.declared.uncalled.UncalledCall.{UncalledCall}
 
 -- an operation of process i, where it calls nothing
@@ -24,19 +23,30 @@ abbrev pub listed : Option UncalledCall → List UncalledCall → List UncalledC
 listed None later = later
 listed (Some call) later = call ∷ later
 
--- the operations of process i that call nothing
-abbrev pub uncalled_among : KindTag → Counts → ℕ → List Op → List UncalledCall
-uncalled_among k shape i [] = []
-uncalled_among k shape i (o ∷ os) = listed (uncalled k shape i o) (uncalled_among k shape i os)
+-- the call of an item, where it calls nothing
+abbrev pub uncalled_item : KindTag → Counts → Item → Option UncalledCall
+uncalled_item k shape (Step i) = None
+uncalled_item k shape (Call i o) = uncalled k shape i o
+uncalled_item k shape (Crash i) = None
 
--- the operations that call nothing, of the scripts of processes from i on
-abbrev pub uncalled_from : KindTag → Counts → ℕ → List Script → List UncalledCall
-uncalled_from k shape i [] = []
-uncalled_from k shape i (s ∷ ss) = uncalled_among k shape i s.operations ++ uncalled_from k shape (i + 1) ss
+-- the calls that items of a run skipped, in order
+abbrev pub skipped_calls : KindTag → Counts → List Item → List UncalledCall
+skipped_calls k shape [] = []
+skipped_calls k shape (x ∷ xs) = listed (uncalled_item k shape x) (skipped_calls k shape xs)
 
--- the operations that call nothing, of all scripts that are played, process by process
-abbrev pub uncalled_calls : Setup → List UncalledCall
-uncalled_calls g = uncalled_from g.source.kind g.scripts.shape 1 g.scripts.scripts
+-- those of process i
+abbrev pub calls_of : ℕ → List UncalledCall → List UncalledCall
+calls_of i [] = []
+calls_of i (c ∷ cs) = if nat_eq c.process i then c ∷ calls_of i cs else calls_of i cs
+
+-- those of the processes of scripts, from process i on, process by process
+abbrev pub by_process : ℕ → List Script → List UncalledCall → List UncalledCall
+by_process i [] cs = []
+by_process i (s ∷ ss) cs = calls_of i cs ++ by_process (i + 1) ss cs
+
+-- the calls that the items of a live run skipped, process by process
+abbrev pub uncalled_calls : Setup → List Item → List UncalledCall
+uncalled_calls g items = by_process 1 g.scripts.scripts (skipped_calls g.source.kind g.scripts.shape items)
 
 -- the front of each line
 unfoldable pub line_front : List ℕ
@@ -64,6 +74,12 @@ others_line k = if nat_eq k 0 then [] else others_text k
 unfoldable pub uncalled_text : List UncalledCall → List ℕ
 uncalled_text cs = uncalled_lines (take 8 cs) ++ others_line (length cs - 8)
 
--- what is said of the operations that call nothing, where an input says what to play
-unfoldable pub uncalled_of : Subject → List ℕ → Result (List ℕ) Refusal
-uncalled_of s input = setup_of s input >>= λ g. Ok (uncalled_text (uncalled_calls g))
+-- A text that a live run may write, at a gate that may answer so, and what is said of the calls that its items skipped.
+-- An operation that no item asks for, as behind a crash, is none of them.
+abbrev pub IsGatedOutput : (may : ℕ → ℕ → Bool → Type 0) → Setup → (limit : ℕ) → (text told : List ℕ) → Type 0
+IsGatedOutput may g limit text told =
+    (t : IsGatedText may g limit text) × (told ≡ uncalled_text (uncalled_calls g t.live.items))
+
+-- the same, where an input says what to play
+abbrev pub MayTell : (may : ℕ → ℕ → Bool → Type 0) → Subject → (limit : ℕ) → (input text told : List ℕ) → Type 0
+MayTell may s limit input text told = (g : Setup) × (setup_of s input ≡ Ok g) × IsGatedOutput may g limit text told

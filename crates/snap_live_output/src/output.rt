@@ -11,7 +11,6 @@ ghost use Rattle.snap_faults.specs.declared.fault.ProgramFault.TheVariants as fa
 
 use crate::played_text::play;
 use crate::setup::setup_of;
-use crate::uncalled::uncalled_text;
 use snap_faults::ProgramFault;
 use snap_live::Gate;
 use snap_tasks::Subject;
@@ -19,8 +18,8 @@ use std::alloc::Global;
 use std::sync::Wait;
 use std::thread::Threads;
 
-/// The output of a live run: the history of the run, and the text on the operations in its scripts
-/// that call nothing, which is empty if there are none.
+/// The output of a live run: the history of the run, and the text on the calls that its items
+/// skipped, which is empty if there are none.
 #[derive(Drop)]
 pub struct LiveOutput {
     pub text: Vec<u8>,
@@ -33,7 +32,6 @@ pub struct LiveOutput {
 /// # Errors
 ///
 /// The reason why `input` is refused or the live run fails, or `Memory` where memory runs out.
-#[tactic(auto, unfolding(crate::specs::Uncalled::uncalled_of))]
 pub fn live_output<G: Gate, R: Threads + Wait + Sync>(
     rt: &R,
     alloc: Global,
@@ -50,7 +48,5 @@ pub fn live_output<G: Gate, R: Threads + Wait + Sync>(
         checked_parts subject 1 (parts_of input.now) ≡ Err r → result ≡ Err (fault.Refused r) }
 {
     let setup = setup_of(alloc, subject, input)?;
-    let uncalled = uncalled_text(alloc, &setup)?;
-    let text = play(rt, alloc, &setup, limit, gate)?;
-    Ok(LiveOutput { text, uncalled })
+    Ok(play(rt, alloc, &setup, limit, gate)?)
 }

@@ -1,10 +1,14 @@
-//! `play`: plays a live run's scripts, each process in a thread, and gives the text of its history.
+//! `play`: plays a live run's scripts, each process in a thread, and gives the text of its history
+//! and what is said of the calls that it skipped.
 ghost use Rattle.std.specs.Prelude.{◌≡◌, ◌≤◌, IfErr, IfOk};
 ghost use Rattle.snap_words.specs.Shape.{max_items};
 ghost use Rattle.snap_live.specs.LiveRun.{MayFault};
-ghost use Rattle.snap_live_output.specs.LiveOutput.{IsGatedText, setting};
+ghost use Rattle.snap_live_output.specs.LiveOutput.{setting};
+ghost use Rattle.snap_live_output.specs.Uncalled.{IsGatedOutput};
 
+use crate::output::LiveOutput;
 use crate::setup::Setup;
+use crate::uncalled::uncalled_text;
 use crate::written::history_text;
 use snap_live::{Gate, LiveFault, run_live};
 use snap_words::{Bits, Kind, KindTag, Multi, Seq};
@@ -12,28 +16,30 @@ use std::alloc::Global;
 use std::sync::Wait;
 use std::thread::Threads;
 
-/// Plays scripts over registers of a kind, and returns the history as text.
+/// Plays scripts over registers of a kind, and returns the history as text, with the text on the
+/// calls that were skipped.
 fn play_kind<K: Kind, G: Gate, R: Threads + Wait + Sync>(
     rt: &R,
     alloc: Global,
     setup: &Setup,
     limit: u64,
     gate: &G,
-) -> Result<Vec<u8>, LiveFault>
+) -> Result<LiveOutput, LiveFault>
     requires kind { setup.now.source.kind ≡ K.TAG }
     requires limit { (1 ≤ limit) × (limit ≤ max_items) }
     ensures text { IfOk result (λ out.
-        IsGatedText (G.may_answer gate.now) setup.now limit out.items) }
+        IsGatedOutput (G.may_answer gate.now) setup.now limit out.text.items out.uncalled.items) }
     ensures fault { IfErr result (λ f. MayFault (G.may_answer gate.now) (setting setup.now)
         setup.now.scripts.scripts limit f) }
 {
     let live = run_live::<K, G, R>(rt, alloc, setup.program(), setup.scripts(), limit, gate)?;
-    // What `items` promises: the run of the record is a valid one.
-    let _items = live.kept.items();
-    Ok(history_text(alloc, &live.kept)?)
+    let items = live.kept.items();
+    let text = history_text(alloc, &live.kept)?;
+    let uncalled = uncalled_text(alloc, setup, items)?;
+    Ok(LiveOutput { text, uncalled })
 }
 
-/// Plays scripts, and returns the history as text.
+/// Plays scripts, and returns the history as text, with the text on the calls that were skipped.
 ///
 /// # Errors
 ///
@@ -44,10 +50,10 @@ pub fn play<G: Gate, R: Threads + Wait + Sync>(
     setup: &Setup,
     limit: u64,
     gate: &G,
-) -> Result<Vec<u8>, LiveFault>
+) -> Result<LiveOutput, LiveFault>
     requires { (1 ≤ limit) × (limit ≤ max_items) }
     ensures text { IfOk result (λ out.
-        IsGatedText (G.may_answer gate.now) setup.now limit out.items) }
+        IsGatedOutput (G.may_answer gate.now) setup.now limit out.text.items out.uncalled.items) }
     ensures fault { IfErr result (λ f. MayFault (G.may_answer gate.now) (setting setup.now)
         setup.now.scripts.scripts limit f) }
 {

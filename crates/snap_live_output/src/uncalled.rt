@@ -1,17 +1,18 @@
-//! The operations of scripts that call nothing, and the text on them: an update whose word does not
+//! The calls that items of a live run skipped, and the text on them: an update whose word does not
 //! exist, or is another process's.
 ghost use Rattle.std.specs.Prelude.{◌≡◌, ◌++◌, IfOk, OnOk, length};
 ghost use Rattle.snap_text.specs.Drafted.{Adds};
 ghost use Rattle.snap_live_output.specs.Uncalled.{line_front, others_line, others_text};
-ghost use Rattle.snap_live_output.specs.Uncalled.{uncalled, uncalled_among};
-ghost use Rattle.snap_live_output.specs.Uncalled.{uncalled_from, uncalled_line, uncalled_lines};
-ghost use Rattle.snap_live_output.specs.Uncalled.{uncalled_text, uncalled_calls};
+ghost use Rattle.snap_live_output.specs.Uncalled.{by_process, calls_of, skipped_calls, uncalled};
+ghost use Rattle.snap_live_output.specs.Uncalled.{uncalled_calls, uncalled_item, uncalled_line};
+ghost use Rattle.snap_live_output.specs.Uncalled.{uncalled_lines, uncalled_text};
 
 use crate::setup::Setup;
 use snap_machine::call_skip;
+use snap_record::History;
 use snap_report::{op_text, reason_text};
 use snap_sched::Script;
-use snap_semantics::{Op, Reason};
+use snap_semantics::{Item, Op, Reason};
 use snap_text::Draft;
 use snap_words::{KindTag, Shape};
 use std::alloc::{AllocError, Global};
@@ -19,7 +20,7 @@ use std::alloc::{AllocError, Global};
 /// The most calls that have a line of their own.
 const LINES: usize = 8;
 
-/// An operation in a process's script that calls nothing, and the reason for which it is skipped.
+/// A call that an item of a process skipped, and the reason for it.
 #[derive(Clone, Copy, PartialEq, Eq)]
 pub struct UncalledCall {
     pub process: u64,
@@ -39,58 +40,77 @@ fn uncalled(kind: KindTag, shape: Shape, process: u64, op: Op) -> Option<Uncalle
     })
 }
 
-/// Appends the operations of a process that call nothing.
-fn push_uncalled(
-    calls: &mut Vec<UncalledCall>,
+/// Returns the call of an item that calls nothing.
+fn uncalled_item(kind: KindTag, shape: Shape, item: Item) -> Option<UncalledCall>
+    ensures { result ≡ uncalled_item kind shape item }
+{
+    match item {
+        Item::Call(process, op) => uncalled(kind, shape, u64::from(process), op),
+        Item::Step(_) | Item::Crash(_) => None,
+    }
+}
+
+/// Returns the calls that the items of a run skipped, in order.
+fn skipped_calls(
+    alloc: Global,
     kind: KindTag,
     shape: Shape,
-    process: u64,
-    operations: &[Op],
-) -> Result<(), AllocError>
-    ensures { OnOk result (calls.new.items
-        ≡ calls.old.items ++ uncalled_among kind shape process operations.now) }
+    items: &History,
+) -> Result<Vec<UncalledCall>, AllocError>
+    ensures { IfOk result (λ calls. calls.items ≡ skipped_calls kind shape items.now.items) }
 {
-    for operation in operations {
-        if let Some(call) = uncalled(kind, shape, process, *operation) {
+    let mut calls = Vec::new(alloc);
+    let mut left = items.iter();
+    while let Some(item) = left.next() {
+        if let Some(call) = uncalled_item(kind, shape, item) {
             calls.push(call)?;
+        }
+    }
+    Ok(calls)
+}
+
+/// Appends those of `calls` that are a process's.
+fn push_calls_of(
+    out: &mut Vec<UncalledCall>,
+    process: u64,
+    calls: &[UncalledCall],
+) -> Result<(), AllocError>
+    ensures { OnOk result (out.new.items ≡ out.old.items ++ calls_of process calls.now) }
+{
+    for call in calls {
+        if call.process == process {
+            out.push(*call)?;
         }
     }
     Ok(())
 }
 
-/// Returns the operations of `scripts` that call nothing, those of process 1 first.
-fn uncalled_of_scripts(
+/// Returns calls process by process, of as many processes as there are scripts.
+fn by_process(
     alloc: Global,
-    kind: KindTag,
-    shape: Shape,
     scripts: &[Script],
+    calls: &[UncalledCall],
 ) -> Result<Vec<UncalledCall>, AllocError>
-    ensures { IfOk result (λ calls. calls.items ≡ uncalled_from kind shape 1 scripts.now) }
+    ensures { IfOk result (λ found. found.items ≡ by_process 1 scripts.now calls.now) }
 {
-    let mut calls = Vec::new(alloc);
+    let mut found = Vec::new(alloc);
     for k in 0..scripts.len() {
-        push_uncalled(
-            &mut calls,
-            kind,
-            shape,
-            k as u64 + 1,
-            scripts[k].operations(),
-        )?;
+        push_calls_of(&mut found, k as u64 + 1, calls)?;
     }
-    Ok(calls)
+    Ok(found)
 }
 
-/// Returns the operations of all scripts that are played that call nothing.
-fn uncalled_calls(alloc: Global, setup: &Setup) -> Result<Vec<UncalledCall>, AllocError>
-    ensures { IfOk result (λ calls. calls.items ≡ uncalled_calls setup.now) }
+/// Returns the calls that the items of a live run skipped, process by process.
+fn uncalled_calls(
+    alloc: Global,
+    setup: &Setup,
+    items: &History,
+) -> Result<Vec<UncalledCall>, AllocError>
+    ensures { IfOk result (λ calls. calls.items ≡ uncalled_calls setup.now items.now.items) }
 {
     let scripts = setup.scripts();
-    uncalled_of_scripts(
-        alloc,
-        setup.program().kind(),
-        scripts.shape(),
-        scripts.scripts(),
-    )
+    let skipped = skipped_calls(alloc, setup.program().kind(), scripts.shape(), items)?;
+    by_process(alloc, scripts.scripts(), skipped.as_slice())
 }
 
 /// Appends the front of a line.
@@ -155,15 +175,21 @@ fn push_calls(out: &mut Draft, calls: &[UncalledCall])
     push_others(out, (calls.len() - listed) as u64);
 }
 
-/// Returns the text on the operations that call nothing; an empty text if there are none.
+/// Returns the text on the calls that the items of a live run skipped; an empty text if there are
+/// none.
 ///
 /// # Errors
 ///
 /// `AllocError` where memory runs out.
-pub fn uncalled_text(alloc: Global, setup: &Setup) -> Result<Vec<u8>, AllocError>
-    ensures { IfOk result (λ out. out.items ≡ uncalled_text (uncalled_calls setup.now)) }
+pub(crate) fn uncalled_text(
+    alloc: Global,
+    setup: &Setup,
+    items: &History,
+) -> Result<Vec<u8>, AllocError>
+    ensures { IfOk result (λ out.
+        out.items ≡ uncalled_text (uncalled_calls setup.now items.now.items)) }
 {
-    let calls = uncalled_calls(alloc, setup)?;
+    let calls = uncalled_calls(alloc, setup, items)?;
     let mut out = Draft::new(alloc);
     push_calls(&mut out, calls.as_slice());
     out.finish()

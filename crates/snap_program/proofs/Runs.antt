@@ -2,7 +2,7 @@
 -- failed, or all of the output.
 use Rattle.std.proofs.Common.{◌≡◌, ℕ, ◌<◌, Bool, true, List, [], Result, Ok, Err, Vec}
 use Rattle.std.proofs.Common.{length, take, ◌⊎◌, inl, inr, refl, sym, subst}
-use Rattle.std.specs.Prelude.{⊤, IfOk, IsErr, IsErrAnd}
+use Rattle.std.specs.Prelude.{⊤, IsErr, IsErrAnd}
 use Rattle.std.specs.Global.{Global}
 use Rattle.std.specs.Io.KnownBytes.{Appends}
 use Rattle.std.proofs.KnownBytes.{Appends-nil}
@@ -15,12 +15,14 @@ use Rattle.snap_faults.specs.Told.{Sends}
 use Rattle.snap_faults.specs.declared.fault.ProgramFault.{ProgramFault}
 use Rattle.snap_faults.specs.declared.fault.ProgramFault.TheVariants as fault
 use Rattle.snap_live_output.specs.LiveAnswer.{AnswersLive}
+use Rattle.snap_live_output.specs.LiveOutput.{MayWrite}
+use Rattle.snap_live_output.specs.Uncalled.{MayTell}
 use Rattle.snap_run_judge.specs.declared.linearizability.Linearizability.{Linearizability}
 use Rattle.snap_judge_task.specs.JudgeAnswer.{AnswersJudge, IsJudged}
 use Rattle.snap_program.specs.ModelOutput.{RefusesModel}
 use Rattle.snap_tasks.specs.declared.judge_request.JudgeRequest.{JudgeRequest}
 use Rattle.snap_tasks.specs.declared.subject.Subject.{Subject}
-use Rattle.snap_program.specs.WholeRun.{ConductsKeeping, ConductsOn, IsJudgeOf, IsKept, IsWhole, Reads, Takes, done_of}
+use Rattle.snap_program.specs.WholeRun.{ConductsKeeping, ConductsOn, IsJudgeOf, IsKept, IsLiveOf, IsWhole, Reads, Takes, done_of}
 use Rattle.snap_program.specs.WholeRun.{RefusesJudge, RefusesLive}
 
 -- no memory for what was read
@@ -88,11 +90,18 @@ pub some_word : (answer : Result Linearizability ProgramFault) (e : ProgramFault
 some_word (Ok found) e asked input text word from h = absurd from.1
 some_word (Err f) e asked input text word from h = (word, h)
 
--- an answer that `?` has passed on says nothing of what was found
-pub nothing_found : {A : Type 0} (P : A → Type 0) (answer : Result A ProgramFault) (e : ProgramFault)
-    → IsErr answer × IsErrAnd answer (λ f. f ≡ e) → IfOk answer P
-nothing_found P (Ok found) e from = absurd from.1
-nothing_found P (Err f) e from = tt
+-- what a live run may write, with what is said of it, and where that is not answered
+pub writes_live : (answer : Result (Vec ℕ Global) ProgramFault) (may : ℕ → ℕ → Bool → Type 0) (subject : Subject)
+    (limit : ℕ) (input text : List ℕ) → IsLiveOf answer may subject limit input text →
+    MayWrite may subject limit input text
+writes_live (Ok told) may subject limit input text h = (h.0, h.1, h.2)
+writes_live (Err e) may subject limit input text h = h
+
+pub not_told : (answer : Result (Vec ℕ Global) ProgramFault) (e : ProgramFault) (may : ℕ → ℕ → Bool → Type 0)
+    (subject : Subject) (limit : ℕ) (input text told : List ℕ) → IsErr answer × IsErrAnd answer (λ f. f ≡ e) →
+    MayTell may subject limit input text told → IsLiveOf answer may subject limit input text
+not_told (Ok found) e may subject limit input text told from h = absurd from.1
+not_told (Err f) e may subject limit input text told from h = (h.0, h.1, h.2)
 
 -- a fault is passed on without the output
 pub passed_on : {A : Type 0} (answer : Result A ProgramFault) (e : ProgramFault)

@@ -1,10 +1,10 @@
 -- A whole run of the program, from a byte source to a byte sink.
 use Rattle.std.specs.Prelude.{◌≡◌, ℕ, ◌<◌, ◌≤◌, Vec, Bool, true, List, [], false, take}
-use Rattle.std.specs.Prelude.{Result, Ok, Err, IfOk, length, ⊤, ◌⊎◌}
+use Rattle.std.specs.Prelude.{Result, Ok, Err, length, ⊤, ◌⊎◌}
 use Rattle.std.specs.Global.{Global}
 use Rattle.std.specs.Io.KnownBytes.{Consumes, Appends, IsAtEnd}
 use Rattle.snap_live_output.specs.LiveOutput.{MayGiveUp, MayWrite, setup_of}
-use Rattle.snap_live_output.specs.Uncalled.{uncalled_of}
+use Rattle.snap_live_output.specs.Uncalled.{MayTell}
 use Rattle.snap_run_judge.specs.declared.linearizability.Linearizability.{Linearizability}
 use Rattle.snap_judge_task.specs.Judged.{judged}
 use Rattle.snap_judge_task.specs.JudgeAnswer.{IsJudged}
@@ -94,14 +94,14 @@ abbrev pub done_of : {A : Type 0} → Result A ProgramFault → Result (Unit {0}
 done_of (Ok found) = Ok tt
 done_of (Err e) = Err e
 
--- an output of a live run, and what is said of the operations that call nothing, where that is answered
+-- an output of a live run, and what is said of the calls that it skipped, where that is answered
 abbrev pub IsLiveOf : Result (Vec ℕ Global) ProgramFault → (may : ℕ → ℕ → Bool → Type 0) → Subject → (limit : ℕ) →
     (input text : List ℕ) → Type 0
-IsLiveOf answer may subject limit input text =
-    MayWrite may subject limit input text × IfOk answer (λ uncalled. uncalled_of subject input ≡ Ok uncalled.items)
+IsLiveOf (Ok uncalled) may subject limit input text = MayTell may subject limit input text uncalled.items
+IsLiveOf (Err e) may subject limit input text = MayWrite may subject limit input text
 
--- A whole live run that keeps its input, and answers what is said of the operations that call nothing: each input has
--- many outputs, or one refusal; and the run may be given up.
+-- A whole live run that keeps its input, and answers what is said of the calls that it skipped: each input has many
+-- outputs, or one refusal; and the run may be given up.
 abbrev pub ConductsLiveKeeping : (may : ℕ → ℕ → Bool → Type 0) (subject : Subject) (limit : ℕ) (kept : List ℕ)
     (answer : Result (Vec ℕ Global) ProgramFault) (source source_after : SourceState)
     (sink sink_after : SinkState) → Type 0

@@ -1,15 +1,21 @@
 -- What the prompt has added is said: what a line asks for, where no question was asked.
-use Rattle.std.proofs.Common.{◌≡◌, ◌+◌, ◌-◌, ◌^◌, ◌∙◌, ℕ, Bool, min, List, Option, None, Result, Ok, Err}
-use Rattle.std.proofs.Common.{OnOk, ap, option_map, refl, subst, sym}
+use Rattle.std.proofs.Common.{◌≡◌, ◌+◌, ◌-◌, ◌^◌, ◌++◌, ◌∙◌, ℕ, Bool, true, false, min, List, Option, None, Some}
+use Rattle.std.proofs.Common.{IfOk, OnOk, Result, Ok, Err, ap, option_map, refl, subst, sym}
+use Rattle.std.specs.Prelude.{is_ok, not, ◌&&◌}
+use Rattle.std.specs.declared.io.ErrorKind.{ErrorKind}
 use Rattle.snap_text.specs.Drafted.{Adds, Drafted}
-use Rattle.snap_streams.specs.Folder.{Kept}
+use Rattle.snap_streams.specs.Dialog.{Next}
+use Rattle.snap_streams.specs.Folder.{Keeps, Kept, with_kept}
+use Rattle.snap_semantics.specs.ScheduleText.{schedule_text}
 use Rattle.snap_semantics.specs.declared.refusal.CommandRefusal.{CommandRefusal}
-use Rattle.snap_prompt.specs.Ask.{ask_of}
+use Rattle.snap_prompt.specs.Ask.{ask_of, is_yes}
 use Rattle.snap_prompt.specs.SaveForm.{saving_of}
 use Rattle.snap_prompt.specs.declared.ask.Ask.{Ask}
-use Rattle.snap_prompt.specs.Prompt.{Answer, Prompt, Says, answer_line, answered_to, asked, counted, saved_or_asked}
+use Rattle.snap_prompt.specs.Prompt.{AddsReply, Answer, Prompt, Says, SavesPrompt, after_saving, answer_line, answered_to, asked}
+use Rattle.snap_prompt.specs.Prompt.{counted, decided, in_words, next_line, next_where, saved_or_asked, saves_under}
+use Rattle.snap_prompt.specs.Prompt.{says, schedule_of_run}
 use Rattle.snap_prompt.specs.Said.{IsAdded, IsSaid, Said, saved, text, why}
-use Rattle.snap_prompt.specs.Saved.{Saves, outcome_line}
+use Rattle.snap_prompt.specs.Saved.{Saves, outcome_line, tells_saved}
 use Rattle.snap_prompt.specs.declared.question.Question.{Question}
 
 -- what follows from what holds where a call did not fail
@@ -27,12 +33,63 @@ it_is_said (text x) old new adds = (x, refl, adds)
 it_is_said (why r t) old new adds = adds
 it_is_said (saved name) old new adds = adds
 
--- what is said of a file that was to be saved
-pub saved_is_added : (name kept : List ℕ) (before after : Option (List Kept)) (old new : Drafted) →
-    Saves name kept before after old new → IsAdded (saved name) old new
-saved_is_added name kept before after old new saves = (outcome_line name saves.0, (saves.0, refl), saves.2)
+-- a prompt with other files
+abbrev pub with_folder : Prompt → (has_unsaved : Bool) → Option (List Kept) → Prompt
+with_folder p has_unsaved kept = record {
+  session = p.session;
+  last = p.last;
+  question = p.question;
+  lines = p.lines;
+  has_unsaved = has_unsaved;
+  kept = kept;
+  shows = p.shows;
+}
 
--- where nothing was found, a line names no file
+and_true : (b : Bool) → (b && true) ≡ b
+and_true true = refl
+and_true false = refl
+
+and_false : (b : Bool) → (b && false) ≡ false
+and_false true = refl
+and_false false = refl
+
+-- a schedule that was to be saved under a name: whether it was, what is said of it, and what is unsaved then
+pub saves_so : (p v : Prompt) (name written : List ℕ) (after : Option (List Kept)) (old new : Drafted)
+    (is_saved unsaved : Bool) → v ≡ p → Saves name written v.kept after old new is_saved →
+    written ≡ schedule_text (schedule_of_run v.session.run) → unsaved ≡ (v.has_unsaved && not is_saved) →
+    SavesPrompt p name old new (with_folder v unsaved after)
+saves_so p v name written after old new is_saved unsaved is saves is_text left =
+    subst (λ (x : Prompt). SavesPrompt x name old new (with_folder v unsaved after)) is
+    (go saves.0 saves.1 saves.2 saves.3) where
+      go : (done : Result (Unit {0}) ErrorKind) → Keeps done v.kept after name written →
+          Adds old new (outcome_line name done) → is_saved ≡ is_ok done →
+          SavesPrompt v name old new (with_folder v unsaved after)
+      go (Ok done) keeps adds ok =
+          let none : unsaved ≡ false =
+          left ∙ ap (λ (b : Bool). v.has_unsaved && not b) ok ∙ and_false v.has_unsaved in
+          let there : after ≡ with_kept name (schedule_text (schedule_of_run v.session.run)) v.kept =
+          keeps ∙ ap (λ (t : List ℕ). with_kept name t v.kept) is_text in (
+            outcome_line name (Ok done),
+            (Ok done, refl),
+            adds,
+            ap (λ (b : Bool). with_folder v b after) none
+                ∙ ap (λ (k : Option (List Kept)). with_folder v false k) there,
+          )
+      go (Err e) keeps adds ok =
+          let same : unsaved ≡ v.has_unsaved =
+          left ∙ ap (λ (b : Bool). v.has_unsaved && not b) ok ∙ and_true v.has_unsaved in (
+            outcome_line name (Err e),
+            (Err e, refl),
+            adds,
+            ap (λ (b : Bool). with_folder v b after) same
+                ∙ ap (λ (k : Option (List Kept)). with_folder v v.has_unsaved k) keeps,
+          )
+
+-- where something was found, and where nothing was: whether a line names a file
+pub some_named : {A : Type 0} (view : A → List ℕ × Bool) (found : Option A) (wanted : Option (List ℕ × Bool)) (x : A) →
+    option_map view found ≡ wanted → found ≡ Some x → wanted ≡ Some (view x)
+some_named view found wanted x e is = sym e ∙ ap (option_map view) is
+
 pub none_named : {A : Type 0} (view : A → List ℕ × Bool) (found : Option A) (wanted : Option (List ℕ × Bool)) →
     option_map view found ≡ wanted → found ≡ None → wanted ≡ None
 none_named view found wanted e is = sym e ∙ ap (option_map view) is
@@ -44,26 +101,103 @@ with_lines n p = record {
   last = p.last;
   question = p.question;
   lines = n;
-  has_added = p.has_added;
+  has_unsaved = p.has_unsaved;
+  kept = p.kept;
   shows = p.shows;
 }
 
--- what a line asks for, where no question was asked: of a prompt v that is p, with one line more
-asked_now : (p v : Prompt) (line : List ℕ) (n : ℕ) (r : Result Ask CommandRefusal) → v ≡ p →
-    n ≡ min (v.lines + 1) (2 ^ 64 - 1) → v.question ≡ None → saving_of line ≡ None → ask_of n line ≡ r →
-    answer_line p line ≡ asked (with_lines n v) r
-unfolding answer_line
-asked_now p v line n r is counts none unsaved asks =
-    let there : answer_line p line ≡ answer_line v line = ap (λ (x : Prompt). answer_line x line) (sym is) in
-    there ∙ ap (λ (o : Option Question). answered_to (counted v) o line) none
-    ∙ ap (λ (f : Option (List ℕ × Bool)). saved_or_asked (counted v) f line) unsaved
-    ∙ ap (λ (k : ℕ). asked (with_lines k v) (ask_of k line)) (sym counts)
-    ∙ ap (λ (x : Result Ask CommandRefusal). asked (with_lines n v) x) asks
+-- An answer that is known, of a line that saves nothing: what is said and what comes of it are the answer's.
+answers_so : (p : Prompt) (line it old new : List ℕ) (a : Answer Said) (after : Prompt) (more : Bool) →
+    answer_line p line ≡ a → saves_under p.question line ≡ None → IsSaid a.said it → Adds old new it →
+    after ≡ a.state → more ≡ a.goes_on → AddsReply p line old new after more
+answers_so p line it old new a after more is unsaved says adds state on =
+    let next : next_line p line it ≡ next_where p None line it =
+    ap (λ (o : Option (List ℕ)). next_where p o line it) unsaved in (
+      it,
+      subst (λ (x : Answer Said). IsSaid x.said it) (sym is) says,
+      adds,
+      state ∙ ap (λ (x : Answer Said). x.state) (sym is) ∙ ap (λ (x : Next Prompt). x.state) (sym next),
+      on ∙ ap (λ (x : Answer Said). x.goes_on) (sym is) ∙ ap (λ (x : Next Prompt). x.goes_on) (sym next),
+    )
 
-pub asked_is_said : (p v : Prompt) (line : List ℕ) (n : ℕ) (r : Result Ask CommandRefusal) (old new : Drafted) → v ≡ p →
-    n ≡ min (v.lines + 1) (2 ^ 64 - 1) → v.question ≡ None → saving_of line ≡ None → ask_of n line ≡ r →
-    IsAdded (asked (with_lines n v) r).said old new → (it : List ℕ) × Says p line it × Adds old new it
-asked_is_said p v line n r old new is counts none unsaved asks adds =
-    it_is_said (answer_line p line).said old new
-    (same_added (answer_line p line).said (asked (with_lines n v) r).said old new
-    (ap (λ (a : Answer Said). a.said) (asked_now p v line n r is counts none unsaved asks)) adds)
+-- of a prompt v that is p: what a question, and a line that names a file, comes to with one line more
+counts_line : (p v : Prompt) (line : List ℕ) (n : ℕ) → v ≡ p → n ≡ min (v.lines + 1) (2 ^ 64 - 1) →
+    counted p ≡ with_lines n v
+counts_line p v line n is counts = ap counted (sym is) ∙ ap (λ (k : ℕ). with_lines k v) (sym counts)
+
+answered_now : (p v : Prompt) (line : List ℕ) (n : ℕ) (o : Option Question) → v ≡ p →
+    n ≡ min (v.lines + 1) (2 ^ 64 - 1) → v.question ≡ o → answer_line p line ≡ answered_to (with_lines n v) o line
+unfolding answer_line
+answered_now p v line n o is counts asked_so =
+    ap (λ (x : Prompt). answered_to x p.question line) (counts_line p v line n is counts)
+    ∙ ap (λ (q : Option Question). answered_to (with_lines n v) q line)
+    (ap (λ (x : Prompt). x.question) (sym is) ∙ asked_so)
+
+saves_nothing : (p v : Prompt) (line : List ℕ) (q : Question) → v ≡ p → v.question ≡ Some q →
+    saves_under p.question line ≡ None
+saves_nothing p v line q is some =
+    ap (λ (o : Option Question). saves_under o line) (ap (λ (x : Prompt). x.question) (sym is) ∙ some)
+
+-- the answer to a question
+pub decided_adds : (p v : Prompt) (line : List ℕ) (n : ℕ) (q : Question) (agreed : Bool) (old new : Drafted)
+    (after : Prompt) (more : Bool) → v ≡ p → n ≡ min (v.lines + 1) (2 ^ 64 - 1) → v.question ≡ Some q →
+    agreed ≡ is_yes line → Adds old new (decided (with_lines n v) q agreed).said →
+    after ≡ (decided (with_lines n v) q agreed).state → more ≡ (decided (with_lines n v) q agreed).goes_on →
+    AddsReply p line old new after more
+decided_adds p v line n q agreed old new after more is counts some says_yes adds state on =
+    answers_so p line (decided (with_lines n v) q agreed).said old new (in_words (decided (with_lines n v) q agreed)) after
+    more
+    (answered_now p v line n (Some q) is counts some
+    ∙ ap (λ (b : Bool). in_words (decided (with_lines n v) q b)) (sym says_yes))
+    (saves_nothing p v line q is some) refl adds state on
+
+-- a line that names a file
+pub saving_adds : (p v : Prompt) (line : List ℕ) (n : ℕ) (file : List ℕ × Bool) (old new : Drafted)
+    (after : Prompt) (more : Bool) → v ≡ p → n ≡ min (v.lines + 1) (2 ^ 64 - 1) → v.question ≡ None →
+    saving_of line ≡ Some file → SavesPrompt (with_lines n v) file.0 old new after → more ≡ true →
+    AddsReply p line old new after more
+saving_adds p v line n file old new after more is counts none names saves on =
+    let counted_so = counts_line p v line n is counts in
+    let it = saves.0 in
+    let says_so : answer_line p line ≡ says (with_lines n v) (saved file.0) =
+    answered_now p v line n None is counts none
+    ∙ ap (λ (f : Option (List ℕ × Bool)). saved_or_asked (with_lines n v) f line) names in
+    let under : saves_under p.question line ≡ Some file.0 =
+    ap (λ (o : Option Question). saves_under o line) (ap (λ (x : Prompt). x.question) (sym is) ∙ none)
+    ∙ ap (λ (f : Option (List ℕ × Bool)). option_map (λ x. x.0) f) names in
+    let next : next_line p line it ≡ next_where p (Some file.0) line it =
+    ap (λ (o : Option (List ℕ)). next_where p o line it) under in (
+      it,
+      subst (λ (x : Answer Said). IsSaid x.said it) (sym says_so) saves.1,
+      saves.2,
+      saves.3 ∙ ap (λ (x : Prompt). after_saving x file.0 (tells_saved it)) (sym counted_so)
+          ∙ ap (λ (x : Next Prompt). x.state) (sym next),
+      on ∙ ap (λ (x : Next Prompt). x.goes_on) (sym next),
+    )
+
+-- any other line
+pub asked_adds : (p v : Prompt) (line : List ℕ) (n : ℕ) (r : Result Ask CommandRefusal) (old new : Drafted)
+    (after : Prompt) (more : Bool) → v ≡ p → n ≡ min (v.lines + 1) (2 ^ 64 - 1) → v.question ≡ None →
+    saving_of line ≡ None → ask_of n line ≡ r → IsAdded (asked (with_lines n v) r).said old new →
+    after ≡ (asked (with_lines n v) r).state → more ≡ (asked (with_lines n v) r).goes_on →
+    AddsReply p line old new after more
+asked_adds p v line n r old new after more is counts none unnamed asks adds state on =
+    let it = it_is_said (asked (with_lines n v) r).said old new adds in
+    let asked_so : answer_line p line ≡ asked (with_lines n v) r =
+    answered_now p v line n None is counts none
+    ∙ ap (λ (f : Option (List ℕ × Bool)). saved_or_asked (with_lines n v) f line) unnamed
+    ∙ ap (λ (x : Result Ask CommandRefusal). asked (with_lines n v) x) asks in
+    let under : saves_under p.question line ≡ None =
+    ap (λ (o : Option Question). saves_under o line) (ap (λ (x : Prompt). x.question) (sym is) ∙ none)
+    ∙ ap (λ (f : Option (List ℕ × Bool)). option_map (λ x. x.0) f) unnamed in
+    answers_so p line it.0 old new (asked (with_lines n v) r) after more asked_so under it.1 it.2 state on
+
+pub asked_adds_all : {E : Type 0} (done : Result Bool E) (p v : Prompt) (line : List ℕ) (n : ℕ)
+    (r : Result Ask CommandRefusal) (old new : Drafted) (after : Prompt) → v ≡ p → n ≡ min (v.lines + 1) (2 ^ 64 - 1) →
+    v.question ≡ None → saving_of line ≡ None → ask_of n line ≡ r →
+    OnOk done (IsAdded (asked (with_lines n v) r).said old new) → OnOk done (after ≡ (asked (with_lines n v) r).state) →
+    IfOk done (λ more. more ≡ (asked (with_lines n v) r).goes_on) →
+    IfOk done (λ more. AddsReply p line old new after more)
+asked_adds_all (Ok more) p v line n r old new after is counts none unnamed asks adds state on =
+    asked_adds p v line n r old new after more is counts none unnamed asks adds state on
+asked_adds_all (Err e) p v line n r old new after is counts none unnamed asks adds state on = tt

@@ -13,3 +13,4 @@ pub mod Said
 pub mod Reach
 pub mod Saved
 pub mod Shows
+pub mod Conversation

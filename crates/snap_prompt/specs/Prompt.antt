@@ -1,7 +1,9 @@
 -- A prompt over a debugger's session: what is shown before a line, and what is answered to it.
-use Rattle.std.specs.Prelude.{ℕ, ◌+◌, ◌-◌, ◌^◌, List, [], ◌++◌, length, min, Bool, ◌&&◌, true, false, Option, Some}
-use Rattle.std.specs.Prelude.{None, Result, Ok, Err, codes, decimal, nat_eq, if◌then◌else◌}
+use Rattle.std.specs.Prelude.{◌≡◌, ℕ, ◌+◌, ◌-◌, ◌^◌, List, [], ◌++◌, length, min, Bool, ◌&&◌, true, false, Option, Some}
+use Rattle.std.specs.Prelude.{None, Result, Ok, Err, codes, decimal, nat_eq, if◌then◌else◌, option_map}
 use Rattle.snap_streams.specs.Dialog.{Next}
+use Rattle.snap_text.specs.Drafted.{Adds, Drafted}
+use Rattle.snap_streams.specs.Folder.{Kept, with_kept}
 use Rattle.snap_semantics.specs.Report.{position_line}
 use Rattle.snap_semantics.specs.Schedule.{Schedule}
 use Rattle.snap_semantics.specs.ScheduleText.{schedule_text}
@@ -32,29 +34,33 @@ use Rattle.snap_prompt.specs.Help.{help_text}
 use Rattle.snap_prompt.specs.Hints.{refused_addition, refused_line, refused_steps}
 use Rattle.snap_prompt.specs.Listed.{list_text, process_of}
 use Rattle.snap_prompt.specs.Said.{IsSaid, Said, saved, text}
+use Rattle.snap_prompt.specs.Saved.{IsSavedLine, tells_saved}
 use Rattle.snap_prompt.specs.Shows.{greets, places}
 use Rattle.snap_prompt.specs.declared.question.Question.{Question}
 use Rattle.snap_prompt.specs.declared.question.Question.TheVariants as question
 use Rattle.snap_prompt.specs.declared.shows.Shows.{Shows}
 
 -- A session, what was asked for last, what the next line answers where something was asked, how many lines were read,
--- whether items were added, and what is shown beside the answers.
+-- whether items were added since the schedule was last saved as a file, what was kept in files so far, where that is
+-- known, and what is shown beside the answers.
 pub record Prompt : Type 0 where
   pub session : Session
   pub last : Option Ask
   pub question : Option Question
   pub lines : ℕ
-  pub has_added : Bool
+  pub has_unsaved : Bool
+  pub kept : Option (List Kept)
   pub shows : Shows
 
--- a run at its beginning, with no marks and no line read
-abbrev pub opened_prompt : Run → Shows → Prompt
-opened_prompt r shows = record {
+-- a run at its beginning, with no marks and no line read, where this was kept in files before
+abbrev pub opened_prompt : Run → Shows → Option (List Kept) → Prompt
+opened_prompt r shows kept = record {
   session = opened r;
   last = None;
   question = None;
   lines = 0;
-  has_added = false;
+  has_unsaved = false;
+  kept = kept;
   shows = shows;
 }
 
@@ -78,7 +84,8 @@ counted p = record {
   last = p.last;
   question = p.question;
   lines = min (p.lines + 1) (2 ^ 64 - 1);
-  has_added = p.has_added;
+  has_unsaved = p.has_unsaved;
+  kept = p.kept;
   shows = p.shows;
 }
 
@@ -88,7 +95,8 @@ with_session s p = record {
   last = p.last;
   question = p.question;
   lines = p.lines;
-  has_added = p.has_added;
+  has_unsaved = p.has_unsaved;
+  kept = p.kept;
   shows = p.shows;
 }
 
@@ -98,7 +106,8 @@ with_question q p = record {
   last = p.last;
   question = q;
   lines = p.lines;
-  has_added = p.has_added;
+  has_unsaved = p.has_unsaved;
+  kept = p.kept;
   shows = p.shows;
 }
 
@@ -108,7 +117,8 @@ with_last a p = record {
   last = Some a;
   question = p.question;
   lines = p.lines;
-  has_added = p.has_added;
+  has_unsaved = p.has_unsaved;
+  kept = p.kept;
   shows = p.shows;
 }
 
@@ -119,7 +129,8 @@ with_addition s p = record {
   last = p.last;
   question = p.question;
   lines = p.lines;
-  has_added = true;
+  has_unsaved = true;
+  kept = p.kept;
   shows = p.shows;
 }
 
@@ -219,10 +230,10 @@ led p i g = led_by p i (steps_to p.session i g)
 abbrev pub ended : Prompt → Answer (List ℕ)
 ended p = record { state = p; said = []; goes_on = false }
 
--- where a person has added items, the next line has to say yes before the dialog ends
+-- where a person has added items that no file has, the next line has to say yes before the dialog ends
 abbrev pub quitted : Prompt → Answer (List ℕ)
 quitted p =
-    if greets p.shows && p.has_added
+    if greets p.shows && p.has_unsaved
     then record { state = with_question (Some question.End) p; said = end_question; goes_on = true } else ended p
 
 -- what is done, where that is no last thing again
@@ -300,6 +311,39 @@ answer_line p line = answered_to (counted p) p.question line
 abbrev pub Says : Prompt → List ℕ → List ℕ → Type 0
 Says p line it = IsSaid (answer_line p line).said it
 
--- what comes of a line
-abbrev pub next_line : Prompt → List ℕ → Next Prompt
-next_line p line = record { state = (answer_line p line).state; goes_on = (answer_line p line).goes_on }
+-- the name under which a line saves the schedule, where it answers no question
+abbrev pub saves_under : Option Question → List ℕ → Option (List ℕ)
+saves_under None line = option_map (λ f. f.0) (saving_of line)
+saves_under (Some q) line = None
+
+-- The prompt after its schedule was to be saved under a name: where it was, the file has the text that `save` prints,
+-- and nothing is unsaved.
+abbrev pub after_saving : Prompt → (name : List ℕ) → (is_saved : Bool) → Prompt
+after_saving p name true = record {
+  session = p.session;
+  last = p.last;
+  question = p.question;
+  lines = p.lines;
+  has_unsaved = false;
+  kept = with_kept name (schedule_text (schedule_of_run p.session.run)) p.kept;
+  shows = p.shows;
+}
+after_saving p name false = p
+
+-- what is said of a schedule that was to be saved under a name was added, and the prompt is as it is after that
+abbrev pub SavesPrompt : Prompt → (name : List ℕ) → (old new : Drafted) → Prompt → Type 0
+SavesPrompt p name old new after = (it : List ℕ) × IsSavedLine name it × Adds old new it
+    × (after ≡ after_saving p name (tells_saved it))
+
+-- and what comes of a line to which this was answered
+abbrev pub next_where : Prompt → (saved_under : Option (List ℕ)) → (line it : List ℕ) → Next Prompt
+next_where p None line it = record { state = (answer_line p line).state; goes_on = (answer_line p line).goes_on }
+next_where p (Some name) line it = record { state = after_saving (counted p) name (tells_saved it); goes_on = true }
+
+abbrev pub next_line : Prompt → (line it : List ℕ) → Next Prompt
+next_line p line it = next_where p (saves_under p.question line) line it
+
+-- an answer to a line was added to a draft, and this is what comes of it
+abbrev pub AddsReply : Prompt → (line : List ℕ) → (old new : Drafted) → Prompt → Bool → Type 0
+AddsReply p line old new after more = (it : List ℕ) × Says p line it × Adds old new it
+    × (after ≡ (next_line p line it).state) × (more ≡ (next_line p line it).goes_on)

@@ -1,6 +1,6 @@
 -- What the debugger's prompt says of a schedule that was to be saved as a file: that it was, or why it was not; and
 -- `Saves`, what a folder has kept then.
-use Rattle.std.specs.Prelude.{◌≡◌, ℕ, List, ◌++◌, Option, Result, Ok, Err, codes}
+use Rattle.std.specs.Prelude.{◌≡◌, ℕ, List, ◌++◌, [], ◌∷◌, Bool, false, nat_eq, Option, Result, Ok, Err, codes, is_ok}
 use Rattle.std.specs.declared.io.ErrorKind.{ErrorKind}
 use Rattle.std.specs.declared.io.ErrorKind.TheVariants as kind
 use Rattle.snap_text.specs.Drafted.{Adds, Drafted}
@@ -24,7 +24,15 @@ outcome_line name (Err k) = codes "refused: " ++ name ++ codes ": " ++ save_reas
 abbrev pub IsSavedLine : (name it : List ℕ) → Type 0
 IsSavedLine name it = (done : Result (Unit {0}) ErrorKind) × (it ≡ outcome_line name done)
 
--- What is said of a text that was put into a folder under a name is so: that it was saved where the folder has kept it.
-abbrev pub Saves : (name text : List ℕ) → (before after : Option (List Kept)) → (old new : Drafted) → Type 0
-Saves name text before after old new =
+-- Whether it says that the schedule was saved: of `saved: ..` and `refused: ..`, only the first begins with an s.
+abbrev pub tells_saved : List ℕ → Bool
+tells_saved [] = false
+tells_saved (b ∷ bs) = nat_eq b 115
+
+-- What is said of a text that was put into a folder under a name is so: that it was saved where the folder has kept it,
+-- and nothing else; and this tells whether it was.
+abbrev pub Saves : (name text : List ℕ) → (before after : Option (List Kept)) → (old new : Drafted) →
+    (is_saved : Bool) → Type 0
+Saves name text before after old new is_saved =
     (done : Result (Unit {0}) ErrorKind) × Keeps done before after name text × Adds old new (outcome_line name done)
+    × (is_saved ≡ is_ok done)

@@ -1,7 +1,8 @@
 //! `Prompt`: a debugger session that is talked to line by line, with the answer to each line.
-ghost use Rattle.std.specs.Prelude.{◌≡◌, ◌++◌, ℕ, List, IfOk, OnOk, Ok};
+ghost use Rattle.std.specs.Prelude.{◌≡◌, ◌++◌, IfOk, OnOk, Ok};
 ghost use Rattle.snap_text.specs.Drafted.{Adds};
 ghost use Rattle.snap_runs.specs.Run.{run_over};
+ghost use Rattle.snap_streams.specs.Dialog.{Replies};
 ghost use Rattle.snap_debug.specs.Replies.{last_of};
 ghost use Rattle.snap_debug.specs.Session.{answer, commanded, session_report, state_of, total};
 ghost use Rattle.snap_text.specs.Changes.{text_between};
@@ -10,14 +11,15 @@ ghost use Rattle.snap_semantics.specs.ScheduleText.{schedule_text};
 ghost use Rattle.snap_semantics.specs.Token.{lines_of};
 ghost use Rattle.snap_prompt.specs.Explained.{explained, item_or_position};
 ghost use Rattle.snap_prompt.specs.Listed.{list_text, process_of};
-ghost use Rattle.snap_prompt.specs.Prompt.{Says, added, agreed_to, answer_line, asked, at_end_of};
+ghost use Rattle.snap_prompt.specs.Prompt.{AddsReply, Says, SavesPrompt, added, agreed_to};
+ghost use Rattle.snap_prompt.specs.Prompt.{answer_line, asked, at_end_of};
 ghost use Rattle.snap_prompt.specs.Prompt.{decided, denied_text, did_text, done, greeting_or_none};
 ghost use Rattle.snap_prompt.specs.Prompt.{led, move_or_refusal, next_line};
 ghost use Rattle.snap_prompt.specs.Prompt.{opened_prompt, position_or_none, prompt_text};
 ghost use Rattle.snap_prompt.specs.Prompt.{question_text, quitted};
 ghost use Rattle.snap_prompt.specs.Prompt.{reply_or_refusal, schedule_of_run, wanted};
 ghost use Rattle.snap_prompt.specs.Prompt.{with_addition, with_session};
-ghost use Rattle.snap_prompt.specs.Said.{IsAdded, saved};
+ghost use Rattle.snap_prompt.specs.Said.{IsAdded};
 ghost use Rattle.snap_prompt.specs.Changed.{item_text, state_text};
 
 use crate::addition::Addition;
@@ -62,7 +64,7 @@ fn push_denied(out: &mut Draft, question: Question)
 }
 
 /// A session that is talked to, line by line.
-pub struct Prompt<K: Kind, S: Copy> {
+pub struct Prompt<K: Kind, S: Folder + Copy> {
     alloc: Global,
     /// Where schedules are saved.
     folder: S,
@@ -74,11 +76,12 @@ pub struct Prompt<K: Kind, S: Copy> {
     last: Option<Ask>,
     question: Option<Question>,
     lines: u64,
-    has_added: bool,
+    /// Whether items were added since the schedule was last saved.
+    has_unsaved: bool,
     shows: Shows,
 }
 
-impl<K: Kind, S: Copy> Model for Prompt<K, S> {
+impl<K: Kind, S: Folder + Copy> Model for Prompt<K, S> {
     ghost use Rattle.std.specs.Prelude.{◌≡◌, map};
     ghost use Rattle.snap_listing.specs.LineTexts.{written};
     ghost use Rattle.snap_prompt.specs.Prompt.{Prompt, schedule_of_run};
@@ -90,7 +93,8 @@ impl<K: Kind, S: Copy> Model for Prompt<K, S> {
       last = p.last;
       question = p.question;
       lines = p.lines;
-      has_added = p.has_added;
+      has_unsaved = p.has_unsaved;
+      kept = S.kept p.folder;
       shows = p.shows;
     } };
 
@@ -98,7 +102,7 @@ impl<K: Kind, S: Copy> Model for Prompt<K, S> {
         × (p.texts ≡ map written p.session.run.source.lines) };
 }
 
-impl<K: Kind, S: Copy> Drop for Prompt<K, S> {
+impl<K: Kind, S: Folder + Copy> Drop for Prompt<K, S> {
     fn drop(self) {
         let Prompt {
             alloc: _,
@@ -109,7 +113,7 @@ impl<K: Kind, S: Copy> Drop for Prompt<K, S> {
             last: _,
             question: _,
             lines: _,
-            has_added: _,
+            has_unsaved: _,
             shows: _,
         } = self;
     }
@@ -129,7 +133,8 @@ impl<K: Kind, S: Folder + Copy> Prompt<K, S> {
         folder: S,
     ) -> Result<Prompt<K, S>, AllocError>
         requires { program.now.kind ≡ K.TAG }
-        ensures { IfOk result (λ p. p ≡ opened_prompt (run_over program.now schedule) shows) }
+        ensures { IfOk result (λ p. p
+            ≡ opened_prompt (run_over program.now schedule) shows (S.kept folder)) }
     {
         let texts = LineTexts::of(alloc, program.listing())?;
         let session = Session::<K>::open(alloc, program, &schedule)?;
@@ -142,7 +147,7 @@ impl<K: Kind, S: Folder + Copy> Prompt<K, S> {
             last: None,
             question: None,
             lines: 0,
-            has_added: false,
+            has_unsaved: false,
             shows,
         })
     }
@@ -235,8 +240,15 @@ impl<K: Kind, S: Folder + Copy> Prompt<K, S> {
     {
         self.session = self.reopened(&schedule)?;
         self.schedule = schedule;
-        self.has_added = true;
+        self.has_unsaved = true;
         Ok(())
+    }
+
+    /// Returns where schedules are saved.
+    pub fn folder(&self) -> S
+        ensures { S.kept result ≡ self.now.kept }
+    {
+        self.folder
     }
 
     /// Appends the text on the end of the schedule, where the state before had the report `before`.
@@ -317,7 +329,7 @@ impl<K: Kind, S: Folder + Copy> Prompt<K, S> {
         ensures state { OnOk result (self.new ≡ (quitted self.old).state) }
         ensures goes_on { IfOk result (λ more. more ≡ (quitted self.old).goes_on) }
     {
-        if self.shows.greets() && self.has_added {
+        if self.shows.greets() && self.has_unsaved {
             out.push(END_QUESTION);
             self.question = Some(Question::End);
             return Ok(true);
@@ -344,19 +356,19 @@ impl<K: Kind, S: Folder + Copy> Prompt<K, S> {
         Ok(())
     }
 
-    /// Saves the schedule under a name, and appends the text on that.
-    #[tactic(auto, using(crate::proofs::Added::saved_is_added))]
+    /// Saves the schedule under a name, and appends the text on that. What is kept is the text that
+    /// `save` prints.
     fn push_saving(
         &mut self,
         out: &mut Draft,
         name: &[u8],
         replaces: bool,
     ) -> Result<(), AllocError>
-        ensures text { OnOk result (IsAdded (saved name.now) out.old out.new) }
-        ensures same { OnOk result (self.new ≡ self.old) }
+        ensures { OnOk result (SavesPrompt self.old name.now out.old out.new self.new) }
     {
         let text = print(self.alloc, &self.schedule)?;
-        push_saved(out, &mut self.folder, name, text.as_slice(), replaces);
+        let is_saved = push_saved(out, &mut self.folder, name, text.as_slice(), replaces);
+        self.has_unsaved = self.has_unsaved && !is_saved;
         Ok(())
     }
 
@@ -521,10 +533,8 @@ impl<K: Kind, S: Folder + Copy> Prompt<K, S> {
     /// Appends an answer to a line, and returns whether the dialog goes on.
     #[tactic(auto, unfolding(crate::specs::Prompt::answer_line))]
     fn push_answered(&mut self, out: &mut Draft, line: &[u8]) -> Result<bool, AllocError>
-        ensures text { OnOk result ((text : List ℕ) × Says self.old line.now text
-            × Adds out.old out.new text) }
-        ensures state { OnOk result (self.new ≡ (answer_line self.old line.now).state) }
-        ensures goes_on { IfOk result (λ more. more ≡ (answer_line self.old line.now).goes_on) }
+        ensures { IfOk result (λ more.
+            AddsReply self.old line.now out.old out.new self.new more) }
     {
         self.lines = self.lines.saturating_add(1);
         if let Some(question) = self.question {
@@ -553,10 +563,8 @@ impl<K: Kind, S: Folder + Copy> Prompt<K, S> {
 
     /// Adds an answer to a line to a text, and tells whether the dialog goes on.
     fn push_answer_text(&mut self, out: &mut Vec<u8>, line: &[u8]) -> Result<bool, AllocError>
-        ensures text { OnOk result ((text : List ℕ) × Says self.old line.now text
-            × (out.new.items ≡ out.old.items ++ text)) }
-        ensures state { OnOk result (self.new ≡ (answer_line self.old line.now).state) }
-        ensures goes_on { IfOk result (λ more. more ≡ (answer_line self.old line.now).goes_on) }
+        ensures { IfOk result (λ more. Replies Says next_line self.old line.now
+            out.old.items out.new.items self.new more) }
     {
         let mut said = Draft::new(self.alloc);
         let more = self.push_answered(&mut said, line)?;

@@ -1,5 +1,5 @@
 //! `push_saved`: a schedule is saved as a file, and what the debugger's prompt says of that.
-ghost use Rattle.std.specs.Prelude.{◌≡◌, Err, OnOk};
+ghost use Rattle.std.specs.Prelude.{◌≡◌, Err};
 ghost use Rattle.snap_text.specs.Drafted.{Adds};
 ghost use Rattle.snap_prompt.specs.Saved.{Saves, outcome_line, save_reason};
 
@@ -46,16 +46,18 @@ fn push_outcome(out: &mut Draft, name: &[u8], done: Result<(), ErrorKind>)
     }
 }
 
-/// Keeps a text under a name, and adds what is said of that.
+/// Keeps a text under a name, and adds what is said of that. Returns whether it was kept.
 pub(crate) fn push_saved<S: Folder>(
     out: &mut Draft,
     folder: &mut S,
     name: &[u8],
     text: &[u8],
     replaces: bool,
-)
-    ensures { Saves name.now text.now (S.kept folder.old) (S.kept folder.new) out.old out.new }
+) -> bool
+    ensures { Saves name.now text.now (S.kept folder.old) (S.kept folder.new) out.old out.new
+        result }
 {
     let done = folder.keep(name, text, replaces);
     push_outcome(out, name, done);
+    done.is_ok()
 }

@@ -104,26 +104,27 @@ module _ {S : Type 0} (prompt : S → List ℕ) (says : S → List ℕ → List 
 
   pub shows_of_answer : (s : S) (left after u v still w : Option (List ℕ)) (asked line same told blank : List ℕ) →
       Appends u v asked → asked ≡ prompt s → after ≡ left → IfSome after (λ xs. line ≡ kept (take_through 10 xs)) →
-      still ≡ v → same ≡ line → ShowsPart still w told → blank ≡ [] →
-      (text : List ℕ) × SaysOrEnds says s same text × (told ≡ blank ++ text) → PartShown prompt says s left u w
+      still ≡ v → same ≡ line → ShowsPart still w told → blank ≡ [] → (answer : List ℕ) →
+      SaysOrEnds says s same answer → told ≡ blank ++ answer → PartShown prompt says s left u w
   shows_of_answer s None after u v still w asked line same told blank first is_prompt at read is_still is_line second
-      nothing answers = tt
+      nothing answer says_so is_told = tt
   shows_of_answer s (Some xs) after u v still w asked line same told blank first is_prompt at read is_still is_line
-      second nothing answers =
+      second nothing answer says_so is_told =
       let e : same ≡ kept (take_through 10 xs) =
       is_line ∙ subst (λ o. IfSome o (λ ys. line ≡ kept (take_through 10 ys))) at read in
-      let is_text : answers.0 ≡ second.0 ++ second.1 =
-      sym (second.2 ∙ into_empty told blank answers.0 answers.2 nothing) in
+      let is_text : answer ≡ second.0 ++ second.1 =
+      sym (second.2 ∙ into_empty told blank answer is_told nothing) in
       let says_it : SaysOrEnds says s (kept (take_through 10 xs)) (second.0 ++ second.1) =
       subst (λ t. SaysOrEnds says s (kept (take_through 10 xs)) t) is_text
-      (subst (λ l. SaysOrEnds says s l answers.0) e answers.1) in (
+      (subst (λ l. SaysOrEnds says s l answer) e says_so) in (
         prompt s ++ second.0,
         inr (second.0, second.1, says_it, refl),
         appends_then u v w (prompt s) second.0 (subst (λ t. Appends u v t) is_prompt first)
             (subst (λ o. Appends o w second.0) is_still second.3),
       )
 
-module _ {S : Type 0} (prompt : S → List ℕ) (says : S → List ℕ → List ℕ → Type 0) (next : S → List ℕ → Next S) where
+module _ {S : Type 0} (prompt : S → List ℕ) (says : S → List ℕ → List ℕ → Type 0)
+  (next : S → List ℕ → List ℕ → Next S) where
   -- a dialog that is broken off within a turn, and between two turns
   pub within_turn : (s now : S) (u v w : Option (List Event)) → HasPassed prompt says next s now u v →
       PartPassed prompt now v w → IsBrokenOff prompt says next s u w
@@ -167,8 +168,8 @@ a_byte_less x xs =
     let same : length (drop_through 10 (x ∷ xs)) ≡ length (if x == 10 then xs else drop_through 10 xs) = refl in
     omega (arith, less, same)
 
-pub turn_taken : {S : Type 0} (prompt : S → List ℕ) (says : S → List ℕ → List ℕ → Type 0) (next : S → List ℕ → Next S)
-    (now later : S) (count : ℕ) (first left rest v w : Option (List ℕ)) (more : Bool) → HasTaken count first left →
+pub turn_taken : {S : Type 0} (prompt : S → List ℕ) (says : S → List ℕ → List ℕ → Type 0)
+    (next : S → List ℕ → List ℕ → Next S) (now later : S) (count : ℕ) (first left rest v w : Option (List ℕ)) (more : Bool) → HasTaken count first left →
     DropsThrough left rest 10 → TurnShown prompt says next now later more left v w → more ≡ true →
     HasTaken (count + 1) first rest
 turn_taken prompt says next now later count None left rest v w more h drops shows on = tt
@@ -177,7 +178,7 @@ turn_taken {S} prompt says next now later count (Some all) left rest v w more h 
     (subst (λ o. TurnShown prompt says next now later more o v w) h.1 shows) where
       go : (xs : List ℕ) → count + length xs ≤ length all → DropsThrough (Some xs) rest 10 →
           TurnShown prompt says next now later more (Some xs) v w → HasTaken (count + 1) (Some all) rest
-      go [] fits drops shows = absurd (true≢false (sym on ∙ shows.0.1))
+      go [] fits drops shows = absurd (true≢false (sym on ∙ shows.1.1))
       go (b ∷ bs) fits drops shows =
           let less = a_byte_less b bs in (drop_through 10 (b ∷ bs), drops, omega (arith, fits, less))
 

@@ -3,7 +3,7 @@ use Rattle.std.specs.Prelude.{◌≡◌, ℕ, ◌+◌, ◌≤◌, List, ◌++◌
 use Rattle.std.specs.Io.BufRead.{take_through, drop_through}
 use Rattle.std.specs.Io.KnownBytes.{Appends}
 use Rattle.snap_streams.specs.Dialog.{AreTurns, GoesOn, IsAnswered, IsTranscript, IsTranscriptPart, IsTurn}
-use Rattle.snap_streams.specs.Dialog.{IsTurnPart, IsTurnText, IsTurnTextPart, Next}
+use Rattle.snap_streams.specs.Dialog.{IsTurnPart, IsTurnTextPart, Next, SaysOrEnds, Turn}
 use Rattle.snap_streams.specs.Event.{Event, PassesAll}
 use Rattle.snap_streams.specs.TypedLines.{kept, typed_lines}
 
@@ -19,32 +19,33 @@ abbrev pub HasTaken : ℕ → Option (List ℕ) → Option (List ℕ) → Type 0
 HasTaken count first left =
     IfSome first (λ all. (rest : List ℕ) × (left ≡ Some rest) × (count + length rest ≤ length all))
 
-module _ {S : Type 0} (prompt : S → List ℕ) (says : S → List ℕ → List ℕ → Type 0) (next : S → List ℕ → Next S) where
-  -- What has passed are the turns of lines after which the respondent is so.
+module _ {S : Type 0} (prompt : S → List ℕ) (says : S → List ℕ → List ℕ → Type 0)
+  (next : S → (line answer : List ℕ) → Next S) where
+  -- What has passed are turns after which the respondent is so.
   abbrev pub HasPassed : S → S → Option (List Event) → Option (List Event) → Type 0
-  HasPassed s now before after = (lines : List (List ℕ)) × GoesOn next s lines now
-      × (events : List Event) × AreTurns prompt says next s lines events × PassesAll before after events
+  HasPassed s now before after = (turns : List Turn) × GoesOn next s turns now
+      × (events : List Event) × AreTurns prompt says next s turns events × PassesAll before after events
 
   -- What was shown so far, with a transcript of the rest of the input, is one of the whole input, and with a beginning
   -- of one it is a beginning: of the input `first` there is `left`.
   abbrev pub HasShown : S → S → Option (List ℕ) → Option (List ℕ) → Option (List ℕ) → Option (List ℕ) → Type 0
   HasShown s now first left before after = IfSome first (λ all. (rest : List ℕ) × (left ≡ Some rest)
       × (text : List ℕ) × Appends before after text
-      × ((more : List ℕ) → IsTranscript prompt says next now (typed_lines rest) more →
-      IsTranscript prompt says next s (typed_lines all) (text ++ more))
+      × ((more : List ℕ) (last : S) → IsTranscript prompt says next now (typed_lines rest) last more →
+      IsTranscript prompt says next s (typed_lines all) last (text ++ more))
       × ((more : List ℕ) → IsTranscriptPart prompt says next now (typed_lines rest) more →
       IsTranscriptPart prompt says next s (typed_lines all) (text ++ more)))
 
-  -- A turn of a line has passed, after which the respondent is so.
+  -- A turn has passed, after which the respondent is so.
   abbrev pub TurnPassed : S → S → Bool → Option (List Event) → Option (List Event) → Type 0
-  TurnPassed now later more before after = (line : List ℕ) × IsAnswered next now line later more
-      × (events : List Event) × IsTurn prompt says now line events × PassesAll before after events
+  TurnPassed now later more before after = (t : Turn) × IsAnswered next now t.line t.answer later more
+      × (events : List Event) × IsTurn prompt says now t events × PassesAll before after events
 
   -- a turn of the first line of what is left was shown
   abbrev pub TurnShown : S → S → Bool → Option (List ℕ) → Option (List ℕ) → Option (List ℕ) → Type 0
-  TurnShown now later more left before after = IfSome left (λ xs.
-      IsAnswered next now (kept (take_through 10 xs)) later more
-      × (text : List ℕ) × IsTurnText prompt says now (kept (take_through 10 xs)) text × Appends before after text)
+  TurnShown now later more left before after = IfSome left (λ xs. (answer : List ℕ)
+      × IsAnswered next now (kept (take_through 10 xs)) answer later more
+      × SaysOrEnds says now (kept (take_through 10 xs)) answer × Appends before after (prompt now ++ answer))
 
 -- a part of a turn has passed
 abbrev pub PartPassed : {S : Type 0} → (S → List ℕ) → S → Option (List Event) → Option (List Event) → Type 0

@@ -1,6 +1,6 @@
 //! `Respondent`: the partner of a dialog, who answers its lines.
 ghost use Rattle.std.specs.Prelude.{◌≡◌, ℕ, List, ◌++◌, IfOk, OnOk};
-ghost use Rattle.snap_streams.specs.Dialog.{Next};
+ghost use Rattle.snap_streams.specs.Dialog.{Replies, Next};
 
 use std::alloc::AllocError;
 
@@ -12,8 +12,8 @@ pub trait Respondent {
     /// Whether a text may be answered to a line.
     ghost says: { Self → List ℕ → List ℕ → Type 0 };
 
-    /// What the respondent is after a line, and whether the dialog goes on.
-    ghost next_of: { Self → List ℕ → Next Self };
+    /// What the respondent is after a line and its answer, and whether the dialog goes on.
+    ghost next_of: { Self → List ℕ → List ℕ → Next Self };
 
     /// Appends the prompt of the next line to `out`.
     ///
@@ -29,8 +29,6 @@ pub trait Respondent {
     ///
     /// `AllocError` where memory runs out.
     fn push_answer(&mut self, out: &mut Vec<u8>, line: &[u8]) -> Result<bool, AllocError>
-        ensures text { OnOk result ((text : List ℕ) × says self.old line.now text
-            × (out.new.items ≡ out.old.items ++ text)) }
-        ensures state { OnOk result (self.new ≡ (next_of self.old line.now).state) }
-        ensures goes_on { IfOk result (λ more. more ≡ (next_of self.old line.now).goes_on) };
+        ensures { IfOk result (λ more. Replies says next_of self.old line.now
+            out.old.items out.new.items self.new more) };
 }

@@ -1,8 +1,8 @@
 //! `talk`: a dialog of a respondent at a console, turn by turn, from its first prompt to its end.
 ghost use Rattle.std.specs.Prelude.{◌≡◌, ◌++◌, ℕ, List, None, IfErr, IfOk, IfSome, OnErr, OnOk};
 ghost use Rattle.std.specs.Io.BufRead.{DropsThrough};
-ghost use Rattle.snap_streams.specs.Dialog.{IsBrokenOff, IsDialog, SaysOrEnds, ShowsTranscript};
-ghost use Rattle.snap_streams.specs.Dialog.{ShowsTranscriptPart, next_or_end};
+ghost use Rattle.snap_streams.specs.Dialog.{IsBrokenOff, IsDialog, Replies, SaysOrEnds};
+ghost use Rattle.snap_streams.specs.Dialog.{ShowsTranscript, ShowsTranscriptPart, next_or_end};
 ghost use Rattle.snap_streams.specs.Failures.{MayEndDialog, failure_of};
 ghost use Rattle.snap_streams.specs.Talks.{PartPassed, PartShown, TurnPassed, TurnShown};
 ghost use Rattle.snap_streams.specs.TypedLines.{typed_lines};
@@ -19,12 +19,8 @@ fn push_answer_or_end<P: Respondent>(
     out: &mut Vec<u8>,
     line: &[u8],
 ) -> Result<bool, AllocError>
-    ensures text { OnOk result ((text : List ℕ)
-        × SaysOrEnds P.says partner.old line.now text
-        × (out.new.items ≡ out.old.items ++ text)) }
-    ensures state { OnOk result (partner.new ≡ (next_or_end P.next_of partner.old line.now).state) }
-    ensures goes_on { IfOk result (λ more.
-        more ≡ (next_or_end P.next_of partner.old line.now).goes_on) }
+    ensures { IfOk result (λ more. Replies (SaysOrEnds P.says) (next_or_end P.next_of)
+        partner.old line.now out.old.items out.new.items partner.new more) }
 {
     if line.is_empty() {
         return Ok(false);
@@ -76,10 +72,10 @@ pub fn talk<C: Console, P: Respondent>(
     partner: &mut P,
 ) -> Result<(), DialogFault>
     requires { C.failure console.old ≡ None }
-    ensures passes { OnOk result (IsDialog P.prompt_of P.says P.next_of partner.old
+    ensures passes { OnOk result (IsDialog P.prompt_of P.says P.next_of partner.old partner.new
         (C.passed console.old) (C.passed console.new)) }
     ensures shown { OnOk result (IfSome (C.left console.old) (λ input.
-        ShowsTranscript P.prompt_of P.says P.next_of partner.old (typed_lines input)
+        ShowsTranscript P.prompt_of P.says P.next_of partner.old (typed_lines input) partner.new
         (C.shown console.old) (C.shown console.new))) }
     ensures failure { C.failure console.new ≡ failure_of result }
     ensures fails { IfErr result (λ fault. MayEndDialog fault (C.left console.old)) }

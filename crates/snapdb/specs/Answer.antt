@@ -4,6 +4,7 @@ use Rattle.std.specs.Prelude.{◌≡◌, ◌⊎◌, ℕ, Bool, List, [], Option,
 use Rattle.std.specs.Prelude.{string_bytes}
 use Rattle.std.specs.declared.io.ErrorKind.{ErrorKind}
 use Rattle.snap_streams.specs.Event.{Shows}
+use Rattle.snap_streams.specs.Folder.{Kept}
 use Rattle.snap_streams.specs.declared.dialog_fault.DialogFault.{DialogFault}
 use Rattle.snap_faults.specs.Names.{of_program}
 use Rattle.snap_faults.specs.Told.{SaysWhy, Tells, exit_status, no_memory_line, no_text_line, success}
@@ -35,14 +36,16 @@ why texts _ = []
 abbrev pub explained : (explains : Bool) → Option Read → ProgramFault → List ℕ
 explained explains texts f = if explains then why texts f else []
 
--- What the program does about a session. Where a text is refused, it is the one that is explained.
+-- What the program does about a session: also what its folder, which had kept this before, has kept then. Where a text is
+-- refused, it is the one that is explained.
 abbrev pub AnswersSession : (files : List ℕ → Option (Result (List ℕ) ErrorKind)) → Session → (shows : beside.Shows) →
-    (status : ℕ) → (left shown shown_after : Option (List ℕ)) → (failure : Option DialogFault) →
+    (status : ℕ) → (left shown shown_after : Option (List ℕ)) → (kept kept_after : Option (List Kept)) →
+    (failure : Option DialogFault) →
     (errors errors_after : SinkState) → Type 0
-AnswersSession files session shows status left shown shown_after failure errors errors_after =
+AnswersSession files session shows status left shown shown_after kept kept_after failure errors errors_after =
     (done : Result (Unit {0}) ProgramFault) × (read : Result Texts ProgramFault) × (texts : Option Read)
     × (status ≡ exit_status success done) × AreTexts files (view_named session.named) read
-    × TalksRead read texts shows done left shown shown_after failure
+    × TalksRead read texts shows done left shown shown_after kept kept_after failure
     × SaysWhy (names_of called (view_named session.named)) (explained session.explains texts) done errors errors_after
 
 -- Help is shown, and 0 is its status; or the console failed, which is said, and it is 3.
@@ -55,17 +58,18 @@ Shown text status shown shown_after errors errors_after =
     × Tells (of_program called) fault.Show errors errors_after)
 
 -- What the program does about a command line, or where there was no memory to read it: what it shows where these bytes
--- are left to be typed, what it says, and its status.
+-- are left to be typed, what it says, its status, and what is kept in files then.
 abbrev pub AnswersLine : {E : Type 0} → (files : List ℕ → Option (Result (List ℕ) ErrorKind)) → Result CommandLine E →
-    (shows : beside.Shows) → (status : ℕ) → (left shown shown_after : Option (List ℕ)) → (failure : Option DialogFault) →
+    (shows : beside.Shows) → (status : ℕ) → (left shown shown_after : Option (List ℕ)) →
+    (kept kept_after : Option (List Kept)) → (failure : Option DialogFault) →
     (errors errors_after : SinkState) → Type 0
-AnswersLine files (Ok (Asks session)) shows status left shown shown_after failure errors errors_after =
-    AnswersSession files session shows status left shown shown_after failure errors errors_after
-AnswersLine files (Ok (Help text)) shows status left shown shown_after failure errors errors_after =
-    Shown (string_bytes text) status shown shown_after errors errors_after
-AnswersLine files (Ok (Wrong text)) shows status left shown shown_after failure errors errors_after =
-    (status ≡ 2) × (shown ≡ shown_after) × Says (string_bytes text) errors errors_after
-AnswersLine files (Ok NoText) shows status left shown shown_after failure errors errors_after =
-    (status ≡ 2) × (shown ≡ shown_after) × Says no_text_line errors errors_after
-AnswersLine files (Err e) shows status left shown shown_after failure errors errors_after =
-    (status ≡ 1) × (shown ≡ shown_after) × Says no_memory_line errors errors_after
+AnswersLine files (Ok (Asks session)) shows status left shown shown_after kept kept_after failure errors errors_after =
+    AnswersSession files session shows status left shown shown_after kept kept_after failure errors errors_after
+AnswersLine files (Ok (Help text)) shows status left shown shown_after kept kept_after failure errors errors_after =
+    Shown (string_bytes text) status shown shown_after errors errors_after × (kept_after ≡ kept)
+AnswersLine files (Ok (Wrong text)) shows status left shown shown_after kept kept_after failure errors errors_after =
+    (status ≡ 2) × (shown ≡ shown_after) × (kept_after ≡ kept) × Says (string_bytes text) errors errors_after
+AnswersLine files (Ok NoText) shows status left shown shown_after kept kept_after failure errors errors_after =
+    (status ≡ 2) × (shown ≡ shown_after) × (kept_after ≡ kept) × Says no_text_line errors errors_after
+AnswersLine files (Err e) shows status left shown shown_after kept kept_after failure errors errors_after =
+    (status ≡ 1) × (shown ≡ shown_after) × (kept_after ≡ kept) × Says no_memory_line errors errors_after

@@ -1,9 +1,9 @@
 //! `talk_about`: the dialog of snapdb at a console about a program under the schedule of a file.
 ghost use Rattle.std.specs.Prelude.{◌≡◌, Err, IfErr, IfSome, None, OnErr, OnOk, Ok};
-ghost use Rattle.snap_streams.specs.Dialog.{ShowsTranscript, ShowsTranscriptPart};
 ghost use Rattle.snap_streams.specs.TypedLines.{typed_lines};
 ghost use Rattle.snap_input.specs.Schedules.{schedule_for};
-ghost use Rattle.snap_prompt.specs.Prompt.{Says, next_line, opened_prompt, prompt_text};
+ghost use Rattle.snap_prompt.specs.Conversation.{ShowsAll, ShowsSome};
+ghost use Rattle.snap_prompt.specs.Prompt.{opened_prompt};
 ghost use Rattle.snap_runs.specs.Run.{run_over};
 ghost use Rattle.snap_semantics.specs.Schedule.{Schedule};
 ghost use Rattle.snap_semantics.specs.declared.refusal.Refusal.{Refusal};
@@ -18,7 +18,8 @@ use snap_streams::{Console, Folder};
 use std::alloc::Global;
 
 /// Talks at `console` about `program` under `schedule`. What is shown is a transcript of what is
-/// typed; nothing if the schedule is refused. Schedules are saved in `folder`.
+/// typed; nothing if the schedule is refused. `folder` has kept the schedules that the lines saved,
+/// and nothing else.
 ///
 /// # Errors
 ///
@@ -31,24 +32,23 @@ pub fn talk_about<C: Console, S: Folder + Copy>(
     schedule: &[u8],
     shows: Shows,
     console: &mut C,
-    folder: S,
+    folder: &mut S,
 ) -> Result<(), ProgramFault>
     requires { C.failure console.old ≡ None }
     ensures shown { OnOk result ((s : Schedule) × (schedule_for program.now schedule.now ≡ Ok s)
-        × IfSome (C.left console.old) (λ input.
-        ShowsTranscript prompt_text Says next_line
-        (opened_prompt (run_over program.now s) shows) (typed_lines input)
-        (C.shown console.old) (C.shown console.new))) }
+        × IfSome (C.left console.old) (λ input. ShowsAll
+        (opened_prompt (run_over program.now s) shows (S.kept folder.old)) (typed_lines input)
+        (C.shown console.old) (C.shown console.new) (S.kept folder.new))) }
     ensures refused { (r : Refusal) → result ≡ Err (Refused r) →
-        (schedule_for program.now schedule.now ≡ Err r) × (console.new ≡ console.old) }
+        (schedule_for program.now schedule.now ≡ Err r) × (console.new ≡ console.old)
+        × (folder.new ≡ folder.old) }
     ensures well { OnOk result (C.failure console.new ≡ None) }
     ensures fails { IfErr result (λ fault.
         EndsFor fault (C.failure console.new) (C.left console.old)) }
     ensures shown_part { OnErr result ((s : Schedule) →
         schedule_for program.now schedule.now ≡ Ok s → IfSome (C.left console.old) (λ input.
-        ShowsTranscriptPart prompt_text Says next_line
-        (opened_prompt (run_over program.now s) shows) (typed_lines input)
-        (C.shown console.old) (C.shown console.new))) }
+        ShowsSome (opened_prompt (run_over program.now s) shows (S.kept folder.old))
+        (typed_lines input) (C.shown console.old) (C.shown console.new))) }
 {
     let schedule = read_schedule(alloc, program, schedule)?;
     converse(alloc, program, schedule, shows, console, folder)?;

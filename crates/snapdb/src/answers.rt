@@ -30,11 +30,12 @@ fn talk_over<C: Console, S: Folder + Copy>(
     schedule: &[u8],
     shows: Shows,
     console: &mut C,
-    folder: S,
+    folder: &mut S,
 ) -> Result<(), ProgramFault>
     requires { C.failure console.old ≡ None }
     ensures { TalksIn (OfFiles listing.now schedule.now) shows result (C.left console.old)
-        (C.shown console.old) (C.shown console.new) (C.failure console.new) }
+        (C.shown console.old) (C.shown console.new) (S.kept folder.old) (S.kept folder.new)
+        (C.failure console.new) }
 {
     match program_of(alloc, listing) {
         Ok(program) => talk_about(alloc, &program, schedule, shows, console, folder),
@@ -49,11 +50,12 @@ fn talk_over_shipped<C: Console, S: Folder + Copy>(
     schedule: &[u8],
     shows: Shows,
     console: &mut C,
-    folder: S,
+    folder: &mut S,
 ) -> Result<(), ProgramFault>
     requires { C.failure console.old ≡ None }
     ensures { TalksIn (OfShipped kind schedule.now) shows result (C.left console.old)
-        (C.shown console.old) (C.shown console.new) (C.failure console.new) }
+        (C.shown console.old) (C.shown console.new) (S.kept folder.old) (S.kept folder.new)
+        (C.failure console.new) }
 {
     match shipped(alloc, kind) {
         Ok(program) => talk_about(alloc, &program, schedule, shows, console, folder),
@@ -67,11 +69,12 @@ fn talk<C: Console, S: Folder + Copy>(
     texts: &Texts,
     shows: Shows,
     console: &mut C,
-    folder: S,
+    folder: &mut S,
 ) -> Result<(), ProgramFault>
     requires { C.failure console.old ≡ None }
     ensures { TalksIn (view_texts texts.now) shows result (C.left console.old)
-        (C.shown console.old) (C.shown console.new) (C.failure console.new) }
+        (C.shown console.old) (C.shown console.new) (S.kept folder.old) (S.kept folder.new)
+        (C.failure console.new) }
 {
     match texts {
         Texts::Files(listing, schedule) => talk_over(
@@ -157,19 +160,19 @@ fn open<F: FileSource + Folder + Copy, C: Console, E: ByteSink>(
     alloc: Global,
     session: &Session<'_>,
     shows: Shows,
-    files: &F,
+    files: &mut F,
     console: &mut C,
     errors: &mut E,
 ) -> u8
     requires console { C.failure console.old ≡ None }
     requires errors { (E.state errors.old).failed ≡ false }
-    ensures { AnswersSession (F.found files.now) session.now shows result (C.left console.old)
-        (C.shown console.old) (C.shown console.new) (C.failure console.new)
-        (E.state errors.old) (E.state errors.new) }
+    ensures { AnswersSession (F.found files.old) session.now shows result (C.left console.old)
+        (C.shown console.old) (C.shown console.new) (F.kept files.old) (F.kept files.new)
+        (C.failure console.new) (E.state errors.old) (E.state errors.new) }
 {
-    match read_texts(alloc, files, &session.named) {
+    match read_texts(alloc, &*files, &session.named) {
         Ok(texts) => {
-            let done = talk(alloc, &texts, shows, console, *files);
+            let done = talk(alloc, &texts, shows, console, files);
             finish(alloc, session, Some(&texts), &done, errors)
         }
         Err(fault) => finish(alloc, session, None, &Err(fault), errors),
@@ -203,15 +206,15 @@ pub(crate) fn answer<F: FileSource + Folder + Copy, C: Console, E: ByteSink>(
     alloc: Global,
     line: &Result<CommandLine<'_>, AllocError>,
     shows: Shows,
-    files: &F,
+    files: &mut F,
     console: &mut C,
     errors: &mut E,
 ) -> u8
     requires console { C.failure console.old ≡ None }
     requires errors { (E.state errors.old).failed ≡ false }
-    ensures { AnswersLine (F.found files.now) line.now shows result (C.left console.old)
-        (C.shown console.old) (C.shown console.new) (C.failure console.new)
-        (E.state errors.old) (E.state errors.new) }
+    ensures { AnswersLine (F.found files.old) line.now shows result (C.left console.old)
+        (C.shown console.old) (C.shown console.new) (F.kept files.old) (F.kept files.new)
+        (C.failure console.new) (E.state errors.old) (E.state errors.new) }
 {
     match line {
         Ok(CommandLine::Asks(session)) => open(alloc, session, shows, files, console, errors),

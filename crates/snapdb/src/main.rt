@@ -5,12 +5,14 @@ mod about;
 mod answers;
 mod arguments;
 mod command_line;
+mod saved_files;
 mod system_files;
 
 use crate::command_line::{CommandLine, read_arguments};
 use answers::answer;
+use saved_files::SavedFiles;
 use snap_prompt::Shows;
-use snap_streams::{Messages, Piped, Std, Terminal, end};
+use snap_streams::{Disk, Messages, Piped, Std, Terminal, end};
 use std::alloc::AllocError;
 use std::io::IsTerminal;
 use std::process::ExitCode;
@@ -66,7 +68,7 @@ fn main(rt: HostRuntime) -> ExitCode {
         rt.alloc(),
         &line,
         shows,
-        &SystemFiles::new(&rt),
+        &mut SavedFiles::new(Disk(&rt), SystemFiles::new(&rt)),
         &mut console,
         &mut errors,
     );

@@ -1,16 +1,12 @@
-//! `SystemFiles`: the files of the system, which are read, and to which texts are saved.
-ghost use Rattle.std.specs.Prelude.{◌≡◌, Err, IfErr, None, OnOk, not, true};
+//! `SystemFiles`: the files of the system, as they are opened to be written.
+ghost use Rattle.std.specs.Prelude.{◌≡◌, not, true, ⊤};
 ghost use Rattle.std.specs.Fs.{asks_create_new, asks_write};
-ghost use Rattle.std.specs.Io.KnownBytes.{Appends};
-ghost use Rattle.std.specs.IoError.{error_kind};
 
-use snap_streams::{Disk, FileFault, FileSource, Folder};
-use std::alloc::Global;
-use std::fs::OpenOptions;
+use crate::saved_files::Opens;
+use std::fs::{File, OpenOptions};
 use std::io;
-use std::io::{ErrorKind, Write};
 
-/// The files of the system. Nothing is known of a file before it is read.
+/// The files of the system, of which nothing is known.
 #[derive(Clone, Copy)]
 pub(crate) struct SystemFiles<'r> {
     rt: &'r HostRuntime,
@@ -40,41 +36,16 @@ fn options_for(replaces: bool) -> OpenOptions
     options
 }
 
-/// Writes all of a text.
-fn write_text<W: Write>(writer: &mut W, text: &[u8]) -> io::Result<()>
-    ensures { OnOk result (Appends (W.contents writer.old) (W.contents writer.new) text.now) }
-{
-    writer.write_all(text)
-}
+impl Opens for SystemFiles<'_> {
+    type File = File;
 
-/// Writes all of a text to what was opened.
-fn write_opened<W: Write + Drop>(opened: io::Result<W>, text: &[u8]) -> Result<(), ErrorKind>
-    ensures { IfErr opened (λ error. result ≡ Err (error_kind error)) }
-{
-    match opened {
-        Ok(mut writer) => match write_text(&mut writer, text) {
-            Ok(()) => Ok(()),
-            Err(error) => Err(error.kind()),
-        },
-        Err(error) => Err(error.kind()),
+    ghost has = { λ _ _ _. ⊤ };
+
+    ghost grows = { λ _ _ _ _ _ _ _. tt };
+
+    fn open(&self, name: &str, replaces: bool) -> io::Result<File> {
+        options_for(replaces).open(self.rt, name)
     }
-}
 
-impl FileSource for SystemFiles<'_> {
-    ghost found = { λ _ _. None };
-
-    fn read(&self, alloc: Global, name: &str, most: u64) -> Result<Vec<u8>, FileFault> {
-        Disk(self.rt).read(alloc, name, most)
-    }
-}
-
-impl Folder for SystemFiles<'_> {
-    ghost kept = { λ _. None };
-
-    fn keep(&mut self, name: &[u8], text: &[u8], replaces: bool) -> Result<(), ErrorKind> {
-        match str::from_utf8(name) {
-            Ok(name) => write_opened(options_for(replaces).open(self.rt, name), text),
-            Err(_) => Err(ErrorKind::InvalidInput),
-        }
-    }
+    fn close(&mut self, _file: File) {}
 }

@@ -1,8 +1,7 @@
 -- What `conduct_live_keeping` (src/live_run.rt) answers, wherever it ends.
-use Rattle.std.specs.Prelude.{◌≡◌, Ok}
-use Rattle.snap_live_output.specs.Uncalled.{uncalled_of}
+use Rattle.std.specs.Prelude.{Ok}
 use Rattle.snap_program.specs.WholeRun.{IsLiveOf, RefusesLive, done_of}
-use Rattle.snap_program.proofs.Runs.{is_kept, not_read, nothing_found, passed_on, refused, sends, stops, why_live}
+use Rattle.snap_program.proofs.Runs.{is_kept, not_read, not_told, passed_on, refused, sends, stops, why_live}
 use Rattle.snap_program.proofs.live_run.conduct_live_keeping.Goals as goal
 
 pub returns-in_err-input : goal.returns-in_err-input
@@ -44,11 +43,9 @@ returns-in_err-write_all g c =
           c.in_ok-found.found.text.items c.as_slice-2.result.now
           (g.R.ByteSource.state c.args.source.now) (g.R.ByteSource.state c.read_all.new.source)
           (g.W.ByteSink.state c.args.sink.now) (g.W.ByteSink.state c.write_all.new.sink)
-          c.as_slice.ensures.value c.as_slice-2.ensures.value read.0 read.1 (
-            found.0,
-            nothing_found (λ uncalled. uncalled_of c.args.subject c.as_slice.result.now ≡ Ok uncalled.items) answer
-                fault c.from_residual-in_err-write_all.ensures,
-          )
+          c.as_slice.ensures.value c.as_slice-2.ensures.value read.0 read.1
+          (not_told answer fault may c.args.subject c.args.limit c.as_slice.result.now c.in_ok-found.found.text.items
+          c.in_ok-found.found.uncalled.items c.from_residual-in_err-write_all.ensures found)
           (stops answer fault c.as_slice-2.result.now (g.W.ByteSink.state c.args.sink.now)
           (g.W.ByteSink.state c.write_all.new.sink)
           c.from_residual-in_err-write_all.ensures c.in_err-write_all.ensures),

@@ -23,35 +23,35 @@ none_shown p left u =
 pub returns-in_err-prompt-in-Seq-clause-passes_part : goal.returns-in_err-prompt-in-Seq-clause-passes_part
 returns-in_err-prompt-in-Seq-clause-passes_part g c =
     on_err c.from_residual.result
-    (none_passed (opened_prompt (run_over c.args.program.now c.args.schedule) c.args.shows)
+    (none_passed (opened_prompt (run_over c.args.program.now c.args.schedule) c.args.shows (g.S.Folder.kept c.args.folder.now))
     (g.C.Console.passed c.args.console.now))
 
 pub returns-in_err-prompt-in-Seq-clause-shows_part : goal.returns-in_err-prompt-in-Seq-clause-shows_part
 returns-in_err-prompt-in-Seq-clause-shows_part g c =
     on_err c.from_residual.result
-    (none_shown (opened_prompt (run_over c.args.program.now c.args.schedule) c.args.shows)
+    (none_shown (opened_prompt (run_over c.args.program.now c.args.schedule) c.args.shows (g.S.Folder.kept c.args.folder.now))
     (g.C.Console.left c.args.console.now) (g.C.Console.shown c.args.console.now))
 
 pub returns-in_err-prompt-in-Bits-clause-passes_part : goal.returns-in_err-prompt-in-Bits-clause-passes_part
 returns-in_err-prompt-in-Bits-clause-passes_part g c =
     on_err c.from_residual-in_err-prompt-in-Bits.result
-    (none_passed (opened_prompt (run_over c.args.program.now c.args.schedule) c.args.shows)
+    (none_passed (opened_prompt (run_over c.args.program.now c.args.schedule) c.args.shows (g.S.Folder.kept c.args.folder.now))
     (g.C.Console.passed c.args.console.now))
 
 pub returns-in_err-prompt-in-Bits-clause-shows_part : goal.returns-in_err-prompt-in-Bits-clause-shows_part
 returns-in_err-prompt-in-Bits-clause-shows_part g c =
     on_err c.from_residual-in_err-prompt-in-Bits.result
-    (none_shown (opened_prompt (run_over c.args.program.now c.args.schedule) c.args.shows)
+    (none_shown (opened_prompt (run_over c.args.program.now c.args.schedule) c.args.shows (g.S.Folder.kept c.args.folder.now))
     (g.C.Console.left c.args.console.now) (g.C.Console.shown c.args.console.now))
 
 pub returns-in_err-prompt-in-Multi-clause-passes_part : goal.returns-in_err-prompt-in-Multi-clause-passes_part
 returns-in_err-prompt-in-Multi-clause-passes_part g c =
     on_err c.from_residual-in_err-prompt-in-Multi.result
-    (none_passed (opened_prompt (run_over c.args.program.now c.args.schedule) c.args.shows)
+    (none_passed (opened_prompt (run_over c.args.program.now c.args.schedule) c.args.shows (g.S.Folder.kept c.args.folder.now))
     (g.C.Console.passed c.args.console.now))
 
 pub returns-in_err-prompt-in-Multi-clause-shows_part : goal.returns-in_err-prompt-in-Multi-clause-shows_part
 returns-in_err-prompt-in-Multi-clause-shows_part g c =
     on_err c.from_residual-in_err-prompt-in-Multi.result
-    (none_shown (opened_prompt (run_over c.args.program.now c.args.schedule) c.args.shows)
+    (none_shown (opened_prompt (run_over c.args.program.now c.args.schedule) c.args.shows (g.S.Folder.kept c.args.folder.now))
     (g.C.Console.left c.args.console.now) (g.C.Console.shown c.args.console.now))

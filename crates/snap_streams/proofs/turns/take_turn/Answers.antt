@@ -12,8 +12,7 @@ returns-clause-passes g c =
     c.new-prompt.ensures.items c.new-reply.ensures.items
     (c.deref.ensures.value ∙ c.in_ok-push_prompt.ensures) c.deref-2.ensures.value
     c.in_ok-say.ensures.event c.in_ok-line.ensures.event c.in_ok-say-2.ensures.event
-    (of_copy g.P.Respondent.says _ _ _ _ _ c.deref-3.ensures.value c.in_ok-goes_on.ensures.text)
-    (c.in_ok-goes_on.ensures.state, c.in_ok-goes_on.ensures.goes_on)
+    (of_copy g.P.Respondent.says g.P.Respondent.next_of _ _ _ _ _ _ _ c.deref-3.ensures.value c.in_ok-goes_on.ensures)
 
 pub returns-clause-shown : goal.returns-clause-shown
 returns-clause-shown g c =
@@ -22,8 +21,7 @@ returns-clause-shown g c =
     (c.deref.ensures.value ∙ c.in_ok-push_prompt.ensures) c.deref-2.ensures.value
     c.in_ok-say.ensures.shows c.say.ensures.left c.in_ok-line.ensures.line c.line.ensures.shows
     c.in_ok-say-2.ensures.shows
-    (of_copy g.P.Respondent.says _ _ _ _ _ c.deref-3.ensures.value c.in_ok-goes_on.ensures.text)
-    (c.in_ok-goes_on.ensures.state, c.in_ok-goes_on.ensures.goes_on)
+    (of_copy g.P.Respondent.says g.P.Respondent.next_of _ _ _ _ _ _ _ c.deref-3.ensures.value c.in_ok-goes_on.ensures)
 
 pub returns-in_err-push_prompt-clause-passes_part : goal.returns-in_err-push_prompt-clause-passes_part
 returns-in_err-push_prompt-clause-passes_part g c =
@@ -87,4 +85,4 @@ returns-in_err-say-2-clause-shows_part g c =
     (into_empty _ _ _ (c.deref.ensures.value ∙ c.in_ok-push_prompt.ensures) c.new-prompt.ensures.items)
     c.say.ensures.left c.in_ok-line.ensures.line c.line.ensures.shows c.deref-2.ensures.value
     c.in_err-say-2.ensures.shows c.new-reply.ensures.items
-    (of_copy g.P.Respondent.says _ _ _ _ _ c.deref-3.ensures.value c.in_ok-goes_on.ensures.text))
+    c.in_ok-goes_on.ensures.0 c.in_ok-goes_on.ensures.1 (c.deref-3.ensures.value ∙ c.in_ok-goes_on.ensures.2))

@@ -74,7 +74,7 @@ by_first_line : (P : List (List ℕ) → Type 0) (b : ℕ) (bs : List ℕ) →
 by_first_line P b bs h = subst (λ lines. P (map kept lines)) (sym (first_of_lines b bs)) h
 
 module _ {S : Type 0} (prompt : S → List ℕ) (says : S → List ℕ → List ℕ → Type 0)
-  (next : S → List ℕ → List ℕ → Next S) where
+    (next : S → List ℕ → List ℕ → Next S) where
   -- a turn that goes on, before a transcript of the rest
   turn_then : (now later last : S) (xs answer more : List ℕ) →
       IsAnswered next now (kept (take_through 10 xs)) answer later true →

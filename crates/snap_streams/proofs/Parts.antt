@@ -124,7 +124,7 @@ module _ {S : Type 0} (prompt : S → List ℕ) (says : S → List ℕ → List 
       )
 
 module _ {S : Type 0} (prompt : S → List ℕ) (says : S → List ℕ → List ℕ → Type 0)
-  (next : S → List ℕ → List ℕ → Next S) where
+    (next : S → List ℕ → List ℕ → Next S) where
   -- a dialog that is broken off within a turn, and between two turns
   pub within_turn : (s now : S) (u v w : Option (List Event)) → HasPassed prompt says next s now u v →
       PartPassed prompt now v w → IsBrokenOff prompt says next s u w

@@ -20,7 +20,7 @@ HasTaken count first left =
     IfSome first (λ all. (rest : List ℕ) × (left ≡ Some rest) × (count + length rest ≤ length all))
 
 module _ {S : Type 0} (prompt : S → List ℕ) (says : S → List ℕ → List ℕ → Type 0)
-  (next : S → (line answer : List ℕ) → Next S) where
+    (next : S → (line answer : List ℕ) → Next S) where
   -- What has passed are turns after which the respondent is so.
   abbrev pub HasPassed : S → S → Option (List Event) → Option (List Event) → Type 0
   HasPassed s now before after = (turns : List Turn) × GoesOn next s turns now

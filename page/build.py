@@ -126,12 +126,6 @@ def an_exercise(exercise):
     return {"title": exercise["title"], "listing": listing, "schedule": schedule, "goal": goal}
 
 
-def remedies():
-    """What the manual says of each refusal that the page can be told."""
-    rows = re.findall(r"(?m)^\| `([LPSGW][0-9]+) \w+` \| (.*) \|$", read("docs", "manual", "refusals.md"))
-    return {name: inline(text) for name, text in rows}
-
-
 def choices():
     """What the menu leads to, in its groups."""
     gallery, told = json.loads(source("gallery.json")), sections()
@@ -156,7 +150,7 @@ def page_script():
 
 
 def data():
-    told, groups, count = {"choices": sum(choices().values(), []), "remedies": remedies()}, [], 0
+    told, groups, count = {"choices": sum(choices().values(), [])}, [], 0
     for name, group in choices().items():
         groups.append([name, list(range(count, count + len(group)))])
         count += len(group)

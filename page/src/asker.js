@@ -104,15 +104,19 @@ function tellFailure(text) {
     say('');
 }
 
-// What was refused: its code, its number, and the part that it is of.
-export function readRefusal({code, text}) {
+// Where the module's explanation of a refusal stands: a line of a part of the input.
+const PLACE = /^line \d+ of the input, line (\d+) of the (listing|schedule)\b/m;
+
+// What was refused: its code and name, the part that it is of, the module's explanation where that was asked for, and
+// the line of the part that it names; 0 where it names none.
+export function readRefusal({code, text, why = ''}) {
     const page = {[MEMORY]: 'The module found no memory for this.',
         [STOPPED]: 'Stopped: what is shown is the state before.',
         [TRAPPED]: `The module stopped (${text.trim()}), and was started anew.`}[code];
-    if (page) return {part: 'page', text: page};
-    const [, name, , number = 0] = text.trim().split(' ');
-    const part = {L: 'listing', P: 'listing', S: 'schedule', W: 'schedule'}[name?.[0]] ?? 'page';
-    return {part, text: text.trim(), name, number: Number(number)};
+    if (page) return {part: 'page', text: page, why: '', line: 0};
+    const [, name] = text.trim().split(' '), [, line = 0, where] = PLACE.exec(why) ?? [];
+    const part = where ?? {L: 'listing', P: 'listing', S: 'schedule', W: 'schedule'}[name?.[0]] ?? 'page';
+    return {part, text: text.trim(), name, why, line: Number(line)};
 }
 
 export const isOutput = answer => answer?.code === OUTPUT;

@@ -3,6 +3,7 @@ import {verdictAt, verdictOf, viewAt, wordsAt} from './text.js';
 import {$, badge, data, fill, make, say} from './elements.js';
 import {timelineFocus} from './editor.js';
 import {change, goTo, state, titleOf} from './state.js';
+import {shapeWords} from './timeline.js';
 
 // A lesson, before its first item or in its middle.
 export function choose(k, {middle = false} = {}) {
@@ -194,7 +195,7 @@ export function showVerdicts() {
     const told = [...left ? [`${left} other ones are not listed.`] : [],
         ...over.length ? [] : [near.length || audited ? 'No scan has ended here yet.' : '']];
     const row = verdict => {
-        const {who, call, answer, point, view} = verdict, why = loanOf(verdict)?.title ?? '';
+        const {who, call, answer, point, view} = verdict, loan = loanOf(verdict), why = loan ? shapeWords(loan) : '';
         const told = `answers ${view}`, crossed = answer === wrong, more = crossed ? '; no order explains it' : '';
         const words = [` scan, items ${call} to ${answer}, `, crossed ? make('s', {className: 'wrong'}, told) : told,
             `: ${verdictWords(verdict)}${more}`];

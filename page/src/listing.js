@@ -35,12 +35,12 @@ function linesOfLast() {
 }
 
 function showMargins() {
-    const {lines, report} = state, bad = badLines(), here = positionLine(), edited = editedLines();
+    const {lines, report} = state, here = positionLine(), edited = editedLines();
     const rows = new Map([...lines.values()].map(line => [line.place, line]));
     const stale = Boolean(state.refusal), processes = stale ? [] : report?.processes ?? [];
     const places = processes.flatMap(({who, at, link}) => [[at, who, ''], [link, who, 'link']]);
     const [executed, now] = linesOfLast();
-    const named = part => [...edited[part].map(line => [line, 'edited']), ...bad[part].map(line => [line, 'bad'])];
+    const named = part => [...edited[part].map(line => [line, 'edited']), [badLine(part), 'bad']];
     const ran = stale ? [] : [[executed, 'now']];
     listingEditor.mark(place => listingRow(place, rows.get(place), places), [...ran, ...named('listing')]);
     scheduleEditor.mark(line => {
@@ -48,8 +48,8 @@ function showMargins() {
         return {key: [text, line], children: () => text ? [text] : [make('small', {}, String(line + 1))],
             label: `${at}line ${line + 1}: ${scheduleEditor.part[line - scheduleEditor.first]}`};
     }, [...stale ? [] : [[here, 'now']], ...named('schedule')]);
-    scheduleEditor.reveal(bad.schedule[0] ?? here);
-    if (bad.listing.length) listingEditor.reveal(bad.listing[0]);
+    scheduleEditor.reveal(badLine('schedule') < 0 ? here : badLine('schedule'));
+    if (badLine('listing') >= 0) listingEditor.reveal(badLine('listing'));
     else listingEditor.reveal(executed < 0 ? now : executed, now);
 }
 
@@ -106,27 +106,18 @@ export function newLines(older, newer) {
     return found;
 }
 
-// The text lines that a refusal points at.
-function badLines() {
-    const {refusal, listing, items} = state, {name, number, part} = refusal ?? {}, found = {listing: [], schedule: []};
-    const leads = new RegExp(`^[^#]*\\b(goto|call|scan|update)\\s+${number}\\b`);
-    const where = name === 'P2' ? line => line === '%' : name === 'L8' ? line => leads.test(line) : null;
-    if (where) found.listing = listing.split('\n').flatMap((line, k) => where(line) ? [k] : []);
-    else if (name === 'S2' || name === 'W1') found.schedule = [Math.max(items?.shapeLine ?? 0, 0)];
-    else if (number && found[part]) found[part] = [number - 1];
-    return found;
+// The place of the text line that the module's explanation of a refusal names; -1 where it names none of this part.
+function badLine(part) {
+    const {refusal} = state;
+    return refusal?.part === part && refusal.line ? refusal.line - 1 : -1;
 }
 
-// A refusal with the line that it names, and behind it what the manual says of refusals of this name.
+// A refusal, and behind it how the module explains it: the place, what was expected and found there, and advice.
 function showRefusal(part) {
     const box = $(`${part}-refusal`), refusal = state.refusal?.part === part ? state.refusal : null;
-    const [bad] = badLines()[part], all = part === 'listing' ? state.listing : state.schedule;
-    const text = all.split('\n', bad + 1)[bad], line = () => make('code', {}, text.slice(0, 200) || 'empty');
     box.hidden = !refusal;
-    fill(box, [refusal?.text, bad, text], () => [make('b', {}, refusal?.text ?? ''),
-        ...text === undefined ? [] : [` \u2013 line ${bad + 1} of this text: `, line()],
-        ...!refusal ? [] : [make('details', {ariaLabel: 'Remedy'}, make('summary', {}, `What ${refusal.name} is about`),
-            make('span', {innerHTML: data.remedies[refusal.name] ?? ''}))]]);
+    const {text = '', why = ''} = refusal ?? {};
+    fill(box, [text, why], () => [make('b', {}, text), make('code', {className: 'why'}, why.trimEnd())]);
     if (state.refusal?.part === 'page') say(state.refusal.text);
 }
 

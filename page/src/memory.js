@@ -27,7 +27,7 @@ export function showMemory() {
 
 // The register that the last item read or wrote, as the module's picture tells.
 function touchedRegister() {
-    const {shapes, at} = state, found = kind => shapes?.[kind].find(each => each.item === at)?.register;
+    const {shapes, at} = state, found = kind => shapes?.[kind].find(each => each.item === at)?.word;
     return found('write') ?? found('read') ?? '';
 }
 
@@ -76,7 +76,7 @@ function writerButton(name, part, content, tabIndex) {
 // last item that changed it, to which the module runs back.
 async function goToWriter(name) {
     const {shapes, listing, schedule, at, report, before, run} = state;
-    const drawn = shapes?.write.findLast(({register, item}) => `r ${register}` === name && item <= at);
+    const drawn = shapes?.write.findLast(({word, item}) => `r ${word}` === name && item <= at);
     if (drawn) return goTo(drawn.item);
     const lineOf = one => one?.registers.find(line => line.startsWith(`${name} = `));
     if (before && lineOf(before) !== lineOf(report)) return say(`Item ${at} wrote ${name}.`);

@@ -9,15 +9,15 @@ import {showIdea} from './lessons.js';
 import {showTexts} from './listing.js';
 import {showState} from './main.js';
 
-const BIG = 300000, QUIET = 120, MOST_ITEMS_DRAWN = 50000, MOST_DRAWN = 20000, MOST_DRAWN_FAST = 2000;
-const MOST_STEPS = 5000, MOST_NAMES = 300, MOST_UNDONE = 500, MOST_UNDONE_LETTERS = 3e7, PAUSE = 1500;
+const BIG = 300000, QUIET = 120, MOST_DRAWN = 20000;
+const MOST_NAMES = 300, MOST_UNDONE = 500, MOST_UNDONE_LETTERS = 3e7, PAUSE = 1500;
 const NO_VERDICTS = {numbers: readVerdicts(''), near: [], none: new Set()};
 export const state = {
     listing: '', schedule: '', at: 0, marks: new Set(), idea: null, goal: null,
     lines: new Map(), items: readItems(''), report: null, before: null, since: null, last: 'none',
     operations: readOperations(''), verdicts: NO_VERDICTS, refusal: null,
-    shapes: null, serial: 0, timer: 0, past: [], future: [], typed: null, typedAt: 0, audited: null, appended: false,
-    judged: null, run: {}, shownRun: null, thread: {},
+    shapes: null, oldShapes: null, serial: 0, timer: 0, past: [], future: [], typed: null, typedAt: 0, audited: null,
+    appended: false, judged: null, run: {}, shownRun: null, thread: {},
 };
 asker.items = () => state.items?.total ?? 0;
 
@@ -46,7 +46,8 @@ export function change(to, {appended = false, kept = false, undone = false, type
         state.run = {};
         if (shown) state.shownRun = state.run;
         if (!appended)
-            Object.assign(state, {shapes: null, verdicts: NO_VERDICTS, audited: null, judged: null, thread: {}});
+            Object.assign(state, {shapes: null, oldShapes: state.shapes ?? state.oldShapes, verdicts: NO_VERDICTS,
+                audited: null, judged: null, thread: {}});
     }
     if (!appended) [showTexts, showIdea].forEach(show => show());
     keepDraft();
@@ -121,10 +122,11 @@ export async function refresh(go = '') {
     const known = !go && report && shownRun === run && report.at === at - 1 ? report : null;
     const marks = go ? markCommands() : [], total = state.items?.total, wantsBefore = !known && at > 0;
     const names = shownRun === run ? namesOf(report) : null;
-    const answer = await asker.ask('look', {listing, schedule, at, go, marks, total, wantsBefore, names});
+    const wantsShapes = state.shapes?.schedule !== schedule;
+    const answer = await asker.ask('look', {listing, schedule, at, go, marks, total, wantsBefore, names, wantsShapes});
     if (!answer) return;
     if (answer.items?.from && schedule === state.schedule) state.items = answer.items;
-    if (answer.code === OUTPUT) take(answer, serial === state.serial, run, known);
+    if (answer.code === OUTPUT) take(answer, serial === state.serial, run, known, schedule);
     else if (serial === state.serial) state.refusal = readRefusal(answer);
     showState();
     askAudit();
@@ -138,12 +140,13 @@ function namesOf({registers, processes}) {
 
 // Takes what was told. What an item changed is told by the state before it, of the same run; what changed since
 // another position by the state that was shown there, if that was of this run too.
-function take({report, last, operations, refused, before}, newest, run, known) {
+function take({report, last, operations, refused, before, drawn}, newest, run, known, schedule) {
     const older = state.shownRun === run ? state.report : null;
     if (older?.at !== report.at) state.since = older && older.at !== report.at - 1 ? older : null;
     else if (state.shownRun !== run) state.since = null;
     Object.assign(state, {report, last, before: report.at ? known ?? before : null, refusal: null, shownRun: run,
         operations: operations ?? state.operations});
+    if (drawn && run === state.run) state.shapes = {...drawn, from: 0, to: report.total, schedule};
     if (newest) state.at = report.at;
     for (const [command, refusal] of refused) dropMark(command, refusal);
 }
@@ -155,15 +158,14 @@ function dropMark(command, refusal) {
     say(`The mark is taken away: ${refusal}`);
 }
 
-// The audit is asked for, when all is quiet, where its run is another one or more scans have ended; what a picture
-// would show, where that is not known of the items around the position; and whether the run is linearizable.
+// The audit is asked for, when all is quiet, where its run is another one or more scans have ended; what is drawn, where
+// that is not known of the items around the position; and whether the run is linearizable.
 function askAudit() {
     clearTimeout(state.timer);
     state.timer = 0;
     const {listing, schedule, operations: {answers}, audited, refusal, shapes, thread} = state;
     const texts = audited?.listing === listing && (audited.schedule === schedule || state.appended);
-    const known = texts && audited.answers === answers, few = (state.report?.total ?? 0) <= MOST_ITEMS_DRAWN;
-    const seen = !few || shapes?.schedule === schedule && isSeen(shapes);
+    const known = texts && audited.answers === answers, seen = shapes?.schedule === schedule && isSeen(shapes);
     if (refusal || known && seen && !isToBeJudged()) return;
     state.timer = setTimeout(async () => {
         state.timer = 0;
@@ -198,10 +200,10 @@ const isSeen = ({from, to}) => from < Math.max(state.at, 1) && to >= Math.min(st
 // What the module draws of the items around the position, all of them where these are few.
 async function askShapes() {
     const {listing, schedule, report, at, run} = state, total = report?.total;
-    if (!total || total > MOST_ITEMS_DRAWN || state.shapes?.schedule === schedule && isSeen(state.shapes)) return;
-    const most = total > MOST_DRAWN ? MOST_DRAWN_FAST : MOST_DRAWN;
-    const from = within(at - (most >> 1), 0, Math.max(total - most, 0)), to = Math.min(from + most, total);
-    const answer = await aside.ask('draw', {listing, schedule, from: from + 1, to}, 'shapes');
+    if (!total || state.shapes?.schedule === schedule && isSeen(state.shapes)) return;
+    const from = within(at - (MOST_DRAWN >> 1), 0, Math.max(total - MOST_DRAWN, 0));
+    const to = Math.min(from + MOST_DRAWN, total);
+    const answer = await aside.ask('shapes', {listing, schedule, from: from + 1, to});
     if (answer?.code !== OUTPUT || run !== state.run) return;
     state.shapes = {...answer.shapes, from, to, schedule};
 }
@@ -247,15 +249,11 @@ export async function goOn(who, line = 0) {
     const {items, at, schedule, listing, refusal, run} = state, why = hindrance(who, '');
     if (refusal?.name || !items || schedule.length > BIG) return say('This schedule is too long for that, or refused.');
     if (why) return say(why);
-    const most = Math.min(MOST_STEPS, MOST_ITEMS - at);
-    const before = at < items.total ? parted(schedule, items, at)[0] : schedule;
-    const longer = `${ended(before)}${who}*${most}\n`;
-    const answer = await aside.ask('reach', {listing, schedule: longer, at, most, who, line});
-    if (answer?.code !== OUTPUT || run !== state.run || at !== state.at) return null;
-    const where = line ? `to line ${line}` : 'to the end of its operation';
-    if (!answer.steps) return say(`No step of ${most} of process ${who} alone leads ${where}.`);
-    const steps = answer.steps > 1 ? `${who}*${answer.steps}` : String(who);
-    return change({schedule: withItem(schedule, items, at, steps), at: at + answer.steps},
+    const answer = await aside.ask('reach', {listing, schedule, at, who, line});
+    if (!answer || run !== state.run || at !== state.at) return null;
+    if (answer.code !== OUTPUT) return say(`Process ${who}: ${readRefusal(answer).text.replace(/^refused: /, '')}.`);
+    const count = Number(answer.text), steps = count > 1 ? `${who}*${count}` : String(who);
+    return change({schedule: withItem(schedule, items, at, steps), at: at + count},
         {appended: at >= items.total, kept: true});
 }
 

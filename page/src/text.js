@@ -197,28 +197,24 @@ export function readTrace(text) {
     return items;
 }
 
-// What the module's picture of some items tells of them: the title of each shape that it draws, in its words.
-const SHAPES =
-    /<(?:g|path|svg) class="(loan|trap|crash|write|read|pass|fail|values|inner|point|none)"[^>]*><title>([^<]+)/g;
-const PLACE = /^item (\d+), process (\d+)/, LENDER = /that process (\d+) ended at item (\d+)$/;
-const PERIOD = /^values ([\d ]+) from item (\d+) to item (\d+)$/, REGISTER = / r\[(\d+)\]/;
-const SPAN = /^process (\d+), items (\d+) to (\d+)/;
+// What a picture of some items draws, as the module tells it: a line a shape, its name, its numbers, and behind these
+// what is told of it in words or values.
+const NUMBERS = {
+    values: 'from to', scan: 'who from to', update: 'who from to word value', inner: 'who from to',
+    read: 'who item line word', write: 'who item line word', pass: 'who item line', fail: 'who item line',
+    trap: 'who item line', crash: 'who item line', loan: 'lender ended who item line',
+    point: 'who from to item collects', none: 'who from to',
+};
+const TOGETHER = {scan: 'bar', update: 'bar', pass: 'test', fail: 'test'};
 
-export function readShapes(svg) {
-    const found = {loan: [], trap: [], crash: [], write: [], read: [], test: [], values: [], inner: [],
-        told: new Map()};
-    const drawn = svg.slice(svg.indexOf('</metadata>'), svg.lastIndexOf('<g class="legend"'));
-    for (const [, kind, title] of drawn.matchAll(SHAPES)) {
-        const [, item, who] = PLACE.exec(title)?.map(Number) ?? [], place = {item, who, title};
-        const [, values, from, to] = PERIOD.exec(title) ?? [], span = SPAN.exec(title)?.map(Number);
-        if (kind === 'values') found.values.push({values, from: Number(from), to: Number(to)});
-        else if (kind === 'inner') found.inner.push({who: span[1], from: span[2], to: span[3], title});
-        else if (kind === 'point' || kind === 'none') found.told.set(span[3], title);
-        else if (kind === 'pass' || kind === 'fail') found.test.push({...place, passed: kind === 'pass'});
-        else if (kind === 'loan') {
-            const [, lender, ended] = LENDER.exec(title)?.map(Number) ?? [];
-            found.loan.push({...place, lender, ended});
-        } else found[kind].push({...place, register: REGISTER.exec(title)?.[1]});
+export function readShapes(text) {
+    const found = {values: [], bar: [], inner: [], read: [], write: [], test: [], trap: [], crash: [], loan: [],
+        point: [], none: []};
+    for (const line of text.split('\n').slice(0, -1)) {
+        const [name, ...words] = line.split(' '), names = NUMBERS[name].split(' '), shape = {name, rest: ''};
+        names.forEach((each, k) => { shape[each] = Number(words[k]); });
+        shape.rest = words.slice(names.length).join(' ');
+        found[TOGETHER[name] ?? name].push(shape);
     }
     return found;
 }

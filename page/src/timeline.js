@@ -1,28 +1,27 @@
-// The time line: the values, a lane for each process with its operations, the verdicts of its scans, what the module's
-// picture draws of its items, an axis, and the position. What comes after the position is pale, and untold.
-import {CRASH, lineOf, verdictAt, verdictOf, wordsAt} from './text.js';
+// The time line: what the module's picture of the items draws, in lanes, with an axis below and the position above it.
+// A shape's items, process and words are the module's; what comes after the position is pale, and its ends are untold.
 import {$, within} from './elements.js';
 import {goTo, state} from './state.js';
-import {outcome, unexplained, verdictWords} from './lessons.js';
+import {outcome, unexplained} from './lessons.js';
 
-const LABEL = 46, RIGHT = 12, GRAIN = 1.5, VALUES = 18, AXIS = 16;
+const LABEL = 46, RIGHT = 12, GRAIN = 1.5, VALUES = 18, POINTS = 8, LANES = VALUES + POINTS, AXIS = 16;
+const LEAST_WORDS = 22;
 const dark = matchMedia('(prefers-color-scheme: dark)');
-const DIAMOND = [[0, -7], [6, 0], [0, 7], [-6, 0]], HOLE = [[0, -4], [3, 0], [0, 4], [-3, 0]];
-const TRAP = [[0, -8], [8, 7], [-8, 7]];
+const DIAMOND = [[0, -5.5], [5.5, 0], [0, 5.5], [-5.5, 0]], TRAP = [[0, -8], [8, 7], [-8, 7]];
+const BOX = [[-4, -4], [4, -4], [4, 4], [-4, 4]];
 export const line = {from: 0, to: 1, width: Infinity, wide: 0, drawn: [], high: 0, n: 0, grain: 0, past: 0, wrong: 0};
 const pen = $('timeline').querySelector('canvas').getContext('2d');
 let colours = {};
 
 export function showTimeline() {
-    const {items, report, at, operations, verdicts, shapes} = state, {wide} = line, box = $('timeline');
+    const {items, report, at} = state, {wide} = line, shapes = drawnShapes(), box = $('timeline');
     const total = Math.max(items?.total ?? report.total, 1), width = Math.min(line.width, total);
     line.from = within(at < line.from || at > line.to ? at - (width >> 1) : line.from, 0, total - width);
     line.to = line.from + width;
     const n = report.processes.length, high = highOf(n), past = pastOf(at), wrong = unexplained();
-    const drawn = [line.from, line.to, wide, n, high, large(), dark.matches, devicePixelRatio, operations, verdicts,
-        items, shapes, past, wrong];
+    const drawn = [line.from, line.to, wide, n, high, large(), dark.matches, devicePixelRatio, shapes, past, wrong];
     if (wide && drawn.some((each, k) => each !== line.drawn[k])) {
-        Object.assign(line, {drawn, operations, verdicts, items, shapes, high, n, past: at, wrong});
+        Object.assign(line, {drawn, shapes, high, n, past: at, wrong});
         draw();
     }
     showLane(box, Number(state.last.split(' ')[0]));
@@ -42,153 +41,89 @@ function showLane(box, who) {
 const large = () => document.body.classList.contains('present') ? 1.25 : 1;
 
 function highOf(n) {
-    if (large() > 1 && n <= 3) return 36;
+    if (large() > 1 && n <= 3) return 42;
     if (n > 8) return 12;
     if (document.body.classList.contains('small')) return n <= 3 ? 20 : 14;
-    return n <= 3 ? 30 : n <= 5 ? 24 : 16;
+    return n <= 2 ? 34 : n <= 3 ? 30 : n <= 5 ? 26 : 16;
 }
 
-// How many operations, borrowings, traps and writes are past: more of the picture is told where another one is.
+// What is drawn of the run; where the texts are refused what was drawn of the run before, which is dim.
+const drawnShapes = () => state.shapes ?? (state.refusal ? state.oldShapes : null);
+
+// How much of the picture is past: more of it is told where another end, write, loan, trap or crash is.
 function pastOf(at) {
-    const {operations: {to}, shapes} = state;
+    const shapes = drawnShapes();
     let count = 0;
-    for (const item of to) if (item && item <= at) count++;
-    for (const {item} of shapes?.loan ?? []) if (item <= at) count++;
-    for (const {item} of shapes?.trap ?? []) if (item <= at) count++;
-    for (const {item} of shapes?.write ?? []) if (item <= at) count++;
+    for (const {to} of shapes?.bar ?? []) if (to <= at) count++;
+    for (const kind of ['write', 'loan', 'trap', 'crash'])
+        for (const {item} of shapes?.[kind] ?? []) if (item <= at) count++;
     return count;
 }
 
+// So much of a bar is in its colour and has its words; below it are the marks of its items.
+const upper = () => line.high < 24 ? .72 : .58;
+
 const shareOf = item => (item - line.from) / (line.to - line.from);
-export const placeOf = item => LABEL + shareOf(item) * (line.wide - LABEL - RIGHT);
+export const placeOf = item => LABEL + shareOf(within(item, line.from, line.to)) * (line.wide - LABEL - RIGHT);
 const colour = name => colours[name] ??= getComputedStyle(document.body).getPropertyValue(`--${name}`).trim();
-const isHere = item => item >= line.from && item <= line.to;
-const topOf = who => VALUES + (who - 1) * line.high;
+const isHere = item => item > line.from && item <= line.to;
+const isNear = ({from, to}) => from <= line.to && to > line.from;
+export const topOf = who => LANES + (who - 1) * line.high;
+
+// The lanes cover the canvas, which is made anew where its size is another one, and there alone. What comes later in
+// this list lies above.
+function draw() {
+    const {wide, high, n} = line, {canvas} = pen, pixels = length => Math.round(length * devicePixelRatio);
+    const tall = LANES + n * high + AXIS, size = [pixels(wide), pixels(tall)];
+    if (canvas.width !== size[0] || canvas.height !== size[1]) [canvas.width, canvas.height] = size;
+    canvas.style.height = `${tall}px`;
+    line.grain = (line.to - line.from) / wide * GRAIN;
+    colours = {};
+    pen.setTransform(devicePixelRatio, 0, 0, devicePixelRatio, 0, 0);
+    Object.assign(pen, {textBaseline: 'middle', textAlign: 'left', lineCap: 'butt'});
+    paint('paper', 0, 0, wide, tall);
+    for (let who = 1; who <= n; who++) drawLane(who);
+    write('values', 'dim', 2 - 6, 0, LABEL, VALUES - 3, 12);
+    if (line.shapes) drawShapes(line.shapes);
+    drawAxis(tall);
+}
+
+function drawShapes({values, bar, inner, read, test, write: writes, point, none, loan, trap, crash}) {
+    const {past, wrong} = line, isPast = ({item}) => isHere(item) && item <= past, ended = ({to}) => to <= past;
+    values.filter(each => isNear(each) && each.from <= past).forEach(drawValues);
+    drawEach(bar, drawBar);
+    drawEach(inner, drawInner);
+    read.filter(({item}) => isHere(item)).forEach(drawRead);
+    test.filter(isPast).forEach(drawTest);
+    writes.filter(isPast).forEach(drawWrite);
+    none.filter(each => isNear(each) && ended(each)).forEach(drawNone);
+    bar.filter(each => isNear(each) && ended(each) && each.to === wrong).forEach(crossOut);
+    point.filter(each => each.item >= line.from && each.item <= line.to && ended(each)).forEach(drawPoint);
+    loan.filter(each => each.item <= past && each.ended <= line.to && each.item > line.from).forEach(drawLoan);
+    trap.filter(isPast).forEach(({item, who}) => shape(placeOf(item), topOf(who) + line.high / 2, TRAP, 'bad'));
+    crash.filter(isPast).forEach(drawCrash);
+}
+
+// Of those that end on one pixel of a lane the first alone is drawn.
+function drawEach(spans, drawOne) {
+    const next = Array(line.n + 1).fill(0);
+    for (const span of spans) {
+        if (!isNear(span) || span.who > line.n || span.to < next[span.who]) continue;
+        next[span.who] = span.to + line.grain;
+        drawOne(span);
+    }
+}
 
 function paint(name, ...box) {
     pen.fillStyle = colour(name);
     pen.fillRect(...box);
 }
 
-// The lanes cover the canvas, which is made anew where its size is another one, and there alone.
-function draw() {
-    const {wide, high, n} = line, {canvas} = pen, pixels = length => Math.round(length * devicePixelRatio);
-    const tall = VALUES + n * high + AXIS, size = [pixels(wide), pixels(tall)];
-    if (canvas.width !== size[0] || canvas.height !== size[1]) [canvas.width, canvas.height] = size;
-    canvas.style.height = `${tall}px`;
-    line.grain = (line.to - line.from) / wide * GRAIN;
-    colours = {};
-    pen.setTransform(devicePixelRatio, 0, 0, devicePixelRatio, 0, 0);
-    Object.assign(pen, {textBaseline: 'middle', textAlign: 'left'});
-    paint('paper', 0, 0, wide, tall);
-    for (let who = 1; who <= n; who++) drawLane(who);
-    drawValues();
-    drawItems();
-    const next = Array(n + 1).fill(0);
-    line.operations.to.forEach((_, k) => drawOperation(k, next));
-    drawPicture();
-    drawAxis(tall);
-}
-
-function drawLane(who) {
-    const {wide, high} = line;
-    paint(who % 2 ? 'panel' : 'paper', LABEL - 4, topOf(who), wide, high);
-    paint(`p${who % 8}`, 0, topOf(who), LABEL - 8, high - 1);
-    Object.assign(pen, {fillStyle: colour('on-p'), font: `bold ${Math.min(high - 2, 15)}px system-ui, sans-serif`});
-    pen.fillText(String(who), 6, topOf(who) + high / 2);
-}
-
-// The values of the words, as far as they are drawn: one box from write to write.
-function drawValues() {
-    const {shapes, past} = line;
-    Object.assign(pen, {fillStyle: colour('dim'), font: '12px system-ui, "DejaVu Sans", sans-serif'});
-    pen.fillText('values', 2, VALUES / 2);
-    for (const {values, from, to} of shapes?.values ?? []) {
-        if (from > line.to || to < line.from || from > past) continue;
-        const left = placeOf(Math.max(from, line.from)), wide = placeOf(Math.min(to, line.to)) - left;
-        paint('values', left, 1, Math.max(wide - 1, 1), VALUES - 3);
-        if (wide > 20) write(values, 'on-p', left - 3, 1, wide + 2, VALUES - 3, 13);
-    }
-}
-
-// A tick for each item where there is room for it; where there is none, a stroke for each run of items.
-function drawItems() {
-    const {items, high, from, to, n, grain} = line, count = items?.from.length ?? 0, next = Array(n + 1).fill(0);
-    const step = placeOf(from + 1) - LABEL, gap = step < 4 ? 0 : 2;
-    for (let k = count ? Math.max(lineOf(items, from + 1), 0) : 0; k < count && items.from[k] < to; k++) {
-        const who = items.who[k], end = items.from[k + 1] ?? items.total, crash = items.kind[k] === CRASH;
-        if (who > n || end < next[who]) continue;
-        next[who] = end + grain;
-        const left = placeOf(Math.max(items.from[k], from)), right = placeOf(Math.min(end, to));
-        const bottom = topOf(who + 1) - 5, tick = gap ? step : Math.max(right - left, GRAIN);
-        const name = crash ? 'bad' : 'dim';
-        for (let x = left; x === left || x < right - 1; x += tick) paint(name, x + gap / 2, bottom, tick - gap, 3);
-        pen.font = 'bold 14px system-ui, sans-serif';
-        if (crash) pen.fillText('\u2715', left, bottom - high / 2 + 4);
-    }
-}
-
-// An operation as a bar, in the colours of a picture, and a scan's point as a diamond at the lower edge. A scan without
-// a point has a broken edge, and a hollow diamond at its end; the one that no order explains is crossed out. Of those
-// that end on one pixel of a lane the first alone is drawn, and each that is so marked. An answer is told where it is
-// past.
-function drawOperation(k, next) {
-    const {high, operations, verdicts: {numbers, none}, past, wrong} = line;
-    const who = operations.who[k], from = operations.from[k], to = operations.to[k];
-    if (from > line.to || to && (to < line.from || to < next[who] && !none.has(to) && to !== wrong)) return;
-    next[who] = (to || line.to) + line.grain;
-    const scans = operations.text[operations.called[k]] === 's', over = to && to <= past;
-    const place = scans && over ? verdictOf(numbers, to) : -1, bare = over && none.has(to);
-    const left = placeOf(Math.max(from - 1, line.from)), right = placeOf(Math.min(to || line.to, line.to));
-    const top = topOf(who) + 1, wide = Math.max(right - left, GRAIN), point = numbers[5 * place + 3];
-    paint(scans ? 'scan-bar' : 'update-bar', left, top, wide, high - 7);
-    const edge = bare ? 'on-p' : scans ? 'scan-edge' : 'update-edge';
-    Object.assign(pen, {strokeStyle: colour(edge), lineWidth: bare ? 2.5 : 1.5});
-    pen.setLineDash(bare ? [6, 4] : []);
-    if (wide > 3) pen.strokeRect(left + 1, top + 1, wide - 2, high - 9);
-    pen.setLineDash([]);
-    if (over && to === wrong) crossOut(left, right, top, high - 7);
-    const size = high < 24 ? 12 : 14;
-    if (wide >= 24 && high >= 16) write(barWords(k, place), 'on-p', left, top, wide - 2, high - 7, size);
-    const low = topOf(who + 1) - 7;
-    if (point >= Math.max(line.from, 1)) shape(placeOf(point), low, DIAMOND, 'ink');
-    else if (place >= 0 && point === 0 && wide > 8) {
-        shape(right - 6, low, DIAMOND, 'ink');
-        shape(right - 6, low, HOLE, 'paper');
-    }
-}
-
-// Crosses a bar out, where it is narrow at its end.
-function crossOut(left, right, top, tall) {
-    const from = Math.min(left, right - 2 * tall);
-    Object.assign(pen, {strokeStyle: colour('cross'), lineWidth: 3});
-    pen.strokeRect(from + 1, top + 1, right - from - 2, tall - 2);
+function stroke(name, width, ...points) {
+    Object.assign(pen, {strokeStyle: colour(name), lineWidth: width});
     pen.beginPath();
-    for (const [above, below] of [[from, right], [right, from]]) {
-        pen.moveTo(above, top);
-        pen.lineTo(below, top + tall);
-    }
+    points.forEach(([x, y]) => pen.lineTo(x, y));
     pen.stroke();
-}
-
-// Writes into a bar, and not beyond it.
-function write(words, ink, left, top, wide, tall, size) {
-    pen.save();
-    pen.beginPath();
-    pen.rect(left, top - 2, wide, tall + 4);
-    pen.clip();
-    Object.assign(pen, {fillStyle: colour(ink), font: `${size * large()}px system-ui, "DejaVu Sans", sans-serif`});
-    pen.fillText(words, left + 6, top + tall / 2 + 1);
-    pen.restore();
-}
-
-// A call, and of a scan that is over its answer and the verdict on it.
-function barWords(k, place) {
-    const {operations, verdicts: {numbers, near}, past} = line, to = operations.to[k];
-    const end = to && to <= past ? wordsAt(operations, operations.ended[k]) : '';
-    const answer = end.startsWith('answer') ? ` \u2192${end.slice(6)}` : end === 'crash' ? ' \u2715' : '';
-    const told = place < 0 ? null : near.find(verdict => verdict.answer === to) ?? verdictAt(numbers, place);
-    return wordsAt(operations, operations.called[k]) + answer + (told ? `   ${verdictWords(told)}` : '');
 }
 
 function shape(x, y, corners, fill) {
@@ -200,28 +135,131 @@ function shape(x, y, corners, fill) {
     pen.stroke();
 }
 
-// What the module draws: the traps, and the views that were borrowed, as far as they are past.
-function drawPicture() {
-    const {shapes, past} = line;
-    for (const {item, who} of shapes?.trap ?? [])
-        if (isHere(item) && item <= past) shape(placeOf(item), topOf(who) + line.high / 2, TRAP, 'bad');
-    for (const loan of shapes?.loan ?? [])
-        if (loan.item <= past && loan.item > line.from && loan.ended < line.to) drawLoan(loan);
+// Writes into a box, and not beyond it.
+function write(words, ink, left, top, wide, tall, size) {
+    pen.save();
+    pen.beginPath();
+    pen.rect(left, top - 2, wide, tall + 4);
+    pen.clip();
+    Object.assign(pen, {fillStyle: colour(ink), font: `${size * large()}px system-ui, "DejaVu Sans", sans-serif`});
+    pen.fillText(words, left + 6, top + tall / 2 + 1);
+    pen.restore();
+}
+
+function drawLane(who) {
+    const {wide, high} = line;
+    paint(who % 2 ? 'panel' : 'paper', LABEL - 4, topOf(who), wide, high);
+    paint(`p${who % 8}`, 0, topOf(who), LABEL - 8, high - 1);
+    Object.assign(pen, {fillStyle: colour('on-p'), font: `bold ${Math.min(high - 2, 15)}px system-ui, sans-serif`});
+    pen.fillText(String(who), 6, topOf(who) + high / 2);
+}
+
+// The values of the words from one write to the next, as far as they are past.
+function drawValues({from, to, rest}) {
+    const left = placeOf(from), wide = Math.max(placeOf(to) - left, 1);
+    paint('values', left, 1, Math.max(wide - 1, 1), VALUES - 3);
+    if (wide > 20) write(rest, 'on-p', left - 3, 1, wide + 2, VALUES - 3, 13);
+}
+
+// Where an operation or a part of it lies: what an item begins begins with the state before it.
+const spanOf = ({from, to, who}) => {
+    const left = placeOf(from - 1), right = placeOf(to);
+    return {left, right, wide: Math.max(right - left, GRAIN), top: topOf(who) + 1, tall: line.high - 3};
+};
+
+// An operation, its call, and where it is past how it ended.
+function drawBar(bar) {
+    const {left, wide, top, tall} = spanOf(bar), scans = bar.name === 'scan', size = line.high < 28 ? 11.5 : 13.5;
+    paint(scans ? 'scan-bar' : 'update-bar', left, top, wide, tall);
+    if (line.high >= 16) paint(scans ? 'pale-scan' : 'pale-update', left, top + tall * upper(), wide, tall * (1 - upper()));
+    Object.assign(pen, {strokeStyle: colour(scans ? 'scan-edge' : 'update-edge'), lineWidth: 1.5});
+    if (wide > 3) pen.strokeRect(left + .75, top + .75, wide - 1.5, tall - 1.5);
+    if (wide < LEAST_WORDS || line.high < 16) return;
+    write(barWords(bar), 'on-p', left, top, wide - 2, tall * upper() - 1, size);
+}
+
+function barWords({name, word, value, to, rest}) {
+    const call = name === 'scan' ? 'scan' : `update ${word} ${value}`, [end, ...view] = rest.split(' ');
+    if (to > line.past || end === 'open') return `${call} ..`;
+    return call + {answer: ` \u2192 ${view.join(' ')}`, done: '', crash: ' crashed', trap: ' trapped'}[end];
+}
+
+// The scan of an update.
+function drawInner(span) {
+    const {left, wide, top, tall} = spanOf(span), low = Math.max(tall * (1 - upper()) - 2, 3);
+    pen.globalAlpha = .45;
+    paint('scan-bar', left, top + tall - low - 1, wide, low);
+    pen.globalAlpha = 1;
+    if (wide > 3) stroke('inner-edge', 1, [left, top + tall - low - 1], [left + wide, top + tall - low - 1]);
+}
+
+const drawRead = ({item, who}) => stroke('ink', 1.5, ...upright(item, topOf(who) + line.high - 8, 5));
+const upright = (item, top, tall) => [[placeOf(item), top], [placeOf(item), top + tall]];
+
+// The test that ends a double collect: a tick where it passed, a cross where it did not.
+function drawTest({item, who, name}) {
+    const x = placeOf(item), y = topOf(who) + line.high - 7;
+    if (name === 'pass') return stroke('passed', 3, [x - 5, y - 1], [x - 1, y + 3], [x + 5, y - 6]);
+    stroke('ink', 2, [x - 3, y - 4], [x + 3, y + 3]);
+    return stroke('ink', 2, [x + 3, y - 4], [x - 3, y + 3]);
+}
+
+// A write, with a line up to the values.
+function drawWrite({item, who}) {
+    const x = placeOf(item), y = topOf(who) + line.high / 2;
+    stroke('ink', 1, [x, VALUES - 2], [x, y]);
+    Object.assign(pen, {fillStyle: colour('ink'), strokeStyle: colour('paper'), lineWidth: 1});
+    pen.beginPath();
+    pen.arc(x, y, 3.5, 0, 7);
+    pen.fill();
+    pen.stroke();
+}
+
+// The point of a scan, with a line down to the scan.
+function drawPoint({item, who}) {
+    const x = placeOf(item);
+    pen.setLineDash([4, 3]);
+    stroke('point', 2.5, [x, VALUES + 3], [x, topOf(who) + 1]);
+    pen.setLineDash([]);
+    shape(x, VALUES + POINTS / 2 - 1, DIAMOND, 'point');
+}
+
+// A scan without a point has a broken edge.
+function drawNone(span) {
+    const {left, wide, top, tall} = spanOf(span);
+    Object.assign(pen, {strokeStyle: colour('ink'), lineWidth: 2.5});
+    pen.setLineDash([6, 4]);
+    pen.strokeRect(left + 1, top + 1, Math.max(wide - 2, 1), tall - 2);
+    pen.setLineDash([]);
+    if (wide < 90 || line.high < 24 || span.to === line.wrong) return;
+    write('point none', 'ink', left, top + tall * upper(), 90, tall * (1 - upper()) - 2, 12);
+}
+
+// Crosses an operation out, where it is narrow at its end.
+function crossOut(span) {
+    const {left, right, top, tall} = spanOf(span), from = Math.min(left, right - 2 * tall);
+    Object.assign(pen, {strokeStyle: colour('cross'), lineWidth: 3});
+    pen.strokeRect(from + 1, top + 1, right - from - 2, tall - 2);
+    stroke('cross', 3, [from, top], [right, top + tall]);
+    stroke('cross', 3, [right, top], [from, top + tall]);
 }
 
 // An arrow from the end of the scan whose view is borrowed to the item that takes it.
 function drawLoan({who, lender, item, ended}) {
-    if (lender === who || item > line.to) return;
-    const {high} = line, way = Math.sign(who - lender), x = placeOf(item);
-    const y = topOf(who) + high / 2 - way * (high / 2 - 5);
-    const fromX = placeOf(Math.max(ended, line.from)), fromY = topOf(lender) + high / 2;
-    Object.assign(pen, {strokeStyle: colour('loan'), lineWidth: 3});
-    pen.beginPath();
-    pen.moveTo(fromX, fromY);
-    pen.lineTo(x, y - way * 4);
-    pen.stroke();
-    shape(x, y, [[0, 0], [-7, -9 * way], [7, -9 * way]], 'loan');
-    if (ended >= line.from) shape(fromX, fromY, [[-4, -4], [4, -4], [4, 4], [-4, 4]], 'loan');
+    if (item > line.to) return;
+    const x = placeOf(item), y = topOf(who) + line.high / 2, fromX = placeOf(ended);
+    const fromY = topOf(lender) + line.high / 2, angle = Math.atan2(y - fromY, x - fromX);
+    const cos = Math.cos(angle), sin = Math.sin(angle);
+    const turned = ([dx, dy]) => [dx * cos - dy * sin, dx * sin + dy * cos];
+    stroke('loan', 3, [fromX, fromY], [x - 5 * cos, y - 5 * sin]);
+    shape(x, y, [[0, 0], [-11, -6], [-11, 6]].map(turned), 'loan');
+    if (ended > line.from) shape(fromX, fromY, BOX, 'loan');
+}
+
+function drawCrash({item, who}) {
+    const x = placeOf(item), y = topOf(who) + line.high / 2;
+    stroke('ink', 4, [x - 6, y - 6], [x + 6, y + 6]);
+    stroke('ink', 4, [x + 6, y - 6], [x - 6, y + 6]);
 }
 
 // Numbers of items below the lanes: of so many that they do not touch.
@@ -252,11 +290,21 @@ function itemAt(clientX) {
     return line.from + Math.round(within(share, 0, 1) * (line.to - line.from));
 }
 
-// What the module's picture tells of an item, where the mouse is at it.
+// What the module tells of a shape, in words.
+export function shapeWords({name, item, who, line: at, word, lender, ended, rest}) {
+    const what = {
+        read: `reads r[${word}]`, write: `writes r[${word}], values ${rest}`, pass: 'a test that passes',
+        fail: 'a test that fails', trap: 'a trap', crash: 'a crash',
+        loan: `borrows the view of the scan that process ${lender} ended at item ${ended}`,
+    }[name];
+    return `item ${item}, process ${who}, line ${at}: ${what}`;
+}
+
+// What is drawn of an item is told where the mouse is at it.
 function tellItem(item) {
     const {shapes, at} = state, kinds = ['write', 'read', 'test', 'loan', 'trap', 'crash'];
     const told = item > at ? [] : kinds.flatMap(kind => shapes?.[kind].filter(each => each.item === item) ?? []);
-    $('timeline').title = told.length ? told.map(({title}) => title).join('\n') : `item ${item}`;
+    $('timeline').title = told.length ? told.map(shapeWords).join('\n') : `item ${item}`;
 }
 
 // Draws for the box as it is now, where its width, its height of a lane, its letters or its pixels are other ones.

@@ -1,10 +1,11 @@
 // The worker: asks the module, and reads its answers, so that the page is never held up.
-import {OUTPUT, TRAPPED, ended, inputOf, readHead, readItems, readJudgement, readOperations, readSession, readShapes,
-    readTrace, readVerdicts, verdictAt, viewAt} from './text.js';
+import {OUTPUT, REFUSED, TRAPPED, ended, inputOf, readHead, readItems, readJudgement, readOperations, readSession,
+    readShapes, readTrace, readVerdicts, verdictAt, viewAt} from './text.js';
 import {Glue} from './glue.js';
 
 const NEAR = 60;        // so many scans, the last ones, are told of in words, and as many without a point
 const MOST_MARKS = 64;  // of one session; more of them are asked for in several
+const DRAWN_AT_ONCE = 1000;     // of so many items it is told with the state what is drawn of them
 const MOST_PICTURED = 300, SHOWN_BEFORE = 3, SHOWN_AFTER = 4;   // of two runs that are compared
 const SEEDS = 20, RUNS_OF_SEED = 500;  // of a hunt
 const NOT_JUDGED = {verdict: '', item: 0, who: 0, reasons: []};
@@ -15,11 +16,16 @@ const asText = ({code, bytes}) => ({code, text: new TextDecoder().decode(bytes)}
 // What the module says of the parts of an input.
 const askOf = (sub, ...parts) => asText(glue.answer('page_output', [sub, '', inputOf(...parts)]));
 
-// What the module's picture of these items tells, and where one is to be seen the picture.
-function draw({listing, schedule, from, to, seen}) {
-    const answer = asText(glue.answer('page_picture', [listing, schedule], [from, to]));
-    if (answer.code !== OUTPUT) return answer;
-    return {...answer, text: seen ? answer.text : '', shapes: readShapes(answer.text)};
+// What the module explains of an input that it refuses.
+const explain = (sub, ...parts) => asText(glue.answer('page_explanation', [sub, '', inputOf(...parts)])).text;
+
+// The picture of these items.
+const draw = ({listing, schedule, from, to}) => asText(glue.answer('page_picture', [listing, schedule], [from, to]));
+
+// What a picture of these items draws.
+function shapes({listing, schedule, from, to}) {
+    const answer = asText(glue.answer('page_shapes', [listing, schedule], [from, to]));
+    return answer.code === OUTPUT ? {code: OUTPUT, shapes: readShapes(answer.text)} : answer;
 }
 
 // The stop to which 'run' or 'rrun' leads with these marks: of those of several sessions the nearest.
@@ -55,7 +61,7 @@ function shownReport(replies, {registers, processes}, at) {
 // A position of the run, or the one to which 'run' or 'rrun' leads from there, or to which these commands lead; and
 // where it is wanted the state one item before it, in the same session where the names of what it has are known.
 // Without the number of its items the schedule is read here.
-function look({listing, schedule, total, marks, at, go, commands, wantsBefore, names}) {
+function look({listing, schedule, total, marks, at, go, commands, wantsBefore, names, wantsShapes}) {
     const items = total === undefined ? readItems(schedule) : {total}, texts = listing + '\0' + schedule;
     const found = go ? findStop({listing, schedule, at, marks, go}) : {code: OUTPUT, stop: at, refused: []};
     if (found.code !== OUTPUT) return {...found, items};
@@ -65,6 +71,7 @@ function look({listing, schedule, total, marks, at, go, commands, wantsBefore, n
     const asked = commands ?? [...known || end ? [] : [`goto ${items.total}`, 'events'],
         ...both ? showing(names, place - 1) : [], `goto ${place}`, 'where'].join('\n');
     const answer = askOf('debug', listing, schedule, asked);
+    if (answer.code === REFUSED) return {...answer, items, why: explain('debug', listing, schedule, asked)};
     if (answer.code !== OUTPUT) return {...answer, items};
     const {replies, report: {events, ...report}} = readSession(answer.text);
     const called = end ? events : replies.find(reply => reply.command === 'events')?.lines.slice(1) ?? [];
@@ -74,7 +81,10 @@ function look({listing, schedule, total, marks, at, go, commands, wantsBefore, n
     if (commands === undefined) told = texts;
     const before = both ? shownReport(replies, names, place - 1) :
         (wantsBefore || go) && report.at ? reportAt(listing, schedule, report.at - 1) : null;
-    return {code: OUTPUT, report, last, before, refused: found.refused, items, operations: alike ? null : operations};
+    const drawn = wantsShapes && report.total && report.total <= DRAWN_AT_ONCE ?
+        shapes({listing, schedule, from: 1, to: report.total}).shapes : null;
+    return {code: OUTPUT, report, last, before, refused: found.refused, items, drawn,
+        operations: alike ? null : operations};
 }
 
 // The report of a position; null where there is none.
@@ -83,21 +93,10 @@ function reportAt(listing, schedule, at) {
     return answer.code === OUTPUT ? readSession(answer.text).report : null;
 }
 
-// How many steps of a process lead from a position to the end of its operation, or to a line; 0 where none of so many
-// do. The schedule has these steps after the position.
-function reach({listing, schedule, at, most, who, line}) {
-    const asked = line ? `goto ${at}\nbreak ${who} ${line}\nrun\nwhere` : `goto ${at + most}\nevents`;
-    const answer = askOf('debug', listing, schedule, asked);
-    if (answer.code !== OUTPUT) return answer;
-    const {replies, report} = readSession(answer.text);
-    if (line) {
-        const there = report.at > at && report.processes[who - 1].at === line;
-        return {code: OUTPUT, steps: there ? report.at - at : 0};
-    }
-    const events = replies.find(({command}) => command === 'events').lines.slice(1).map(one => one.split(' '));
-    const end = events.find(([, item, one, what]) =>
-        Number(item) > at && Number(one) === who && /answer|done/.test(what));
-    return {code: OUTPUT, steps: end ? Number(end[1]) - at : 0};
+// How many steps of a process lead from a position to a line, or where there is none to the end of its operation.
+function reach({listing, schedule, at, who, line}) {
+    const texts = [listing, schedule];
+    return asText(line ? glue.answer('page_until', texts, [at, who, line]) : glue.answer('page_end', texts, [at, who]));
 }
 
 // The last item up to a position that changed a register; 0 where none did.
@@ -147,7 +146,7 @@ function runOf({listing, schedule}) {
     const items = readTrace(traced.text), total = items.length;
     const verdicts = audit({listing, schedule}).verdicts?.near ?? [];
     const judgement = verdicts.length ? judge({listing, schedule}).judgement : null;
-    const drawn = total && total <= MOST_PICTURED ? draw({listing, schedule, from: 1, to: total, seen: true}) : null;
+    const drawn = total && total <= MOST_PICTURED ? draw({listing, schedule, from: 1, to: total}) : null;
     return {code: OUTPUT, total, items, verdicts, judgement: judgement ?? NOT_JUDGED, picture: drawn?.text ?? ''};
 }
 
@@ -186,7 +185,7 @@ async function start(letters) {
     return {code: OUTPUT};
 }
 
-const TASKS = {start, look, audit, judge, draw, peek, reach, writer, compare, hunt, tryInput,
+const TASKS = {start, look, audit, judge, draw, shapes, peek, reach, writer, compare, hunt, tryInput,
     answer: ({name, texts, numbers}) => glue.answer(name, texts, numbers)};
 
 onmessage = async ({data: {kind, request}}) => {

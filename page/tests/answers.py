@@ -167,6 +167,94 @@ def try_hunts(tab, count):
     count.check("a hunt of no listing is refused", told == (1, b"refused: L2 BadHeader 1\n"), told[1][:80])
 
 
+def try_explanations(tab, count):
+    """What is said below the line of a refusal, which `--explain` prints; of the cases that say so, those of what the module is asked."""
+    tried = 0
+    for name in sorted(os.listdir(os.path.join(TOP, "tests", "cases"))):
+        folder = os.path.join(TOP, "tests", "cases", name)
+        file = os.path.join(folder, "args")
+        args = read(file, "r").split("\n")[:-1] if os.path.isfile(file) else []
+        plain = [word for word in args if word != "--explain"]
+        if "--explain" not in args or plain[0] not in ASKED or plain[1:] and (len(plain) != 3 or plain[1] != "--shipped"):
+            continue
+        tried += 1
+        given, wanted = read(os.path.join(folder, "stdin")), read(os.path.join(folder, "stderr")).partition(b"\n")[2]
+        names = (plain[0].encode(), plain[2].encode() if plain[1:] else b"")
+        told = tab.ask_module("page_explanation", (*names, given))
+        count.check(f"tests/cases/{name}: the explanation", told == (0, wanted), told[1][-200:])
+    count.check("there are explanations to be tried", tried > 50, tried)
+    listing = read(os.path.join(TOP, "examples", "u.txt"))
+    told = tab.ask_module("page_explanation", (b"run", b"", listing + b"%\nshape 2 2\n1 scan\n"))
+    count.check("what is not refused is not explained", told == (0, b""), told)
+    count.check("nor what is no subcommand", tab.ask_module("page_explanation", (b"live", b"", b"")) == (4, b""))
+
+
+def try_steps(tab, count):
+    """Steps to a line and to the end of an operation. A scan of U alone with three processes makes 17: lines 10 and 11, 12 and 13 three times,
+    14 and 15 three times, 16, 21 and 22. An update makes one, line 30, then a scan, and lines 31 to 33."""
+    listing = read(os.path.join(TOP, "examples", "u.txt"))
+    schedule = b"shape 3 3\n2 scan\n2*5\n1 update 1 4\n3 scan\n3 crash\n"
+    wanted = {("end", 1, 2): b"17", ("until", 1, 2, 14): b"8", ("until", 1, 2, 12): b"2", ("until", 3, 2, 12): b"2", ("end", 6, 2): b"12",
+              ("until", 6, 2, 33): b"12", ("end", 7, 1): b"21", ("until", 7, 1, 33): b"20", ("until", 7, 1, 10): b"1"}
+    for (name, *numbers), steps in wanted.items():
+        told = tab.ask_module(f"page_{name}", (listing, schedule), numbers)
+        count.check(f"steps: {name} {numbers}", told == (0, steps), told)
+    refused = {("end", 1, 1): b"the process is idle", ("end", 1, 4): b"there is no such process", ("until", 1, 2, 20): b"there is no such line",
+               ("end", 9, 3): b"the process has crashed", ("end", 10, 1): b"G6 NoSuchPosition"}
+    for (name, *numbers), why in refused.items():
+        told = tab.ask_module(f"page_{name}", (listing, schedule), numbers)
+        count.check(f"no steps: {name} {numbers}", told[0] == 1 and told[1].startswith(b"refused: ") and told[1][9:-1].split()[-1] == why.split()[-1],
+                    told)
+    loop = b"kind seq\nscalar j\nrow\nwords a\nview s\nscan 1\nupdate 3\n1: goto 1\n2: return s\n3: finish\n"
+    told = tab.ask_module("page_end", (loop, b"shape 1 1\n1 scan\n"), (1, 1))
+    count.check("an operation that does not end", told == (1, b"refused: the schedule is full\n"), told)
+    told = tab.ask_module("page_until", (b"kind so\n", b"shape 1 1\n"), (0, 1, 1))
+    count.check("a listing that is none", told == (1, b"refused: L2 BadHeader 1\n"), told)
+
+
+def lines_of_picture(svg):
+    """The lines of what a picture draws, of its titles."""
+    drawn, found = svg[svg.index("</metadata>"):svg.rindex('<g class="legend"')], []
+    for kind, title in re.findall(r'<(?:g|path|svg) class="([a-z]+)"[^>]*><title>([^<]+)', drawn):
+        numbers = re.findall(r"\d+", title.replace("&#8594;", ""))
+        if kind in ("scan", "update"):
+            view, word = re.search(r"&#8594;( .*)$", title), title.rsplit(" ", 1)[-1]
+            end = {"crashed": "crash", "trapped": "trap", "..": "open"}.get(word, "done")
+            call = numbers[3:5] if kind == "update" else []
+            end = "answer" + view[1] if view else end
+            found.append(" ".join([kind, *numbers[:3], *call, end]))
+        elif kind == "values":
+            found.append(" ".join([kind, *numbers[-2:], *numbers[:-2]]))
+        elif kind in ("inner", "none", "wrong"):
+            found.append(" ".join([kind, *numbers[:3]]))
+        elif kind == "point":
+            span, item, values, collects = numbers[:3], numbers[3], numbers[4:-1], numbers[-1]
+            found.append(" ".join([kind, *span, item, collects, *values]))
+        else:
+            item, who, line, *more = numbers
+            found.append(" ".join([kind, *(more if kind == "loan" else []), who, item, line, *(more if kind != "loan" else [])]))
+    return found
+
+
+def try_shapes(tab, count):
+    """What the time line draws is what the pictures of docs/pictures draw, which bin/snapdraw makes."""
+    for name in sorted(os.listdir(os.path.join(TOP, "docs", "pictures"))):
+        example = os.path.join(TOP, "examples", name.removesuffix(".svg"))
+        if "--shipped" in read(os.path.join(example, "args"), "r"):
+            continue
+        parts, svg = re.split(rb"(?m)^%\n", read(os.path.join(example, "stdin"))), read(os.path.join(TOP, "docs", "pictures", name), "r")
+        total = int(re.search(r"items 1 to (\d+) of", svg)[1])
+        code, told = tab.ask_module("page_shapes", parts[:2], (1, total))
+        wanted = [one for one in lines_of_picture(svg) if not one.startswith("wrong ")]
+        count.check(f"docs/pictures/{name}: its shapes", code == 0 and told.decode().splitlines() == wanted, told[:200])
+    listing = read(os.path.join(TOP, "examples", "u.txt"))
+    for asked, wanted in (((1, 3), b"D1 NoSuchItems 2"), ((0, 1), b"D1 NoSuchItems 2")):
+        told = tab.ask_module("page_shapes", (listing, b"shape 2 2\n1*2\n"), asked)
+        count.check(f"shapes are refused: {wanted.decode()}", told == (1, b"refused: " + wanted + b"\n"), told[1][:80])
+    told = tab.ask_module("page_shapes", (listing, b"shape 2 2\n1 scan\n1 crash\n"), (1, 2))
+    count.check("a crash", told == (0, b"values 0 2 0 0\nscan 1 1 2 crash\ncrash 1 2 10\n"), told)
+
+
 def try_pairs(tab, count, pairs, first):
     program = os.environ.get("SNAPLAB") or os.path.join(TOP, "crates", "snaplab", "out", "snaplab")
     if not os.access(program, os.X_OK):
@@ -200,6 +288,9 @@ def main():
         try_gallery(tab, count)
         try_pictures(tab, count)
         try_hunts(tab, count)
+        try_explanations(tab, count)
+        try_steps(tab, count)
+        try_shapes(tab, count)
         try_pairs(tab, count, pairs, first)
         count.check("a subcommand that is none is told so", tab.answer("live", "", b"") == (4, b""))
     count.finish()

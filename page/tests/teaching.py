@@ -263,6 +263,15 @@ def try_without_module(page, count, running):
             other.tab.close()
 
 
+# What `snaplab run --explain` says below the line of the refusal.
+EXPLAINED = """line 25 of the input, line 25 of the listing, column 5:
+    33: finnish
+        ^
+expected an instruction; found `finnish`
+a local is set by `let`, as in `let c = c + 1`
+instructions begin with let, get, bit, look, put, view, each, first, next, if, goto, call, return or finish"""
+
+
 def try_refusals(page, count):
     page.tab.look(**PROJECTOR)
     page.choose(FIRST_IDEA + 2)
@@ -270,11 +279,12 @@ def try_refusals(page, count):
     text = page.value("#listing textarea")
     page.write("listing", text.replace("33: finish", "33: finnish"))
     told = page.text("#listing-refusal")
-    count.check("a refusal names the line of the text, and shows it", "L3 BadLine 25" in told and "line 25 of this text: 33: finnish" in told, told)
+    count.check("a refusal is explained as the program explains it", told == "refused: L3 BadLine 25\n" + EXPLAINED, told)
     inside = page.run("(() => { const b = document.querySelector('#listing .back .bad').getBoundingClientRect(), r = document.getElementById('listing')"
                       ".getBoundingClientRect(); return b.top >= r.top - 2 && b.bottom <= r.bottom + 2; })()")
     page.leave()
-    count.check("what the manual says is folded away", not page.run("document.querySelector('#listing-refusal details').open"))
+    count.check("the line that the explanation names is marked, and in sight", inside and page.run(
+        "[...document.querySelectorAll('.back .bad')].map(e => e.textContent)") == ["33: finnish"])
     dim = page.run("['processes', 'state', 'timeline', 'where'].filter(id => Number(getComputedStyle(document.getElementById(id)).opacity) > .9)")
     count.check("all of the old run is dim", not dim, dim)
     page.write("listing", "\n" * 60 + text.replace("33: finish", "33: finnish"))
@@ -327,6 +337,52 @@ def try_traps(page, count):
     page.run(f"goTo({item})")
     page.tab.settled()
     count.check("with its cause", "trapped" in page.text("#where"), page.text("#where"))
+
+
+# How many dots of the time line's canvas, in a part of its height from here on, are of this colour.
+DOTS = """((top, tall, red, green, blue) => { const c = document.querySelector('#timeline canvas'), r = devicePixelRatio, {data} = c.getContext('2d')
+    .getImageData(0, top * r, c.width, tall * r); let n = 0; for (let k = 0; k < data.length; k += 4)
+    if (data[k] === red && data[k + 1] === green && data[k + 2] === blue) n++; return n; })"""
+
+
+def told_at(page, item):
+    """What the time line tells where the mouse is at an item."""
+    box = page.run(f"(() => {{ const r = document.getElementById('timeline').getBoundingClientRect(); return [r.x + placeOf({item}), r.y + 40]; }})()")
+    page.tab.ask("Input.dispatchMouseEvent", type="mouseMoved", x=box[0], y=box[1])
+    return page.run("document.getElementById('timeline').title")
+
+
+def try_timeline(page, count):
+    """What the time line draws is what the module tells of the run's shapes, as far as it is past."""
+    page.choose(FIRST_IDEA + 2)
+    texts = [page.run(f"state.{part}").encode() for part in ("listing", "schedule")]
+    told = page.tab.ask_module("page_shapes", texts, (1, 64))[1].decode().splitlines()
+    drawn = page.run("['values', 'bar', 'inner', 'read', 'write', 'test', 'loan', 'point', 'none', 'trap', 'crash'].reduce((n, k) => "
+                     "n + state.shapes[k].length, 0)")
+    count.check("each of the module's shapes is there, and no other one", drawn == len(told) > 20, [drawn, len(told)])
+    point = page.run("placeOf(24)")
+    blue = f"{DOTS}(18, 8, 0, 114, 178)"
+    page.key("End", "ArrowLeft")
+    before = page.run(blue)
+    page.key("ArrowRight")
+    count.check("the point of a scan is told with its answer", before == 0 and page.run(blue) > 10 and point > 0, [before, page.run(blue)])
+    words = [told_at(page, 4), told_at(page, 24), told_at(page, 30), told_at(page, 63)]
+    count.check("the mouse at an item is told what it did", words == [
+        "item 4, process 1, line 12: reads r[1]", "item 24, process 2, line 32: writes r[2], values 0 5", "item 30, process 1, line 16: a test that fails",
+        "item 63, process 1, line 23: borrows the view of the scan that process 2 ended at item 52"], words)
+    page.key("Home")
+    count.check("and nothing of an item that is to come", told_at(page, 24) == "item 24", told_at(page, 24))
+    numbers, axis = [], "(() => { const tall = parseFloat(document.querySelector('#timeline canvas').style.height); return " + DOTS + "(tall - 12, 12, 86, 93, 105); })()"
+    page.key("End")
+    for _ in range(4):
+        numbers.append(page.run(axis))
+        page.key("+")
+    count.check("a zoomed time line has numbers", min(numbers) > 30 and len(set(numbers)) > 1, numbers)
+    page.key("0")
+    page.choose(FIRST_IDEA)
+    page.click("#end")
+    count.check("the caption and the diamond speak of the same state", "first state that fits: the one at its call" in page.text("#caption") and
+                "point 1," in page.text("#verdicts"), page.text("#caption") + page.text("#verdicts"))
 
 
 def try_untold(page, count):
@@ -417,6 +473,22 @@ def try_movers(page, count):
     page.key("l", *["ArrowUp"] * 60, *["ArrowDown"] * row, "u")
     count.check("a key leads to a line", "scan at 14" in page.text(".process:nth-child(2) .what") and page.schedule() == "shape 3 3\n2 scan\n2*8\n",
                 page.schedule() + page.text("#note"))
+    page.click("#home")
+    page.key("l", *["ArrowUp"] * 60, *["ArrowDown"] * row, "u")
+    count.check("where no process has moved yet, none is led anywhere", "No process has moved" in page.text("#note"), page.text("#note"))
+    page.key("End")
+    page.write("schedule", "shape 3 3\n2 scan\n2*8\n2 crash\n")
+    page.leave()
+    page.key("End")
+    page.run("goOn(2, 14)")
+    page.tab.settled()
+    stopped = page.text("#note")
+    page.run("change({schedule: 'shape 3 3\\n2 scan\\n2*8\\n', at: 9})")
+    page.tab.settled()
+    page.run("goOn(2, 15000)")
+    page.tab.settled()
+    count.check("why no steps lead somewhere is told", "crashed" in stopped and page.text("#note") == "Process 2: there is no such line.", [
+        stopped, page.text("#note")])
     page.key("e")
     count.check("and one to the end", page.schedule() == "shape 3 3\n2 scan\n2*8\n2*9\n" and page.at() == "Item 18 of 18", page.schedule())
     page.choose(FIRST_IDEA + 2)
@@ -663,7 +735,7 @@ def main():
     with browser.Browser() as running:
         page = fresh(running.tab(**PROJECTOR))
         for trial in (try_first_seconds, try_position, try_keys_after_a_choice, try_loans, try_keeping, try_changes, try_texts, try_zoomed,
-                      try_exercises, try_refusals, try_opening, try_notes, try_traps, try_untold, try_margin, try_movers, try_writers, try_compare, try_lessons, try_contrast, try_play,
+                      try_exercises, try_refusals, try_opening, try_notes, try_traps, try_timeline, try_untold, try_margin, try_movers, try_writers, try_compare, try_lessons, try_contrast, try_play,
                       try_png):
             attempt(trial, count, page)
         attempt(try_without_module, count, page, running)

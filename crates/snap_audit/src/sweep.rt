@@ -114,6 +114,7 @@ pub(crate) fn sweep(
 pub fn audit<K: Kind>(alloc: Global, history: &Record<K>) -> Result<Vec<Verdict>, AllocError>
     ensures { IfOk result (λ v. v.items ≡ audit history.now) }
 {
+    // What `items` promises: the run of the record is a valid one.
     let _items = history.items();
     sweep(
         alloc,

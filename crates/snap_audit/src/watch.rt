@@ -168,6 +168,7 @@ impl Watch {
         ensures { IfOk result
             (Watches (record { run = run_over program.now schedule.now; at = 0 })) }
     {
+        // What `items` promises: the schedule keeps the rules of schedules.
         let _items = schedule.items();
         let shape = schedule.shape();
         Ok(Watch {

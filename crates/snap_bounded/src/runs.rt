@@ -7,11 +7,10 @@ ghost use Rattle.snap_runs.specs.Run.{IsValidRun, run_over};
 ghost use Rattle.snap_runs_of_b.specs.ListingB.{listing_b};
 ghost use Rattle.snap_shipped.specs.Kept.{KeepsPromises};
 
-use snap_asm::load_listing;
 use snap_listing_core::CommentedListing;
-use snap_record::{Record, record_over};
+use snap_record::Record;
 use snap_sched::Schedule;
-use snap_shipped::{listing_b, shipped_runs_keep_promises};
+use snap_shipped::listing_b;
 use snap_words::Bits;
 use std::alloc::{AllocError, Global};
 
@@ -26,17 +25,6 @@ pub fn listing(alloc: Global) -> Result<CommentedListing, AllocError>
     CommentedListing::uncommented(alloc, listing_b(alloc)?)
 }
 
-/// The run of B over a schedule keeps what is promised of it.
-fn keeps_promises(schedule: &Schedule)
-    requires { fits kind.Bits schedule.now.shape ≡ true }
-    ensures fits { IsValidRun (run_over listing_b schedule.now) }
-    ensures promises { KeepsPromises kind.Bits (run_over listing_b schedule.now) }
-{
-    shipped_runs_keep_promises();
-    // A schedule's rules come with its shape.
-    let _shape = schedule.shape();
-}
-
 /// Returns the record of B over a schedule, whatever its interleaving: a run that keeps all
 /// promises.
 ///
@@ -49,7 +37,5 @@ pub fn run(alloc: Global, schedule: &Schedule) -> Result<Record<Bits>, AllocErro
     ensures fits { IsValidRun (run_over listing_b schedule.now) }
     ensures promises { KeepsPromises kind.Bits (run_over listing_b schedule.now) }
 {
-    keeps_promises(schedule);
-    let program = load_listing(alloc, listing_b(alloc)?)?;
-    record_over(alloc, &program, schedule)
+    snap_promised::run(alloc, schedule)
 }

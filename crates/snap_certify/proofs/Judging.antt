@@ -16,8 +16,9 @@ use Rattle.snap_run_judge.specs.Judged.{AnswersJudged}
 use Rattle.snap_run_judge.specs.RunHistory.{history_of}
 use Rattle.snap_run_judge.specs.RunJudgement.{IsRunJudgement, most_configurations}
 use Rattle.snap_run_judge.specs.VerdictText.{verdict_text}
-use Rattle.snap_input.proofs.Answered.{both, same_answer}
-use Rattle.snap_input.specs.Input.{checked_parts, counted_parts, listing_for, parted, texts_for}
+use Rattle.snap_input.proofs.Answered.{same_answer}
+use Rattle.snap_input.proofs.Parting.{is_prepared, on_prepared}
+use Rattle.snap_input.specs.Input.{Prepared, listing_for, parted, prepared, texts_for}
 use Rattle.snap_input.specs.Parts.{part}
 use Rattle.snap_input.specs.Schedules.{schedule_for}
 use Rattle.snap_certify.specs.CertificationText.{IsCertificateText, WasJudged, WasJudgedAfter, certificate_text, text_of}
@@ -73,40 +74,21 @@ over_schedule l text s out read h = (
   ap (λ (r : Result Schedule Refusal). r >>= λ x. Ok (certificate_text h.0 (run_over l x))) read ∙ ap Ok (sym h.2),
 )
 
--- the certification of an input, where that of its texts is known
-module _ {X : Type 0} (view : X → List ℕ) (subject : Subject) (parts found texts : List (List ℕ)) (l : Source)
-    (are_counted : counted_parts subject 1 parts ≡ Ok found) (is_listing : listing_for subject found ≡ Ok l)
-    (are_texts : texts ≡ texts_for subject found) where
-  checked : checked_parts subject 1 parts ≡ Ok tt
-  checked = (both (checked_parts subject 1 parts) (λ there. Ok parts) found are_counted).1
-
-  same_parts : parts ≡ found
-  same_parts = let e = (both (checked_parts subject 1 parts) (λ there. Ok parts) found are_counted).2 in cc
-
-  listed : listing_for subject parts ≡ Ok l
-  listed = subst (λ (ps : List (List ℕ)). listing_for subject ps ≡ Ok l) (sym same_parts) is_listing
-
-  behind_parts : texts ≡ texts_for subject parts
-  behind_parts = are_texts ∙ ap (texts_for subject) (sym same_parts)
-
-  of_texts : (judged : List Judgement) →
-      parted subject 1 parts (certificates_text judged) ≡ certificates_text judged l texts
-  unfolding parted
-  of_texts judged =
-      ap (λ (c : Result (Unit {0}) Refusal). c >>= λ there. listing_for subject parts >>= λ m.
-      certificates_text judged m (texts_for subject parts)) checked
-      ∙ ap (λ (r : Result Source Refusal). r >>= λ m. certificates_text judged m (texts_for subject parts)) listed
-      ∙ ap (certificates_text judged l) (sym behind_parts)
-
+-- the certification of an input, where that of what was prepared of it is known
+module _ {X : Type 0} (view : X → List ℕ) (subject : Subject) (parts : List (List ℕ)) (p : Prepared)
+    (is : prepared subject 1 parts ≡ Ok p) where
   pub of_input : (result : Result X (Fault Refusal)) →
-      AnswersJudged view (WasJudgedOver l (part 0 texts)) result (λ judged. certificates_text judged l texts) →
+      AnswersJudged view (WasJudgedOver p.source (part 0 p.texts)) result
+      (λ judged. certificates_text judged p.source p.texts) →
       AnswersJudged view (WasJudgedIn subject parts) result
       (λ judged. parted subject 1 parts (certificates_text judged))
-  of_input (Ok x) h = (
-    h.0,
-    λ m is. (let same : m ≡ l = same_answer (listing_for subject parts) l m listed is in
-        subst (λ (q : Source). WasJudgedOver q (part 0 (texts_for subject parts)) h.0) (sym same)
-        (subst (λ (ts : List (List ℕ)). WasJudgedOver l (part 0 ts) h.0) behind_parts h.1)),
-    of_texts h.0 ∙ h.2,
-  )
-  of_input (Err fault) h = subst (IsRefusal fault) (sym (of_texts [])) h
+  of_input (Ok x) h =
+      let there = is_prepared subject parts p 1 is in (
+        h.0,
+        λ m listed. (let same : m ≡ p.source = same_answer (listing_for subject parts) p.source m there.listing listed in
+            subst (λ (q : Source). WasJudgedOver q (part 0 (texts_for subject parts)) h.0) (sym same)
+            (subst (λ (ts : List (List ℕ)). WasJudgedOver p.source (part 0 ts) h.0) there.texts h.1)),
+        on_prepared subject parts p (certificates_text h.0) 1 is ∙ h.2,
+      )
+  of_input (Err fault) h =
+      subst (IsRefusal fault) (sym (on_prepared subject parts p (certificates_text []) 1 is)) h

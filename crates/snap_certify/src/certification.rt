@@ -115,6 +115,7 @@ pub fn certify<K: Kind>(alloc: Global, history: &Record<K>) -> Result<Certificat
         IsOk (seen_certification c) → IsLinearizable history.now) }
 {
     certified_has_certificate();
+    // What `items` promises: the run of the record is a valid one.
     let _items = history.items();
     conclude(alloc, history)
 }

@@ -9,7 +9,7 @@ ghost use Rattle.snap_certify.specs.Output.{WasJudgedIn, WasJudgedOver, certific
 
 use crate::program::certify_program;
 use snap_asm_program::Program;
-use snap_input::{parts_for, program_for, texts_for};
+use snap_input::prepare;
 use snap_semantics::{Fault, Refusal};
 use snap_tasks::Subject;
 use std::alloc::Global;
@@ -34,7 +34,7 @@ fn certify_texts(
 /// # Errors
 ///
 /// `Refused` with the reason why `input` is refused; `Memory` where memory runs out.
-#[tactic(auto, unfolding(snap_input::specs::Input::parted))]
+#[tactic(auto, unfolding(snap_input::specs::Input::parted, snap_input::specs::Input::prepared))]
 pub fn certify_input(
     alloc: Global,
     subject: Subject,
@@ -46,8 +46,6 @@ pub fn certify_input(
     ensures counted { (r : Refusal) → checked_parts subject 1 (parts_of input.now) ≡ Err r →
         result ≡ Err (Refused r) }
 {
-    let parts = parts_for(alloc, subject, 1, input)?;
-    let program = program_for(alloc, subject, parts.as_slice())?;
-    let texts = texts_for(subject, parts.as_slice());
-    certify_texts(alloc, &program, texts)
+    let given = prepare(alloc, subject, 1, input)?;
+    certify_texts(alloc, &given.program, given.texts.as_slice())
 }

@@ -99,6 +99,7 @@ fn push_move(
     if draws.crash % 1000 < plan.crashes() {
         return items.push_crash(process);
     }
+    // What `shape` promises: the plan keeps the rules of plans.
     let _shape = plan.shape();
     push_asked(items, &move_of(plan, run, turn, process, draws))
 }

@@ -29,7 +29,8 @@ pub enum Pace {
     /// One process updates, now to the end and now to somewhere near it, while another one scans, a
     /// part at a time, behind an update of its own.
     Duels,
-    /// Of eight runs two are bursts, two interruptions, two duels, one has witnesses, and one rounds.
+    /// Of eight runs two are bursts, two interruptions, two duels, one has witnesses, and one
+    /// rounds.
     Mixed,
 }
 

@@ -322,6 +322,7 @@ pub(crate) fn push_turn(
     if draws.crash % 1000 < plan.crashes() {
         return items.push_crash(process_of(plan, draws));
     }
+    // What `shape` promises: the plan keeps the rules of plans.
     let _shape = plan.shape();
     push_asked(items, &turn_of(plan, run, turn, draws))
 }

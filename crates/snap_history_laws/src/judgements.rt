@@ -59,7 +59,7 @@ pub fn judgements_are_of_records<K: Kind>(kept: &Record<K>)
         IsSoOf kept.now j }
     ensures once { TellsEachOnce kept.now }
 {
-    // The run of a record is a valid one, of a listing.
+    // What `items` and `lines` promise: the run is a valid one, of a listing.
     let _items = kept.items();
     let _lines = kept.machine().program().listing().lines();
     judgements_are_of_runs();
@@ -79,6 +79,7 @@ pub fn threads_are_told_the_history()
 pub fn shipped_are_listings()
     ensures { (g : KindTag) → IsListing (shipped g) }
 {
+    // What the texts promise: each is read as its listing.
     let _u = text_u();
     let _b = text_b();
     let _m = text_m();

@@ -1,5 +1,5 @@
--- What is found in the runs of a block stands at their places, whichever thread found it and when; and the first of them
--- in which something is found.
+-- What is found in the runs of a block stands at their places, whichever thread found it and when; and the first of
+-- them in which something is found.
 use Rattle.std.proofs.Common.{◌≡◌, ◌⊎◌, inl, inr, ℕ, zero, suc, ◌+◌, ◌-◌, ◌<◌, ◌≤◌, Bool, true, false, List, [], ◌∷◌}
 use Rattle.std.proofs.Common.{Option, Some, None, option_map, is_some, length, map, nat_lt, Vec, Result, Ok, Err, Bor, refl, sym, ap, subst, arith}
 use Rattle.std.specs.Prelude.{IfOk, MatchResult, slice_index_or}

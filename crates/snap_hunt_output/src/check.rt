@@ -13,7 +13,7 @@ ghost use Rattle.snap_hunt_output.specs.Check.{run_in_input, run_in_texts, run_u
 
 use snap_asm_program::Program;
 use snap_debug_commands::{Command, read_commands};
-use snap_input::{parts_for, program_for, read_schedule, texts_for};
+use snap_input::{Prepared, prepare, read_schedule};
 use snap_sched::Schedule;
 use snap_semantics::{Fault, Refusal};
 use snap_tasks::Subject;
@@ -50,33 +50,18 @@ fn schedule_under(
     Ok(schedule)
 }
 
-/// Returns the schedule of the texts behind a listing.
-fn schedule_in_texts(
-    alloc: Global,
-    program: &Program,
-    texts: &[&[u8]],
-) -> Result<Schedule, Fault<Refusal>>
-    requires { 1 < length texts.now }
-    ensures { Answers (λ s. run_over program.now s) result
-        (run_in_texts program.now (map (λ text. text.now) texts.now)) }
-{
-    schedule_under(alloc, program, texts[0], texts[1])
-}
-
 /// Returns the run of `input`: a listing, a schedule and debugger commands.
 ///
 /// # Errors
 ///
 /// `Refused` with the reason for which the debugger refuses `input`; `Memory` where memory runs
 /// out.
-#[tactic(auto, unfolding(snap_input::specs::Input::parted, crate::specs::Check::run_in_input))]
+#[tactic(auto, unfolding(snap_input::specs::Input::parted, snap_input::specs::Input::prepared, crate::specs::Check::run_in_input))]
 pub fn run_in_input(alloc: Global, input: &[u8]) -> Result<InputRun, Fault<Refusal>>
     requires { length input.now ≤ 16777216 }
     ensures { Answers (λ x. run_over x.program x.schedule) result (run_in_input input.now) }
 {
-    let parts = parts_for(alloc, Subject::FirstPart, 2, input)?;
-    let program = program_for(alloc, Subject::FirstPart, parts.as_slice())?;
-    let texts = texts_for(Subject::FirstPart, parts.as_slice());
-    let schedule = schedule_in_texts(alloc, &program, texts)?;
+    let Prepared { program, texts } = prepare(alloc, Subject::FirstPart, 2, input)?;
+    let schedule = schedule_under(alloc, &program, texts[0], texts[1])?;
     Ok(InputRun { program, schedule })
 }

@@ -63,6 +63,7 @@ fn small_input(
     ensures fault { IfErr result IsNoRefusal }
 {
     let schedule = schedule_of(alloc, asked.seed, found.run, plan)?;
+    // What `shape` promises: the schedule keeps the rules of schedules.
     let _shape = schedule.shape();
     let kind = found.failure.kind();
     let alike = asked.wanted.with_only(kind);

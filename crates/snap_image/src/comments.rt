@@ -13,7 +13,7 @@ use snap_semantics::ImageRefusal;
 use std::alloc::Global;
 
 /// Reads a byte of a comment: any byte but the line feed.
-#[tactic(auto, unfolding(snap_image::specs::ImageListing::comment_byte_in))]
+#[tactic(auto, unfolding(crate::specs::ImageListing::comment_byte_in))]
 fn comment_byte(cursor: &mut Cursor<'_>) -> Result<u8, ImageRefusal>
     ensures { Reads result cursor.new (comment_byte_in cursor.old) }
 {
@@ -40,7 +40,7 @@ fn comment_bytes(alloc: Global, count: u64, cursor: &mut Cursor<'_>) -> Result<V
 }
 
 /// Reads a comment, which stands behind the number of its bytes.
-#[tactic(auto, unfolding(snap_image::specs::ImageListing::some_comment_in))]
+#[tactic(auto, unfolding(crate::specs::ImageListing::some_comment_in))]
 fn some_comment(alloc: Global, cursor: &mut Cursor<'_>) -> Result<Vec<u8>, ImageFault>
     ensures { Answers (λ bytes. (Some bytes.items, cursor.new)) result
         (some_comment_in cursor.old) }
@@ -50,7 +50,7 @@ fn some_comment(alloc: Global, cursor: &mut Cursor<'_>) -> Result<Vec<u8>, Image
 }
 
 /// Reads a comment, or that there is none.
-#[tactic(auto, unfolding(snap_image::specs::ImageListing::comment_in))]
+#[tactic(auto, unfolding(crate::specs::ImageListing::comment_in))]
 fn comment(alloc: Global, cursor: &mut Cursor<'_>) -> Result<Option<Vec<u8>>, ImageFault>
     ensures { Answers (λ c. (seen_comment c, cursor.new)) result (comment_in cursor.old) }
 {

@@ -12,7 +12,7 @@ use snap_listing_core::Header;
 use snap_semantics::{Comparison, Condition, ImageRefusal, Join, Relation};
 
 /// Reads a comparison.
-#[tactic(auto, unfolding(snap_image::specs::ImageForms::comparison_in))]
+#[tactic(auto, unfolding(crate::specs::ImageForms::comparison_in))]
 fn comparison(
     header: &Header,
     line: u64,
@@ -33,7 +33,7 @@ fn comparison(
 }
 
 /// Reads one comparison; the join before it, behind `at` bytes, has to be `and`.
-#[tactic(auto, unfolding(snap_image::specs::ImageForms::one_in))]
+#[tactic(auto, unfolding(crate::specs::ImageForms::one_in))]
 fn one(
     header: &Header,
     line: u64,
@@ -55,7 +55,7 @@ fn one(
 }
 
 /// Reads two comparisons.
-#[tactic(auto, unfolding(snap_image::specs::ImageForms::two_in))]
+#[tactic(auto, unfolding(crate::specs::ImageForms::two_in))]
 fn two(
     header: &Header,
     line: u64,
@@ -72,7 +72,7 @@ fn two(
 }
 
 /// Reads three comparisons.
-#[tactic(auto, unfolding(snap_image::specs::ImageForms::three_in))]
+#[tactic(auto, unfolding(crate::specs::ImageForms::three_in))]
 fn three(
     header: &Header,
     line: u64,
@@ -90,7 +90,7 @@ fn three(
 }
 
 /// Reads four comparisons.
-#[tactic(auto, unfolding(snap_image::specs::ImageForms::four_in))]
+#[tactic(auto, unfolding(crate::specs::ImageForms::four_in))]
 fn four(
     header: &Header,
     line: u64,
@@ -137,7 +137,7 @@ fn comparisons(
 /// # Errors
 ///
 /// The first reason why the bytes at the cursor are no condition.
-#[tactic(auto, unfolding(snap_image::specs::ImageForms::condition_in))]
+#[tactic(auto, unfolding(crate::specs::ImageForms::condition_in))]
 pub fn condition(
     header: &Header,
     line: u64,
@@ -154,7 +154,7 @@ pub fn condition(
 }
 
 /// Reads the condition if `flag` says that there is one.
-#[tactic(auto, unfolding(snap_image::specs::ImageForms::where_of_flag))]
+#[tactic(auto, unfolding(crate::specs::ImageForms::where_of_flag))]
 fn where_of_flag(
     header: &Header,
     line: u64,
@@ -177,7 +177,7 @@ fn where_of_flag(
 /// # Errors
 ///
 /// The first reason why the bytes at the cursor are no such part.
-#[tactic(auto, unfolding(snap_image::specs::ImageForms::where_in))]
+#[tactic(auto, unfolding(crate::specs::ImageForms::where_in))]
 pub fn optional_condition(
     header: &Header,
     line: u64,

@@ -33,7 +33,7 @@ fn targets(header: &Header, lines: &[Line]) -> Result<(), ListingRefusal>
 }
 
 /// Decodes `image`, or returns the first reason why it is no image of a listing.
-#[tactic(auto, unfolding(snap_image::specs::ImageListing::commented_in))]
+#[tactic(auto, unfolding(crate::specs::ImageListing::commented_in))]
 fn decoded(alloc: Global, image: &[u8]) -> Result<CommentedListing, ImageFault>
     ensures answer { Answers (λ l. l) result (commented_in image.now) }
     ensures opened { (e : ImageRefusal) → opened image.now ≡ Err e → result ≡ Err (Refused e) }

@@ -37,7 +37,7 @@ struct EarlierNames<'a> {
 }
 
 /// Reads the version.
-#[tactic(auto, unfolding(snap_image::specs::ImageListing::version_in))]
+#[tactic(auto, unfolding(crate::specs::ImageListing::version_in))]
 fn version(cursor: &mut Cursor<'_>) -> Result<ImageVersion, ImageRefusal>
     ensures { Reads result cursor.new (version_in cursor.old) }
 {
@@ -74,7 +74,7 @@ fn letters(count: usize, cursor: &mut Cursor<'_>) -> Result<Name, ImageRefusal>
 }
 
 /// Reads how long a name is, 1 to 8.
-#[tactic(auto, unfolding(snap_image::specs::ImageListing::length_in))]
+#[tactic(auto, unfolding(crate::specs::ImageListing::length_in))]
 fn name_length(cursor: &mut Cursor<'_>) -> Result<usize, ImageRefusal>
     ensures read { Reads result cursor.new (length_in cursor.old) }
     ensures short { IfOk result (λ count. count ≤ 8) }
@@ -110,7 +110,7 @@ fn checked_name(known: EarlierNames<'_>, names: &[Name], name: &Name) -> Result<
 }
 
 /// Reads a name behind its length, which is none of `known` and `names`.
-#[tactic(auto, unfolding(snap_image::specs::ImageListing::name_in))]
+#[tactic(auto, unfolding(crate::specs::ImageListing::name_in))]
 fn name(
     known: EarlierNames<'_>,
     names: &[Name],
@@ -155,7 +155,7 @@ fn checked_count(known: EarlierNames<'_>, count: u8) -> Result<(), ImageRefusal>
 }
 
 /// Reads the names of a sort behind their count, at most 32 with those before them.
-#[tactic(auto, unfolding(snap_image::specs::ImageListing::table_in))]
+#[tactic(auto, unfolding(crate::specs::ImageListing::table_in))]
 fn table(
     alloc: Global,
     known: EarlierNames<'_>,
@@ -219,7 +219,7 @@ fn words_table(
 }
 
 /// Reads how many lines there are, at most 200.
-#[tactic(auto, unfolding(snap_image::specs::ImageListing::line_count_in))]
+#[tactic(auto, unfolding(crate::specs::ImageListing::line_count_in))]
 fn line_count(cursor: &mut Cursor<'_>) -> Result<u64, ImageRefusal>
     ensures { Reads result cursor.new (line_count_in cursor.old) }
 {
@@ -238,7 +238,7 @@ fn line_count(cursor: &mut Cursor<'_>) -> Result<u64, ImageRefusal>
 ///
 /// `Refused` with the first reason why the bytes are no such beginning; `Memory` where memory runs
 /// out.
-#[tactic(auto, unfolding(snap_image::specs::ImageListing::head_in))]
+#[tactic(auto, unfolding(crate::specs::ImageListing::head_in))]
 pub fn head(
     alloc: Global,
     image: &[u8],

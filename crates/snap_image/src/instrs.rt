@@ -21,7 +21,7 @@ use snap_semantics::{BitBank, ImageRefusal, Instr, ListingRefusal, Range, Tuple}
 use snap_words::{Bank, KindTag};
 
 /// Reads `let X = E`.
-#[tactic(auto, unfolding(snap_image::specs::ImageInstrs::let_in))]
+#[tactic(auto, unfolding(crate::specs::ImageInstrs::let_in))]
 fn let_instr(header: &Header, line: u64, cursor: &mut Cursor<'_>) -> Result<Instr, ImageRefusal>
     ensures { Reads result cursor.new (let_in (header_source header.now) line cursor.old) }
 {
@@ -31,7 +31,7 @@ fn let_instr(header: &Header, line: u64, cursor: &mut Cursor<'_>) -> Result<Inst
 }
 
 /// Reads `let R[I] = E`.
-#[tactic(auto, unfolding(snap_image::specs::ImageInstrs::let_place_in))]
+#[tactic(auto, unfolding(crate::specs::ImageInstrs::let_place_in))]
 fn let_place_instr(
     header: &Header,
     line: u64,
@@ -46,7 +46,7 @@ fn let_place_instr(
 }
 
 /// Reads `get W[I] = r[J]`.
-#[tactic(auto, unfolding(snap_image::specs::ImageInstrs::get_in))]
+#[tactic(auto, unfolding(crate::specs::ImageInstrs::get_in))]
 fn get_instr(header: &Header, line: u64, cursor: &mut Cursor<'_>) -> Result<Instr, ImageRefusal>
     ensures { Reads result cursor.new (get_in (header_source header.now) line cursor.old) }
 {
@@ -57,7 +57,7 @@ fn get_instr(header: &Header, line: u64, cursor: &mut Cursor<'_>) -> Result<Inst
 }
 
 /// Reads `bit X = q[I,J]`.
-#[tactic(auto, unfolding(snap_image::specs::ImageInstrs::bit_in))]
+#[tactic(auto, unfolding(crate::specs::ImageInstrs::bit_in))]
 fn bit_instr(
     header: &Header,
     line: u64,
@@ -73,7 +73,7 @@ fn bit_instr(
 }
 
 /// Reads `look S = v[I]`.
-#[tactic(auto, unfolding(snap_image::specs::ImageInstrs::look_in))]
+#[tactic(auto, unfolding(crate::specs::ImageInstrs::look_in))]
 fn look_instr(header: &Header, line: u64, cursor: &mut Cursor<'_>) -> Result<Instr, ImageRefusal>
     ensures { Reads result cursor.new (look_in (header_source header.now) line cursor.old) }
 {
@@ -83,7 +83,7 @@ fn look_instr(header: &Header, line: u64, cursor: &mut Cursor<'_>) -> Result<Ins
 }
 
 /// Reads `put r[I] = (data, seq, S)`.
-#[tactic(auto, unfolding(snap_image::specs::ImageInstrs::put_seq_in))]
+#[tactic(auto, unfolding(crate::specs::ImageInstrs::put_seq_in))]
 fn put_seq_instr(header: &Header, line: u64, cursor: &mut Cursor<'_>) -> Result<Instr, ImageRefusal>
     ensures { Reads result cursor.new (put_seq_in (header_source header.now) line cursor.old) }
 {
@@ -95,7 +95,7 @@ fn put_seq_instr(header: &Header, line: u64, cursor: &mut Cursor<'_>) -> Result<
 }
 
 /// Reads `put r[I] = (data, R, toggle, S)`.
-#[tactic(auto, unfolding(snap_image::specs::ImageInstrs::put_bits_in))]
+#[tactic(auto, unfolding(crate::specs::ImageInstrs::put_bits_in))]
 fn put_bits_instr(
     header: &Header,
     line: u64,
@@ -112,7 +112,7 @@ fn put_bits_instr(
 }
 
 /// Reads `put r[I] = (data, id, toggle)`.
-#[tactic(auto, unfolding(snap_image::specs::ImageInstrs::put_multi_in))]
+#[tactic(auto, unfolding(crate::specs::ImageInstrs::put_multi_in))]
 fn put_multi_instr(
     header: &Header,
     line: u64,
@@ -128,7 +128,7 @@ fn put_multi_instr(
 }
 
 /// Reads `put q[I,J] = E`.
-#[tactic(auto, unfolding(snap_image::specs::ImageInstrs::put_bit_in))]
+#[tactic(auto, unfolding(crate::specs::ImageInstrs::put_bit_in))]
 fn put_bit_instr(
     header: &Header,
     line: u64,
@@ -144,7 +144,7 @@ fn put_bit_instr(
 }
 
 /// Reads `put v[I] = S`.
-#[tactic(auto, unfolding(snap_image::specs::ImageInstrs::put_view_in))]
+#[tactic(auto, unfolding(crate::specs::ImageInstrs::put_view_in))]
 fn put_view_instr(
     header: &Header,
     line: u64,
@@ -158,7 +158,7 @@ fn put_view_instr(
 }
 
 /// Reads `view S = data(W)`.
-#[tactic(auto, unfolding(snap_image::specs::ImageInstrs::view_data_in))]
+#[tactic(auto, unfolding(crate::specs::ImageInstrs::view_data_in))]
 fn view_data_instr(
     header: &Header,
     line: u64,
@@ -172,7 +172,7 @@ fn view_data_instr(
 }
 
 /// Reads `view S = view(W[I])`.
-#[tactic(auto, unfolding(snap_image::specs::ImageInstrs::view_of_in))]
+#[tactic(auto, unfolding(crate::specs::ImageInstrs::view_of_in))]
 fn view_of_instr(header: &Header, line: u64, cursor: &mut Cursor<'_>) -> Result<Instr, ImageRefusal>
     ensures { Reads result cursor.new (view_of_in (header_source header.now) line cursor.old) }
 {
@@ -183,7 +183,7 @@ fn view_of_instr(header: &Header, line: u64, cursor: &mut Cursor<'_>) -> Result<
 }
 
 /// Reads `each G: R[@] = E where C`.
-#[tactic(auto, unfolding(snap_image::specs::ImageInstrs::each_in))]
+#[tactic(auto, unfolding(crate::specs::ImageInstrs::each_in))]
 fn each_instr(header: &Header, line: u64, cursor: &mut Cursor<'_>) -> Result<Instr, ImageRefusal>
     ensures { Reads result cursor.new (each_in (header_source header.now) line cursor.old) }
 {
@@ -195,7 +195,7 @@ fn each_instr(header: &Header, line: u64, cursor: &mut Cursor<'_>) -> Result<Ins
 }
 
 /// Reads `first X G: C goto N`.
-#[tactic(auto, unfolding(snap_image::specs::ImageInstrs::first_in))]
+#[tactic(auto, unfolding(crate::specs::ImageInstrs::first_in))]
 fn first_instr(header: &Header, line: u64, cursor: &mut Cursor<'_>) -> Result<Instr, ImageRefusal>
     ensures { Reads result cursor.new (first_in (header_source header.now) line cursor.old) }
 {
@@ -207,7 +207,7 @@ fn first_instr(header: &Header, line: u64, cursor: &mut Cursor<'_>) -> Result<In
 }
 
 /// Reads `next X G goto N`.
-#[tactic(auto, unfolding(snap_image::specs::ImageInstrs::next_in))]
+#[tactic(auto, unfolding(crate::specs::ImageInstrs::next_in))]
 fn next_instr(header: &Header, line: u64, cursor: &mut Cursor<'_>) -> Result<Instr, ImageRefusal>
     ensures { Reads result cursor.new (next_in (header_source header.now) line cursor.old) }
 {
@@ -218,7 +218,7 @@ fn next_instr(header: &Header, line: u64, cursor: &mut Cursor<'_>) -> Result<Ins
 }
 
 /// Reads `if C goto N`.
-#[tactic(auto, unfolding(snap_image::specs::ImageInstrs::if_in))]
+#[tactic(auto, unfolding(crate::specs::ImageInstrs::if_in))]
 fn if_instr(header: &Header, line: u64, cursor: &mut Cursor<'_>) -> Result<Instr, ImageRefusal>
     ensures { Reads result cursor.new (if_in (header_source header.now) line cursor.old) }
 {
@@ -228,7 +228,7 @@ fn if_instr(header: &Header, line: u64, cursor: &mut Cursor<'_>) -> Result<Instr
 }
 
 /// Reads `if all G: C goto N`.
-#[tactic(auto, unfolding(snap_image::specs::ImageInstrs::if_all_in))]
+#[tactic(auto, unfolding(crate::specs::ImageInstrs::if_all_in))]
 fn if_all_instr(header: &Header, line: u64, cursor: &mut Cursor<'_>) -> Result<Instr, ImageRefusal>
     ensures { Reads result cursor.new (if_all_in (header_source header.now) line cursor.old) }
 {
@@ -239,7 +239,7 @@ fn if_all_instr(header: &Header, line: u64, cursor: &mut Cursor<'_>) -> Result<I
 }
 
 /// Reads `goto N`.
-#[tactic(auto, unfolding(snap_image::specs::ImageInstrs::goto_in))]
+#[tactic(auto, unfolding(crate::specs::ImageInstrs::goto_in))]
 fn goto_instr(cursor: &mut Cursor<'_>) -> Result<Instr, ImageRefusal>
     ensures { Reads result cursor.new (goto_in cursor.old) }
 {
@@ -248,7 +248,7 @@ fn goto_instr(cursor: &mut Cursor<'_>) -> Result<Instr, ImageRefusal>
 }
 
 /// Reads `call N`.
-#[tactic(auto, unfolding(snap_image::specs::ImageInstrs::call_in))]
+#[tactic(auto, unfolding(crate::specs::ImageInstrs::call_in))]
 fn call_instr(cursor: &mut Cursor<'_>) -> Result<Instr, ImageRefusal>
     ensures { Reads result cursor.new (call_in cursor.old) }
 {
@@ -257,7 +257,7 @@ fn call_instr(cursor: &mut Cursor<'_>) -> Result<Instr, ImageRefusal>
 }
 
 /// Reads `return S`.
-#[tactic(auto, unfolding(snap_image::specs::ImageInstrs::return_in))]
+#[tactic(auto, unfolding(crate::specs::ImageInstrs::return_in))]
 fn return_instr(header: &Header, line: u64, cursor: &mut Cursor<'_>) -> Result<Instr, ImageRefusal>
     ensures { Reads result cursor.new (return_in (header_source header.now) line cursor.old) }
 {
@@ -282,7 +282,7 @@ fn has_form(kind: KindTag, form: InstrTag) -> bool
 }
 
 /// Checks that the kind has the registers and fields that a form needs.
-#[tactic(auto, using(crate::proofs::FormUses::form_allowed))]
+#[tactic(auto, using(crate::proofs::FormNeeds::form_allowed))]
 fn checked_form(header: &Header, line: u64, form: InstrTag) -> Result<(), ImageRefusal>
     ensures { result ≡ allowed (header_source header.now) line (form_uses form) }
 {
@@ -335,7 +335,7 @@ fn operands(
 /// # Errors
 ///
 /// The first reason why the bytes at the cursor are no instruction of a listing with this header.
-#[tactic(auto, unfolding(snap_image::specs::ImageInstrs::instr_in))]
+#[tactic(auto, unfolding(crate::specs::ImageInstrs::instr_in))]
 pub fn instr(header: &Header, line: u64, cursor: &mut Cursor<'_>) -> Result<Instr, ImageRefusal>
     ensures { Reads result cursor.new (instr_in (header_source header.now) line cursor.old) }
 {

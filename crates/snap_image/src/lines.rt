@@ -56,7 +56,7 @@ fn checked_number(
 }
 
 /// Reads line `line`, counted from 1, behind line number `last`.
-#[tactic(auto, unfolding(snap_image::specs::ImageListing::line_in))]
+#[tactic(auto, unfolding(crate::specs::ImageListing::line_in))]
 fn line_at(
     header: &Header,
     version: ImageVersion,

@@ -17,7 +17,7 @@ use snap_semantics::{Expr, ImageRefusal, Index, ListingRefusal, Term};
 use snap_words::Field;
 
 /// Reads a number as an index.
-#[tactic(auto, unfolding(snap_image::specs::ImageForms::number_index))]
+#[tactic(auto, unfolding(crate::specs::ImageForms::number_index))]
 fn number_index(cursor: &mut Cursor<'_>) -> Result<Index, ImageRefusal>
     ensures { Reads result cursor.new (number_index cursor.old) }
 {
@@ -26,7 +26,7 @@ fn number_index(cursor: &mut Cursor<'_>) -> Result<Index, ImageRefusal>
 }
 
 /// Reads a scalar as an index.
-#[tactic(auto, unfolding(snap_image::specs::ImageForms::scalar_index))]
+#[tactic(auto, unfolding(crate::specs::ImageForms::scalar_index))]
 fn scalar_index(header: &Header, line: u64, cursor: &mut Cursor<'_>) -> Result<Index, ImageRefusal>
     ensures { Reads result cursor.new (scalar_index (header_source header.now) line cursor.old) }
 {
@@ -70,7 +70,7 @@ fn index_of_tag(
 /// # Errors
 ///
 /// The first reason why the bytes at the cursor are no index.
-#[tactic(auto, unfolding(snap_image::specs::ImageForms::index_in))]
+#[tactic(auto, unfolding(crate::specs::ImageForms::index_in))]
 pub fn index(
     header: &Header,
     line: u64,
@@ -86,7 +86,7 @@ pub fn index(
 }
 
 /// Reads a place of a row.
-#[tactic(auto, unfolding(snap_image::specs::ImageForms::row_term))]
+#[tactic(auto, unfolding(crate::specs::ImageForms::row_term))]
 fn row_term(
     header: &Header,
     line: u64,
@@ -124,7 +124,7 @@ fn checked_handshakes(header: &Header, line: u64) -> Result<(), ImageRefusal>
 }
 
 /// Reads a field of a word.
-#[tactic(auto, unfolding(snap_image::specs::ImageForms::field_term))]
+#[tactic(auto, unfolding(crate::specs::ImageForms::field_term))]
 fn field_term(
     header: &Header,
     line: u64,
@@ -142,7 +142,7 @@ fn field_term(
 }
 
 /// Reads a handshake bit of a word.
-#[tactic(auto, unfolding(snap_image::specs::ImageForms::handshake_term))]
+#[tactic(auto, unfolding(crate::specs::ImageForms::handshake_term))]
 fn handshake_term(
     header: &Header,
     line: u64,
@@ -160,7 +160,7 @@ fn handshake_term(
 }
 
 /// Reads an index as a term.
-#[tactic(auto, unfolding(snap_image::specs::ImageForms::index_term))]
+#[tactic(auto, unfolding(crate::specs::ImageForms::index_term))]
 fn index_term(
     header: &Header,
     line: u64,
@@ -211,7 +211,7 @@ fn term_of_tag(
 /// # Errors
 ///
 /// The first reason why the bytes at the cursor are no term.
-#[tactic(auto, unfolding(snap_image::specs::ImageForms::term_in))]
+#[tactic(auto, unfolding(crate::specs::ImageForms::term_in))]
 pub fn term(
     header: &Header,
     line: u64,
@@ -227,7 +227,7 @@ pub fn term(
 }
 
 /// Reads a term as an expression.
-#[tactic(auto, unfolding(snap_image::specs::ImageForms::plain_expr))]
+#[tactic(auto, unfolding(crate::specs::ImageForms::plain_expr))]
 fn plain_expr(
     header: &Header,
     line: u64,
@@ -242,7 +242,7 @@ fn plain_expr(
 }
 
 /// Reads a sum.
-#[tactic(auto, unfolding(snap_image::specs::ImageForms::sum_expr))]
+#[tactic(auto, unfolding(crate::specs::ImageForms::sum_expr))]
 fn sum_expr(
     header: &Header,
     line: u64,
@@ -258,7 +258,7 @@ fn sum_expr(
 }
 
 /// Reads a negation.
-#[tactic(auto, unfolding(snap_image::specs::ImageForms::not_expr))]
+#[tactic(auto, unfolding(crate::specs::ImageForms::not_expr))]
 fn not_expr(
     header: &Header,
     line: u64,
@@ -277,7 +277,7 @@ fn not_expr(
 /// # Errors
 ///
 /// The first reason why the bytes at the cursor are no expression.
-#[tactic(auto, unfolding(snap_image::specs::ImageForms::expr_in))]
+#[tactic(auto, unfolding(crate::specs::ImageForms::expr_in))]
 pub fn expr(
     header: &Header,
     line: u64,

@@ -4,5 +4,4 @@ pub mod Loads
 pub mod Parting
 pub mod Splits
 pub mod Without
-pub mod ManySchedules
 pub mod SideBySide

@@ -1,4 +1,5 @@
--- `parted`: a task on the listing that an input has or that is shipped, and on a number of texts after it.
+-- `parted`: a task on the listing that an input has or that is shipped, and on a number of texts after it; `prepared`:
+-- what such a task works on.
 use Rattle.std.specs.Prelude.{ℕ, nat_eq, List, length, drop, Result, Ok, Err, if◌then◌else◌}
 use Rattle.snap_semantics.specs.declared.refusal.Refusal.{Refusal}
 use Rattle.snap_semantics.specs.declared.refusal.Refusal.TheVariants as refusal
@@ -28,6 +29,18 @@ checked_parts s count parts =
 -- the parts, where there are so many
 abbrev pub counted_parts : Subject → (count : ℕ) → List (List ℕ) → Result (List (List ℕ)) Refusal
 counted_parts s count parts = checked_parts s count parts >>= λ there. Ok parts
+
+-- what a task works on: a listing, and the texts behind it
+pub record Prepared : Type 0 where
+  pub source : Source
+  pub texts : List (List ℕ)
+
+abbrev pub prepared_parts : Subject → List (List ℕ) → Result Prepared Refusal
+prepared_parts s parts = listing_for s parts >>= λ l. Ok (record { source = l; texts = texts_for s parts })
+
+-- what a task on so many texts works on, or the first reason why it has nothing to work on
+unfoldable pub prepared : Subject → (count : ℕ) → List (List ℕ) → Result Prepared Refusal
+prepared s count parts = checked_parts s count parts >>= λ there. prepared_parts s parts
 
 -- a task on a listing and so many texts
 unfoldable pub parted : {A : Type 0} → Subject → (count : ℕ) → List (List ℕ) →

@@ -1,12 +1,12 @@
 -- `schedules_for`: the schedules that many texts are; `over_schedules`: a task on an input's listing and the 1 to
--- 4,096 schedules behind it.
+-- 4,096 schedules behind it; `prepared_schedules`: what such a task works on.
 use Rattle.std.specs.Prelude.{ℕ, ◌&&◌, nat_le, nat_lt, List, [], ◌∷◌, length, Result, Ok, Err, if◌then◌else◌}
 use Rattle.snap_semantics.specs.declared.refusal.Refusal.{Refusal}
 use Rattle.snap_semantics.specs.declared.refusal.Refusal.TheVariants as refusal
 use Rattle.snap_semantics.specs.Answers.{◌>>=◌}
 use Rattle.snap_semantics.specs.Schedule.{Schedule}
 use Rattle.snap_semantics.specs.Source.{Source}
-use Rattle.snap_input.specs.Input.{listing_for, texts_for}
+use Rattle.snap_input.specs.Input.{Prepared, listing_for, prepared_parts, texts_for}
 use Rattle.snap_input.specs.Schedules.{schedule_for}
 use Rattle.snap_tasks.specs.declared.subject.Subject.{Subject}
 
@@ -20,6 +20,10 @@ abbrev pub checked_schedules : Subject → List (List ℕ) → Result (Unit {0})
 checked_schedules s parts =
     if nat_lt 0 (length (texts_for s parts)) && nat_le (length (texts_for s parts)) 4096 then Ok tt
     else Err (refusal.WrongParts (length parts))
+
+-- what a task on 1 to 4,096 schedules works on, or the first reason why it has nothing to work on
+unfoldable pub prepared_schedules : Subject → List (List ℕ) → Result Prepared Refusal
+prepared_schedules s parts = checked_schedules s parts >>= λ there. prepared_parts s parts
 
 -- what is said of a listing and its 1 to 4,096 schedules
 abbrev pub over_schedules : {A : Type 0} → Subject → List (List ℕ) →

@@ -3,7 +3,8 @@ ghost use Rattle.std.specs.Prelude.{◌≡◌, ◌≤◌, length};
 ghost use Rattle.snap_input.specs.Parts.{max_input, parts_of};
 ghost use Rattle.snap_input.specs.ManySchedules.{checked_schedules};
 
-use crate::{count_separators, count_texts};
+use crate::part_counts::count_texts;
+use crate::parts::count_separators;
 use snap_semantics::Refusal;
 use snap_tasks::Subject;
 

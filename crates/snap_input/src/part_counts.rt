@@ -1,6 +1,6 @@
 //! `parts_for`: the parts of an input, once they are counted: the listing, if it is not a shipped
 //! one, and the texts after it.
-ghost use Rattle.std.specs.Prelude.{◌≡◌, ◌≤◌, ◌<◌, ℕ, List, Err, length, map};
+ghost use Rattle.std.specs.Prelude.{◌≡◌, ◌≤◌, ◌<◌, ℕ, List, Err, IfOk, length, map};
 ghost use Rattle.snap_semantics.specs.Answers.{Answers};
 ghost use Rattle.snap_semantics.specs.declared.fault.Fault.TheVariants.{Refused};
 ghost use Rattle.snap_semantics.specs.declared.refusal.Refusal.{Refusal};
@@ -29,7 +29,8 @@ pub fn count_texts(subject: Subject, parts: usize) -> usize
 /// Checks that `count` texts stand behind the listing.
 fn check_parts(subject: Subject, count: usize, input: &[u8]) -> Result<(), Refusal>
     requires { length input.now ≤ max_input }
-    ensures { result ≡ checked_parts subject count (parts_of input.now) }
+    ensures checked { result ≡ checked_parts subject count (parts_of input.now) }
+    ensures some { 0 < length (parts_of input.now) }
 {
     let found = count_separators(input) + 1;
     if count_texts(subject, found) == count {
@@ -57,6 +58,7 @@ pub fn parts_for(
         (counted_parts subject count (parts_of input.now)) }
     ensures counted { (r : Refusal) → checked_parts subject count (parts_of input.now) ≡ Err r →
         result ≡ Err (Refused r) }
+    ensures some { IfOk result (λ parts. 0 < length parts.items) }
 {
     check_parts(subject, count, input)?;
     Ok(split_parts(alloc, input)?)

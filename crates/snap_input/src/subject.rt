@@ -1,8 +1,8 @@
 //! `program_for`: the program of the listing that a task runs, from the input's first part or
-//! shipped; and the texts after that part.
+//! shipped.
 ghost use Rattle.std.specs.Prelude.{◌≡◌, ◌<◌, IfOk, length, map};
 ghost use Rattle.snap_semantics.specs.Answers.{Answers};
-ghost use Rattle.snap_input.specs.Input.{listing_for, texts_for};
+ghost use Rattle.snap_input.specs.Input.{listing_for};
 ghost use Rattle.snap_shipped.specs.Shipped.{shipped};
 ghost use Rattle.snap_tasks.specs.declared.subject.Subject.TheVariants.{FirstPart};
 
@@ -10,7 +10,7 @@ use crate::images::program_of;
 use snap_asm::load_listing;
 use snap_asm_program::Program;
 use snap_semantics::{Fault, Refusal};
-use snap_shipped::{listing_b, listing_m, listing_u};
+use snap_shipped::shipped_listing;
 use snap_tasks::Subject;
 use snap_words::KindTag;
 use std::alloc::{AllocError, Global};
@@ -23,12 +23,7 @@ use std::alloc::{AllocError, Global};
 pub fn shipped(alloc: Global, kind: KindTag) -> Result<Program, AllocError>
     ensures { IfOk result (λ p. p ≡ shipped kind) }
 {
-    let listing = match kind {
-        KindTag::Seq => listing_u(alloc)?,
-        KindTag::Bits => listing_b(alloc)?,
-        KindTag::Multi => listing_m(alloc)?,
-    };
-    load_listing(alloc, listing)
+    load_listing(alloc, shipped_listing(alloc, kind)?)
 }
 
 /// Returns the program that a task runs.
@@ -48,17 +43,5 @@ pub fn program_for(
     match subject {
         Subject::FirstPart => program_of(alloc, parts[0]),
         Subject::Shipped(kind) => Ok(shipped(alloc, kind)?),
-    }
-}
-
-/// Returns the parts behind the listing.
-pub fn texts_for<'a, 'b>(subject: Subject, parts: &'a [&'b [u8]]) -> &'a [&'b [u8]]
-    requires { subject ≡ FirstPart → 0 < length parts.now }
-    ensures { map (λ part. part.now) result.now
-        ≡ texts_for subject (map (λ part. part.now) parts.now) }
-{
-    match subject {
-        Subject::FirstPart => &parts[1..],
-        Subject::Shipped(_) => parts,
     }
 }

@@ -12,7 +12,7 @@ ghost use Rattle.snap_run_judge.specs.RunHistory.{history_of};
 ghost use Rattle.snap_judge_task.specs.Judged.{history_in, history_of_texts, run_history};
 
 use snap_asm_program::Program;
-use snap_input::{MAX_INPUT, parts_for, program_for, schedule_for, texts_for};
+use snap_input::{MAX_INPUT, prepare, schedule_for};
 use snap_judge::History;
 use snap_record::record_over;
 use snap_run_judge::{has_history, history_of};
@@ -64,22 +64,8 @@ fn run_history(alloc: Global, program: &Program, schedule: &[u8]) -> Result<Hist
     }
 }
 
-/// Returns the history of the run under the schedule of the first text.
-fn history_of_texts(
-    alloc: Global,
-    program: &Program,
-    texts: &[&[u8]],
-) -> Result<History, Fault<Refusal>>
-    requires { 0 < length texts.now }
-    ensures value { Answers (λ h. h) result
-        (history_of_texts program.now (map (λ text. text.now) texts.now)) }
-    ensures history { IfOk result (λ h. IsHistory h) }
-{
-    run_history(alloc, program, texts[0])
-}
-
 /// Returns the history of the run of the parts of an input.
-#[tactic(auto, unfolding(snap_input::specs::Input::parted))]
+#[tactic(auto, unfolding(snap_input::specs::Input::parted, snap_input::specs::Input::prepared))]
 fn history_for(alloc: Global, subject: Subject, input: &[u8]) -> Result<History, Fault<Refusal>>
     requires { length input.now ≤ max_input }
     ensures value { Answers (λ h. h) result
@@ -88,10 +74,8 @@ fn history_for(alloc: Global, subject: Subject, input: &[u8]) -> Result<History,
     ensures counted { (r : Refusal) → checked_parts subject 1 (parts_of input.now) ≡ Err r →
         result ≡ Err (Refused r) }
 {
-    let parts = parts_for(alloc, subject, 1, input)?;
-    let program = program_for(alloc, subject, parts.as_slice())?;
-    let texts = texts_for(subject, parts.as_slice());
-    history_of_texts(alloc, &program, texts)
+    let given = prepare(alloc, subject, 1, input)?;
+    run_history(alloc, &given.program, given.texts[0])
 }
 
 /// Returns the history of the run of `input`: of its listing, or the shipped one, under the

@@ -303,7 +303,8 @@ fn then_first(found: Option<(u32, Stop)>, process: u32, stop: Option<Stop>) -> O
 ///
 /// # Errors
 ///
-/// `Memory` where memory runs out, or no thread could be started.
+/// `Refused` with `TurnLimit` where `gate` stops a process or a process has no turn left, and with
+/// `Full` where the record has no room; `Memory` where memory runs out or no thread can be started.
 pub fn run_live<K: Kind, G: Gate, R: Threads + Wait + Sync>(
     rt: &R,
     alloc: Global,
@@ -327,6 +328,7 @@ pub fn run_live<K: Kind, G: Gate, R: Threads + Wait + Sync>(
     let Ok(kept) = close(desk, seats) else {
         unreachable!()
     };
+    // What `items` promises: the run of the record is a valid one.
     let _items = kept.items();
     match stop {
         None => Ok(LiveRun { kept, turns }),

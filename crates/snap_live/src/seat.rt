@@ -120,6 +120,7 @@ fn one_turn<K: Kind, R: Wait>(
             Err(RecordFault::Full)
         }
         Err(RecordFault::Memory) => {
+            // What `items` promises: the run of the record is a valid one.
             let _items = history.record().items();
             give(shared, table_seat, history);
             serve(shared, table_seat, ticket);

@@ -11,7 +11,7 @@ ghost use Rattle.snap_input.specs.Input.{checked_parts};
 ghost use Rattle.snap_input.specs.Parts.{max_input, parts_of};
 
 use snap_asm_program::Program;
-use snap_input::{MAX_INPUT, fits, parts_for, program_for, texts_for};
+use snap_input::{MAX_INPUT, Prepared, fits, prepare};
 use snap_sched::Scripts;
 use snap_semantics::{Fault, Refusal};
 use snap_tasks::Subject;
@@ -56,6 +56,7 @@ impl Setup {
         ensures scripts { result.now ≡ self.now.scripts }
         ensures there { AreScripts self.now.scripts }
     {
+        // What `shape` promises: the scripts keep the rules of scripts.
         let _shape = self.scripts.shape();
         &self.scripts
     }
@@ -91,17 +92,15 @@ fn setup_texts(alloc: Global, program: Program, texts: &[&[u8]]) -> Result<Setup
 }
 
 /// Returns what the parts of an input say to play.
-#[tactic(auto, unfolding(snap_input::specs::Input::parted))]
+#[tactic(auto, unfolding(snap_input::specs::Input::parted, snap_input::specs::Input::prepared))]
 fn setup_for(alloc: Global, subject: Subject, input: &[u8]) -> Result<Setup, Fault<Refusal>>
     requires { length input.now ≤ max_input }
     ensures setup { Answers (λ s. s) result (setup_for subject (parts_of input.now)) }
     ensures counted { (r : Refusal) → checked_parts subject 1 (parts_of input.now) ≡ Err r →
         result ≡ Err (Refused r) }
 {
-    let parts = parts_for(alloc, subject, 1, input)?;
-    let program = program_for(alloc, subject, parts.as_slice())?;
-    let texts = texts_for(subject, parts.as_slice());
-    setup_texts(alloc, program, texts)
+    let Prepared { program, texts } = prepare(alloc, subject, 1, input)?;
+    setup_texts(alloc, program, texts.as_slice())
 }
 
 /// Returns what `input` says to play: a listing, or the shipped one, and scripts.

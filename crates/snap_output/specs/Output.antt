@@ -1,6 +1,7 @@
 -- `output_of`: what the program writes for an input, for each task (`run`, `debug`, `audit`, `batch`, `survey`, ..),
--- or why it refuses; and what is judged for it.
-use Rattle.std.specs.Prelude.{◌≡◌, ℕ, Bool, nat_lt, List, [], length, Result, Ok, Err, codes, if◌then◌else◌}
+-- or why it refuses; and what is judged for it. `clean_of`: whether all runs that are surveyed are clean.
+use Rattle.std.specs.Prelude.{◌≡◌, ℕ, Bool, true, nat_lt, List, [], length, Result, Ok, Err, codes, if◌then◌else◌}
+use Rattle.snap_semantics.specs.declared.fault.Fault.{Fault}
 use Rattle.snap_semantics.specs.declared.refusal.Refusal.{Refusal}
 use Rattle.snap_semantics.specs.declared.refusal.Refusal.TheVariants as refusal
 use Rattle.snap_semantics.specs.Answers.{refused_as}
@@ -10,7 +11,8 @@ use Rattle.snap_judge.specs.declared.judgements.Judgement.{Judgement}
 use Rattle.snap_certify.specs.Output.{WasJudgedIn, certificates_text}
 use Rattle.snap_lint.specs.Check.{check_of}
 use Rattle.snap_lint.specs.Lint.{lint_of}
-use Rattle.snap_survey.specs.Surveys.{WereJudgedIn, clean_runs, surveyed}
+use Rattle.snap_survey.specs.Surveys.{AnswersSurvey, WereJudgedIn, clean_runs, surveyed}
+use Rattle.snap_survey.specs.declared.survey_output.Output.{Output}
 use Rattle.snap_output.specs.Traces.{traces_text}
 use Rattle.snap_input.specs.Input.{parted}
 use Rattle.snap_input.specs.Parts.{part, parts_of, max_input}
@@ -44,10 +46,11 @@ unfoldable pub output_of : List Judgement → Task → List ℕ → Result (List
 output_of judged task input =
     if nat_lt max_input (length input) then Err refusal.InputTooLong else of_task judged task input
 
--- whether all runs that a survey of an input is of are clean, or its refusal
-unfoldable pub clean_of : List Judgement → Subject → List ℕ → Result Bool Refusal
-clean_of judged s input =
+-- whether all runs that a survey of an input is of are clean, or its refusal; of other tasks no more is told
+unfoldable pub clean_of : List Judgement → Task → List ℕ → Result Bool Refusal
+clean_of judged (task.Survey s) input =
     if nat_lt max_input (length input) then Err refusal.InputTooLong else clean_runs judged s (parts_of input)
+clean_of judged _ input = Ok true
 
 -- What was judged for a task on an input: the run that is to be certified, each run that is surveyed, and for other
 -- tasks nothing.
@@ -55,6 +58,12 @@ abbrev pub AreJudged : Task → List ℕ → List Judgement → Type 0
 AreJudged (task.Certify s) input judged = WasJudgedIn s (parts_of input) judged
 AreJudged (task.Survey s) input judged = WereJudgedIn s (parts_of input) judged
 AreJudged _ input judged = judged ≡ []
+
+-- What is answered with a status: the output, and whether all runs that are surveyed are clean, both of the same
+-- judgements; a refusal comes before anything is judged, and a want of memory may stand in place of both.
+abbrev pub AnswersOutput : Task → List ℕ → Result Output (Fault Refusal) → Type 0
+AnswersOutput t input result =
+    AnswersSurvey (AreJudged t input) result (λ judged. output_of judged t input) (λ judged. clean_of judged t input)
 
 -- What is answered for a task on an input: its output, of judgements that say what is so, or its refusal.
 abbrev pub IsAnswerTo : Task → List ℕ → Result (List ℕ) Refusal → Type 0

@@ -1,5 +1,5 @@
-//! `batch_program`: what the task `batch` writes, the report of the end of each of many schedules of
-//! one listing. The schedules are read and run one after another or side by side.
+//! `batch_program`: what the task `batch` writes, the report of the end of each of many schedules
+//! of one listing. The schedules are read and run one after another or side by side.
 ghost use Rattle.std.specs.Prelude.{◌≡◌, ◌<◌, ◌^◌, Ok, IfOk, length, map};
 ghost use Rattle.snap_text.specs.Drafted.{Adds};
 ghost use Rattle.snap_semantics.specs.Answers.{Answers};

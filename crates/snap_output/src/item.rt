@@ -190,7 +190,8 @@ pub(crate) fn push_item<K: Kind>(
 {
     let i = who(item);
     let run = line_run(item, machine.status(i));
-    // As many processes as the shape has, and rules that say that the names of locals are words.
+    // What `shape` and `lines` promise: there are as many processes as the shape has, and the
+    // listing keeps the rules of listings.
     let _shape = machine.shape();
     let _lines = machine.program().listing().lines();
     let place = machine.overwritten(item)?.write_place();

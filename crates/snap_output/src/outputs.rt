@@ -8,8 +8,7 @@ ghost use Rattle.snap_input.specs.Parts.{max_input, parts_of};
 ghost use Rattle.snap_output.specs.RunOutput.{end_text};
 ghost use Rattle.snap_output.specs.AtOnce.{found_at_once};
 ghost use Rattle.snap_run_judge.specs.Judged.{AnswersJudged};
-ghost use Rattle.snap_survey.specs.Surveys.{AnswersSurvey};
-ghost use Rattle.snap_output.specs.Output.{AreJudged, clean_of, output_of, run_text};
+ghost use Rattle.snap_output.specs.Output.{AnswersOutput, AreJudged, output_of, run_text};
 ghost use Rattle.snap_tasks.specs.declared.task.Task.TheVariants.{Run, Survey};
 
 use crate::debug_task::debug;
@@ -20,7 +19,7 @@ use snap_certify::certify_input;
 use snap_input::{MAX_INPUT, assemble, list, upgrade};
 use snap_lint::{check_of, lint_of};
 use snap_semantics::{Fault, Refusal};
-use snap_survey::{SurveyOutput, survey_in_threads, survey_input};
+use snap_survey::{Output, survey_in_threads, survey_input};
 use snap_tasks::{Subject, Task};
 use std::alloc::Global;
 use std::thread::Threads;
@@ -46,31 +45,6 @@ fn plan(alloc: Global, subject: Subject, input: &[u8]) -> Result<PlannedRun, Fau
         result ≡ Err (Refused r) }
 {
     crate::inputs::plan_input(alloc, subject, input)
-}
-
-/// Returns the output for `input`, which is surveyed, and whether each of its runs is clean. The
-/// schedules are read and run side by side.
-///
-/// # Errors
-///
-/// `Refused` with the reason why `input` is refused; `Memory` where memory runs out.
-#[tactic(auto, using(crate::proofs::AtOnce::of_why), unfolding(crate::specs::Output::output_of, crate::specs::Output::clean_of))]
-pub fn survey_output(
-    rt: &(impl Threads + Sync),
-    alloc: Global,
-    subject: Subject,
-    input: &[u8],
-) -> Result<SurveyOutput, Fault<Refusal>>
-    ensures output { AnswersSurvey (AreJudged (Survey subject) input.now) result
-        (λ judged. output_of judged (Survey subject) input.now)
-        (λ judged. clean_of judged subject input.now) }
-    ensures at_once { (r : Refusal) → found_at_once (Survey subject) input.now ≡ Some r →
-        result ≡ Err (Refused r) }
-{
-    if input.len() > MAX_INPUT {
-        return Err(Fault::Refused(Refusal::InputTooLong));
-    }
-    survey_in_threads(rt, alloc, subject, input)
 }
 
 /// Returns the program and the schedule of `input`. `run_planned` writes of them what `output`
@@ -127,15 +101,30 @@ pub fn output_alone(alloc: Global, task: &Task, input: &[u8]) -> Result<Vec<u8>,
     }
 }
 
-/// Returns the whole output for `input`, with the schedules of a batch or a survey read and run
-/// side by side. A batch that has a fault there is made once more in one thread, which finds the
-/// first fault, and takes less memory.
-///
-/// # Errors
-///
-/// `Refused` with the reason why `input` is refused; `Memory` where memory runs out.
+/// Returns the output for `input`, which is surveyed, and whether each of its runs is clean. The
+/// schedules are read and run side by side.
+#[tactic(auto, using(crate::proofs::AtOnce::of_why), unfolding(crate::specs::Output::output_of, crate::specs::Output::clean_of))]
+fn survey_output(
+    rt: &(impl Threads + Sync),
+    alloc: Global,
+    subject: Subject,
+    input: &[u8],
+) -> Result<Output, Fault<Refusal>>
+    ensures output { AnswersOutput (Survey subject) input.now result }
+    ensures at_once { (r : Refusal) → found_at_once (Survey subject) input.now ≡ Some r →
+        result ≡ Err (Refused r) }
+{
+    if input.len() > MAX_INPUT {
+        return Err(Fault::Refused(Refusal::InputTooLong));
+    }
+    survey_in_threads(rt, alloc, subject, input)
+}
+
+/// Returns the text for `input`, with the schedules of a batch read and run side by side. A batch
+/// that has a fault there is made once more in one thread, which finds the first fault, and takes
+/// less memory.
 #[tactic(auto, using(crate::proofs::AtOnce::of_why), unfolding(crate::specs::Output::output_of))]
-pub fn output(
+fn text_of(
     rt: &(impl Threads + Sync),
     alloc: Global,
     task: &Task,
@@ -153,7 +142,32 @@ pub fn output(
                 Err(_) => output_alone(alloc, task, input),
             }
         }
-        Task::Survey(subject) => Ok(survey_output(rt, alloc, subject, input)?.text),
         _ => output_alone(alloc, task, input),
+    }
+}
+
+/// Returns the whole output for `input`, with the schedules of a batch or a survey read and run
+/// side by side; and whether all runs that are surveyed are clean.
+///
+/// # Errors
+///
+/// `Refused` with the reason why `input` is refused; `Memory` where memory runs out.
+#[tactic(auto, unfolding(crate::specs::Output::clean_of))]
+pub fn output(
+    rt: &(impl Threads + Sync),
+    alloc: Global,
+    task: &Task,
+    input: &[u8],
+) -> Result<Output, Fault<Refusal>>
+    ensures output { AnswersOutput task.now input.now result }
+    ensures at_once { (r : Refusal) → found_at_once task.now input.now ≡ Some r →
+        result ≡ Err (Refused r) }
+{
+    match *task {
+        Task::Survey(subject) => survey_output(rt, alloc, subject, input),
+        _ => {
+            let text = text_of(rt, alloc, task, input)?;
+            Ok(Output { text, clean: true })
+        }
     }
 }

@@ -8,6 +8,7 @@ use Rattle.snap_semantics.specs.declared.refusal.Refusal.TheVariants.{Listing}
 use Rattle.snap_faults.specs.RefusalText.{numbered, refusal_text}
 use Rattle.snap_page.specs.Answer.{page_configurations}
 use Rattle.snap_picture.specs.Picture.{FailsUnder, IsPictureBy, picture_of}
+use Rattle.snap_picture.specs.ShapeLines.{told_of}
 use Rattle.snap_picture.specs.declared.options.Options.{Options}
 use Rattle.snap_picture.specs.declared.refusal.PictureRefusal.{PictureRefusal}
 use Rattle.snap_picture.specs.declared.refusal.PictureRefusal.TheVariants as refusal
@@ -39,6 +40,13 @@ abbrev pub IsDrawn : (listing schedule : List ℕ) → (from to : ℕ) → (styl
     Result (List ℕ) PictureRefusal → Type 0
 IsDrawn listing schedule from to style legend picture =
     IsPictureBy (FailsOver listing schedule) (drawn listing schedule from to style legend) picture
+
+-- what a picture draws of a listing's run under a schedule, from one item to another, a line a shape, or the first reason
+-- why it draws nothing
+abbrev pub told : (listing schedule : List ℕ) → (from to : ℕ) → Result (List ℕ) PictureRefusal
+told listing schedule from to = do
+  l ← drawn_listing listing
+  told_of l schedule (options_from from to)
 
 abbrev pub picture_refusal_text : PictureRefusal → List ℕ
 picture_refusal_text (refusal.Input r) = refusal_text r

@@ -18,7 +18,7 @@ use std::alloc::Global;
 pub(crate) const PAGE_CONFIGURATIONS: u64 = 100_000;
 
 /// Returns what is judged: the run of this listing.
-fn judge_request(subject: Subject) -> JudgeRequest
+pub(crate) fn judge_request(subject: Subject) -> JudgeRequest
     ensures { result ≡ judge_request subject }
 {
     JudgeRequest {

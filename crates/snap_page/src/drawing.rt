@@ -5,14 +5,14 @@ ghost use Rattle.snap_semantics.specs.Answers.{Answers};
 ghost use Rattle.snap_picture.specs.Picture.{AnswersPicture};
 ghost use Rattle.snap_picture.specs.declared.refusal.PictureRefusal.{PictureRefusal};
 ghost use Rattle.snap_page.specs.Picture.{FailsOver, drawn, drawn_code, drawn_listing, drawn_text};
-ghost use Rattle.snap_page.specs.Picture.{picture_refusal_line};
+ghost use Rattle.snap_page.specs.Picture.{options_from, picture_refusal_line, told};
 
 use crate::answering::PAGE_CONFIGURATIONS;
 use crate::handed::{Handed, handed_line, handed_refusal, handed_text};
 use itoa::Buffer;
 use snap_asm_program::Program;
 use snap_input::program_of;
-use snap_picture::{Look, Options, PictureRefusal, picture};
+use snap_picture::{Look, Options, PictureRefusal, picture, told_shapes};
 use snap_semantics::Fault;
 use std::alloc::Global;
 
@@ -24,6 +24,18 @@ fn drawn_program(alloc: Global, listing: &[u8]) -> Result<Program, Fault<Picture
         Ok(program) => Ok(program),
         Err(Fault::Memory) => Err(Fault::Memory),
         Err(Fault::Refused(refusal)) => Err(Fault::Refused(PictureRefusal::Input(refusal))),
+    }
+}
+
+/// Returns the items from `from` to `to`, as a picture takes them.
+fn options_from(from: u64, to: u64) -> Options
+    ensures { result ≡ options_from from to }
+{
+    Options {
+        from: Some(from),
+        to: Some(to),
+        reads: false,
+        most: PAGE_CONFIGURATIONS as usize,
     }
 }
 
@@ -44,13 +56,26 @@ pub fn drawn(
         (drawn listing.now schedule.now from to look.now.style.now look.now.legend.now) }
 {
     let program = drawn_program(alloc, listing)?;
-    let options = Options {
-        from: Some(from),
-        to: Some(to),
-        reads: false,
-        most: PAGE_CONFIGURATIONS as usize,
-    };
+    let options = options_from(from, to);
     picture(alloc, &program, Some(listing), schedule, &options, look)
+}
+
+/// Returns what a picture draws of a listing's run under a schedule, from item `from` to item `to`.
+///
+/// # Errors
+///
+/// `Refused` with the reason why there is no picture; `Memory` where memory runs out.
+pub fn told(
+    alloc: Global,
+    listing: &[u8],
+    schedule: &[u8],
+    from: u64,
+    to: u64,
+) -> Result<Vec<u8>, Fault<PictureRefusal>>
+    ensures { Answers (λ out. out.items) result (told listing.now schedule.now from to) }
+{
+    let program = drawn_program(alloc, listing)?;
+    told_shapes(alloc, &program, schedule, &options_from(from, to))
 }
 
 /// Hands over the line of a picture that is refused.

@@ -1,7 +1,7 @@
 //! `Handed`: what a page in a browser is handed, a code and the length of the output or of the line
 //! of a refusal.
 ghost use Rattle.std.specs.Prelude.{◌≡◌, ◌≢◌, ◌<◌, ◌≤◌, ◌+◌, ◌^◌, ◌++◌, ◌⊎◌, ◌↔◌, ℕ, List, true};
-ghost use Rattle.std.specs.Prelude.{Err, IfOk, Result, codes, length, take};
+ghost use Rattle.std.specs.Prelude.{Err, IfOk, OnErr, Result, codes, length, take};
 ghost use Rattle.snap_semantics.specs.Answers.{Answers};
 ghost use Rattle.snap_semantics.specs.declared.fault.Fault.TheVariants.{Refused};
 ghost use Rattle.snap_semantics.specs.declared.refusal.Refusal.{Refusal};
@@ -77,17 +77,17 @@ pub(crate) fn handed_line(name: &[u8], number: &[u8], room: &mut [u8]) -> Handed
     fitted(1, len, room)
 }
 
-/// Hands over a line for which there was memory.
-fn handed_pushed(line: Result<Vec<u8>, AllocError>, room: &mut [u8]) -> Handed
-    ensures code { result.code ≡ 1 ⊎ (result.code ≡ 2 ⊎ result.code ≡ 3) }
+/// Hands over a text under a code, where there was memory for it.
+pub(crate) fn handed_pushed(code: u8, text: Result<Vec<u8>, AllocError>, room: &mut [u8]) -> Handed
+    requires { code < 2 }
+    ensures code { result.code ≡ code ⊎ (result.code ≡ 2 ⊎ result.code ≡ 3) }
     ensures small { result.code ≡ 3 ↔ length room.old < result.len }
-    ensures text { (text : List ℕ) → IfOk line (λ line. line.items ≡ text) → result.code ≡ 1 →
-        take result.len room.new ≡ text }
-    ensures length { (text : List ℕ) → IfOk line (λ line. line.items ≡ text) → result.code ≡ 3 →
-        result.len ≡ length text }
+    ensures text { IfOk text (λ text. result.code ≡ code → take result.len room.new ≡ text.items) }
+    ensures length { IfOk text (λ text. result.code ≡ 3 → result.len ≡ length text.items) }
+    ensures memory { OnErr text (result.code ≡ 2) }
 {
-    match line {
-        Ok(line) => handed_text(1, line.as_slice(), room),
+    match text {
+        Ok(text) => handed_text(code, text.as_slice(), room),
         Err(_) => Handed { code: 2, len: 0 },
     }
 }
@@ -110,7 +110,7 @@ pub(crate) fn handed_refusal(alloc: Global, refusal: &Refusal, room: &mut [u8]) 
         Refusal::Listing(ListingRefusal::TooLong) => handed_line(b"L1 TooLong", b"", room),
         Refusal::Image(ImageRefusal::NotAnImage) => handed_line(b"I1 NotAnImage", b"", room),
         Refusal::Image(ImageRefusal::Version) => handed_line(b"I2 Version", b"", room),
-        _ => handed_pushed(refusal_line(alloc, refusal), room),
+        _ => handed_pushed(1, refusal_line(alloc, refusal), room),
     }
 }
 

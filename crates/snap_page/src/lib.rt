@@ -1,12 +1,16 @@
 //! What a page in a browser wants of the program, in one thread: a task on an input, whether a run
-//! is linearizable, the picture of a run, and a run that fails.
+//! is linearizable, why an input is refused, the picture of a run and what it draws, the steps to a
+//! line or to the end of an operation, and a run that fails.
 #![tactic(auto)]
 
 ghost use Rattle.std.specs.Prelude.{◌≡◌, ◌≢◌, ◌<◌, ◌⊎◌, ◌↔◌, ℕ, List, None, Result, Some, length, take};
 ghost use Rattle.snap_page.specs.Answer.{IsAnswerFor, found_at_once};
 ghost use Rattle.snap_page.specs.Page.{answer_code, answer_text, asked_of};
 ghost use Rattle.snap_page.specs.Hunt.{IsHandedHunt, IsHuntAnswer, IsHuntable, hunt_asked};
-ghost use Rattle.snap_page.specs.Picture.{IsDrawn, drawn_code, drawn_text};
+ghost use Rattle.snap_page.specs.Explained.{explained};
+ghost use Rattle.snap_page.specs.Picture.{IsDrawn, drawn_code, drawn_text, told};
+ghost use Rattle.snap_page.specs.Steps.{steps_asked, steps_code, steps_text};
+ghost use Rattle.snap_prompt.specs.declared.goal.Goal.TheVariants as goal;
 ghost use Rattle.snap_picture.specs.declared.refusal.PictureRefusal.{PictureRefusal};
 ghost use Rattle.snap_semantics.specs.declared.refusal.Refusal.{Refusal};
 ghost use Rattle.snap_hunt_output.specs.declared.hunted.Hunted.{Hunted};
@@ -15,18 +19,23 @@ ghost use Rattle.snap_page.specs.declared.page_request.PageRequest.{PageRequest}
 
 mod answering;
 mod drawing;
+mod explaining;
 mod handed;
 mod hunting;
 mod page_request;
+mod stepping;
 
 use answering::answer_to;
-use drawing::{drawn, handed_picture};
-use handed::{Handed, handed_answer};
+use drawing::{drawn, handed_picture, told};
+use explaining::explained;
+use handed::{Handed, handed_answer, handed_pushed};
 use hunting::{handed_hunt, hunt_asked};
 use page_request::asked_of;
 use snap_hunt_output::hunt_alone;
 use snap_picture::{LEGEND, Look, STYLE};
+use snap_prompt::Goal;
 use std::alloc::Global;
+use stepping::{handed_steps, steps_asked};
 
 /// Hands a page the output for an input, or the line that says why there is none. The task is that
 /// of a subcommand, or `judge`; it runs the listing that is shipped for the kind of the name
@@ -61,6 +70,101 @@ pub extern "C" fn page_output(
     };
     let answer = answer_to(alloc, &asked, input);
     handed_answer(alloc, answer, room)
+}
+
+/// Hands a page the explanation of a refused input, which stands behind the line of the refusal that
+/// `page_output` hands for the same names; no text if the input is not refused.
+#[unsafe(no_mangle)]
+pub extern "C" fn page_explanation(
+    alloc: Global,
+    subcommand: &[u8],
+    shipped: &[u8],
+    input: &[u8],
+    room: &mut [u8],
+) -> Handed
+    ensures code { result.code < 5 × (result.code ≢ 1) }
+    ensures no_task { result.code ≡ 4 ↔ asked_of subcommand.now shipped.now ≡ None }
+    ensures small { result.code ≡ 3 ↔ length room.old < result.len }
+    ensures answer { (a : PageRequest) → asked_of subcommand.now shipped.now ≡ Some a → result.code ≡ 0 →
+        (answer : Result (List ℕ) Refusal) × IsAnswerFor a input.now answer
+        × (take result.len room.new ≡ explained a input.now answer) }
+    ensures needed { (a : PageRequest) → asked_of subcommand.now shipped.now ≡ Some a → result.code ≡ 3 →
+        (answer : Result (List ℕ) Refusal) × IsAnswerFor a input.now answer
+        × (result.len ≡ length (explained a input.now answer)) }
+{
+    let Some(asked) = asked_of(subcommand, shipped) else {
+        return Handed { code: 4, len: 0 };
+    };
+    handed_pushed(0, explained(alloc, &asked, input), room)
+}
+
+/// Hands a page how many steps lead a process to a line from a position of a listing's run, where it
+/// stops earlier if it is no longer busy: the fewest, in digits; or the line that says why none do.
+#[unsafe(no_mangle)]
+pub extern "C" fn page_until(
+    alloc: Global,
+    listing: &[u8],
+    schedule: &[u8],
+    at: u64,
+    process: u64,
+    line: u64,
+    room: &mut [u8],
+) -> Handed
+    ensures code { result.code < 4 }
+    ensures small { result.code ≡ 3 ↔ length room.old < result.len }
+    ensures answer { let steps = steps_asked listing.now schedule.now at process (goal.Line line) in
+        result.code < 2 →
+        (result.code ≡ steps_code steps) × (take result.len room.new ≡ steps_text steps) }
+    ensures needed { let steps = steps_asked listing.now schedule.now at process (goal.Line line) in
+        result.code ≡ 3 → result.len ≡ length (steps_text steps) }
+{
+    let answer = steps_asked(alloc, listing, schedule, at, process, Goal::Line(line));
+    handed_steps(alloc, answer, room)
+}
+
+/// Hands a page how many steps lead a process to the end of its operation from a position of a
+/// listing's run: the fewest, in digits; or the line that says why none do.
+#[unsafe(no_mangle)]
+pub extern "C" fn page_end(
+    alloc: Global,
+    listing: &[u8],
+    schedule: &[u8],
+    at: u64,
+    process: u64,
+    room: &mut [u8],
+) -> Handed
+    ensures code { result.code < 4 }
+    ensures small { result.code ≡ 3 ↔ length room.old < result.len }
+    ensures answer { let steps = steps_asked listing.now schedule.now at process goal.End in
+        result.code < 2 →
+        (result.code ≡ steps_code steps) × (take result.len room.new ≡ steps_text steps) }
+    ensures needed { let steps = steps_asked listing.now schedule.now at process goal.End in
+        result.code ≡ 3 → result.len ≡ length (steps_text steps) }
+{
+    let answer = steps_asked(alloc, listing, schedule, at, process, Goal::End);
+    handed_steps(alloc, answer, room)
+}
+
+/// Hands a page what the picture of a listing's run under a schedule draws from one item to another,
+/// a line a shape, in items and processes; or the line that says why it draws nothing.
+#[unsafe(no_mangle)]
+pub extern "C" fn page_shapes(
+    alloc: Global,
+    listing: &[u8],
+    schedule: &[u8],
+    from: u64,
+    to: u64,
+    room: &mut [u8],
+) -> Handed
+    ensures code { result.code < 4 }
+    ensures small { result.code ≡ 3 ↔ length room.old < result.len }
+    ensures answer { let told = told listing.now schedule.now from to in result.code < 2 →
+        (result.code ≡ drawn_code told) × (take result.len room.new ≡ drawn_text told) }
+    ensures needed { let told = told listing.now schedule.now from to in result.code ≡ 3 →
+        result.len ≡ length (drawn_text told) }
+{
+    let answer = told(alloc, listing, schedule, from, to);
+    handed_picture(alloc, answer, room)
 }
 
 /// Hands a page the picture of a listing's run under a schedule, from one item to another, as the

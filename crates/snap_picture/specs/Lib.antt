@@ -7,3 +7,4 @@ pub mod FrameText
 pub mod Crossed
 pub mod Picture
 pub mod Shapes
+pub mod ShapeLines

@@ -91,8 +91,8 @@ picture_of l listing schedule o style legend wrong = do
   p ← part_of (length s.items) s.shape o
   Ok (picture_text (run_over l s) p listing schedule style legend wrong)
 
--- The run of a listing over a schedule's text fails at this event, or at none, by a judgement of it that is so, and that
--- meets at most so many configurations.
+-- The run of a listing over a schedule's text fails at this event, or at none, by a judgement of it that is so, and
+-- that meets at most so many configurations.
 abbrev pub FailsUnder : (most : ℕ) → Source → List ℕ → Option Event → Type 0
 FailsUnder most l schedule wrong =
     (s : Schedule) × (schedule_for l schedule ≡ Ok s) × FailsBy most (run_over l s) wrong

@@ -61,7 +61,7 @@ fn window_between(
     if last - before > MOST_ITEMS {
         return Err(PictureRefusal::TooManyItems(last - before));
     }
-    // A shape has at least one process, and few.
+    // What `process_count` promises: there is at least one process, and there are few.
     let _processes = shape.process_count();
     match Window::new(before, last, shape, reads) {
         Some(window) => Ok(window),
@@ -71,7 +71,7 @@ fn window_between(
 
 /// Returns the items that the options name.
 #[tactic(auto, unfolding(crate::specs::Picture::part_of))]
-fn window_for(
+pub(crate) fn window_for(
     total: u64,
     shape: snap_words::Shape,
     options: &Options,
@@ -166,7 +166,7 @@ fn picture_text<K: Kind>(
 }
 
 /// Reads a schedule whose shape fits the kind of a program.
-fn schedule_of<K: Kind>(
+pub(crate) fn schedule_of<K: Kind>(
     alloc: Global,
     program: &Program,
     text: &[u8],

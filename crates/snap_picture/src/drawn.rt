@@ -6,7 +6,7 @@ ghost use Rattle.snap_picture.specs.Shapes.{first_period, shapes_by};
 use crate::shape::Shape;
 use crate::steps::{period_of, push_steps};
 use crate::verdicts::{push_verdicts, values_at};
-use snap_acts::Step;
+use snap_acts::TraceStep;
 use snap_audit::audit;
 use snap_record::Record;
 use snap_words::Kind;

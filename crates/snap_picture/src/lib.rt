@@ -14,9 +14,11 @@ mod options;
 mod print;
 mod refusal;
 mod shape;
+mod shape_lines;
 mod sought;
 mod spots;
 mod steps;
+mod told;
 mod verdicts;
 mod window;
 
@@ -29,4 +31,5 @@ pub use options::{Look, Options};
 pub use print::push_shapes;
 pub use refusal::PictureRefusal;
 pub use shape::{Bar, End, Loan, Period, Point, Read, Shape, Span, Spot, Write, Written};
+pub use told::told_shapes;
 pub use window::Window;

@@ -1,5 +1,5 @@
-//! `Options`: which items of a run a picture shows, and how long the run is judged; `Look`: its style
-//! and its legend.
+//! `Options`: which items of a run a picture shows, and how long the run is judged; `Look`: its
+//! style and its legend.
 
 /// Which items are drawn, unless all are; whether reads lead to what they read; and how many
 /// configurations the judgement of the run keeps at most.

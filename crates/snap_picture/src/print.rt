@@ -9,8 +9,8 @@ use crate::spots::{crash_text, loan_text, read_text, test_text, trap_text, write
 use crate::window::Window;
 use snap_text::Draft;
 
-/// Returns whether a shape is drawn.
-fn is_drawn(window: &Window, shape: &Shape) -> bool
+/// Returns whether a shape is drawn: some of its items are in the window, and there is room for it.
+pub(crate) fn is_drawn(window: &Window, shape: &Shape) -> bool
     ensures { result ≡ is_drawn window.now shape.now }
 {
     match shape {

@@ -1,6 +1,6 @@
 -- `AnswersLine`: what snaplab does about its command line, what it reads, writes and says, and the status that it
 -- ends with.
-use Rattle.std.specs.Prelude.{◌≡◌, ℕ, Vec, Bool, true, List, [], ◌++◌, Option, Some, None, Result, Ok, Err}
+use Rattle.std.specs.Prelude.{◌≡◌, ℕ, Vec, Bool, true, not, ◌&&◌, List, [], ◌++◌, Result, Ok, Err}
 use Rattle.std.specs.Prelude.{if◌then◌else◌, codes, string_bytes, ◌⊎◌}
 use Rattle.std.specs.Global.{Global}
 use Rattle.snap_program.specs.declared.command_line.Invocation.{Invocation}
@@ -9,28 +9,27 @@ use Rattle.snap_program.specs.declared.command_line.CommandLine.TheVariants.{Ask
 use Rattle.snap_tasks.specs.declared.request.Request.{Request}
 use Rattle.snap_tasks.specs.declared.request.Request.TheVariants as request
 use Rattle.snap_tasks.specs.declared.task.Task.{Task}
-use Rattle.snap_tasks.specs.declared.task.Task.TheVariants as task
 use Rattle.snap_tasks.specs.declared.subject.Subject.{Subject}
 use Rattle.snap_tasks.specs.declared.judge_request.JudgeRequest.{JudgeRequest}
 use Rattle.snap_run_judge.specs.declared.linearizability.Linearizability.{Linearizability}
 use Rattle.snap_run_judge.specs.declared.linearizability.Linearizability.TheVariants as word
-use Rattle.snap_program.specs.WholeRun.{ConductsJudge, ConductsKeeping, ConductsLiveKeeping, ConductsModel}
+use Rattle.snap_program.specs.WholeRun.{ConductsJudge, ConductsLiveKeeping, ConductsModel}
 use Rattle.snap_faults.specs.Names.{Names, of_program}
 use Rattle.snap_faults.specs.Told.{Helps, SaysWhy, TellsMore, exit_status, no_memory_line, no_text_line, success}
 use Rattle.snap_faults.specs.declared.fault.ProgramFault.{ProgramFault}
 use Rattle.snap_faults.specs.declared.fault.ProgramFault.TheVariants.{Refused, History, Live}
 use Rattle.snap_streams.specs.Sent.{Says}
 use Rattle.snap_streams.specs.State.{SourceState, SinkState}
-use Rattle.snap_program.specs.TaskRun.{ConductsSurvey, IsOutputOf, RefusesTask}
+use Rattle.snap_program.specs.TaskRun.{ConductsTask}
 use Rattle.snap_explanation.specs.Explanation.{explanation}
 use Rattle.snap_explanation.specs.HistoryExplanation.{history_explanation}
 use Rattle.snap_explanation.specs.LiveExplanation.{turn_limit_explanation}
 use Rattle.snap_semantics.specs.declared.refusal.LiveRefusal.TheVariants.{TurnLimit}
 use Rattle.snap_explanation.specs.Part.{layout_of}
 
--- the status of a strict survey where all of its output was written: 4 where a run is not clean
-abbrev pub clean_status : (clean : Bool) → ℕ
-clean_status clean = if clean then 0 else 4
+-- the status of a task where all of its output was written: 4 of a strict survey of which a run is not clean
+abbrev pub task_status : (strict clean : Bool) → ℕ
+task_status strict clean = if strict && not clean then 4 else 0
 
 -- the status where all of a judgement was written: 0 where what was judged is linearizable, 4 where it is not, and 5
 -- where that is undecided
@@ -38,11 +37,6 @@ abbrev pub word_status : Linearizability → ℕ
 word_status word.Linearizable = 0
 word_status word.NotLinearizable = 4
 word_status word.Undecided = 5
-
--- the listing of a strict survey, where one is asked for
-abbrev pub strict_subject : (strict : Bool) → Request → Option Subject
-strict_subject true (request.Do (task.Survey subject)) = Some subject
-strict_subject _ _ = None
 
 -- what the program is called; its command line names no files
 abbrev pub snaplab : Names
@@ -79,8 +73,8 @@ SaysTerminal _ errors errors_after = errors ≡ errors_after
 abbrev pub AnswersTask : Task → Invocation → (status : ℕ) →
     (source source_after : SourceState) → (sink sink_after errors errors_after : SinkState) → Type 0
 AnswersTask task asked status source source_after sink sink_after errors errors_after =
-    (done : Result (Unit {0}) ProgramFault) × (kept : List ℕ) × (status ≡ exit_status success done)
-    × ConductsKeeping (IsOutputOf task) (RefusesTask task) kept done source source_after sink sink_after
+    (done : Result Bool ProgramFault) × (kept : List ℕ) × (status ≡ exit_status (task_status asked.strict) done)
+    × ConductsTask done task kept source source_after sink sink_after
     × SaysWhy snaplab (explained asked kept) done errors errors_after
 
 -- What it does about a live run, at no gate.
@@ -120,29 +114,12 @@ AnswersRequest (request.Judge judged) asked status source source_after sink sink
 AnswersRequest (request.Model subject crashes) asked status source source_after sink sink_after errors errors_after =
     AnswersModelled subject asked status source source_after sink sink_after errors errors_after
 
--- What it does about a strict survey.
-abbrev pub AnswersStrictly : Subject → Invocation → (status : ℕ) →
-    (source source_after : SourceState) → (sink sink_after errors errors_after : SinkState) → Type 0
-AnswersStrictly subject asked status source source_after sink sink_after errors errors_after =
-    (done : Result Bool ProgramFault) × (kept : List ℕ) × (status ≡ exit_status clean_status done)
-    × ConductsSurvey done subject kept source source_after sink sink_after
-    × SaysWhy snaplab (explained asked kept) done errors errors_after
-
--- The one or the other, where a strict survey of this listing is asked for, or none.
-abbrev pub AnswersAsked : Option Subject → Invocation → (status : ℕ) →
-    (source source_after : SourceState) → (sink sink_after errors errors_after : SinkState) → Type 0
-AnswersAsked None asked status source source_after sink sink_after errors errors_after =
-    AnswersRequest asked.request asked status source source_after sink sink_after errors errors_after
-AnswersAsked (Some subject) asked status source source_after sink sink_after errors errors_after =
-    AnswersStrictly subject asked status source source_after sink sink_after errors errors_after
-
 -- What the program does about a command line, or where there was no memory to read it: what it takes of its source,
 -- what it gives its sink and its device for messages, and its status.
 abbrev pub AnswersLine : {E : Type 0} → Result CommandLine E → (status : ℕ) →
     (source source_after : SourceState) → (sink sink_after errors errors_after : SinkState) → Type 0
 AnswersLine (Ok (Asks asked)) status source source_after sink sink_after errors errors_after =
-    AnswersAsked (strict_subject asked.strict asked.request) asked status
-    source source_after sink sink_after errors errors_after
+    AnswersRequest asked.request asked status source source_after sink sink_after errors errors_after
 AnswersLine (Ok (Help text)) status source source_after sink sink_after errors errors_after =
     (source ≡ source_after) × Helps snaplab (string_bytes text) status sink sink_after errors errors_after
 AnswersLine (Ok (Wrong text)) status source source_after sink sink_after errors errors_after =

@@ -6,9 +6,7 @@ use Rattle.snap_faults.specs.declared.fault.ProgramFault.{ProgramFault}
 use Rattle.snap_faults.specs.declared.fault.ProgramFault.TheVariants as fault
 use Rattle.snap_judge.specs.declared.judgements.Judgement.{Judgement}
 use Rattle.snap_output.specs.Output.{AreJudged, IsAnswerTo, clean_of, output_of}
-use Rattle.snap_tasks.specs.declared.subject.Subject.{Subject}
 use Rattle.snap_tasks.specs.declared.task.Task.{Task}
-use Rattle.snap_tasks.specs.declared.task.Task.TheVariants as task
 
 -- the output of a task, of judgements that say what is so
 abbrev pub IsOutputOf : Task → (input text : List ℕ) → Type 0
@@ -25,16 +23,16 @@ abbrev pub Conducts : (answer : Result (Unit {0}) ProgramFault) (task : Task)
 Conducts answer task source source_after sink sink_after =
     ConductsBy (IsOutputOf task) (RefusesTask task) answer source source_after sink sink_after
 
--- the output of a survey, and whether all of its runs are clean, where that is answered, both by the same judgements
-abbrev pub IsSurveyOf : Result Bool ProgramFault → Subject → (input text : List ℕ) → Type 0
-IsSurveyOf answer subject input text =
-    (judged : List Judgement) × AreJudged (task.Survey subject) input judged
-    × (output_of judged (task.Survey subject) input ≡ Ok text)
-    × IfOk answer (λ clean. clean_of judged subject input ≡ Ok clean)
+-- the output of a task, and whether all runs that are surveyed are clean, where that is answered, both by the same
+-- judgements
+abbrev pub IsOutcomeOf : Result Bool ProgramFault → Task → (input text : List ℕ) → Type 0
+IsOutcomeOf answer task input text =
+    (judged : List Judgement) × AreJudged task input judged × (output_of judged task input ≡ Ok text)
+    × IfOk answer (λ clean. clean_of judged task input ≡ Ok clean)
 
--- A whole run of a survey, which keeps its input: what it writes and when it is refused are the task's.
-abbrev pub ConductsSurvey : (answer : Result Bool ProgramFault) (subject : Subject) (kept : List ℕ)
+-- A whole run of a task that keeps its input, and answers whether all runs that are surveyed are clean.
+abbrev pub ConductsTask : (answer : Result Bool ProgramFault) (task : Task) (kept : List ℕ)
     (source source_after : SourceState) (sink sink_after : SinkState) → Type 0
-ConductsSurvey answer subject kept source source_after sink sink_after =
-    ConductsKeeping (IsSurveyOf answer subject) (RefusesTask (task.Survey subject)) kept
+ConductsTask answer task kept source source_after sink sink_after =
+    ConductsKeeping (IsOutcomeOf answer task) (RefusesTask task) kept
     (done_of answer) source source_after sink sink_after

@@ -9,15 +9,15 @@ ghost use Rattle.snap_faults.specs.Told.{TellsMore};
 ghost use Rattle.snap_tasks.specs.Request.{HasLimit};
 ghost use Rattle.snap_tasks.specs.declared.request.Request.TheVariants.{Live};
 ghost use Rattle.snap_program.specs.Answer.{AnswersJudge, AnswersLine, AnswersLively};
-ghost use Rattle.snap_program.specs.Answer.{AnswersModelled, AnswersRequest, AnswersStrictly};
+ghost use Rattle.snap_program.specs.Answer.{AnswersModelled, AnswersRequest};
 ghost use Rattle.snap_program.specs.Answer.{AnswersTask, SaysTerminal, explained, snaplab};
-ghost use Rattle.snap_program.specs.Answer.{strict_subject, word_status};
+ghost use Rattle.snap_program.specs.Answer.{task_status, word_status};
 
 use crate::command_line::{CommandLine, Invocation};
 use crate::judge_run::conduct_judge;
 use crate::live_run::conduct_live_keeping;
 use crate::model_run::conduct_model;
-use crate::whole_run::{conduct_keeping, conduct_survey};
+use crate::whole_run::conduct_keeping;
 use snap_explanation::{explanation, history_explanation, layout_of, turn_limit_explanation};
 use snap_faults::{
     Names, ProgramFault, complain, fault_status, help, say_no_memory, say_no_text, tell,
@@ -107,7 +107,15 @@ fn explain<E: ByteSink>(
     }
 }
 
-/// Does a task, says why if it is not done, and returns the status.
+/// Returns the status of a task, all of whose output was written.
+fn task_status(strict: bool, clean: bool) -> u8
+    ensures { result ≡ task_status strict clean }
+{
+    if strict && !clean { NOT_CLEAN } else { 0 }
+}
+
+/// Does a task, says why if it is not done, and returns the status, which tells of a strict survey
+/// whether all runs are clean.
 fn do_task<R: ByteSource, W: ByteSink, E: ByteSink>(
     rt: &(impl Threads + Sync),
     alloc: Global,
@@ -127,7 +135,7 @@ fn do_task<R: ByteSource, W: ByteSink, E: ByteSink>(
 {
     let mut input = Vec::new(alloc);
     match conduct_keeping(rt, alloc, task, source, sink, &mut input) {
-        Ok(()) => 0,
+        Ok(clean) => task_status(asked.strict, clean),
         Err(fault) => explain(alloc, asked, input.as_slice(), &fault, errors),
     }
 }
@@ -254,43 +262,6 @@ fn do_asked<R: ByteSource, W: ByteSink, E: ByteSink>(
     }
 }
 
-/// Returns the listing of a strict survey, if the request is for one.
-fn strict_subject(asked: &Invocation) -> Option<Subject>
-    ensures { result ≡ strict_subject asked.now.strict asked.now.request }
-{
-    match (asked.strict, asked.request) {
-        (true, Request::Do(Task::Survey(subject))) => Some(subject),
-        _ => None,
-    }
-}
-
-/// Surveys, says why if it is not done, and returns the status, which tells whether all runs are
-/// clean.
-fn survey_strictly<R: ByteSource, W: ByteSink, E: ByteSink>(
-    rt: &(impl Threads + Sync),
-    alloc: Global,
-    asked: &Invocation,
-    subject: Subject,
-    source: &mut R,
-    sink: &mut W,
-    errors: &mut E,
-) -> u8
-    requires source { (R.state source.old).failed ≡ false }
-    requires sink { (W.state sink.old).failed ≡ false }
-    requires goes_on { (W.state sink.old).stalled ≡ false }
-    requires errors { (E.state errors.old).failed ≡ false }
-    ensures { AnswersStrictly subject asked.now result (R.state source.old) (R.state source.new)
-        (W.state sink.old) (W.state sink.new)
-        (E.state errors.old) (E.state errors.new) }
-{
-    let mut input = Vec::new(alloc);
-    match conduct_survey(rt, alloc, subject, source, sink, &mut input) {
-        Ok(true) => 0,
-        Ok(false) => NOT_CLEAN,
-        Err(fault) => explain(alloc, asked, input.as_slice(), &fault, errors),
-    }
-}
-
 /// Says that the input is read from a terminal, if the command line has a request for one.
 pub fn say_terminal<E: ByteSink>(line: &Result<CommandLine, AllocError>, errors: &mut E)
     requires { (E.state errors.old).failed ≡ false }
@@ -322,10 +293,7 @@ pub fn answer<R: ByteSource, W: ByteSink, E: ByteSink>(
         (E.state errors.old) (E.state errors.new) }
 {
     match line {
-        Ok(CommandLine::Asks(asked)) => match strict_subject(asked) {
-            Some(subject) => survey_strictly(rt, alloc, asked, subject, source, sink, errors),
-            None => do_asked(rt, alloc, asked, source, sink, errors),
-        },
+        Ok(CommandLine::Asks(asked)) => do_asked(rt, alloc, asked, source, sink, errors),
         Ok(CommandLine::Help(text)) => help(alloc, &names(), text.as_bytes(), sink, errors),
         Ok(CommandLine::Wrong(text)) => {
             say(text.as_bytes(), errors);

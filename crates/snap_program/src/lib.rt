@@ -30,5 +30,5 @@ pub use snap_streams::{ByteSink, ByteSink as Sink, ByteSource, ByteSource as Sou
 pub use snap_tasks::{
     JudgeRequest, JudgeSource, Options, Request, Subject, Task, kind_of, request_of,
 };
-pub use whole_run::{conduct, conduct_keeping, conduct_survey};
+pub use whole_run::{conduct, conduct_keeping};
 pub use whole_texts::read_all;

@@ -4,15 +4,13 @@ ghost use Rattle.std.specs.Prelude.{◌≡◌, [], Err, false};
 ghost use Rattle.snap_semantics.specs.Answers.{Answers};
 ghost use Rattle.snap_semantics.specs.declared.fault.Fault.TheVariants.{Refused};
 ghost use Rattle.snap_semantics.specs.declared.refusal.Refusal.{Refusal};
-ghost use Rattle.snap_program.specs.WholeRun.{ConductsKeeping};
-ghost use Rattle.snap_run_judge.specs.Judged.{AnswersJudged};
-ghost use Rattle.snap_output.specs.Output.{AreJudged, output_of};
-ghost use Rattle.snap_program.specs.TaskRun.{Conducts, ConductsSurvey, IsOutputOf, RefusesTask};
+ghost use Rattle.snap_output.specs.Output.{AnswersOutput, output_of};
+ghost use Rattle.snap_program.specs.TaskRun.{Conducts, ConductsTask};
 ghost use Rattle.snap_tasks.specs.declared.task.Task.TheVariants.{Run};
 
 use crate::whole_texts::read_all;
 use snap_faults::{ProgramFault, write_all};
-use snap_output::{output, planned_run, run_planned, survey_output};
+use snap_output::{Output, output, planned_run, run_planned};
 use snap_semantics::{Fault, Refusal};
 use snap_streams::{ByteSink, ByteSource};
 use snap_tasks::{Subject, Task};
@@ -32,19 +30,23 @@ fn run_kept(alloc: Global, subject: Subject, kept: &mut Vec<u8>) -> Result<Vec<u
     Ok(run_planned(alloc, run)?)
 }
 
-/// Returns the whole output for the input that is kept. If the input is refused, it is still kept.
+/// Returns the whole output for the input that is kept, and whether all runs that are surveyed are
+/// clean. If the input is refused, it is still kept.
+#[tactic(auto, unfolding(snap_output::specs::Output::clean_of))]
 fn kept_output(
     rt: &(impl Threads + Sync),
     alloc: Global,
     task: &Task,
     kept: &mut Vec<u8>,
-) -> Result<Vec<u8>, Fault<Refusal>>
-    ensures output { AnswersJudged (λ out. out.items) (AreJudged task.now kept.old.items) result
-        (λ judged. output_of judged task.now kept.old.items) }
+) -> Result<Output, Fault<Refusal>>
+    ensures output { AnswersOutput task.now kept.old.items result }
     ensures kept { (r : Refusal) → result ≡ Err (Refused r) → kept.new.items ≡ kept.old.items }
 {
     match *task {
-        Task::Run(subject) => run_kept(alloc, subject, kept),
+        Task::Run(subject) => {
+            let text = run_kept(alloc, subject, kept)?;
+            Ok(Output { text, clean: true })
+        }
         _ => output(rt, alloc, task, kept.as_slice()),
     }
 }
@@ -68,10 +70,12 @@ pub fn conduct<R: ByteSource, W: ByteSink>(
         (W.state sink.new) }
 {
     let mut kept = Vec::new(alloc);
-    conduct_keeping(rt, alloc, task, source, sink, &mut kept)
+    conduct_keeping(rt, alloc, task, source, sink, &mut kept)?;
+    Ok(())
 }
 
-/// Does what `conduct` does, and keeps the input in `kept`, even if it is refused.
+/// Does what `conduct` does, and returns whether all runs that are surveyed are clean, as those of
+/// any other task are. The input is kept in `kept`, even if it is refused.
 ///
 /// # Errors
 ///
@@ -83,42 +87,16 @@ pub fn conduct_keeping<R: ByteSource, W: ByteSink>(
     source: &mut R,
     sink: &mut W,
     kept: &mut Vec<u8>,
-) -> Result<(), ProgramFault>
-    requires source { (R.state source.old).failed ≡ false }
-    requires sink { (W.state sink.old).failed ≡ false }
-    requires goes_on { (W.state sink.old).stalled ≡ false }
-    ensures { ConductsKeeping (IsOutputOf task.now) (RefusesTask task.now) kept.new.items result
-        (R.state source.old) (R.state source.new) (W.state sink.old) (W.state sink.new) }
-{
-    let input = read_all(alloc, source)?;
-    *kept = input;
-    let text = kept_output(rt, alloc, task, kept)?;
-    write_all(sink, text.as_slice())
-}
-
-/// Reads the input from `source`, writes its survey to `sink` and nothing else, and returns whether
-/// all of its runs are clean. The input is kept in `kept`, even if it is refused.
-///
-/// # Errors
-///
-/// The reason why the input is refused, a fault of a device, or `Memory` where memory runs out.
-pub fn conduct_survey<R: ByteSource, W: ByteSink>(
-    rt: &(impl Threads + Sync),
-    alloc: Global,
-    subject: Subject,
-    source: &mut R,
-    sink: &mut W,
-    kept: &mut Vec<u8>,
 ) -> Result<bool, ProgramFault>
     requires source { (R.state source.old).failed ≡ false }
     requires sink { (W.state sink.old).failed ≡ false }
     requires goes_on { (W.state sink.old).stalled ≡ false }
-    ensures { ConductsSurvey result subject kept.new.items (R.state source.old) (R.state source.new)
+    ensures { ConductsTask result task.now kept.new.items (R.state source.old) (R.state source.new)
         (W.state sink.old) (W.state sink.new) }
 {
     let input = read_all(alloc, source)?;
     *kept = input;
-    let found = survey_output(rt, alloc, subject, kept.as_slice())?;
+    let found = kept_output(rt, alloc, task, kept)?;
     write_all(sink, found.text.as_slice())?;
     Ok(found.clean)
 }

@@ -160,6 +160,7 @@ impl<K: Kind, S: Folder + Copy> Prompt<K, S> {
             (lines_of (state_text s.run.source.kind (state_of s))))) }
         ensures same { OnOk result (self.new ≡ self.old) }
     {
+        // What `shape` promises: the schedule keeps the rules of schedules.
         let _shape = self.schedule.shape();
         push_item(out, &self.texts, &mut self.session)?;
         let after = state_text(self.alloc, self.session.machine())?;

@@ -106,6 +106,7 @@ fn value_of<K: Kind>(machine: &Machine<K>, k: usize) -> u64
     requires { k < machine.now.shape.w }
     ensures { result ≡ get_or (values machine.now.state) k 0 }
 {
+    // What `shape` promises: the memory is one of the shape.
     let _shape = machine.shape();
     let i = k as u64 + 1;
     match machine.register(Address {

@@ -285,6 +285,7 @@ impl<K: Kind> Record<K> {
     pub fn collects_of(&self, call: u64) -> Option<u64>
         ensures { result ≡ collects_of self.now call }
     {
+        // What `items` promises: the run of the record is a valid one.
         let _items = self.items();
         let events = self.events();
         let mut k = 0;

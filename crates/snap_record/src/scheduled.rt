@@ -22,6 +22,7 @@ impl<K: Kind> Record<K> {
     {
         let items = items_of(self.allocator(), self.items())?;
         let shape = self.machine().shape();
+        // What `segments` and `n` promise: each item fits, and the shape has few processes.
         let _fits = items.segments();
         let _count = shape.n();
         Ok(Schedule::new(shape, items))

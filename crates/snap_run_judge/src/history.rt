@@ -47,7 +47,7 @@ fn copy_of_events(alloc: Global, events: &[Event]) -> Result<Vec<Event>, AllocEr
 ///
 /// # Errors
 ///
-/// There is no memory for a copy of the events.
+/// `AllocError` where memory runs out.
 pub fn history_of<K: Kind>(alloc: Global, history: &Record<K>) -> Result<History, AllocError>
     ensures { IfOk result (λ h. h ≡ history_of history.now) }
 {

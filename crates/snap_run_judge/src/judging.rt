@@ -22,7 +22,7 @@ pub const MOST_CONFIGURATIONS: usize = 1_000_000;
 pub fn has_history<K: Kind>(history: &Record<K>)
     ensures { IsHistory (history_of history.now) }
 {
-    // The run of a record is a valid one, of a listing.
+    // What `items` and `lines` promise: the run is a valid one, of a listing.
     let _items = history.items();
     let _lines = history.machine().program().listing().lines();
     runs_have_histories();
@@ -65,6 +65,7 @@ pub fn judge_history(
         IsRunJudgement most r j) }
     ensures names { IfOk result (NamesEvent history.now) }
 {
+    // What `lines` promises: the listing keeps the rules of listings.
     let _lines = program.listing().lines();
     runs_have_histories();
     judge(alloc, history, most)

@@ -5,8 +5,8 @@
 pub enum Linearizability {
     /// The operations could have taken place one after another.
     Linearizable,
-    /// No order of its operations explains what its callers saw.
+    /// No order of the operations explains what the callers saw.
     NotLinearizable,
-    /// Neither was found.
+    /// Whether the run is linearizable is undecided.
     Undecided,
 }

@@ -2,9 +2,11 @@
 //! promised of their runs.
 #![tactic(auto)]
 
+ghost use Rattle.std.specs.Prelude.{◌≡◌, IfOk};
 ghost use Rattle.snap_words.specs.declared.kind.KindTag.{KindTag};
 ghost use Rattle.snap_words.specs.declared.kind.KindTag.TheVariants as kind;
 ghost use Rattle.snap_shipped.specs.Kept.{RunsKeepPromises};
+ghost use Rattle.snap_shipped.specs.Shipped.{shipped};
 
 mod bounded;
 mod multi_writer;
@@ -12,7 +14,25 @@ mod unbounded;
 
 pub use bounded::{listing_b, text_b};
 pub use multi_writer::{listing_m, text_m};
+use snap_listing_core::Listing;
+use snap_words::KindTag;
+use std::alloc::{AllocError, Global};
 pub use unbounded::{listing_u, text_u};
+
+/// Returns the listing that is shipped for a kind.
+///
+/// # Errors
+///
+/// `AllocError` where memory runs out.
+pub fn shipped_listing(alloc: Global, kind: KindTag) -> Result<Listing, AllocError>
+    ensures { IfOk result (λ l. l ≡ shipped kind) }
+{
+    match kind {
+        KindTag::Seq => listing_u(alloc),
+        KindTag::Bits => listing_b(alloc),
+        KindTag::Multi => listing_m(alloc),
+    }
+}
 
 /// Every run of U keeps all promises, as long as its sequence numbers suffice.
 fn runs_of_u_keep_promises()

@@ -7,11 +7,10 @@ ghost use Rattle.snap_runs.specs.Run.{IsValidRun, run_over};
 ghost use Rattle.snap_runs_of_u.specs.ListingU.{listing_u};
 ghost use Rattle.snap_shipped.specs.Kept.{KeepsPromises};
 
-use snap_asm::load_listing;
 use snap_listing_core::CommentedListing;
-use snap_record::{Record, record_over};
+use snap_record::Record;
 use snap_sched::Schedule;
-use snap_shipped::{listing_u, shipped_runs_keep_promises};
+use snap_shipped::listing_u;
 use snap_words::Seq;
 use std::alloc::{AllocError, Global};
 
@@ -26,17 +25,6 @@ pub fn listing(alloc: Global) -> Result<CommentedListing, AllocError>
     CommentedListing::uncommented(alloc, listing_u(alloc)?)
 }
 
-/// The run of U over a schedule keeps what is promised of it.
-fn keeps_promises(schedule: &Schedule)
-    requires { fits kind.Seq schedule.now.shape ≡ true }
-    ensures fits { IsValidRun (run_over listing_u schedule.now) }
-    ensures promises { KeepsPromises kind.Seq (run_over listing_u schedule.now) }
-{
-    shipped_runs_keep_promises();
-    // A schedule's rules come with its shape.
-    let _shape = schedule.shape();
-}
-
 /// Returns the record of U over a schedule, whatever its interleaving: a run that keeps all
 /// promises.
 ///
@@ -49,7 +37,5 @@ pub fn run(alloc: Global, schedule: &Schedule) -> Result<Record<Seq>, AllocError
     ensures fits { IsValidRun (run_over listing_u schedule.now) }
     ensures promises { KeepsPromises kind.Seq (run_over listing_u schedule.now) }
 {
-    keeps_promises(schedule);
-    let program = load_listing(alloc, listing_u(alloc)?)?;
-    record_over(alloc, &program, schedule)
+    snap_promised::run(alloc, schedule)
 }

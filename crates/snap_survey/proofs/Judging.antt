@@ -11,14 +11,15 @@ use Rattle.snap_semantics.specs.declared.refusal.Refusal.{Refusal}
 use Rattle.snap_runs.specs.Run.{run_over}
 use Rattle.snap_judge.specs.declared.judgements.Judgement.{Judgement}
 use Rattle.snap_input.proofs.Answered.{same_answer}
-use Rattle.snap_input.specs.Input.{listing_for, texts_for}
-use Rattle.snap_input.specs.ManySchedules.{checked_schedules, over_schedules, schedules_for}
+use Rattle.snap_input.proofs.Parting.{are_prepared, on_schedules}
+use Rattle.snap_input.specs.Input.{Prepared, listing_for, texts_for}
+use Rattle.snap_input.specs.ManySchedules.{prepared_schedules, schedules_for}
 use Rattle.snap_survey.specs.Survey.{IsSurveyOf, judged_survey}
 use Rattle.snap_survey.specs.SurveyText.{surveys_text}
 use Rattle.snap_survey.specs.Surveys.{AnswersSurvey, AreSurveysOf, WereJudged, WereJudgedIn, WereJudgedOver, are_clean}
 use Rattle.snap_survey.specs.Surveys.{clean_runs, is_clean, survey_text, surveyed, surveys_over}
 use Rattle.snap_survey.specs.declared.findings.JudgedSurvey.{JudgedSurvey}
-use Rattle.snap_survey.specs.declared.survey_output.SurveyOutput.{SurveyOutput}
+use Rattle.snap_survey.specs.declared.survey_output.Output.{Output}
 use Rattle.snap_tasks.specs.declared.subject.Subject.{Subject}
 
 -- one survey more
@@ -72,41 +73,27 @@ over_texts l texts ss vs text clean read are written told =
     )
 
 -- what was judged for an input
-module _ (s : Subject) (parts found texts : List (List ℕ)) (l : Source)
-    (are_counted : checked_schedules s parts ≡ Ok tt) (are_found : found ≡ parts)
-    (is_listing : listing_for s found ≡ Ok l) (are_texts : texts ≡ texts_for s found) where
-  there : listing_for s parts ≡ Ok l
-  there = subst (λ (ps : List (List ℕ)). listing_for s ps ≡ Ok l) are_found is_listing
-
-  texts_there : texts ≡ texts_for s parts
-  texts_there = are_texts ∙ ap (texts_for s) are_found
-
-  behind : {A : Type 0} (f : Source → List (List ℕ) → Result A Refusal) → over_schedules s parts f ≡ f l texts
-  behind f =
-      ap (λ (c : Result (Unit {0}) Refusal). c >>= λ counted. listing_for s parts >>= λ m. f m (texts_for s parts))
-      are_counted
-      ∙ ap (λ (r : Result Source Refusal). r >>= λ m. f m (texts_for s parts)) there
-      ∙ ap (f l) (sym texts_there)
-
-  written_of : (judged : List Judgement) → surveyed judged s parts ≡ survey_text judged l texts
+module _ (s : Subject) (parts : List (List ℕ)) (p : Prepared) (is : prepared_schedules s parts ≡ Ok p) where
+  written_of : (judged : List Judgement) → surveyed judged s parts ≡ survey_text judged p.source p.texts
   unfolding surveyed
-  written_of judged = behind (survey_text judged)
+  written_of judged = on_schedules s parts p (survey_text judged) is
 
-  clean_of : (judged : List Judgement) → clean_runs judged s parts ≡ are_clean judged l texts
+  clean_of : (judged : List Judgement) → clean_runs judged s parts ≡ are_clean judged p.source p.texts
   unfolding clean_runs
-  clean_of judged = behind (are_clean judged)
+  clean_of judged = on_schedules s parts p (are_clean judged) is
 
-  pub of_input : (result : Result SurveyOutput (Fault Refusal)) →
-      AnswersSurvey (WereJudgedOver l texts) result (λ judged. survey_text judged l texts)
-      (λ judged. are_clean judged l texts) →
+  pub of_input : (result : Result Output (Fault Refusal)) →
+      AnswersSurvey (WereJudgedOver p.source p.texts) result (λ judged. survey_text judged p.source p.texts)
+      (λ judged. are_clean judged p.source p.texts) →
       AnswersSurvey (WereJudgedIn s parts) result (λ judged. surveyed judged s parts)
       (λ judged. clean_runs judged s parts)
-  of_input (Ok out) h = (
-    h.0,
-    λ m is. (let same : m ≡ l = same_answer (listing_for s parts) l m there is in
-        subst (λ (q : Source). WereJudgedOver q (texts_for s parts) h.0) (sym same)
-        (subst (λ (ts : List (List ℕ)). WereJudgedOver l ts h.0) texts_there h.1)),
-    written_of h.0 ∙ h.2,
-    clean_of h.0 ∙ h.3,
-  )
+  of_input (Ok out) h =
+      let there = are_prepared s parts p is in (
+        h.0,
+        λ m listed. (let same : m ≡ p.source = same_answer (listing_for s parts) p.source m there.listing listed in
+            subst (λ (q : Source). WereJudgedOver q (texts_for s parts) h.0) (sym same)
+            (subst (λ (ts : List (List ℕ)). WereJudgedOver p.source ts h.0) there.texts h.1)),
+        written_of h.0 ∙ h.2,
+        clean_of h.0 ∙ h.3,
+      )
   of_input (Err fault) h = subst (IsRefusal fault) (sym (written_of [])) h

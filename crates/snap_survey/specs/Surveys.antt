@@ -17,7 +17,7 @@ use Rattle.snap_survey.specs.Survey.{IsSurveyOf, judged_survey}
 use Rattle.snap_survey.specs.SurveyText.{surveys_text}
 use Rattle.snap_survey.specs.Words.{is_not_linearizable}
 use Rattle.snap_survey.specs.declared.findings.JudgedSurvey.{JudgedSurvey}
-use Rattle.snap_survey.specs.declared.survey_output.SurveyOutput.{SurveyOutput}
+use Rattle.snap_survey.specs.declared.survey_output.Output.{Output}
 
 -- what the run of a listing over each of these schedules came to, with what was judged of each
 abbrev pub surveys_over : Source → List Schedule → List Judgement → List JudgedSurvey
@@ -70,7 +70,7 @@ AreSurveysOf l _ _ = ⊥
 
 -- What is answered of a survey, its text and whether all runs are clean, is what the definitions give of the same
 -- judgements; a refusal comes before anything is judged, and a want of memory may stand in place of both.
-abbrev pub AnswersSurvey : (List Judgement → Type 0) → Result SurveyOutput (Fault Refusal) →
+abbrev pub AnswersSurvey : (List Judgement → Type 0) → Result Output (Fault Refusal) →
     (text : List Judgement → Result (List ℕ) Refusal) → (clean : List Judgement → Result Bool Refusal) → Type 0
 AnswersSurvey AreJudged (Ok out) text clean =
     (judged : List Judgement) × AreJudged judged × (text judged ≡ Ok out.text.items) × (clean judged ≡ Ok out.clean)

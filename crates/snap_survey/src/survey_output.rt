@@ -52,17 +52,17 @@ fn are_clean(surveys: &[JudgedSurvey]) -> bool
 
 /// The output on many runs, and whether each of them is clean.
 #[derive(Drop)]
-pub struct SurveyOutput {
+pub struct Output {
     pub text: Vec<u8>,
     pub clean: bool,
 }
 
 /// Returns the output on `surveys`, and whether each of them is clean.
-fn output_of(alloc: Global, surveys: &[JudgedSurvey]) -> Result<SurveyOutput, AllocError>
+fn output_of(alloc: Global, surveys: &[JudgedSurvey]) -> Result<Output, AllocError>
     ensures text { IfOk result (λ out. out.text.items ≡ surveys_text surveys.now) }
     ensures clean { IfOk result (λ out. out.clean ≡ list_all is_clean surveys.now) }
 {
-    Ok(SurveyOutput {
+    Ok(Output {
         text: surveys_text(alloc, surveys)?,
         clean: are_clean(surveys),
     })
@@ -79,7 +79,7 @@ pub fn survey_runs(
     alloc: Global,
     program: &Program,
     texts: &[&[u8]],
-) -> Result<SurveyOutput, Fault<Refusal>>
+) -> Result<Output, Fault<Refusal>>
     ensures { let given = map (λ text. text.now) texts.now in
         AnswersSurvey (WereJudgedOver program.now given) result
         (λ judged. survey_text judged program.now given)
@@ -101,7 +101,7 @@ pub fn survey_runs_in_threads(
     alloc: Global,
     program: &Program,
     texts: &[&[u8]],
-) -> Result<SurveyOutput, Fault<Refusal>>
+) -> Result<Output, Fault<Refusal>>
     ensures { let given = map (λ text. text.now) texts.now in
         AnswersSurvey (WereJudgedOver program.now given) result
         (λ judged. survey_text judged program.now given)

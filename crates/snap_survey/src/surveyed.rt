@@ -1,5 +1,5 @@
-//! `survey`: a machine goes through the run of a schedule, watched as for an audit, and a `Tally` is
-//! kept of its items. Of what was noted the `Survey` of the run is made.
+//! `survey`: a machine goes through the run of a schedule, watched as for an audit, and a `Tally`
+//! is kept of its items. Of what was noted the `Survey` of the run is made.
 ghost use Rattle.std.specs.Prelude.{◌≡◌, IfOk, length};
 ghost use Rattle.snap_semantics.specs.State.{State};
 ghost use Rattle.snap_runs.specs.Run.{run_over};

@@ -6,8 +6,8 @@ ghost use Rattle.snap_input.specs.Parts.{max_input, parts_of};
 ghost use Rattle.snap_input.specs.ManySchedules.{checked_schedules};
 ghost use Rattle.snap_survey.specs.Surveys.{AnswersSurvey, WereJudgedIn, clean_runs, surveyed};
 
-use crate::survey_output::{SurveyOutput, survey_runs};
-use snap_input::{check_schedules, program_for, split_parts, texts_for};
+use crate::survey_output::{Output, survey_runs};
+use snap_input::prepare_schedules;
 use snap_semantics::{Fault, Refusal};
 use snap_tasks::Subject;
 use std::alloc::Global;
@@ -18,12 +18,8 @@ use std::alloc::Global;
 /// # Errors
 ///
 /// `Refused` with the reason why `input` is refused; `Memory` where memory runs out.
-#[tactic(auto, unfolding(crate::specs::Surveys::surveyed, crate::specs::Surveys::clean_runs))]
-pub fn survey_input(
-    alloc: Global,
-    subject: Subject,
-    input: &[u8],
-) -> Result<SurveyOutput, Fault<Refusal>>
+#[tactic(auto, unfolding(crate::specs::Surveys::surveyed, crate::specs::Surveys::clean_runs, snap_input::specs::ManySchedules::prepared_schedules))]
+pub fn survey_input(alloc: Global, subject: Subject, input: &[u8]) -> Result<Output, Fault<Refusal>>
     requires { length input.now ≤ max_input }
     ensures output { let parts = parts_of input.now in
         AnswersSurvey (WereJudgedIn subject parts) result (λ judged. surveyed judged subject parts)
@@ -31,9 +27,6 @@ pub fn survey_input(
     ensures counted { (r : Refusal) → checked_schedules subject (parts_of input.now) ≡ Err r →
         result ≡ Err (Refused r) }
 {
-    check_schedules(subject, input)?;
-    let parts = split_parts(alloc, input)?;
-    let program = program_for(alloc, subject, parts.as_slice())?;
-    let texts = texts_for(subject, parts.as_slice());
-    survey_runs(alloc, &program, texts)
+    let given = prepare_schedules(alloc, subject, input)?;
+    survey_runs(alloc, &given.program, given.texts.as_slice())
 }

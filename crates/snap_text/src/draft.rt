@@ -67,6 +67,7 @@ impl Draft {
     }
 
     /// Appends `text`.
+    #[inline(always)]
     pub fn push(&mut self, text: &[u8])
         ensures { Adds self.old self.new text.now }
     {
@@ -76,6 +77,7 @@ impl Draft {
     }
 
     /// Appends `number` in decimal digits.
+    #[inline(always)]
     pub fn push_number(&mut self, number: u64)
         ensures { Adds self.old self.new (decimal number) }
     {

@@ -113,6 +113,7 @@ fn owner_trouble<K: Kind>(
     ensures { result ≡ owner_trouble machine.now.source.kind (context_of machine.now.shape
         machine.now.state taker) bank i j }
 {
+    // What `program` promises: the program is of the kind of the machine.
     let _program = machine.program();
     if K::may_write(taker.process, Address { bank, i, j }) {
         None

@@ -90,6 +90,7 @@ fn trapped_in(program: &Program, schedule: &Schedule, steps: &[TraceStep], item:
     ensures process { result ≡ trapped_at steps.now item }
     ensures one { IfSome result (λ i. IsOneOf schedule.now.shape.n i) }
 {
+    // What `shape` promises: the schedule keeps the rules of schedules.
     let _shape = schedule.shape();
     trapped_at(steps, item)
 }

@@ -1,4 +1,5 @@
--- `IsAskedBy`: the session that matched arguments of snapdb ask for, by the texts that `clap` has found for its options.
+-- `IsAskedBy`: the session that matched arguments of snapdb ask for, by the texts that `clap` has found for its
+-- options.
 use Rattle.std.specs.Prelude.{◌≡◌, ⊤, List, ℕ, Bool, ◌||◌, Option, Some, None, codes, option_map}
 use Rattle.clap.specs.Matches.{first_value, found_of, matched_of, one_text, raw_values}
 use Rattle.clap.specs.declared.parser.matches.ArgMatches.{ArgMatches}

@@ -1,6 +1,6 @@
 //! A scene of calls that may want memory: a batch of many schedules of one program.
 use crate::inputs::{SCAN, UPDATE, single};
-use crate::scene_fault::SceneFault;
+use crate::scene_trouble::SceneTrouble;
 use crate::trials::{tell, tried};
 use snap_batch::batch;
 use snap_sched::{Schedule, read};
@@ -8,7 +8,7 @@ use std::alloc::Global;
 use std::thread::Threads;
 
 /// Returns a scan, an update, and a scan again.
-fn schedules(alloc: Global) -> Result<Vec<Schedule>, SceneFault> {
+fn schedules(alloc: Global) -> Result<Vec<Schedule>, SceneTrouble> {
     let mut schedules = Vec::with_capacity(alloc, 3)?;
     for text in [SCAN, UPDATE, SCAN] {
         schedules.push(read(alloc, text)?)?;
@@ -17,7 +17,7 @@ fn schedules(alloc: Global) -> Result<Vec<Schedule>, SceneFault> {
 }
 
 /// Runs three schedules side by side.
-pub fn play(rt: &HostRuntime, threads: &(impl Threads + Sync)) -> Result<(), SceneFault> {
+pub fn play(rt: &HostRuntime, threads: &(impl Threads + Sync)) -> Result<(), SceneTrouble> {
     let program = single(rt.alloc())?;
     let schedules = schedules(rt.alloc())?;
     let reports = tried!(

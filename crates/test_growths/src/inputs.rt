@@ -3,7 +3,7 @@
 ghost use Rattle.std.specs.Prelude.{◌≡◌, IfOk};
 ghost use Rattle.snap_words.specs.declared.kind.KindTag.TheVariants.{Seq};
 
-use crate::scene_fault::SceneFault;
+use crate::scene_trouble::SceneTrouble;
 use snap_asm::load_listing;
 use snap_asm_program::Program;
 use snap_input::split_parts;
@@ -40,7 +40,7 @@ pub struct Inputs<'a> {
 }
 
 /// Reads standard input.
-pub fn read(rt: &HostRuntime) -> Result<Vec<u8>, SceneFault> {
+pub fn read(rt: &HostRuntime) -> Result<Vec<u8>, SceneTrouble> {
     let mut input = Vec::new(rt.alloc());
     let _count = rt.reader().read_to_end(&mut input)?;
     Ok(input)
@@ -48,22 +48,22 @@ pub fn read(rt: &HostRuntime) -> Result<Vec<u8>, SceneFault> {
 
 impl<'a> Inputs<'a> {
     /// Returns the two parts of an input.
-    pub fn of(alloc: Global, input: &'a [u8]) -> Result<Inputs<'a>, SceneFault> {
+    pub fn of(alloc: Global, input: &'a [u8]) -> Result<Inputs<'a>, SceneTrouble> {
         let parts = split_parts(alloc, input)?;
         match (parts.get(0), parts.get(1)) {
             (Some(single), Some(multi)) => Ok(Inputs { single, multi }),
-            _ => Err(SceneFault::Unknown),
+            _ => Err(SceneTrouble::Unknown),
         }
     }
 }
 
 /// Returns the program of the unbounded single-writer listing.
-pub fn single(alloc: Global) -> Result<Program, SceneFault>
+pub fn single(alloc: Global) -> Result<Program, SceneTrouble>
     ensures { IfOk result (λ p. p.kind ≡ Seq) }
 {
     let program = load_listing(alloc, snap_single::listing(alloc)?.into_listing())?;
     if program.kind() != KindTag::Seq {
-        return Err(SceneFault::Refused);
+        return Err(SceneTrouble::Refused);
     }
     Ok(program)
 }

@@ -6,7 +6,7 @@ ghost use Rattle.snap_semantics.specs.Table.{who};
 
 use crate::inputs::QUICK;
 use crate::outcomes::tell_outcome;
-use crate::scene_fault::SceneFault;
+use crate::scene_trouble::SceneTrouble;
 use crate::trials::{tell, tried};
 use crate::trouble::Trouble;
 use snap_asm::load_listing;
@@ -19,10 +19,10 @@ use snap_words::{Bits, KindTag};
 use std::alloc::{AllocError, Global};
 
 /// Returns a machine of the bounded single-writer listing, for a schedule.
-fn new_machine(alloc: Global, schedule: &Schedule) -> Result<Machine<Bits>, SceneFault> {
+fn new_machine(alloc: Global, schedule: &Schedule) -> Result<Machine<Bits>, SceneTrouble> {
     let program = load_listing(alloc, snap_bounded::listing(alloc)?.into_listing())?;
     if program.kind() != KindTag::Bits {
-        return Err(SceneFault::Refused);
+        return Err(SceneTrouble::Refused);
     }
     Ok(Machine::new(alloc, &program, schedule.shape())?)
 }
@@ -36,17 +36,17 @@ fn has_process(machine: &Machine<Bits>, item: Item) -> bool
 }
 
 /// Does an item.
-fn apply(machine: &mut Machine<Bits>, item: Item) -> Result<Outcome, SceneFault> {
+fn apply(machine: &mut Machine<Bits>, item: Item) -> Result<Outcome, SceneTrouble> {
     if !has_process(machine, item) {
-        return Err(SceneFault::Refused);
+        return Err(SceneTrouble::Refused);
     }
     Ok(machine.apply(item)?)
 }
 
 /// Does an item, and takes it back.
-fn apply_and_revert(machine: &mut Machine<Bits>, item: Item) -> Result<Outcome, SceneFault> {
+fn apply_and_revert(machine: &mut Machine<Bits>, item: Item) -> Result<Outcome, SceneTrouble> {
     if !has_process(machine, item) {
-        return Err(SceneFault::Refused);
+        return Err(SceneTrouble::Refused);
     }
     let (outcome, undo) = machine.apply_undo(item)?;
     machine.revert(undo);
@@ -61,13 +61,13 @@ fn report_of(alloc: Global, machine: &Machine<Bits>) -> Result<Vec<u8>, AllocErr
 }
 
 /// Writes the report of a machine.
-fn tell_report(rt: &HostRuntime, machine: &Machine<Bits>) -> Result<(), SceneFault> {
+fn tell_report(rt: &HostRuntime, machine: &Machine<Bits>) -> Result<(), SceneTrouble> {
     let text = tried!(rt, report_of(rt.alloc(), machine));
     tell(rt, text.as_slice())
 }
 
 /// Does an item, and writes its outcome.
-fn do_item(rt: &HostRuntime, machine: &mut Machine<Bits>, item: Item) -> Result<(), SceneFault> {
+fn do_item(rt: &HostRuntime, machine: &mut Machine<Bits>, item: Item) -> Result<(), SceneTrouble> {
     let outcome = tried!(rt, apply(machine, item));
     tell_outcome(rt, &outcome)
 }
@@ -77,7 +77,7 @@ fn do_item_twice(
     rt: &HostRuntime,
     machine: &mut Machine<Bits>,
     item: Item,
-) -> Result<(), SceneFault> {
+) -> Result<(), SceneTrouble> {
     let outcome = tried!(rt, apply_and_revert(machine, item));
     tell_outcome(rt, &outcome)?;
     let _outcome = tried!(rt, apply(machine, item));
@@ -89,7 +89,7 @@ fn do_items(
     rt: &HostRuntime,
     machine: &mut Machine<Bits>,
     schedule: &Schedule,
-) -> Result<(), SceneFault> {
+) -> Result<(), SceneTrouble> {
     for item in schedule.items().iter() {
         do_item(rt, machine, item)?;
     }
@@ -101,7 +101,7 @@ fn do_items_twice(
     rt: &HostRuntime,
     machine: &mut Machine<Bits>,
     schedule: &Schedule,
-) -> Result<(), SceneFault> {
+) -> Result<(), SceneTrouble> {
     for item in schedule.items().iter() {
         do_item_twice(rt, machine, item)?;
     }
@@ -109,7 +109,7 @@ fn do_items_twice(
 }
 
 /// Does each item of a schedule.
-pub fn play(rt: &HostRuntime) -> Result<(), SceneFault> {
+pub fn play(rt: &HostRuntime) -> Result<(), SceneTrouble> {
     let schedule = read(rt.alloc(), QUICK)?;
     let mut machine = new_machine(rt.alloc(), &schedule)?;
     do_items(rt, &mut machine, &schedule)?;
@@ -117,7 +117,7 @@ pub fn play(rt: &HostRuntime) -> Result<(), SceneFault> {
 }
 
 /// Does each item of a schedule, takes it back, and does it again.
-pub fn play_back(rt: &HostRuntime) -> Result<(), SceneFault> {
+pub fn play_back(rt: &HostRuntime) -> Result<(), SceneTrouble> {
     let schedule = read(rt.alloc(), QUICK)?;
     let mut machine = new_machine(rt.alloc(), &schedule)?;
     do_items_twice(rt, &mut machine, &schedule)?;

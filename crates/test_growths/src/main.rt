@@ -7,7 +7,7 @@ mod debug_outputs;
 mod inputs;
 mod items;
 mod outcomes;
-mod scene_fault;
+mod scene_trouble;
 mod scripts;
 mod seats;
 mod sessions;
@@ -15,7 +15,7 @@ mod texts;
 mod trials;
 
 use inputs::Inputs;
-use scene_fault::SceneFault;
+use scene_trouble::SceneTrouble;
 use std::io::Write;
 use std::process::ExitCode;
 use std::sync::Wait;
@@ -32,7 +32,7 @@ fn play(
     threads: &(impl Threads + Wait + Sync),
     inputs: &Inputs,
     name: &str,
-) -> Result<(), SceneFault> {
+) -> Result<(), SceneTrouble> {
     match name {
         "perform" => debug_outputs::play(rt, inputs),
         "texts" => texts::play(rt, inputs),
@@ -42,7 +42,7 @@ fn play(
         "batch" => batches::play(rt, threads),
         "seats" => seats::play(rt, threads),
         "scripts" => scripts::play(rt, threads),
-        _ => Err(SceneFault::Unknown),
+        _ => Err(SceneTrouble::Unknown),
     }
 }
 
@@ -52,7 +52,7 @@ fn play_each(
     threads: &(impl Threads + Wait + Sync),
     inputs: &Inputs,
     names: &[&str],
-) -> Result<(), SceneFault> {
+) -> Result<(), SceneTrouble> {
     for name in names {
         println!(rt; "{name}")?;
         play(rt, threads, inputs, name)?;
@@ -61,10 +61,13 @@ fn play_each(
 }
 
 /// Plays what the first word of the command line names.
-fn play_asked(rt: &HostRuntime, threads: &(impl Threads + Wait + Sync)) -> Result<(), SceneFault> {
+fn play_asked(
+    rt: &HostRuntime,
+    threads: &(impl Threads + Wait + Sync),
+) -> Result<(), SceneTrouble> {
     let words = std::env::args(rt)?.collect::<Vec<String>>(rt.alloc())?;
     let Some(name) = words.get(1) else {
-        return Err(SceneFault::Unknown);
+        return Err(SceneTrouble::Unknown);
     };
     let input = inputs::read(rt)?;
     let inputs = Inputs::of(rt.alloc(), input.as_slice())?;
@@ -75,7 +78,7 @@ fn play_asked(rt: &HostRuntime, threads: &(impl Threads + Wait + Sync)) -> Resul
 }
 
 /// Says why a scene was not played to its end, and gives the status of that.
-fn complain(rt: &HostRuntime, fault: SceneFault) -> u8 {
+fn complain(rt: &HostRuntime, fault: SceneTrouble) -> u8 {
     let _said = rt.stderr().write_all(fault.line());
     fault.status()
 }

@@ -1,6 +1,6 @@
 //! Writes what comes of the calls in a scene: the line of an item's outcome, and the report of a
 //! record.
-use crate::scene_fault::SceneFault;
+use crate::scene_trouble::SceneTrouble;
 use crate::trials::{tell, tried};
 use snap_record::Record;
 use snap_report::{outcome_text, report};
@@ -18,7 +18,7 @@ fn outcome_line(alloc: Global, outcome: &Outcome) -> Result<Vec<u8>, AllocError>
 }
 
 /// Writes the outcome of an item.
-pub fn tell_outcome(rt: &HostRuntime, outcome: &Outcome) -> Result<(), SceneFault> {
+pub fn tell_outcome(rt: &HostRuntime, outcome: &Outcome) -> Result<(), SceneTrouble> {
     let line = tried!(rt, outcome_line(rt.alloc(), outcome));
     tell(rt, line.as_slice())
 }

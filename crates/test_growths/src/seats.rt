@@ -5,7 +5,7 @@ ghost use Rattle.snap_words.specs.declared.kind.KindTag.TheVariants as kind;
 
 use crate::inputs::single;
 use crate::outcomes::{record_report, tell_outcome};
-use crate::scene_fault::SceneFault;
+use crate::scene_trouble::SceneTrouble;
 use crate::trials::{tell, tried};
 use snap_asm_program::Program;
 use snap_live::{Desk, Seat, Turn, close, open};
@@ -26,7 +26,7 @@ struct Bench {
 }
 
 /// Returns a new desk with one process and one word.
-fn new_bench(alloc: Global, program: &Program) -> Result<Bench, SceneFault>
+fn new_bench(alloc: Global, program: &Program) -> Result<Bench, SceneTrouble>
     requires { program.now.kind ≡ kind.Seq }
 {
     let (desk, seats) = open::<Seq>(alloc, program, Shape::new(1, 1)?)?;
@@ -44,21 +44,21 @@ fn due(number: u64) -> Option<Op> {
 }
 
 /// Makes a turn of the seat. Whatever comes of it, the seat has asked for one more.
-fn turn<R: Wait>(rt: &R, bench: &mut Bench, number: u64) -> Result<Turn, SceneFault> {
+fn turn<R: Wait>(rt: &R, bench: &mut Bench, number: u64) -> Result<Turn, SceneTrouble> {
     if bench.seats.is_empty() {
-        return Err(SceneFault::Refused);
+        return Err(SceneTrouble::Refused);
     }
     let seat = &mut bench.seats[0];
     let asked = seat.asked();
     if asked >= 2 * TURNS {
-        return Err(SceneFault::Refused);
+        return Err(SceneTrouble::Refused);
     }
     let answer = match due(number) {
         Some(op) => seat.call(rt, &bench.desk, op),
         None => seat.step(rt, &bench.desk),
     };
     if seat.asked() != asked + 1 {
-        return Err(SceneFault::Changed);
+        return Err(SceneTrouble::Changed);
     }
     Ok(answer?)
 }
@@ -69,24 +69,24 @@ fn take_turn(
     threads: &impl Wait,
     bench: &mut Bench,
     number: u64,
-) -> Result<(), SceneFault> {
+) -> Result<(), SceneTrouble> {
     let Turn { number, outcome } = tried!(rt, turn(threads, bench, number));
     print!(rt; "{number} ")?;
     tell_outcome(rt, &outcome)
 }
 
 /// Closes the desk, and reports the record of all turns.
-fn end(rt: &HostRuntime, bench: Bench) -> Result<(), SceneFault> {
+fn end(rt: &HostRuntime, bench: Bench) -> Result<(), SceneTrouble> {
     let Bench { desk, seats } = bench;
     let Ok(record) = close(desk, seats) else {
-        return Err(SceneFault::Changed);
+        return Err(SceneTrouble::Changed);
     };
     let report = tried!(rt, record_report(rt.alloc(), &record));
     tell(rt, report.as_slice())
 }
 
 /// Opens a desk, lets its one seat take its turns, and closes it.
-pub fn play(rt: &HostRuntime, threads: &impl Wait) -> Result<(), SceneFault> {
+pub fn play(rt: &HostRuntime, threads: &impl Wait) -> Result<(), SceneTrouble> {
     let program = single(rt.alloc())?;
     let mut bench = tried!(rt, new_bench(rt.alloc(), &program));
     for number in 1..=TURNS {

@@ -1,7 +1,7 @@
 //! A scene of calls that may want memory: a debugger session, command by command, which stays as it
 //! was when memory is refused.
 use crate::inputs::{BORROWED, COMMANDS, single};
-use crate::scene_fault::SceneFault;
+use crate::scene_trouble::SceneTrouble;
 use crate::trials::{tell, tried, wants_memory};
 use snap_debug::{Command, Reply, Session, fault_line, read_commands};
 use snap_semantics::{CommandRefusal, Fault};
@@ -9,7 +9,7 @@ use snap_words::Seq;
 use std::alloc::Global;
 
 /// Returns a session over a scan that borrows its view.
-fn open(alloc: Global) -> Result<Session<Seq>, SceneFault> {
+fn open(alloc: Global) -> Result<Session<Seq>, SceneTrouble> {
     let program = single(alloc)?;
     let schedule = snap_sched::read(alloc, BORROWED)?;
     Ok(Session::open(alloc, &program, &schedule)?)
@@ -19,10 +19,10 @@ fn open(alloc: Global) -> Result<Session<Seq>, SceneFault> {
 fn tell_answer(
     rt: &HostRuntime,
     answer: Result<Reply, Fault<CommandRefusal>>,
-) -> Result<(), SceneFault> {
+) -> Result<(), SceneTrouble> {
     match answer {
         Ok(reply) => tell(rt, reply.as_slice()),
-        Err(Fault::Memory) => Err(SceneFault::Memory),
+        Err(Fault::Memory) => Err(SceneTrouble::Memory),
         Err(fault) => {
             let line = tried!(rt, fault_line(rt.alloc(), &fault));
             tell(rt, line.as_slice())
@@ -31,11 +31,15 @@ fn tell_answer(
 }
 
 /// Whether a session has the position and the report that it had.
-fn check_unchanged(session: &Session<Seq>, position: u64, report: &[u8]) -> Result<(), SceneFault> {
+fn check_unchanged(
+    session: &Session<Seq>,
+    position: u64,
+    report: &[u8],
+) -> Result<(), SceneTrouble> {
     if session.position() == position && session.report()?.as_slice() == report {
         Ok(())
     } else {
-        Err(SceneFault::Changed)
+        Err(SceneTrouble::Changed)
     }
 }
 
@@ -45,13 +49,13 @@ fn command(
     rt: &HostRuntime,
     session: &mut Session<Seq>,
     command: &Command,
-) -> Result<(), SceneFault> {
+) -> Result<(), SceneTrouble> {
     let position = session.position();
     let report = tried!(rt, session.report());
     match session.command(command) {
         Err(Fault::Memory) => {
             check_unchanged(session, position, report.as_slice())?;
-            wants_memory(rt, SceneFault::Memory)?;
+            wants_memory(rt, SceneTrouble::Memory)?;
             tell_answer(rt, session.command(command))
         }
         answer => tell_answer(rt, answer),
@@ -59,7 +63,7 @@ fn command(
 }
 
 /// Plays commands forward to each write of a register, and back again.
-pub fn play(rt: &HostRuntime) -> Result<(), SceneFault> {
+pub fn play(rt: &HostRuntime) -> Result<(), SceneTrouble> {
     let mut session = open(rt.alloc())?;
     let commands = read_commands(rt.alloc(), COMMANDS)?;
     for asked in &commands {

@@ -1,5 +1,5 @@
 //! Makes a call once more if it wanted memory, and says so on standard error.
-use crate::scene_fault::SceneFault;
+use crate::scene_trouble::SceneTrouble;
 use std::io::Write;
 
 /// Makes a call, and once more if it wanted memory, which is said on standard error; and returns
@@ -9,7 +9,7 @@ macro_rules! tried {
         match $call {
             Ok(answer) => answer,
             Err(error) => {
-                $crate::trials::wants_memory($rt, $crate::scene_fault::SceneFault::from(error))?;
+                $crate::trials::wants_memory($rt, $crate::scene_trouble::SceneTrouble::from(error))?;
                 $call?
             }
         }
@@ -19,14 +19,14 @@ macro_rules! tried {
 pub(crate) use tried;
 
 /// Says that a call wanted memory; any other fault is handed back.
-pub fn wants_memory(rt: &HostRuntime, fault: SceneFault) -> Result<(), SceneFault> {
-    if fault != SceneFault::Memory {
+pub fn wants_memory(rt: &HostRuntime, fault: SceneTrouble) -> Result<(), SceneTrouble> {
+    if fault != SceneTrouble::Memory {
         return Err(fault);
     }
     Ok(rt.stderr().write_all(b"again\n")?)
 }
 
 /// Writes a text to standard output.
-pub fn tell(rt: &HostRuntime, text: &[u8]) -> Result<(), SceneFault> {
+pub fn tell(rt: &HostRuntime, text: &[u8]) -> Result<(), SceneTrouble> {
     Ok(rt.stdout().write_all(text)?)
 }

@@ -8,7 +8,6 @@ use Rattle.snap_certify.proofs.task.certify_input.Goals as goal
 pub returns-clause-output : goal.returns-clause-output
 returns-clause-output c =
     of_input (λ out. out.items) c.args.subject (parts_of c.args.input.now)
-    (map (λ part. part.now) c.in_ok-parts.parts.items)
-    (map (λ text. text.now) c.texts_for-texts.result.now) c.in_ok-program.program
-    c.in_ok-parts.ensures.parts (rw (sym c.as_slice.ensures.value) c.in_ok-program.ensures)
-    (rw (sym c.as_slice-2.ensures.value) c.texts_for-texts.ensures) c.certify_texts.result c.certify_texts.ensures
+    (record { source = c.in_ok-given.given.program; texts = map (λ text. text.now) c.in_ok-given.given.texts.items })
+    c.in_ok-given.ensures.prepared c.certify_texts.result
+    (rw (sym c.as_slice.ensures.value) c.certify_texts.ensures)

@@ -25,19 +25,21 @@ returns-clause-text g c =
     let x = c.args.item in
     let o = c.in_ok-outcome.outcome in
     let u = c.in_ok-overwritten.field-0 in
-    let out = c.args.sheet.now.out.items in
-    let did = c.push_did.new.out.items in
+    let out = c.args.sheet.now.out.text in
+    let did = c.push_did.new.out.text in
     let mine : c.who-i.result ≡ who x = c.who-i.ensures in
     let run : c.line_run-run.result ≡ line_run x (process_at S (who x)).status =
     c.line_run-run.ensures ∙ ap (line_run x) (c.status.ensures ∙ ap (λ (i : ℕ). (process_at S i).status) mine) in
     let place : c.write_place-place.result ≡ write_place_of u.place = c.write_place-place.ensures in
-    let before : c.as_slice-before.result.now ≡ touched_text s.kind (who x) (write_place_of u.place) S [] =
-    c.as_slice-before.ensures.value ∙ c.in_ok-touched_text.ensures
+    let changed = c.push_changes.ensures c.in_ok-well.ensures.0 in
+    let told = c.push_did.ensures changed.0 in
+    let before : c.in_ok-before.before.now ≡ touched_text s.kind (who x) (write_place_of u.place) S [] =
+    c.in_ok-before.ensures.1 ∙ c.in_ok-touched_text.ensures c.in_ok-before.ensures.0
     ∙ ap (λ (i : ℕ). touched_text s.kind i c.write_place-place.result S []) mine
     ∙ ap (λ (p : WritePlace). touched_text s.kind (who x) p S []) place in
-    let after : c.as_slice-after.result.now
+    let after : c.in_ok-after.after.now
     ≡ touched_text s.kind (who x) (write_place_of u.place) S' (event_of t x o) =
-    c.as_slice-after.ensures.value ∙ c.in_ok-touched_text-2.ensures
+    c.in_ok-after.ensures.1 ∙ c.in_ok-touched_text-2.ensures c.in_ok-after.ensures.0
     ∙ ap (λ (l : Source). touched_text l.kind c.who-i.result c.write_place-place.result S' c.as_slice.result.now)
     c.in_ok-outcome.ensures.source
     ∙ ap (λ (i : ℕ). touched_text s.kind i c.write_place-place.result S' c.as_slice.result.now) mine
@@ -51,13 +53,13 @@ returns-clause-text g c =
     let high = c.requires.1 in
     let count = c.shape-shape.ensures.processes in
     omega (arith, one, high, count)) in
-    item_told c.args.texts.now s c.args.machine.now.shape S S' t x o u out did c.push_changes.new.out.items
+    item_told c.args.texts.now s c.args.machine.now.shape S S' t x o u out did c.push_changes.new.out.text
     c.in_ok-outcome.ensures.done
-    (c.in_ok-push_did.ensures
+    (told.1
     ∙ ap (λ (i : ℕ). out ++ head_text c.args.texts.now t i o c.line_run-run.result) mine
     ∙ ap (λ r. out ++ head_text c.args.texts.now t (who x) o r) run)
-    (c.in_ok-push_changes.ensures
-    ∙ ap (λ (text : List ℕ). did ++ text_between (lines_of text) (lines_of c.as_slice-after.result.now)) before
+    (changed.1
+    ∙ ap (λ (text : List ℕ). did ++ text_between (lines_of text) (lines_of c.in_ok-after.after.now)) before
     ∙ ap (λ (text : List ℕ). did
     ++ text_between (lines_of (touched_text s.kind (who x) (write_place_of u.place) S [])) (lines_of text)) after)
     rules there c.in_ok-overwritten.ensures.locals c.in_ok-overwritten.ensures.process

@@ -1,6 +1,7 @@
 -- `trace` of snap_output (src/run_trace.rt): the proof of what its contract says. Returns what each item of the run
 -- of `program` over `schedule` did, and what it changed.
-use Rattle.std.proofs.Common.{◌≡◌, ◌+◌, ◌++◌, ap, arith, map, sym, ◌∙◌}
+use Rattle.std.proofs.Common.{◌≡◌, ◌+◌, ◌++◌, List, Result, Ok, Err, ap, arith, map, sym, ◌∙◌, ℕ}
+use Rattle.std.specs.Prelude.{IfOk}
 use Rattle.snap_semantics.specs.Source.{Source}
 use Rattle.snap_semantics.specs.State.{initial}
 use Rattle.snap_runs.specs.Run.{run_over}
@@ -60,9 +61,16 @@ loop-item-preserved g c =
       tt,
     )
 
+-- what was answered is another text, where this one is the other
+other_text : {A E : Type 0} (r : Result A E) (text : A → List ℕ) (x y : List ℕ) → IfOk r (λ a. text a ≡ x) → x ≡ y →
+    IfOk r (λ a. text a ≡ y)
+other_text (Ok a) text x y e is = e ∙ is
+other_text (Err f) text x y e is = tt
+
 pub returns : goal.returns
 returns g c =
-    c.into_text.ensures
-    ∙ all_told (run_over c.args.program.now c.args.schedule.now)
+    other_text c.into_text.result (λ t. t.items) _ _ c.into_text.ensures
+    (all_told (run_over c.args.program.now c.args.schedule.now)
     (map seen_line c.texts.inside.lines.items) c.loop-item.machine
-    c.loop-item.number c.loop-item.sheet.out.text c.loop-item.left c.loop-item.invariant.0 c.in_default.ensures.steps.0
+    c.loop-item.number c.loop-item.sheet.out.text c.loop-item.left c.loop-item.invariant.0
+    c.in_default.ensures.steps.0)

@@ -7,8 +7,7 @@ use Rattle.snap_survey.proofs.task.survey_input.Goals as goal
 
 pub returns-clause-output : goal.returns-clause-output
 returns-clause-output c =
-    of_input c.args.subject (parts_of c.args.input.now) (map (λ part. part.now) c.in_ok-parts.parts.items)
-    (map (λ text. text.now) c.texts_for-texts.result.now) c.in_ok-program.program
-    (sym c.in_ok-check_schedules.ensures) c.in_ok-parts.ensures
-    (rw (sym c.as_slice.ensures.value) c.in_ok-program.ensures)
-    (rw (sym c.as_slice-2.ensures.value) c.texts_for-texts.ensures) c.survey_runs.result c.survey_runs.ensures
+    of_input c.args.subject (parts_of c.args.input.now)
+    (record { source = c.in_ok-given.given.program; texts = map (λ text. text.now) c.in_ok-given.given.texts.items })
+    c.in_ok-given.ensures.prepared c.survey_runs.result
+    (rw (sym c.as_slice.ensures.value) c.survey_runs.ensures)

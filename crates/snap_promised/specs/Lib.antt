@@ -1,0 +1,1 @@
+-- The definitions of snap_promised, by their modules.

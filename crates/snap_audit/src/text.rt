@@ -24,10 +24,6 @@ fn point_text(out: &mut Draft, point: Option<u64>)
 }
 
 /// Appends the line `scan I call C answer E point P collects N`.
-///
-/// # Errors
-///
-/// `AllocError` where memory runs out.
 pub fn push_verdict_line(out: &mut Draft, verdict: &Verdict)
     ensures { Adds out.old out.new (verdict_line verdict.now) }
 {

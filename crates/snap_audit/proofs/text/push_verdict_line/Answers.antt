@@ -14,7 +14,5 @@ returns c = λ well.
     let e4 = c.push_number-2.ensures e5.0 in
     let e3 = c.push-2.ensures e4.0 in
     let e2 = c.push_number.ensures e3.0 in
-    let e1 = c.push.ensures e2.0 in (
-      e1.0,
-      rw (e11.1, e10.1, e9.1, e8.1, e7.1, e6.1, e5.1, e4.1, e3.1, e2.1, e1.1, c.from.ensures) (simp append_assoc),
-    )
+    let e1 = c.push.ensures e2.0 in
+    (e1.0, rw (e11.1, e10.1, e9.1, e8.1, e7.1, e6.1, e5.1, e4.1, e3.1, e2.1, e1.1, c.from.ensures) (simp append_assoc))

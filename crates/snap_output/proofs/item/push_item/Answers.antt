@@ -31,7 +31,7 @@ returns-clause-text g c =
     let run : c.line_run-run.result ≡ line_run x (process_at S (who x)).status =
     c.line_run-run.ensures ∙ ap (line_run x) (c.status.ensures ∙ ap (λ (i : ℕ). (process_at S i).status) mine) in
     let place : c.write_place-place.result ≡ write_place_of u.place = c.write_place-place.ensures in
-    let changed = c.push_changes.ensures c.in_ok-well.ensures.0 in
+    let changed = c.push_changes.ensures c.in_ok-_well.ensures.0 in
     let told = c.push_did.ensures changed.0 in
     let before : c.in_ok-before.before.now ≡ touched_text s.kind (who x) (write_place_of u.place) S [] =
     c.in_ok-before.ensures.1 ∙ c.in_ok-touched_text.ensures c.in_ok-before.ensures.0

@@ -7,6 +7,6 @@ pub mod Chosen
 pub mod Certifying
 pub mod Worth
 pub mod Lines
-pub mod Finding
+pub mod FindingSteps
 pub mod Passing
 pub mod Judging

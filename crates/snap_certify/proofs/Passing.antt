@@ -24,7 +24,7 @@ use Rattle.snap_audit.specs.Watch.{Watches}
 use Rattle.snap_audit.specs.declared.watch.Watch.{Watch}
 use Rattle.snap_certify.specs.Finding.{Finds, Notes, all_of, changed_line, fresh, seen_write}
 use Rattle.snap_certify.specs.declared.finder.Finder.{Finder}
-use Rattle.snap_certify.proofs.Finding.{finds_more}
+use Rattle.snap_certify.proofs.FindingSteps.{finds_more}
 use Rattle.snap_certify.proofs.Lines.{dry_line, dry_values}
 
 -- an item that is seen so

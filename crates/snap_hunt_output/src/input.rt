@@ -1,6 +1,6 @@
 //! `input_text`: prints a failing run as an input of the debugger: listing, note of what fails,
 //! schedule, and a command that goes to its end.
-ghost use Rattle.std.specs.Prelude.{◌≡◌, IfOk};
+ghost use Rattle.std.specs.Prelude.{◌≡◌, IfOk, codes, if◌then◌else◌};
 ghost use Rattle.snap_text.specs.Drafted.{Adds};
 ghost use Rattle.snap_hunt_output.specs.Input.{ends_line, failure_line, input_text};
 ghost use Rattle.snap_hunt_output.specs.Input.{listing_part, order_line, run_note, steps_line};
@@ -32,12 +32,18 @@ fn push_listing(out: &mut Draft, listing: &[u8])
     out.push(b"\n");
 }
 
+/// Returns the word for an update or a scan, and a space.
+fn operation_word(update: bool) -> &'static [u8]
+    ensures { result.now ≡ (if update then codes "update " else codes "scan ") }
+{
+    if update { b"update " } else { b"scan " }
+}
+
 /// Appends `scan I call C step N item T`, or `update` if it is one.
 fn steps_line(out: &mut Draft, process: u32, item: u64, own: &OwnSteps)
     ensures { Adds out.old out.new (steps_line process item own.now) }
 {
-    let what: &[u8] = if own.update { b"update " } else { b"scan " };
-    out.push(what);
+    out.push(operation_word(own.update));
     out.push_number(u64::from(process));
     out.push(b" call ");
     out.push_number(own.call);

@@ -122,7 +122,6 @@ fn push_front(out: &mut Draft)
 }
 
 /// Appends a line for an operation that calls nothing.
-#[tactic(auto, unfolding(crate::specs::Uncalled::uncalled_line))]
 fn push_line(out: &mut Draft, call: &UncalledCall)
     ensures { Adds out.old out.new (uncalled_line call.now) }
 {

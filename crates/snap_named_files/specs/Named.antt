@@ -1,16 +1,10 @@
 -- `named_of`: what a command line names: the files of a listing and of a schedule, or the file of a schedule for a
 -- shipped listing.
-use Rattle.std.specs.Prelude.{ℕ, List, [], ◌∷◌, Option, Some, None, option_map}
+use Rattle.std.specs.Prelude.{ℕ, List, [], ◌∷◌, Option, Some, None}
 use Rattle.snap_faults.specs.Names as faults
 use Rattle.snap_words.specs.declared.kind.KindTag.{KindTag}
-use Rattle.snap_tasks.specs.Request.{kind_of}
 use Rattle.snap_named_files.specs.declared.named.Named.{Named}
 use Rattle.snap_named_files.specs.declared.named.Named.TheVariants as named
-
--- the kind of this name, if there is one; and no kind, if no name is given
-abbrev pub kind_given : Option (List ℕ) → Option (Option KindTag)
-kind_given None = Some None
-kind_given (Some name) = option_map (λ kind. Some kind) (kind_of name)
 
 -- what is named, by the names of files
 pub data Names : Type 0 where

@@ -7,5 +7,5 @@ mod named;
 mod texts;
 
 pub use explained::explanation_in;
-pub use named::{Named, kind_given, named_of, names_of};
+pub use named::{Named, named_of, names_of};
 pub use texts::{Texts, read_texts};

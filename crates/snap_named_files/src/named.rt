@@ -2,10 +2,9 @@
 //! schedule for a shipped listing.
 ghost use Rattle.std.specs.Prelude.{◌≡◌, map, option_map};
 ghost use Rattle.snap_faults.specs.Names.{view_names};
-ghost use Rattle.snap_named_files.specs.Named.{kind_given, named_of, names_of, view_named};
+ghost use Rattle.snap_named_files.specs.Named.{named_of, names_of, view_named};
 
 use snap_faults::Names;
-use snap_tasks::kind_of;
 use snap_words::KindTag;
 
 /// What a command line names.
@@ -15,16 +14,6 @@ pub enum Named<'a> {
     Files(&'a str, &'a str),
     /// The shipped listing of a kind, and the file of a schedule.
     Shipped(KindTag, &'a str),
-}
-
-/// Returns the kind that `name` means, if a name is given; `None` where it means none.
-pub fn kind_given(name: Option<&str>) -> Option<Option<KindTag>>
-    ensures { result ≡ kind_given (option_map (λ n. n.now) name) }
-{
-    match name {
-        Some(name) => Some(Some(kind_of(name)?)),
-        None => Some(None),
-    }
 }
 
 /// Returns the files that the names are of: a listing and a schedule, or a schedule alone if a kind

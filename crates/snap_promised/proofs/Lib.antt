@@ -1,2 +1,2 @@
 -- The proofs of snap_promised, by their modules.
-pub mod Kinds
+pub mod Shipped

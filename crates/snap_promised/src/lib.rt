@@ -27,7 +27,7 @@ fn keeps_promises<K: Kind>(schedule: &Schedule)
 }
 
 /// Returns the program of the listing that is shipped for a kind.
-#[tactic(auto, using(crate::proofs::Kinds::kind_shipped))]
+#[tactic(auto, using(crate::proofs::Shipped::kind_shipped))]
 fn shipped_program(alloc: Global, kind: KindTag) -> Result<Program, AllocError>
     ensures program { IfOk result (λ p. p ≡ shipped kind) }
     ensures kind { IfOk result (λ p. p.kind ≡ kind) }

@@ -1,89 +1,23 @@
--- What the prompt has added is said: what a line asks for, where no question was asked.
-use Rattle.std.proofs.Common.{◌≡◌, ◌+◌, ◌-◌, ◌^◌, ◌++◌, ◌∙◌, ℕ, Bool, true, false, min, List, Option, None, Some}
-use Rattle.std.proofs.Common.{IfOk, OnOk, Result, Ok, Err, ap, option_map, refl, subst, sym}
-use Rattle.std.specs.Prelude.{is_ok, not, ◌&&◌}
-use Rattle.std.specs.declared.io.ErrorKind.{ErrorKind}
+-- What the prompt has added is said, and what comes of it is what the definitions give.
+use Rattle.std.proofs.Common.{◌≡◌, ◌+◌, ◌-◌, ◌^◌, ◌∙◌, ℕ, Bool, true, min, List, Option, None, Some, IfOk, OnOk}
+use Rattle.std.proofs.Common.{Result, Ok, Err, ap, option_map, refl, subst, sym}
 use Rattle.snap_text.specs.Drafted.{Adds, Drafted}
 use Rattle.snap_streams.specs.Dialog.{Next}
-use Rattle.snap_streams.specs.Folder.{Keeps, Kept, with_kept}
-use Rattle.snap_semantics.specs.ScheduleText.{schedule_text}
 use Rattle.snap_semantics.specs.declared.refusal.CommandRefusal.{CommandRefusal}
-use Rattle.snap_prompt.specs.Ask.{ask_of, is_yes}
+use Rattle.snap_prompt.specs.Ask.{ask_of}
 use Rattle.snap_prompt.specs.SaveForm.{saving_of}
 use Rattle.snap_prompt.specs.declared.ask.Ask.{Ask}
-use Rattle.snap_prompt.specs.Prompt.{AddsReply, Answer, Prompt, Says, SavesPrompt, after_saving, answer_line, answered_to, asked}
-use Rattle.snap_prompt.specs.Prompt.{counted, decided, in_words, next_line, next_where, saved_or_asked, saves_under}
-use Rattle.snap_prompt.specs.Prompt.{says, schedule_of_run}
+use Rattle.snap_prompt.specs.Prompt.{AddsReply, Answer, Prompt, SavesPrompt, after_saving, answer_line, answered_to}
+use Rattle.snap_prompt.specs.Prompt.{asked, counted, next_line, next_where, saved_or_asked, saves_under, says}
 use Rattle.snap_prompt.specs.Said.{IsAdded, IsSaid, Said, saved, text, why}
-use Rattle.snap_prompt.specs.Saved.{Saves, outcome_line, tells_saved}
+use Rattle.snap_prompt.specs.Saved.{tells_saved}
 use Rattle.snap_prompt.specs.declared.question.Question.{Question}
-
--- what follows from what holds where a call did not fail
-pub on_ok : {A E : Type 0} {P Q : Type 0} (r : Result A E) → OnOk r P → (P → Q) → OnOk r Q
-on_ok (Ok x) p f = f p
-on_ok (Err e) p f = tt
-
--- what is added is the same if what is said is
-pub same_added : (s t : Said) (old new : Drafted) → s ≡ t → IsAdded t old new → IsAdded s old new
-same_added s t old new is adds = subst (λ (y : Said). IsAdded y old new) (sym is) adds
 
 -- something that is said
 pub it_is_said : (s : Said) (old new : Drafted) → IsAdded s old new → (it : List ℕ) × IsSaid s it × Adds old new it
 it_is_said (text x) old new adds = (x, refl, adds)
 it_is_said (why r t) old new adds = adds
 it_is_said (saved name) old new adds = adds
-
--- a prompt with other files
-abbrev pub with_folder : Prompt → (has_unsaved : Bool) → Option (List Kept) → Prompt
-with_folder p has_unsaved kept = record {
-  session = p.session;
-  last = p.last;
-  question = p.question;
-  lines = p.lines;
-  has_unsaved = has_unsaved;
-  kept = kept;
-  shows = p.shows;
-}
-
-and_true : (b : Bool) → (b && true) ≡ b
-and_true true = refl
-and_true false = refl
-
-and_false : (b : Bool) → (b && false) ≡ false
-and_false true = refl
-and_false false = refl
-
--- a schedule that was to be saved under a name: whether it was, what is said of it, and what is unsaved then
-pub saves_so : (p v : Prompt) (name written : List ℕ) (after : Option (List Kept)) (old new : Drafted)
-    (is_saved unsaved : Bool) → v ≡ p → Saves name written v.kept after old new is_saved →
-    written ≡ schedule_text (schedule_of_run v.session.run) → unsaved ≡ (v.has_unsaved && not is_saved) →
-    SavesPrompt p name old new (with_folder v unsaved after)
-saves_so p v name written after old new is_saved unsaved is saves is_text left =
-    subst (λ (x : Prompt). SavesPrompt x name old new (with_folder v unsaved after)) is
-    (go saves.0 saves.1 saves.2 saves.3) where
-      go : (done : Result (Unit {0}) ErrorKind) → Keeps done v.kept after name written →
-          Adds old new (outcome_line name done) → is_saved ≡ is_ok done →
-          SavesPrompt v name old new (with_folder v unsaved after)
-      go (Ok done) keeps adds ok =
-          let none : unsaved ≡ false =
-          left ∙ ap (λ (b : Bool). v.has_unsaved && not b) ok ∙ and_false v.has_unsaved in
-          let there : after ≡ with_kept name (schedule_text (schedule_of_run v.session.run)) v.kept =
-          keeps ∙ ap (λ (t : List ℕ). with_kept name t v.kept) is_text in (
-            outcome_line name (Ok done),
-            (Ok done, refl),
-            adds,
-            ap (λ (b : Bool). with_folder v b after) none
-                ∙ ap (λ (k : Option (List Kept)). with_folder v false k) there,
-          )
-      go (Err e) keeps adds ok =
-          let same : unsaved ≡ v.has_unsaved =
-          left ∙ ap (λ (b : Bool). v.has_unsaved && not b) ok ∙ and_true v.has_unsaved in (
-            outcome_line name (Err e),
-            (Err e, refl),
-            adds,
-            ap (λ (b : Bool). with_folder v b after) same
-                ∙ ap (λ (k : Option (List Kept)). with_folder v v.has_unsaved k) keeps,
-          )
 
 -- where something was found, and where nothing was: whether a line names a file
 pub some_named : {A : Type 0} (view : A → List ℕ × Bool) (found : Option A) (wanted : Option (List ℕ × Bool)) (x : A) →
@@ -107,14 +41,14 @@ with_lines n p = record {
 }
 
 -- An answer that is known, of a line that saves nothing: what is said and what comes of it are the answer's.
-answers_so : (p : Prompt) (line it old new : List ℕ) (a : Answer Said) (after : Prompt) (more : Bool) →
+answers_so : (p : Prompt) (line it : List ℕ) (old new : Drafted) (a : Answer Said) (after : Prompt) (more : Bool) →
     answer_line p line ≡ a → saves_under p.question line ≡ None → IsSaid a.said it → Adds old new it →
     after ≡ a.state → more ≡ a.goes_on → AddsReply p line old new after more
-answers_so p line it old new a after more is unsaved says adds state on =
+answers_so p line it old new a after more is unsaved is_said adds state on =
     let next : next_line p line it ≡ next_where p None line it =
     ap (λ (o : Option (List ℕ)). next_where p o line it) unsaved in (
       it,
-      subst (λ (x : Answer Said). IsSaid x.said it) (sym is) says,
+      subst (λ (x : Answer Said). IsSaid x.said it) (sym is) is_said,
       adds,
       state ∙ ap (λ (x : Answer Said). x.state) (sym is) ∙ ap (λ (x : Next Prompt). x.state) (sym next),
       on ∙ ap (λ (x : Answer Said). x.goes_on) (sym is) ∙ ap (λ (x : Next Prompt). x.goes_on) (sym next),
@@ -132,24 +66,6 @@ answered_now p v line n o is counts asked_so =
     ap (λ (x : Prompt). answered_to x p.question line) (counts_line p v line n is counts)
     ∙ ap (λ (q : Option Question). answered_to (with_lines n v) q line)
     (ap (λ (x : Prompt). x.question) (sym is) ∙ asked_so)
-
-saves_nothing : (p v : Prompt) (line : List ℕ) (q : Question) → v ≡ p → v.question ≡ Some q →
-    saves_under p.question line ≡ None
-saves_nothing p v line q is some =
-    ap (λ (o : Option Question). saves_under o line) (ap (λ (x : Prompt). x.question) (sym is) ∙ some)
-
--- the answer to a question
-pub decided_adds : (p v : Prompt) (line : List ℕ) (n : ℕ) (q : Question) (agreed : Bool) (old new : Drafted)
-    (after : Prompt) (more : Bool) → v ≡ p → n ≡ min (v.lines + 1) (2 ^ 64 - 1) → v.question ≡ Some q →
-    agreed ≡ is_yes line → Adds old new (decided (with_lines n v) q agreed).said →
-    after ≡ (decided (with_lines n v) q agreed).state → more ≡ (decided (with_lines n v) q agreed).goes_on →
-    AddsReply p line old new after more
-decided_adds p v line n q agreed old new after more is counts some says_yes adds state on =
-    answers_so p line (decided (with_lines n v) q agreed).said old new (in_words (decided (with_lines n v) q agreed)) after
-    more
-    (answered_now p v line n (Some q) is counts some
-    ∙ ap (λ (b : Bool). in_words (decided (with_lines n v) q b)) (sym says_yes))
-    (saves_nothing p v line q is some) refl adds state on
 
 -- a line that names a file
 pub saving_adds : (p v : Prompt) (line : List ℕ) (n : ℕ) (file : List ℕ × Bool) (old new : Drafted)

@@ -128,10 +128,6 @@ fn counts_text(out: &mut Draft, survey: &Survey)
 }
 
 /// Appends what the run over the schedule of this number came to, in one line.
-///
-/// # Errors
-///
-/// `AllocError` where memory runs out.
 #[tactic(auto, unfolding(crate::specs::SurveyText::survey_line))]
 pub fn survey_line(out: &mut Draft, number: u64, judged: &JudgedSurvey)
     ensures { Adds out.old out.new (survey_line number judged.now) }
@@ -173,7 +169,6 @@ fn summary_halts(out: &mut Draft, summary: &Summary)
 }
 
 /// Appends how many runs are linearizable, how many are not, and of how many it is undecided.
-#[tactic(auto, unfolding(crate::specs::SurveyText::summary_words))]
 fn summary_words(out: &mut Draft, summary: &Summary)
     ensures { Adds out.old out.new (summary_words summary.now) }
 {
@@ -183,10 +178,6 @@ fn summary_words(out: &mut Draft, summary: &Summary)
 }
 
 /// Appends how many of many runs have what the fields of a survey count, in one line.
-///
-/// # Errors
-///
-/// `AllocError` where memory runs out.
 #[tactic(auto, unfolding(crate::specs::SurveyText::summary_line))]
 pub fn summary_line(out: &mut Draft, summary: &Summary)
     ensures { Adds out.old out.new (summary_line summary.now) }

@@ -1,6 +1,6 @@
 -- What `why` prints of a chain of borrowed views: after a scan comes the lender, whose view it took, and so on.
 use Rattle.std.proofs.Common.{◌≡◌, ◌<◌, ◌≤◌, ◌-◌, ◌++◌, ◌∙◌, ℕ, zero, suc, List, Option, Some, None, IfSome, sym}
-use Rattle.std.proofs.Common.{subst, append_assoc, arith}
+use Rattle.std.proofs.Common.{subst, append_assoc, append-nil, arith}
 use Rattle.snap_acts.specs.declared.act.TraceStep.{TraceStep}
 use Rattle.snap_acts.specs.Loans.{view_taken}
 use Rattle.snap_acts.specs.declared.loans.Borrowed.{Borrowed}
@@ -20,6 +20,14 @@ goes_on ss next s (suc left) out out' all v l some is taken lends told so_far =
     rw (m, lends, told, taken)
     (append_assoc out (view_lines ss s.process (view_taken ss s)) (chain_lines ss (lender_of (view_taken ss s)) left)
     ∙ all_of)
+
+-- where there is no scan, nothing is left to tell
+pub ends : (ss : List TraceStep) (next : Option ScanPlaces) (left : ℕ) (out all : List ℕ) →
+    next ≡ None → out ++ chain_lines ss next left ≡ all → out ≡ all
+ends ss next zero out all none so_far = sym (append-nil out) ∙ so_far
+ends ss next (suc left) out all none so_far =
+    sym (append-nil out)
+    ∙ subst (λ (x : Option ScanPlaces). out ++ chain_lines ss x (suc left) ≡ all) none so_far
 
 -- the lender's scan lies in the trace
 pub lender_within : (v : Option Borrowed) (l : Option ScanPlaces) (n : ℕ) → l ≡ lender_of v →

@@ -158,7 +158,6 @@ fn push_chain(out: &mut Draft, steps: &[TraceStep], first: ScanPlaces)
 }
 
 /// Appends a verdict, and the call.
-#[tactic(auto, unfolding(crate::specs::Answer::call_lines))]
 fn push_call(out: &mut Draft, verdict: &Verdict)
     ensures { Adds out.old out.new (call_lines verdict.now) }
 {

@@ -1,13 +1,15 @@
 //! `Session`: the options and file names of snapdb, and the session that they are for.
-ghost use Rattle.std.specs.Prelude.{IfOk, IfSome};
-ghost use Rattle.clap.specs.Matches.{found_of};
+ghost use Rattle.std.specs.Prelude.{◌≡◌, IfOk, IfSome, codes};
+ghost use Rattle.clap.specs.Matches.{first_value, found_of};
 ghost use Rattle.clap.specs.declared.parser.matches.ArgMatches.{ArgMatches};
-ghost use Rattle.snapdb.specs.Sessions.{IsAskedBy};
+ghost use Rattle.snapdb.specs.Sessions.{IsAskedBy, kind_given};
 
 use clap::error::ErrorKind;
 use clap::{Arg, ArgAction, ArgMatches, Command, Error};
-use snap_named_files::{Named, kind_given, named_of};
+use snap_named_files::{Named, named_of};
 use snap_options::is_given;
+use snap_tasks::kind_of;
+use snap_words::KindTag;
 use std::alloc::{AllocError, Global};
 
 /// The version of the program.
@@ -55,11 +57,22 @@ fn command<'a>(alloc: Global) -> Result<Command<'a>, AllocError> {
         .arg(explain)
 }
 
+/// Returns the kind whose shipped listing is debugged, if one is; `None` where there is no such
+/// kind.
+fn kind_given(matches: &ArgMatches<'_>) -> Option<Option<KindTag>>
+    ensures { result ≡ kind_given (first_value (found_of matches.now) (codes "shipped")) }
+{
+    match matches.get_str("shipped") {
+        Some(name) => Some(Some(kind_of(name)?)),
+        None => Some(None),
+    }
+}
+
 /// Returns what matched arguments are for.
 fn session_by<'a>(matches: &ArgMatches<'a>) -> Option<Session<'a>>
     ensures { IfSome result (IsAskedBy (found_of matches.now)) }
 {
-    let kind = kind_given(matches.get_str("shipped"))?;
+    let kind = kind_given(matches)?;
     let names = matches.get_strs("FILE")?;
     Some(Session {
         named: named_of(kind, names)?,

@@ -5,11 +5,17 @@ use Rattle.clap.specs.Matches.{first_value, found_of, matched_of, one_text, raw_
 use Rattle.clap.specs.declared.parser.matches.ArgMatches.{ArgMatches}
 use Rattle.clap.specs.declared.parser.matches.Found.{Found}
 use Rattle.snap_words.specs.declared.kind.KindTag.{KindTag}
+use Rattle.snap_tasks.specs.Request.{kind_of}
 use Rattle.snap_options.specs.Given.{IsFlag, IsNumber}
-use Rattle.snap_named_files.specs.Named.{kind_given, named_of, view_named}
+use Rattle.snap_named_files.specs.Named.{named_of, view_named}
 use Rattle.snapdraw.specs.declared.arguments.Drawing.{Drawing}
 use Rattle.snapdraw.specs.declared.command_line.CommandLine.{CommandLine}
 use Rattle.snapdraw.specs.declared.command_line.CommandLine.TheVariants as line
+
+-- the kind of this name, where there is one; and none, where no name is given
+abbrev pub kind_given : Option (List ℕ) → Option (Option KindTag)
+kind_given None = Some None
+kind_given (Some name) = option_map (λ kind. Some kind) (kind_of name)
 
 -- What arguments ask for: the files, the kind whose shipped listing is drawn, the items, whether reads are drawn, and
 -- whether refusals are explained.

@@ -2,7 +2,7 @@
 -- a schedule keeps what is promised of it.
 use Rattle.snap_record.proofs.Within.{run_fits}
 use Rattle.snap_shipped.specs.Shipped.{shipped}
-use Rattle.snap_promised.proofs.Kinds.{fits_shipped, suffice}
+use Rattle.snap_promised.proofs.Shipped.{fits_shipped, suffice}
 use Rattle.snap_promised.proofs.keeps_promises.Goals as goal
 
 pub returns-clause-fits : goal.returns-clause-fits

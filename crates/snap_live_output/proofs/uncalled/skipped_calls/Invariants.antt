@@ -6,6 +6,6 @@ use Rattle.snap_live_output.proofs.uncalled.skipped_calls.Given as goal
 
 -- the calls so far, and those of the items that are left
 abbrev pub invariant-loop-item : goal.invariant-loop-item
-invariant-loop-item g l =
+invariant-loop-item l =
     (l.calls.items ++ skipped_calls l.kind l.shape l.left ≡ skipped_calls l.kind l.shape l.items.items)
-    × (goal.iterator-loop-item g).can_next l.left × (goal.iterator-loop-item g).is_finite l.left
+    × goal.iterator-loop-item.can_next l.left × goal.iterator-loop-item.is_finite l.left

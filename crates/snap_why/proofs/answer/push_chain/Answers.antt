@@ -1,7 +1,7 @@
 -- `push_chain` of snap_why (src/answer.rt): the proof of what its contract says. Appends the views that a scan, its
 -- lender's scan, and so on took.
 use Rattle.std.proofs.Common.{arith}
-use Rattle.snap_why.proofs.Chains.{goes_on, lender_within}
+use Rattle.snap_why.proofs.Chains.{ends, goes_on, lender_within}
 use Rattle.snap_why.proofs.answer.push_chain.Goals as goal
 
 pub loop-left-preserved : goal.loop-left-preserved
@@ -18,3 +18,10 @@ loop-left-preserved c = (
   lender_within c.view_taken-view.result c.lender_of-next.result _ c.lender_of-next.ensures
       c.view_taken-view.ensures.within,
 )
+
+pub returns-in_default : goal.returns-in_default
+returns-in_default c = λ well.
+    let held = c.loop-left.invariant.0 well in (
+      held.0,
+      ends c.args.steps.now c.loop-left.next c.loop-left.left c.loop-left.out.text _ c.in_default.is held.1,
+    )

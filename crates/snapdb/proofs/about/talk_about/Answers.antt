@@ -26,5 +26,5 @@ pub returns-in_err-schedule-clause-shown_part : goal.returns-in_err-schedule-cla
 returns-in_err-schedule-clause-shown_part g c =
     on_err c.from_residual.result
     (λ s is.
-    none_shown (opened_prompt (run_over c.args.program.now s) c.args.shows) (g.C.Console.left c.args.console.now)
+    none_shown (opened_prompt (run_over c.args.program.now s) c.args.shows (g.S.Folder.kept c.args.folder.now)) (g.C.Console.left c.args.console.now)
     (g.C.Console.shown c.args.console.now))

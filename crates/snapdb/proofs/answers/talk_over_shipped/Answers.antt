@@ -11,18 +11,24 @@ returns-in-Ok g c =
     let told = c.talk_about.ensures in
     let old = c.args.console.now in
     let new = c.talk_about.new.console in
+    let kept = g.S.Folder.kept c.args.folder.now in
+    let kept_after = g.S.Folder.kept c.talk_about.new.folder in
     inr
     (subst
     (λ (l : Source).
     Talks l c.args.schedule.now c.args.shows c.talk_about.result (g.C.Console.left old) (g.C.Console.shown old)
-    (g.C.Console.shown new) (g.C.Console.failure new))
+    (g.C.Console.shown new) kept kept_after (g.C.Console.failure new))
     c.in-Ok.ensures
     (talked c.in-Ok.program c.args.schedule.now c.args.shows c.talk_about.result (g.C.Console.left old)
-    (g.C.Console.shown old) (g.C.Console.shown new) (g.C.Console.failure new) told.shown
+    (g.C.Console.shown old) (g.C.Console.shown new) kept kept_after (g.C.Console.failure new) told.shown
     (λ r is.
-    let h = told.refused r is in
-    (h.0, ap (λ x. g.C.Console.shown x) (sym h.1), ap (λ x. g.C.Console.failure x) h.1 ∙ c.requires))
+    let h = told.refused r is in (
+      h.0,
+      ap (λ x. g.C.Console.shown x) (sym h.1),
+      ap (λ x. g.S.Folder.kept x) h.2,
+      ap (λ x. g.C.Console.failure x) h.1 ∙ c.requires,
+    ))
     told.well told.fails told.shown_part))
 
 pub returns-in-Err : goal.returns-in-Err
-returns-in-Err g c = inl (inr (refl, refl))
+returns-in-Err g c = inl (inr refl, refl, refl)

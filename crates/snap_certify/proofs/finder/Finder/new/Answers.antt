@@ -4,7 +4,7 @@ use Rattle.std.proofs.Common.{None, ap, refl, replicate, ◌∙◌}
 use Rattle.snap_words.specs.Shape.{Counts}
 use Rattle.snap_runs.specs.Run.{run_over}
 use Rattle.snap_certify.specs.Finding.{fresh}
-use Rattle.snap_certify.proofs.Finding.{none_found}
+use Rattle.snap_certify.proofs.FindingSteps.{none_found}
 use Rattle.snap_certify.proofs.finder.Finder.new.Goals as goal
 
 pub returns-clause-finds : goal.returns-clause-finds

@@ -1,0 +1,12 @@
+-- `push_large_sum` of snap_why (src/text.rt): the proof of what its contract says, piece after piece.
+use Rattle.std.proofs.Common.{append_assoc}
+use Rattle.snap_why.proofs.text.push_large_sum.Goals as goal
+
+pub returns : goal.returns
+returns c = λ well.
+    let e5 = c.push-3.ensures well in
+    let e4 = c.push_number-2.ensures e5.0 in
+    let e3 = c.push-2.ensures e4.0 in
+    let e2 = c.push_number.ensures e3.0 in
+    let e1 = c.push.ensures e2.0 in
+    (e1.0, rw (e5.1, e4.1, e3.1, e2.1, e1.1) (simp append_assoc))

@@ -2,7 +2,7 @@
 -- failed, or all of the output.
 use Rattle.std.proofs.Common.{◌≡◌, ℕ, ◌<◌, Bool, true, List, [], Result, Ok, Err, Vec}
 use Rattle.std.proofs.Common.{length, take, ◌⊎◌, inl, inr, refl, sym, subst}
-use Rattle.std.specs.Prelude.{⊤, IsErr, IsErrAnd}
+use Rattle.std.specs.Prelude.{⊤, IfOk, IsErr, IsErrAnd}
 use Rattle.std.specs.Global.{Global}
 use Rattle.std.specs.Io.KnownBytes.{Appends}
 use Rattle.std.proofs.KnownBytes.{Appends-nil}
@@ -94,14 +94,20 @@ some_word (Err f) e asked input text word from h = (word, h)
 pub writes_live : (answer : Result (Vec ℕ Global) ProgramFault) (may : ℕ → ℕ → Bool → Type 0) (subject : Subject)
     (limit : ℕ) (input text : List ℕ) → IsLiveOf answer may subject limit input text →
     MayWrite may subject limit input text
-writes_live (Ok told) may subject limit input text h = (h.0, h.1, h.2)
+writes_live (Ok told) may subject limit input text h = (h.0, h.1, h.2.0)
 writes_live (Err e) may subject limit input text h = h
 
 pub not_told : (answer : Result (Vec ℕ Global) ProgramFault) (e : ProgramFault) (may : ℕ → ℕ → Bool → Type 0)
     (subject : Subject) (limit : ℕ) (input text told : List ℕ) → IsErr answer × IsErrAnd answer (λ f. f ≡ e) →
     MayTell may subject limit input text told → IsLiveOf answer may subject limit input text
 not_told (Ok found) e may subject limit input text told from h = absurd from.1
-not_told (Err f) e may subject limit input text told from h = (h.0, h.1, h.2)
+not_told (Err f) e may subject limit input text told from h = (h.0, h.1, h.2.0)
+
+-- an answer that `?` has passed on says nothing of what was found
+pub nothing_found : {A : Type 0} (P : A → Type 0) (answer : Result A ProgramFault) (e : ProgramFault)
+    → IsErr answer × IsErrAnd answer (λ f. f ≡ e) → IfOk answer P
+nothing_found P (Ok found) e from = absurd from.1
+nothing_found P (Err f) e from = tt
 
 -- a fault is passed on without the output
 pub passed_on : {A : Type 0} (answer : Result A ProgramFault) (e : ProgramFault)

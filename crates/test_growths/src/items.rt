@@ -8,7 +8,6 @@ use crate::inputs::QUICK;
 use crate::outcomes::tell_outcome;
 use crate::scene_trouble::SceneTrouble;
 use crate::trials::{tell, tried};
-use crate::trouble::Trouble;
 use snap_asm::load_listing;
 use snap_machine::Machine;
 use snap_report::report;

@@ -158,8 +158,8 @@ function dropMark(command, refusal) {
     say(`The mark is taken away: ${refusal}`);
 }
 
-// The audit is asked for, when all is quiet, where its run is another one or more scans have ended; what is drawn, where
-// that is not known of the items around the position; and whether the run is linearizable.
+// When all is quiet, these are asked for: the audit, where its run is another one or more scans have ended; what is
+// drawn, where that is not known of the items around the position; and whether the run is linearizable.
 function askAudit() {
     clearTimeout(state.timer);
     state.timer = 0;

@@ -171,7 +171,8 @@ const spanOf = ({from, to, who}) => {
 function drawBar(bar) {
     const {left, wide, top, tall} = spanOf(bar), scans = bar.name === 'scan', size = line.high < 28 ? 11.5 : 13.5;
     paint(scans ? 'scan-bar' : 'update-bar', left, top, wide, tall);
-    if (line.high >= 16) paint(scans ? 'pale-scan' : 'pale-update', left, top + tall * upper(), wide, tall * (1 - upper()));
+    const pale = scans ? 'pale-scan' : 'pale-update';
+    if (line.high >= 16) paint(pale, left, top + tall * upper(), wide, tall * (1 - upper()));
     Object.assign(pen, {strokeStyle: colour(scans ? 'scan-edge' : 'update-edge'), lineWidth: 1.5});
     if (wide > 3) pen.strokeRect(left + .75, top + .75, wide - 1.5, tall - 1.5);
     if (wide < LEAST_WORDS || line.high < 16) return;

@@ -1,12 +1,8 @@
 -- The definitions at work on runs of B by one and by two processes, by computing.
-use Rattle.std.specs.Prelude.{◌≡◌, ℕ, List, [], ◌∷◌, ◌++◌, Some, None, replicate, true, refl}
-use Rattle.std.proofs.Common.{arith}
-use Rattle.snap_semantics.specs.declared.process.Item.{Item}
-use Rattle.snap_semantics.specs.declared.process.Item.TheVariants.{Step, Call}
-use Rattle.snap_semantics.specs.declared.process.Op.TheVariants.{Scan, Update}
-use Rattle.snap_semantics.specs.declared.process.Outcome.TheVariants.{Finished}
-use Rattle.snap_semantics.specs.State.{values, value_at, process_at}
-use Rattle.snap_runs.specs.Run.{state, before, outcome}
+use Rattle.std.proofs.Common.{◌≡◌, ℕ, List, [], ◌∷◌, ◌++◌, Some, None, replicate, true, refl, arith}
+use Rattle.snap_runs.proofs.Common.{Item, Step, Call, Scan, Update, Finished, values, process_at, state, before}
+use Rattle.snap_runs.proofs.Common.{outcome}
+use Rattle.snap_semantics.specs.State.{value_at}
 use Rattle.snap_runs.specs.Scan.{Starts, Ends, HasPoint, double_collects, own_steps}
 use Rattle.snap_runs.specs.Update.{executes}
 use Rattle.snap_runs.specs.Promises.{row_place}

@@ -2,21 +2,15 @@
 -- counters and one move for each line; and the runs of its processes.
 use Rattle.std.specs.Prelude.{◌≡◌, ℕ, zero, suc, ◌+◌, ◌-◌, Bool, if◌then◌else◌, List, map, Option, Some, None, Result}
 use Rattle.std.specs.Prelude.{Ok, slice_index_or, slice_set, replicate, refl}
-use Rattle.snap_words.specs.Shape.{Counts}
+use Rattle.snap_runs.proofs.Common.{Counts, Item, Step, Call, Crash, Op, Scan, Update, Outcome, Called, Stepped}
+use Rattle.snap_runs.proofs.Common.{Answered, Finished, Skipped, Reason, Process, State, who}
 use Rattle.snap_semantics.specs.declared.process.Cause.{Cause}
-use Rattle.snap_semantics.specs.declared.process.Item.{Item}
-use Rattle.snap_semantics.specs.declared.process.Item.TheVariants.{Step, Call, Crash}
-use Rattle.snap_semantics.specs.declared.process.Op.{Op}
-use Rattle.snap_semantics.specs.declared.process.Op.TheVariants.{Scan, Update}
-use Rattle.snap_semantics.specs.declared.process.Outcome.{Outcome}
-use Rattle.snap_semantics.specs.declared.process.Outcome.TheVariants.{Called, Stepped, Answered, Finished, Skipped}
-use Rattle.snap_semantics.specs.declared.process.Reason.{Reason}
 use Rattle.snap_semantics.specs.declared.process.Reason.TheVariants as reason
 use Rattle.snap_semantics.specs.declared.process.Status.{Status}
 use Rattle.snap_semantics.specs.declared.process.Status.TheVariants as status
 use Rattle.snap_semantics.specs.Source.{Source}
-use Rattle.snap_semantics.specs.State.{Locals, Memory, Process, State, initial_memory, initial_process}
-use Rattle.snap_semantics.specs.Table.{Effect, Goes, Answers, Finishes, call_skip, entry, who}
+use Rattle.snap_semantics.specs.State.{Locals, Memory, initial_memory, initial_process}
+use Rattle.snap_semantics.specs.Table.{Effect, Goes, Answers, Finishes, call_skip, entry}
 
 -- In all that follows V are the variables of a process, P the program counters, and M the memory, which may carry
 -- counters beside the registers.

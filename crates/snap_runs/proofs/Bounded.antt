@@ -1,26 +1,17 @@
 -- The numbers of a run stay within limits where each of its lines keeps them there: for any algorithm, and then also
 -- with crashes.
-use Rattle.std.specs.Prelude.{◌≡◌, ℕ, zero, suc, ◌-◌, ◌<◌, ◌≤◌, ◌&&◌, true, List, [], ◌∷◌, length, map, Option, Some}
-use Rattle.std.specs.Prelude.{None, IfSome, nat_lt, nat_le, refl}
+use Rattle.std.proofs.Common.{◌≡◌, ℕ, zero, suc, ◌-◌, ◌<◌, ◌≤◌, ◌&&◌, true, List, [], ◌∷◌, length, map, Option, Some}
+use Rattle.std.proofs.Common.{None, IfSome, nat_lt, nat_le, refl, sym, ◌∙◌, ap, subst, arith, inl, inr}
 use Rattle.std.specs.List.{AllByRecursion}
-use Rattle.std.proofs.Common.{sym, ◌∙◌, ap, subst, arith, inl, inr}
 use Rattle.std.proofs.lemmas.List.{length-map}
-use Rattle.snap_words.specs.Shape.{Counts, IsOneOf}
-use Rattle.snap_semantics.specs.declared.process.Activity.{Activity}
-use Rattle.snap_semantics.specs.declared.process.Item.{Item}
-use Rattle.snap_semantics.specs.declared.process.Item.TheVariants.{Step, Call, Crash}
-use Rattle.snap_semantics.specs.declared.process.Op.{Op}
-use Rattle.snap_semantics.specs.declared.process.Op.TheVariants.{Scan, Update}
-use Rattle.snap_semantics.specs.declared.process.Outcome.{Outcome}
-use Rattle.snap_semantics.specs.declared.process.Outcome.TheVariants.{Called, Stepped, Answered, Finished}
-use Rattle.snap_semantics.specs.declared.process.Reason.{Reason}
+use Rattle.snap_runs.proofs.Common.{Counts, IsOneOf, Activity, Item, Step, Call, Crash, Op, Scan, Update, Outcome}
+use Rattle.snap_runs.proofs.Common.{Called, Stepped, Answered, Finished, Reason, Process, State, who, Run, IsValidRun}
+use Rattle.snap_runs.proofs.Common.{state, item, outcome}
 use Rattle.snap_semantics.specs.declared.process.Reason.TheVariants.{NoSuchWord}
 use Rattle.snap_semantics.specs.declared.process.Status.{Status}
 use Rattle.snap_semantics.specs.declared.process.Status.TheVariants.{Idle as IdleNow, Busy, Trapped, Crashed}
 use Rattle.snap_semantics.specs.Source.{Source}
-use Rattle.snap_semantics.specs.State.{Process, State}
-use Rattle.snap_semantics.specs.Table.{call_skip, owner_skip, who}
-use Rattle.snap_runs.specs.Run.{Run, IsValidRun, state, item, outcome}
+use Rattle.snap_semantics.specs.Table.{call_skip, owner_skip}
 use Rattle.snap_runs.specs.Update.{executes}
 use Rattle.snap_runs.specs.Bounded.{WasAsked, IsValue, Limits, IsMemoryWithin, IsLocalsWithin, IsOpWithin, HasLine}
 use Rattle.snap_runs.specs.Bounded.{IsActivityWithin, IsStatusWithin, IsProcessWithin, IsStateWithin, StaysWithin}

@@ -1,11 +1,8 @@
 -- The double collects and the own steps of every scan of a run are
 -- bounded, for any algorithm, by those of a scan at each of its lines.
-use Rattle.std.specs.Prelude.{◌≡◌, ℕ, zero, suc, ◌+◌, ◌≤◌, List, length, Option}
-use Rattle.std.proofs.Common.{subst, arith, inl, inr}
+use Rattle.std.proofs.Common.{◌≡◌, ℕ, zero, suc, ◌+◌, ◌≤◌, List, length, Option, subst, arith, inl, inr}
 use Rattle.std.proofs.Math.Nat.{eq-or-lt_of_le}
-use Rattle.snap_words.specs.Shape.{IsOneOf}
-use Rattle.snap_semantics.specs.declared.process.Item.{Item}
-use Rattle.snap_runs.specs.Run.{Run}
+use Rattle.snap_runs.proofs.Common.{IsOneOf, Item, Run}
 use Rattle.snap_runs.specs.Scan.{PendingScan, double_collects, own_steps}
 use Rattle.snap_runs.specs.Promises.{CollectsAtMost, StepsAtMost}
 use Rattle.snap_runs.proofs.Algorithm.{Mode, At, TypedProcess, Algorithm, typed_at, typed_state}

@@ -1,7 +1,6 @@
 -- `budget`: the own steps of a scan before its first double collect,
 -- and `round` more for each double collect that has failed.
-use Rattle.std.specs.Prelude.{◌≡◌, ℕ, zero, suc, ◌+◌, ◌-◌, ◌*◌, ◌≤◌, refl}
-use Rattle.std.proofs.Common.{ap, arith}
+use Rattle.std.proofs.Common.{◌≡◌, ℕ, zero, suc, ◌+◌, ◌-◌, ◌*◌, ◌≤◌, refl, ap, arith}
 
 -- the own steps of c failed double collects of this many steps each
 pub budget : (round rest : ℕ) → ℕ → ℕ

@@ -1,28 +1,21 @@
 -- The calls of a run, for any listing: under which one a process is, and that no two of a process are open at once.
-use Rattle.std.specs.Prelude.{◌≡◌, ◌≢◌, ℕ, zero, suc, ◌-◌, ◌<◌, ◌≤◌, ◌⊎◌, true, List, length, Option, Some, None}
-use Rattle.std.specs.Prelude.{Result, Ok, Err, slice_set, refl}
-use Rattle.std.proofs.Common.{sym, ◌∙◌, ap, subst, arith, inl, inr}
+use Rattle.std.proofs.Common.{◌≡◌, ◌≢◌, ℕ, zero, suc, ◌-◌, ◌<◌, ◌≤◌, ◌⊎◌, true, List, length, Option, Some, None}
+use Rattle.std.proofs.Common.{Result, Ok, Err, slice_set, refl, sym, ◌∙◌, ap, subst, arith, inl, inr}
 use Rattle.std.proofs.lemmas.Bool.{cases_eq, cases_lt}
 use Rattle.std.proofs.lemmas.List.Elements.{All-from_recursion}
 use Rattle.std.proofs.lemmas.List.{length-set, get_or-set_other, length-replicate, get_or-replicate}
 use Rattle.std.proofs.Math.Nat.{eq-or-lt_of_le}
-use Rattle.snap_words.specs.Shape.{Counts, IsOneOf}
-use Rattle.snap_semantics.specs.declared.process.Activity.{Activity}
+use Rattle.snap_runs.proofs.Common.{Counts, IsOneOf, Activity, Item, Step, Call, Crash, Op, Outcome, Called, Answered}
+use Rattle.snap_runs.proofs.Common.{Finished, Reason, Process, State, process_at, who, Run, IsValidRun, state, item}
+use Rattle.snap_runs.proofs.Common.{outcome}
 use Rattle.snap_semantics.specs.declared.process.Cause.{Cause}
-use Rattle.snap_semantics.specs.declared.process.Item.{Item}
-use Rattle.snap_semantics.specs.declared.process.Item.TheVariants.{Step, Call, Crash}
-use Rattle.snap_semantics.specs.declared.process.Op.{Op}
 use Rattle.snap_semantics.specs.declared.process.Op.TheVariants as op
-use Rattle.snap_semantics.specs.declared.process.Outcome.{Outcome}
-use Rattle.snap_semantics.specs.declared.process.Outcome.TheVariants.{Called, Answered, Finished}
-use Rattle.snap_semantics.specs.declared.process.Reason.{Reason}
 use Rattle.snap_semantics.specs.declared.process.Status.{Status}
 use Rattle.snap_semantics.specs.declared.process.Status.TheVariants.{Idle, Busy, Trapped, Crashed}
 use Rattle.snap_semantics.specs.Source.{Source, instr_at}
-use Rattle.snap_semantics.specs.State.{Locals, Memory, Process, State, nobody, process_at, initial_process}
-use Rattle.snap_semantics.specs.Table.{Effect, Goes, Answers, Finishes, effect_at, leave, step}
-use Rattle.snap_semantics.specs.Table.{call_skip, called, call, crash, done, who}
-use Rattle.snap_runs.specs.Run.{Run, IsValidRun, state, item, outcome}
+use Rattle.snap_semantics.specs.State.{Locals, Memory, nobody, initial_process}
+use Rattle.snap_semantics.specs.Table.{Effect, Goes, Answers, Finishes, effect_at, leave, step, call_skip, called, call}
+use Rattle.snap_semantics.specs.Table.{crash, done}
 use Rattle.snap_runs.specs.Operation.{EndsAreOfOperations}
 use Rattle.snap_runs.specs.Scan.{FinishedScan, is_not_skipped}
 use Rattle.snap_runs.specs.Update.{PendingUpdate}
@@ -120,46 +113,26 @@ stays_occupied o (crashes i s was) not_end h = tt
 -- a call finds its process idle, and occupies it
 is_called : {s s' : Status} {x : Item} {out : Outcome} (i : ℕ) (o : Op) → Transition s x out s' → out ≡ Called →
     x ≡ Call i o → (s ≡ Idle) × Occupied o s'
-is_called i o (skipped s x why may) out is = absurd (cc)
 is_called i o (calls k p line) out is = (refl, cc)
-is_called i o (goes k a line link) out is = absurd (cc)
-is_called i o (answers k a view e) out is = absurd (cc)
-is_called i o (finishes k a word value e) out is = absurd (cc)
-is_called i o (traps k a cause) out is = absurd (cc)
-is_called i o (crashes k s was) out is = absurd (cc)
+is_called i o other out is = absurd (cc)
 
 -- an answer ends a scan, and a finish an update
 is_answered : {s s' : Status} {x : Item} {out : Outcome} (view : List ℕ) → Transition s x out s' → out ≡ Answered view →
     (a : Activity) × (s ≡ Busy a) × (a.op ≡ op.Scan)
-is_answered v (skipped s x why may) out = absurd (cc)
-is_answered v (calls k p line) out = absurd (cc)
-is_answered v (goes k a line link) out = absurd (cc)
 is_answered v (answers k a view e) out = (a, refl, e)
-is_answered v (finishes k a word value e) out = absurd (cc)
-is_answered v (traps k a cause) out = absurd (cc)
-is_answered v (crashes k s was) out = absurd (cc)
+is_answered v other out = absurd (cc)
 
 is_finished : {s s' : Status} {x : Item} {out : Outcome} → Transition s x out s' → out ≡ Finished →
     (a : Activity) × (word : ℕ) × (value : ℕ) × (s ≡ Busy a) × (a.op ≡ op.Update word value)
-is_finished (skipped s x why may) out = absurd (cc)
-is_finished (calls k p line) out = absurd (cc)
-is_finished (goes k a line link) out = absurd (cc)
-is_finished (answers k a view e) out = absurd (cc)
 is_finished (finishes k a word value e) out = (a, word, value, refl, e)
-is_finished (traps k a cause) out = absurd (cc)
-is_finished (crashes k s was) out = absurd (cc)
+is_finished other out = absurd (cc)
 
 -- a busy process that steps is not skipped
 pub is_not_skipped_there : {s s' : Status} {x : Item} {out : Outcome} (i : ℕ) (a : Activity) → Transition s x out s' →
     s ≡ Busy a → x ≡ Step i → is_not_skipped out ≡ true
 is_not_skipped_there i a (skipped s x why may) is step =
     absurd (subst (λ y. MaySkip (Busy a) y) step (subst (λ y. MaySkip y x) is may))
-is_not_skipped_there i a (calls k p line) is step = refl
-is_not_skipped_there i a (goes k b line link) is step = refl
-is_not_skipped_there i a (answers k b view e) is step = refl
-is_not_skipped_there i a (finishes k b word value e) is step = refl
-is_not_skipped_there i a (traps k b cause) is step = refl
-is_not_skipped_there i a (crashes k s was) is step = refl
+is_not_skipped_there i a other is step = refl
 
 module _ (r : Run) (fits : IsValidRun r) where
   abbrev pub status : ℕ → ℕ → Status
@@ -270,10 +243,8 @@ module _ (r : Run) (fits : IsValidRun r) where
 
   longer_at : (i t : ℕ) (s : Status) → (who (item r (suc t)) ≡ i → IsEnd (outcome r (suc t)) → ⊥) →
       UnderAt i t s → UnderAt i (suc t) s
-  longer_at i t Idle not_end h = tt
   longer_at i t (Busy a) not_end h = longer i t a.op not_end h
-  longer_at i t (Trapped cause a) not_end h = tt
-  longer_at i t (Crashed was) not_end h = tt
+  longer_at i t _ not_end h = tt
 
   next_under : {s s' : Status} {x : Item} {out : Outcome} (i t : ℕ) → Transition s x out s' → item r (suc t) ≡ x →
       outcome r (suc t) ≡ out → who (item r (suc t)) ≡ i → UnderAt i t s → UnderAt i (suc t) s'
@@ -288,10 +259,7 @@ module _ (r : Run) (fits : IsValidRun r) where
         open_still = λ u lt le own ends. absurd (omega arith);
       }
   next_under i t (goes k a line link) is comes his h = longer i t a.op (λ own ends. subst IsEnd comes ends) h
-  next_under i t (answers k a view e) is comes his h = tt
-  next_under i t (finishes k a word value e) is comes his h = tt
-  next_under i t (traps k a cause) is comes his h = tt
-  next_under i t (crashes k s was) is comes his h = tt
+  next_under i t _ is comes his h = tt
 
   -- a busy process is under a call
   pub under : (t i : ℕ) → t ≤ length r.items → IsOneOf r.shape.n i → UnderAt i t (status t i)

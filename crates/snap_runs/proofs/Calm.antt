@@ -1,40 +1,32 @@
 -- A run with crashes, looked at through one without them: instead of a crash, and of each item of a process that has
 -- crashed, comes a call that is skipped. The states are the same, but that who has crashed is still at what it was
 -- at.
-use Rattle.std.specs.Prelude.{◌≡◌, ℕ, zero, suc, ◌-◌, ◌<◌, ◌≤◌, ◌⊎◌, Bool, true, false, ◌&&◌, List, [], ◌∷◌, length}
-use Rattle.std.specs.Prelude.{map, take, Option, Some, None, Result, Ok, Err, nat_eq, nat_lt, nat_le, slice_index_or}
-use Rattle.std.specs.Prelude.{slice_set, if◌then◌else◌, refl}
+use Rattle.std.proofs.Common.{◌≡◌, ℕ, zero, suc, ◌-◌, ◌<◌, ◌⊎◌, Bool, true, false, ◌&&◌, List, [], ◌∷◌, length}
+use Rattle.std.proofs.Common.{map, take, Option, Some, None, Result, Ok, Err, nat_eq, nat_lt, nat_le, slice_index_or}
+use Rattle.std.proofs.Common.{slice_set, if◌then◌else◌, refl, sym, ◌∙◌, ap, subst, arith, inl, inr}
 use Rattle.std.specs.List.{AllByRecursion}
-use Rattle.std.proofs.Common.{sym, ◌∙◌, ap, subst, arith, inl, inr}
 use Rattle.std.proofs.lemmas.List.{map-set}
 use Rattle.std.proofs.Math.ListN.{get_or-map}
 use Rattle.std.proofs.Math.Seq.{map-set_same}
-use Rattle.snap_words.specs.Shape.{Counts, IsOneOf}
+use Rattle.snap_runs.proofs.Common.{Counts, IsOneOf, Activity, Item, Step, Call, Crash, Op, Scan, Update, Outcome}
+use Rattle.snap_runs.proofs.Common.{Reason, Process, State, process_at, who, Run, IsValidRun, state, item, outcome}
 use Rattle.snap_words.specs.declared.kind.KindTag.{KindTag}
 use Rattle.snap_words.specs.declared.kind.KindTag.TheVariants as kind
-use Rattle.snap_semantics.specs.declared.process.Activity.{Activity}
 use Rattle.snap_semantics.specs.declared.process.Cause.{Cause}
-use Rattle.snap_semantics.specs.declared.process.Item.{Item}
-use Rattle.snap_semantics.specs.declared.process.Item.TheVariants.{Step, Call, Crash}
-use Rattle.snap_semantics.specs.declared.process.Op.{Op}
-use Rattle.snap_semantics.specs.declared.process.Op.TheVariants.{Scan, Update}
-use Rattle.snap_semantics.specs.declared.process.Outcome.{Outcome}
 use Rattle.snap_semantics.specs.declared.process.Outcome.TheVariants as outcomes
-use Rattle.snap_semantics.specs.declared.process.Reason.{Reason}
 use Rattle.snap_semantics.specs.declared.process.Reason.TheVariants as reason
 use Rattle.snap_semantics.specs.declared.process.Status.{Status}
 use Rattle.snap_semantics.specs.declared.process.Status.TheVariants.{Idle, Busy, Trapped, Crashed}
 use Rattle.snap_semantics.specs.Run.{after}
 use Rattle.snap_semantics.specs.Source.{Source, instr_at}
-use Rattle.snap_semantics.specs.State.{Locals, Memory, Process, State, nobody, process_at, initial, initial_process}
+use Rattle.snap_semantics.specs.State.{Locals, Memory, nobody, initial, initial_process}
 use Rattle.snap_semantics.specs.Table.{Effect, Goes, Answers, Finishes, effect_at, leave, step, entry, owner_skip}
-use Rattle.snap_semantics.specs.Table.{call_skip, called, call, crashed, crash, done, who}
-use Rattle.snap_runs.specs.Run.{Run, IsValidRun, state, item, outcome}
+use Rattle.snap_semantics.specs.Table.{call_skip, called, call, crashed, crash, done}
 use Rattle.snap_runs.specs.WaitFree.{is_alive}
 use Rattle.snap_runs.proofs.Calls.{turn, item_one}
 use Rattle.snap_runs.proofs.Embedding.{map_same}
 use Rattle.snap_runs.proofs.Steady.{IsNoCrash, Steady}
-use Rattle.snap_runs.proofs.Transitions.{Transition, skipped, calls, goes, answers, finishes, traps, crashes}
+use Rattle.snap_runs.proofs.Transitions.{Transition, skipped, crashes}
 
 -- a call that is skipped however its process stands: no word has number 0
 abbrev pub pause : ℕ → Item
@@ -118,10 +110,8 @@ skip_alive k shape i (Update word value) =
     (Some reason.NoSuchWord) (owner_alive k i word) refl
 
 crashed_or_not : (st : Status) → (uncrashed st ≡ st) ⊎ ((was : Option Activity) × (st ≡ Crashed was))
-crashed_or_not Idle = inl refl
-crashed_or_not (Busy a) = inl refl
-crashed_or_not (Trapped c a) = inl refl
 crashed_or_not (Crashed was) = inr (was, refl)
+crashed_or_not _ = inl refl
 
 either_who : (b : Bool) (x : Item) (i : ℕ) → who x ≡ i → who (if b then x else pause i) ≡ i
 either_who true x i h = h
@@ -375,12 +365,8 @@ first_calm s shape =
 uncrashed_after : {st st' : Status} {x : Item} {out : Outcome} → Transition st x out st' → IsNoCrash x →
     uncrashed st ≡ st → uncrashed st' ≡ st'
 uncrashed_after (skipped st x why may) quiet e = e
-uncrashed_after (calls i op line) quiet e = refl
-uncrashed_after (goes i a line link) quiet e = refl
-uncrashed_after (answers i a view is) quiet e = refl
-uncrashed_after (finishes i a word value is) quiet e = refl
-uncrashed_after (traps i a cause) quiet e = refl
 uncrashed_after (crashes i st was) quiet e = absurd quiet
+uncrashed_after other quiet e = refl
 
 module _ (r : Run) where
   pub same_length : length (calm r).items ≡ length r.items

@@ -1,21 +1,13 @@
 -- What the items of a run with crashes do, they do in the same run without crashes: starts and ends of scans and
 -- updates, lines that are executed, and counts.
-use Rattle.std.specs.Prelude.{◌≡◌, ℕ, zero, suc, ◌<◌, ◌≤◌, ◌⊎◌, Bool, true, false, ◌&&◌}
-use Rattle.std.specs.Prelude.{List, length, Option, Some, None, refl}
-use Rattle.std.proofs.Common.{sym, ◌∙◌, ap, subst, arith, inl, inr}
-use Rattle.snap_semantics.specs.declared.process.Activity.{Activity}
-use Rattle.snap_semantics.specs.declared.process.Item.{Item}
-use Rattle.snap_semantics.specs.declared.process.Item.TheVariants.{Step, Call, Crash}
-use Rattle.snap_semantics.specs.declared.process.Op.{Op}
-use Rattle.snap_semantics.specs.declared.process.Outcome.{Outcome}
+use Rattle.std.proofs.Common.{◌≡◌, ℕ, zero, suc, ◌<◌, ◌≤◌, ◌⊎◌, Bool, true, false, ◌&&◌, List, length, Option, Some}
+use Rattle.std.proofs.Common.{None, refl, sym, ◌∙◌, ap, subst, arith, inl, inr}
+use Rattle.snap_runs.proofs.Common.{Activity, Item, Step, Call, Crash, Op, Outcome, Reason, Process, process_at, values}
+use Rattle.snap_runs.proofs.Common.{who, Run, IsValidRun, state, before, item, outcome}
 use Rattle.snap_semantics.specs.declared.process.Outcome.TheVariants as outcomes
-use Rattle.snap_semantics.specs.declared.process.Reason.{Reason}
 use Rattle.snap_semantics.specs.declared.process.Reason.TheVariants as reason
 use Rattle.snap_semantics.specs.declared.process.Status.{Status}
 use Rattle.snap_semantics.specs.declared.process.Status.TheVariants.{Crashed}
-use Rattle.snap_semantics.specs.State.{Process, process_at, values}
-use Rattle.snap_semantics.specs.Table.{who}
-use Rattle.snap_runs.specs.Run.{Run, IsValidRun, state, before, item, outcome}
 use Rattle.snap_runs.specs.Scan.{line_in, link_in, IsCallLine, ReturnsView, Starts, Ends, PendingScan, FinishedScan}
 use Rattle.snap_runs.specs.Scan.{count, steps, is_if_all, is_stepped, is_not_skipped, ends_double_collect, takes_step}
 use Rattle.snap_runs.specs.Scan.{double_collects, own_steps}

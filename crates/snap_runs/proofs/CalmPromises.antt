@@ -2,11 +2,10 @@
 use Rattle.std.specs.Prelude.{◌≡◌, ℕ, zero, suc, ◌-◌, ◌<◌, ◌≤◌, true, length, Some, None, slice_set}
 use Rattle.std.proofs.Common.{sym, ◌∙◌, ap, subst, arith, inl, inr}
 use Rattle.snap_semantics.specs.declared.process.Status.{Status}
-use Rattle.snap_semantics.specs.declared.process.Status.TheVariants.{Idle, Busy, Trapped, Crashed}
+use Rattle.snap_semantics.specs.declared.process.Status.TheVariants.{Busy, Trapped}
 use Rattle.snap_semantics.specs.Source.{Name}
-use Rattle.snap_semantics.specs.State.{Locals, Process, value_at, process_at}
-use Rattle.snap_semantics.specs.Table.{who}
-use Rattle.snap_runs.specs.Run.{Run, IsValidRun, state, before, item}
+use Rattle.snap_runs.proofs.Common.{Process, process_at, who, Run, IsValidRun, state, before, item}
+use Rattle.snap_semantics.specs.State.{Locals, value_at}
 use Rattle.snap_runs.specs.Scan.{own_steps}
 use Rattle.snap_runs.specs.Update.{is_at, executes, PendingUpdate}
 use Rattle.snap_runs.specs.Promises.{HasTrapped, NeverTraps, ChangesOnlyAt, WritesItsUpdate, WritesOnce, HavePoints}
@@ -20,22 +19,16 @@ use Rattle.snap_runs.proofs.CalmItems.{finished_from, done_to, done_from, updati
 use Rattle.snap_runs.proofs.Steady.{Steady, fits_of}
 
 trapped_too : (st : Status) → HasTrapped st → HasTrapped (uncrashed st)
-trapped_too Idle h = absurd h
-trapped_too (Busy a) h = absurd h
 trapped_too (Trapped c a) h = h
-trapped_too (Crashed was) h = absurd h
+trapped_too _ h = absurd h
 
 at_too : (line : ℕ) (st : Status) → is_at line st ≡ true → is_at line (uncrashed st) ≡ true
-at_too line Idle h = absurd (cc)
 at_too line (Busy a) h = h
-at_too line (Trapped c a) h = absurd (cc)
-at_too line (Crashed was) h = absurd (cc)
+at_too line _ h = absurd (cc)
 
 updating_too : (word : ℕ) (st : Status) → IsUpdating word st → IsUpdating word (uncrashed st)
-updating_too word Idle h = absurd h
 updating_too word (Busy a) h = h
-updating_too word (Trapped c a) h = absurd h
-updating_too word (Crashed was) h = absurd h
+updating_too word _ h = absurd h
 
 module _ (r : Run) where
   -- a promise of runs without crashes

@@ -1,5 +1,5 @@
 -- An audit has the verdict of each finished scan, and the verdicts' answers rise.
-use Rattle.std.proofs.Common.{◌≡◌, ℕ, zero, suc, ◌-◌, ◌<◌, ◌≤◌, List, [], ◌∷◌, ◌++◌, length, None, refl, sym, ap}
+use Rattle.std.proofs.Common.{◌≡◌, ℕ, zero, suc, ◌<◌, ◌≤◌, List, [], ◌∷◌, ◌++◌, length, None, refl, sym, ap}
 use Rattle.std.proofs.Common.{subst, ◌∙◌, inl, inr, arith}
 use Rattle.std.proofs.Math.Nat.{eq-or-lt_of_le}
 use Rattle.std.proofs.lemmas.List.{append-nil}
@@ -7,11 +7,10 @@ use Rattle.std.proofs.lemmas.List.Elements.{All-from_recursion, All-nil, All-pus
 use Rattle.std.proofs.lemmas.List.Elements.{Contains-append_left, Contains-append_right}
 use Rattle.std.proofs.lemmas.List.Quantifiers.{all_pairs_push}
 use Rattle.std.specs.List.{All, AllPairs, Contains}
-use Rattle.snap_semantics.specs.Table.{who}
-use Rattle.snap_semantics.specs.declared.process.Outcome.{Outcome}
+use Rattle.snap_runs.proofs.Common.{who, Outcome, Run, IsValidRun, item}
 use Rattle.snap_semantics.specs.declared.process.Outcome.TheVariants as outcome
 use Rattle.snap_runs.specs.Audit.{IsOfScan, audit, last_call, verdict_at, verdict_of, verdicts}
-use Rattle.snap_runs.specs.Run.{Run, IsValidRun, item, outcome as outcome_at}
+use Rattle.snap_runs.specs.Run.{outcome as outcome_at}
 use Rattle.snap_runs.specs.Scan.{FinishedScan}
 use Rattle.snap_runs.specs.declared.verdict.Verdict.{Verdict}
 use Rattle.snap_runs.proofs.Audits.{of_scans}

@@ -1,8 +1,7 @@
 -- Lemmas about comparisons of numbers (`nat_lt`, `nat_le`,
 -- `nat_eq`), `&&` and `if`, by which the proofs about runs compute.
-use Rattle.std.specs.Prelude.{◌≡◌, ◌≢◌, ℕ, ◌+◌, ◌<◌, ◌≤◌, Bool, true, false, not, ◌&&◌, Option, Some, None, nat_eq}
-use Rattle.std.specs.Prelude.{nat_lt, nat_le, if◌then◌else◌, refl}
-use Rattle.std.proofs.Common.{ap, arith}
+use Rattle.std.proofs.Common.{◌≡◌, ◌≢◌, ℕ, ◌+◌, ◌<◌, ◌≤◌, Bool, true, false, not, ◌&&◌, Option, Some, None, nat_eq}
+use Rattle.std.proofs.Common.{nat_lt, nat_le, if◌then◌else◌, refl, ap, arith}
 use Rattle.std.proofs.lemmas.Grind.{common_steps}
 
 pub lt_true : (x y : ℕ) → x < y → nat_lt x y ≡ true

@@ -1,6 +1,6 @@
 -- Lemmas about `count`, the number of items of a run between two others
 -- that pass a test: with one more item, and from a later one on.
-use Rattle.std.specs.Prelude.{◌≡◌, ℕ, zero, suc, ◌<◌, ◌≤◌, Bool, true, false, ◌&&◌, nat_lt, if◌then◌else◌, refl}
+use Rattle.std.specs.Prelude.{◌≡◌, ℕ, zero, suc, ◌+◌, ◌<◌, ◌≤◌, Bool, true, false, ◌&&◌, nat_lt, if◌then◌else◌, refl}
 use Rattle.std.proofs.Common.{◌∙◌, ap, arith}
 use Rattle.snap_runs.specs.Scan.{count}
 use Rattle.snap_runs.proofs.Computing.{lt_true, lt_false, lt_from}
@@ -36,3 +36,19 @@ count_later test c c' (suc e) h =
 
 pub count_not : (test : ℕ → Bool) (c e : ℕ) → c ≤ e → test (suc e) ≡ false → count test c (suc e) ≡ count test c e
 count_not test c e h n = count_next test c e h ∙ ap (λ b. if b then suc (count test c e) else count test c e) n
+
+-- a number that is one more where a test passes
+pub add_one : (b : Bool) (x : ℕ) → (if b then suc x else x) ≡ x + (if b then 1 else 0)
+add_one true x = omega arith
+add_one false x = omega arith
+
+pub one_more : (b : Bool) (x : ℕ) → (if b then suc x else x) ≤ x + 1
+one_more true x = omega arith
+one_more false x = omega arith
+
+-- at most one more where the middle one of three tests passes
+pub inner_more : (s b o : Bool) (x : ℕ) → (if s && (b && o) then suc x else x) ≤ x + (if b then 1 else 0)
+inner_more true true true x = omega arith
+inner_more true true false x = omega arith
+inner_more true false o x = omega arith
+inner_more false b o x = omega arith

@@ -1,46 +1,23 @@
 -- The embedded scans of a run of any algorithm: an update that has made
 -- its view and not yet written it has the view of one that is finished.
-use Rattle.std.specs.Prelude.{◌≡◌, ℕ, zero, suc, ◌<◌, ◌≤◌, ◌⊎◌, List, length, Some, refl}
+use Rattle.std.specs.Prelude.{◌≡◌, ℕ, zero, suc, ◌<◌, ◌≤◌, List, length, Some, refl}
 use Rattle.std.proofs.Common.{sym, ◌∙◌, ap, subst, arith, inl, inr}
 use Rattle.std.proofs.Math.Nat.{eq-or-lt_of_le}
-use Rattle.snap_words.specs.Shape.{IsOneOf}
+use Rattle.snap_runs.proofs.Common.{IsOneOf, Process, process_at, Item, Step, Op, Scan, Update, Run, state, outcome}
 use Rattle.snap_semantics.specs.Source.{instr_at}
-use Rattle.snap_semantics.specs.State.{Process, process_at}
-use Rattle.snap_semantics.specs.declared.process.Item.{Item}
-use Rattle.snap_semantics.specs.declared.process.Item.TheVariants.{Step}
-use Rattle.snap_semantics.specs.declared.process.Op.{Op}
-use Rattle.snap_semantics.specs.declared.process.Op.TheVariants.{Scan, Update}
-use Rattle.snap_runs.specs.Run.{Run, state, outcome}
 use Rattle.snap_runs.specs.Scan.{Starts, Ends, FinishedScan, IsCallLine, ReturnsView, line_in, link_in}
-use Rattle.snap_runs.proofs.Algorithm.{Mode, Scanning, Embedded, Updating, mode_of, Control, Idle, At, WhenBusy, Move}
+use Rattle.snap_runs.proofs.Algorithm.{Mode, Scanning, Embedded, Updating, mode_of, Control, Idle, At, Move}
 use Rattle.snap_runs.proofs.Algorithm.{To, Begin, Answer, Finish, TypedProcess, Algorithm, by_move, typed_at}
 use Rattle.snap_runs.proofs.Algorithm.{outcome_of, item_at, typed_state, process_of}
 use Rattle.snap_runs.proofs.Algorithm.{begun_auxiliary, called_auxiliary}
 use Rattle.snap_runs.proofs.Embedding as embed
+use Rattle.snap_runs.proofs.Flow as flow
 use Rattle.snap_runs.proofs.Flow.{Lines}
 use Rattle.snap_runs.proofs.ItemCases as cases
 use Rattle.snap_runs.proofs.Scans as scans
 
 module _ {V P M : Type 0} (a : Algorithm V P M) (lines : Lines V P M) where
-  -- what a line does to an embedded scan and to its view
-  abbrev pub Embeds : Mode → V → P → Move V P M → Type 0
-  Embeds Scanning p k (To d' m' p' k') = d' ≡ Scanning
-  Embeds Scanning p k (Begin d' p' k') = ⊥
-  Embeds (Embedded w x) p k (To d' m' p' k') =
-      ((d' ≡ Embedded w x) × (lines.IsReturn k → ⊥))
-      ⊎ ((d' ≡ Updating w x) × lines.IsReturn k × (lines.answer p' ≡ lines.answer p))
-  Embeds (Embedded w x) p k (Begin d' p' k') = ⊥
-  Embeds (Updating w x) p k (To d' m' p' k') =
-      (d' ≡ Updating w x) × (lines.IsLate k' → lines.IsLate k × (lines.answer p' ≡ lines.answer p))
-  Embeds (Updating w x) p k (Begin d' p' k') = (d' ≡ Embedded w x) × IsCallLine (instr_at a.source.lines (a.number k))
-  Embeds d p k (Answer v) = Unit {0}
-  Embeds d p k Finish = Unit {0}
-
   module _ (listed : scans.Listed a lines) (run : scans.Execution a lines)
-      (embeds : (t i : ℕ) → t < length run.items → IsOneOf a.shape.n i →
-      WhenBusy (λ d k. Embeds d (typed_at a (typed_state a run.items t) i).variables k
-      (a.move i d (typed_state a run.items t).memory (typed_at a (typed_state a run.items t) i).variables k))
-      (typed_at a (typed_state a run.items t) i).control)
       (not_late : (op : Op) → lines.IsLate (a.counter op) → ⊥)
       (i : ℕ) (one : IsOneOf a.shape.n i) where
     abbrev items : List Item
@@ -165,31 +142,32 @@ module _ {V P M : Type 0} (a : Algorithm V P M) (lines : Lines V P M) where
     }
 
     stepped : (t : ℕ) (d : Mode) (k : P) (v : Move V P M) → t < length items → item_at items t ≡ Step i →
-        (his t).control ≡ At d k → Embeds d (his t).variables k v → his (suc t) ≡ cases.moved a (suc t) (his t) k v →
+        (his t).control ≡ At d k →
+        flow.Flows lines a d (typed_state a items t).memory (his t).variables k v → his (suc t) ≡ cases.moved a (suc t) (his t) k v →
         outcome r (suc t) ≡ outcome_of (by_move a (suc t) (typed_state a items t).memory (his t) k v) →
         Tracked t (his t).auxiliary.since (lines.answer (his t).variables) (At d k) →
         Tracked (suc t) (cases.moved a (suc t) (his t) k v).auxiliary.since
         (lines.answer (cases.moved a (suc t) (his t) k v).variables) (cases.moved a (suc t) (his t) k v).control
     stepped t Scanning k (To d' m' p' k') short is at e after out h =
-        subst (λ y. Tracked (suc t) (his t).auxiliary.since (lines.answer p') (At y k')) (sym e) tt
+        subst (λ y. Tracked (suc t) (his t).auxiliary.since (lines.answer p') (At y k')) (sym e.0) tt
     stepped t Scanning k (Begin d' p' k') short is at e after out h = absurd e
     stepped t (Embedded w x) k (To d' m' p' k') short is at e after out h =
         let since = (his t).auxiliary.since in
-        elim e [
+        elim e.2 [
           | inl on ↦ subst (λ y. Tracked (suc t) since (lines.answer p') (At y k')) (sym on.0)
               (longer since t (λ view ends. no_end t (Embedded w x) k view short at on.1 ends) h)
           | inr back ↦ subst (λ y. Tracked (suc t) since (lines.answer p') (At y k')) (sym back.0)
-              (λ late. subst (Lending since (suc t)) (sym back.2) (ended t w x k short is at back.1 h))
+              (λ late. subst (Lending since (suc t)) (sym back.3) (ended t w x k short is at back.1 h))
         ]
     stepped t (Embedded w x) k (Begin d' p' k') short is at e after out h = absurd e
     stepped t (Updating w x) k (To d' m' p' k') short is at e after out h =
         let since = (his t).auxiliary.since in
-        subst (λ y. Tracked (suc t) since (lines.answer p') (At y k')) (sym e.0)
-        (λ late. let was = e.1 late in
+        subst (λ y. Tracked (suc t) since (lines.answer p') (At y k')) (sym e.1)
+        (λ late. let was = e.3 late in
         subst (Lending since (suc t)) (sym was.1) (lends_longer since t (lines.answer (his t).variables) (h was.0)))
     stepped t (Updating w x) k (Begin d' p' k') short is at e after out h =
         subst (λ y. Tracked (suc t) (suc t) (lines.answer p') (At y k')) (sym e.0)
-        (begun t w x k p' k' short is at e.1
+        (begun t w x k p' k' short is at e.2
         (after ∙ ap (λ y. record {
           control = At y k';
           variables = p';
@@ -219,9 +197,8 @@ module _ {V P M : Type 0} (a : Algorithm V P M) (lines : Lines V P M) where
             | inl s ↦ subst Next (sym s.after)
                 (stepped t s.mode s.counter (a.move i s.mode (typed_state a items t).memory (his t).variables s.counter)
                 (omega arith) s.item s.control
-                (subst (WhenBusy
-                (λ d k. Embeds d (his t).variables k (a.move i d (typed_state a items t).memory (his t).variables k)))
-                s.control (embeds t i (omega arith) one))
+                (subst (scans.FlowsAt a lines i (typed_state a items t).memory (his t).variables) s.control
+                (run.flows t i (omega arith) one))
                 s.after s.outcome_is
                 (subst (Tracked t (his t).auxiliary.since (lines.answer (his t).variables)) s.control before))
             | inr c ↦ subst Next (sym c.after)

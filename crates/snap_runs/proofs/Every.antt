@@ -1,13 +1,11 @@
 -- The promises of every run of a listing that has a `Frame`, from what its runs without crashes keep.
-use Rattle.std.specs.Prelude.{◌≡◌, ℕ, zero, suc, ◌+◌, ◌<◌, ◌≤◌, List, Option, Some}
-use Rattle.std.proofs.Common.{arith}
-use Rattle.snap_semantics.specs.declared.process.Item.{Item}
+use Rattle.std.proofs.Common.{◌≡◌, ℕ, zero, suc, ◌+◌, ◌<◌, ◌≤◌, List, Option, Some, arith}
+use Rattle.snap_runs.proofs.Common.{Item, Run}
 use Rattle.snap_runs.specs.Linearization.{IsLinearizable}
 use Rattle.snap_runs.specs.LinearizationPoints.{HasLinearizationPoints}
 use Rattle.snap_runs.specs.Placement.{OperationsHavePlaces}
 use Rattle.snap_runs.specs.Promises as promises
 use Rattle.snap_runs.specs.Promises.{LentView, CollectLines}
-use Rattle.snap_runs.specs.Run.{Run}
 use Rattle.snap_runs.specs.Scan.{FinishedScan, double_collects, own_steps}
 use Rattle.snap_runs.specs.Snapshot.{IsSnapshotRun}
 use Rattle.snap_runs.specs.WaitFree.{IsWaitFree}

@@ -2,13 +2,8 @@
 -- program counter of that line; and what its step there leaves.
 use Rattle.std.specs.Prelude.{◌≡◌, ℕ, suc, ◌<◌, Bool, true, false, ◌&&◌, List, length, Option, Some, nat_eq, refl}
 use Rattle.std.proofs.Common.{sym, ◌∙◌, ap, subst, arith}
-use Rattle.snap_words.specs.Shape.{IsOneOf}
-use Rattle.snap_semantics.specs.State.{Process, process_at}
-use Rattle.snap_semantics.specs.Table.{who}
-use Rattle.snap_semantics.specs.declared.process.Item.{Item}
-use Rattle.snap_semantics.specs.declared.process.Item.TheVariants.{Step, Call, Crash}
-use Rattle.snap_semantics.specs.declared.process.Outcome.TheVariants.{Stepped}
-use Rattle.snap_runs.specs.Run.{Run, state, before, item, outcome}
+use Rattle.snap_runs.proofs.Common.{IsOneOf, Process, process_at, who, Item, Step, Call, Crash, Stepped, Run, state}
+use Rattle.snap_runs.proofs.Common.{before, item, outcome}
 use Rattle.snap_runs.specs.Scan.{steps}
 use Rattle.snap_runs.specs.Update.{is_at, goes_on, executes, TrapsExecuteNothing}
 use Rattle.snap_runs.proofs.Algorithm.{Mode, Control, Idle, At, Move, To, TypedProcess, TypedState, Algorithm}

@@ -4,9 +4,9 @@ use Rattle.std.specs.Prelude.{◌≡◌, ℕ, ◌+◌, ◌⊎◌, Bool, true, fa
 use Rattle.std.proofs.Common.{sym, ◌∙◌, ap, subst, arith, inl, inr}
 use Rattle.snap_semantics.specs.declared.process.Op.TheVariants.{Scan, Update}
 use Rattle.snap_semantics.specs.Source.{instr_at}
-use Rattle.snap_runs.specs.Scan.{ReturnsView}
+use Rattle.snap_runs.specs.Scan.{IsCallLine, ReturnsView}
 use Rattle.snap_runs.proofs.Algorithm.{Mode, Scanning, Embedded, Updating, op_of, Control, Idle, At, Move, To, Begin}
-use Rattle.snap_runs.proofs.Algorithm.{Answer, Finish, Algorithm}
+use Rattle.snap_runs.proofs.Algorithm.{Answer, Finish, Algorithm, returning}
 use Rattle.snap_runs.proofs.ScanSpan as span
 use Rattle.snap_runs.proofs.UpdateSpan as called
 
@@ -60,6 +60,13 @@ pub update_of : (Owned : ℕ → Type 0) (d : Mode) → IsUpdateOf Owned d →
 update_of Owned Scanning u = absurd u
 update_of Owned (Embedded word value) u = absurd u
 update_of Owned (Updating word value) u = (word, value, u, refl)
+
+-- what holds of each update of such a word holds of a process in one
+pub in_update_of : (Owned : ℕ → Type 0) (Holds : Mode → Type 0) (d : Mode) → IsUpdateOf Owned d →
+    ((word value : ℕ) → Owned word → Holds (Updating word value)) → Holds d
+in_update_of Owned Holds Scanning u each = absurd u
+in_update_of Owned Holds (Embedded word value) u each = absurd u
+in_update_of Owned Holds (Updating word value) u each = each word value u
 
 -- what the lines of a listing are for
 pub record Lines (V P M : Type 0) : Type 1 where
@@ -145,7 +152,7 @@ module _ {V P M : Type 0} (lines : Lines V P M) where
   AnswersAt p k Finish = Unit {0}
 
   module _ (a : Algorithm V P M) where
-    -- what a line does to the mode of a process
+    -- what a line does to the mode of a process, to its embedded scan and to the view that it makes
     abbrev pub Flows : Mode → M → V → P → Move V P M → Type 0
     Flows Scanning m p k (To d' m' p' k') = (d' ≡ Scanning) × lines.Kept m m'
     Flows Scanning m p k (Begin d' p' k') = ⊥
@@ -153,23 +160,40 @@ module _ {V P M : Type 0} (lines : Lines V P M) where
     Flows Scanning m p k Finish = ⊥
     Flows (Embedded word value) m p k (To d' m' p' k') =
         lines.Kept m m' × (a.writes k ≡ 0)
-        × ((d' ≡ Embedded word value) ⊎ ((d' ≡ Updating word value) × lines.IsReturn k × (lines.written k' ≡ 0)))
+        × (((d' ≡ Embedded word value) × (lines.IsReturn k → ⊥))
+        ⊎ ((d' ≡ Updating word value) × lines.IsReturn k × (lines.written k' ≡ 0)
+        × (lines.answer p' ≡ lines.answer p)))
     Flows (Embedded word value) m p k (Begin d' p' k') = ⊥
     Flows (Embedded word value) m p k (Answer v) = ⊥
     Flows (Embedded word value) m p k Finish = ⊥
     Flows (Updating word value) m p k (To d' m' p' k') =
         (lines.Kept m m' ⊎ lines.IsWrite k) × (d' ≡ Updating word value)
-        × (lines.written k' ≡ lines.written k + a.writes k) × (lines.IsLate k' → lines.IsLate k)
-    Flows (Updating word value) m p k (Begin d' p' k') = (d' ≡ Embedded word value) × (lines.written k + a.writes k ≡ 0)
+        × (lines.written k' ≡ lines.written k + a.writes k)
+        × (lines.IsLate k' → lines.IsLate k × (lines.answer p' ≡ lines.answer p))
+    Flows (Updating word value) m p k (Begin d' p' k') =
+        (d' ≡ Embedded word value) × (lines.written k + a.writes k ≡ 0)
+        × IsCallLine (instr_at a.source.lines (a.number k))
     Flows (Updating word value) m p k (Answer v) = ⊥
     Flows (Updating word value) m p k Finish = lines.IsLast k
 
-    -- a line of a scan that goes on
-    pub within : (d : Mode) (m m' : M) (p p' : V) (k k' : P) → IsInScan d → a.writes k ≡ 0 →
-        lines.Kept m m' → Flows d m p k (To d m' p' k')
-    within Scanning m m' p p' k k' inside quiet kept = (refl, kept)
-    within (Embedded word value) m m' p p' k k' inside quiet kept = (kept, quiet, inl refl)
-    within (Updating word value) m m' p p' k k' inside quiet kept = absurd inside
+    -- a line that goes on, writes nothing, and leads to no view that is to be written
+    pub goes_on : (Owned : ℕ → Type 0) (update : Bool) (d : Mode) (m m' : M) (p p' : V) (k k' : P) →
+        IsLine Owned update d → lines.Kept m m' → lines.written k' ≡ lines.written k + a.writes k → a.writes k ≡ 0 →
+        (lines.IsReturn k → ⊥) → (lines.IsLate k' → ⊥) → Flows d m p k (To d m' p' k')
+    goes_on Owned update Scanning m m' p p' k k' line kept same quiet none early = (refl, kept)
+    goes_on Owned update (Embedded word value) m m' p p' k k' line kept same quiet none early =
+        (kept, quiet, inl (refl, none))
+    goes_on Owned update (Updating word value) m m' p p' k k' line kept same quiet none early =
+        (inl kept, refl, same, λ late. absurd (early late))
+
+    -- a line that returns the view
+    pub returns : (Owned : ℕ → Type 0) (d : Mode) (m : M) (p : V) (k back : P) → IsScanOf Owned d → lines.IsReturn k →
+        lines.Kept m m → a.writes k ≡ 0 → lines.written back ≡ 0 →
+        Flows d m p k (returning (lines.answer p) back d m p)
+    returns Owned Scanning m p k back line is kept quiet none = (is, refl)
+    returns Owned (Embedded word value) m p k back line is kept quiet none =
+        (kept, quiet, inr (refl, is, none, refl))
+    returns Owned (Updating word value) m p k back line is kept quiet none = absurd line
 
     pub keeps_memory : (d : Mode) (m : M) (p : V) (k : P) (v : Move V P M) → Flows d m p k v →
         KeepsMemory m v ⊎ lines.IsWrite k
@@ -198,7 +222,7 @@ module _ {V P M : Type 0} (lines : Lines V P M) where
     makes_no_more Scanning m p k (To d' m' p' k') h = subst (λ x. IsMaking x k' → ⊥) (sym h.0) (λ made. made)
     makes_no_more (Embedded word value) m p k (To d' m' p' k') h = λ made. tt
     makes_no_more (Updating word value) m p k (To d' m' p' k') h =
-        subst (λ x. IsMaking x k' → lines.IsLate k) (sym h.1) h.3
+        subst (λ x. IsMaking x k' → lines.IsLate k) (sym h.1) (λ late. (h.3 late).0)
     makes_no_more d m p k (Begin d' p' k') h = tt
     makes_no_more d m p k (Answer v) h = tt
     makes_no_more d m p k Finish h = tt
@@ -211,7 +235,7 @@ module _ {V P M : Type 0} (lines : Lines V P M) where
     counts_writes (Embedded word value) m p k (To d' m' p' k') w h is =
         let none : w + a.writes k ≡ 0 = (let q : a.writes k ≡ 0 = h.1 in omega arith) in
         elim h.2 [
-          | inl same ↦ subst (λ x. HasWritten (At x k') (w + a.writes k)) (sym same) none
+          | inl same ↦ subst (λ x. HasWritten (At x k') (w + a.writes k)) (sym same.0) none
           | inr back ↦ subst (λ x. HasWritten (At x k') (w + a.writes k)) (sym back.0) (none ∙ sym back.2)
         ]
     counts_writes (Embedded word value) m p k (Begin d' p' k') w h is = absurd h
@@ -260,7 +284,7 @@ module _ {V P M : Type 0} (lines : Lines V P M) where
         absurd (let e : Update word value ≡ Scan = inside.1 in cc)
     stays (Some l) (Embedded word value) m p k (To d' m' p' k') returns h inside =
         elim h.2 [
-          | inl same ↦ inl (subst (span.Inside a (Some l)) (sym same) inside)
+          | inl same ↦ inl (subst (span.Inside a (Some l)) (sym same.0) inside)
           | inr back ↦ inr (lines.answer p, returns back.1)
         ]
     stays (Some l) (Embedded word value) m p k (Begin d' p' k') returns h inside = absurd h

@@ -1,10 +1,8 @@
 -- An item changes one typed process of an `Algorithm`, and perhaps the
 -- memory: what holds of each process and of each pair of them afterwards.
-use Rattle.std.specs.Prelude.{◌≡◌, ◌≢◌, ℕ, length}
-use Rattle.std.proofs.Common.{sym, ◌∙◌, ap, subst, inl, inr}
+use Rattle.std.proofs.Common.{◌≡◌, ◌≢◌, ℕ, length, sym, ◌∙◌, ap, subst, inl, inr}
 use Rattle.std.proofs.lemmas.Bool.{cases_eq}
-use Rattle.snap_words.specs.Shape.{IsOneOf}
-use Rattle.snap_semantics.specs.declared.process.Outcome.{Outcome}
+use Rattle.snap_runs.proofs.Common.{IsOneOf, Outcome}
 use Rattle.snap_runs.proofs.Algorithm.{TypedProcess, TypedState, Algorithm, New, typed_at, changed}
 use Rattle.snap_runs.proofs.Embedding as embed
 

@@ -1,12 +1,9 @@
 -- `Held`: a view that was the values of the words at some state of a run; `Beside`
 -- and `Lent`: a view that stood in a word which was written at least twice since.
-use Rattle.std.specs.Prelude.{◌≡◌, ℕ, ◌+◌, ◌-◌, ◌<◌, ◌≤◌, ◌⊎◌, Bool, true, false, List, take, length, map}
-use Rattle.std.specs.Prelude.{slice_index_or, if◌then◌else◌}
-use Rattle.std.proofs.Common.{sym, ◌∙◌, ap, subst, arith, inl, inr}
+use Rattle.std.proofs.Common.{◌≡◌, ℕ, ◌+◌, ◌-◌, ◌<◌, ◌≤◌, ◌⊎◌, Bool, true, false, List, take, length, map}
+use Rattle.std.proofs.Common.{slice_index_or, if◌then◌else◌, sym, ◌∙◌, ap, subst, arith, inl, inr}
 use Rattle.std.proofs.lemmas.List.{get_or-take, ext_get_or, length-take-le}
-use Rattle.snap_words.specs.Shape.{IsOneOf}
-use Rattle.snap_words.specs.Word.{Word}
-use Rattle.snap_words.specs.Word.{no_word}
+use Rattle.snap_runs.proofs.Common.{IsOneOf, Word, no_word}
 
 abbrev pub word_at : List Word → ℕ → Word
 word_at ws k = slice_index_or ws (k - 1) no_word

@@ -1,8 +1,6 @@
 -- An item keeps a part of the memory, or is a step at one of the few lines of the algorithm that do not keep it.
-use Rattle.std.specs.Prelude.{◌≡◌, ℕ, ◌⊎◌, refl}
-use Rattle.std.proofs.Common.{sym, subst, inl, inr}
-use Rattle.snap_semantics.specs.declared.process.Item.{Item}
-use Rattle.snap_semantics.specs.declared.process.Item.TheVariants.{Step, Call, Crash}
+use Rattle.std.proofs.Common.{◌≡◌, ℕ, ◌⊎◌, refl, sym, subst, inl, inr}
+use Rattle.snap_runs.proofs.Common.{Item, Step, Call, Crash}
 use Rattle.snap_runs.proofs.Algorithm.{Mode, Control, Idle, At, TypedState, Algorithm, by_step, memory_after}
 use Rattle.snap_runs.proofs.Algorithm.{typed_at, changed, happens}
 use Rattle.snap_runs.proofs.Embedding as embed

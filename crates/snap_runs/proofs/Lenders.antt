@@ -4,16 +4,11 @@ use Rattle.std.specs.Prelude.{◌≡◌, ◌≢◌, ℕ, zero, suc, ◌+◌, ◌
 use Rattle.std.proofs.Common.{sym, ◌∙◌, ap, subst, arith, inl, inr}
 use Rattle.std.proofs.lemmas.Grind.{get_or-set_at}
 use Rattle.std.proofs.Math.Nat.{eq-or-lt_of_le}
-use Rattle.snap_words.specs.Shape.{IsOneOf}
-use Rattle.snap_words.specs.Word.{Word, no_word}
-use Rattle.snap_semantics.specs.Table.{who}
-use Rattle.snap_semantics.specs.declared.process.Item.{Item}
-use Rattle.snap_semantics.specs.declared.process.Op.{Op}
-use Rattle.snap_runs.specs.Run.{Run, item}
+use Rattle.snap_runs.proofs.Common.{IsOneOf, Word, no_word, who, Item, Op, Run, item}
 use Rattle.snap_runs.specs.Scan.{Starts, FinishedScan}
 use Rattle.snap_runs.specs.Update.{executes}
 use Rattle.snap_runs.specs.Promises.{LentView}
-use Rattle.snap_runs.proofs.Algorithm.{Mode, Updating, At, WhenBusy, TypedProcess, Algorithm, typed_at, typed_state}
+use Rattle.snap_runs.proofs.Algorithm.{Mode, Updating, At, TypedProcess, Algorithm, typed_at, typed_state}
 use Rattle.snap_runs.proofs.EmbeddedScans as embedded
 use Rattle.snap_runs.proofs.Embedding as embed
 use Rattle.snap_runs.proofs.Executing as executing
@@ -96,8 +91,6 @@ module _ {V P M : Type 0} (a : Algorithm V P M) (lines : Lines V P M) (line : �
         ≡ lines.answer (at t k).variables
     pub late : lines.IsLate writer.counter
     pub not_late : (op : Op) → lines.IsLate (a.counter op) → ⊥
-    pub embeds : (t i : ℕ) → t < length items → IsOneOf a.shape.n i → WhenBusy (λ d k. embedded.Embeds a lines d
-        (at t i).variables k (a.move i d (typed_state a items t).memory (at t i).variables k)) (at t i).control
 
   module _ (lends : Lends) where
     -- a scan that ends after state u, at which word j had two writes or more since its start
@@ -131,7 +124,7 @@ module _ {V P M : Type 0} (a : Algorithm V P M) (lines : Lines V P M) (line : �
         (lends.pairs v i j (omega arith) one jone making
         (subst (λ s. seq_at (words s) j < seq_at (words v) j) (sym g.since) (omega arith))) in
         let lent =
-        embedded.lending a lines listed run lends.embeds lends.not_late j jone v wrote.word wrote.value writer.counter
+        embedded.lending a lines listed run lends.not_late j jone v wrote.word wrote.value writer.counter
         (omega arith) wrote.control lends.late in
         let its_view : lines.answer (at v j).variables ≡ view =
         sym (lends.views v j wrote.word wrote.value) ∙ sym (ap (λ (x : Word). x.view) now) ∙ is in

@@ -1,4 +1,5 @@
 -- The proofs of snap_runs, by their modules.
+pub mod Common
 pub mod Computing
 pub mod Counting
 pub mod Places
@@ -51,3 +52,4 @@ pub mod ListingFrame
 pub mod Every
 pub mod Single
 pub mod Keeping
+pub mod Worked

@@ -1,20 +1,16 @@
 -- Every run that keeps the promises is linearizable: each update at its write, and each scan at its point.
-use Rattle.std.specs.Prelude.{◌≡◌, ℕ, zero, suc, ◌<◌, ◌≤◌, ◌⊎◌, true, List, [], ◌∷◌, ◌++◌}
-use Rattle.std.specs.Prelude.{length, Option, Some, None, replicate, map, refl}
+use Rattle.std.proofs.Common.{◌≡◌, ℕ, zero, suc, ◌<◌, ◌≤◌, ◌⊎◌, true, List, [], ◌∷◌, ◌++◌, length, Option, Some, None}
+use Rattle.std.proofs.Common.{replicate, map, refl, sym, ◌∙◌, ap, subst, arith, inl, inr}
 use Rattle.std.specs.List.{AllByRecursion, Contains}
-use Rattle.std.proofs.Common.{sym, ◌∙◌, ap, subst, arith, inl, inr}
 use Rattle.std.proofs.lemmas.Bool.{cases_eq, cases_lt}
 use Rattle.std.proofs.lemmas.List.{append-nil, length-replicate}
 use Rattle.std.proofs.lemmas.List.Elements.{All-from_recursion, Contains-append_left, Contains-push}
-use Rattle.snap_words.specs.Shape.{Counts, IsOneOf}
+use Rattle.snap_runs.proofs.Common.{Counts, IsOneOf, Word, Call, values, Run, IsValidRun, state, item}
 use Rattle.snap_words.specs.Kind.{initial_word}
-use Rattle.snap_words.specs.Word.{Word}
 use Rattle.snap_words.specs.declared.kind.KindTag.{KindTag}
 use Rattle.snap_words.specs.declared.kind.KindTag.TheVariants as kind
-use Rattle.snap_semantics.specs.declared.process.Item.TheVariants.{Call}
 use Rattle.snap_semantics.specs.declared.process.Op.TheVariants as op
-use Rattle.snap_semantics.specs.State.{initial_memory, values}
-use Rattle.snap_runs.specs.Run.{Run, IsValidRun, state, item}
+use Rattle.snap_semantics.specs.State.{initial_memory}
 use Rattle.snap_runs.specs.Scan.{FinishedScan, count}
 use Rattle.snap_runs.specs.Update.{executes, PendingUpdate}
 use Rattle.snap_runs.specs.LinearizationPoints.{HasLinearizationPoints, LinearizableByPoints}

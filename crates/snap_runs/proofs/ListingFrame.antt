@@ -1,11 +1,7 @@
 -- `Frame` and `Kept`: what is known of the lines of a listing of which one line writes
 -- a word, and of each of its runs without crashes; its promises follow from this.
-use Rattle.std.specs.Prelude.{◌≡◌, ℕ, suc, ◌+◌, ◌<◌, ◌≤◌, true, false, List, length, Option, Some}
-use Rattle.std.proofs.Common.{arith}
-use Rattle.snap_words.specs.Shape.{IsOneOf}
-use Rattle.snap_words.specs.Word.{Word}
-use Rattle.snap_semantics.specs.declared.process.Item.{Item}
-use Rattle.snap_semantics.specs.declared.process.Op.TheVariants.{Update}
+use Rattle.std.proofs.Common.{◌≡◌, ℕ, suc, ◌+◌, ◌<◌, ◌≤◌, true, false, List, length, Option, Some, arith}
+use Rattle.snap_runs.proofs.Common.{IsOneOf, Word, Item, Update}
 use Rattle.snap_runs.specs.Promises.{CollectLines}
 use Rattle.snap_runs.specs.Scan.{FinishedScan}
 use Rattle.snap_runs.specs.Update.{executes}

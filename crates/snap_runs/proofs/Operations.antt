@@ -1,25 +1,20 @@
 -- The operations of a run in which one line writes: what each item that writes and each item that answers belongs to.
-use Rattle.std.specs.Prelude.{◌≡◌, ℕ, zero, suc, ◌-◌, ◌<◌, ◌≤◌, ◌⊎◌, Bool, true, false, ◌&&◌, List, length, Option}
-use Rattle.std.specs.Prelude.{Some, None, nat_lt, if◌then◌else◌, slice_set, refl}
-use Rattle.std.proofs.Common.{sym, ◌∙◌, ap, subst, arith, inl, inr}
+use Rattle.std.proofs.Common.{◌≡◌, ℕ, zero, suc, ◌-◌, ◌<◌, ◌≤◌, ◌⊎◌, Bool, true, false, ◌&&◌, List, length, Option}
+use Rattle.std.proofs.Common.{Some, None, nat_lt, if◌then◌else◌, slice_set, refl, sym, ◌∙◌, ap, subst, arith, inl, inr}
 use Rattle.std.proofs.lemmas.Bool.{cases_eq, cases_lt}
 use Rattle.std.proofs.Math.Nat.{eq-or-lt_of_le}
-use Rattle.snap_words.specs.Shape.{IsOneOf}
-use Rattle.snap_semantics.specs.declared.process.Item.{Item}
-use Rattle.snap_semantics.specs.declared.process.Item.TheVariants.{Step, Call, Crash}
+use Rattle.snap_runs.proofs.Common.{IsOneOf, Item, Step, Call, Crash, Op, Outcome, process_at, values, who, Run}
+use Rattle.snap_runs.proofs.Common.{IsValidRun, state, before, item}
 use Rattle.snap_semantics.specs.declared.process.Op.TheVariants as op
-use Rattle.snap_semantics.specs.declared.process.Outcome.{Outcome}
 use Rattle.snap_semantics.specs.declared.process.Outcome.TheVariants as outcome
-use Rattle.snap_semantics.specs.State.{process_at, values}
-use Rattle.snap_semantics.specs.Table.{who}
-use Rattle.snap_runs.specs.Run.{Run, IsValidRun, state, before, item, outcome as outcome_at}
+use Rattle.snap_runs.specs.Run.{outcome as outcome_at}
 use Rattle.snap_runs.specs.Scan.{FinishedScan, steps, count}
 use Rattle.snap_runs.specs.Update.{is_at, goes_on, executes, IsDone, PendingUpdate}
 use Rattle.snap_runs.specs.LinearizationPoints.{HasLinearizationPoints}
 use Rattle.snap_runs.specs.Operation.{Sets, TookPlace}
 use Rattle.snap_runs.proofs.Computing.{lt_from, both, same_from}
 use Rattle.snap_runs.proofs.Counting.{count_next}
-use Rattle.snap_runs.proofs.Calls.{EndsWith, Calls, item_one, one_call, answer_ends}
+use Rattle.snap_runs.proofs.Calls.{EndsWith, IsEnd, Calls, item_one, one_call, answer_ends}
 
 -- what passes a test is counted
 counted : (b : Bool) (x : ℕ) → x ≤ (if b then suc x else x)
@@ -76,22 +71,12 @@ abbrev pub Answering : Outcome → Type 0
 Answering out = ((view : List ℕ) × (out ≡ outcome.Answered view)) ⊎ ((view : List ℕ) → out ≡ outcome.Answered view → ⊥)
 
 answering : (out : Outcome) → Answering out
-answering outcome.Called = inr (λ view is. absurd (cc))
-answering outcome.Stepped = inr (λ view is. absurd (cc))
 answering (outcome.Answered view) = inl (view, refl)
-answering outcome.Finished = inr (λ view is. absurd (cc))
-answering (outcome.Trapped cause) = inr (λ view is. absurd (cc))
-answering outcome.Crashed = inr (λ view is. absurd (cc))
-answering (outcome.Skipped why) = inr (λ view is. absurd (cc))
+answering other = inr (λ view is. absurd (cc))
 
 finishing : (out : Outcome) → (out ≡ outcome.Finished) ⊎ (out ≡ outcome.Finished → ⊥)
-finishing outcome.Called = inr (λ is. absurd (cc))
-finishing outcome.Stepped = inr (λ is. absurd (cc))
-finishing (outcome.Answered view) = inr (λ is. absurd (cc))
 finishing outcome.Finished = inl refl
-finishing (outcome.Trapped cause) = inr (λ is. absurd (cc))
-finishing outcome.Crashed = inr (λ is. absurd (cc))
-finishing (outcome.Skipped why) = inr (λ is. absurd (cc))
+finishing other = inr (λ is. absurd (cc))
 
 -- the process of an item that executes a line
 step_of : (i : ℕ) (y : Item) → steps i y ≡ true → i ≡ who y
@@ -101,22 +86,17 @@ step_of i (Crash k) h = absurd (cc)
 
 -- how an update ends, and how a scan does
 pub ends_done : (word value : ℕ) (out : Outcome) → EndsWith (op.Update word value) out → out ≡ outcome.Finished
-ends_done word value outcome.Called h = absurd h
-ends_done word value outcome.Stepped h = absurd h
-ends_done word value (outcome.Answered view) h = absurd h
 ends_done word value outcome.Finished h = refl
-ends_done word value (outcome.Trapped cause) h = absurd h
-ends_done word value outcome.Crashed h = absurd h
-ends_done word value (outcome.Skipped why) h = absurd h
+ends_done word value other h = absurd h
 
 pub ends_answer : (out : Outcome) → EndsWith op.Scan out → (view : List ℕ) × (out ≡ outcome.Answered view)
-ends_answer outcome.Called h = absurd h
-ends_answer outcome.Stepped h = absurd h
 ends_answer (outcome.Answered view) h = (view, refl)
-ends_answer outcome.Finished h = absurd h
-ends_answer (outcome.Trapped cause) h = absurd h
-ends_answer outcome.Crashed h = absurd h
-ends_answer (outcome.Skipped why) h = absurd h
+ends_answer other h = absurd h
+
+pub ends_end : (o : Op) (out : Outcome) → EndsWith o out → IsEnd out
+ends_end op.Scan (outcome.Answered view) h = tt
+ends_end (op.Update word value) outcome.Finished h = tt
+ends_end o out h = absurd h
 
 module _ (r : Run) where
   pub executes_who : (i line t : ℕ) → executes r i line t ≡ true → i ≡ who (item r t)

@@ -1,20 +1,12 @@
 -- A scan that a process calls after an update of its own shows that update's value.
-use Rattle.std.specs.Prelude.{◌≡◌, ℕ, zero, suc, ◌-◌, ◌<◌, ◌≤◌, Bool, true, false, List}
-use Rattle.std.specs.Prelude.{length, Some, None, slice_index, refl}
-use Rattle.std.proofs.Common.{sym, ◌∙◌, ap, subst, arith, inl, inr}
+use Rattle.std.proofs.Common.{◌≡◌, ℕ, zero, suc, ◌-◌, ◌<◌, ◌≤◌, Bool, true, false, List, length, Some, None}
+use Rattle.std.proofs.Common.{slice_index, refl, sym, ◌∙◌, ap, subst, arith, inl, inr}
 use Rattle.std.proofs.lemmas.Bool.{cases_lt}
 use Rattle.std.proofs.lemmas.Grind.{get_or-set_at}
 use Rattle.std.proofs.lemmas.List.{get_or-map}
 use Rattle.std.proofs.Math.Nat.{eq-or-lt_of_le}
-use Rattle.snap_words.specs.Shape.{IsOneOf}
-use Rattle.snap_words.specs.Word.{Word, no_word}
-use Rattle.snap_semantics.specs.State.{values}
-use Rattle.snap_semantics.specs.declared.process.Item.{Item}
-use Rattle.snap_semantics.specs.declared.process.Item.TheVariants.{Call}
-use Rattle.snap_semantics.specs.declared.process.Op.{Op}
-use Rattle.snap_semantics.specs.declared.process.Op.TheVariants.{Scan, Update}
-use Rattle.snap_semantics.specs.declared.process.Outcome.TheVariants.{Called}
-use Rattle.snap_runs.specs.Run.{Run, state, item, outcome}
+use Rattle.snap_runs.proofs.Common.{IsOneOf, Word, no_word, values, Item, Call, Op, Scan, Update, Called, Run, state}
+use Rattle.snap_runs.proofs.Common.{item, outcome}
 use Rattle.snap_runs.specs.Scan.{PendingScan, HasPoint, count}
 use Rattle.snap_runs.specs.Update.{executes, IsDone, PendingUpdate}
 use Rattle.snap_runs.specs.Promises.{HavePoints, OwnUpdatesAreSeen}

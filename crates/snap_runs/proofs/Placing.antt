@@ -7,8 +7,7 @@ use Rattle.std.proofs.Common.{sym, ◌∙◌, ap, arith, inl, inr}
 use Rattle.std.proofs.Math.Nat.{eq-or-lt_of_le}
 use Rattle.std.proofs.lemmas.List.Elements.{All-from_recursion}
 use Rattle.std.proofs.lemmas.List.Kept.{AllPairs-cons}
-use Rattle.snap_semantics.specs.State.{values}
-use Rattle.snap_runs.specs.Run.{Run, IsValidRun, state}
+use Rattle.snap_runs.proofs.Common.{values, Run, IsValidRun, state}
 use Rattle.snap_runs.specs.LinearizationPoints.{HasLinearizationPoints}
 use Rattle.snap_runs.specs.Operation.{Action, Sets, Sees, Operation, TookPlace, IsOperation}
 use Rattle.snap_runs.specs.Placement.{HappensAt, TakesPlaceAt, IsPlacedLinearization, PlacedByPoints}

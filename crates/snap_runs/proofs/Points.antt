@@ -1,10 +1,7 @@
 -- Every finished scan of any algorithm has a point, where the view that
 -- a line returns was the values at some state since the scan's start.
-use Rattle.std.specs.Prelude.{◌≡◌, ℕ, zero, suc, ◌<◌, ◌≤◌, List, length}
-use Rattle.std.proofs.Common.{◌∙◌, subst, arith}
-use Rattle.snap_words.specs.Shape.{IsOneOf}
-use Rattle.snap_semantics.specs.declared.process.Item.{Item}
-use Rattle.snap_runs.specs.Run.{Run}
+use Rattle.std.proofs.Common.{◌≡◌, ℕ, zero, suc, ◌<◌, ◌≤◌, List, length, ◌∙◌, subst, arith}
+use Rattle.snap_runs.proofs.Common.{IsOneOf, Item, Run}
 use Rattle.snap_runs.specs.Scan.{HasPoint}
 use Rattle.snap_runs.specs.Promises.{HavePoints}
 use Rattle.snap_runs.proofs.Algorithm.{Mode, At, TypedProcess, Algorithm, typed_at, typed_state}

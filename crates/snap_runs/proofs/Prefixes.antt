@@ -1,19 +1,17 @@
 -- Write strong linearizability by points: a run is, up to an item, what it is
 -- in every longer run, and so the updates that it has written come first there.
-use Rattle.std.specs.Prelude.{◌≡◌, ℕ, zero, suc, ◌<◌, ◌≤◌, ◌⊎◌, ◌&&◌, List, [], ◌∷◌}
-use Rattle.std.specs.Prelude.{◌++◌, length, Option, Some, None, refl}
+use Rattle.std.proofs.Common.{◌≡◌, ℕ, zero, suc, ◌<◌, ◌≤◌, ◌⊎◌, ◌&&◌, List, [], ◌∷◌, ◌++◌, length, Option, Some, None}
+use Rattle.std.proofs.Common.{refl, sym, ◌∙◌, ap, subst, arith, inl, inr}
 use Rattle.std.specs.List.{AllByRecursion}
-use Rattle.std.proofs.Common.{sym, ◌∙◌, ap, subst, arith, inl, inr}
 use Rattle.std.proofs.lemmas.Bool.{cases_lt}
 use Rattle.std.proofs.lemmas.List.{length-append, take-append-le, get_or_append_left}
-use Rattle.snap_words.specs.Shape.{Counts, IsOneOf}
+use Rattle.snap_runs.proofs.Common.{Counts, IsOneOf, State, process_at, values, who, Item, Step, Run, IsValidRun, state}
+use Rattle.snap_runs.proofs.Common.{before, item, outcome}
 use Rattle.snap_semantics.specs.Source.{Source}
 use Rattle.snap_semantics.specs.Run.{after}
-use Rattle.snap_semantics.specs.State.{State, initial, process_at, values}
-use Rattle.snap_semantics.specs.Table.{done, who}
-use Rattle.snap_semantics.specs.declared.process.Item.{Item}
-use Rattle.snap_semantics.specs.declared.process.Item.TheVariants.{Step}
-use Rattle.snap_runs.specs.Run.{Run, IsValidRun, state, before, item, outcome, run_of_items}
+use Rattle.snap_semantics.specs.State.{initial}
+use Rattle.snap_semantics.specs.Table.{done}
+use Rattle.snap_runs.specs.Run.{run_of_items}
 use Rattle.snap_runs.specs.Scan.{steps}
 use Rattle.snap_runs.specs.Update.{is_at, goes_on, executes, IsDone, PendingUpdate}
 use Rattle.snap_runs.specs.Operation.{Operation}

@@ -1,39 +1,24 @@
 -- From the start of a scan to its end: what the proof remembers of its
 -- process, its own steps and its double collects, is what the run's items say.
-use Rattle.std.specs.Prelude.{◌≡◌, ◌≢◌, ℕ, zero, suc, ◌+◌, ◌<◌, ◌≤◌, ◌⊎◌, Bool, true, false, ◌&&◌, List, length}
-use Rattle.std.specs.Prelude.{Option, Some, None, if◌then◌else◌, refl}
-use Rattle.std.proofs.Common.{sym, ◌∙◌, ap, subst, arith, inl, inr}
-use Rattle.std.proofs.lemmas.Bool.{cases_eq}
+use Rattle.std.proofs.Common.{◌≡◌, ℕ, zero, suc, ◌+◌, ◌<◌, ◌≤◌, ◌⊎◌, Bool, true, false, ◌&&◌, List, length, Option}
+use Rattle.std.proofs.Common.{Some, None, if◌then◌else◌, refl, sym, ◌∙◌, ap, subst, arith, inl, inr}
 use Rattle.std.proofs.Math.Nat.{eq-or-lt_of_le}
 use Rattle.snap_semantics.specs.Source.{instr_at}
-use Rattle.snap_semantics.specs.declared.process.Op.TheVariants.{Scan}
-use Rattle.snap_semantics.specs.declared.process.Item.{Item}
-use Rattle.snap_semantics.specs.declared.process.Item.TheVariants.{Step, Call, Crash}
-use Rattle.snap_semantics.specs.declared.process.Outcome.{Outcome}
-use Rattle.snap_semantics.specs.declared.process.Outcome.TheVariants.{Called, Stepped}
-use Rattle.snap_semantics.specs.State.{Process}
-use Rattle.snap_semantics.specs.State.{process_at}
-use Rattle.snap_semantics.specs.Table.{who}
-use Rattle.snap_words.specs.Shape.{IsOneOf}
-use Rattle.snap_runs.specs.Run.{Run, state, before, item, outcome}
+use Rattle.snap_runs.proofs.Common.{Op, Scan, Item, Step, Call, Outcome, Called, Stepped, Process, process_at}
+use Rattle.snap_runs.proofs.Common.{who, IsOneOf, Run, state, before, item, outcome}
 use Rattle.snap_runs.specs.Scan.{line_in, link_in, IsCallLine, ReturnsView, Starts, PendingScan, steps, is_if_all}
 use Rattle.snap_runs.specs.Scan.{is_stepped, is_not_skipped, ends_double_collect}
 use Rattle.snap_runs.specs.Scan.{takes_step, double_collects, own_steps}
-use Rattle.snap_runs.proofs.Algorithm.{Mode, Scanning, Embedded, Updating, op_of, link_of, mode_of, op_is, link_is}
+use Rattle.snap_runs.proofs.Algorithm.{Mode, Scanning, op_of, link_of, mode_of, op_is, link_is}
 use Rattle.snap_runs.proofs.Algorithm.{Control, Idle, At, Move, To, Begin, Answer, Finish, embedding, TypedProcess}
-use Rattle.snap_runs.proofs.Algorithm.{TypedState, Algorithm, by_move, by_step, by_call, typed_at, by_item, changed}
-use Rattle.snap_runs.proofs.Algorithm.{outcome_of, happens, item_at, typed_state, status_of, process_of}
-use Rattle.snap_runs.proofs.Algorithm.{stepped_auxiliary, begun_auxiliary, called_auxiliary}
-use Rattle.snap_runs.proofs.Counting.{count_none, count_next, count_not}
-use Rattle.snap_runs.proofs.Computing.{same_number, other_number}
+use Rattle.snap_runs.proofs.Algorithm.{Algorithm, by_move, typed_at}
+use Rattle.snap_runs.proofs.Algorithm.{outcome_of, item_at, typed_state, status_of, process_of}
+use Rattle.snap_runs.proofs.Algorithm.{Auxiliary, begun_auxiliary, called_auxiliary}
+use Rattle.snap_runs.proofs.Counting.{count_none, count_next, count_not, add_one, one_more, inner_more}
+use Rattle.snap_runs.proofs.Computing.{same_number, and_true}
+use Rattle.snap_runs.proofs.ItemCases as cases
 use Rattle.snap_runs.proofs.Embedding as embed
 use Rattle.snap_runs.proofs.Steady.{Steady}
-
--- another process's item is no step of process i
-pub not_his : (i : ℕ) (y : Item) → who y ≢ i → steps i y ≡ false
-not_his i (Step k) h = other_number k i h
-not_his i (Call k op) h = refl
-not_his i (Crash k) h = refl
 
 module _ {V P M : Type 0} (a : Algorithm V P M) where
   -- in a scan with this link
@@ -67,8 +52,7 @@ module _ {V P M : Type 0} (a : Algorithm V P M) where
 
   pub embeds : (k : P) (d : Mode) (p : V) → NotTo (embedding k d p)
   embeds k Scanning p = tt
-  embeds k (Embedded word value) p = tt
-  embeds k (Updating word value) p = tt
+  embeds k _ p = tt
 
   -- what a line owes: in a scan it stays or returns, and a `call` line begins a scan
   pub record Lawful (me : ℕ) (d : Mode) (m : M) (p : V) (k : P) : Type 0 where
@@ -124,39 +108,26 @@ module _ {V P M : Type 0} (a : Algorithm V P M) where
     own_same : (c t : ℕ) → c ≤ t → steps i (item_at items t) ≡ false → own_steps r i c (suc t) ≡ own_steps r i c t
     own_same c t le none = count_not (takes_step r i) c t le (ap (λ b. b && is_not_skipped (outcome r (suc t))) none)
 
-    -- another process's item, and what changes nothing
-    same_goes : (link : Option ℕ) (c t : ℕ) → c ≤ t → his (suc t) ≡ his t →
-        ((who (item_at items t) ≡ i → ⊥) ⊎ (steps i (item_at items t) ≡ false)) → Goes link c t → Goes link c (suc t)
-    same_goes link c t le same why g =
-        let none : steps i (item_at items t) ≡ false =
-        elim why [ inl other ↦ not_his i (item_at items t) other | inr unstepped ↦ unstepped ] in
-        record {
-          mode = g.mode;
-          counter = g.counter;
-          control = ap (λ (q : TypedProcess V P M). q.control) same ∙ g.control;
-          inside = g.inside;
-          since = ap (λ (q : TypedProcess V P M). q.auxiliary.since) same ∙ g.since;
-          own = ap (λ (q : TypedProcess V P M). q.auxiliary.own) same ∙ g.own
-              ∙ sym (own_same c t le none);
-          collects =
-              ap (λ (q : TypedProcess V P M). q.auxiliary.collects) same ∙ g.collects ∙ sym (collects_same c t le none);
-          round_after = subst (λ (q : TypedProcess V P M). c ≤ q.auxiliary.round) (sym same) g.round_after;
-          round_before =
-              subst (λ (q : TypedProcess V P M). q.auxiliary.round ≤ suc t) (sym same)
-              (let le2 : (his t).auxiliary.round ≤ t = g.round_before in omega arith);
-          tested =
-              subst (λ (q : TypedProcess V P M). q.auxiliary.tested ≡ double_collects r i q.auxiliary.round (suc t))
-              (sym same)
-              (g.tested ∙ sym (collects_same (his t).auxiliary.round t g.round_before none));
-        }
-
-    add_one : (b : Bool) (x : ℕ) → (if b then suc x else x) ≡ x + (if b then 1 else 0)
-    add_one true x = omega arith
-    add_one false x = omega arith
-
-    and_true : (b : Bool) → (b && true) ≡ b
-    and_true true = refl
-    and_true false = refl
+    -- an item that changes nothing
+    same_goes : (link : Option ℕ) (c t : ℕ) → c ≤ t → his (suc t) ≡ his t → steps i (item_at items t) ≡ false →
+        Goes link c t → Goes link c (suc t)
+    same_goes link c t le same none g = record {
+      mode = g.mode;
+      counter = g.counter;
+      control = ap (λ (q : TypedProcess V P M). q.control) same ∙ g.control;
+      inside = g.inside;
+      since = ap (λ (q : TypedProcess V P M). q.auxiliary.since) same ∙ g.since;
+      own = ap (λ (q : TypedProcess V P M). q.auxiliary.own) same ∙ g.own ∙ sym (own_same c t le none);
+      collects =
+          ap (λ (q : TypedProcess V P M). q.auxiliary.collects) same ∙ g.collects ∙ sym (collects_same c t le none);
+      round_after = subst (λ (q : TypedProcess V P M). c ≤ q.auxiliary.round) (sym same) g.round_after;
+      round_before =
+          subst (λ (q : TypedProcess V P M). q.auxiliary.round ≤ suc t) (sym same)
+          (let le2 : (his t).auxiliary.round ≤ t = g.round_before in omega arith);
+      tested =
+          subst (λ (q : TypedProcess V P M). q.auxiliary.tested ≡ double_collects r i q.auxiliary.round (suc t))
+          (sym same) (g.tested ∙ sym (collects_same (his t).auxiliary.round t g.round_before none));
+    }
 
     is_busy_at : (t : ℕ) → t ≤ length items → (d : Mode) (k : P) → (his t).control ≡ At d k →
         process_at (state r t) i
@@ -208,227 +179,151 @@ module _ {V P M : Type 0} (a : Algorithm V P M) where
     tested_next false round t tested h = h
 
     -- a step of the process that stays in the scan
-    step_goes : (link : Option ℕ) (c e t : ℕ) (v : Move V P M) (d : Mode) (k : P) →
-        PendingScan r i link c e → c ≤ t → suc t < e → item_at items t ≡ Step i →
-        (his t).control ≡ At d k → Inside link d → a.move i d (memory t) (his t).variables k ≡ v →
+    stepped_goes : (link : Option ℕ) (c e t : ℕ) (d : Mode) (k : P) (v : Move V P M) → PendingScan r i link c e →
+        c ≤ t → suc t < e → t < length items → item_at items t ≡ Step i → (his t).control ≡ At d k →
+        his (suc t) ≡ cases.moved a (suc t) (his t) k v →
+        outcome r (suc t) ≡ outcome_of (by_move a (suc t) (memory t) (his t) k v) → Inside link d →
         Stays link k (his t).variables v → Goes link c t → Goes link c (suc t)
-    step_goes link c e t v d k scan le lt is at inside is_v stays g =
-        let x = typed_state a items t in
-        let short : t < length items = (let last : e ≤ length items = scan.last in omega arith) in
-        let item_is_change : by_item a (suc t) x (item_at items t) ≡ by_move a (suc t) x.memory (his t) k v =
-        ap (by_item a (suc t) x) is ∙ ap (by_step a (suc t) x.memory i (his t)) at
-        ∙ ap (by_move a (suc t) x.memory (his t) k) is_v in
-        let state_becomes : typed_state a items (suc t) ≡ changed x i (by_move a (suc t) x.memory (his t) k v) =
-        ap (λ (y : Item). changed x (who y) (by_item a (suc t) x (item_at items t))) is
-        ∙ ap (changed x i) item_is_change in
-        let out_is : outcome r (suc t) ≡ outcome_of (by_move a (suc t) x.memory (his t) k v) =
-        embed.outcome_is a items fits does t short ∙ ap outcome_of item_is_change in
+    stepped_goes link c e t d k (To d' m' p' k') scan le lt short is at after out_is within (inl inside) g =
         let steps_is : steps i (item_at items t) ≡ true = ap (steps i) is ∙ same_number i in
-        stepped_goes link c e t d k scan le lt short is at g v state_becomes out_is steps_is stays
-      where
-        stepped_goes : (link : Option ℕ) (c e t : ℕ) (d : Mode) (k : P) → PendingScan r i link c e →
-            c ≤ t → suc t < e → t < length items → item_at items t ≡ Step i →
-            (his t).control ≡ At d k → Goes link c t → (v : Move V P M) →
-            typed_state a items (suc t) ≡ changed (typed_state a items t) i (by_move a (suc t) (memory t) (his t) k v) →
-            outcome r (suc t) ≡ outcome_of (by_move a (suc t) (memory t) (his t) k v) →
-            steps i (item_at items t) ≡ true → Stays link k (his t).variables v → Goes link c (suc t)
-        stepped_goes link c e t d k scan le lt short is at g (To d' m' p' k') state_becomes
-            out_is steps_is (inl inside) =
-            let q' : TypedProcess V P M =
-            record {
-              control = At d' k';
-              variables = p';
-              auxiliary = stepped_auxiliary a k (suc t) (his t).auxiliary;
-            } in
-            let new : his (suc t) ≡ q' = embed.process_next a items t i m' q' Stepped one state_becomes in
-            record {
-              mode = d';
-              counter = k';
-              control = ap (λ (q : TypedProcess V P M). q.control) new;
-              inside = inside;
-              since = ap (λ (q : TypedProcess V P M). q.auxiliary.since) new ∙ g.since;
-              own =
-                  ap (λ (q : TypedProcess V P M). q.auxiliary.own) new ∙ ap suc g.own
-                  ∙ sym (own_next c t le steps_is out_is);
-              collects = ap (λ (q : TypedProcess V P M). q.auxiliary.collects) new ∙ ap (λ y. y + a.tests k) g.collects
-                  ∙ sym (collects_next c t d k le (omega arith) steps_is out_is at);
-              round_after =
-                  subst (λ (q : TypedProcess V P M). c ≤ q.auxiliary.round) (sym new)
-                  (round_from (a.restarts k) c (his t).auxiliary.round t g.round_after le);
-              round_before =
-                  subst (λ (q : TypedProcess V P M). q.auxiliary.round ≤ suc t) (sym new)
-                  (round_to (a.restarts k) (his t).auxiliary.round t g.round_before);
-              tested =
-                  subst (λ (q : TypedProcess V P M). q.auxiliary.tested ≡ double_collects r i q.auxiliary.round (suc t))
-                  (sym new)
-                  (tested_next (a.restarts k) (his t).auxiliary.round t ((his t).auxiliary.tested + a.tests k)
-                  (ap (λ y. y + a.tests k) g.tested
-                  ∙ sym (collects_next (his t).auxiliary.round t d k g.round_before (omega arith) steps_is out_is at)));
-            }
-        stepped_goes None c e t d k scan le lt short is at g (To d' m' p' k') state_becomes out_is steps_is (inr h) =
-            absurd h
-        stepped_goes (Some l) c e t d k scan le lt short is at g (To d' m' p' k')
-            state_becomes out_is steps_is (inr h) =
-            let busy = is_busy_at t (omega arith) d k at in
-            let inside : link_of a.back g.mode ≡ Some l = g.inside in
-            absurd (scan.goes_on (suc t) h.0 (omega arith) lt (
-              is,
-              subst (λ (y : Process). ReturnsView (line_in r.source y.status) y.locals h.0) (sym busy) h.1,
-              ap (λ (y : Process). link_in y.status) (is_busy_at t (omega arith) g.mode g.counter g.control) ∙ inside,
-            ))
-        stepped_goes link c e t d k scan le lt short is at g (Begin d' p' k') state_becomes out_is steps_is h = absurd h
-        stepped_goes None c e t d k scan le lt short is at g (Answer v) state_becomes out_is steps_is h =
-            absurd (scan.goes_on (suc t) v (omega arith) lt (ap who is, out_is))
-        stepped_goes (Some l) c e t d k scan le lt short is at g (Answer v) state_becomes out_is steps_is h = absurd h
-        stepped_goes link c e t d k scan le lt short is at g Finish state_becomes out_is steps_is h = absurd h
-
-    -- the item of the process in its scan: a step, or a call that is skipped
-    item_goes : (link : Option ℕ) (c e t : ℕ) (y : Item) → PendingScan r i link c e → c ≤ t → suc t < e →
-        item_at items t ≡ y → who y ≡ i → Goes link c t → Goes link c (suc t)
-    item_goes link c e t (Step k) scan le lt is w g =
-        let is2 : item_at items t ≡ Step i = is ∙ ap (λ u. Step u) w in
-        let short : t < length items = (let last : e ≤ length items = scan.last in omega arith) in
-        let law : Lawful i g.mode (memory t) (his t).variables g.counter =
-        subst (LawfulAt i (memory t) (his t).variables) g.control (lawful t i short one) in
-        step_goes link c e t (a.move i g.mode (memory t) (his t).variables g.counter) g.mode g.counter scan le lt is2
-        g.control g.inside refl (law.stays link g.inside) g
-    item_goes link c e t (Call k op) scan le lt is w g =
-        let x = typed_state a items t in
-        let is2 : item_at items t ≡ Call i op = is ∙ ap (λ u. Call u op) w in
-        let state_becomes : typed_state a items (suc t) ≡ x =
-        ap (happens a (suc t) x) is2
-        ∙ ap (λ (p : Control P). changed x i (by_call a (suc t) x.memory i op (his t) p)) g.control in
-        same_goes link c t le (ap (λ (y : TypedState V P M). typed_at a y i) state_becomes) (inr (ap (steps i) is2)) g
-    item_goes link c e t (Crash k) scan le lt is w g =
-        let x = typed_state a items t in
-        same_goes link c t le (ap (λ (y : TypedState V P M). typed_at a y i) (ap (happens a (suc t) x) is))
-        (inr (ap (steps i) is)) g
+        record {
+          mode = d';
+          counter = k';
+          control = ap (λ (q : TypedProcess V P M). q.control) after;
+          inside = inside;
+          since = ap (λ (q : TypedProcess V P M). q.auxiliary.since) after ∙ g.since;
+          own =
+              ap (λ (q : TypedProcess V P M). q.auxiliary.own) after ∙ ap suc g.own
+              ∙ sym (own_next c t le steps_is out_is);
+          collects = ap (λ (q : TypedProcess V P M). q.auxiliary.collects) after ∙ ap (λ y. y + a.tests k) g.collects
+              ∙ sym (collects_next c t d k le (omega arith) steps_is out_is at);
+          round_after =
+              subst (λ (q : TypedProcess V P M). c ≤ q.auxiliary.round) (sym after)
+              (round_from (a.restarts k) c (his t).auxiliary.round t g.round_after le);
+          round_before =
+              subst (λ (q : TypedProcess V P M). q.auxiliary.round ≤ suc t) (sym after)
+              (round_to (a.restarts k) (his t).auxiliary.round t g.round_before);
+          tested =
+              subst (λ (q : TypedProcess V P M). q.auxiliary.tested ≡ double_collects r i q.auxiliary.round (suc t))
+              (sym after)
+              (tested_next (a.restarts k) (his t).auxiliary.round t ((his t).auxiliary.tested + a.tests k)
+              (ap (λ y. y + a.tests k) g.tested
+              ∙ sym (collects_next (his t).auxiliary.round t d k g.round_before (omega arith) steps_is out_is at)));
+        }
+    stepped_goes None c e t d k (To d' m' p' k') scan le lt short is at after out_is within (inr h) g = absurd h
+    stepped_goes (Some l) c e t d k (To d' m' p' k') scan le lt short is at after out_is within (inr h) g =
+        let busy = is_busy_at t (omega arith) d k at in
+        absurd (scan.goes_on (suc t) h.0 (omega arith) lt (
+          is,
+          subst (λ (y : Process). ReturnsView (line_in r.source y.status) y.locals h.0) (sym busy) h.1,
+          ap (λ (y : Process). link_in y.status) busy ∙ within,
+        ))
+    stepped_goes link c e t d k (Begin d' p' k') scan le lt short is at after out_is within h g = absurd h
+    stepped_goes None c e t d k (Answer v) scan le lt short is at after out_is within h g =
+        absurd (scan.goes_on (suc t) v (omega arith) lt (ap who is, out_is))
+    stepped_goes (Some l) c e t d k (Answer v) scan le lt short is at after out_is within h g = absurd h
+    stepped_goes link c e t d k Finish scan le lt short is at after out_is within h g = absurd h
 
     next_goes : (link : Option ℕ) (c e t : ℕ) → PendingScan r i link c e → c ≤ t → suc t < e →
         Goes link c t → Goes link c (suc t)
     next_goes link c e t scan le lt g =
         let short : t < length items = (let last : e ≤ length items = scan.last in omega arith) in
-        let his_one : IsOneOf a.shape.n (who (item_at items t)) = embed.one_at a items fits t short in
-        elim (cases_eq (who (item_at items t)) i) [
-          | inl his_item ↦ item_goes link c e t (item_at items t) scan le lt refl his_item g
-          | inr other ↦ same_goes link c t le
-              (embed.other_process a (typed_state a items t) (who (item_at items t)) i
-              (by_item a (suc t) (typed_state a items t) (item_at items t)) his_one.0 one.0 (λ same. other (sym same)))
-              (inl other) g
+        elim (cases.item_case a items fits does i one t short) [
+          | inl stays ↦ same_goes link c t le stays.same
+              (cases.no_step a items fits does i one t g.mode g.counter stays g.control) g
+          | inr busy_or_called ↦ elim busy_or_called [
+            | inl s ↦ (let there : At g.mode g.counter ≡ At s.mode s.counter = sym g.control ∙ s.control in
+                let mode : g.mode ≡ s.mode = cc in
+                let inside : Inside link s.mode = subst (Inside link) mode g.inside in
+                let law : Lawful i s.mode (memory t) (his t).variables s.counter =
+                subst (LawfulAt i (memory t) (his t).variables) s.control (lawful t i short one) in
+                stepped_goes link c e t s.mode s.counter
+                (a.move i s.mode (memory t) (his t).variables s.counter) scan le lt short s.item s.control s.after
+                s.outcome_is inside (law.stays link inside) g)
+            | inr call ↦ absurd (let e = sym call.idle ∙ g.control in cc)
+          ]
         ]
+
+    -- where a scan has just started, nothing is counted yet
+    started : (link : Option ℕ) (c : ℕ) (d : Mode) (k : P) (p : V) (g : Auxiliary) →
+        his (suc c) ≡ record { control = At d k; variables = p; auxiliary = g } → Inside link d →
+        (g.since ≡ suc c) × (g.own ≡ 0) × (g.collects ≡ 0) × (g.round ≡ suc c) × (g.tested ≡ 0) →
+        Goes link (suc c) (suc c)
+    started link c d k p g after inside fresh =
+        let none : double_collects r i (suc c) (suc c) ≡ 0 =
+        count_none (ends_double_collect r i) (suc c) (suc c) (omega arith) in
+        let round : (his (suc c)).auxiliary.round ≡ suc c =
+        ap (λ (q : TypedProcess V P M). q.auxiliary.round) after ∙ fresh.3 in
+        record {
+          mode = d;
+          counter = k;
+          control = ap (λ (q : TypedProcess V P M). q.control) after;
+          inside = inside;
+          since = ap (λ (q : TypedProcess V P M). q.auxiliary.since) after ∙ fresh.0;
+          own = ap (λ (q : TypedProcess V P M). q.auxiliary.own) after ∙ fresh.1
+              ∙ sym (count_none (takes_step r i) (suc c) (suc c) (omega arith));
+          collects = ap (λ (q : TypedProcess V P M). q.auxiliary.collects) after ∙ fresh.2 ∙ sym none;
+          round_after = omega arith;
+          round_before = omega arith;
+          tested = ap (λ (q : TypedProcess V P M). q.auxiliary.tested) after ∙ fresh.4
+              ∙ sym (ap (λ y. double_collects r i y (suc c)) round ∙ none);
+        }
 
     -- the item that starts a top-level scan
     called_goes : (c : ℕ) → c < length items → item_at items c ≡ Call i Scan →
         outcome r (suc c) ≡ Called → Goes None (suc c) (suc c)
     called_goes c short is out =
-        let x = typed_state a items c in
-        let item_is_change : by_item a (suc c) x (item_at items c)
-        ≡ by_call a (suc c) x.memory i Scan (his c) (his c).control = ap (by_item a (suc c) x) is in
-        let state_becomes : typed_state a items (suc c)
-        ≡ changed x i (by_call a (suc c) x.memory i Scan (his c) (his c).control) =
-        ap (λ (y : Item). changed x (who y) (by_item a (suc c) x (item_at items c))) is
-        ∙ ap (changed x i) item_is_change in
-        let out_is : outcome_of (by_call a (suc c) x.memory i Scan (his c) (his c).control) ≡ Called =
-        sym (ap outcome_of item_is_change) ∙ sym (embed.outcome_is a items fits does c short) ∙ out in
-        from_control c (his c).control state_becomes out_is
-      where
-        from_control : (c : ℕ) (control : Control P) →
-            typed_state a items (suc c)
-            ≡ changed (typed_state a items c) i (by_call a (suc c) (memory c) i Scan (his c) control) →
-            outcome_of (by_call a (suc c) (memory c) i Scan (his c) control) ≡ Called → Goes None (suc c) (suc c)
-        from_control c Idle state_becomes out_is =
-            let x = typed_state a items c in
-            let q' : TypedProcess V P M =
-            record {
-              control = At (mode_of Scan) (a.counter Scan);
-              variables = (his c).variables;
-              auxiliary = called_auxiliary (suc c) Scan (his c).auxiliary;
-            } in
-            let new : his (suc c) ≡ q' = embed.process_next a items c i x.memory q' Called one state_becomes in
-            record {
-              mode = mode_of Scan;
-              counter = a.counter Scan;
-              control = ap (λ (q : TypedProcess V P M). q.control) new;
-              inside = (link_is a.back Scan, op_is Scan);
-              since = ap (λ (q : TypedProcess V P M). q.auxiliary.since) new;
-              own =
-                  ap (λ (q : TypedProcess V P M). q.auxiliary.own) new
-                  ∙ sym (count_none (takes_step r i) (suc c) (suc c) (omega arith));
-              collects = ap (λ (q : TypedProcess V P M). q.auxiliary.collects) new
-                  ∙ sym (count_none (ends_double_collect r i) (suc c) (suc c) (omega arith));
-              round_after = subst (λ (q : TypedProcess V P M). suc c ≤ q.auxiliary.round) (sym new) (omega arith);
-              round_before = subst (λ (q : TypedProcess V P M). q.auxiliary.round ≤ suc c) (sym new) (omega arith);
-              tested =
-                  subst (λ (q : TypedProcess V P M). q.auxiliary.tested ≡ double_collects r i q.auxiliary.round (suc c))
-                  (sym new)
-                  (sym (count_none (ends_double_collect r i) (suc c) (suc c) (omega arith)));
-            }
-        from_control c (At d k) state_becomes out_is = absurd (cc)
+        elim (cases.item_case a items fits does i one c short) [
+          | inl stays ↦ absurd (let e = sym out ∙ (stays.skipped (ap who is)).1 in cc)
+          | inr busy_or_called ↦ elim busy_or_called [
+            | inl s ↦ absurd (let e = sym is ∙ s.item in cc)
+            | inr call ↦ (let op : call.op ≡ Scan = (let e = sym call.item ∙ is in cc) in
+                let after = subst (λ (o : Op). his (suc c) ≡ record {
+                  control = At (mode_of o) (a.counter o);
+                  variables = (his c).variables;
+                  auxiliary = called_auxiliary (suc c) o (his c).auxiliary;
+                }) op call.after in
+                started None c (mode_of Scan) (a.counter Scan) (his c).variables
+                (called_auxiliary (suc c) Scan (his c).auxiliary) after (link_is a.back Scan, op_is Scan)
+                (refl, refl, refl, refl, refl))
+          ]
+        ]
+
+    -- a line that begins an embedded scan
+    moved_goes : (l c : ℕ) (k : P) (v : Move V P M) → NotTo v → his (suc c) ≡ cases.moved a (suc c) (his c) k v →
+        outcome_of (by_move a (suc c) (memory c) (his c) k v) ≡ Stepped →
+        link_in (status_of a (his (suc c)).control) ≡ Some l → Goes (Some l) (suc c) (suc c)
+    moved_goes l c k (To d' m' p' k') not_to after out link = absurd not_to
+    moved_goes l c k (Begin d' p' k') not_to after out link =
+        started (Some l) c d' k' p' (begun_auxiliary a k (suc c) (his c).auxiliary) after
+        (sym (ap (λ (q : TypedProcess V P M). link_in (status_of a q.control)) after) ∙ link)
+        (refl, refl, refl, refl, refl)
+    moved_goes l c k (Answer v) not_to after out link = absurd (cc)
+    moved_goes l c k Finish not_to after out link = absurd (cc)
 
     -- the item that starts an embedded scan
     begun_goes : (l c : ℕ) → c < length items → item_at items c ≡ Step i →
         IsCallLine (line_in r.source (process_at (state r c) i).status) → outcome r (suc c) ≡ Stepped →
         link_in (process_at (state r (suc c)) i).status ≡ Some l → Goes (Some l) (suc c) (suc c)
     begun_goes l c short is call out link =
-        let x = typed_state a items c in
-        let law = lawful c i short one in
-        let item_is_change : by_item a (suc c) x (item_at items c)
-        ≡ by_step a (suc c) x.memory i (his c) (his c).control = ap (by_item a (suc c) x) is in
-        let state_becomes : typed_state a items (suc c)
-        ≡ changed x i (by_step a (suc c) x.memory i (his c) (his c).control) =
-        ap (λ (y : Item). changed x (who y) (by_item a (suc c) x (item_at items c))) is
-        ∙ ap (changed x i) item_is_change in
-        let out_is : outcome_of (by_step a (suc c) x.memory i (his c) (his c).control) ≡ Stepped =
-        sym (ap outcome_of item_is_change) ∙ sym (embed.outcome_is a items fits does c short) ∙ out in
         let call_is : IsCallLine (line_in a.source (status_of a (his c).control)) =
         subst (λ (y : Process). IsCallLine (line_in a.source y.status))
         (embed.process_at_is a items fits does c i (omega arith) one) call in
-        let link_is : link_in (status_of a (his (suc c)).control) ≡ Some l =
-        sym (ap (λ (y : Process). link_in y.status) (embed.process_at_is a items fits does (suc c) i (omega arith) one))
-        ∙ link in
-        from_control l c (his c).control state_becomes out_is call_is link_is law
-      where
-        from_move : (l c : ℕ) (d : Mode) (k : P) (v : Move V P M) → NotTo v →
-            typed_state a items (suc c) ≡ changed (typed_state a items c) i (by_move a (suc c) (memory c) (his c) k v) →
-            outcome_of (by_move a (suc c) (memory c) (his c) k v) ≡ Stepped →
-            link_in (status_of a (his (suc c)).control) ≡ Some l → Goes (Some l) (suc c) (suc c)
-        from_move l c d k (To d' m' p' k') not_to state_becomes out_is link_is = absurd not_to
-        from_move l c d k (Begin d' p' k') not_to state_becomes out_is link_is =
-            let x = typed_state a items c in
-            let q' : TypedProcess V P M =
-            record { control = At d' k'; variables = p'; auxiliary = begun_auxiliary a k (suc c) (his c).auxiliary } in
-            let new : his (suc c) ≡ q' = embed.process_next a items c i x.memory q' Stepped one state_becomes in
-            record {
-              mode = d';
-              counter = k';
-              control = ap (λ (q : TypedProcess V P M). q.control) new;
-              inside = sym (ap (λ (q : TypedProcess V P M). link_in (status_of a q.control)) new) ∙ link_is;
-              since = ap (λ (q : TypedProcess V P M). q.auxiliary.since) new;
-              own =
-                  ap (λ (q : TypedProcess V P M). q.auxiliary.own) new
-                  ∙ sym (count_none (takes_step r i) (suc c) (suc c) (omega arith));
-              collects = ap (λ (q : TypedProcess V P M). q.auxiliary.collects) new
-                  ∙ sym (count_none (ends_double_collect r i) (suc c) (suc c) (omega arith));
-              round_after = subst (λ (q : TypedProcess V P M). suc c ≤ q.auxiliary.round) (sym new) (omega arith);
-              round_before = subst (λ (q : TypedProcess V P M). q.auxiliary.round ≤ suc c) (sym new) (omega arith);
-              tested =
-                  subst (λ (q : TypedProcess V P M). q.auxiliary.tested ≡ double_collects r i q.auxiliary.round (suc c))
-                  (sym new)
-                  (sym (count_none (ends_double_collect r i) (suc c) (suc c) (omega arith)));
-            }
-        from_move l c d k (Answer v) not_to state_becomes out_is link_is = absurd (cc)
-        from_move l c d k Finish not_to state_becomes out_is link_is = absurd (cc)
-
-        from_control : (l c : ℕ) (control : Control P) →
-            typed_state a items (suc c)
-            ≡ changed (typed_state a items c) i (by_step a (suc c) (memory c) i (his c) control) →
-            outcome_of (by_step a (suc c) (memory c) i (his c) control) ≡ Stepped →
-            IsCallLine (line_in a.source (status_of a control)) →
-            link_in (status_of a (his (suc c)).control) ≡ Some l →
-            LawfulAt i (memory c) (his c).variables control → Goes (Some l) (suc c) (suc c)
-        from_control l c Idle state_becomes out_is call link law = absurd call
-        from_control l c (At d k) state_becomes out_is call link law =
-            from_move l c d k (a.move i d (memory c) (his c).variables k) (law.calls call) state_becomes out_is link
+        elim (cases.item_case a items fits does i one c short) [
+          | inl stays ↦
+              absurd (subst (λ (p : Control P). IsCallLine (line_in a.source (status_of a p))) (stays.idle is) call_is)
+          | inr busy_or_called ↦ elim busy_or_called [
+            | inl s ↦ (let law : Lawful i s.mode (memory c) (his c).variables s.counter =
+                subst (LawfulAt i (memory c) (his c).variables) s.control (lawful c i short one) in
+                let at_call =
+                subst (λ (p : Control P). IsCallLine (line_in a.source (status_of a p))) s.control call_is in
+                moved_goes l c s.counter (a.move i s.mode (memory c) (his c).variables s.counter) (law.calls at_call)
+                s.after (sym s.outcome_is ∙ out)
+                (sym (ap (λ (y : Process). link_in y.status)
+                (embed.process_at_is a items fits does (suc c) i (omega arith) one)) ∙ link))
+            | inr called ↦ absurd (let e = sym is ∙ called.item in cc)
+          ]
+        ]
 
     start_goes : (link : Option ℕ) (c : ℕ) → c < length items → Starts r i (suc c) link → Goes link (suc c) (suc c)
     start_goes None c short h = called_goes c short h.0 h.1
@@ -454,17 +349,6 @@ module _ {V P M : Type 0} (a : Algorithm V P M) where
 
     pub started_own : (c e : ℕ) → e ≤ c → own_steps r i c e ≡ 0
     started_own c e h = count_none (takes_step r i) c e h
-
-    one_more : (b : Bool) (x : ℕ) → (if b then suc x else x) ≤ x + 1
-    one_more true x = omega arith
-    one_more false x = omega arith
-
-    inner_more : (s b o : Bool) (x : ℕ) → (if s && (b && o) then suc x else x) ≤ x + (if b then 1 else 0)
-    inner_more true true true x = omega arith
-    inner_more true true false x = omega arith
-    inner_more true false o x = omega arith
-    inner_more false true o x = omega arith
-    inner_more false false o x = omega arith
 
     pub last_own : (c t : ℕ) → c ≤ t → own_steps r i c (suc t) ≤ own_steps r i c t + 1
     last_own c t le =

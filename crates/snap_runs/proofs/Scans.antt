@@ -1,21 +1,17 @@
 -- The scans of a run of an algorithm: where the process of a scan stands, and how a finished scan ends.
-use Rattle.std.specs.Prelude.{◌≡◌, ℕ, suc, ◌<◌, ◌≤◌, List, length, Option, Some, None, if◌then◌else◌, refl}
+use Rattle.std.specs.Prelude.{◌≡◌, ℕ, suc, ◌<◌, ◌≤◌, List, length, Option, Some, None, if◌then◌else◌}
 use Rattle.std.proofs.Common.{sym, ◌∙◌, ap, subst, arith}
-use Rattle.snap_words.specs.Shape.{IsOneOf}
+use Rattle.snap_runs.proofs.Common.{IsOneOf, Process, process_at, who, Item, Answered, state}
+use Rattle.snap_runs.proofs.Common.{outcome}
 use Rattle.snap_semantics.specs.Source.{instr_at}
-use Rattle.snap_semantics.specs.State.{Process, process_at}
-use Rattle.snap_semantics.specs.Table.{who}
-use Rattle.snap_semantics.specs.declared.process.Item.{Item}
-use Rattle.snap_semantics.specs.declared.process.Item.TheVariants.{Step, Call, Crash}
-use Rattle.snap_semantics.specs.declared.process.Outcome.TheVariants.{Answered}
-use Rattle.snap_runs.specs.Run.{state, outcome}
 use Rattle.snap_runs.specs.Scan.{IsCallLine, ReturnsView, Ends, PendingScan, FinishedScan, line_in, is_if_all}
-use Rattle.snap_runs.proofs.Algorithm.{Mode, Control, Idle, At, WhenBusy, Move, To, Begin, Answer, Finish}
-use Rattle.snap_runs.proofs.Algorithm.{TypedProcess, Algorithm, by_move, by_step, by_call, typed_at, by_item}
+use Rattle.snap_runs.proofs.Algorithm.{Mode, Control, Idle, At, WhenBusy, Move, Answer}
+use Rattle.snap_runs.proofs.Algorithm.{TypedProcess, Algorithm, by_move, typed_at}
 use Rattle.snap_runs.proofs.Algorithm.{outcome_of, item_at, typed_state, process_of}
 use Rattle.snap_runs.proofs.Embedding as embed
 use Rattle.snap_runs.proofs.Flow.{Lines}
 use Rattle.snap_runs.proofs.Flow as flow
+use Rattle.snap_runs.proofs.ItemCases as cases
 use Rattle.snap_runs.proofs.ScanSpan as span
 use Rattle.snap_runs.proofs.Steady.{Steady}
 
@@ -59,10 +55,8 @@ module _ {V P M : Type 0} (a : Algorithm V P M) (lines : Lines V P M) where
   answered : (t : ℕ) (m : M) (q : TypedProcess V P M) (k : P) (v : Move V P M) (view : List ℕ) →
       outcome_of (by_move a t m q k v) ≡ Answered view →
       flow.AnswersAt lines q.variables k v → lines.IsReturn k × (lines.answer q.variables ≡ view)
-  answered t m q k (To d m' p k') view out h = absurd (cc)
-  answered t m q k (Begin d p k') view out h = absurd (cc)
   answered t m q k (Answer v) view out h = (h.0, sym h.1 ∙ (let e : v ≡ view = cc in e))
-  answered t m q k Finish view out h = absurd (cc)
+  answered t m q k _ view out h = absurd (cc)
 
   module _ (listed : Listed) (run : Execution) where
     abbrev items : List Item
@@ -113,32 +107,16 @@ module _ {V P M : Type 0} (a : Algorithm V P M) (lines : Lines V P M) where
           (subst (λ (p : Process). ReturnsView (line_in a.source p.status) p.locals view) busy ends.1) in
           record { goes_on = g; at_return = returned.0; answers = returned.1 }
 
-      called_ending : (c t : ℕ) (view : List ℕ) → t < length items → Goes None c t →
-          (y : Item) → item_at items t ≡ y → who y ≡ i →
+      called_ending : (c t : ℕ) (view : List ℕ) → t < length items → Goes None c t → who (item_at items t) ≡ i →
           outcome (embed.run_of a items) (suc t) ≡ Answered view → Ending None c t view
-      called_ending c t view short g (Call k op) is w out =
-          let is2 : item_at items t ≡ Call i op = is ∙ ap (λ u. Call u op) w in
-          let e : outcome_of (by_item a (suc t) (typed_state a items t) (item_at items t))
-          ≡ outcome_of (by_call a (suc t) (typed_state a items t).memory i op (his t) (At g.mode g.counter)) =
-          ap (λ (y : Item). outcome_of (by_item a (suc t) (typed_state a items t) y)) is2
-          ∙ ap (λ (p : Control P). outcome_of (by_call a (suc t) (typed_state a items t).memory i op (his t) p))
-          g.control in
-          absurd (let f = sym out ∙ embed.outcome_is a items run.fits run.does t short ∙ e in cc)
-      called_ending c t view short g (Crash k) is w out =
-          let e = ap (λ (y : Item). outcome_of (by_item a (suc t) (typed_state a items t) y)) is in
-          absurd (let f = sym out ∙ embed.outcome_is a items run.fits run.does t short ∙ e in cc)
-      called_ending c t view short g (Step k) is w out =
-          let is2 : item_at items t ≡ Step i = is ∙ ap (λ u. Step u) w in
+      called_ending c t view short g w out =
           let m = (typed_state a items t).memory in
-          let e : outcome_of (by_item a (suc t) (typed_state a items t) (item_at items t))
-          ≡ outcome_of (by_step a (suc t) m i (his t) (At g.mode g.counter)) =
-          ap (λ (y : Item). outcome_of (by_item a (suc t) (typed_state a items t) y)) is2
-          ∙ ap (λ (p : Control P). outcome_of (by_step a (suc t) m i (his t) p)) g.control in
           let v = a.move i g.mode m (his t).variables g.counter in
+          let step = cases.busy_step a items run.fits run.does i one t g.mode g.counter short g.control w
+          (λ why is. let e = sym out ∙ is in cc) in
           let flows_on : flow.Flows lines a g.mode m (his t).variables g.counter v =
           subst (FlowsAt i m (his t).variables) g.control (run.flows t i short one) in
-          let returned = answered (suc t) m (his t) g.counter v view
-          (sym e ∙ sym (embed.outcome_is a items run.fits run.does t short) ∙ out)
+          let returned = answered (suc t) m (his t) g.counter v view (sym step.1 ∙ out)
           (flow.answers_at lines a g.mode m (his t).variables g.counter v flows_on) in
           record { goes_on = g; at_return = returned.0; answers = returned.1 }
 
@@ -149,7 +127,7 @@ module _ {V P M : Type 0} (a : Algorithm V P M) (lines : Lines V P M) where
           let last : suc t ≤ length items = scan.last in
           let lt : c < suc t = h.order in
           called_ending c t view (omega arith) (goes None c (suc t) t scan (omega arith) (omega arith))
-          (item_at items t) refl h.ends.0 h.ends.1
+          h.ends.0 h.ends.1
       ending (Some l) c t view h =
           let scan = h.scan in
           let last : suc t ≤ length items = scan.last in

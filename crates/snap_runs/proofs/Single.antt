@@ -1,9 +1,7 @@
 -- What the proofs of the single-writer listings U and B share: scans show
 -- own updates, borrowed views are lent, and observed moves are writes.
-use Rattle.std.specs.Prelude.{◌≡◌, ℕ, zero, suc, ◌<◌, ◌≤◌, List, length, Some}
-use Rattle.std.proofs.Common.{subst, arith}
-use Rattle.snap_words.specs.Shape.{IsOneOf}
-use Rattle.snap_semantics.specs.declared.process.Item.{Item}
+use Rattle.std.proofs.Common.{◌≡◌, ℕ, zero, suc, ◌<◌, ◌≤◌, List, length, Some, subst, arith}
+use Rattle.snap_runs.proofs.Common.{IsOneOf, Item}
 use Rattle.snap_semantics.specs.Source.{Name}
 use Rattle.snap_runs.specs.Promises.{row_place, MovesAreWrites, BorrowedViewsAreLent, OwnUpdatesAreSeen}
 use Rattle.snap_runs.proofs.Algorithm.{Mode, At, To, Algorithm}

@@ -1,6 +1,5 @@
 -- Induction over the states of a run, `at_each`, where each step may use what followed at all states before.
-use Rattle.std.specs.Prelude.{◌≡◌, ℕ, zero, suc, ◌<◌, ◌≤◌}
-use Rattle.std.proofs.Common.{sym, subst, arith, inl, inr}
+use Rattle.std.proofs.Common.{◌≡◌, ℕ, zero, suc, ◌<◌, ◌≤◌, sym, subst, arith, inl, inr}
 use Rattle.std.proofs.Math.Nat.{eq-or-lt_of_le}
 
 module _ (Holds Followed : ℕ → Type 0) (last : ℕ) (start : Holds 0) (follows : (t : ℕ) → Holds t → Followed t)

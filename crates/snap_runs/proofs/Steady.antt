@@ -1,10 +1,6 @@
 -- `Steady`: a run in which no process crashes, and each item is of one of the processes.
 use Rattle.std.specs.List.{AllByRecursion}
-use Rattle.snap_words.specs.Shape.{IsOneOf}
-use Rattle.snap_semantics.specs.declared.process.Item.{Item}
-use Rattle.snap_semantics.specs.declared.process.Item.TheVariants.{Step, Call, Crash}
-use Rattle.snap_semantics.specs.Table.{who}
-use Rattle.snap_runs.specs.Run.{Run, IsValidRun}
+use Rattle.snap_runs.proofs.Common.{IsOneOf, Item, Step, Call, Crash, who, Run, IsValidRun}
 
 -- a step or a call
 abbrev pub IsNoCrash : Item → Type 0

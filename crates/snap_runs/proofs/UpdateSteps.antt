@@ -1,30 +1,22 @@
 -- A bound on the own steps of an update of any algorithm: those
 -- of its lines outside its embedded scan, and those of the scan.
-use Rattle.std.specs.Prelude.{◌≡◌, ◌≢◌, ℕ, zero, suc, ◌+◌, ◌<◌, ◌≤◌, ◌⊎◌, Bool, true, false, ◌&&◌, List, length}
-use Rattle.std.specs.Prelude.{Option, Some, None, if◌then◌else◌, refl}
-use Rattle.std.proofs.Common.{sym, ◌∙◌, ap, subst, arith, inl, inr}
-use Rattle.std.proofs.lemmas.Bool.{cases_eq}
+use Rattle.std.proofs.Common.{◌≡◌, ℕ, zero, suc, ◌+◌, ◌<◌, ◌≤◌, ◌⊎◌, Bool, true, false, ◌&&◌, List, length}
+use Rattle.std.proofs.Common.{if◌then◌else◌, refl, sym, ◌∙◌, ap, subst, arith, inl, inr}
 use Rattle.std.proofs.Math.Nat.{eq-or-lt_of_le}
-use Rattle.snap_words.specs.Shape.{IsOneOf}
-use Rattle.snap_semantics.specs.Table.{call_skip, who}
-use Rattle.snap_semantics.specs.declared.process.Item.{Item}
-use Rattle.snap_semantics.specs.declared.process.Item.TheVariants.{Step, Call, Crash}
-use Rattle.snap_semantics.specs.declared.process.Op.TheVariants.{Update}
-use Rattle.snap_semantics.specs.declared.process.Outcome.TheVariants.{Called, Stepped}
-use Rattle.snap_semantics.specs.declared.process.Reason.{Reason}
-use Rattle.snap_runs.specs.Run.{Run, item, outcome}
+use Rattle.snap_runs.proofs.Common.{IsOneOf, who, Item, Call, Op, Update, Called, Finished, Run}
+use Rattle.snap_runs.proofs.Common.{item, outcome}
 use Rattle.snap_runs.specs.Scan.{steps, is_not_skipped, own_steps, takes_step}
-use Rattle.snap_runs.specs.Update.{IsDone, PendingUpdate}
+use Rattle.snap_runs.specs.Update.{PendingUpdate}
 use Rattle.snap_runs.proofs.Algorithm.{Mode, Scanning, Embedded, Updating, op_of, Control, Idle, At, Move, To, Begin}
-use Rattle.snap_runs.proofs.Algorithm.{Answer, Finish, Auxiliary, TypedProcess, TypedState, Algorithm, by_move}
-use Rattle.snap_runs.proofs.Algorithm.{by_step, by_admission, by_call, typed_at, by_item, changed, outcome_of}
-use Rattle.snap_runs.proofs.Algorithm.{happens, item_at, typed_state, stepped_auxiliary, begun_auxiliary}
-use Rattle.snap_runs.proofs.Counting.{count_none, count_next, count_not}
+use Rattle.snap_runs.proofs.Algorithm.{Answer, Finish, Auxiliary, TypedProcess, Algorithm, by_move}
+use Rattle.snap_runs.proofs.Algorithm.{typed_at, outcome_of}
+use Rattle.snap_runs.proofs.Algorithm.{item_at, typed_state, stepped_auxiliary, begun_auxiliary, called_auxiliary, mode_of}
+use Rattle.snap_runs.proofs.Counting.{count_none, count_next, count_not, one_more}
 use Rattle.snap_runs.proofs.Embedding as embed
 use Rattle.snap_runs.proofs.Flow as flow
 use Rattle.snap_runs.proofs.Flow.{Lines, IsInScan}
 use Rattle.snap_runs.proofs.Scans as scans
-use Rattle.snap_runs.proofs.ScanSpan.{not_his}
+use Rattle.snap_runs.proofs.ItemCases as cases
 
 module _ {V P M : Type 0} (a : Algorithm V P M) (lines : Lines V P M) where
   -- How many steps an update has ahead at a line of its own, outside its scan; whether the scan is behind it; and how
@@ -103,10 +95,6 @@ module _ {V P M : Type 0} (a : Algorithm V P M) (lines : Lines V P M) where
     own_same : (c t : ℕ) → c ≤ t → steps i (item_at items t) ≡ false → own_steps r i c (suc t) ≡ own_steps r i c t
     own_same c t le none = count_not (takes_step r i) c t le (ap (λ b. b && is_not_skipped (outcome r (suc t))) none)
 
-    one_more : (b : Bool) (x : ℕ) → (if b then suc x else x) ≤ x + 1
-    one_more true x = omega arith
-    one_more false x = omega arith
-
     own_next : (c t : ℕ) → c ≤ t → own_steps r i c (suc t) ≤ own_steps r i c t + 1
     own_next c t le =
         subst (λ y. y ≤ own_steps r i c t + 1) (sym (count_next (takes_step r i) c t le))
@@ -144,46 +132,35 @@ module _ {V P M : Type 0} (a : Algorithm V P M) (lines : Lines V P M) where
     -- a step of the process, which does not end the update
     stepped : (word value c t : ℕ) (d : Mode) (k : P) (v : Move V P M) → c ≤ t →
         t < length items → (his t).control ≡ At d k → op_of d ≡ Update word value →
-        a.move i d (memory t) (his t).variables k ≡ v → (IsDone r i (suc t) → ⊥) → who (item_at items t) ≡ i →
-        typed_state a items (suc t) ≡ changed (typed_state a items t) i (by_move a (suc t) (memory t) (his t) k v) →
-        outcome r (suc t) ≡ outcome_of (by_move a (suc t) (memory t) (his t) k v) →
-        flow.Flows lines a d (memory t) (his t).variables k v →
+        a.move i d (memory t) (his t).variables k ≡ v →
+        (outcome_of (by_move a (suc t) (memory t) (his t) k v) ≡ Finished → ⊥) →
+        his (suc t) ≡ cases.moved a (suc t) (his t) k v → flow.Flows lines a d (memory t) (his t).variables k v →
         Spending h scan (own_steps r i c t) (his t).variables (his t).auxiliary (At d k) → Spent word value c (suc t)
-    stepped word value c t Scanning k v le short at op is still own becomes out flows spent = absurd (cc)
-    stepped word value c t (Embedded w x) k (To d' m' p' k') le short at op is still own becomes out flows spent =
-        let g = (his t).auxiliary in
-        let q' : TypedProcess V P M =
-        record { control = At d' k'; variables = p'; auxiliary = stepped_auxiliary a k (suc t) g } in
-        let new : his (suc t) ≡ q' = embed.process_next a items t i m' q' Stepped one becomes in
+    stepped word value c t Scanning k v le short at op is still after flows spent = absurd (cc)
+    stepped word value c t (Embedded w x) k (To d' m' p' k') le short at op is still after flows spent =
         let resumed : (d' ≡ Embedded w x) ⊎ ((d' ≡ Updating w x) × Resumes h (To d' m' p' k')) =
         elim flows.2 [
-          | inl same ↦ inl same
+          | inl same ↦ inl same.0
           | inr back ↦ inr (back.0, subst (Resumes h) is (resumes w x (memory t) (his t).variables k back.1))
         ] in
         record {
           mode = d';
           counter = k';
-          control = ap (λ (q : TypedProcess V P M). q.control) new;
+          control = ap (λ (q : TypedProcess V P M). q.control) after;
           op = elim resumed [
             | inl same ↦ ap op_of same ∙ op
             | inr back ↦ ap op_of back.0 ∙ op
           ];
           spent =
               subst (λ (q : TypedProcess V P M).
-              Spending h scan (own_steps r i c (suc t)) q.variables q.auxiliary (At d' k')) (sym new)
-              (after_scan (own_steps r i c t) (own_steps r i c (suc t)) w x k g d' m' p' k' (suc t) (own_next c t le)
-              (within t (Embedded w x) k (omega arith) at tt) spent resumed);
+              Spending h scan (own_steps r i c (suc t)) q.variables q.auxiliary (At d' k')) (sym after)
+              (after_scan (own_steps r i c t) (own_steps r i c (suc t)) w x k (his t).auxiliary d' m' p' k' (suc t)
+              (own_next c t le) (within t (Embedded w x) k (omega arith) at tt) spent resumed);
         }
-    stepped word value c t (Embedded w x) k (Begin d' p' k') le short at op is still own becomes out flows spent =
-        absurd flows
-    stepped word value c t (Embedded w x) k (Answer v) le short at op is still own becomes out flows spent =
-        absurd flows
-    stepped word value c t (Embedded w x) k Finish le short at op is still own becomes out flows spent = absurd flows
-    stepped word value c t (Updating w x) k (To d' m' p' k') le short at op is still own becomes out flows spent =
-        let g = (his t).auxiliary in
-        let q' : TypedProcess V P M =
-        record { control = At d' k'; variables = p'; auxiliary = stepped_auxiliary a k (suc t) g } in
-        let new : his (suc t) ≡ q' = embed.process_next a items t i m' q' Stepped one becomes in
+    stepped word value c t (Embedded w x) k (Begin d' p' k') le short at op is still after flows spent = absurd flows
+    stepped word value c t (Embedded w x) k (Answer v) le short at op is still after flows spent = absurd flows
+    stepped word value c t (Embedded w x) k Finish le short at op is still after flows spent = absurd flows
+    stepped word value c t (Updating w x) k (To d' m' p' k') le short at op is still after flows spent =
         let n : Nearer h (his t).variables k (To d' m' p' k') =
         subst (Nearer h (his t).variables k) is (nearer t w x k short at) in
         let left : own_steps r i c (suc t) + h.ahead p' k' ≤ h.total + (if h.scanned k' then scan else 0) =
@@ -194,19 +171,15 @@ module _ {V P M : Type 0} (a : Algorithm V P M) (lines : Lines V P M) where
         record {
           mode = d';
           counter = k';
-          control = ap (λ (q : TypedProcess V P M). q.control) new;
+          control = ap (λ (q : TypedProcess V P M). q.control) after;
           op = ap op_of flows.1 ∙ op;
           spent =
               subst (λ (q : TypedProcess V P M).
-              Spending h scan (own_steps r i c (suc t)) q.variables q.auxiliary (At d' k')) (sym new)
-              (subst (λ y. Spending h scan (own_steps r i c (suc t)) p' (stepped_auxiliary a k (suc t) g) (At y k'))
-              (sym flows.1) left);
+              Spending h scan (own_steps r i c (suc t)) q.variables q.auxiliary (At d' k')) (sym after)
+              (subst (λ y. Spending h scan (own_steps r i c (suc t)) p'
+              (stepped_auxiliary a k (suc t) (his t).auxiliary) (At y k')) (sym flows.1) left);
         }
-    stepped word value c t (Updating w x) k (Begin d' p' k') le short at op is still own becomes out flows spent =
-        let g = (his t).auxiliary in
-        let q' : TypedProcess V P M =
-        record { control = At d' k'; variables = p'; auxiliary = begun_auxiliary a k (suc t) g } in
-        let new : his (suc t) ≡ q' = embed.process_next a items t i (memory t) q' Stepped one becomes in
+    stepped word value c t (Updating w x) k (Begin d' p' k') le short at op is still after flows spent =
         let n : Nearer h (his t).variables k (Begin d' p' k') =
         subst (Nearer h (his t).variables k) is (nearer t w x k short at) in
         let left : own_steps r i c (suc t) + h.rest ≤ h.total + 0 =
@@ -218,96 +191,69 @@ module _ {V P M : Type 0} (a : Algorithm V P M) (lines : Lines V P M) where
         record {
           mode = d';
           counter = k';
-          control = ap (λ (q : TypedProcess V P M). q.control) new;
+          control = ap (λ (q : TypedProcess V P M). q.control) after;
           op = ap op_of flows.0 ∙ op;
           spent =
               subst (λ (q : TypedProcess V P M).
-              Spending h scan (own_steps r i c (suc t)) q.variables q.auxiliary (At d' k')) (sym new)
-              (subst (λ y. Spending h scan (own_steps r i c (suc t)) p' (begun_auxiliary a k (suc t) g) (At y k'))
-              (sym flows.0) left);
+              Spending h scan (own_steps r i c (suc t)) q.variables q.auxiliary (At d' k')) (sym after)
+              (subst (λ y. Spending h scan (own_steps r i c (suc t)) p'
+              (begun_auxiliary a k (suc t) (his t).auxiliary) (At y k')) (sym flows.0) left);
         }
-    stepped word value c t (Updating w x) k (Answer v) le short at op is still own becomes out flows spent =
-        absurd flows
-    stepped word value c t (Updating w x) k Finish le short at op is still own becomes out flows spent =
-        absurd (still (own, out))
+    stepped word value c t (Updating w x) k (Answer v) le short at op is still after flows spent = absurd flows
+    stepped word value c t (Updating w x) k Finish le short at op is still after flows spent = absurd (still refl)
 
-    -- an item of the process
-    item_spent : (word value c e t : ℕ) (y : Item) → PendingUpdate r i word value c e → c ≤ t → suc t < e →
-        item_at items t ≡ y → who y ≡ i → Spent word value c t → Spent word value c (suc t)
-    item_spent word value c e t (Step j) up le lt is w g =
-        let is2 : item_at items t ≡ Step i = is ∙ ap (λ u. Step u) w in
+    next_spent : (word value c e t : ℕ) → PendingUpdate r i word value c e → c ≤ t → suc t < e →
+        Spent word value c t → Spent word value c (suc t)
+    next_spent word value c e t up le lt g =
         let short : t < length items = (let last : e ≤ length items = up.last in omega arith) in
-        let x = typed_state a items t in
-        stepped word value c t g.mode g.counter
-        (a.move i g.mode x.memory (his t).variables g.counter) le short g.control g.op refl
-        (λ done. up.goes_on (suc t) (omega arith) lt done) (ap who is2)
-        (ap (happens a (suc t) x) is2
-        ∙ ap (λ (p : Control P). changed x i (by_step a (suc t) x.memory i (his t) p)) g.control)
-        (embed.outcome_is a items run.fits run.does t short ∙ ap (λ (y : Item). outcome_of (by_item a (suc t) x y)) is2
-        ∙ ap (λ (p : Control P). outcome_of (by_step a (suc t) x.memory i (his t) p)) g.control)
-        (subst (scans.FlowsAt a lines i x.memory (his t).variables) g.control (run.flows t i short one)) g.spent
-    item_spent word value c e t (Call j o) up le lt is w g =
-        let is2 : item_at items t ≡ Call i o = is ∙ ap (λ u. Call u o) w in
-        let x = typed_state a items t in
-        same_spent word value c t le (ap (λ (y : TypedState V P M). typed_at a y i) (ap (happens a (suc t) x) is2
-        ∙ ap (λ (p : Control P). changed x i (by_call a (suc t) x.memory i o (his t) p)) g.control))
-        (ap (steps i) is2) g
-    item_spent word value c e t (Crash j) up le lt is w g =
-        same_spent word value c t le
-        (ap (λ (y : TypedState V P M). typed_at a y i) (ap (happens a (suc t) (typed_state a items t)) is))
-        (ap (steps i) is) g
+        elim (cases.item_case a items run.fits run.does i one t short) [
+          | inl stays ↦ same_spent word value c t le stays.same
+              (cases.no_step a items run.fits run.does i one t g.mode g.counter stays g.control) g
+          | inr busy_or_called ↦ elim busy_or_called [
+            | inl s ↦ (let there : At g.mode g.counter ≡ At s.mode s.counter = sym g.control ∙ s.control in
+                let mode : g.mode ≡ s.mode = cc in
+                stepped word value c t s.mode s.counter
+                (a.move i s.mode (memory t) (his t).variables s.counter) le short s.control (ap op_of (sym mode) ∙ g.op)
+                refl (λ out. up.goes_on (suc t) (omega arith) lt (ap who s.item, s.outcome_is ∙ out)) s.after
+                (subst (scans.FlowsAt a lines i (memory t) (his t).variables) s.control (run.flows t i short one))
+                (subst (Spending h scan (own_steps r i c t) (his t).variables (his t).auxiliary) there g.spent))
+            | inr call ↦ absurd (let e = sym call.idle ∙ g.control in cc)
+          ]
+        ]
 
     -- at its call nothing is spent
-    admitted : (word value c : ℕ) (o : Option Reason) →
-        typed_state a items (suc c)
-        ≡ changed (typed_state a items c) i (by_admission a (suc c) (memory c) (his c) (Update word value) o) →
-        outcome_of (by_admission a (suc c) (memory c) (his c) (Update word value) o) ≡ Called →
-        Spent word value (suc c) (suc c)
-    admitted word value c (Some why) becomes out = absurd (cc)
-    admitted word value c None becomes out =
-        let new = embed.process_next a items c i (memory c) _ Called one becomes in
-        let p = (his c).variables in
-        let b = begins p word value in
-        let none : own_steps r i (suc c) (suc c) ≡ 0 = count_none (takes_step r i) (suc c) (suc c) (omega arith) in
-        let most : h.ahead p (a.counter (Update word value)) ≤ h.total = b.0 in
-        let left : own_steps r i (suc c) (suc c) + h.ahead p (a.counter (Update word value))
-        ≤ h.total + (if h.scanned (a.counter (Update word value)) then scan else 0) =
-        subst (λ y. own_steps r i (suc c) (suc c) + h.ahead p (a.counter (Update word value))
-        ≤ h.total + (if y then scan else 0)) (sym b.1) (omega arith) in
-        record {
-          mode = Updating word value;
-          counter = a.counter (Update word value);
-          control = ap (λ (q : TypedProcess V P M). q.control) new;
-          op = refl;
-          spent =
-              subst (λ (q : TypedProcess V P M).
-              own_steps r i (suc c) (suc c) + h.ahead q.variables (a.counter (Update word value))
-              ≤ h.total + (if h.scanned (a.counter (Update word value)) then scan else 0)) (sym new) left;
-        }
-
-    called_spent : (word value c : ℕ) (control : Control P) →
-        typed_state a items (suc c)
-        ≡ changed (typed_state a items c) i (by_call a (suc c) (memory c) i (Update word value) (his c) control) →
-        outcome_of (by_call a (suc c) (memory c) i (Update word value) (his c) control) ≡ Called →
-        Spent word value (suc c) (suc c)
-    called_spent word value c Idle becomes out =
-        admitted word value c (call_skip a.source.kind a.shape i (Update word value)) becomes out
-    called_spent word value c (At d k) becomes out = absurd (cc)
-
     first_spent : (word value c : ℕ) → 0 < c → c ≤ length items → item r c ≡ Call i (Update word value) →
         outcome r c ≡ Called → Spent word value c c
     first_spent word value zero pos short is out = absurd (omega arith)
     first_spent word value (suc c) pos short is out =
-        let x = typed_state a items c in
-        called_spent word value c (his c).control (ap (happens a (suc c) x) is)
-        (sym (embed.outcome_is a items run.fits run.does c (omega arith)
-        ∙ ap (λ (y : Item). outcome_of (by_item a (suc c) x y)) is) ∙ out)
-
-    kept : (t : ℕ) → t < length items → who (item_at items t) ≢ i → his (suc t) ≡ his t
-    kept t short other =
-        let his_one : IsOneOf a.shape.n (who (item_at items t)) = embed.one_at a items run.fits t short in
-        embed.other_process a (typed_state a items t) (who (item_at items t)) i
-        (by_item a (suc t) (typed_state a items t) (item_at items t)) his_one.0 one.0 (λ same. other (sym same))
+        elim (cases.item_case a items run.fits run.does i one c (omega arith)) [
+          | inl stays ↦ absurd (let e = sym out ∙ (stays.skipped (ap who is)).1 in cc)
+          | inr busy_or_called ↦ elim busy_or_called [
+            | inl s ↦ absurd (let e = sym is ∙ s.item in cc)
+            | inr call ↦ (let op : call.op ≡ Update word value = (let e = sym call.item ∙ is in cc) in
+                let new = subst (λ (o : Op). his (suc c) ≡ record {
+                  control = At (mode_of o) (a.counter o);
+                  variables = (his c).variables;
+                  auxiliary = called_auxiliary (suc c) o (his c).auxiliary;
+                }) op call.after in
+                let p = (his c).variables in
+                let b = begins p word value in
+                let none : own_steps r i (suc c) (suc c) ≡ 0 =
+                count_none (takes_step r i) (suc c) (suc c) (omega arith) in
+                let most : h.ahead p (a.counter (Update word value)) ≤ h.total = b.0 in
+                record {
+                  mode = Updating word value;
+                  counter = a.counter (Update word value);
+                  control = ap (λ (q : TypedProcess V P M). q.control) new;
+                  op = refl;
+                  spent =
+                      subst (λ (q : TypedProcess V P M). Spending h scan (own_steps r i (suc c) (suc c)) q.variables
+                      q.auxiliary (At (Updating word value) (a.counter (Update word value)))) (sym new)
+                      (subst (λ y. own_steps r i (suc c) (suc c) + h.ahead p (a.counter (Update word value))
+                      ≤ h.total + (if y then scan else 0)) (sym b.1) (omega arith));
+                })
+          ]
+        ]
 
     spent_at : (word value c e t : ℕ) → PendingUpdate r i word value c e → c ≤ t → t < e → Spent word value c t
     spent_at word value c e zero up le lt = absurd (let pos : 0 < c = up.first in omega arith)
@@ -316,14 +262,8 @@ module _ {V P M : Type 0} (a : Algorithm V P M) (lines : Lines V P M) where
         elim (eq-or-lt_of_le le) [
           | inl same ↦
               subst (λ y. Spent word value c y) same (first_spent word value c up.first (omega arith) up.call up.called)
-          | inr more ↦ elim (cases_eq (who (item_at items t)) i) [
-            | inl his_item ↦
-                item_spent word value c e t (item_at items t) up (omega arith) lt refl his_item
-                (spent_at word value c e t up (omega arith) (omega arith))
-            | inr other ↦
-                same_spent word value c t (omega arith) (kept t (omega arith) other)
-                (not_his i (item_at items t) other) (spent_at word value c e t up (omega arith) (omega arith))
-          ]
+          | inr more ↦
+              next_spent word value c e t up (omega arith) lt (spent_at word value c e t up (omega arith) (omega arith))
         ]
 
     -- a busy update has room for one more step

@@ -1,22 +1,15 @@
 -- Where no process traps, a call has as many turns as it takes steps, up to a crash, so that bounds on steps are
 -- bounds on turns.
-use Rattle.std.specs.Prelude.{◌≡◌, ℕ, zero, suc, ◌<◌, ◌≤◌, Bool, true, false, ◌&&◌, ◌⊎◌}
-use Rattle.std.specs.Prelude.{length, Option, None, nat_lt, if◌then◌else◌, refl}
-use Rattle.std.proofs.Common.{sym, ◌∙◌, ap, subst, arith, inl, inr}
-use Rattle.snap_words.specs.Shape.{IsOneOf}
-use Rattle.snap_semantics.specs.declared.process.Activity.{Activity}
-use Rattle.snap_semantics.specs.declared.process.Item.{Item}
-use Rattle.snap_semantics.specs.declared.process.Item.TheVariants.{Step, Call, Crash}
-use Rattle.snap_semantics.specs.declared.process.Op.{Op}
+use Rattle.std.proofs.Common.{◌≡◌, ℕ, zero, suc, ◌<◌, ◌≤◌, Bool, true, false, ◌&&◌, ◌⊎◌, length, Option, None, nat_lt}
+use Rattle.std.proofs.Common.{if◌then◌else◌, refl, sym, ◌∙◌, ap, subst, arith, inl, inr}
+use Rattle.snap_runs.proofs.Common.{IsOneOf, Activity, Item, Step, Call, Crash, Op, Outcome, process_at, who, Run}
+use Rattle.snap_runs.proofs.Common.{IsValidRun, state, item, outcome}
 use Rattle.snap_semantics.specs.declared.process.Op.TheVariants as op
-use Rattle.snap_semantics.specs.declared.process.Outcome.{Outcome}
 use Rattle.snap_semantics.specs.declared.process.Outcome.TheVariants as outcomes
 use Rattle.snap_semantics.specs.declared.process.Reason.TheVariants as reason
 use Rattle.snap_semantics.specs.declared.process.Status.{Status}
 use Rattle.snap_semantics.specs.declared.process.Status.TheVariants.{Idle, Busy, Trapped, Crashed}
-use Rattle.snap_semantics.specs.State.{process_at}
-use Rattle.snap_semantics.specs.Table.{step, done, who}
-use Rattle.snap_runs.specs.Run.{Run, IsValidRun, state, item, outcome}
+use Rattle.snap_semantics.specs.Table.{step, done}
 use Rattle.snap_runs.specs.Scan.{count, steps, is_not_skipped, takes_step, own_steps}
 use Rattle.snap_runs.specs.Update.{PendingUpdate}
 use Rattle.snap_runs.specs.Promises.{HasTrapped, NeverTraps, StepsAtMost}

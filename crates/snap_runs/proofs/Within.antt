@@ -1,22 +1,19 @@
 -- Lemmas about numbers that stay within `Limits`: lists of them,
 -- words that are read and written, and the first state of a run.
-use Rattle.std.specs.Prelude.{◌≡◌, ℕ, zero, suc, ◌+◌, ◌<◌, ◌≤◌, List, [], ◌∷◌, ◌++◌, take, drop, length, map}
-use Rattle.std.specs.Prelude.{slice_index_or, slice_set, replicate}
+use Rattle.std.proofs.Common.{◌≡◌, ℕ, zero, suc, ◌+◌, ◌<◌, ◌≤◌, List, [], ◌∷◌, ◌++◌, take, drop, length, map}
+use Rattle.std.proofs.Common.{slice_index_or, slice_set, replicate, sym, subst, arith}
 use Rattle.std.specs.List.{AllByRecursion, range_with_len}
-use Rattle.std.proofs.Common.{sym, subst, arith}
 use Rattle.std.proofs.lemmas.List.{map-set, length-set, length-take, length-drop}
 use Rattle.std.proofs.lemmas.List.{length-append, length-map, length-replicate}
 use Rattle.std.proofs.lemmas.List.FromFn.{length-map-range_with_len}
 use Rattle.snap_words.specs.Kind.{initial_word}
-use Rattle.snap_words.specs.Shape.{Counts, IsOneOf, places}
-use Rattle.snap_words.specs.Word.{Word, no_word}
+use Rattle.snap_runs.proofs.Common.{Counts, IsOneOf, Word, no_word, Op, Scan, Update, places_to}
+use Rattle.snap_words.specs.Shape.{places}
 use Rattle.snap_words.specs.declared.kind.KindTag.{KindTag}
 use Rattle.snap_words.specs.declared.kind.KindTag.TheVariants as kind
-use Rattle.snap_semantics.specs.declared.process.Op.{Op}
-use Rattle.snap_semantics.specs.declared.process.Op.TheVariants.{Scan, Update}
 use Rattle.snap_semantics.specs.Source.{Name, Source}
 use Rattle.snap_semantics.specs.State.{NameMap, Locals, Memory, value_at, all_at, initial_memory, initial_process}
-use Rattle.snap_semantics.specs.Table.{places_to, bit_at, with_bit_at}
+use Rattle.snap_semantics.specs.Table.{bit_at, with_bit_at}
 use Rattle.snap_runs.specs.Bounded.{Limits, IsBit, AtMost, IsWordWithin, IsMemoryWithin, IsLocalsWithin, IsOpWithin}
 use Rattle.snap_runs.proofs.Held.{data_of}
 use Rattle.snap_runs.proofs.Places.{for_each}

@@ -4,17 +4,10 @@ use Rattle.std.specs.Prelude.{◌≡◌, ℕ, suc, ◌-◌, ◌<◌, ◌≤◌, 
 use Rattle.std.proofs.Common.{sym, ◌∙◌, ap, subst, arith, inl, inr}
 use Rattle.std.proofs.lemmas.Bool.{cases_eq}
 use Rattle.std.proofs.lemmas.List.{map-set, get_or-set_other}
-use Rattle.snap_words.specs.Shape.{IsOneOf}
-use Rattle.snap_words.specs.Word.{Word, no_word}
-use Rattle.snap_semantics.specs.State.{values}
-use Rattle.snap_semantics.specs.Table.{who}
-use Rattle.snap_semantics.specs.declared.process.Item.{Item}
-use Rattle.snap_semantics.specs.declared.process.Item.TheVariants.{Step, Call, Crash}
-use Rattle.snap_semantics.specs.declared.process.Op.TheVariants.{Update}
-use Rattle.snap_runs.specs.Run.{Run, state}
+use Rattle.snap_runs.proofs.Common.{IsOneOf, Word, no_word, values, who, Item, Step, Call, Crash, Update, Run, state}
 use Rattle.snap_runs.specs.Update.{executes}
 use Rattle.snap_runs.specs.Promises.{ChangesOnlyAt, WritesItsUpdate, WritesOnce}
-use Rattle.snap_runs.proofs.Algorithm.{Mode, Updating, Control, Idle, At, Move, To, Begin, Answer, Finish}
+use Rattle.snap_runs.proofs.Algorithm.{Mode, Updating, Control, Idle, At, Move, To}
 use Rattle.snap_runs.proofs.Algorithm.{TypedProcess, TypedState, Algorithm, by_move, by_step, typed_at, changed}
 use Rattle.snap_runs.proofs.Algorithm.{happens, item_at, typed_state, memory_after}
 use Rattle.snap_runs.proofs.Embedding as embed
@@ -52,9 +45,7 @@ module _ {V P M : Type 0} (a : Algorithm V P M) (lines : Lines V P M) (line : �
     words_after : (m : M) (v : Move V P M) → flow.KeepsMemory lines m v →
         writer.words (memory_after m v) ≡ writer.words m
     words_after m (To d m' p k) keeps = writer.kept m m' keeps
-    words_after m (Begin d p k) keeps = refl
-    words_after m (Answer v) keeps = refl
-    words_after m Finish keeps = refl
+    words_after m _ keeps = refl
 
     -- a move that keeps the memory leaves the words
     pub words_then : (t : ℕ) (x : TypedState V P M) (i : ℕ) (k : P) (v : Move V P M) →

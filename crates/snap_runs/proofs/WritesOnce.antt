@@ -1,22 +1,17 @@
 -- An update writes at most once, and exactly once if it is done.
-use Rattle.std.specs.Prelude.{◌≡◌, ℕ, zero, suc, ◌+◌, ◌<◌, ◌≤◌, List, length, nat_eq, if◌then◌else◌, refl}
-use Rattle.std.proofs.Common.{sym, ◌∙◌, ap, subst, arith, inl, inr}
+use Rattle.std.specs.Prelude.{◌≡◌, ℕ, zero, suc, ◌+◌, ◌<◌, ◌≤◌, List, length, nat_eq, if◌then◌else◌}
+use Rattle.std.proofs.Common.{sym, ◌∙◌, subst, arith, inl, inr}
 use Rattle.std.proofs.Math.Nat.{eq-or-lt_of_le}
-use Rattle.snap_words.specs.Shape.{IsOneOf}
-use Rattle.snap_semantics.specs.Table.{who}
-use Rattle.snap_semantics.specs.declared.process.Item.{Item}
-use Rattle.snap_semantics.specs.declared.process.Item.TheVariants.{Step, Call, Crash}
-use Rattle.snap_semantics.specs.declared.process.Op.TheVariants.{Update}
-use Rattle.snap_semantics.specs.declared.process.Outcome.TheVariants.{Finished}
-use Rattle.snap_runs.specs.Run.{outcome}
+use Rattle.snap_runs.proofs.Common.{IsOneOf, who, Item, Update, Finished, outcome}
 use Rattle.snap_runs.specs.Scan.{count}
 use Rattle.snap_runs.specs.Update.{executes, IsDone, PendingUpdate}
 use Rattle.snap_runs.proofs.Algorithm.{Mode, Scanning, Embedded, Updating, op_of, Control, At, Move, To, Begin}
-use Rattle.snap_runs.proofs.Algorithm.{Answer, Finish, TypedProcess, Algorithm, by_move, by_step, by_call, typed_at}
-use Rattle.snap_runs.proofs.Algorithm.{by_item, outcome_of, item_at, typed_state}
+use Rattle.snap_runs.proofs.Algorithm.{Answer, Finish, TypedProcess, Algorithm, by_move, typed_at}
+use Rattle.snap_runs.proofs.Algorithm.{outcome_of, item_at, typed_state}
 use Rattle.snap_runs.proofs.Embedding as embed
 use Rattle.snap_runs.proofs.Flow.{Lines}
 use Rattle.snap_runs.proofs.Flow as flow
+use Rattle.snap_runs.proofs.ItemCases as cases
 use Rattle.snap_runs.proofs.Scans as scans
 use Rattle.snap_runs.proofs.UpdateSpan as called
 
@@ -74,34 +69,19 @@ module _ {V P M : Type 0} (a : Algorithm V P M) (lines : Lines V P M) (line : �
     abbrev pub Going : (word value c t : ℕ) → Type 0
     Going word value c t = called.Going a line once.writes_is items run.fits run.does i one silent word value c t
 
-    done_once : (word value c t : ℕ) → c ≤ t → t < length items → Going word value c t → (y : Item) →
-        item_at items t ≡ y → who y ≡ i → outcome (embed.run_of a items) (suc t) ≡ Finished →
+    done_once : (word value c t : ℕ) → c ≤ t → t < length items → Going word value c t →
+        who (item_at items t) ≡ i → outcome (embed.run_of a items) (suc t) ≡ Finished →
         count (executes (embed.run_of a items) i line) c (suc t) ≡ 1
-    done_once word value c t le short g (Call k op) is w out =
-        let is2 : item_at items t ≡ Call i op = is ∙ ap (λ u. Call u op) w in
-        let e : outcome_of (by_item a (suc t) (typed_state a items t) (item_at items t))
-        ≡ outcome_of (by_call a (suc t) (typed_state a items t).memory i op (his t) (At g.mode g.counter)) =
-        ap (λ (y : Item). outcome_of (by_item a (suc t) (typed_state a items t) y)) is2
-        ∙ ap
-        (λ (p : Control P). outcome_of (by_call a (suc t) (typed_state a items t).memory i op (his t) p)) g.control in
-        absurd (let f = sym out ∙ embed.outcome_is a items run.fits run.does t short ∙ e in cc)
-    done_once word value c t le short g (Crash k) is w out =
-        let e = ap (λ (y : Item). outcome_of (by_item a (suc t) (typed_state a items t) y)) is in
-        absurd (let f = sym out ∙ embed.outcome_is a items run.fits run.does t short ∙ e in cc)
-    done_once word value c t le short g (Step k) is w out =
-        let is2 : item_at items t ≡ Step i = is ∙ ap (λ u. Step u) w in
+    done_once word value c t le short g w out =
         let m = (typed_state a items t).memory in
-        let e : outcome_of (by_item a (suc t) (typed_state a items t) (item_at items t))
-        ≡ outcome_of (by_step a (suc t) m i (his t) (At g.mode g.counter)) =
-        ap (λ (y : Item). outcome_of (by_item a (suc t) (typed_state a items t) y)) is2
-        ∙ ap (λ (p : Control P). outcome_of (by_step a (suc t) m i (his t) p)) g.control in
+        let step = cases.busy_step a items run.fits run.does i one t g.mode g.counter short g.control w
+        (λ why is. let e = sym out ∙ is in cc) in
         let written : flow.HasWritten lines (At g.mode g.counter) (his t).auxiliary.wrote =
         subst (λ (p : Control P). flow.HasWritten lines p (his t).auxiliary.wrote) g.control
         (run.wrote t i (omega arith) one) in
         let ended =
         once_done (suc t) m (his t) g.mode g.counter (a.move i g.mode m (his t).variables g.counter)
-        (his t).auxiliary.wrote word value
-        (sym e ∙ sym (embed.outcome_is a items run.fits run.does t short) ∙ out) g.op
+        (his t).auxiliary.wrote word value (sym step.1 ∙ out) g.op
         (flows_at t g.mode g.counter short g.control) written in
         let one_write : (his t).auxiliary.wrote ≡ 1 = ended.0 in
         let none_more : a.writes g.counter ≡ 0 = ended.1 in
@@ -109,7 +89,7 @@ module _ {V P M : Type 0} (a : Algorithm V P M) (lines : Lines V P M) (line : �
         let next : count (executes (embed.run_of a items) i line) c (suc t)
         ≡ count (executes (embed.run_of a items) i line) c t + a.writes g.counter =
         called.line_counts a line once.writes_is items run.fits run.does i one silent t c g.mode g.counter le
-        short is2 g.control in
+        short step.0 g.control in
         omega arith
 
     pub writes_once : (word value c e : ℕ) → PendingUpdate (embed.run_of a items) i word value c e →
@@ -137,6 +117,6 @@ module _ {V P M : Type 0} (a : Algorithm V P M) (lines : Lines V P M) (line : �
               called.line_at_most a line once.writes_is items run.fits run.does i one silent t c g.mode g.counter
               (omega arith) (omega arith) g.control in (
                 omega arith,
-                λ lt done. done_once word value c t (omega arith) (omega arith) g (item_at items t) refl done.0 done.1,
+                λ lt done. done_once word value c t (omega arith) (omega arith) g done.0 done.1,
               ))
         ]

@@ -1,20 +1,17 @@
 -- Listing B in its own words: its lines, its variables, and what each line does.
-use Rattle.std.specs.Prelude.{◌≡◌, ℕ, ◌+◌, ◌-◌, ◌⊎◌, max, Bool, true, false, not, ◌&&◌, List, [], ◌∷◌, take, map}
-use Rattle.std.specs.Prelude.{Option, Some, None, nat_eq, nat_lt, if◌then◌else◌}
-use Rattle.std.specs.Prelude.{slice_index, slice_set, replicate, refl}
-use Rattle.std.proofs.Common.{ap}
+use Rattle.std.proofs.Common.{◌≡◌, ℕ, ◌+◌, ◌-◌, ◌⊎◌, max, Bool, true, false, not, ◌&&◌, List, [], ◌∷◌, take, map}
+use Rattle.std.proofs.Common.{Option, Some, None, nat_eq, nat_lt, nat_le, if◌then◌else◌, slice_index, slice_set}
+use Rattle.std.proofs.Common.{replicate, refl, ap}
 use Rattle.snap_words.specs.Kind.{initial_word}
-use Rattle.snap_words.specs.Word.{Word}
+use Rattle.snap_runs.proofs.Common.{Word, places_to, all_true, first_true, Op, Scan, Update}
 use Rattle.snap_words.specs.declared.kind.KindTag.TheVariants as kind
 use Rattle.snap_semantics.specs.State.{Locals, Memory}
-use Rattle.snap_semantics.specs.Table.{places_to, all_true, first_true, bit_at, with_bit_at, entry}
-use Rattle.snap_semantics.specs.declared.process.Op.{Op}
-use Rattle.snap_semantics.specs.declared.process.Op.TheVariants.{Scan, Update}
+use Rattle.snap_semantics.specs.Table.{bit_at, with_bit_at, entry}
 use Rattle.snap_runs.proofs.Algorithm as typed
 use Rattle.snap_runs.proofs.Algorithm.{Mode, Scanning, Embedded, Updating, value_of, To, Begin, Answer, Finish}
 use Rattle.snap_runs.proofs.Algorithm.{Algorithm, returning, embedding}
 use Rattle.snap_runs.proofs.Embedding.{map_same}
-use Rattle.snap_runs.proofs.Flow.{Lines, IsScanOf, IsUpdateOf, IsLine}
+use Rattle.snap_runs.proofs.Flow.{Lines, IsUpdateOf, IsLine}
 use Rattle.snap_runs.proofs.Held.{word_at, seq_at}
 use Rattle.snap_runs.proofs.Places.{for_each}
 use Rattle.snap_runs_of_b.specs.ListingB as listing
@@ -324,28 +321,23 @@ algorithm n = record {
 }
 
 -- which mode a line belongs to; the word of an update is the process's own
-abbrev pub IsScan : ℕ → Mode → Type 0
-IsScan me d = IsScanOf (λ word. word ≡ me) d
-
 abbrev pub IsUpdate : ℕ → Mode → Type 0
 IsUpdate me d = IsUpdateOf (λ word. word ≡ me) d
 
 -- the lines of an update outside its scan
 abbrev pub in_update : ProgramCounter → Bool
-in_update L40 = true
-in_update L41 = true
-in_update L42 = true
-in_update L43 = true
-in_update L44 = true
-in_update L45 = true
-in_update L46 = true
-in_update L47 = true
-in_update _ = false
+in_update k = nat_le 40 (number k)
 
 abbrev pub IsLineOf : ℕ → Mode → ProgramCounter → Type 0
 IsLineOf me d k = IsLine (λ word. word ≡ me) (in_update k) d
 
 -- What the lines are for.
+
+-- the scan returns its view
+abbrev pub IsReturn : ProgramCounter → Type 0
+IsReturn L26 = Unit {0}
+IsReturn L28 = Unit {0}
+IsReturn _ = ⊥
 
 -- the view is made and not yet written
 abbrev pub IsLate : ProgramCounter → Type 0
@@ -361,7 +353,7 @@ written _ = 0
 abbrev pub lines : Lines Variables ProgramCounter Registers
 lines = record {
   Kept = λ m m'. m'.words ≡ m.words;
-  IsReturn = λ k. (k ≡ L26) ⊎ (k ≡ L28);
+  IsReturn = IsReturn;
   answer = λ p. p.s;
   IsWrite = λ k. k ≡ L46;
   IsLast = λ k. k ≡ L47;

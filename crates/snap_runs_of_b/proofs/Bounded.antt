@@ -2,10 +2,7 @@
 use Rattle.std.specs.Prelude.{ℕ, suc, ◌+◌, ◌-◌, ◌<◌, ◌≤◌, max, List, map, not, nat_lt, slice_set, refl}
 use Rattle.std.specs.List.{AllByRecursion}
 use Rattle.std.proofs.Common.{subst, arith, inl}
-use Rattle.snap_words.specs.Shape.{IsOneOf}
-use Rattle.snap_words.specs.Word.{Word}
-use Rattle.snap_semantics.specs.declared.process.Item.{Item}
-use Rattle.snap_semantics.specs.Table.{places_to, all_true, first_true}
+use Rattle.snap_runs.proofs.Common.{IsOneOf, Word, Item, places_to, all_true, first_true}
 use Rattle.snap_runs.specs.Bounded.{IsValue, AtMost, IsBit, IsWordWithin, HasLine, StaysWithin}
 use Rattle.snap_runs.proofs.Algorithm.{Mode, Scanning, Embedded, Updating, value_of}
 use Rattle.snap_runs.proofs.Bounded as bounded

@@ -1,9 +1,7 @@
 -- An item of B that writes no word keeps the invariant: one
 -- process changes, and perhaps a handshake bit that it puts.
-use Rattle.std.specs.Prelude.{◌≡◌, ◌≢◌, ℕ, ◌<◌, ◌≤◌, ◌⊎◌, length, refl}
-use Rattle.std.proofs.Common.{sym, ◌∙◌, ap, subst, arith, inl, inr}
-use Rattle.snap_words.specs.Shape.{IsOneOf}
-use Rattle.snap_semantics.specs.declared.process.Outcome.{Outcome}
+use Rattle.std.proofs.Common.{◌≡◌, ◌≢◌, ℕ, ◌<◌, ◌≤◌, ◌⊎◌, length, refl, sym, ◌∙◌, ap, subst, arith, inl, inr}
+use Rattle.snap_runs.proofs.Common.{IsOneOf, Outcome}
 use Rattle.snap_runs.proofs.Algorithm.{New, typed_at, changed}
 use Rattle.snap_runs.proofs.Frame as frame
 use Rattle.snap_runs.proofs.Held.{word_at, seq_at}

@@ -1,13 +1,10 @@
 -- The handshake and the two collects of a double collect of B, and what a scan learns of them.
-use Rattle.std.specs.Prelude.{◌≡◌, ℕ, ◌+◌, ◌-◌, ◌<◌, ◌≤◌, Bool, true, false, not, ◌&&◌, List, take, length, map}
-use Rattle.std.specs.Prelude.{slice_set, nat_eq, if◌then◌else◌, refl}
-use Rattle.std.proofs.Common.{sym, ◌∙◌, ap, subst, arith, inl, inr}
+use Rattle.std.proofs.Common.{◌≡◌, ℕ, ◌+◌, ◌-◌, ◌<◌, ◌≤◌, Bool, true, false, not, ◌&&◌, List, take, length, map}
+use Rattle.std.proofs.Common.{slice_set, nat_eq, if◌then◌else◌, refl, sym, ◌∙◌, ap, subst, arith, inl, inr}
 use Rattle.std.proofs.lemmas.Bool.{cases_eq, cases_lt}
 use Rattle.std.proofs.lemmas.Grind.{get_or-set_at}
 use Rattle.std.proofs.lemmas.List.{get_or-set_other}
-use Rattle.snap_words.specs.Shape.{IsOneOf}
-use Rattle.snap_words.specs.Word.{Word, no_word}
-use Rattle.snap_semantics.specs.Table.{places_to, all_true}
+use Rattle.snap_runs.proofs.Common.{IsOneOf, Word, no_word, places_to, all_true}
 use Rattle.snap_runs.proofs.Computing.{same_number, same_from, both}
 use Rattle.snap_runs.proofs.Held.{word_at, Held, Lent, beside_now, data_of, seq_at, same_data}
 use Rattle.snap_runs.proofs.Places.{all_pass}

@@ -1,14 +1,10 @@
 -- Which variables a process of B has at each line, and that no line traps.
-use Rattle.std.specs.Prelude.{◌≡◌, ℕ, ◌-◌, ◌<◌, ◌≤◌, max, not, ◌&&◌, List, length, map, Some, None, nat_eq, nat_lt}
-use Rattle.std.specs.Prelude.{nat_le, if◌then◌else◌, slice_set, refl}
-use Rattle.std.proofs.Common.{sym, subst, arith}
+use Rattle.std.proofs.Common.{◌≡◌, ℕ, ◌-◌, ◌<◌, ◌≤◌, max, not, ◌&&◌, List, length, map, Some, None, nat_eq, nat_lt}
+use Rattle.std.proofs.Common.{nat_le, if◌then◌else◌, slice_set, refl, sym, subst, arith}
 use Rattle.std.proofs.lemmas.Grind.{get_or-set_at}
-use Rattle.snap_words.specs.Shape.{IsOneOf}
-use Rattle.snap_words.specs.Word.{Word, no_word}
+use Rattle.snap_runs.proofs.Common.{IsOneOf, Word, no_word, places_to, all_true, first_true, Op, Scan, Update}
 use Rattle.snap_words.specs.declared.kind.KindTag.TheVariants as kind
-use Rattle.snap_semantics.specs.Table.{places_to, all_true, first_true, call_skip}
-use Rattle.snap_semantics.specs.declared.process.Op.{Op}
-use Rattle.snap_semantics.specs.declared.process.Op.TheVariants.{Scan, Update}
+use Rattle.snap_semantics.specs.Table.{call_skip}
 use Rattle.snap_semantics.specs.declared.process.Reason.TheVariants.{NoSuchWord, NotOwner}
 use Rattle.snap_runs.proofs.Algorithm.{Mode, Scanning, Embedded, Updating, mode_of, op_of}
 use Rattle.snap_runs.proofs.Algorithm.{Idle, At, WhenBusy, LeadsTo, leads_to}
@@ -103,12 +99,10 @@ move_well n me d m p L15 i bits sized s h =
     either (MoveWell (op_of d) n me) (nat_lt p.j n) _ _
     (λ b. let j : p.j < n = lt_from p.j n b in (s, ((omega arith, omega arith), h.1), refl))
     (λ b. (s, ((omega arith, omega arith), h.1), refl))
-move_well n me d m p L16 i bits sized s h = (s, h, refl)
 move_well n me d m p L17 i bits sized s h =
     either (MoveWell (op_of d) n me) (nat_lt p.j n) _ _
     (λ b. let j : p.j < n = lt_from p.j n b in (s, ((omega arith, omega arith), h.1), refl))
     (λ b. (s, ((omega arith, omega arith), h.1), refl))
-move_well n me d m p L18 i bits sized s h = (s, h, refl)
 move_well n me d m p L19 i bits sized s h =
     either (MoveWell (op_of d) n me) (nat_lt p.j n) _ _
     (λ b. let j : p.j < n = lt_from p.j n b in (s, ((omega arith, omega arith), h.1), refl))
@@ -146,8 +140,6 @@ move_well n me Scanning m p L28 i bits sized s h = tt
 move_well n me (Embedded word value) m p L28 i bits sized s h = (s, tt, refl)
 move_well n me (Updating word value) m p L28 i bits sized s h = absurd s
 move_well n me d m p L40 i bits sized s h = (s, (omega arith, omega arith), refl)
-move_well n me d m p L41 i bits sized s h = (s, h, refl)
-move_well n me d m p L42 i bits sized s h = (s, h, refl)
 move_well n me d m p L43 i bits sized s h =
     either (MoveWell (op_of d) n me) (nat_lt p.j n) _ _
     (λ b. let j : p.j < n = lt_from p.j n b in (s, (omega arith, omega arith), refl)) (λ b. (s, tt, refl))
@@ -157,6 +149,7 @@ move_well n me (Updating word value) m p L44 i bits sized s h = (s, tt, refl)
 move_well n me d m p L45 i bits sized s h = (s, tt, refl)
 move_well n me d m p L46 i bits sized s h = (s, tt, refl)
 move_well n me d m p L47 i bits sized s h = tt
+move_well n me d m p k i bits sized s h = (s, h, refl)
 
 -- what a line needs is kept
 pub needs : (n me : ℕ) (p : Variables) (k : ProgramCounter) → SaysBits n p → VariablesAt n me p k → Needs n p k

@@ -1,9 +1,7 @@
 -- The double collects and own steps that a scan of B has made
 -- at each line, how a line raises them, and the limits on them.
-use Rattle.std.specs.Prelude.{◌≡◌, ℕ, suc, ◌+◌, ◌*◌, ◌<◌, ◌≤◌, false, not, map, nat_lt, if◌then◌else◌, refl}
-use Rattle.std.proofs.Common.{ap, arith}
-use Rattle.snap_words.specs.Shape.{IsOneOf}
-use Rattle.snap_semantics.specs.Table.{places_to, all_true, first_true}
+use Rattle.std.proofs.Common.{◌≡◌, ℕ, suc, ◌+◌, ◌*◌, ◌<◌, ◌≤◌, false, not, map, nat_lt, if◌then◌else◌, refl, ap, arith}
+use Rattle.snap_runs.proofs.Common.{IsOneOf, places_to, all_true, first_true}
 use Rattle.snap_runs.proofs.Algorithm.{Mode, Scanning, Embedded, Updating, GoesOn}
 use Rattle.snap_runs.proofs.Budget as budgets
 use Rattle.snap_runs.proofs.Budget.{budget_zero, same_budget, next_budget, budget_le}
@@ -98,6 +96,7 @@ pub count_move : (n me : ℕ) (d : Mode) (m : Registers) (p : Variables) (k : Pr
     (own c c' recent recent' : ℕ) → c' ≡ c + tests k →
     recent' ≡ (if restarts k then 0 else recent + tests k) → VariablesAt n me p k → ((k ≡ L20) → moves n p < n) →
     Count n me p own c recent k → CountMove n me (suc own) c' recent' (move n me d m p k)
+count_move n me (Updating word value) m p L44 own c c' recent recent' e f keeps sharp h = tt
 count_move n me d m p L10 own c c' recent recent' e f keeps sharp h = (omega arith, omega arith, omega arith)
 count_move n me d m p L11 own c c' recent recent' e f keeps sharp h =
     let b : budget n c' ≡ budget n 0 = ap (budget n) (let f : c' ≡ 0 = omega arith in f) in
@@ -147,42 +146,26 @@ count_move n me d m p L23 own c c' recent recent' e f keeps sharp h =
     let b : budget n c' ≡ budget n c = same_budget (round n) 2 c c' e in (omega arith, omega arith, omega arith)
 count_move n me d m p L25 own c c' recent recent' e f keeps sharp h =
     let b : budget n c' ≡ budget n c = same_budget (round n) 2 c c' e in (omega arith, omega arith)
-count_move n me Scanning m p L26 own c c' recent recent' e f keeps sharp h = tt
-count_move n me (Embedded word value) m p L26 own c c' recent recent' e f keeps sharp h = tt
-count_move n me (Updating word value) m p L26 own c c' recent recent' e f keeps sharp h = tt
 count_move n me d m p L27 own c c' recent recent' e f keeps sharp h =
     let b : budget n c' ≡ budget n c = same_budget (round n) 2 c c' e in (omega arith, omega arith)
-count_move n me Scanning m p L28 own c c' recent recent' e f keeps sharp h = tt
-count_move n me (Embedded word value) m p L28 own c c' recent recent' e f keeps sharp h = tt
-count_move n me (Updating word value) m p L28 own c c' recent recent' e f keeps sharp h = tt
 count_move n me d m p L43 own c c' recent recent' e f keeps sharp h =
     either (CountMove n me (suc own) c' recent') (nat_lt p.j n) _ _ (λ t. tt) (λ t. tt)
-count_move n me Scanning m p L44 own c c' recent recent' e f keeps sharp h = tt
-count_move n me (Embedded word value) m p L44 own c c' recent recent' e f keeps sharp h = tt
-count_move n me (Updating word value) m p L44 own c c' recent recent' e f keeps sharp h = tt
 count_move n me d m p k own c c' recent recent' e f keeps sharp h = tt
 
 -- the bounds at each line of a scan
 pub collects_le : (n me : ℕ) (p : Variables) (k : ProgramCounter) (own c recent : ℕ) → 0 < n → VariablesAt n me p k →
     ((k ≡ L20) → moves n p < n) → Count n me p own c recent k → IsScanLine (in_update k) → c + tests k ≤ n
-collects_le n me p L10 own c recent pos keeps sharp h s = omega arith
-collects_le n me p L11 own c recent pos keeps sharp h s = omega arith
+collects_le n me p L12 own c recent pos keeps sharp h s = let t : moves n p ≤ n = moves_le n p keeps.1 in omega arith
+collects_le n me p L13 own c recent pos keeps sharp h s = let t : moves n p ≤ n = moves_le n p keeps.1 in omega arith
+collects_le n me p L14 own c recent pos keeps sharp h s = let t : moves n p ≤ n = moves_le n p keeps.1 in omega arith
+collects_le n me p L15 own c recent pos keeps sharp h s = let t : moves n p ≤ n = moves_le n p keeps.1 in omega arith
+collects_le n me p L16 own c recent pos keeps sharp h s = let t : moves n p ≤ n = moves_le n p keeps.1 in omega arith
+collects_le n me p L17 own c recent pos keeps sharp h s = let t : moves n p ≤ n = moves_le n p keeps.1 in omega arith
+collects_le n me p L18 own c recent pos keeps sharp h s = let t : moves n p ≤ n = moves_le n p keeps.1 in omega arith
+collects_le n me p L19 own c recent pos keeps sharp h s = let t : moves n p ≤ n = moves_le n p keeps.1 in omega arith
+collects_le n me p L23 own c recent pos keeps sharp h s = let t : moves n p ≤ n = moves_le n p keeps.1 in omega arith
 collects_le n me p L20 own c recent pos keeps sharp h s = let t : moves n p < n = sharp refl in omega arith
-collects_le n me p L21 own c recent pos keeps sharp h s = omega arith
-collects_le n me p L22 own c recent pos keeps sharp h s = omega arith
-collects_le n me p L25 own c recent pos keeps sharp h s = omega arith
-collects_le n me p L26 own c recent pos keeps sharp h s = omega arith
-collects_le n me p L27 own c recent pos keeps sharp h s = omega arith
-collects_le n me p L28 own c recent pos keeps sharp h s = omega arith
-collects_le n me p L40 own c recent pos keeps sharp h s = absurd s
-collects_le n me p L41 own c recent pos keeps sharp h s = absurd s
-collects_le n me p L42 own c recent pos keeps sharp h s = absurd s
-collects_le n me p L43 own c recent pos keeps sharp h s = absurd s
-collects_le n me p L44 own c recent pos keeps sharp h s = absurd s
-collects_le n me p L45 own c recent pos keeps sharp h s = absurd s
-collects_le n me p L46 own c recent pos keeps sharp h s = absurd s
-collects_le n me p L47 own c recent pos keeps sharp h s = absurd s
-collects_le n me p k own c recent pos keeps sharp h s = let t : moves n p ≤ n = moves_le n p keeps.1 in omega arith
+collects_le n me p k own c recent pos keeps sharp h s = omega arith
 
 own_all : (n c own : ℕ) → c ≤ n → own ≤ budget n c + 8 * n → own + 1 ≤ 8 * (n * n) + 12 * n + 7
 own_all n c own le h =
@@ -193,12 +176,4 @@ pub own_le : (n me : ℕ) (p : Variables) (k : ProgramCounter) (own c recent : �
     Count n me p own c recent k → c ≤ n → IsScanLine (in_update k) → own + 1 ≤ 8 * (n * n) + 12 * n + 7
 own_le n me p L10 own c recent keeps h le s = omega arith
 own_le n me p L11 own c recent keeps h le s = omega arith
-own_le n me p L40 own c recent keeps h le s = absurd s
-own_le n me p L41 own c recent keeps h le s = absurd s
-own_le n me p L42 own c recent keeps h le s = absurd s
-own_le n me p L43 own c recent keeps h le s = absurd s
-own_le n me p L44 own c recent keeps h le s = absurd s
-own_le n me p L45 own c recent keeps h le s = absurd s
-own_le n me p L46 own c recent keeps h le s = absurd s
-own_le n me p L47 own c recent keeps h le s = absurd s
 own_le n me p k own c recent keeps h le s = own_all n c own le (omega arith)

@@ -1,9 +1,7 @@
 -- Two words of one register of B, one of them later (`IsLaterWord`): each
 -- write turns the toggle, so that equal toggles are two writes apart.
-use Rattle.std.specs.Prelude.{◌≡◌, ℕ, ◌+◌, ◌<◌, ◌≤◌, ◌⊎◌, List}
-use Rattle.std.proofs.Common.{sym, ap, subst, arith, inl, inr}
-use Rattle.snap_words.specs.Shape.{IsOneOf}
-use Rattle.snap_words.specs.Word.{Word}
+use Rattle.std.proofs.Common.{◌≡◌, ℕ, ◌+◌, ◌<◌, ◌≤◌, ◌⊎◌, List, sym, ap, subst, arith, inl, inr}
+use Rattle.snap_runs.proofs.Common.{IsOneOf, Word}
 use Rattle.snap_runs.proofs.Held.{word_at}
 
 -- y is x, or a later word of the same register; where both have the same toggle, there were two writes

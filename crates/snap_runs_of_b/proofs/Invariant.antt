@@ -1,8 +1,6 @@
 -- The invariant of B: what holds in every state of every run.
-use Rattle.std.specs.Prelude.{◌≡◌, ℕ, suc, ◌<◌, ◌≤◌, length, refl}
-use Rattle.std.proofs.Common.{sym, ◌∙◌, ap, subst, arith, inr}
-use Rattle.snap_words.specs.Shape.{IsOneOf}
-use Rattle.snap_words.specs.Word.{Word}
+use Rattle.std.proofs.Common.{◌≡◌, ℕ, suc, ◌<◌, ◌≤◌, length, refl, sym, ◌∙◌, ap, subst, arith, inr}
+use Rattle.snap_runs.proofs.Common.{IsOneOf, Word}
 use Rattle.snap_runs.proofs.Algorithm.{Idle, At, WhenBusy, typed_at}
 use Rattle.snap_runs.proofs.Flow.{InScan}
 use Rattle.snap_runs.proofs.Held.{word_at, held_wider, seq_at}

@@ -1,8 +1,7 @@
 -- What the frame of the proofs asks of B: of its lines, and of its runs without crashes.
 use Rattle.std.specs.Prelude.{◌≡◌, ℕ, ◌+◌, ◌-◌, ◌*◌, ◌<◌, ◌≤◌, Bool, true, false, List, length, nat_lt, refl}
 use Rattle.std.proofs.Common.{sym, subst, arith, inl, inr}
-use Rattle.snap_words.specs.Shape.{IsOneOf}
-use Rattle.snap_semantics.specs.declared.process.Item.{Item}
+use Rattle.snap_runs.proofs.Common.{IsOneOf, Item}
 use Rattle.snap_runs.proofs.Algorithm.{Mode, Embedded, Updating, At}
 use Rattle.snap_runs.proofs.Calm.{calm, calm_list}
 use Rattle.snap_runs.proofs.Computing.{lt_from, either}
@@ -13,6 +12,7 @@ use Rattle.snap_runs.proofs.UpdateSteps.{Ahead, Nearer, Resumes}
 use Rattle.snap_runs.proofs.ListingFrame as frames
 use Rattle.snap_runs_of_b.specs.Promises.{run_of}
 use Rattle.snap_runs_of_b.proofs.Algorithm.{Words, Registers, Variables, ProgramCounter, L40, L41, L42, L43, L44, L45}
+use Rattle.snap_runs_of_b.proofs.Algorithm.{L26, L28}
 use Rattle.snap_runs_of_b.proofs.Algorithm.{L46, L47, IsUpdate, IsLineOf, in_update, tests, move, lines, algorithm}
 use Rattle.snap_runs_of_b.proofs.Count.{collects_le, own_le}
 use Rattle.snap_runs_of_b.proofs.Flows.{numbered, listed, once, writer}
@@ -21,16 +21,12 @@ use Rattle.snap_runs_of_b.proofs.Runs.{words_at, registers_at, process_after, in
 use Rattle.snap_runs_of_b.proofs.Runs.{execution, well_of, stage_of, counts_of}
 use Rattle.snap_runs_of_b.proofs.Stage.{Stage}
 
--- line 46 is one of an update
-pub updates : (n : ℕ) (items : List Item) → Steady (run_of n items) → (t i : ℕ) (d : Mode) → t < length items →
-    IsOneOf n i → (process_after n items t i).control ≡ At d L46 → IsUpdate i d
-updates n items fits t i d h one e = (well_of n items fits t i d L46 (omega arith) one e).0
-
 -- at a line that returns s, the values were s at some state since the scan's start
 pub return_held : (n i : ℕ) (history : ℕ → Words) (t since round : ℕ) (words : Words) (p : Variables)
     (k : ProgramCounter) → lines.IsReturn k → Stage n i history t since round words p k → Held history t since p.s
-return_held n i history t since round words p k (inl is) h = subst (Stage n i history t since round words p) is h
-return_held n i history t since round words p k (inr is) h = (subst (Stage n i history t since round words p) is h).0
+return_held n i history t since round words p L26 is h = h
+return_held n i history t since round words p L28 is h = h.0
+return_held n i history t since round words p k is h = absurd is
 
 -- the steps of a scan
 abbrev pub most_steps : ℕ → ℕ
@@ -96,12 +92,9 @@ nearer n me word value m p k s = absurd s
 
 pub resumes : (n me word value : ℕ) (m : Registers) (p : Variables) (k : ProgramCounter) → lines.IsReturn k →
     Resumes (algorithm n) lines (its n) (move n me (Embedded word value) m p k)
-resumes n me word value m p k (inl is) =
-    subst (λ y. Resumes (algorithm n) lines (its n) (move n me (Embedded word value) m p y)) (sym is)
-    (omega arith, refl)
-resumes n me word value m p k (inr is) =
-    subst (λ y. Resumes (algorithm n) lines (its n) (move n me (Embedded word value) m p y)) (sym is)
-    (omega arith, refl)
+resumes n me word value m p L26 is = (omega arith, refl)
+resumes n me word value m p L28 is = (omega arith, refl)
+resumes n me word value m p k is = absurd is
 
 abbrev pub frame : (n : ℕ) → frames.Frame (algorithm n) lines 46
 frame n = record {
@@ -113,7 +106,7 @@ frame n = record {
   collects = n;
   steps = most_steps n;
   its = its n;
-  resumes = λ me word value m p k is. resumes n me word value m p k is;
+  resumes = resumes n;
   begins = λ p word value. (omega arith, refl);
 }
 
@@ -123,7 +116,7 @@ kept n items fits = record {
   does = (execution n items fits).does;
   flows = (execution n items fits).flows;
   wrote = (execution n items fits).wrote;
-  updates = updates n items fits;
+  updates = λ t i d h one e. (well_of n items fits t i d L46 (omega arith) one e).0;
   held = λ t i d k le one at returns.
       let q = process_after n items t i in
       return_held n i (words_at n items) t q.auxiliary.since q.auxiliary.round

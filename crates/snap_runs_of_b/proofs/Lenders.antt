@@ -1,15 +1,11 @@
 -- A borrowed view of a scan of B is that of an embedded scan of the lender within it.
-use Rattle.std.specs.Prelude.{ℕ, List, refl}
-use Rattle.std.proofs.Common.{arith}
-use Rattle.snap_semantics.specs.declared.process.Item.{Item}
-use Rattle.snap_semantics.specs.declared.process.Op.{Op}
-use Rattle.snap_semantics.specs.declared.process.Op.TheVariants.{Scan, Update}
+use Rattle.std.proofs.Common.{ℕ, List, refl, arith}
+use Rattle.snap_runs.proofs.Common.{Item, Op, Scan, Update}
 use Rattle.snap_runs.proofs.Algorithm.{when_busy}
 use Rattle.snap_runs.proofs.Steady.{Steady}
 use Rattle.snap_runs.proofs.Single as single
 use Rattle.snap_runs_of_b.specs.Promises.{run_of, BorrowedViewsAreLent}
 use Rattle.snap_runs_of_b.proofs.Algorithm.{L28, IsLate, counter}
-use Rattle.snap_runs_of_b.proofs.Flows.{embeds}
 use Rattle.snap_runs_of_b.proofs.Kept.{frame, kept, calm_kept}
 use Rattle.snap_runs_of_b.proofs.Runs.{registers_at, process_after, invariant, invariant_of, stage_of}
 
@@ -26,10 +22,6 @@ lends n items fits = record {
   views = λ t k word value. refl;
   late = tt;
   not_late = not_late;
-  embeds = λ t i short one.
-      let q = process_after n items t i in
-      when_busy _ _ (λ d k well. embeds n i d (registers_at n items t) q.variables k well.0) q.control
-      (invariant_of n items fits t i (omega arith) one).well;
 }
 
 pub borrowed_views_are_lent_lem : BorrowedViewsAreLent

@@ -1,18 +1,15 @@
 -- Each numbered line of listing B has the effect of its move in
 -- `Algorithm.antt`, and does not trap where it has what it needs.
-use Rattle.std.specs.Prelude.{◌≡◌, ℕ, zero, suc, ◌+◌, ◌-◌, ◌<◌, ◌≤◌, max, Bool, true, false, not, ◌&&◌, ◌||◌, List}
-use Rattle.std.specs.Prelude.{[], ◌∷◌, take, map, Option, Some, None, Result, Ok, Err, slice_index, slice_index_or}
-use Rattle.std.specs.Prelude.{slice_set, nat_eq, nat_lt, if◌then◌else◌, refl}
+use Rattle.std.proofs.Common.{◌≡◌, ℕ, zero, suc, ◌+◌, ◌-◌, ◌<◌, ◌≤◌, max, Bool, true, false, not, ◌&&◌, ◌||◌, List, []}
+use Rattle.std.proofs.Common.{◌∷◌, take, map, Option, Some, None, Result, Ok, Err, slice_index, slice_index_or}
+use Rattle.std.proofs.Common.{slice_set, nat_eq, nat_lt, if◌then◌else◌, refl, sym, ◌∙◌, ap, arith}
 use Rattle.std.specs.List.{list_all}
-use Rattle.std.proofs.Common.{sym, ◌∙◌, ap, arith}
 use Rattle.std.proofs.lemmas.List.{map-set}
-use Rattle.snap_words.specs.Shape.{Counts, IsOneOf}
-use Rattle.snap_words.specs.Word.{Word, no_word}
+use Rattle.snap_runs.proofs.Common.{Counts, IsOneOf, Word, no_word, places_to, all_true, first_true, Activity, Op}
 use Rattle.snap_semantics.specs.Answers.{◌>>=◌}
 use Rattle.snap_semantics.specs.Source.{instr_at}
 use Rattle.snap_semantics.specs.State.{Memory, NameMap}
-use Rattle.snap_semantics.specs.Table.{places_to, Goes, Effect, effect_at, all_true, first_true, first_goes}
-use Rattle.snap_semantics.specs.Table.{bit_value, with_bits, with_bit_at}
+use Rattle.snap_semantics.specs.Table.{Goes, Effect, effect_at, first_goes, bit_value, with_bits, with_bit_at}
 use Rattle.snap_words.specs.Kind.{is_bit}
 use Rattle.snap_semantics.specs.Value.{Context, at_place, place_in, term_value, relates}
 use Rattle.snap_semantics.specs.Value.{comparison_holds, condition_holds}
@@ -20,10 +17,8 @@ use Rattle.snap_semantics.specs.declared.instr.Index.TheVariants.{Place}
 use Rattle.snap_semantics.specs.declared.instr.Relation.{Relation}
 use Rattle.snap_semantics.specs.declared.instr.Relation.TheVariants.{Equal, Different}
 use Rattle.snap_semantics.specs.declared.instr.Term.TheVariants.{Row}
-use Rattle.snap_semantics.specs.declared.process.Activity.{Activity}
 use Rattle.snap_semantics.specs.declared.process.Cause.{Cause}
 use Rattle.snap_semantics.specs.declared.process.Cause.TheVariants.{Owner}
-use Rattle.snap_semantics.specs.declared.process.Op.{Op}
 use Rattle.snap_runs.proofs.Algorithm.{Mode, Scanning, Embedded, Updating, op_of, link_of, To, shown}
 use Rattle.snap_runs.proofs.Computing.{if_true, le_true, same_number, if_of}
 use Rattle.snap_runs.proofs.Held.{word_at}
@@ -223,7 +218,6 @@ pub each_line : (n me : ℕ) (d : Mode) (m : Registers) (p : Variables) (k : Pro
     at_line (record { n = n; w = n }) me (op_of d) m (link_of (number back) d) (number k) p
     ≡ shown (algorithm n) m (move n me d m p k)
 each_line n me d m p L10 one s h = bind_ok _ _ _ _ (each_ok _ (λ k. 0) 1 n (λ k low high. refl)) refl
-each_line n me d m p L11 one s h = refl
 each_line n me d m p L12 one s h =
     bind_ok _ _ _ _ (place_ok (max n n) p.j (in_places n p.j h)) (bind_ok _ _ _ _ (place_ok n p.j h)
     (ap (λ (ws : Words). left_words m p d 13 ((listing.a, ws) ∷ (listing.b, map plain p.b) ∷ []))
@@ -270,7 +264,6 @@ each_line n me d m p L22 one s h =
     bind_ok _ _ _ _
     (each_ok _ (at_limit p) 1 n (λ k low high. bind_ok _ _ _ _ (row_ok n me d p k (in_range n k low high)) refl))
     (first_shown n d m p (first_true 1 (map (at_limit p) (places_to n))))
-each_line n me d m p L23 one s h = refl
 each_line n me d m p L25 one s h = ap (left_view m p d 26) (plain_taken plain (λ w. refl) n p.b)
 each_line n me Scanning m p L26 one s h = refl
 each_line n me (Embedded w x) m p L26 one s h = refl
@@ -281,7 +274,6 @@ each_line n me d m p L27 one s h =
 each_line n me Scanning m p L28 one s h = refl
 each_line n me (Embedded w x) m p L28 one s h = refl
 each_line n me (Updating w x) m p L28 one s h = absurd s
-each_line n me d m p L40 one s h = refl
 each_line n me d m p L41 one s h = bind_ok _ _ _ _ (place_ok n p.j h) (bind_ok _ _ _ _ (place_ok n me one) refl)
 each_line n me d m p L42 one s h = bind_ok _ _ _ _ (place_ok (max n n) p.j (in_places n p.j h)) refl
 each_line n me d m p L43 one s h =
@@ -290,7 +282,6 @@ each_line n me d m p L43 one s h =
 each_line n me Scanning m p L44 one s h = absurd s
 each_line n me (Embedded w x) m p L44 one s h = absurd s
 each_line n me (Updating w x) m p L44 one s h = refl
-each_line n me d m p L45 one s h = refl
 each_line n me Scanning m p L46 one s h = absurd s
 each_line n me (Embedded w x) m p L46 one s h = absurd s
 each_line n me (Updating w x) m p L46 one s h =
@@ -303,3 +294,4 @@ each_line n me (Updating w x) m p L46 one s h =
 each_line n me Scanning m p L47 one s h = absurd s
 each_line n me (Embedded w x) m p L47 one s h = absurd s
 each_line n me (Updating w x) m p L47 one s h = refl
+each_line n me d m p k one s h = refl

@@ -1,8 +1,6 @@
 -- The moves that a scan of B sees are writes since its previous double collect.
-use Rattle.std.specs.Prelude.{◌≡◌, ℕ, ◌+◌, ◌<◌, ◌≤◌, not, List, length, refl}
-use Rattle.std.proofs.Common.{subst, arith}
-use Rattle.snap_words.specs.Shape.{IsOneOf}
-use Rattle.snap_semantics.specs.declared.process.Item.{Item}
+use Rattle.std.proofs.Common.{◌≡◌, ℕ, ◌+◌, ◌<◌, ◌≤◌, not, List, length, refl, subst, arith}
+use Rattle.snap_runs.proofs.Common.{IsOneOf, Item}
 use Rattle.snap_runs.proofs.Algorithm.{Mode, At}
 use Rattle.snap_runs.proofs.Computing.{not_true, raised_only}
 use Rattle.snap_runs.proofs.Held.{word_at, seq_at}

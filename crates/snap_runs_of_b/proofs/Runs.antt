@@ -1,10 +1,7 @@
 -- The runs of B without crashes: the invariant at each state.
-use Rattle.std.specs.Prelude.{◌≡◌, ℕ, ◌-◌, ◌≤◌, max, List, [], length, replicate, refl}
-use Rattle.std.proofs.Common.{sym, ◌∙◌, ap, subst, arith}
+use Rattle.std.proofs.Common.{◌≡◌, ℕ, ◌-◌, ◌≤◌, max, List, [], length, replicate, refl, sym, ◌∙◌, ap, subst, arith}
 use Rattle.std.proofs.lemmas.List.{get_or-replicate, length-replicate}
-use Rattle.snap_words.specs.Shape.{IsOneOf}
-use Rattle.snap_words.specs.Word.{Word, no_word}
-use Rattle.snap_semantics.specs.declared.process.Item.{Item}
+use Rattle.snap_runs.proofs.Common.{IsOneOf, Word, no_word, Item}
 use Rattle.snap_runs.proofs.Algorithm.{Mode, At, when_busy, first_process, first_state, typed_at, item_at, typed_state}
 use Rattle.snap_runs.proofs.Embedding as embed
 use Rattle.snap_runs.proofs.Held.{word_at, seq_at, at_most_now}
@@ -23,19 +20,20 @@ use Rattle.snap_runs_of_b.proofs.Preserve.{item_keeps}
 use Rattle.snap_runs_of_b.proofs.Stage.{Stage}
 use Rattle.snap_runs.proofs.Steady.{Steady}
 
--- the state after t items, and its words
-abbrev pub state_at : ℕ → List Item → ℕ → State
-state_at n items t = typed_state (algorithm n) items t
+module _ (n : ℕ) (items : List Item) (t : ℕ) where
+  -- the state after t items, and its words
+  abbrev pub state_at : State
+  state_at = typed_state (algorithm n) items t
 
-abbrev pub words_at : ℕ → List Item → ℕ → Words
-words_at n items t = (state_at n items t).memory.words
+  abbrev pub words_at : Words
+  words_at = (state_at).memory.words
 
-abbrev pub registers_at : ℕ → List Item → ℕ → Registers
-registers_at n items t = (state_at n items t).memory
+  abbrev pub registers_at : Registers
+  registers_at = (state_at).memory
 
--- process i after t items
-abbrev pub process_after : ℕ → List Item → ℕ → ℕ → Process
-process_after n items t i = typed_at (algorithm n) (state_at n items t) i
+  -- process i after t items
+  abbrev pub process_after : ℕ → Process
+  process_after i = typed_at (algorithm n) (state_at) i
 
 -- the invariant at the start
 zero_at : (n k : ℕ) → IsOneOf n k → word_at (first_words n n) k ≡ first_word n
@@ -49,117 +47,112 @@ zero_bit n k count h le =
     let z : place (replicate count 0) k ≡ 0 = get_or-replicate count (k - 1) 0 0 (omega arith) in
     omega arith
 
-process_at_the_start : (n : ℕ) (history : ℕ → Words) (i : ℕ) → IsOneOf n i → history 0 ≡ first_words n n →
-    ProcessInvariant n 0 history (first_registers n) i (first_process (algorithm n))
-process_at_the_start n history i h now =
-    let z : (k : ℕ) → IsOneOf n k → seq_at (first_words n n) k ≡ 0 = λ k j. ap (λ (y : Word). y.seq) (zero_at n k j) in
-    record {
-      well = tt;
-      sized = (
-        length-replicate (max n n) (first_word n),
-        length-replicate (max n n) (first_word n),
-        length-replicate (max n n) 0,
-        length-replicate (max n n) 0,
-        length-replicate (max n n) 0,
-      );
-      bits = (omega arith, λ k j. zero_bit n k (max n n) j (omega arith));
-      toggle = sym (ap (λ (y : Word). y.toggle) (zero_at n i h));
-      since_le = omega arith;
-      low = λ k j. at_most_now history (first_words n n) 0 now k;
-      opened = λ k j. at_most_now history (first_words n n) 0 now k;
-      views = λ k j more. absurd (let e = z k j in omega arith);
-      asked = λ k j lt. absurd (omega arith);
-      late = λ k j lt. absurd (omega arith);
-      stage = tt;
-      self = λ inside. absurd inside;
-      counts = tt;
-      wrote = tt;
-    }
+module _ (n : ℕ) (history : ℕ → Words) where
+  process_at_the_start : (i : ℕ) → IsOneOf n i → history 0 ≡ first_words n n →
+      ProcessInvariant n 0 history (first_registers n) i (first_process (algorithm n))
+  process_at_the_start i h now =
+      let z : (k : ℕ) → IsOneOf n k → seq_at (first_words n n) k ≡ 0 = λ k j. ap (λ (y : Word). y.seq) (zero_at n k j) in
+      record {
+        well = tt;
+        sized = (
+          length-replicate (max n n) (first_word n),
+          length-replicate (max n n) (first_word n),
+          length-replicate (max n n) 0,
+          length-replicate (max n n) 0,
+          length-replicate (max n n) 0,
+        );
+        bits = (omega arith, λ k j. zero_bit n k (max n n) j (omega arith));
+        toggle = sym (ap (λ (y : Word). y.toggle) (zero_at n i h));
+        since_le = omega arith;
+        low = λ k j. at_most_now history (first_words n n) 0 now k;
+        opened = λ k j. at_most_now history (first_words n n) 0 now k;
+        views = λ k j more. absurd (let e = z k j in omega arith);
+        asked = λ k j lt. absurd (omega arith);
+        late = λ k j lt. absurd (omega arith);
+        stage = tt;
+        self = λ inside. absurd inside;
+        counts = tt;
+        wrote = tt;
+      }
 
-at_the_start : (n : ℕ) (history : ℕ → Words) → history 0 ≡ first_words n n →
-    Invariant n 0 history (first_state (algorithm n))
-at_the_start n history now =
-    let at = embed.first_process_is (algorithm n) in
-    record {
-      size = length-replicate n (first_word n);
-      square = record {
-        rows = length-replicate n (replicate n 0);
-        bits = λ i h. ap length (zero_row n i h) ∙ length-replicate n 0;
-      };
-      bits =
-          λ k i jk ji.
-          subst (λ (w : Word). handshake_at w i ≤ 1) (sym (zero_at n k jk)) (zero_bit n i n ji (omega arith));
-      each =
-          λ i h. subst (λ (q : Process). ProcessInvariant n 0 history (first_registers n) i q) (sym (at i h))
-          (process_at_the_start n history i h now);
-      start =
-          λ i k h j. subst (λ (q : Process).
-          PairInvariant history (first_words n n) (typed_at (algorithm n) (first_state (algorithm n)) i) q k)
-          (sym (at k j)) (λ making lt. absurd making);
-      answered =
-          λ i k h j. subst
-          (λ (q : Process). Answered n (first_words n n) i q k (typed_at (algorithm n) (first_state (algorithm n)) k))
-          (sym (at i h)) (λ lt more. absurd (omega arith));
-    }
+  at_the_start : history 0 ≡ first_words n n → Invariant n 0 history (first_state (algorithm n))
+  at_the_start now =
+      let at = embed.first_process_is (algorithm n) in
+      record {
+        size = length-replicate n (first_word n);
+        square = record {
+          rows = length-replicate n (replicate n 0);
+          bits = λ i h. ap length (zero_row n i h) ∙ length-replicate n 0;
+        };
+        bits =
+            λ k i jk ji.
+            subst (λ (w : Word). handshake_at w i ≤ 1) (sym (zero_at n k jk)) (zero_bit n i n ji (omega arith));
+        each =
+            λ i h. subst (λ (q : Process). ProcessInvariant n 0 history (first_registers n) i q) (sym (at i h))
+            (process_at_the_start i h now);
+        start =
+            λ i k h j. subst (λ (q : Process).
+            PairInvariant history (first_words n n) (typed_at (algorithm n) (first_state (algorithm n)) i) q k)
+            (sym (at k j)) (λ making lt. absurd making);
+        answered =
+            λ i k h j. subst
+            (λ (q : Process). Answered n (first_words n n) i q k (typed_at (algorithm n) (first_state (algorithm n)) k))
+            (sym (at i h)) (λ lt more. absurd (omega arith));
+      }
 
--- the invariant at state t, where each state up to there has had as many words
-pub invariant : (n : ℕ) (items : List Item) → Steady (run_of n items) → (t : ℕ) → t ≤ length items →
-    Invariant n t (words_at n items) (state_at n items t)
-invariant n items fits =
-    let a = algorithm n in
-    at_each (λ t. Invariant n t (words_at n items) (state_at n items t))
-    (λ t. length (words_at n items t) ≡ n) (length items)
-    (at_the_start n (words_at n items) refl) (λ t h. h.size)
-    (λ t lt sizes h. item_keeps n t (words_at n items) (state_at n items t) (item_at items t) sizes
-    (embed.count a items t) (embed.one_at a items fits t lt) h refl)
+module _ (n : ℕ) (items : List Item) (fits : Steady (run_of n items)) where
+  -- the invariant at state t, where each state up to there has had as many words
+  pub invariant : (t : ℕ) → t ≤ length items → Invariant n t (words_at n items) (state_at n items t)
+  invariant =
+      let a = algorithm n in
+      at_each (λ t. Invariant n t (words_at n items) (state_at n items t))
+      (λ t. length (words_at n items t) ≡ n) (length items)
+      (at_the_start n (words_at n items) refl) (λ t h. h.size)
+      (λ t lt sizes h. item_keeps n t (words_at n items) (state_at n items t) (item_at items t) sizes
+      (embed.count a items t) (embed.one_at a items fits t lt) h refl)
 
-pub invariant_of : (n : ℕ) (items : List Item) → Steady (run_of n items) → (t i : ℕ) → t ≤ length items → IsOneOf n i →
-    ProcessInvariant n t (words_at n items) (registers_at n items t) i (process_after n items t i)
-invariant_of n items fits t i h one = (invariant n items fits t h).each i one
+  pub invariant_of : (t i : ℕ) → t ≤ length items → IsOneOf n i →
+      ProcessInvariant n t (words_at n items) (registers_at n items t) i (process_after n items t i)
+  invariant_of t i h one = (invariant t h).each i one
 
-pub all_do : (n : ℕ) (items : List Item) → Steady (run_of n items) → embed.AllDo (algorithm n) items
-all_do n items fits t i h one =
-    let o = invariant_of n items fits t i (omega arith) one in
-    does n i (registers_at n items t) (process_after n items t i).variables (process_after n items t i).control one
-    (invariant n items fits t (omega arith)).bits o.sized o.bits o.well
+  pub all_do : embed.AllDo (algorithm n) items
+  all_do t i h one =
+      let o = invariant_of t i (omega arith) one in
+      does n i (registers_at n items t) (process_after n items t i).variables (process_after n items t i).control one
+      (invariant t (omega arith)).bits o.sized o.bits o.well
 
--- the run, with what is known of its lines
-abbrev pub execution : (n : ℕ) (items : List Item) → Steady (run_of n items) → scans.Execution (algorithm n) lines
-execution n items fits = record {
-  items = items;
-  fits = fits;
-  does = all_do n items fits;
-  flows = λ t i h one.
+  -- the run, with what is known of its lines
+  abbrev pub execution : scans.Execution (algorithm n) lines
+  execution = record {
+    items = items;
+    fits = fits;
+    does = all_do;
+    flows = λ t i h one.
+        let q = process_after n items t i in
+        when_busy _ _ (λ d k well. flows n i d (registers_at n items t) q.variables k well.0) q.control
+        (invariant_of t i (omega arith) one).well;
+    wrote = λ t i h one. (invariant_of t i h one).wrote;
+  }
+
+module _ (n : ℕ) (items : List Item) (fits : Steady (run_of n items)) (t i : ℕ) (d : Mode) (k : ProgramCounter)
+    (le : t ≤ length items) (one : IsOneOf n i) (e : (process_after n items t i).control ≡ At d k) where
+  -- what a process at a line keeps there
+  pub well_of : IsLineOf i d k × VariablesAt n i (process_after n items t i).variables k
+  well_of = subst (ControlWell n i (process_after n items t i).variables) e (invariant_of n items fits t i le one).well
+
+  -- a busy process is at the stage of its line
+  pub stage_of : Stage n i (words_at n items) t (process_after n items t i).auxiliary.since
+      (process_after n items t i).auxiliary.round (words_at n items t) (process_after n items t i).variables k
+  stage_of =
       let q = process_after n items t i in
-      when_busy _ _ (λ d k well. flows n i d (registers_at n items t) q.variables k well.0) q.control
-      (invariant_of n items fits t i (omega arith) one).well;
-  wrote = λ t i h one. (invariant_of n items fits t i h one).wrote;
-}
+      subst (λ (p : Control).
+      StageAt n i (words_at n items) t q.auxiliary.since q.auxiliary.round (words_at n items t) q.variables p)
+      e (invariant_of n items fits t i le one).stage
 
--- what a process at a line keeps there
-pub well_of : (n : ℕ) (items : List Item) → Steady (run_of n items) → (t i : ℕ) (d : Mode) (k : ProgramCounter) →
-    t ≤ length items → IsOneOf n i → (process_after n items t i).control ≡ At d k →
-    IsLineOf i d k × VariablesAt n i (process_after n items t i).variables k
-well_of n items fits t i d k le one e =
-    subst (ControlWell n i (process_after n items t i).variables) e (invariant_of n items fits t i le one).well
-
--- a busy process is at the stage of its line
-pub stage_of : (n : ℕ) (items : List Item) → Steady (run_of n items) → (t i : ℕ) (d : Mode) (k : ProgramCounter) →
-    t ≤ length items → IsOneOf n i → (process_after n items t i).control ≡ At d k →
-    Stage n i (words_at n items) t (process_after n items t i).auxiliary.since
-    (process_after n items t i).auxiliary.round (words_at n items t) (process_after n items t i).variables k
-stage_of n items fits t i d k le one e =
-    let q = process_after n items t i in
-    subst (λ (p : Control).
-    StageAt n i (words_at n items) t q.auxiliary.since q.auxiliary.round (words_at n items t) q.variables p)
-    e (invariant_of n items fits t i le one).stage
-
--- the counts of a process at a line are those of the line
-pub counts_of : (n : ℕ) (items : List Item) → Steady (run_of n items) → (t i : ℕ) (d : Mode) (k : ProgramCounter) →
-    t ≤ length items → IsOneOf n i → (process_after n items t i).control ≡ At d k →
-    Count n i (process_after n items t i).variables (process_after n items t i).auxiliary.own
-    (process_after n items t i).auxiliary.collects (process_after n items t i).auxiliary.tested k
-counts_of n items fits t i d k le one e =
-    let q = process_after n items t i in
-    subst (CountAt n i q.variables q.auxiliary.own q.auxiliary.collects q.auxiliary.tested) e
-    (invariant_of n items fits t i le one).counts
+  -- the counts of a process at a line are those of the line
+  pub counts_of : Count n i (process_after n items t i).variables (process_after n items t i).auxiliary.own
+      (process_after n items t i).auxiliary.collects (process_after n items t i).auxiliary.tested k
+  counts_of =
+      let q = process_after n items t i in
+      subst (CountAt n i q.variables q.auxiliary.own q.auxiliary.collects q.auxiliary.tested) e
+      (invariant_of n items fits t i le one).counts

@@ -1,12 +1,9 @@
 -- How far a scan of B has come at each line, and that each line takes it on.
-use Rattle.std.specs.Prelude.{◌≡◌, ℕ, zero, suc, ◌+◌, ◌-◌, ◌≤◌, max, true, false, List, take, length, map, nat_eq}
-use Rattle.std.specs.Prelude.{nat_lt, if◌then◌else◌, slice_set, refl}
-use Rattle.std.proofs.Common.{sym, ◌∙◌, subst, arith, inl, inr}
+use Rattle.std.proofs.Common.{◌≡◌, ℕ, zero, suc, ◌+◌, ◌-◌, ◌≤◌, max, true, false, List, take, length, map, nat_eq}
+use Rattle.std.proofs.Common.{nat_lt, if◌then◌else◌, slice_set, refl, sym, ◌∙◌, subst, arith, inl, inr}
 use Rattle.std.proofs.lemmas.Bool.{cases_eq}
 use Rattle.std.proofs.lemmas.List.{length-set}
-use Rattle.snap_words.specs.Shape.{IsOneOf}
-use Rattle.snap_words.specs.Word.{Word}
-use Rattle.snap_semantics.specs.Table.{places_to, all_true, first_true}
+use Rattle.snap_runs.proofs.Common.{IsOneOf, Word, places_to, all_true, first_true}
 use Rattle.snap_runs.proofs.Algorithm.{Mode, Scanning, Embedded, Updating, To, Begin, Answer, Finish}
 use Rattle.snap_runs.proofs.Computing.{not_lt, same_from, either, whether}
 use Rattle.snap_runs.proofs.Held.{word_at, Held, held_wider, Beside, beside_wider, Lent, lent_wider, data_of, seq_at}
@@ -43,71 +40,69 @@ reach n p L20 = n + 1
 reach n p L21 = n + 1
 reach n p _ = 0
 
--- How far a scan has come at each line.
-abbrev pub Stage : ℕ → ℕ → (ℕ → Words) → ℕ → ℕ → ℕ → Words → Variables → ProgramCounter → Type 0
--- a double collect starts no earlier than its scan
-Stage n i history t since round words p L10 =
-    (k : ℕ) → IsOneOf n k → seq_at (history since) k ≤ seq_at (history round) k
--- every move that the scan has seen is a write between its start and the start of this
--- double collect (Low), up to line 21
-Stage n i history t since round words p L11 = Low n (history since) (history round) p.moved
--- the bits for the places below j are put; the copy of word j is read, its bit drawn, then put
-Stage n i history t since round words p L12 =
-    Low n (history since) (history round) p.moved × PutTo n (history round) words p.g p.marks i p.j
-Stage n i history t since round words p L13 =
-    Low n (history since) (history round) p.moved × PutTo n (history round) words p.g p.marks i p.j
-    × Copied (history round) words p.a p.j
-Stage n i history t since round words p L14 =
-    Low n (history since) (history round) p.moved × PutTo n (history round) words p.g p.marks i p.j
-    × Drawn (history round) words p.g i p.j
-Stage n i history t since round words p L15 =
-    Low n (history since) (history round) p.moved × PutTo n (history round) words p.g p.marks i (p.j + 1)
--- all bits are put; the first collect has come to place j, and goes on
-Stage n i history t since round words p L16 =
-    Low n (history since) (history round) p.moved × PutTo n (history round) words p.g p.marks i (n + 1)
-    × First n (history round) words p.marks p.a p.j
-Stage n i history t since round words p L17 =
-    Low n (history since) (history round) p.moved × PutTo n (history round) words p.g p.marks i (n + 1)
-    × First n (history round) words p.marks p.a (p.j + 1)
--- the second collect has come to place j, and goes on; there is a state between the two collects
-Stage n i history t since round words p L18 =
-    Low n (history since) (history round) p.moved × PutTo n (history round) words p.g p.marks i (n + 1)
-    × Between n i history t since round words p.g p.marks p.a p.b p.j
-Stage n i history t since round words p L19 =
-    Low n (history since) (history round) p.moved × PutTo n (history round) words p.g p.marks i (n + 1)
-    × Between n i history t since round words p.g p.marks p.a p.b (p.j + 1)
--- both collects are done
-Stage n i history t since round words p L20 =
-    Low n (history since) (history round) p.moved × Between n i history t since round words p.g p.marks p.a p.b (n + 1)
-Stage n i history t since round words p L21 =
-    Low n (history since) (history round) p.moved × Between n i history t since round words p.g p.marks p.a p.b (n + 1)
--- the double collect has failed, and its moves are counted
-Stage n i history t since round words p L22 = Gained n history t since words p.moved p.b
--- no process has moved up to the limit
-Stage n i history t since round words p L23 = Low n (history since) words p.moved
--- the double collect has passed: the second copies were the values at some state since the scan's start; then so is s
-Stage n i history t since round words p L25 = Held history t since (data_of (take n p.b))
-Stage n i history t since round words p L26 = Held history t since p.s
--- process j has moved up to the limit, so that the view beside its second write will do; then so does s
-Stage n i history t since round words p L27 = Gained n history t since words p.moved p.b × (moved_at p p.j ≡ limit)
-Stage n i history t since round words p L28 =
-    Held history t since p.s × ((k : ℕ) × IsOneOf n k × Beside history t since k p.s)
--- an update has no view yet, then that of its embedded scan, until it has written it
-Stage n i history t since round words p L40 = Unit {0}
-Stage n i history t since round words p L41 = Unit {0}
-Stage n i history t since round words p L42 = Unit {0}
-Stage n i history t since round words p L43 = Unit {0}
-Stage n i history t since round words p L44 = Unit {0}
-Stage n i history t since round words p L45 = Held history t since p.s
-Stage n i history t since round words p L46 = Held history t since p.s
-Stage n i history t since round words p L47 = Unit {0}
+module _ (n i : ℕ) (history : ℕ → Words) (t since round : ℕ) (words : Words) (p : Variables) where
+  -- How far a scan has come at each line.
+  abbrev pub Stage : ProgramCounter → Type 0
+  -- a double collect starts no earlier than its scan
+  Stage L10 = (k : ℕ) → IsOneOf n k → seq_at (history since) k ≤ seq_at (history round) k
+  -- every move that the scan has seen is a write between its start and the start of this
+  -- double collect (Low), up to line 21
+  Stage L11 = Low n (history since) (history round) p.moved
+  -- the bits for the places below j are put; the copy of word j is read, its bit drawn, then put
+  Stage L12 = Low n (history since) (history round) p.moved × PutTo n (history round) words p.g p.marks i p.j
+  Stage L13 =
+      Low n (history since) (history round) p.moved × PutTo n (history round) words p.g p.marks i p.j
+      × Copied (history round) words p.a p.j
+  Stage L14 =
+      Low n (history since) (history round) p.moved × PutTo n (history round) words p.g p.marks i p.j
+      × Drawn (history round) words p.g i p.j
+  Stage L15 = Low n (history since) (history round) p.moved × PutTo n (history round) words p.g p.marks i (p.j + 1)
+  -- all bits are put; the first collect has come to place j, and goes on
+  Stage L16 =
+      Low n (history since) (history round) p.moved × PutTo n (history round) words p.g p.marks i (n + 1)
+      × First n (history round) words p.marks p.a p.j
+  Stage L17 =
+      Low n (history since) (history round) p.moved × PutTo n (history round) words p.g p.marks i (n + 1)
+      × First n (history round) words p.marks p.a (p.j + 1)
+  -- the second collect has come to place j, and goes on; there is a state between the two collects
+  Stage L18 =
+      Low n (history since) (history round) p.moved × PutTo n (history round) words p.g p.marks i (n + 1)
+      × Between n i history t since round words p.g p.marks p.a p.b p.j
+  Stage L19 =
+      Low n (history since) (history round) p.moved × PutTo n (history round) words p.g p.marks i (n + 1)
+      × Between n i history t since round words p.g p.marks p.a p.b (p.j + 1)
+  -- both collects are done
+  Stage L20 =
+      Low n (history since) (history round) p.moved × Between n i history t since round words p.g p.marks p.a p.b (n + 1)
+  Stage L21 =
+      Low n (history since) (history round) p.moved × Between n i history t since round words p.g p.marks p.a p.b (n + 1)
+  -- the double collect has failed, and its moves are counted
+  Stage L22 = Gained n history t since words p.moved p.b
+  -- no process has moved up to the limit
+  Stage L23 = Low n (history since) words p.moved
+  -- the double collect has passed: the second copies were the values at some state since the scan's start; then so is s
+  Stage L25 = Held history t since (data_of (take n p.b))
+  Stage L26 = Held history t since p.s
+  -- process j has moved up to the limit, so that the view beside its second write will do; then so does s
+  Stage L27 = Gained n history t since words p.moved p.b × (moved_at p p.j ≡ limit)
+  Stage L28 = Held history t since p.s × ((k : ℕ) × IsOneOf n k × Beside history t since k p.s)
+  -- an update has no view yet, then that of its embedded scan, until it has written it
+  Stage L40 = Unit {0}
+  Stage L41 = Unit {0}
+  Stage L42 = Unit {0}
+  Stage L43 = Unit {0}
+  Stage L44 = Unit {0}
+  Stage L45 = Held history t since p.s
+  Stage L46 = Held history t since p.s
+  Stage L47 = Unit {0}
 
--- What a line leaves is the stage of the next one; a scan's answer was held since its start.
-abbrev pub StageMove : ℕ → ℕ → (ℕ → Words) → ℕ → ℕ → ℕ → Move → Type 0
-StageMove n i history t since round (To d m p k) = Stage n i history t since round m.words p k
-StageMove n i history t since round (Begin d p k) = k ≡ L10
-StageMove n i history t since round (Answer v) = Held history t since v
-StageMove n i history t since round Finish = Unit {0}
+module _ (n i : ℕ) (history : ℕ → Words) (t since round : ℕ) where
+  -- What a line leaves is the stage of the next one; a scan's answer was held since its start.
+  abbrev pub StageMove : Move → Type 0
+  StageMove (To d m p k) = Stage n i history t since round m.words p k
+  StageMove (Begin d p k) = k ≡ L10
+  StageMove (Answer v) = Held history t since v
+  StageMove Finish = Unit {0}
 
 -- what is known of every process, at whichever line it stands
 pub record Known (n i : ℕ) (history : ℕ → Words) (t since round : ℕ) (words : Words) (d : Mode) (p : Variables)
@@ -125,122 +120,117 @@ pub record Known (n i : ℕ) (history : ℕ → Words) (t since round : ℕ) (wo
   pub line : IsLineOf i d k
   pub keeps : VariablesAt n i p k
 
--- each line takes the scan on; a line that starts another double collect does so at item t
-pub stage_move : (n i : ℕ) (history : ℕ → Words) (t since round : ℕ) (d : Mode)
-    (m : Registers) (p : Variables) (k : ProgramCounter) →
-    Known n i history t since round m.words d p k → Stage n i history t since round m.words p k →
-    StageMove n i history t since (if restarts k then t else round) (move n i d m p k)
-stage_move n i history t since round d m p L10 known h =
-    λ k ik. rw (for_each_at n (λ k. 0) p.moved k ik)
-    (let l : seq_at (history since) k ≤ seq_at (history round) k = h k ik in omega arith)
-stage_move n i history t since round d m p L11 known h = (h, λ k ik lt. absurd (omega arith))
-stage_move n i history t since round d m p L12 known h =
-    let len : length p.a ≡ max n n = known.sized.0 in
-    let one : IsOneOf n p.j = known.keeps.0 in
-    let set : word_at (slice_set p.a (p.j - 1) (word_at m.words p.j)) p.j ≡ word_at m.words p.j =
-    word_set p.a p.j p.j (word_at m.words p.j) one.0 (omega arith) refl in (
-      h.0,
-      h.1,
-      subst (λ (w : Word). (seq_at (history round) p.j ≤ w.seq) × IsLaterWord w (word_at m.words p.j)) (sym set)
-          (known.opened p.j one, inr refl),
-    )
-stage_move n i history t since round d m p L13 known h =
-    let len : length p.g ≡ max n n = known.sized.2 in
-    let one : IsOneOf n p.j = known.keeps.0 in (
-      h.0,
-      put_drawn n (history round) m.words p.g p.marks i p.j (handshake_at (word_at p.a p.j) i) one h.1,
-      just_drawn n (history round) m.words p.g p.a i p.j one (omega arith) h.2.0 h.2.1,
-    )
-stage_move n i history t since round d m p L14 known h =
-    let len : length p.marks ≡ max n n = known.sized.4 in
-    let one : IsOneOf n p.j = known.keeps.0 in
-    (h.0, put_more n (history round) m.words p.g p.marks i p.j one (omega arith) (known.opened p.j one) h.2 h.1)
-stage_move n i history t since round d m p L15 known h =
-    either (StageMove n i history t since round) (nat_lt p.j n) _ _ (λ b. h)
-    (λ b.
-    (h.0, λ k ik lt. h.1 k ik (let ge : n ≤ p.j = not_lt p.j n b in omega arith), λ k ik lt. absurd (omega arith)))
-stage_move n i history t since round d m p L16 known h =
-    let len : length p.a ≡ max n n = known.sized.0 in
-    (h.0, h.1, first_more n (history round) m.words p.g p.marks i p.a p.j known.keeps.0 (omega arith) h.1 h.2)
-stage_move n i history t since round d m p L17 known h =
-    either (StageMove n i history t since round) (nat_lt p.j n) _ _ (λ b. h)
-    (λ b. (
-      h.0,
-      h.1,
-      second_starts n i history t since round m.words p.g p.marks p.a p.b known.now known.since_le
-          (λ k ik lt. h.2 k ik (let ge : n ≤ p.j = not_lt p.j n b in omega arith)),
-    ))
-stage_move n i history t since round d m p L18 known h =
-    let len : length p.b ≡ max n n = known.sized.1 in (
-      h.0,
-      h.1,
-      second_more n i history t since round m.words p.g p.marks p.a p.b p.j known.keeps.0
-          (omega arith) known.now known.since_le known.views h.1 known.late h.2,
-    )
-stage_move n i history t since round d m p L19 known h =
-    let inside : IsOneOf n p.j = known.keeps.0 in
-    either (StageMove n i history t since round) (nat_lt p.j n) _ _ (λ b. h)
-    (λ b. (
-      h.0,
-      subst (λ x. Between n i history t since round m.words p.g p.marks p.a p.b (x + 1))
-          (let ge : n ≤ p.j = not_lt p.j n b in let e : p.j ≡ n = omega arith in e) h.2,
-    ))
-stage_move n i history t since round d m p L20 known h =
-    let len : length p.b ≡ max n n = known.sized.1 in
-    either (StageMove n i history t since round) (all_true (map (agree i p) (places_to n))) _ _
-    (λ b. passed n i history t since round m.words p known.lengths (omega arith) h.1 b) (λ b. h)
-stage_move n i history t since round d m p L21 known h =
-    let s : Second n i history t since round m.words p.g p.marks p.a p.b (n + 1) (history h.1.0) = h.1.3 in
-    record {
-      low = λ k ik.
-          let first = s.first k ik in
-          let fresh : seq_at (history round) k ≤ place p.marks k = first.fresh in
-          let marked : place p.marks k ≤ seq_at p.a k = first.marked in
-          let le : seq_at p.a k ≤ seq_at p.b k =
-          follows_seq (word_at p.a k) (word_at p.b k) (copies_follow n i history t since round m.words p h.1 k ik) in
-          rw (for_each_at n (counted i p) p.moved k ik)
-          (gained_at (seq_at (history since) k) (seq_at (history round) k) (seq_at p.b k) (moved_at p k)
-          (agree i p k) (h.0 k ik) (omega arith)
-          (moved_since n i history t since round m.words p h.1 k ik));
-      before = λ k ik. (s.read k ik (omega arith)).before;
-      views = λ k ik. s.views k ik (omega arith);
-    }
-stage_move n i history t since round d m p L22 known h =
-    whether (StageMove n i history t since round) (first_to d m p) (first_true 1 (map (at_limit p) (places_to n)))
-    (λ e k ik. let low : floor (history since) p.moved k ≤ seq_at p.b k = h.low k ik in
-    let le : seq_at p.b k ≤ seq_at m.words k = follows_seq (word_at p.b k) (word_at m.words k) (h.before k ik) in
-    omega arith)
-    (λ k e. (
-      record { low = h.low; before = h.before; views = h.views },
-      same_from (moved_at p k) limit (first_found 1 n (at_limit p) k e).2,
-    ))
-stage_move n i history t since round d m p L23 known h =
-    let one : p.j ≡ 1 = known.keeps.0 in
-    (subst (λ words. Low n (history since) words p.moved) (sym known.now) h, λ k ik lt. absurd (omega arith))
-stage_move n i history t since round d m p L25 known h = h
-stage_move n i history t since round Scanning m p L26 known h = h
-stage_move n i history t since round (Embedded word value) m p L26 known h = h
-stage_move n i history t since round (Updating word value) m p L26 known h = absurd known.line
-stage_move n i history t since round d m p L27 known h =
-    let g : Gained n history t since m.words p.moved p.b = h.0 in
-    let l : floor (history since) p.moved p.j ≤ seq_at p.b p.j = g.low p.j known.keeps in
-    let two : moved_at p p.j ≡ limit = h.1 in
-    let lent : Lent history t since p.j (word_at p.b p.j).view = g.views p.j known.keeps (omega arith) in
-    (lent.0, (p.j, known.keeps, lent.1))
-stage_move n i history t since round Scanning m p L28 known h = h.0
-stage_move n i history t since round (Embedded word value) m p L28 known h = h.0
-stage_move n i history t since round (Updating word value) m p L28 known h = absurd known.line
-stage_move n i history t since round d m p L40 known h = tt
-stage_move n i history t since round d m p L41 known h = tt
-stage_move n i history t since round d m p L42 known h = tt
-stage_move n i history t since round d m p L43 known h =
-    either (StageMove n i history t since round) (nat_lt p.j n) _ _ (λ b. tt) (λ b. tt)
-stage_move n i history t since round Scanning m p L44 known h = absurd known.line
-stage_move n i history t since round (Embedded word value) m p L44 known h = absurd known.line
-stage_move n i history t since round (Updating word value) m p L44 known h = refl
-stage_move n i history t since round d m p L45 known h = h
-stage_move n i history t since round d m p L46 known h = tt
-stage_move n i history t since round d m p L47 known h = tt
+module _ (n i : ℕ) (history : ℕ → Words) (t since round : ℕ) where
+  -- each line takes the scan on; a line that starts another double collect does so at item t
+  pub stage_move : (d : Mode) (m : Registers) (p : Variables) (k : ProgramCounter) →
+      Known n i history t since round m.words d p k → Stage n i history t since round m.words p k →
+      StageMove n i history t since (if restarts k then t else round) (move n i d m p k)
+  stage_move d m p L10 known h =
+      λ k ik. rw (for_each_at n (λ k. 0) p.moved k ik)
+      (let l : seq_at (history since) k ≤ seq_at (history round) k = h k ik in omega arith)
+  stage_move d m p L11 known h = (h, λ k ik lt. absurd (omega arith))
+  stage_move d m p L12 known h =
+      let len : length p.a ≡ max n n = known.sized.0 in
+      let one : IsOneOf n p.j = known.keeps.0 in
+      let set : word_at (slice_set p.a (p.j - 1) (word_at m.words p.j)) p.j ≡ word_at m.words p.j =
+      word_set p.a p.j p.j (word_at m.words p.j) one.0 (omega arith) refl in (
+        h.0,
+        h.1,
+        subst (λ (w : Word). (seq_at (history round) p.j ≤ w.seq) × IsLaterWord w (word_at m.words p.j)) (sym set)
+            (known.opened p.j one, inr refl),
+      )
+  stage_move d m p L13 known h =
+      let len : length p.g ≡ max n n = known.sized.2 in
+      let one : IsOneOf n p.j = known.keeps.0 in (
+        h.0,
+        put_drawn n (history round) m.words p.g p.marks i p.j (handshake_at (word_at p.a p.j) i) one h.1,
+        just_drawn n (history round) m.words p.g p.a i p.j one (omega arith) h.2.0 h.2.1,
+      )
+  stage_move d m p L14 known h =
+      let len : length p.marks ≡ max n n = known.sized.4 in
+      let one : IsOneOf n p.j = known.keeps.0 in
+      (h.0, put_more n (history round) m.words p.g p.marks i p.j one (omega arith) (known.opened p.j one) h.2 h.1)
+  stage_move d m p L15 known h =
+      either (StageMove n i history t since round) (nat_lt p.j n) _ _ (λ b. h)
+      (λ b.
+      (h.0, λ k ik lt. h.1 k ik (let ge : n ≤ p.j = not_lt p.j n b in omega arith), λ k ik lt. absurd (omega arith)))
+  stage_move d m p L16 known h =
+      let len : length p.a ≡ max n n = known.sized.0 in
+      (h.0, h.1, first_more n (history round) m.words p.g p.marks i p.a p.j known.keeps.0 (omega arith) h.1 h.2)
+  stage_move d m p L17 known h =
+      either (StageMove n i history t since round) (nat_lt p.j n) _ _ (λ b. h)
+      (λ b. (
+        h.0,
+        h.1,
+        second_starts n i history t since round m.words p.g p.marks p.a p.b known.now known.since_le
+            (λ k ik lt. h.2 k ik (let ge : n ≤ p.j = not_lt p.j n b in omega arith)),
+      ))
+  stage_move d m p L18 known h =
+      let len : length p.b ≡ max n n = known.sized.1 in (
+        h.0,
+        h.1,
+        second_more n i history t since round m.words p.g p.marks p.a p.b p.j known.keeps.0
+            (omega arith) known.now known.since_le known.views h.1 known.late h.2,
+      )
+  stage_move d m p L19 known h =
+      let inside : IsOneOf n p.j = known.keeps.0 in
+      either (StageMove n i history t since round) (nat_lt p.j n) _ _ (λ b. h)
+      (λ b. (
+        h.0,
+        subst (λ x. Between n i history t since round m.words p.g p.marks p.a p.b (x + 1))
+            (let ge : n ≤ p.j = not_lt p.j n b in let e : p.j ≡ n = omega arith in e) h.2,
+      ))
+  stage_move d m p L20 known h =
+      let len : length p.b ≡ max n n = known.sized.1 in
+      either (StageMove n i history t since round) (all_true (map (agree i p) (places_to n))) _ _
+      (λ b. passed n i history t since round m.words p known.lengths (omega arith) h.1 b) (λ b. h)
+  stage_move d m p L21 known h =
+      let s : Second n i history t since round m.words p.g p.marks p.a p.b (n + 1) (history h.1.0) = h.1.3 in
+      record {
+        low = λ k ik.
+            let first = s.first k ik in
+            let fresh : seq_at (history round) k ≤ place p.marks k = first.fresh in
+            let marked : place p.marks k ≤ seq_at p.a k = first.marked in
+            let le : seq_at p.a k ≤ seq_at p.b k =
+            follows_seq (word_at p.a k) (word_at p.b k) (copies_follow n i history t since round m.words p h.1 k ik) in
+            rw (for_each_at n (counted i p) p.moved k ik)
+            (gained_at (seq_at (history since) k) (seq_at (history round) k) (seq_at p.b k) (moved_at p k)
+            (agree i p k) (h.0 k ik) (omega arith)
+            (moved_since n i history t since round m.words p h.1 k ik));
+        before = λ k ik. (s.read k ik (omega arith)).before;
+        views = λ k ik. s.views k ik (omega arith);
+      }
+  stage_move d m p L22 known h =
+      whether (StageMove n i history t since round) (first_to d m p) (first_true 1 (map (at_limit p) (places_to n)))
+      (λ e k ik. let low : floor (history since) p.moved k ≤ seq_at p.b k = h.low k ik in
+      let le : seq_at p.b k ≤ seq_at m.words k = follows_seq (word_at p.b k) (word_at m.words k) (h.before k ik) in
+      omega arith)
+      (λ k e. (
+        record { low = h.low; before = h.before; views = h.views },
+        same_from (moved_at p k) limit (first_found 1 n (at_limit p) k e).2,
+      ))
+  stage_move d m p L23 known h =
+      let one : p.j ≡ 1 = known.keeps.0 in
+      (subst (λ words. Low n (history since) words p.moved) (sym known.now) h, λ k ik lt. absurd (omega arith))
+  stage_move d m p L25 known h = h
+  stage_move Scanning m p L26 known h = h
+  stage_move (Embedded word value) m p L26 known h = h
+  stage_move (Updating word value) m p L26 known h = absurd known.line
+  stage_move d m p L27 known h =
+      let g : Gained n history t since m.words p.moved p.b = h.0 in
+      let l : floor (history since) p.moved p.j ≤ seq_at p.b p.j = g.low p.j known.keeps in
+      let two : moved_at p p.j ≡ limit = h.1 in
+      let lent : Lent history t since p.j (word_at p.b p.j).view = g.views p.j known.keeps (omega arith) in
+      (lent.0, (p.j, known.keeps, lent.1))
+  stage_move Scanning m p L28 known h = h.0
+  stage_move (Embedded word value) m p L28 known h = h.0
+  stage_move (Updating word value) m p L28 known h = absurd known.line
+  stage_move d m p L43 known h = either (StageMove n i history t since round) (nat_lt p.j n) _ _ (λ b. tt) (λ b. tt)
+  stage_move Scanning m p L44 known h = absurd known.line
+  stage_move (Embedded word value) m p L44 known h = absurd known.line
+  stage_move (Updating word value) m p L44 known h = refl
+  stage_move d m p L45 known h = h
+  stage_move d m p k known h = tt
 
 -- Time passes and other processes write.
 pub low_kept : (n : ℕ) (base words words' : Words) (moved : List ℕ) → Grows n words words' →
@@ -249,34 +239,35 @@ low_kept n base words words' moved g h k ik =
     let l : floor base moved k ≤ seq_at words k = h k ik in
     let le : seq_at words k ≤ seq_at words' k = follows_seq (word_at words k) (word_at words' k) (g k ik) in omega arith
 
-drawn_kept : (n : ℕ) (opening words words' : Words) (g : List ℕ) (i k : ℕ) → IsOneOf n k → Grows n words words' →
-    Drawn opening words g i k → Drawn opening words' g i k
-drawn_kept n opening words words' g i k ik grows h = record {
-  word = h.word;
-  fresh = h.fresh;
-  before = follows_trans h.word (word_at words k) (word_at words' k) h.before (grows k ik);
-  says = h.says;
-}
+module _ (n : ℕ) (opening words words' : Words) where
+  drawn_kept : (g : List ℕ) (i k : ℕ) → IsOneOf n k → Grows n words words' → Drawn opening words g i k →
+      Drawn opening words' g i k
+  drawn_kept g i k ik grows h = record {
+    word = h.word;
+    fresh = h.fresh;
+    before = follows_trans h.word (word_at words k) (word_at words' k) h.before (grows k ik);
+    says = h.says;
+  }
 
-put_kept : (n : ℕ) (opening words words' : Words) (g marks : List ℕ) (i j : ℕ) → Grows n words words' →
-    PutTo n opening words g marks i j → PutTo n opening words' g marks i j
-put_kept n opening words words' g marks i j grows h k ik lt =
-    let old : Put opening words g marks i k = h k ik lt in
-    record {
-      drawn = drawn_kept n opening words words' g i k ik grows old.drawn;
-      fresh = old.fresh;
-      before = (let b : place marks k ≤ seq_at words k = old.before in
-          let le : seq_at words k ≤ seq_at words' k = follows_seq (word_at words k) (word_at words' k) (grows k ik) in
-          omega arith);
-    }
+  put_kept : (g marks : List ℕ) (i j : ℕ) → Grows n words words' → PutTo n opening words g marks i j →
+      PutTo n opening words' g marks i j
+  put_kept g marks i j grows h k ik lt =
+      let old : Put opening words g marks i k = h k ik lt in
+      record {
+        drawn = drawn_kept g i k ik grows old.drawn;
+        fresh = old.fresh;
+        before = (let b : place marks k ≤ seq_at words k = old.before in
+            let le : seq_at words k ≤ seq_at words' k = follows_seq (word_at words k) (word_at words' k) (grows k ik) in
+            omega arith);
+      }
 
-first_kept : (n : ℕ) (opening words words' : Words) (marks : List ℕ) (a : Words) (j : ℕ) → Grows n words words' →
-    First n opening words marks a j → First n opening words' marks a j
-first_kept n opening words words' marks a j grows h k ik lt = record {
-  fresh = (h k ik lt).fresh;
-  marked = (h k ik lt).marked;
-  before = follows_trans (word_at a k) (word_at words k) (word_at words' k) (h k ik lt).before (grows k ik);
-}
+  first_kept : (marks : List ℕ) (a : Words) (j : ℕ) → Grows n words words' → First n opening words marks a j →
+      First n opening words' marks a j
+  first_kept marks a j grows h k ik lt = record {
+    fresh = (h k ik lt).fresh;
+    marked = (h k ik lt).marked;
+    before = follows_trans (word_at a k) (word_at words k) (word_at words' k) (h k ik lt).before (grows k ik);
+  }
 
 between_kept : (n i : ℕ) (history : ℕ → Words) (t t' since round : ℕ) (words words' : Words)
     (g marks : List ℕ) (a b : Words) (j : ℕ) → t ≤ t' → Grows n words words' →
@@ -321,73 +312,59 @@ line_place n i p L13 h = h.0
 line_place n i p L14 h = h.0
 line_place n i p k h = tt
 
-pub stage_kept : (n i : ℕ) (history : ℕ → Words) (t t' since round : ℕ) (words words' : Words)
-    (p : Variables) (k : ProgramCounter) → t ≤ t' → Grows n words words' → IsLinePlace n p k →
-    Stage n i history t since round words p k → Stage n i history t' since round words' p k
-stage_kept n i history t t' since round words words' p L10 le g one h = h
-stage_kept n i history t t' since round words words' p L11 le g one h = h
-stage_kept n i history t t' since round words words' p L12 le g one h =
-    (h.0, put_kept n (history round) words words' p.g p.marks i p.j g h.1)
-stage_kept n i history t t' since round words words' p L13 le g one h = (
-  h.0,
-  put_kept n (history round) words words' p.g p.marks i p.j g h.1,
-  (h.2.0, follows_trans (word_at p.a p.j) (word_at words p.j) (word_at words' p.j) h.2.1 (g p.j one)),
-)
-stage_kept n i history t t' since round words words' p L14 le g one h = (
-  h.0,
-  put_kept n (history round) words words' p.g p.marks i p.j g h.1,
-  drawn_kept n (history round) words words' p.g i p.j one g h.2,
-)
-stage_kept n i history t t' since round words words' p L15 le g one h =
-    (h.0, put_kept n (history round) words words' p.g p.marks i (p.j + 1) g h.1)
-stage_kept n i history t t' since round words words' p L16 le g one h = (
-  h.0,
-  put_kept n (history round) words words' p.g p.marks i (n + 1) g h.1,
-  first_kept n (history round) words words' p.marks p.a p.j g h.2,
-)
-stage_kept n i history t t' since round words words' p L17 le g one h = (
-  h.0,
-  put_kept n (history round) words words' p.g p.marks i (n + 1) g h.1,
-  first_kept n (history round) words words' p.marks p.a (p.j + 1) g h.2,
-)
-stage_kept n i history t t' since round words words' p L18 le g one h = (
-  h.0,
-  put_kept n (history round) words words' p.g p.marks i (n + 1) g h.1,
-  between_kept n i history t t' since round words words' p.g p.marks p.a p.b p.j le g h.2,
-)
-stage_kept n i history t t' since round words words' p L19 le g one h = (
-  h.0,
-  put_kept n (history round) words words' p.g p.marks i (n + 1) g h.1,
-  between_kept n i history t t' since round words words' p.g p.marks p.a p.b (p.j + 1) le g h.2,
-)
-stage_kept n i history t t' since round words words' p L20 le g one h =
-    (h.0, between_kept n i history t t' since round words words' p.g p.marks p.a p.b (n + 1) le g h.1)
-stage_kept n i history t t' since round words words' p L21 le g one h =
-    (h.0, between_kept n i history t t' since round words words' p.g p.marks p.a p.b (n + 1) le g h.1)
-stage_kept n i history t t' since round words words' p L22 le g one h =
-    gained_kept n history t t' since words words' p.moved p.b le g h
-stage_kept n i history t t' since round words words' p L23 le g one h =
-    low_kept n (history since) words words' p.moved g h
-stage_kept n i history t t' since round words words' p L25 le g one h =
-    held_wider history t t' since since (data_of (take n p.b)) le (omega arith) h
-stage_kept n i history t t' since round words words' p L26 le g one h =
-    held_wider history t t' since since p.s le (omega arith) h
-stage_kept n i history t t' since round words words' p L27 le g one h =
-    (gained_kept n history t t' since words words' p.moved p.b le g h.0, h.1)
-stage_kept n i history t t' since round words words' p L28 le g one h = (
-  held_wider history t t' since since p.s le (omega arith) h.0,
-  (h.1.0, h.1.1, beside_wider history t t' since h.1.0 p.s le h.1.2),
-)
-stage_kept n i history t t' since round words words' p L40 le g one h = tt
-stage_kept n i history t t' since round words words' p L41 le g one h = tt
-stage_kept n i history t t' since round words words' p L42 le g one h = tt
-stage_kept n i history t t' since round words words' p L43 le g one h = tt
-stage_kept n i history t t' since round words words' p L44 le g one h = tt
-stage_kept n i history t t' since round words words' p L45 le g one h =
-    held_wider history t t' since since p.s le (omega arith) h
-stage_kept n i history t t' since round words words' p L46 le g one h =
-    held_wider history t t' since since p.s le (omega arith) h
-stage_kept n i history t t' since round words words' p L47 le g one h = tt
+module _ (n i : ℕ) (history : ℕ → Words) (t t' since round : ℕ) (words words' : Words) (p : Variables) where
+  pub stage_kept : (k : ProgramCounter) → t ≤ t' → Grows n words words' → IsLinePlace n p k →
+      Stage n i history t since round words p k → Stage n i history t' since round words' p k
+  stage_kept L10 le g one h = h
+  stage_kept L11 le g one h = h
+  stage_kept L12 le g one h = (h.0, put_kept n (history round) words words' p.g p.marks i p.j g h.1)
+  stage_kept L13 le g one h = (
+    h.0,
+    put_kept n (history round) words words' p.g p.marks i p.j g h.1,
+    (h.2.0, follows_trans (word_at p.a p.j) (word_at words p.j) (word_at words' p.j) h.2.1 (g p.j one)),
+  )
+  stage_kept L14 le g one h = (
+    h.0,
+    put_kept n (history round) words words' p.g p.marks i p.j g h.1,
+    drawn_kept n (history round) words words' p.g i p.j one g h.2,
+  )
+  stage_kept L15 le g one h = (h.0, put_kept n (history round) words words' p.g p.marks i (p.j + 1) g h.1)
+  stage_kept L16 le g one h = (
+    h.0,
+    put_kept n (history round) words words' p.g p.marks i (n + 1) g h.1,
+    first_kept n (history round) words words' p.marks p.a p.j g h.2,
+  )
+  stage_kept L17 le g one h = (
+    h.0,
+    put_kept n (history round) words words' p.g p.marks i (n + 1) g h.1,
+    first_kept n (history round) words words' p.marks p.a (p.j + 1) g h.2,
+  )
+  stage_kept L18 le g one h = (
+    h.0,
+    put_kept n (history round) words words' p.g p.marks i (n + 1) g h.1,
+    between_kept n i history t t' since round words words' p.g p.marks p.a p.b p.j le g h.2,
+  )
+  stage_kept L19 le g one h = (
+    h.0,
+    put_kept n (history round) words words' p.g p.marks i (n + 1) g h.1,
+    between_kept n i history t t' since round words words' p.g p.marks p.a p.b (p.j + 1) le g h.2,
+  )
+  stage_kept L20 le g one h =
+      (h.0, between_kept n i history t t' since round words words' p.g p.marks p.a p.b (n + 1) le g h.1)
+  stage_kept L21 le g one h =
+      (h.0, between_kept n i history t t' since round words words' p.g p.marks p.a p.b (n + 1) le g h.1)
+  stage_kept L22 le g one h = gained_kept n history t t' since words words' p.moved p.b le g h
+  stage_kept L23 le g one h = low_kept n (history since) words words' p.moved g h
+  stage_kept L25 le g one h = held_wider history t t' since since (data_of (take n p.b)) le (omega arith) h
+  stage_kept L26 le g one h = held_wider history t t' since since p.s le (omega arith) h
+  stage_kept L27 le g one h = (gained_kept n history t t' since words words' p.moved p.b le g h.0, h.1)
+  stage_kept L28 le g one h = (
+    held_wider history t t' since since p.s le (omega arith) h.0,
+    (h.1.0, h.1.1, beside_wider history t t' since h.1.0 p.s le h.1.2),
+  )
+  stage_kept L45 le g one h = held_wider history t t' since since p.s le (omega arith) h
+  stage_kept L46 le g one h = held_wider history t t' since since p.s le (omega arith) h
+  stage_kept k le g one h = tt
 
 -- The lengths of the copies and the rows, the bits for the readers, and the toggle: it is the word's, but for line 46.
 abbrev pub IsToggle : ℕ → ℕ → ℕ → Type 0
@@ -397,14 +374,15 @@ IsToggle (suc ahead) toggle t = t ≡ toggle → ⊥
 abbrev pub Toggled : ℕ → Variables → ProgramCounter → Type 0
 Toggled toggle p k = IsToggle (writes k) toggle p.t
 
-abbrev pub Fit : ℕ → ℕ → Variables → ProgramCounter → Type 0
-Fit n toggle p k = Sized n p × SaysBits n p × Toggled toggle p k
+module _ (n toggle : ℕ) where
+  abbrev pub Fit : Variables → ProgramCounter → Type 0
+  Fit p k = Sized n p × SaysBits n p × Toggled toggle p k
 
-abbrev pub FitMove : ℕ → ℕ → Move → Type 0
-FitMove n toggle (To d m p k) = Fit n toggle p k
-FitMove n toggle (Begin d p k) = Fit n toggle p k
-FitMove n toggle (Answer v) = Unit {0}
-FitMove n toggle Finish = Unit {0}
+  abbrev pub FitMove : Move → Type 0
+  FitMove (To d m p k) = Fit p k
+  FitMove (Begin d p k) = Fit p k
+  FitMove (Answer v) = Unit {0}
+  FitMove Finish = Unit {0}
 
 bits_set : (n : ℕ) (row : List ℕ) (j v : ℕ) → IsOneOf n j → n ≤ length row → v ≤ 1 → Bits n row →
     Bits n (slice_set row (j - 1) v)
@@ -435,43 +413,44 @@ flipped_differs zero h e = absurd (omega arith)
 flipped_differs (suc zero) h e = absurd (omega arith)
 flipped_differs (suc (suc t)) h e = absurd (omega arith)
 
-pub fit_move : (n i toggle : ℕ) (d : Mode) (m : Registers) (p : Variables) (k : ProgramCounter) → IsLineOf i d k →
-    VariablesAt n i p k → writes k ≡ 0 → Fit n toggle p k → FitMove n toggle (move n i d m p k)
-fit_move n i toggle d m p L12 s keeps quiet h =
-    ((length-set p.a (p.j - 1) (word_at m.words p.j) ∙ h.0.0, h.0.1, h.0.2, h.0.3, h.0.4), h.1, h.2)
-fit_move n i toggle d m p L13 s keeps quiet h =
-    ((h.0.0, h.0.1, length-set p.g (p.j - 1) (handshake_at (word_at p.a p.j) i) ∙ h.0.2, h.0.3, h.0.4), h.1, h.2)
-fit_move n i toggle d m p L14 s keeps quiet h =
-    ((h.0.0, h.0.1, h.0.2, h.0.3, length-set p.marks (p.j - 1) (seq_at m.words p.j) ∙ h.0.4), h.1, h.2)
-fit_move n i toggle d m p L15 s keeps quiet h = either (FitMove n toggle) (nat_lt p.j n) _ _ (λ b. h) (λ b. h)
-fit_move n i toggle d m p L16 s keeps quiet h =
-    ((length-set p.a (p.j - 1) (word_at m.words p.j) ∙ h.0.0, h.0.1, h.0.2, h.0.3, h.0.4), h.1, h.2)
-fit_move n i toggle d m p L17 s keeps quiet h = either (FitMove n toggle) (nat_lt p.j n) _ _ (λ b. h) (λ b. h)
-fit_move n i toggle d m p L18 s keeps quiet h =
-    ((h.0.0, length-set p.b (p.j - 1) (word_at m.words p.j) ∙ h.0.1, h.0.2, h.0.3, h.0.4), h.1, h.2)
-fit_move n i toggle d m p L19 s keeps quiet h = either (FitMove n toggle) (nat_lt p.j n) _ _ (λ b. h) (λ b. h)
-fit_move n i toggle d m p L20 s keeps quiet h =
-    either (FitMove n toggle) (all_true (map (agree i p) (places_to n))) _ _ (λ b. h) (λ b. h)
-fit_move n i toggle d m p L22 s keeps quiet h =
-    whether (FitMove n toggle) (first_to d m p) (first_true 1 (map (at_limit p) (places_to n))) (λ e. h) (λ k e. h)
-fit_move n i toggle Scanning m p L26 s keeps quiet h = tt
-fit_move n i toggle (Embedded word value) m p L26 s keeps quiet h = h
-fit_move n i toggle (Updating word value) m p L26 s keeps quiet h = absurd s
-fit_move n i toggle Scanning m p L28 s keeps quiet h = tt
-fit_move n i toggle (Embedded word value) m p L28 s keeps quiet h = h
-fit_move n i toggle (Updating word value) m p L28 s keeps quiet h = absurd s
-fit_move n i toggle d m p L42 s keeps quiet h =
-    let len : length p.f ≡ max n n = h.0.3 in (
-      (h.0.0, h.0.1, h.0.2, length-set p.f (p.j - 1) (answer p.x) ∙ h.0.3, h.0.4),
-      (h.1.0, bits_set n p.f p.j (answer p.x) keeps (omega arith) (answer_bit p.x) h.1.1),
-      h.2,
-    )
-fit_move n i toggle d m p L43 s keeps quiet h = either (FitMove n toggle) (nat_lt p.j n) _ _ (λ b. h) (λ b. h)
-fit_move n i toggle Scanning m p L44 s keeps quiet h = absurd s
-fit_move n i toggle (Embedded word value) m p L44 s keeps quiet h = absurd s
-fit_move n i toggle (Updating word value) m p L44 s keeps quiet h = h
-fit_move n i toggle d m p L45 s keeps quiet h =
-    (h.0, (flipped_bit p.t h.1.0, h.1.1), λ e. flipped_differs p.t h.1.0 (e ∙ sym h.2))
-fit_move n i toggle d m p L46 s keeps quiet h = absurd (omega arith)
-fit_move n i toggle d m p L47 s keeps quiet h = tt
-fit_move n i toggle d m p k s keeps quiet h = h
+module _ (n i toggle : ℕ) where
+  pub fit_move : (d : Mode) (m : Registers) (p : Variables) (k : ProgramCounter) → IsLineOf i d k →
+      VariablesAt n i p k → writes k ≡ 0 → Fit n toggle p k → FitMove n toggle (move n i d m p k)
+  fit_move d m p L12 s keeps quiet h =
+      ((length-set p.a (p.j - 1) (word_at m.words p.j) ∙ h.0.0, h.0.1, h.0.2, h.0.3, h.0.4), h.1, h.2)
+  fit_move d m p L13 s keeps quiet h =
+      ((h.0.0, h.0.1, length-set p.g (p.j - 1) (handshake_at (word_at p.a p.j) i) ∙ h.0.2, h.0.3, h.0.4), h.1, h.2)
+  fit_move d m p L14 s keeps quiet h =
+      ((h.0.0, h.0.1, h.0.2, h.0.3, length-set p.marks (p.j - 1) (seq_at m.words p.j) ∙ h.0.4), h.1, h.2)
+  fit_move d m p L15 s keeps quiet h = either (FitMove n toggle) (nat_lt p.j n) _ _ (λ b. h) (λ b. h)
+  fit_move d m p L16 s keeps quiet h =
+      ((length-set p.a (p.j - 1) (word_at m.words p.j) ∙ h.0.0, h.0.1, h.0.2, h.0.3, h.0.4), h.1, h.2)
+  fit_move d m p L17 s keeps quiet h = either (FitMove n toggle) (nat_lt p.j n) _ _ (λ b. h) (λ b. h)
+  fit_move d m p L18 s keeps quiet h =
+      ((h.0.0, length-set p.b (p.j - 1) (word_at m.words p.j) ∙ h.0.1, h.0.2, h.0.3, h.0.4), h.1, h.2)
+  fit_move d m p L19 s keeps quiet h = either (FitMove n toggle) (nat_lt p.j n) _ _ (λ b. h) (λ b. h)
+  fit_move d m p L20 s keeps quiet h =
+      either (FitMove n toggle) (all_true (map (agree i p) (places_to n))) _ _ (λ b. h) (λ b. h)
+  fit_move d m p L22 s keeps quiet h =
+      whether (FitMove n toggle) (first_to d m p) (first_true 1 (map (at_limit p) (places_to n))) (λ e. h) (λ k e. h)
+  fit_move Scanning m p L26 s keeps quiet h = tt
+  fit_move (Embedded word value) m p L26 s keeps quiet h = h
+  fit_move (Updating word value) m p L26 s keeps quiet h = absurd s
+  fit_move Scanning m p L28 s keeps quiet h = tt
+  fit_move (Embedded word value) m p L28 s keeps quiet h = h
+  fit_move (Updating word value) m p L28 s keeps quiet h = absurd s
+  fit_move d m p L42 s keeps quiet h =
+      let len : length p.f ≡ max n n = h.0.3 in (
+        (h.0.0, h.0.1, h.0.2, length-set p.f (p.j - 1) (answer p.x) ∙ h.0.3, h.0.4),
+        (h.1.0, bits_set n p.f p.j (answer p.x) keeps (omega arith) (answer_bit p.x) h.1.1),
+        h.2,
+      )
+  fit_move d m p L43 s keeps quiet h = either (FitMove n toggle) (nat_lt p.j n) _ _ (λ b. h) (λ b. h)
+  fit_move Scanning m p L44 s keeps quiet h = absurd s
+  fit_move (Embedded word value) m p L44 s keeps quiet h = absurd s
+  fit_move (Updating word value) m p L44 s keeps quiet h = h
+  fit_move d m p L45 s keeps quiet h =
+      (h.0, (flipped_bit p.t h.1.0, h.1.1), λ e. flipped_differs p.t h.1.0 (e ∙ sym h.2))
+  fit_move d m p L46 s keeps quiet h = absurd (omega arith)
+  fit_move d m p L47 s keeps quiet h = tt
+  fit_move d m p k s keeps quiet h = h

@@ -1,11 +1,8 @@
 -- Line 46 of B, the only line that changes a word, keeps the invariant.
-use Rattle.std.specs.Prelude.{◌≡◌, ◌≢◌, ℕ, suc, ◌+◌, ◌-◌, ◌<◌, ◌≤◌, length, refl}
-use Rattle.std.proofs.Common.{sym, ◌∙◌, ap, subst, arith, inl, inr}
+use Rattle.std.proofs.Common.{◌≡◌, ◌≢◌, ℕ, suc, ◌+◌, ◌-◌, ◌<◌, ◌≤◌, length, refl, sym, ◌∙◌, ap, subst, arith, inl, inr}
 use Rattle.std.proofs.lemmas.Bool.{cases_eq}
 use Rattle.std.proofs.lemmas.List.{length-set, get_or-take}
-use Rattle.snap_words.specs.Shape.{IsOneOf}
-use Rattle.snap_words.specs.Word.{Word}
-use Rattle.snap_semantics.specs.declared.process.Outcome.{Outcome}
+use Rattle.snap_runs.proofs.Common.{IsOneOf, Word, Outcome}
 use Rattle.snap_runs.proofs.Algorithm.{Mode, Scanning, Embedded, Updating, At, New}
 use Rattle.snap_runs.proofs.Algorithm.{typed_at, changed, stepped_auxiliary}
 use Rattle.snap_runs.proofs.Flow.{IsInScan, not_update}

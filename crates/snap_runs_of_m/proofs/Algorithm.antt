@@ -1,17 +1,13 @@
 -- The processes of M by its own lines and locals, over a memory that counts what is done.
-use Rattle.std.specs.Prelude.{◌≡◌, ◌<◌, ◌⊎◌, ℕ, ◌+◌, ◌-◌, ◌≤◌, max, Bool, true, false, not, ◌&&◌, List, [], ◌∷◌, take}
-use Rattle.std.specs.Prelude.{map, Option, Some, None, nat_eq, nat_lt, if◌then◌else◌, slice_index, slice_index_or}
-use Rattle.std.specs.Prelude.{slice_set, replicate, refl}
-use Rattle.std.proofs.Common.{ap}
+use Rattle.std.proofs.Common.{◌≡◌, ◌<◌, ◌⊎◌, ℕ, ◌+◌, ◌-◌, ◌≤◌, max, Bool, true, false, not, ◌&&◌, List, [], ◌∷◌, take}
+use Rattle.std.proofs.Common.{map, Option, Some, None, nat_eq, nat_lt, nat_le, if◌then◌else◌, slice_index}
+use Rattle.std.proofs.Common.{slice_index_or, slice_set, replicate, refl, ap}
 use Rattle.snap_words.specs.Kind.{initial_word}
-use Rattle.snap_words.specs.Shape.{Counts, IsOneOf}
-use Rattle.snap_words.specs.Word.{Word}
+use Rattle.snap_runs.proofs.Common.{Counts, IsOneOf, Word, Op, Scan, Update, places_to, all_true, first_true}
 use Rattle.snap_words.specs.declared.kind.KindTag.TheVariants as kind
-use Rattle.snap_semantics.specs.declared.process.Op.{Op}
-use Rattle.snap_semantics.specs.declared.process.Op.TheVariants.{Scan, Update}
 use Rattle.snap_semantics.specs.State.{Locals, Memory}
 use Rattle.snap_semantics.specs.Value.{Context}
-use Rattle.snap_semantics.specs.Table.{places_to, all_true, first_true, bit_at, with_bit_at, entry}
+use Rattle.snap_semantics.specs.Table.{bit_at, with_bit_at, entry}
 use Rattle.snap_runs.proofs.Held.{word_at, seq_at}
 use Rattle.snap_runs.proofs.Algorithm as typed
 use Rattle.snap_runs.proofs.Algorithm.{Mode, Scanning, Embedded, Updating, value_of, To, Begin, Answer, Finish}
@@ -343,16 +339,7 @@ Needs n w me d p _ = Unit {0}
 
 -- the lines of an update outside its scan
 abbrev pub in_update : ProgramCounter → Bool
-in_update L50 = true
-in_update L51 = true
-in_update L52 = true
-in_update L53 = true
-in_update L54 = true
-in_update L55 = true
-in_update L56 = true
-in_update L57 = true
-in_update L58 = true
-in_update _ = false
+in_update k = nat_le 50 (number k)
 
 abbrev pub IsLineOf : ℕ → Mode → ProgramCounter → Type 0
 IsLineOf w d k = IsLine (IsOneOf w) (in_update k) d
@@ -454,6 +441,12 @@ algorithm n w = record {
 
 -- What the lines are for.
 
+-- the scan returns its view
+abbrev pub IsReturn : ProgramCounter → Type 0
+IsReturn L35 = Unit {0}
+IsReturn L37 = Unit {0}
+IsReturn _ = ⊥
+
 -- the view is made and not yet put
 abbrev pub IsLate : ProgramCounter → Type 0
 IsLate L55 = Unit {0}
@@ -467,7 +460,7 @@ written_at _ = 0
 abbrev pub lines : Lines Variables ProgramCounter Registers
 lines = record {
   Kept = λ m m'. m'.words ≡ m.words;
-  IsReturn = λ k. (k ≡ L35) ⊎ (k ≡ L37);
+  IsReturn = IsReturn;
   answer = λ p. p.s;
   IsWrite = λ k. k ≡ L57;
   IsLast = λ k. k ≡ L58;

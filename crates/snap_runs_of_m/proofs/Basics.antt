@@ -1,7 +1,6 @@
 -- Lemmas for the proof of M about numbers, a bit that is turned, and places of rows and tables of bits that are set.
-use Rattle.std.specs.Prelude.{◌≡◌, ◌≢◌, ℕ, ◌-◌, ◌<◌, ◌≤◌, ◌⊎◌, true, false, List, [], length, slice_index}
-use Rattle.std.specs.Prelude.{slice_index_or, slice_set, nat_eq, nat_lt, refl}
-use Rattle.std.proofs.Common.{sym, ◌∙◌, ap, arith, inl, inr}
+use Rattle.std.proofs.Common.{◌≡◌, ◌≢◌, ℕ, ◌-◌, ◌<◌, ◌≤◌, ◌⊎◌, true, false, List, [], length, slice_index}
+use Rattle.std.proofs.Common.{slice_index_or, slice_set, nat_eq, nat_lt, refl, sym, ◌∙◌, ap, arith, inl, inr}
 use Rattle.std.proofs.lemmas.Bool.{cases_eq}
 use Rattle.std.proofs.lemmas.Grind.{common_steps, get_or-set_at}
 use Rattle.std.proofs.lemmas.List.{get_or-set_other, length-set}

@@ -1,11 +1,8 @@
 -- The numbers that a run of M keeps, in registers and locals, stay within their limits.
-use Rattle.std.specs.Prelude.{◌≡◌, ℕ, suc, ◌+◌, ◌-◌, ◌<◌, ◌≤◌, max, List, [], length}
-use Rattle.std.specs.Prelude.{map, not, nat_eq, nat_lt, slice_set, refl}
+use Rattle.std.proofs.Common.{◌≡◌, ℕ, suc, ◌+◌, ◌-◌, ◌<◌, ◌≤◌, max, List, [], length, map, not, nat_eq, nat_lt}
+use Rattle.std.proofs.Common.{slice_set, refl, sym, subst, arith, inl}
 use Rattle.std.specs.List.{AllByRecursion}
-use Rattle.std.proofs.Common.{sym, subst, arith, inl}
-use Rattle.snap_words.specs.Shape.{IsOneOf}
-use Rattle.snap_words.specs.Word.{Word}
-use Rattle.snap_semantics.specs.declared.process.Item.{Item}
+use Rattle.snap_runs.proofs.Common.{IsOneOf, Word, Item}
 use Rattle.snap_runs.specs.Bounded.{IsValue, AtMost, IsBit, IsWordWithin, HasLine, StaysWithin}
 use Rattle.snap_runs.proofs.Algorithm.{Mode, Scanning, Embedded, Updating, value_of, At, typed_at}
 use Rattle.snap_runs.proofs.Bounded as bounded

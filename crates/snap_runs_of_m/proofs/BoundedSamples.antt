@@ -1,15 +1,9 @@
 -- The bounds of M at work on runs by one and by two processes, by computing.
-use Rattle.std.specs.Prelude.{◌≡◌, ℕ, List, [], ◌∷◌, ◌++◌, replicate, refl}
-use Rattle.std.proofs.Common.{arith, inl, inr}
-use Rattle.snap_words.specs.Word.{Word}
-use Rattle.snap_semantics.specs.declared.process.Item.{Item}
-use Rattle.snap_semantics.specs.declared.process.Item.TheVariants.{Step, Call}
-use Rattle.snap_semantics.specs.declared.process.Op.TheVariants.{Scan, Update}
+use Rattle.std.proofs.Common.{◌≡◌, ℕ, List, [], ◌∷◌, ◌++◌, replicate, refl, arith, inl, inr}
+use Rattle.snap_runs.proofs.Common.{Word, Item, Step, Call, Scan, Update, State, process_at, state}
 use Rattle.snap_semantics.specs.declared.process.Status.TheVariants.{Idle}
-use Rattle.snap_semantics.specs.State.{State, process_at}
 use Rattle.snap_runs.specs.Bounded.{IsValue, IsWordWithin, IsStateWithin}
 use Rattle.snap_runs.specs.Promises.{row_place}
-use Rattle.snap_runs.specs.Run.{state}
 use Rattle.snap_runs_of_m.specs.Bounded.{limits}
 use Rattle.snap_runs_of_m.specs.ListingM.{listing_m, j, k, x, moved, g, h, d, tog, a, b, s}
 use Rattle.snap_runs_of_m.specs.Promises.{counts, run_of}

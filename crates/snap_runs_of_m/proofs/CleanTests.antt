@@ -1,11 +1,7 @@
 -- The double collects of M: which line reads which copy, and that a passed test is clean.
-use Rattle.std.specs.Prelude.{◌≡◌, ℕ, suc, ◌+◌, ◌≤◌, ◌<◌, ◌⊎◌, max, Bool, true, false, List}
-use Rattle.std.specs.Prelude.{length, nat_eq, nat_lt, if◌then◌else◌, refl}
-use Rattle.std.proofs.Common.{ap, arith, inl, inr}
-use Rattle.snap_words.specs.Word.{Word}
-use Rattle.snap_semantics.specs.declared.process.Item.{Item}
-use Rattle.snap_semantics.specs.declared.process.Op.{Op}
-use Rattle.snap_semantics.specs.declared.process.Op.TheVariants.{Scan, Update}
+use Rattle.std.proofs.Common.{◌≡◌, ℕ, suc, ◌+◌, ◌≤◌, ◌<◌, ◌⊎◌, max, Bool, true, false, List, length, nat_eq, nat_lt}
+use Rattle.std.proofs.Common.{if◌then◌else◌, refl, ap, arith, inl, inr}
+use Rattle.snap_runs.proofs.Common.{Word, Item, Op, Scan, Update}
 use Rattle.snap_runs.specs.Update.{is_at}
 use Rattle.snap_runs.proofs.Algorithm.{Mode, Scanning, Embedded, Updating, To, when_busy, status_of, typed_at}
 use Rattle.snap_runs.proofs.Collecting as collecting
@@ -62,9 +58,10 @@ named k = record { first = λ e. absurd (cc); second = λ e. absurd (cc); quiet 
 abbrev pub Reaches : ℕ → ℕ → Registers → Variables → ProgramCounter → Move → Type 0
 Reaches n w = collecting.Reaches (algorithm n w) (copies w)
 
--- what each line does to the copies
+-- what each line does to the copies; a line that calls or returns does what the mode says
 reaches : (n w me : ℕ) (d : Mode) (m : Registers) (p : Variables) (k : ProgramCounter) → IsLineOf w d k →
     Keeps n w d p k → w ≤ length p.a → w ≤ length p.b → Reaches n w m p k (move n w me d m p k)
+reaches n w me (Updating word value) m p L54 s h a b = refl
 reaches n w me d m p L16 s h a b = either (Reaches n w m p L16) (nat_lt p.j n) _ _ (λ e. tt) (λ e. inl h.1)
 reaches n w me d m p L17 s h a b = (refl, refl, h.1, a, refl)
 reaches n w me d m p L18 s h a b =
@@ -88,16 +85,7 @@ reaches n w me d m p L29 s h a b =
     either (Reaches n w m p L29) (nat_lt p.k w) _ _ (λ e. (refl, refl, inr refl)) (λ e. (refl, refl, inr refl))
 reaches n w me d m p L30 s h a b = either (Reaches n w m p L30) (all_still n p) _ _ (λ e. tt) (λ e. tt)
 reaches n w me d m p L32 s h a b = whether (Reaches n w m p L32) (first_to d m p) (third_move n p) (λ e. tt) (λ k e. tt)
-reaches n w me Scanning m p L35 s h a b = tt
-reaches n w me (Embedded word value) m p L35 s h a b = tt
-reaches n w me (Updating word value) m p L35 s h a b = tt
-reaches n w me Scanning m p L37 s h a b = tt
-reaches n w me (Embedded word value) m p L37 s h a b = tt
-reaches n w me (Updating word value) m p L37 s h a b = tt
 reaches n w me d m p L53 s h a b = either (Reaches n w m p L53) (nat_lt p.j n) _ _ (λ e. tt) (λ e. tt)
-reaches n w me Scanning m p L54 s h a b = tt
-reaches n w me (Embedded word value) m p L54 s h a b = tt
-reaches n w me (Updating word value) m p L54 s h a b = refl
 reaches n w me d m p k s h a b = tt
 
 -- the test passes only where nobody is marked

@@ -1,17 +1,14 @@
 -- Which locals a process of M has at each line, and how long they are; and that no line traps.
 use Rattle.snap_runs.proofs.Computing.{either, lt_from, le_from, both, differs, raised_most, none_then}
 use Rattle.snap_runs.proofs.Places.{for_each, for_each_at, first_found, first_none}
-use Rattle.std.specs.Prelude.{◌≡◌, ℕ, ◌+◌, ◌-◌, ◌<◌, ◌≤◌, max, ◌&&◌, List, drop, length, map, Option, Some, None}
-use Rattle.std.specs.Prelude.{nat_eq, nat_lt, nat_le, slice_set, refl}
-use Rattle.std.proofs.Common.{sym, ◌∙◌, subst, arith}
+use Rattle.std.proofs.Common.{◌≡◌, ℕ, ◌+◌, ◌-◌, ◌<◌, ◌≤◌, max, ◌&&◌, List, drop, length, map, Option, Some, None}
+use Rattle.std.proofs.Common.{nat_eq, nat_lt, nat_le, slice_set, refl, sym, ◌∙◌, subst, arith}
 use Rattle.std.proofs.lemmas.List.{length-set, length-append}
 use Rattle.std.proofs.lemmas.List.FromFn.{length-map-range_with_len}
-use Rattle.snap_words.specs.Shape.{IsOneOf}
+use Rattle.snap_runs.proofs.Common.{IsOneOf, Op, Scan, Update, places_to}
 use Rattle.snap_words.specs.declared.kind.KindTag.TheVariants as kind
-use Rattle.snap_semantics.specs.declared.process.Op.{Op}
-use Rattle.snap_semantics.specs.declared.process.Op.TheVariants.{Scan, Update}
 use Rattle.snap_semantics.specs.declared.process.Reason.TheVariants.{NoSuchWord}
-use Rattle.snap_semantics.specs.Table.{places_to, call_skip}
+use Rattle.snap_semantics.specs.Table.{call_skip}
 use Rattle.snap_runs.proofs.Algorithm.{mode_of, Idle, At, WhenBusy, To, Begin, Answer, Finish, Mode, Scanning}
 use Rattle.snap_runs.proofs.Algorithm.{Embedded, Updating, op_of, LeadsTo, leads_to}
 use Rattle.snap_runs.proofs.Embedding as embed
@@ -177,34 +174,26 @@ move_well n w me d m p L10 e s h = (s, λ c i. rw (for_each_at n (λ c. 0) p.mov
 move_well n w me d m p L11 e s h = (s, (refl, h), refl)
 move_well n w me d m p L12 e s h = let one : IsOneOf n me = e.one in (s, ((omega arith, omega arith), refl, h.1), refl)
 move_well n w me d m p L13 e s h = (s, (h.0, h.1, h.2, e.bits p.j h.0), refl)
-move_well n w me d m p L14 e s h = (s, h, refl)
 move_well n w me d m p L15 e s h = (s, (h.0, h.1, h.2), refl)
 move_well n w me d m p L16 e s h =
     let some : 0 < w = e.some in
     either (MoveWell (op_of d) n w) (nat_lt p.j n) _ _
     (λ b. let lt : p.j < n = lt_from p.j n b in (s, ((omega arith, omega arith), h.1, h.2), refl))
     (λ b. (s, (refl, (omega arith, omega arith), h.2), refl))
-move_well n w me d m p L17 e s h = (s, h, refl)
 move_well n w me d m p L18 e s h =
     let some : 0 < w = e.some in either (MoveWell (op_of d) n w) (nat_lt p.k w) _ _ (λ b. let lt : p.k < w = lt_from p.k w b in (s, (h.0, (omega arith, omega arith), h.2), refl)) (λ b. (s, (h.0, (omega arith, omega arith), h.2), refl))
-move_well n w me d m p L19 e s h = (s, h, refl)
 move_well n w me d m p L20 e s h =
     let one : IsOneOf n me = e.one in
     either (MoveWell (op_of d) n w) (nat_lt p.k w) _ _
     (λ b. let lt : p.k < w = lt_from p.k w b in (s, (h.0, (omega arith, omega arith), h.2), refl))
     (λ b. (s, ((omega arith, omega arith), refl, h.2), refl))
-move_well n w me d m p L21 e s h = (s, h, refl)
-move_well n w me d m p L22 e s h = (s, h, refl)
 move_well n w me d m p L23 e s h =
     either (MoveWell (op_of d) n w) (nat_lt p.j n) _ _
     (λ b. let lt : p.j < n = lt_from p.j n b in (s, ((omega arith, omega arith), h.1, h.2), refl))
     (λ b. (s, (refl, h.1, h.2), refl))
-move_well n w me d m p L24 e s h = (s, h, refl)
 move_well n w me d m p L25 e s h = let some : 0 < w = e.some in (s, (h.0, (omega arith, omega arith), h.2), refl)
 move_well n w me d m p L26 e s h =
     either (MoveWell (op_of d) n w) (same_at p.a p.b p.k) _ _ (λ b. (s, h, refl)) (λ b. (s, h, refl))
-move_well n w me d m p L27 e s h = (s, h, refl)
-move_well n w me d m p L28 e s h = (s, h, refl)
 move_well n w me d m p L29 e s h =
     either (MoveWell (op_of d) n w) (nat_lt p.k w) _ _
     (λ b. let lt : p.k < w = lt_from p.k w b in (s, (h.0, (omega arith, omega arith), h.2), refl))
@@ -235,8 +224,6 @@ move_well n w me Scanning m p L37 e s h = tt
 move_well n w me (Embedded y z) m p L37 e s h = (s, tt, refl)
 move_well n w me (Updating y z) m p L37 e s h = absurd s
 move_well n w me d m p L50 e s h = let one : IsOneOf n me = e.one in (s, (omega arith, omega arith), refl)
-move_well n w me d m p L51 e s h = (s, h, refl)
-move_well n w me d m p L52 e s h = (s, h, refl)
 move_well n w me d m p L53 e s h =
     either (MoveWell (op_of d) n w) (nat_lt p.j n) _ _
     (λ b. let lt : p.j < n = lt_from p.j n b in (s, (omega arith, omega arith), refl)) (λ b. (s, tt, refl))
@@ -255,6 +242,7 @@ move_well n w me (Updating y z) m p L56 e s h =
     )
 move_well n w me d m p L57 e s h = (s, tt, refl)
 move_well n w me d m p L58 e s h = tt
+move_well n w me d m p k e s h = (s, h, refl)
 
 word_is : (w : ℕ) (d : Mode) → IsUpdate w d → IsOneOf w (word_of d)
 word_is w Scanning h = absurd h

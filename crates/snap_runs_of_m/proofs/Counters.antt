@@ -1,7 +1,6 @@
 -- The counters of writes, answers and puts of views that the proof of M keeps beside the
 -- registers, and the views: an item keeps all of them unless it is a step at line 52, 55 or 57.
-use Rattle.std.specs.Prelude.{◌≡◌, ℕ, ◌⊎◌, Option, Some, None, nat_lt, refl}
-use Rattle.std.proofs.Common.{inl, inr}
+use Rattle.std.proofs.Common.{◌≡◌, ℕ, ◌⊎◌, Option, Some, None, nat_lt, refl, inl, inr}
 use Rattle.snap_semantics.specs.declared.process.Item.{Item}
 use Rattle.snap_runs.proofs.Algorithm.{Mode, Scanning, Embedded, Updating, memory_after, happens}
 use Rattle.snap_runs.proofs.Computing.{either}

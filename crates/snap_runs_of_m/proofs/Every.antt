@@ -1,7 +1,6 @@
 -- Every run of M keeps its promises, by the frame that U, B and M share: no
 -- traps, one write for each update, a point for each scan, linearizable.
-use Rattle.std.specs.Prelude.{◌+◌, ◌*◌, ◌<◌, None}
-use Rattle.std.proofs.Common.{arith}
+use Rattle.std.proofs.Common.{◌+◌, ◌*◌, ◌<◌, None, arith}
 use Rattle.snap_runs.proofs.Prefixes.{write_strongly_linearizable_by_points}
 use Rattle.snap_runs.proofs.Every as every
 use Rattle.snap_runs_of_m.specs.ListingM.{listing_m}

@@ -1,9 +1,7 @@
 -- What holds of the registers of M at every state (`Now`), and from one state to a later one (`Since`).
-use Rattle.std.specs.Prelude.{◌≡◌, ◌≢◌, ℕ, suc, ◌+◌, ◌<◌, ◌≤◌, ◌⊎◌, length, refl}
-use Rattle.std.proofs.Common.{sym, ◌∙◌, ap, subst, arith, inl, inr}
+use Rattle.std.proofs.Common.{◌≡◌, ◌≢◌, ℕ, suc, ◌+◌, ◌<◌, ◌≤◌, ◌⊎◌, length, refl, sym, ◌∙◌, ap, subst, arith, inl, inr}
 use Rattle.std.proofs.Math.Nat.{eq-or-lt_of_le}
-use Rattle.snap_words.specs.Shape.{IsOneOf}
-use Rattle.snap_words.specs.Word.{Word}
+use Rattle.snap_runs.proofs.Common.{IsOneOf, Word}
 use Rattle.snap_runs.proofs.Held.{word_at, seq_at, Held, held_wider, WordBefore, before_trans}
 use Rattle.snap_runs_of_m.proofs.Algorithm.{Words, Registers, bit, view_at, flip}
 use Rattle.snap_runs_of_m.proofs.Basics.{Square, flip_other}

@@ -5,8 +5,7 @@ use Rattle.std.specs.Prelude.{length, nat_eq, nat_lt, if◌then◌else◌, slice
 use Rattle.std.proofs.Common.{sym, ◌∙◌, ap, subst, arith, inl, inr}
 use Rattle.std.proofs.lemmas.Bool.{cases_eq}
 use Rattle.std.proofs.lemmas.Grind.{common_steps}
-use Rattle.snap_words.specs.Shape.{IsOneOf}
-use Rattle.snap_semantics.specs.declared.process.Outcome.{Outcome}
+use Rattle.snap_runs.proofs.Common.{IsOneOf, Outcome}
 use Rattle.snap_runs.proofs.Algorithm.{Idle, At, WhenBusy, when_busy, To, Begin, Answer, Finish, New, typed_at}
 use Rattle.snap_runs.proofs.Algorithm.{changed, Mode, Scanning, Embedded, Updating}
 use Rattle.snap_runs.proofs.Flow as flow
@@ -200,47 +199,30 @@ none_before c pos = grind (arith, common_steps)
 pub books_move : (n w me : ℕ) (base m m' : Registers) (d : Mode) (p : Variables) (k : ProgramCounter) →
     IsLineOf w d k → IsQuiet k → Long n w p →
     Books n w me base m d p k → BooksMove n w me base m p.tog (move n w me d m' p k)
-books_move n w me base m m' d p L10 s quiet long h = books_scan n w me base m d p _ L10 _ s refl h
-books_move n w me base m m' d p L11 s quiet long h = books_scan n w me base m d p _ L11 _ s refl h
-books_move n w me base m m' d p L12 s quiet long h = books_scan n w me base m d p _ L12 _ s refl h
-books_move n w me base m m' d p L13 s quiet long h = books_scan n w me base m d p _ L13 _ s refl h
-books_move n w me base m m' d p L14 s quiet long h = books_scan n w me base m d p _ L14 _ s refl h
 books_move n w me base m m' d p L15 s quiet long h = absurd quiet
 books_move n w me base m m' d p L16 s quiet long h =
     either (BooksMove n w me base m p.tog) (nat_lt p.j n) _ _ (λ t. books_scan n w me base m d p _ L16 _ s refl h)
     (λ t. books_scan n w me base m d p _ L16 _ s refl h)
-books_move n w me base m m' d p L17 s quiet long h = books_scan n w me base m d p _ L17 _ s refl h
 books_move n w me base m m' d p L18 s quiet long h =
     either (BooksMove n w me base m p.tog) (nat_lt p.k w) _ _ (λ t. books_scan n w me base m d p _ L18 _ s refl h)
     (λ t. books_scan n w me base m d p _ L18 _ s refl h)
-books_move n w me base m m' d p L19 s quiet long h = books_scan n w me base m d p _ L19 _ s refl h
 books_move n w me base m m' d p L20 s quiet long h =
     either (BooksMove n w me base m p.tog) (nat_lt p.k w) _ _ (λ t. books_scan n w me base m d p _ L20 _ s refl h)
     (λ t. books_scan n w me base m d p _ L20 _ s refl h)
-books_move n w me base m m' d p L21 s quiet long h = books_scan n w me base m d p _ L21 _ s refl h
-books_move n w me base m m' d p L22 s quiet long h = books_scan n w me base m d p _ L22 _ s refl h
 books_move n w me base m m' d p L23 s quiet long h =
     either (BooksMove n w me base m p.tog) (nat_lt p.j n) _ _ (λ t. books_scan n w me base m d p _ L23 _ s refl h)
     (λ t. books_scan n w me base m d p _ L23 _ s refl h)
-books_move n w me base m m' d p L24 s quiet long h = books_scan n w me base m d p _ L24 _ s refl h
-books_move n w me base m m' d p L25 s quiet long h = books_scan n w me base m d p _ L25 _ s refl h
 books_move n w me base m m' d p L26 s quiet long h =
     either (BooksMove n w me base m p.tog) (same_at p.a p.b p.k) _ _
     (λ t. books_scan n w me base m d p _ L26 _ s refl h) (λ t. books_scan n w me base m d p _ L26 _ s refl h)
-books_move n w me base m m' d p L27 s quiet long h = books_scan n w me base m d p _ L27 _ s refl h
-books_move n w me base m m' d p L28 s quiet long h = books_scan n w me base m d p _ L28 _ s refl h
 books_move n w me base m m' d p L29 s quiet long h =
     either (BooksMove n w me base m p.tog) (nat_lt p.k w) _ _ (λ t. books_scan n w me base m d p _ L29 _ s refl h)
     (λ t. books_scan n w me base m d p _ L29 _ s refl h)
 books_move n w me base m m' d p L30 s quiet long h =
     either (BooksMove n w me base m p.tog) (all_still n p) _ _ (λ t. books_scan n w me base m d p _ L30 _ s refl h)
     (λ t. books_scan n w me base m d p _ L30 _ s refl h)
-books_move n w me base m m' d p L31 s quiet long h = books_scan n w me base m d p _ L31 _ s refl h
 books_move n w me base m m' d p L32 s quiet long h = books_first n w me base m m' d p (third_move n p) s h
-books_move n w me base m m' d p L33 s quiet long h = books_scan n w me base m d p _ L33 _ s refl h
-books_move n w me base m m' d p L34 s quiet long h = books_scan n w me base m d p _ L34 _ s refl h
 books_move n w me base m m' d p L35 s quiet long h = books_return n w me base m m' d p L35 s h
-books_move n w me base m m' d p L36 s quiet long h = books_scan n w me base m d p _ L36 _ s refl h
 books_move n w me base m m' d p L37 s quiet long h = books_return n w me base m m' d p L37 s h
 books_move n w me base m m' Scanning p L50 s quiet long h = absurd s
 books_move n w me base m m' (Embedded y z) p L50 s quiet long h = absurd s
@@ -269,6 +251,7 @@ books_move n w me base m m' (Embedded y z) p L58 s quiet long h = absurd s
 books_move n w me base m m' (Updating y z) p L58 s quiet long h =
     let old = h.settled in
     record { answers_are = λ c o. old.answers_are c o; puts_are = old.puts_are; toggles_are = old.toggles_are }
+books_move n w me base m m' d p k s quiet long h = books_scan n w me base m d p _ k _ s refl h
 
 -- the process's own registers and counters stay
 pub record Untouched (n w me : ℕ) (m m' : Registers) : Type 0 where

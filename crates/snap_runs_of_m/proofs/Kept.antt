@@ -1,8 +1,7 @@
 -- What the frame of the proofs asks of M: of its lines, and of its runs without crashes.
 use Rattle.std.specs.Prelude.{◌≡◌, ℕ, ◌+◌, ◌-◌, ◌*◌, ◌<◌, ◌≤◌, Bool, true, false, List, length, nat_lt, refl}
 use Rattle.std.proofs.Common.{sym, subst, arith, inl, inr}
-use Rattle.snap_words.specs.Shape.{IsOneOf}
-use Rattle.snap_semantics.specs.declared.process.Item.{Item}
+use Rattle.snap_runs.proofs.Common.{IsOneOf, Item}
 use Rattle.snap_runs.proofs.Algorithm.{Mode, Embedded, Updating, At, typed_at}
 use Rattle.snap_runs.proofs.Calm.{calm, calm_list}
 use Rattle.snap_runs.proofs.Computing.{lt_from, either}
@@ -13,6 +12,7 @@ use Rattle.snap_runs.proofs.UpdateSteps.{Ahead, Nearer, Resumes}
 use Rattle.snap_runs.proofs.ListingFrame as frames
 use Rattle.snap_runs_of_m.specs.Promises.{run_of}
 use Rattle.snap_runs_of_m.proofs.Algorithm.{Registers, Variables, ProgramCounter, L50, L51, L52, L53, L54, L55, L56}
+use Rattle.snap_runs_of_m.proofs.Algorithm.{L35, L37}
 use Rattle.snap_runs_of_m.proofs.Algorithm.{L57, L58, IsUpdate, IsLineOf, in_update, tests, move, lines, algorithm}
 use Rattle.snap_runs_of_m.proofs.Count.{collects_le, own_le}
 use Rattle.snap_runs_of_m.proofs.Flows.{numbered, listed, once, writer}
@@ -22,17 +22,12 @@ use Rattle.snap_runs_of_m.proofs.Preserve.{sharp_at}
 use Rattle.snap_runs_of_m.proofs.Runs.{state_at, registers_at, inv, execution, well_of, stage_of, counts_of}
 use Rattle.snap_runs_of_m.proofs.Stage.{Stage}
 
--- line 57 is one of an update
-pub updates : (n w : ℕ) (items : List Item) → 0 < w → Steady (run_of n w items) →
-    (t i : ℕ) (d : Mode) → t < length items → IsOneOf n i →
-    (typed_at (algorithm n w) (state_at n w items t) i).control ≡ At d L57 → IsUpdate w d
-updates n w items some fits t i d h one e = (well_of n w items some fits t i d L57 (omega arith) one e).0
-
 -- at a line that returns s, the values were s at some state since the scan's start
 pub return_held : (n w i : ℕ) (history : ℕ → Registers) (t since round : ℕ) (p : Variables) (k : ProgramCounter) →
     lines.IsReturn k → Stage n w i history t since round p k → Held (words_of history) t since p.s
-return_held n w i history t since round p k (inl is) h = subst (Stage n w i history t since round p) is h
-return_held n w i history t since round p k (inr is) h = (subst (Stage n w i history t since round p) is h).0
+return_held n w i history t since round p L35 is h = h
+return_held n w i history t since round p L37 is h = h.0
+return_held n w i history t since round p k is h = absurd is
 
 -- the steps of a scan
 abbrev pub most_steps : ℕ → ℕ → ℕ
@@ -105,12 +100,9 @@ nearer n w me word value m p k s = absurd s
 
 pub resumes : (n w me word value : ℕ) (m : Registers) (p : Variables) (k : ProgramCounter) → lines.IsReturn k →
     Resumes (algorithm n w) lines (its n w) (move n w me (Embedded word value) m p k)
-resumes n w me word value m p k (inl is) =
-    subst (λ y. Resumes (algorithm n w) lines (its n w) (move n w me (Embedded word value) m p y)) (sym is)
-    (omega arith, refl)
-resumes n w me word value m p k (inr is) =
-    subst (λ y. Resumes (algorithm n w) lines (its n w) (move n w me (Embedded word value) m p y)) (sym is)
-    (omega arith, refl)
+resumes n w me word value m p L35 is = (omega arith, refl)
+resumes n w me word value m p L37 is = (omega arith, refl)
+resumes n w me word value m p k is = absurd is
 
 abbrev pub frame : (n w : ℕ) → frames.Frame (algorithm n w) lines 57
 frame n w = record {
@@ -122,7 +114,7 @@ frame n w = record {
   collects = 2 * n - 1;
   steps = most_steps n w;
   its = its n w;
-  resumes = λ me word value m p k is. resumes n w me word value m p k is;
+  resumes = resumes n w;
   begins = λ p word value. (omega arith, refl);
 }
 
@@ -132,7 +124,7 @@ kept n w items some fits = record {
   does = (execution n w items some fits).does;
   flows = (execution n w items some fits).flows;
   wrote = (execution n w items some fits).wrote;
-  updates = updates n w items some fits;
+  updates = λ t i d h one e. (well_of n w items some fits t i d L57 (omega arith) one e).0;
   held = λ t i d k le one at returns.
       let q = typed_at (algorithm n w) (state_at n w items t) i in
       return_held n w i (registers_at n w items) t q.auxiliary.since q.auxiliary.round q.variables k returns

@@ -5,11 +5,7 @@ use Rattle.std.proofs.lemmas.Bool.{cases_eq, cases_lt}
 use Rattle.std.proofs.lemmas.Grind.{get_or-set_at}
 use Rattle.std.proofs.lemmas.List.{get_or-set_other}
 use Rattle.std.proofs.Math.Nat.{eq-or-lt_of_le}
-use Rattle.snap_words.specs.Shape.{IsOneOf}
-use Rattle.snap_semantics.specs.declared.process.Item.{Item}
-use Rattle.snap_semantics.specs.declared.process.Item.TheVariants.{Step}
-use Rattle.snap_semantics.specs.declared.process.Op.{Op}
-use Rattle.snap_semantics.specs.declared.process.Op.TheVariants.{Scan, Update}
+use Rattle.snap_runs.proofs.Common.{IsOneOf, Item, Step, Op, Scan, Update}
 use Rattle.snap_runs.specs.Scan.{FinishedScan}
 use Rattle.snap_runs.specs.Promises.{LentView}
 use Rattle.snap_runs.proofs.Algorithm.{Mode, Updating, At, when_busy, typed_at, item_at}
@@ -23,7 +19,7 @@ use Rattle.snap_runs_of_m.specs.Promises.{run_of, BorrowedViewsAreLent}
 use Rattle.snap_runs_of_m.proofs.Algorithm.{Registers, Process, L37, L52, L55, L57, view_at, after_55, counter}
 use Rattle.snap_runs_of_m.proofs.Algorithm.{IsLate, lines, algorithm}
 use Rattle.snap_runs_of_m.proofs.Counters.{item_counters}
-use Rattle.snap_runs_of_m.proofs.Flows.{listed, embeds}
+use Rattle.snap_runs_of_m.proofs.Flows.{listed}
 use Rattle.snap_runs_of_m.proofs.Invariant.{Books, BooksAt}
 use Rattle.snap_runs_of_m.proofs.Kept.{frame, calm_kept}
 use Rattle.snap_runs_of_m.proofs.Runs.{state_at, registers_at, inv, own, well_of, execution, stage_of}
@@ -176,8 +172,6 @@ module _ (n w : ℕ) (items : List Item) (some : 0 < w) (fits : Steady (run_of n
             (laws_c.since since le).answers j i jone one in omega arith)
       ] in
       let lent = embedded.lending (algorithm n w) lines (listed n w) run
-      (λ t i short one. when_busy _ _ (λ d k well. embeds n w i d (history t) (at t i).variables k well.0)
-      (at t i).control (own n w items some fits t i (omega arith) one).well)
       not_late j jone y up.0 up.1 L55 (omega arith) control tt in
       let ended : lent.to ≤ y = lent.before in
       let its_view : (at y j).variables.s ≡ v = sym put.is ∙ sym x.is ∙ shown.is in

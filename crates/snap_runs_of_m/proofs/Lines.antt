@@ -2,18 +2,14 @@
 -- `Algorithm.antt`, and does not trap where it has what it needs.
 use Rattle.snap_runs.proofs.Places.{bind_ok, place_ok, each_ok, sum_ok, owned_ok}
 use Rattle.snap_runs.proofs.Computing.{if_true, le_true, same_number, if_of}
-use Rattle.std.specs.Prelude.{◌≡◌, ℕ, ◌+◌, ◌-◌, ◌<◌, ◌≤◌, max, true, ◌&&◌, [], ◌∷◌, map, Option, Some, None, Result}
-use Rattle.std.specs.Prelude.{Ok, Err, slice_index_or, nat_eq, nat_lt, nat_le, if◌then◌else◌, refl}
-use Rattle.std.proofs.Common.{sym, ◌∙◌, ap, arith}
+use Rattle.std.proofs.Common.{◌≡◌, ℕ, ◌+◌, ◌-◌, ◌<◌, ◌≤◌, max, true, ◌&&◌, [], ◌∷◌, map, Option, Some, None, Result, Ok}
+use Rattle.std.proofs.Common.{Err, slice_index_or, nat_eq, nat_lt, nat_le, if◌then◌else◌, refl, sym, ◌∙◌, ap, arith}
 use Rattle.std.proofs.lemmas.List.{map-set}
-use Rattle.snap_words.specs.Shape.{Counts, IsOneOf}
-use Rattle.snap_words.specs.Word.{Word, no_word}
+use Rattle.snap_runs.proofs.Common.{Counts, IsOneOf, Word, no_word, Activity, Op}
 use Rattle.snap_semantics.specs.declared.instr.Index.TheVariants.{Place}
 use Rattle.snap_semantics.specs.declared.instr.Term.TheVariants.{Row}
-use Rattle.snap_semantics.specs.declared.process.Activity.{Activity}
 use Rattle.snap_semantics.specs.declared.process.Cause.{Cause}
 use Rattle.snap_semantics.specs.declared.process.Cause.TheVariants.{Owner, NotABit}
-use Rattle.snap_semantics.specs.declared.process.Op.{Op}
 use Rattle.snap_semantics.specs.Source.{Name, instr_at}
 use Rattle.snap_semantics.specs.State.{Locals, value_at}
 use Rattle.snap_semantics.specs.Value.{Context, at_place, term_value}
@@ -58,12 +54,9 @@ row_term : (n w me : ℕ) (d : Mode) (p : Variables) (k : ℕ) (row : Name) → 
     term_value (here n w me d p k) (Row row Place) ≡ Ok (place (value_at row (locals_of p).rows []) k)
 row_term n w me d p k row h = bind_ok _ _ _ _ (place_ok (max n w) k h) refl
 
--- the fields of a copy at place k
+-- the id of a copy at place k
 id_term : (xs : Words) (k : ℕ) → (slice_index_or (map plain xs) (k - 1) no_word).id ≡ (word_at xs k).id
 id_term xs k = ap (λ (x : Word). x.id) (plain_at plain refl xs (k - 1))
-
-toggle_term : (xs : Words) (k : ℕ) → (slice_index_or (map plain xs) (k - 1) no_word).toggle ≡ (word_at xs k).toggle
-toggle_term xs k = ap (λ (x : Word). x.toggle) (plain_at plain refl xs (k - 1))
 
 same_is : (xs ys : Words) (k : ℕ) →
     same_words (slice_index_or (map plain xs) (k - 1) no_word) (slice_index_or (map plain ys) (k - 1) no_word)
@@ -90,8 +83,6 @@ pub lines : (n w me : ℕ) (d : Mode) (m : Registers) (p : Variables) (k : Progr
     Needs n w me d p k → at_line (counts n w) me (op_of d) m (link_of (number back) d) (number k) p
     ≡ shown (algorithm n w) m (move n w me d m p k)
 lines n w me d m p L10 s h = bind_ok _ _ _ _ (each_ok _ (λ c. 0) 1 n (λ c low high. refl)) refl
-lines n w me d m p L11 s h = refl
-lines n w me d m p L12 s h = refl
 lines n w me d m p L13 s h = bind_ok _ _ _ _ (place_ok n p.j h.0) (bind_ok _ _ _ _ (place_ok n me h.1) refl)
 lines n w me d m p L14 s h = bind_ok _ _ _ _ (place_ok (max n w) p.j (process_place n w p.j h)) refl
 lines n w me d m p L15 s h =
@@ -155,8 +146,6 @@ lines n w me d m p L32 s h =
     (each_ok _ (at_limit p) 1 n
     (λ c low high. bind_ok _ _ _ _ (row_term n w me d p c names.moved (in_range n w c low high)) refl))
     (first_shown n w d m p (third_move n p))
-lines n w me d m p L33 s h = refl
-lines n w me d m p L34 s h = refl
 lines n w me Scanning m p L35 s h = refl
 lines n w me (Embedded y z) m p L35 s h = refl
 lines n w me (Updating y z) m p L35 s h = absurd s
@@ -164,7 +153,6 @@ lines n w me d m p L36 s h = bind_ok _ _ _ _ (place_ok n p.j h) refl
 lines n w me Scanning m p L37 s h = refl
 lines n w me (Embedded y z) m p L37 s h = refl
 lines n w me (Updating y z) m p L37 s h = absurd s
-lines n w me d m p L50 s h = refl
 lines n w me d m p L51 s h = bind_ok _ _ _ _ (place_ok n p.j h.0) (bind_ok _ _ _ _ (place_ok n me h.1) refl)
 lines n w me d m p L52 s h =
     bind_ok _ _ _ _ (place_ok n me h.1) (bind_ok _ _ _ _ (place_ok n p.j h.0)
@@ -193,3 +181,4 @@ lines n w me (Updating y z) m p L57 s h =
 lines n w me Scanning m p L58 s h = absurd s
 lines n w me (Embedded y z) m p L58 s h = absurd s
 lines n w me (Updating y z) m p L58 s h = refl
+lines n w me d m p k s h = refl

@@ -4,11 +4,9 @@ use Rattle.snap_runs.proofs.Places.{for_each_at}
 use Rattle.std.specs.Prelude.{◌≡◌, ℕ, zero, suc, ◌+◌, ◌<◌, ◌≤◌, ◌⊎◌, true, List, length, Option, nat_eq, refl}
 use Rattle.std.proofs.Common.{sym, ◌∙◌, ap, subst, arith, inl, inr}
 use Rattle.std.proofs.lemmas.Bool.{cases_eq}
-use Rattle.snap_semantics.specs.State.{process_at, value_at, Locals}
+use Rattle.snap_runs.proofs.Common.{process_at, Item, Step, state, Run, IsValidRun}
+use Rattle.snap_semantics.specs.State.{value_at, Locals}
 use Rattle.snap_semantics.specs.State as definitions
-use Rattle.snap_semantics.specs.declared.process.Item.{Item}
-use Rattle.snap_semantics.specs.declared.process.Item.TheVariants.{Step}
-use Rattle.snap_runs.specs.Run.{state, Run, IsValidRun}
 use Rattle.snap_runs.specs.Scan.{PendingScan}
 use Rattle.snap_runs.specs.Update.{executes}
 use Rattle.snap_runs.specs.Promises.{ObservedMove}

@@ -2,20 +2,14 @@
 use Rattle.snap_runs.proofs.Flow.{scan_inside}
 use Rattle.snap_runs.proofs.Totals.{total_less}
 use Rattle.snap_runs.proofs.Computing.{either, lt_true, same_number, other_number}
-use Rattle.std.specs.Prelude.{◌≡◌, ◌≢◌, ℕ, suc, ◌+◌, ◌*◌, ◌<◌, ◌≤◌, Bool, true, false, length, Option, Some, None}
-use Rattle.std.specs.Prelude.{nat_lt, if◌then◌else◌, refl}
-use Rattle.std.proofs.Common.{sym, ◌∙◌, ap, subst, arith, inl, inr}
+use Rattle.std.proofs.Common.{◌≡◌, ◌≢◌, ℕ, suc, ◌+◌, ◌*◌, ◌<◌, ◌≤◌, Bool, true, false, length, Option, Some, None}
+use Rattle.std.proofs.Common.{nat_lt, if◌then◌else◌, refl, sym, ◌∙◌, ap, subst, arith, inl, inr}
 use Rattle.std.proofs.lemmas.Bool.{cases_eq}
 use Rattle.std.proofs.lemmas.Grind.{common_steps}
-use Rattle.snap_words.specs.Shape.{IsOneOf}
+use Rattle.snap_runs.proofs.Common.{IsOneOf, Op, Scan, Update, Reason, Item, Step, Call, Crash, Called, Stepped}
+use Rattle.snap_runs.proofs.Common.{Answered, Finished, who}
 use Rattle.snap_words.specs.declared.kind.KindTag.TheVariants as kind
-use Rattle.snap_semantics.specs.declared.process.Op.{Op}
-use Rattle.snap_semantics.specs.declared.process.Op.TheVariants.{Scan, Update}
-use Rattle.snap_semantics.specs.declared.process.Reason.{Reason}
-use Rattle.snap_semantics.specs.declared.process.Item.{Item}
-use Rattle.snap_semantics.specs.declared.process.Item.TheVariants.{Step, Call, Crash}
-use Rattle.snap_semantics.specs.declared.process.Outcome.TheVariants.{Called, Stepped, Answered, Finished}
-use Rattle.snap_semantics.specs.Table.{call_skip, who}
+use Rattle.snap_semantics.specs.Table.{call_skip}
 use Rattle.snap_runs.proofs.Algorithm.{Idle, At, To, Begin, Answer, Finish, New, by_move, by_step, by_admission}
 use Rattle.snap_runs.proofs.Algorithm.{by_call, memory_after, typed_at, changed, happens, stepped_auxiliary}
 use Rattle.snap_runs.proofs.Algorithm.{begun_auxiliary, called_auxiliary, Mode, Scanning, Embedded, Updating, op_of}
@@ -63,26 +57,26 @@ kept_first : (d : Mode) (m : Registers) (p : Variables) (o : Option ℕ) → Kee
 kept_first d m p None = refl
 kept_first d m p (Some k) = refl
 
--- a quiet line keeps the registers
-pub kept : (n w me : ℕ) (d : Mode) (m : Registers) (p : Variables) (k : ProgramCounter) → IsQuiet k →
-    KeepsMemory m (move n w me d m p k)
-kept n w me d m p L15 q = absurd q
-kept n w me d m p L16 q = either (KeepsMemory m) (nat_lt p.j n) _ _ (λ t. refl) (λ t. refl)
-kept n w me d m p L18 q = either (KeepsMemory m) (nat_lt p.k w) _ _ (λ t. refl) (λ t. refl)
-kept n w me d m p L20 q = either (KeepsMemory m) (nat_lt p.k w) _ _ (λ t. refl) (λ t. refl)
-kept n w me d m p L23 q = either (KeepsMemory m) (nat_lt p.j n) _ _ (λ t. refl) (λ t. refl)
-kept n w me d m p L26 q = either (KeepsMemory m) (same_at p.a p.b p.k) _ _ (λ t. refl) (λ t. refl)
-kept n w me d m p L29 q = either (KeepsMemory m) (nat_lt p.k w) _ _ (λ t. refl) (λ t. refl)
-kept n w me d m p L30 q = either (KeepsMemory m) (all_still n p) _ _ (λ t. refl) (λ t. refl)
-kept n w me d m p L32 q = kept_first d m p (third_move n p)
-kept n w me d m p L35 q = kept_return d m p
-kept n w me d m p L37 q = kept_return d m p
-kept n w me d m p L52 q = absurd q
-kept n w me d m p L53 q = either (KeepsMemory m) (nat_lt p.j n) _ _ (λ t. refl) (λ t. refl)
-kept n w me d m p L54 q = kept_embed d m p
-kept n w me d m p L55 q = absurd q
-kept n w me d m p L57 q = absurd q
-kept n w me d m p k q = refl
+module _ (n w me : ℕ) (d : Mode) (m : Registers) (p : Variables) where
+  -- a quiet line keeps the registers
+  pub kept : (k : ProgramCounter) → IsQuiet k → KeepsMemory m (move n w me d m p k)
+  kept L15 q = absurd q
+  kept L16 q = either (KeepsMemory m) (nat_lt p.j n) _ _ (λ t. refl) (λ t. refl)
+  kept L18 q = either (KeepsMemory m) (nat_lt p.k w) _ _ (λ t. refl) (λ t. refl)
+  kept L20 q = either (KeepsMemory m) (nat_lt p.k w) _ _ (λ t. refl) (λ t. refl)
+  kept L23 q = either (KeepsMemory m) (nat_lt p.j n) _ _ (λ t. refl) (λ t. refl)
+  kept L26 q = either (KeepsMemory m) (same_at p.a p.b p.k) _ _ (λ t. refl) (λ t. refl)
+  kept L29 q = either (KeepsMemory m) (nat_lt p.k w) _ _ (λ t. refl) (λ t. refl)
+  kept L30 q = either (KeepsMemory m) (all_still n p) _ _ (λ t. refl) (λ t. refl)
+  kept L32 q = kept_first d m p (third_move n p)
+  kept L35 q = kept_return d m p
+  kept L37 q = kept_return d m p
+  kept L52 q = absurd q
+  kept L53 q = either (KeepsMemory m) (nat_lt p.j n) _ _ (λ t. refl) (λ t. refl)
+  kept L54 q = kept_embed d m p
+  kept L55 q = absurd q
+  kept L57 q = absurd q
+  kept k q = refl
 
 -- process i
 abbrev pub at : ℕ → ℕ → State → ℕ → Process
@@ -97,32 +91,31 @@ round_to : (again : Bool) (round t : ℕ) → round ≤ t → (if again then t e
 round_to true round t h = omega arith
 round_to false round t h = h
 
--- No process sees itself move.
-unmoved : (n w i : ℕ) (history : ℕ → Registers) (t since round : ℕ) (p : Variables) → IsOneOf n i →
-    Since n w history round t → Low n i history since round p.moved → BelowLimit n p →
-    events (history since) i i ≡ events (history t) i i → moves n p + 2 ≤ 2 * n
-unmoved n w i history t since round p one s low small self =
-    let less : moves n p + 2 ≤ n * 2 =
-    total_less 2 (place p.moved) n i one
-    (let l : events (history since) i i + place p.moved i ≤ events (history round) i i = low i one in
-    let le : events (history round) i i ≤ events (history t) i i = events_le n w i round t history s one i one in
-    let z : place p.moved i ≡ 0 = omega arith in z)
-    (λ k e. let below : place p.moved k < limit = small k e in omega arith) in omega arith
+module _ (n w i : ℕ) (history : ℕ → Registers) (t since round : ℕ) where
+  -- No process sees itself move.
+  unmoved : (p : Variables) → IsOneOf n i → Since n w history round t → Low n i history since round p.moved →
+      BelowLimit n p → events (history since) i i ≡ events (history t) i i → moves n p + 2 ≤ 2 * n
+  unmoved p one s low small self =
+      let less : moves n p + 2 ≤ n * 2 =
+      total_less 2 (place p.moved) n i one
+      (let l : events (history since) i i + place p.moved i ≤ events (history round) i i = low i one in
+      let le : events (history round) i i ≤ events (history t) i i = events_le n w i round t history s one i one in
+      let z : place p.moved i ≡ 0 = omega arith in z)
+      (λ k e. let below : place p.moved k < limit = small k e in omega arith) in omega arith
 
-pub sharp_at : (n w i : ℕ) (history : ℕ → Registers) (t since round : ℕ) (d : Mode) (p : Variables)
-    (k : ProgramCounter) → IsOneOf n i → Since n w history round t → IsLineOf w d k → Keeps n w d p k →
-    Books n w i (history since) (history t) d p k → Stage n w i history t since round p k →
-    k ≡ L30 → moves n p + 2 ≤ 2 * n
-sharp_at n w i history t since round d p k one s line keeps books stage e =
-    let keeps30 : Keeps n w d p L30 = subst (Keeps n w d p) e keeps in
-    unmoved n w i history t since round p one s (subst (Stage n w i history t since round p) e stage).0 keeps30.2
-    (books.self (scan_inside (IsOneOf w) d (subst (IsLineOf w d) e line)))
+  pub sharp_at : (d : Mode) (p : Variables) (k : ProgramCounter) → IsOneOf n i → Since n w history round t →
+      IsLineOf w d k → Keeps n w d p k → Books n w i (history since) (history t) d p k →
+      Stage n w i history t since round p k → k ≡ L30 → moves n p + 2 ≤ 2 * n
+  sharp_at d p k one s line keeps books stage e =
+      let keeps30 : Keeps n w d p L30 = subst (Keeps n w d p) e keeps in
+      unmoved p one s (subst (Stage n w i history t since round p) e stage).0 keeps30.2
+      (books.self (scan_inside (IsOneOf w) d (subst (IsLineOf w d) e line)))
 
-pub bits_at : (n w i : ℕ) (history : ℕ → Registers) (t since round : ℕ) (p : Variables) (k : ProgramCounter) →
-    Stage n w i history t since round p k → k ≡ L31 → (c : ℕ) → IsOneOf n c → place p.d c ≤ 1
-bits_at n w i history t since round p k stage e =
-    let at31 : Stage n w i history t since round p L31 = subst (Stage n w i history t since round p) e stage in
-    let row : Row n w i history round t p.g p.h p.d p.a p.b (w + 1) = at31.2 in row.bits
+  pub bits_at : (p : Variables) (k : ProgramCounter) → Stage n w i history t since round p k → k ≡ L31 → (c : ℕ) →
+      IsOneOf n c → place p.d c ≤ 1
+  bits_at p k stage e =
+      let at31 : Stage n w i history t since round p L31 = subst (Stage n w i history t since round p) e stage in
+      let row : Row n w i history round t p.g p.h p.d p.a p.b (w + 1) = at31.2 in row.bits
 
 -- what the move v of process i at line k owes; t is the item's number
 record Owes (n w t : ℕ) (history : ℕ → Registers) (q : Process) (i : ℕ) (d : Mode)
@@ -150,181 +143,181 @@ idle_own n w t history i q k own rest = record {
   books = rest;
 }
 
--- a line that writes no register; `own` is what held of the process when time had passed
-quiet_put : (n w t : ℕ) (history : ℕ → Registers) (x : State) (i : ℕ) (d : Mode) (k : ProgramCounter) (v : Move) →
-    length x.processes ≡ n → IsOneOf n i → ((u : ℕ) → u ≤ suc t → Laws n w history u) → history (suc t) ≡ history t →
-    Invariant n w t history x → ProcessInvariant n w (suc t) history i (at n w x i) →
-    Owes n w (suc t) history (at n w x i) i d k v →
-    Invariant n w (suc t) history (changed x i (by_move (algorithm n w) (suc t) x.memory (at n w x i) k v))
-quiet_put n w t history x i d k (To d' m' p k') count one laws same h own owes =
-    let q = at n w x i in
-    put_inv n w t history x i m' (record {
-      control = At d' k';
-      variables = p;
-      auxiliary = stepped_auxiliary (algorithm n w) k (suc t) q.auxiliary;
-    }) Stepped count one laws
-    (λ j o other. untouched_same n w j (history t) (history (suc t)) same) h
-    (record {
-      well = (owes.well.0, owes.well.1);
-      long = owes.long;
-      opened = round_from (restarts k) q.auxiliary.since q.auxiliary.round (suc t) own.opened own.round_le;
-      round_le = round_to (restarts k) q.auxiliary.round (suc t) own.round_le;
-      stage = owes.stage;
-      counts = owes.counts_are;
-      wrote = owes.wrote;
-      books = owes.books;
-    })
-quiet_put n w t history x i d k (Begin d' p k') count one laws same h own owes =
-    let q = at n w x i in
-    put_inv n w t history x i x.memory (record {
-      control = At d' k';
-      variables = p;
-      auxiliary = begun_auxiliary (algorithm n w) k (suc t) q.auxiliary;
-    }) Stepped count one laws
-    (λ j o other. untouched_same n w j (history t) (history (suc t)) same) h
-    (record {
-      well = (owes.well.0, owes.well.1);
-      long = owes.long;
-      opened = omega arith;
-      round_le = omega arith;
-      stage = subst (λ y. Stage n w i history (suc t) (suc t) (suc t) p y) (sym owes.stage) tt;
-      counts = subst (λ y. Count n w p 0 0 0 y) (sym owes.stage) (refl, refl, refl);
-      wrote = owes.wrote;
-      books = owes.books;
-    })
-quiet_put n w t history x i d k (Answer v) count one laws same h own owes =
-    let q = at n w x i in
-    put_inv n w t history x i x.memory (record {
-      control = Idle;
-      variables = q.variables;
-      auxiliary = stepped_auxiliary (algorithm n w) k (suc t) q.auxiliary;
-    }) (Answered v) count one laws
-    (λ j o other. untouched_same n w j (history t) (history (suc t)) same) h
-    (idle_own n w (suc t) history i q k own owes.books)
-quiet_put n w t history x i d k Finish count one laws same h own owes =
-    let q = at n w x i in
-    put_inv n w t history x i x.memory (record {
-      control = Idle;
-      variables = q.variables;
-      auxiliary = stepped_auxiliary (algorithm n w) k (suc t) q.auxiliary;
-    }) Finished count one laws
-    (λ j o other. untouched_same n w j (history t) (history (suc t)) same) h
-    (idle_own n w (suc t) history i q k own owes.books)
+module _ (n w t : ℕ) (history : ℕ → Registers) where
+  -- a line that writes no register; `own` is what held of the process when time had passed
+  quiet_put : (x : State) (i : ℕ) (d : Mode) (k : ProgramCounter) (v : Move) → length x.processes ≡ n → IsOneOf n i →
+      ((u : ℕ) → u ≤ suc t → Laws n w history u) → history (suc t) ≡ history t → Invariant n w t history x →
+      ProcessInvariant n w (suc t) history i (at n w x i) → Owes n w (suc t) history (at n w x i) i d k v →
+      Invariant n w (suc t) history (changed x i (by_move (algorithm n w) (suc t) x.memory (at n w x i) k v))
+  quiet_put x i d k (To d' m' p k') count one laws same h own owes =
+      let q = at n w x i in
+      put_inv n w t history x i m' (record {
+        control = At d' k';
+        variables = p;
+        auxiliary = stepped_auxiliary (algorithm n w) k (suc t) q.auxiliary;
+      }) Stepped count one laws
+      (λ j o other. untouched_same n w j (history t) (history (suc t)) same) h
+      (record {
+        well = (owes.well.0, owes.well.1);
+        long = owes.long;
+        opened = round_from (restarts k) q.auxiliary.since q.auxiliary.round (suc t) own.opened own.round_le;
+        round_le = round_to (restarts k) q.auxiliary.round (suc t) own.round_le;
+        stage = owes.stage;
+        counts = owes.counts_are;
+        wrote = owes.wrote;
+        books = owes.books;
+      })
+  quiet_put x i d k (Begin d' p k') count one laws same h own owes =
+      let q = at n w x i in
+      put_inv n w t history x i x.memory (record {
+        control = At d' k';
+        variables = p;
+        auxiliary = begun_auxiliary (algorithm n w) k (suc t) q.auxiliary;
+      }) Stepped count one laws
+      (λ j o other. untouched_same n w j (history t) (history (suc t)) same) h
+      (record {
+        well = (owes.well.0, owes.well.1);
+        long = owes.long;
+        opened = omega arith;
+        round_le = omega arith;
+        stage = subst (λ y. Stage n w i history (suc t) (suc t) (suc t) p y) (sym owes.stage) tt;
+        counts = subst (λ y. Count n w p 0 0 0 y) (sym owes.stage) (refl, refl, refl);
+        wrote = owes.wrote;
+        books = owes.books;
+      })
+  quiet_put x i d k (Answer v) count one laws same h own owes =
+      let q = at n w x i in
+      put_inv n w t history x i x.memory (record {
+        control = Idle;
+        variables = q.variables;
+        auxiliary = stepped_auxiliary (algorithm n w) k (suc t) q.auxiliary;
+      }) (Answered v) count one laws
+      (λ j o other. untouched_same n w j (history t) (history (suc t)) same) h
+      (idle_own n w (suc t) history i q k own owes.books)
+  quiet_put x i d k Finish count one laws same h own owes =
+      let q = at n w x i in
+      put_inv n w t history x i x.memory (record {
+        control = Idle;
+        variables = q.variables;
+        auxiliary = stepped_auxiliary (algorithm n w) k (suc t) q.auxiliary;
+      }) Finished count one laws
+      (λ j o other. untouched_same n w j (history t) (history (suc t)) same) h
+      (idle_own n w (suc t) history i q k own owes.books)
 
--- the laws when nothing was written
-laws_same : (n w t : ℕ) (history : ℕ → Registers) → history (suc t) ≡ history t →
-    ((u : ℕ) → u ≤ t → Laws n w history u) → (u : ℕ) → u ≤ suc t → Laws n w history u
-laws_same n w t history same laws =
-    laws_up_to n w history t laws
-    (laws_next n w history t (history t) same (acts_nothing n w history t (history t)) laws (laws t (omega arith)).now)
+  -- the laws when nothing was written
+  laws_same : history (suc t) ≡ history t → ((u : ℕ) → u ≤ t → Laws n w history u) → (u : ℕ) → u ≤ suc t →
+      Laws n w history u
+  laws_same same laws =
+      laws_up_to n w history t laws
+      (laws_next n w history t (history t) same (acts_nothing n w history t (history t)) laws (laws t (omega arith)).now)
 
-ground : (n w t : ℕ) (history : ℕ → Registers) (i : ℕ) (m : Registers) (q : Process) → IsOneOf n i → 0 < w →
-    Now n w (history t) → history t ≡ m → ProcessInvariant n w t history i q → Ground n w i m q.variables
-ground n w t history i m q one some now is own = record {
-  one = one;
-  some = some;
-  bits = λ c o. subst (λ (y : Registers). bit y.p c i ≤ 1) is (now.bits c i o one);
-  long = own.long;
-}
+  ground : (i : ℕ) (m : Registers) (q : Process) → IsOneOf n i → 0 < w → Now n w (history t) → history t ≡ m →
+      ProcessInvariant n w t history i q → Ground n w i m q.variables
+  ground i m q one some now is own = record {
+    one = one;
+    some = some;
+    bits = λ c o. subst (λ (y : Registers). bit y.p c i ≤ 1) is (now.bits c i o one);
+    long = own.long;
+  }
 
-quiet_inv : (n w t : ℕ) (history : ℕ → Registers) (x : State) (i : ℕ) (d : Mode) (k : ProgramCounter) →
-    IsQuiet k → 0 < w → length x.processes ≡ n → IsOneOf n i → history t ≡ x.memory →
-    Invariant n w t history x → (at n w x i).control ≡ At d k →
-    history (suc t) ≡ (changed x i (by_step (algorithm n w) (suc t) x.memory i (at n w x i) (At d k))).memory →
-    Invariant n w (suc t) history (changed x i (by_step (algorithm n w) (suc t) x.memory i (at n w x i) (At d k)))
-quiet_inv n w t history x i d k quiet some count one now h is next =
-    let q = at n w x i in
-    let p = q.variables in
-    let m = x.memory in
-    let stays : history (suc t) ≡ m =
-    next ∙ embed.move_memory (algorithm n w) (suc t) x i k (move n w i d m p k) ∙ kept n w i d m p k quiet in
-    let same : history (suc t) ≡ history t = stays ∙ sym now in
-    let laws : (u : ℕ) → u ≤ suc t → Laws n w history u = laws_same n w t history same h.laws in
-    let here : Laws n w history (suc t) = laws (suc t) (omega arith) in
-    let own : ProcessInvariant n w (suc t) history i q =
-    own_kept n w t history i q one (here.since t (omega arith))
-    (untouched_same n w i (history t) (history (suc t)) same) (h.each i one) in
-    let well : ControlWell n w p (At d k) = subst (ControlWell n w p) is own.well in
-    let stage : Stage n w i history (suc t) q.auxiliary.since q.auxiliary.round p k =
-    subst (StageAt n w i history (suc t) q.auxiliary.since q.auxiliary.round p) is own.stage in
-    let books : Books n w i (history q.auxiliary.since) (history (suc t)) d p k =
-    subst (BooksAt n w i (history q.auxiliary.since) (history (suc t)) p) is own.books in
-    quiet_put n w t history x i d k (move n w i d m p k) count one laws same h own
-    (record {
-      well = move_well n w i d m p k (ground n w (suc t) history i m q one some here.now stays own) well.0 well.1;
-      long = long_move n w i d m p k own.long;
-      stage = stage_move n w i history (suc t) q.auxiliary.since q.auxiliary.round m d p k
-          (record {
-            one = one;
-            some = some;
-            laws = laws;
-            now = stays;
-            opened = own.opened;
-            round_le = own.round_le;
-            long = own.long;
-            line = well.0;
-            keeps = well.1;
-            quiet = quiet;
-          })
-          stage;
-      counts_are =
-          count_move n w i d m p k q.auxiliary.own q.auxiliary.collects
-          (q.auxiliary.collects + tests k) q.auxiliary.tested
-          (if restarts k then 0 else q.auxiliary.tested + tests k) (omega arith) refl refl well.1
-          (sharp_at n w i history (suc t) q.auxiliary.since q.auxiliary.round d p k one
-          (here.since q.auxiliary.round own.round_le) well.0 well.1 books stage)
-          (bits_at n w i history (suc t) q.auxiliary.since q.auxiliary.round p k stage)
-          (subst (CountAt n w p q.auxiliary.own q.auxiliary.collects q.auxiliary.tested) is own.counts);
-      wrote =
-          flow.counts_writes lines (algorithm n w) d m p k
-          (move n w i d m p k) q.auxiliary.wrote (flows n w i d m p k well.0)
-          (subst (λ (y : Control). HasWritten y q.auxiliary.wrote) is own.wrote);
-      books = books_move n w i (history q.auxiliary.since) (history (suc t)) m d p k well.0 quiet own.long books;
-    })
+module _ (n w t : ℕ) (history : ℕ → Registers) (x : State) (i : ℕ) (d : Mode) (k : ProgramCounter) where
+  quiet_inv : IsQuiet k → 0 < w → length x.processes ≡ n → IsOneOf n i → history t ≡ x.memory →
+      Invariant n w t history x → (at n w x i).control ≡ At d k →
+      history (suc t) ≡ (changed x i (by_step (algorithm n w) (suc t) x.memory i (at n w x i) (At d k))).memory →
+      Invariant n w (suc t) history (changed x i (by_step (algorithm n w) (suc t) x.memory i (at n w x i) (At d k)))
+  quiet_inv quiet some count one now h is next =
+      let q = at n w x i in
+      let p = q.variables in
+      let m = x.memory in
+      let stays : history (suc t) ≡ m =
+      next ∙ embed.move_memory (algorithm n w) (suc t) x i k (move n w i d m p k) ∙ kept n w i d m p k quiet in
+      let same : history (suc t) ≡ history t = stays ∙ sym now in
+      let laws : (u : ℕ) → u ≤ suc t → Laws n w history u = laws_same n w t history same h.laws in
+      let here : Laws n w history (suc t) = laws (suc t) (omega arith) in
+      let own : ProcessInvariant n w (suc t) history i q =
+      own_kept n w t history i q one (here.since t (omega arith))
+      (untouched_same n w i (history t) (history (suc t)) same) (h.each i one) in
+      let well : ControlWell n w p (At d k) = subst (ControlWell n w p) is own.well in
+      let stage : Stage n w i history (suc t) q.auxiliary.since q.auxiliary.round p k =
+      subst (StageAt n w i history (suc t) q.auxiliary.since q.auxiliary.round p) is own.stage in
+      let books : Books n w i (history q.auxiliary.since) (history (suc t)) d p k =
+      subst (BooksAt n w i (history q.auxiliary.since) (history (suc t)) p) is own.books in
+      quiet_put n w t history x i d k (move n w i d m p k) count one laws same h own
+      (record {
+        well = move_well n w i d m p k (ground n w (suc t) history i m q one some here.now stays own) well.0 well.1;
+        long = long_move n w i d m p k own.long;
+        stage = stage_move n w i history (suc t) q.auxiliary.since q.auxiliary.round m d p k
+            (record {
+              one = one;
+              some = some;
+              laws = laws;
+              now = stays;
+              opened = own.opened;
+              round_le = own.round_le;
+              long = own.long;
+              line = well.0;
+              keeps = well.1;
+              quiet = quiet;
+            })
+            stage;
+        counts_are =
+            count_move n w i d m p k q.auxiliary.own q.auxiliary.collects
+            (q.auxiliary.collects + tests k) q.auxiliary.tested
+            (if restarts k then 0 else q.auxiliary.tested + tests k) (omega arith) refl refl well.1
+            (sharp_at n w i history (suc t) q.auxiliary.since q.auxiliary.round d p k one
+            (here.since q.auxiliary.round own.round_le) well.0 well.1 books stage)
+            (bits_at n w i history (suc t) q.auxiliary.since q.auxiliary.round p k stage)
+            (subst (CountAt n w p q.auxiliary.own q.auxiliary.collects q.auxiliary.tested) is own.counts);
+        wrote =
+            flow.counts_writes lines (algorithm n w) d m p k
+            (move n w i d m p k) q.auxiliary.wrote (flows n w i d m p k well.0)
+            (subst (λ (y : Control). HasWritten y q.auxiliary.wrote) is own.wrote);
+        books = books_move n w i (history q.auxiliary.since) (history (suc t)) m d p k well.0 quiet own.long books;
+      })
 
--- a line that writes registers and goes on
-written_put : (n w t : ℕ) (history : ℕ → Registers) (x : State) (i : ℕ) (d : Mode)
-    (k k' : ProgramCounter) (m' : Registers) → length x.processes ≡ n →
-    IsOneOf n i → restarts k ≡ false → ((u : ℕ) → u ≤ suc t → Laws n w history u) →
-    ((j : ℕ) → IsOneOf n j → j ≢ i → Untouched n w j (history t) (history (suc t))) →
-    Invariant n w t history x → IsLineOf w d k' → Keeps n w d (at n w x i).variables k' →
-    Stage n w i history (suc t) (at n w x i).auxiliary.since (at n w x i).auxiliary.round (at n w x i).variables k' →
-    Count n w (at n w x i).variables (suc (at n w x i).auxiliary.own) ((at n w x i).auxiliary.collects + tests k)
-    ((at n w x i).auxiliary.tested + tests k) k' → HasWritten (At d k') ((at n w x i).auxiliary.wrote + writes k) →
-    Books n w i (history (at n w x i).auxiliary.since) (history (suc t)) d (at n w x i).variables k' →
-    Invariant n w (suc t) history (changed x i (New m' (record {
-      control = At d k';
-      variables = (at n w x i).variables;
-      auxiliary = stepped_auxiliary (algorithm n w) k (suc t) (at n w x i).auxiliary;
-    }) Stepped))
-written_put n w t history x i d k k' m' count one again laws untouched h line keeps stage counts_are wrote books =
-    let q = at n w x i in
-    let own : ProcessInvariant n w t history i q = h.each i one in
-    let g = q.auxiliary in
-    let Good : ℕ → ℕ → Type 0 = λ round tested. ProcessInvariant n w (suc t) history i (record {
-      control = At d k';
-      variables = q.variables;
-      auxiliary = record {
-        since = g.since;
-        own = suc g.own;
-        collects = g.collects + tests k;
-        round = round;
-        tested = tested;
-        called = g.called;
-        wrote = g.wrote + writes k;
-      };
-    }) in
-    put_inv n w t history x i m' _ Stepped count one laws untouched h
-    (subst (λ b. Good (if b then suc t else g.round) (if b then 0 else g.tested + tests k)) (sym again) (record {
-      well = (line, keeps);
-      long = own.long;
-      opened = own.opened;
-      round_le = (let le : g.round ≤ t = own.round_le in omega arith);
-      stage = stage;
-      counts = counts_are;
-      wrote = wrote;
-      books = books;
-    }))
+  -- a line that writes registers and goes on
+  written_put : (k' : ProgramCounter) (m' : Registers) → length x.processes ≡ n → IsOneOf n i → restarts k ≡ false →
+      ((u : ℕ) → u ≤ suc t → Laws n w history u) →
+      ((j : ℕ) → IsOneOf n j → j ≢ i → Untouched n w j (history t) (history (suc t))) → Invariant n w t history x →
+      IsLineOf w d k' → Keeps n w d (at n w x i).variables k' →
+      Stage n w i history (suc t) (at n w x i).auxiliary.since (at n w x i).auxiliary.round (at n w x i).variables k' →
+      Count n w (at n w x i).variables (suc (at n w x i).auxiliary.own) ((at n w x i).auxiliary.collects + tests k)
+      ((at n w x i).auxiliary.tested + tests k) k' → HasWritten (At d k') ((at n w x i).auxiliary.wrote + writes k) →
+      Books n w i (history (at n w x i).auxiliary.since) (history (suc t)) d (at n w x i).variables k' →
+      Invariant n w (suc t) history
+      (changed x i (New m' (record {
+        control = At d k';
+        variables = (at n w x i).variables;
+        auxiliary = stepped_auxiliary (algorithm n w) k (suc t) (at n w x i).auxiliary;
+      }) Stepped))
+  written_put k' m' count one again laws untouched h line keeps stage counts_are wrote books =
+      let q = at n w x i in
+      let own : ProcessInvariant n w t history i q = h.each i one in
+      let g = q.auxiliary in
+      let Good : ℕ → ℕ → Type 0 = λ round tested. ProcessInvariant n w (suc t) history i (record {
+        control = At d k';
+        variables = q.variables;
+        auxiliary = record {
+          since = g.since;
+          own = suc g.own;
+          collects = g.collects + tests k;
+          round = round;
+          tested = tested;
+          called = g.called;
+          wrote = g.wrote + writes k;
+        };
+      }) in
+      put_inv n w t history x i m' _ Stepped count one laws untouched h
+      (subst (λ b. Good (if b then suc t else g.round) (if b then 0 else g.tested + tests k)) (sym again) (record {
+        well = (line, keeps);
+        long = own.long;
+        opened = own.opened;
+        round_le = (let le : g.round ≤ t = own.round_le in omega arith);
+        stage = stage;
+        counts = counts_are;
+        wrote = wrote;
+        books = books;
+      }))
 
 books_15 : (n w i : ℕ) (base m : Registers) (d : Mode) (p : Variables) → IsScan w d → Books n w i base m d p L15 →
     Books n w i base (after_15 i m p) d p L16
@@ -386,37 +379,37 @@ more_or_same c j other = elim (less_or_not c j) [
 not_self : (x : ℕ) → nat_lt x x ≡ false
 not_self x = grind (arith, common_steps)
 
--- before line 52 the process has not yet answered process j
-not_yet : (n w i y z : ℕ) (base m : Registers) (p : Variables) → IsOneOf n p.j →
-    Books n w i base m (Updating y z) p L52 → m.answers i p.j ≡ m.writes i
-not_yet n w i y z base m p inside h =
-    let old = h.settled in
-    let e : m.answers i p.j ≡ m.writes i + (if nat_lt p.j p.j then 1 else 0) = old.answers_are p.j inside in
-    let f : m.writes i + (if nat_lt p.j p.j then 1 else 0) ≡ m.writes i + 0 =
-    ap (λ b. m.writes i + (if b then 1 else 0)) (not_self p.j) in
-    omega arith
+module _ (n w i y z : ℕ) (base m : Registers) (p : Variables) where
+  -- before line 52 the process has not yet answered process j
+  not_yet : IsOneOf n p.j → Books n w i base m (Updating y z) p L52 → m.answers i p.j ≡ m.writes i
+  not_yet inside h =
+      let old = h.settled in
+      let e : m.answers i p.j ≡ m.writes i + (if nat_lt p.j p.j then 1 else 0) = old.answers_are p.j inside in
+      let f : m.writes i + (if nat_lt p.j p.j then 1 else 0) ≡ m.writes i + 0 =
+      ap (λ b. m.writes i + (if b then 1 else 0)) (not_self p.j) in
+      omega arith
 
-books_52 : (n w i y z : ℕ) (base m : Registers) (p : Variables) → IsOneOf n p.j →
-    Books n w i base m (Updating y z) p L52 → Books n w i base (after_52 i m p) (Updating y z) p L53
-books_52 n w i y z base m p inside h =
-    let old = h.settled in
-    record {
-      settled = record {
-        answers_are = λ c o. elim (cases_eq c p.j) [
-          | inl same ↦
-              subst (λ v. (after_52 i m p).answers i v ≡ m.writes i + (if nat_lt v (p.j + 1) then 1 else 0)) (sym same)
-              (raised_at_here m.answers i p.j ∙ ap (λ v. v + 1) (not_yet n w i y z base m p inside h)
-              ∙ ap (λ b. m.writes i + (if b then 1 else 0)) (sym (lt_true p.j (p.j + 1) (omega arith))))
-          | inr other ↦
-              raised_at_elsewhere m.answers i p.j i c other ∙ old.answers_are c o
-              ∙ ap (λ b. m.writes i + (if b then 1 else 0)) (sym (more_or_same c p.j other))
-        ];
-        puts_are = old.puts_are;
-        toggles_are = old.toggles_are;
-      };
-      made = λ making. absurd making;
-      self = λ inside. absurd inside;
-    }
+  books_52 : IsOneOf n p.j → Books n w i base m (Updating y z) p L52 →
+      Books n w i base (after_52 i m p) (Updating y z) p L53
+  books_52 inside h =
+      let old = h.settled in
+      record {
+        settled = record {
+          answers_are = λ c o. elim (cases_eq c p.j) [
+            | inl same ↦
+                subst (λ v. (after_52 i m p).answers i v ≡ m.writes i + (if nat_lt v (p.j + 1) then 1 else 0)) (sym same)
+                (raised_at_here m.answers i p.j ∙ ap (λ v. v + 1) (not_yet inside h)
+                ∙ ap (λ b. m.writes i + (if b then 1 else 0)) (sym (lt_true p.j (p.j + 1) (omega arith))))
+            | inr other ↦
+                raised_at_elsewhere m.answers i p.j i c other ∙ old.answers_are c o
+                ∙ ap (λ b. m.writes i + (if b then 1 else 0)) (sym (more_or_same c p.j other))
+          ];
+          puts_are = old.puts_are;
+          toggles_are = old.toggles_are;
+        };
+        made = λ making. absurd making;
+        self = λ inside. absurd inside;
+      }
 
 line52_inv : (n w t : ℕ) (history : ℕ → Registers) (x : State) (i y z : ℕ) → 0 < w → length x.processes ≡ n →
     IsOneOf n i → history t ≡ x.memory → Invariant n w t history x → (at n w x i).control ≡ At (Updating y z) L52 →
@@ -522,222 +515,152 @@ books_57 n w i y z base m p h =
       self = λ inside. absurd inside;
     }
 
-line57_inv : (n w t : ℕ) (history : ℕ → Registers) (x : State) (i y z : ℕ) → 0 < w → length x.processes ≡ n →
-    IsOneOf n i → history t ≡ x.memory → Invariant n w t history x → (at n w x i).control ≡ At (Updating y z) L57 →
-    history (suc t) ≡ after_57 i (Updating y z) x.memory (at n w x i).variables → Invariant n w (suc t) history
-    (changed x i (by_step (algorithm n w) (suc t) x.memory i (at n w x i) (At (Updating y z) L57)))
-line57_inv n w t history x i y z some count one now h is next =
-    let q = at n w x i in
-    let p = q.variables in
-    let own : ProcessInvariant n w t history i q = h.each i one in
-    let well : ControlWell n w p (At (Updating y z) L57) = subst (ControlWell n w p) is own.well in
-    let there : IsOneOf w y = well.0 in
-    let books : Books n w i (history q.auxiliary.since) (history t) (Updating y z) p L57 =
-    subst (BooksAt n w i (history q.auxiliary.since) (history t) p) is own.books in
-    let becomes : history (suc t) ≡ after_57 i (Updating y z) (history t) p =
-    next ∙ ap (λ m. after_57 i (Updating y z) m p) (sym now) in
-    let back : after_57 i (Updating y z) (history t) p ≡ history (suc t) = sym becomes in
-    let settled = books.settled in
-    let old : Now n w (history t) = (h.laws t (omega arith)).now in
-    let turned : place p.tog y ≡ flip ((history t).toggles i y) =
-    settled.toggles_are y there
-    ∙ ap (λ b. if b then flip ((history t).toggles i y) else (history t).toggles i y) (same_number y) in
-    let laws =
-    laws_up_to n w history t h.laws (laws_next n w history t (after_57 i (Updating y z) (history t) p) becomes
-    (acts_57 n w i y z history t p one there old settled.answers_are settled.puts_are turned) h.laws
-    (now_57 n w i y z history t p one there old settled.answers_are settled.puts_are turned)) in
-    written_put n w t history x i (Updating y z) L57 L58 (after_57 i (Updating y z) x.memory p) count one refl laws
-    (λ j o other. subst (Untouched n w j (history t)) back (untouched_57 n w i j (Updating y z) (history t) p other)) h
-    well.0 tt tt tt
-    (flow.counts_writes lines (algorithm n w) (Updating y z) x.memory p L57
-    (move n w i (Updating y z) x.memory p L57) q.auxiliary.wrote (flows n w i (Updating y z) x.memory p L57 well.0)
-    (subst (λ (y : Control). HasWritten y q.auxiliary.wrote) is own.wrote))
-    (subst (λ m. Books n w i (history q.auxiliary.since) m (Updating y z) p L58) back
-    (books_57 n w i y z (history q.auxiliary.since) (history t) p books))
+module _ (n w t : ℕ) (history : ℕ → Registers) (x : State) where
+  line57_inv : (i y z : ℕ) → 0 < w → length x.processes ≡ n → IsOneOf n i → history t ≡ x.memory →
+      Invariant n w t history x → (at n w x i).control ≡ At (Updating y z) L57 →
+      history (suc t) ≡ after_57 i (Updating y z) x.memory (at n w x i).variables →
+      Invariant n w (suc t) history
+      (changed x i (by_step (algorithm n w) (suc t) x.memory i (at n w x i) (At (Updating y z) L57)))
+  line57_inv i y z some count one now h is next =
+      let q = at n w x i in
+      let p = q.variables in
+      let own : ProcessInvariant n w t history i q = h.each i one in
+      let well : ControlWell n w p (At (Updating y z) L57) = subst (ControlWell n w p) is own.well in
+      let there : IsOneOf w y = well.0 in
+      let books : Books n w i (history q.auxiliary.since) (history t) (Updating y z) p L57 =
+      subst (BooksAt n w i (history q.auxiliary.since) (history t) p) is own.books in
+      let becomes : history (suc t) ≡ after_57 i (Updating y z) (history t) p =
+      next ∙ ap (λ m. after_57 i (Updating y z) m p) (sym now) in
+      let back : after_57 i (Updating y z) (history t) p ≡ history (suc t) = sym becomes in
+      let settled = books.settled in
+      let old : Now n w (history t) = (h.laws t (omega arith)).now in
+      let turned : place p.tog y ≡ flip ((history t).toggles i y) =
+      settled.toggles_are y there
+      ∙ ap (λ b. if b then flip ((history t).toggles i y) else (history t).toggles i y) (same_number y) in
+      let laws =
+      laws_up_to n w history t h.laws (laws_next n w history t (after_57 i (Updating y z) (history t) p) becomes
+      (acts_57 n w i y z history t p one there old settled.answers_are settled.puts_are turned) h.laws
+      (now_57 n w i y z history t p one there old settled.answers_are settled.puts_are turned)) in
+      written_put n w t history x i (Updating y z) L57 L58 (after_57 i (Updating y z) x.memory p) count one refl laws
+      (λ j o other. subst (Untouched n w j (history t)) back (untouched_57 n w i j (Updating y z) (history t) p other)) h
+      well.0 tt tt tt
+      (flow.counts_writes lines (algorithm n w) (Updating y z) x.memory p L57
+      (move n w i (Updating y z) x.memory p L57) q.auxiliary.wrote (flows n w i (Updating y z) x.memory p L57 well.0)
+      (subst (λ (y : Control). HasWritten y q.auxiliary.wrote) is own.wrote))
+      (subst (λ m. Books n w i (history q.auxiliary.since) m (Updating y z) p L58) back
+      (books_57 n w i y z (history q.auxiliary.since) (history t) p books))
 
--- each line
-line_inv : (n w t : ℕ) (history : ℕ → Registers) (x : State) (i : ℕ) (d : Mode) (k : ProgramCounter) →
-    IsLineOf w d k → 0 < w → length x.processes ≡ n → IsOneOf n i → history t ≡ x.memory →
-    Invariant n w t history x → (at n w x i).control ≡ At d k →
-    history (suc t) ≡ (changed x i (by_step (algorithm n w) (suc t) x.memory i (at n w x i) (At d k))).memory →
-    Invariant n w (suc t) history (changed x i (by_step (algorithm n w) (suc t) x.memory i (at n w x i) (At d k)))
-line_inv n w t history x i d L10 s some count one now h is next =
-    quiet_inv n w t history x i d L10 tt some count one now h is next
-line_inv n w t history x i d L11 s some count one now h is next =
-    quiet_inv n w t history x i d L11 tt some count one now h is next
-line_inv n w t history x i d L12 s some count one now h is next =
-    quiet_inv n w t history x i d L12 tt some count one now h is next
-line_inv n w t history x i d L13 s some count one now h is next =
-    quiet_inv n w t history x i d L13 tt some count one now h is next
-line_inv n w t history x i d L14 s some count one now h is next =
-    quiet_inv n w t history x i d L14 tt some count one now h is next
-line_inv n w t history x i d L15 s some count one now h is next =
-    line15_inv n w t history x i d some count one now h is next
-line_inv n w t history x i d L16 s some count one now h is next =
-    quiet_inv n w t history x i d L16 tt some count one now h is next
-line_inv n w t history x i d L17 s some count one now h is next =
-    quiet_inv n w t history x i d L17 tt some count one now h is next
-line_inv n w t history x i d L18 s some count one now h is next =
-    quiet_inv n w t history x i d L18 tt some count one now h is next
-line_inv n w t history x i d L19 s some count one now h is next =
-    quiet_inv n w t history x i d L19 tt some count one now h is next
-line_inv n w t history x i d L20 s some count one now h is next =
-    quiet_inv n w t history x i d L20 tt some count one now h is next
-line_inv n w t history x i d L21 s some count one now h is next =
-    quiet_inv n w t history x i d L21 tt some count one now h is next
-line_inv n w t history x i d L22 s some count one now h is next =
-    quiet_inv n w t history x i d L22 tt some count one now h is next
-line_inv n w t history x i d L23 s some count one now h is next =
-    quiet_inv n w t history x i d L23 tt some count one now h is next
-line_inv n w t history x i d L24 s some count one now h is next =
-    quiet_inv n w t history x i d L24 tt some count one now h is next
-line_inv n w t history x i d L25 s some count one now h is next =
-    quiet_inv n w t history x i d L25 tt some count one now h is next
-line_inv n w t history x i d L26 s some count one now h is next =
-    quiet_inv n w t history x i d L26 tt some count one now h is next
-line_inv n w t history x i d L27 s some count one now h is next =
-    quiet_inv n w t history x i d L27 tt some count one now h is next
-line_inv n w t history x i d L28 s some count one now h is next =
-    quiet_inv n w t history x i d L28 tt some count one now h is next
-line_inv n w t history x i d L29 s some count one now h is next =
-    quiet_inv n w t history x i d L29 tt some count one now h is next
-line_inv n w t history x i d L30 s some count one now h is next =
-    quiet_inv n w t history x i d L30 tt some count one now h is next
-line_inv n w t history x i d L31 s some count one now h is next =
-    quiet_inv n w t history x i d L31 tt some count one now h is next
-line_inv n w t history x i d L32 s some count one now h is next =
-    quiet_inv n w t history x i d L32 tt some count one now h is next
-line_inv n w t history x i d L33 s some count one now h is next =
-    quiet_inv n w t history x i d L33 tt some count one now h is next
-line_inv n w t history x i d L34 s some count one now h is next =
-    quiet_inv n w t history x i d L34 tt some count one now h is next
-line_inv n w t history x i d L35 s some count one now h is next =
-    quiet_inv n w t history x i d L35 tt some count one now h is next
-line_inv n w t history x i d L36 s some count one now h is next =
-    quiet_inv n w t history x i d L36 tt some count one now h is next
-line_inv n w t history x i d L37 s some count one now h is next =
-    quiet_inv n w t history x i d L37 tt some count one now h is next
-line_inv n w t history x i d L50 s some count one now h is next =
-    quiet_inv n w t history x i d L50 tt some count one now h is next
-line_inv n w t history x i d L51 s some count one now h is next =
-    quiet_inv n w t history x i d L51 tt some count one now h is next
-line_inv n w t history x i Scanning L52 s some count one now h is next = absurd s
-line_inv n w t history x i (Embedded y z) L52 s some count one now h is next = absurd s
-line_inv n w t history x i (Updating y z) L52 s some count one now h is next =
-    line52_inv n w t history x i y z some count one now h is next
-line_inv n w t history x i d L53 s some count one now h is next =
-    quiet_inv n w t history x i d L53 tt some count one now h is next
-line_inv n w t history x i d L54 s some count one now h is next =
-    quiet_inv n w t history x i d L54 tt some count one now h is next
-line_inv n w t history x i Scanning L55 s some count one now h is next = absurd s
-line_inv n w t history x i (Embedded y z) L55 s some count one now h is next = absurd s
-line_inv n w t history x i (Updating y z) L55 s some count one now h is next =
-    line55_inv n w t history x i y z some count one now h is next
-line_inv n w t history x i d L56 s some count one now h is next =
-    quiet_inv n w t history x i d L56 tt some count one now h is next
-line_inv n w t history x i Scanning L57 s some count one now h is next = absurd s
-line_inv n w t history x i (Embedded y z) L57 s some count one now h is next = absurd s
-line_inv n w t history x i (Updating y z) L57 s some count one now h is next =
-    line57_inv n w t history x i y z some count one now h is next
-line_inv n w t history x i d L58 s some count one now h is next =
-    quiet_inv n w t history x i d L58 tt some count one now h is next
+  -- each line
+  line_inv : (i : ℕ) (d : Mode) (k : ProgramCounter) → IsLineOf w d k → 0 < w → length x.processes ≡ n → IsOneOf n i →
+      history t ≡ x.memory → Invariant n w t history x → (at n w x i).control ≡ At d k →
+      history (suc t) ≡ (changed x i (by_step (algorithm n w) (suc t) x.memory i (at n w x i) (At d k))).memory →
+      Invariant n w (suc t) history (changed x i (by_step (algorithm n w) (suc t) x.memory i (at n w x i) (At d k)))
+  line_inv i d L15 s some count one now h is next = line15_inv n w t history x i d some count one now h is next
+  line_inv i Scanning L52 s some count one now h is next = absurd s
+  line_inv i (Embedded y z) L52 s some count one now h is next = absurd s
+  line_inv i (Updating y z) L52 s some count one now h is next =
+      line52_inv n w t history x i y z some count one now h is next
+  line_inv i Scanning L55 s some count one now h is next = absurd s
+  line_inv i (Embedded y z) L55 s some count one now h is next = absurd s
+  line_inv i (Updating y z) L55 s some count one now h is next =
+      line55_inv n w t history x i y z some count one now h is next
+  line_inv i Scanning L57 s some count one now h is next = absurd s
+  line_inv i (Embedded y z) L57 s some count one now h is next = absurd s
+  line_inv i (Updating y z) L57 s some count one now h is next = line57_inv i y z some count one now h is next
+  line_inv i d k s some count one now h is next = quiet_inv n w t history x i d k tt some count one now h is next
 
-step_inv : (n w t : ℕ) (history : ℕ → Registers) (x : State) (i : ℕ) (control : Control) →
-    0 < w → length x.processes ≡ n → IsOneOf n i → history t ≡ x.memory →
-    Invariant n w t history x → (at n w x i).control ≡ control →
-    history (suc t) ≡ (changed x i (by_step (algorithm n w) (suc t) x.memory i (at n w x i) control)).memory →
-    Invariant n w (suc t) history (changed x i (by_step (algorithm n w) (suc t) x.memory i (at n w x i) control))
-step_inv n w t history x i Idle some count one now h is next =
-    let same : history (suc t) ≡ history t = next ∙ sym now in
-    let laws : (u : ℕ) → u ≤ suc t → Laws n w history u = laws_same n w t history same h.laws in
-    inv_later n w t history x (laws (suc t) (omega arith)) same laws h
-step_inv n w t history x i (At d k) some count one now h is next =
-    let well : ControlWell n w (at n w x i).variables (At d k) =
-    subst (ControlWell n w (at n w x i).variables) is (h.each i one).well in
-    line_inv n w t history x i d k well.0 some count one now h is next
+  step_inv : (i : ℕ) (control : Control) → 0 < w → length x.processes ≡ n → IsOneOf n i → history t ≡ x.memory →
+      Invariant n w t history x → (at n w x i).control ≡ control →
+      history (suc t) ≡ (changed x i (by_step (algorithm n w) (suc t) x.memory i (at n w x i) control)).memory →
+      Invariant n w (suc t) history (changed x i (by_step (algorithm n w) (suc t) x.memory i (at n w x i) control))
+  step_inv i Idle some count one now h is next =
+      let same : history (suc t) ≡ history t = next ∙ sym now in
+      let laws : (u : ℕ) → u ≤ suc t → Laws n w history u = laws_same n w t history same h.laws in
+      inv_later n w t history x (laws (suc t) (omega arith)) same laws h
+  step_inv i (At d k) some count one now h is next =
+      let well : ControlWell n w (at n w x i).variables (At d k) =
+      subst (ControlWell n w (at n w x i).variables) is (h.each i one).well in
+      line_inv i d k well.0 some count one now h is next
 
--- a call
-admit_inv : (n w t : ℕ) (history : ℕ → Registers) (x : State) (i : ℕ) (op : Op) (o : Option Reason) →
-    call_skip kind.Multi (counts n w) i op ≡ o → length x.processes ≡ n → IsOneOf n i → history (suc t) ≡ history t →
-    ((u : ℕ) → u ≤ suc t → Laws n w history u) → Invariant n w t history x → (at n w x i).control ≡ Idle →
-    Invariant n w (suc t) history (changed x i (by_admission (algorithm n w) (suc t) x.memory (at n w x i) op o))
-admit_inv n w t history x i op (Some why) e count one same laws h is =
-    inv_later n w t history x (laws (suc t) (omega arith)) same laws h
-admit_inv n w t history x i Scan None e count one same laws h is =
-    let q = at n w x i in
-    let own : ProcessInvariant n w (suc t) history i q =
-    own_kept n w t history i q one ((laws (suc t) (omega arith)).since t (omega arith))
-    (untouched_same n w i (history t) (history (suc t)) same) (h.each i one) in
-    let rest : Rest n w i (history (suc t)) q.variables.tog =
-    subst (BooksAt n w i (history q.auxiliary.since) (history (suc t)) q.variables) is own.books in
-    put_inv n w t history x i x.memory (record {
-      control = At Scanning L10;
-      variables = q.variables;
-      auxiliary = called_auxiliary (suc t) Scan q.auxiliary;
-    }) Called count one laws
-    (λ j o other. untouched_same n w j (history t) (history (suc t)) same) h
-    (record {
-      well = called_well n w i q.variables Scan e;
-      long = own.long;
-      opened = omega arith;
-      round_le = omega arith;
-      stage = tt;
-      counts = (refl, refl, refl);
-      wrote = tt;
-      books = record {
-        settled = record { answers_are = rest.answers_are; puts_are = rest.puts_are; toggles_are = rest.toggles_are };
-        made = λ making. absurd making;
-        self = λ inside. refl;
-      };
-    })
-admit_inv n w t history x i (Update word value) None e count one same laws h is =
-    let q = at n w x i in
-    let own : ProcessInvariant n w (suc t) history i q =
-    own_kept n w t history i q one ((laws (suc t) (omega arith)).since t (omega arith))
-    (untouched_same n w i (history t) (history (suc t)) same) (h.each i one) in
-    let rest : Rest n w i (history (suc t)) q.variables.tog =
-    subst (BooksAt n w i (history q.auxiliary.since) (history (suc t)) q.variables) is own.books in
-    put_inv n w t history x i x.memory (record {
-      control = At (Updating word value) (counter (Update word value));
-      variables = q.variables;
-      auxiliary = called_auxiliary (suc t) (Update word value) q.auxiliary;
-    }) Called count one laws
-    (λ j o other. untouched_same n w j (history t) (history (suc t)) same) h
-    (record {
-      well = called_well n w i q.variables (Update word value) e;
-      long = own.long;
-      opened = own.opened;
-      round_le = own.round_le;
-      stage = tt;
-      counts = tt;
-      wrote = refl;
-      books = record {
-        settled = record { answers_are = rest.answers_are; puts_are = rest.puts_are; toggles_are = rest.toggles_are };
-        made = λ making. absurd making;
-        self = λ inside. absurd inside;
-      };
-    })
+  -- a call
+  admit_inv : (i : ℕ) (op : Op) (o : Option Reason) → call_skip kind.Multi (counts n w) i op ≡ o →
+      length x.processes ≡ n → IsOneOf n i → history (suc t) ≡ history t → ((u : ℕ) → u ≤ suc t → Laws n w history u) →
+      Invariant n w t history x → (at n w x i).control ≡ Idle →
+      Invariant n w (suc t) history (changed x i (by_admission (algorithm n w) (suc t) x.memory (at n w x i) op o))
+  admit_inv i op (Some why) e count one same laws h is =
+      inv_later n w t history x (laws (suc t) (omega arith)) same laws h
+  admit_inv i Scan None e count one same laws h is =
+      let q = at n w x i in
+      let own : ProcessInvariant n w (suc t) history i q =
+      own_kept n w t history i q one ((laws (suc t) (omega arith)).since t (omega arith))
+      (untouched_same n w i (history t) (history (suc t)) same) (h.each i one) in
+      let rest : Rest n w i (history (suc t)) q.variables.tog =
+      subst (BooksAt n w i (history q.auxiliary.since) (history (suc t)) q.variables) is own.books in
+      put_inv n w t history x i x.memory (record {
+        control = At Scanning L10;
+        variables = q.variables;
+        auxiliary = called_auxiliary (suc t) Scan q.auxiliary;
+      }) Called count one laws
+      (λ j o other. untouched_same n w j (history t) (history (suc t)) same) h
+      (record {
+        well = called_well n w i q.variables Scan e;
+        long = own.long;
+        opened = omega arith;
+        round_le = omega arith;
+        stage = tt;
+        counts = (refl, refl, refl);
+        wrote = tt;
+        books = record {
+          settled = record { answers_are = rest.answers_are; puts_are = rest.puts_are; toggles_are = rest.toggles_are };
+          made = λ making. absurd making;
+          self = λ inside. refl;
+        };
+      })
+  admit_inv i (Update word value) None e count one same laws h is =
+      let q = at n w x i in
+      let own : ProcessInvariant n w (suc t) history i q =
+      own_kept n w t history i q one ((laws (suc t) (omega arith)).since t (omega arith))
+      (untouched_same n w i (history t) (history (suc t)) same) (h.each i one) in
+      let rest : Rest n w i (history (suc t)) q.variables.tog =
+      subst (BooksAt n w i (history q.auxiliary.since) (history (suc t)) q.variables) is own.books in
+      put_inv n w t history x i x.memory (record {
+        control = At (Updating word value) (counter (Update word value));
+        variables = q.variables;
+        auxiliary = called_auxiliary (suc t) (Update word value) q.auxiliary;
+      }) Called count one laws
+      (λ j o other. untouched_same n w j (history t) (history (suc t)) same) h
+      (record {
+        well = called_well n w i q.variables (Update word value) e;
+        long = own.long;
+        opened = own.opened;
+        round_le = own.round_le;
+        stage = tt;
+        counts = tt;
+        wrote = refl;
+        books = record {
+          settled = record { answers_are = rest.answers_are; puts_are = rest.puts_are; toggles_are = rest.toggles_are };
+          made = λ making. absurd making;
+          self = λ inside. absurd inside;
+        };
+      })
 
-asked_inv : (n w t : ℕ) (history : ℕ → Registers) (x : State) (i : ℕ) (op : Op) (control : Control) →
-    length x.processes ≡ n → IsOneOf n i → history (suc t) ≡ history t →
-    ((u : ℕ) → u ≤ suc t → Laws n w history u) → Invariant n w t history x → (at n w x i).control ≡ control →
-    Invariant n w (suc t) history (changed x i (by_call (algorithm n w) (suc t) x.memory i op (at n w x i) control))
-asked_inv n w t history x i op Idle count one same laws h is =
-    admit_inv n w t history x i op (call_skip kind.Multi (counts n w) i op) refl count one same laws h is
-asked_inv n w t history x i op (At d k) count one same laws h is =
-    inv_later n w t history x (laws (suc t) (omega arith)) same laws h
+  asked_inv : (i : ℕ) (op : Op) (control : Control) → length x.processes ≡ n → IsOneOf n i →
+      history (suc t) ≡ history t → ((u : ℕ) → u ≤ suc t → Laws n w history u) → Invariant n w t history x →
+      (at n w x i).control ≡ control →
+      Invariant n w (suc t) history (changed x i (by_call (algorithm n w) (suc t) x.memory i op (at n w x i) control))
+  asked_inv i op Idle count one same laws h is =
+      admit_inv i op (call_skip kind.Multi (counts n w) i op) refl count one same laws h is
+  asked_inv i op (At d k) count one same laws h is = inv_later n w t history x (laws (suc t) (omega arith)) same laws h
 
-pub happens_inv : (n w t : ℕ) (history : ℕ → Registers) (x : State) (y : Item) →
-    0 < w → length x.processes ≡ n → IsOneOf n (who y) → history t ≡ x.memory →
-    Invariant n w t history x → history (suc t) ≡ (happens (algorithm n w) (suc t) x y).memory →
-    Invariant n w (suc t) history (happens (algorithm n w) (suc t) x y)
-happens_inv n w t history x (Step i) some count one now h next =
-    step_inv n w t history x i (at n w x i).control some count one now h refl next
-happens_inv n w t history x (Call i op) some count one now h next =
-    let same : history (suc t) ≡ history t =
-    next ∙ embed.call_memory (algorithm n w) (suc t) x i op (at n w x i).control ∙ sym now in
-    asked_inv n w t history x i op (at n w x i).control count one same (laws_same n w t history same h.laws) h refl
-happens_inv n w t history x (Crash i) some count one now h next =
-    let same : history (suc t) ≡ history t = next ∙ sym now in
-    let laws = laws_same n w t history same h.laws in
-    inv_later n w t history x (laws (suc t) (omega arith)) same laws h
+  pub happens_inv : (y : Item) → 0 < w → length x.processes ≡ n → IsOneOf n (who y) → history t ≡ x.memory →
+      Invariant n w t history x → history (suc t) ≡ (happens (algorithm n w) (suc t) x y).memory →
+      Invariant n w (suc t) history (happens (algorithm n w) (suc t) x y)
+  happens_inv (Step i) some count one now h next = step_inv i (at n w x i).control some count one now h refl next
+  happens_inv (Call i op) some count one now h next =
+      let same : history (suc t) ≡ history t =
+      next ∙ embed.call_memory (algorithm n w) (suc t) x i op (at n w x i).control ∙ sym now in
+      asked_inv i op (at n w x i).control count one same (laws_same n w t history same h.laws) h refl
+  happens_inv (Crash i) some count one now h next =
+      let same : history (suc t) ≡ history t = next ∙ sym now in
+      let laws = laws_same n w t history same h.laws in
+      inv_later n w t history x (laws (suc t) (omega arith)) same laws h

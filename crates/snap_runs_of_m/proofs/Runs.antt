@@ -2,9 +2,7 @@
 use Rattle.std.specs.Prelude.{◌≡◌, ℕ, zero, suc, ◌-◌, ◌<◌, ◌≤◌, max, List, [], length, replicate, slice_index, refl}
 use Rattle.std.proofs.Common.{sym, ◌∙◌, ap, subst, arith}
 use Rattle.std.proofs.lemmas.List.{get_or-replicate, length-replicate}
-use Rattle.snap_words.specs.Shape.{IsOneOf}
-use Rattle.snap_words.specs.Word.{Word, no_word}
-use Rattle.snap_semantics.specs.declared.process.Item.{Item}
+use Rattle.snap_runs.proofs.Common.{IsOneOf, Word, no_word, Item}
 use Rattle.snap_runs.proofs.Algorithm.{Mode, Idle, At, when_busy, first_process}
 use Rattle.snap_runs.proofs.Algorithm.{first_state, typed_at, item_at, typed_state}
 use Rattle.snap_runs.proofs.Embedding as embed
@@ -64,59 +62,58 @@ now0 n w = record {
   puts_to = λ c i h j. omega arith;
 }
 
-laws0 : (n w : ℕ) (items : List Item) → Laws n w (registers_at n w items) 0
-laws0 n w items = record {
-  now = now0 n w;
-  since =
-      λ u le. subst (λ y. (Since n w (registers_at n w items) y 0)) (let e : 0 ≡ u = omega arith in e)
-      (since_itself n w (registers_at n w items) 0 (now0 n w));
-  answered = λ c i low value h j asks more. absurd (omega arith);
-}
+module _ (n w : ℕ) (items : List Item) where
+  laws0 : Laws n w (registers_at n w items) 0
+  laws0 = record {
+    now = now0 n w;
+    since =
+        λ u le. subst (λ y. (Since n w (registers_at n w items) y 0)) (let e : 0 ≡ u = omega arith in e)
+        (since_itself n w (registers_at n w items) 0 (now0 n w));
+    answered = λ c i low value h j asks more. absurd (omega arith);
+  }
 
-own0 : (n w : ℕ) (items : List Item) (i : ℕ) →
-    ProcessInvariant n w 0 (registers_at n w items) i (first_process (algorithm n w))
-own0 n w items i = record {
-  well = tt;
-  long = record {
-    a = length-replicate (max n w) first_word;
-    b = length-replicate (max n w) first_word;
-    g = length-replicate (max n w) 0;
-    h = length-replicate (max n w) 0;
-    tog = length-replicate (max n w) 0;
-    d = subst (λ v. n ≤ v) (sym (length-replicate (max n w) 0)) (let le : n ≤ max n w = omega arith in le);
-  };
-  opened = omega arith;
-  round_le = omega arith;
-  stage = tt;
-  counts = tt;
-  wrote = tt;
-  books = record {
-    answers_are = λ c o. refl;
-    puts_are = refl;
-    toggles_are = λ y o. get_or-replicate (max n w) (y - 1) 0 0 (omega arith);
-  };
-}
+  own0 : (i : ℕ) → ProcessInvariant n w 0 (registers_at n w items) i (first_process (algorithm n w))
+  own0 i = record {
+    well = tt;
+    long = record {
+      a = length-replicate (max n w) first_word;
+      b = length-replicate (max n w) first_word;
+      g = length-replicate (max n w) 0;
+      h = length-replicate (max n w) 0;
+      tog = length-replicate (max n w) 0;
+      d = subst (λ v. n ≤ v) (sym (length-replicate (max n w) 0)) (let le : n ≤ max n w = omega arith in le);
+    };
+    opened = omega arith;
+    round_le = omega arith;
+    stage = tt;
+    counts = tt;
+    wrote = tt;
+    books = record {
+      answers_are = λ c o. refl;
+      puts_are = refl;
+      toggles_are = λ y o. get_or-replicate (max n w) (y - 1) 0 0 (omega arith);
+    };
+  }
 
-inv0 : (n w : ℕ) (items : List Item) → Invariant n w 0 (registers_at n w items) (first_state (algorithm n w))
-inv0 n w items = record {
-  laws = λ u le. subst (Laws n w (registers_at n w items)) (let e : 0 ≡ u = omega arith in e) (laws0 n w items);
-  each =
-      λ i h. subst (λ (q : Process). ProcessInvariant n w 0 (registers_at n w items) i q)
-      (sym (embed.first_process_is (algorithm n w) i h)) (own0 n w items i);
-}
+  inv0 : Invariant n w 0 (registers_at n w items) (first_state (algorithm n w))
+  inv0 = record {
+    laws = λ u le. subst (Laws n w (registers_at n w items)) (let e : 0 ≡ u = omega arith in e) laws0;
+    each =
+        λ i h. subst (λ (q : Process). ProcessInvariant n w 0 (registers_at n w items) i q)
+        (sym (embed.first_process_is (algorithm n w) i h)) (own0 i);
+  }
 
-pub inv : (n w : ℕ) (items : List Item) → 0 < w → Steady (run_of n w items) → (t : ℕ) → t ≤ length items →
-    Invariant n w t (registers_at n w items) (state_at n w items t)
-inv n w items some fits zero h = inv0 n w items
-inv n w items some fits (suc t) h =
-    happens_inv n w t (registers_at n w items) (state_at n w items t) (item_at items t) some
-    (embed.count (algorithm n w) items t)
-    (embed.one_at (algorithm n w) items fits t (omega arith)) refl (inv n w items some fits t (omega arith)) refl
+  pub inv : 0 < w → Steady (run_of n w items) → (t : ℕ) → t ≤ length items →
+      Invariant n w t (registers_at n w items) (state_at n w items t)
+  inv some fits zero h = inv0
+  inv some fits (suc t) h =
+      happens_inv n w t (registers_at n w items) (state_at n w items t) (item_at items t) some
+      (embed.count (algorithm n w) items t)
+      (embed.one_at (algorithm n w) items fits t (omega arith)) refl (inv some fits t (omega arith)) refl
 
-pub own : (n w : ℕ) (items : List Item) → 0 < w → Steady (run_of n w items) →
-    (t i : ℕ) → t ≤ length items → IsOneOf n i →
-    ProcessInvariant n w t (registers_at n w items) i (typed_at (algorithm n w) (state_at n w items t) i)
-own n w items some fits t i h one = (inv n w items some fits t h).each i one
+  pub own : 0 < w → Steady (run_of n w items) → (t i : ℕ) → t ≤ length items → IsOneOf n i →
+      ProcessInvariant n w t (registers_at n w items) i (typed_at (algorithm n w) (state_at n w items t) i)
+  own some fits t i h one = (inv some fits t h).each i one
 
 -- line 28 marks a process
 named_28 : (n w i : ℕ) (history : ℕ → Registers) (t since round : ℕ) (p : Variables) (control : Control) → IsOneOf n i →
@@ -129,60 +126,55 @@ named_28 n w i history t since round p (At d k) one laws well h = λ e.
     subst (IsOneOf n) (sym at28.4)
     (seen_by_words n w i history round t p.g p.a p.b p.h one laws at28.1 p.k keeps.1 at28.3).0
 
-pub all_do : (n w : ℕ) (items : List Item) → 0 < w → Steady (run_of n w items) → embed.AllDo (algorithm n w) items
-all_do n w items some fits t i h one =
-    let v = inv n w items some fits t (omega arith) in
-    let o = v.each i one in
-    let q = typed_at (algorithm n w) (state_at n w items t) i in
-    does n w i (registers_at n w items t) q.variables q.control
-    (record { one = one; some = some; bits = λ c k. (v.laws t (omega arith)).now.bits c i k one; long = o.long }) o.well
-    (named_28 n w i (registers_at n w items) t q.auxiliary.since q.auxiliary.round q.variables
-    q.control one v.laws o.well o.stage)
-
--- the run, with what is known of its lines
-abbrev pub execution : (n w : ℕ) (items : List Item) → 0 < w → Steady (run_of n w items) →
-    scans.Execution (algorithm n w) lines
-execution n w items some fits = record {
-  items = items;
-  fits = fits;
-  does = all_do n w items some fits;
-  flows = λ t i h one.
+module _ (n w : ℕ) (items : List Item) (some : 0 < w) (fits : Steady (run_of n w items)) where
+  pub all_do : embed.AllDo (algorithm n w) items
+  all_do t i h one =
+      let v = inv n w items some fits t (omega arith) in
+      let o = v.each i one in
       let q = typed_at (algorithm n w) (state_at n w items t) i in
-      when_busy _ _ (λ d k well. flows n w i d (registers_at n w items t) q.variables k well.0) q.control
-      (own n w items some fits t i (omega arith) one).well;
-  wrote = λ t i h one. (own n w items some fits t i h one).wrote;
-}
+      does n w i (registers_at n w items t) q.variables q.control
+      (record { one = one; some = some; bits = λ c k. (v.laws t (omega arith)).now.bits c i k one; long = o.long }) o.well
+      (named_28 n w i (registers_at n w items) t q.auxiliary.since q.auxiliary.round q.variables
+      q.control one v.laws o.well o.stage)
 
--- what a process at a line keeps there
-pub well_of : (n w : ℕ) (items : List Item) → 0 < w → Steady (run_of n w items) →
-    (t i : ℕ) (d : Mode) (k : ProgramCounter) → t ≤ length items → IsOneOf n i →
-    (typed_at (algorithm n w) (state_at n w items t) i).control ≡ At d k →
-    IsLineOf w d k × Keeps n w d (typed_at (algorithm n w) (state_at n w items t) i).variables k
-well_of n w items some fits t i d k le one e =
-    let q = typed_at (algorithm n w) (state_at n w items t) i in
-    subst (ControlWell n w q.variables) e (own n w items some fits t i le one).well
+  -- the run, with what is known of its lines
+  abbrev pub execution : scans.Execution (algorithm n w) lines
+  execution = record {
+    items = items;
+    fits = fits;
+    does = all_do;
+    flows = λ t i h one.
+        let q = typed_at (algorithm n w) (state_at n w items t) i in
+        when_busy _ _ (λ d k well. flows n w i d (registers_at n w items t) q.variables k well.0) q.control
+        (own n w items some fits t i (omega arith) one).well;
+    wrote = λ t i h one. (own n w items some fits t i h one).wrote;
+  }
 
--- a busy process is at the stage of its line
-pub stage_of : (n w : ℕ) (items : List Item) → 0 < w → Steady (run_of n w items) →
-    (t i : ℕ) (d : Mode) (k : ProgramCounter) → t ≤ length items → IsOneOf n i →
-    (typed_at (algorithm n w) (state_at n w items t) i).control ≡ At d k →
-    Stage n w i (registers_at n w items) t (typed_at (algorithm n w) (state_at n w items t) i).auxiliary.since
-    (typed_at (algorithm n w) (state_at n w items t) i).auxiliary.round
-    (typed_at (algorithm n w) (state_at n w items t) i).variables k
-stage_of n w items some fits t i d k le one e =
-    let q = typed_at (algorithm n w) (state_at n w items t) i in
-    subst (StageAt n w i (registers_at n w items) t q.auxiliary.since q.auxiliary.round q.variables) e
-    (own n w items some fits t i le one).stage
+module _ (n w : ℕ) (items : List Item) (some : 0 < w) (fits : Steady (run_of n w items)) (t i : ℕ) (d : Mode)
+    (k : ProgramCounter) (le : t ≤ length items) (one : IsOneOf n i)
+    (e : (typed_at (algorithm n w) (state_at n w items t) i).control ≡ At d k) where
+  -- what a process at a line keeps there
+  pub well_of : IsLineOf w d k × Keeps n w d (typed_at (algorithm n w) (state_at n w items t) i).variables k
+  well_of =
+      let q = typed_at (algorithm n w) (state_at n w items t) i in
+      subst (ControlWell n w q.variables) e (own n w items some fits t i le one).well
 
--- the counts of a process at a line are those of the line
-pub counts_of : (n w : ℕ) (items : List Item) → 0 < w → Steady (run_of n w items) →
-    (t i : ℕ) (d : Mode) (k : ProgramCounter) → t ≤ length items → IsOneOf n i →
-    (typed_at (algorithm n w) (state_at n w items t) i).control ≡ At d k →
-    Count n w (typed_at (algorithm n w) (state_at n w items t) i).variables
-    (typed_at (algorithm n w) (state_at n w items t) i).auxiliary.own
-    (typed_at (algorithm n w) (state_at n w items t) i).auxiliary.collects
-    (typed_at (algorithm n w) (state_at n w items t) i).auxiliary.tested k
-counts_of n w items some fits t i d k le one e =
-    let q = typed_at (algorithm n w) (state_at n w items t) i in
-    subst (CountAt n w q.variables q.auxiliary.own q.auxiliary.collects q.auxiliary.tested) e
-    (own n w items some fits t i le one).counts
+  -- a busy process is at the stage of its line
+  pub stage_of : Stage n w i (registers_at n w items) t
+      (typed_at (algorithm n w) (state_at n w items t) i).auxiliary.since
+      (typed_at (algorithm n w) (state_at n w items t) i).auxiliary.round
+      (typed_at (algorithm n w) (state_at n w items t) i).variables k
+  stage_of =
+      let q = typed_at (algorithm n w) (state_at n w items t) i in
+      subst (StageAt n w i (registers_at n w items) t q.auxiliary.since q.auxiliary.round q.variables) e
+      (own n w items some fits t i le one).stage
+
+  -- the counts of a process at a line are those of the line
+  pub counts_of : Count n w (typed_at (algorithm n w) (state_at n w items t) i).variables
+      (typed_at (algorithm n w) (state_at n w items t) i).auxiliary.own
+      (typed_at (algorithm n w) (state_at n w items t) i).auxiliary.collects
+      (typed_at (algorithm n w) (state_at n w items t) i).auxiliary.tested k
+  counts_of =
+      let q = typed_at (algorithm n w) (state_at n w items t) i in
+      subst (CountAt n w q.variables q.auxiliary.own q.auxiliary.collects q.auxiliary.tested) e
+      (own n w items some fits t i le one).counts

@@ -5,8 +5,7 @@ use Rattle.std.specs.Prelude.{◌≡◌, ◌≢◌, ℕ, suc, ◌+◌, ◌-◌, 
 use Rattle.std.specs.Prelude.{map, Option, Some, None, nat_eq, nat_lt, if◌then◌else◌, slice_set, refl}
 use Rattle.std.proofs.Common.{sym, ◌∙◌, ap, subst, arith, inl, inr}
 use Rattle.std.proofs.lemmas.Bool.{cases_eq}
-use Rattle.snap_words.specs.Shape.{IsOneOf}
-use Rattle.snap_words.specs.Word.{Word}
+use Rattle.snap_runs.proofs.Common.{IsOneOf, Word}
 use Rattle.snap_runs.proofs.Algorithm.{To, Begin, Answer, Finish, Mode, Scanning, Embedded, Updating}
 use Rattle.snap_runs.proofs.Held.{word_at, Held, held_wider}
 use Rattle.snap_runs.proofs.Plain.{plain_taken}
@@ -56,81 +55,73 @@ pub record Shown (n me : ℕ) (history : ℕ → Registers) (t since : ℕ) (vie
   pub put : (history since).answers lender me < (history time).puts lender
   pub is : view_at (history time).views lender ≡ view
 
-abbrev pub Gathered : ℕ → ℕ → ℕ → (ℕ → Registers) → ℕ → ℕ → Variables → ℕ → ℕ → ℕ → ℕ → Type 0
-Gathered n w me history round t p asked first second late =
-    Collected n w me history round t p.g p.a p.b p.h asked first second late
+module _ (n w me : ℕ) (history : ℕ → Registers) (round t : ℕ) (p : Variables) where
+  abbrev pub Gathered : ℕ → ℕ → ℕ → ℕ → Type 0
+  Gathered asked first second late = Collected n w me history round t p.g p.a p.b p.h asked first second late
 
-abbrev pub Marks : ℕ → ℕ → ℕ → (ℕ → Registers) → ℕ → ℕ → Variables → ℕ → Type 0
-Marks n w me history round t p k = Row n w me history round t p.g p.h p.d p.a p.b k
+  abbrev pub Marks : ℕ → Type 0
+  Marks k = Row n w me history round t p.g p.h p.d p.a p.b k
 
-abbrev pub Stage : ℕ → ℕ → ℕ → (ℕ → Registers) → ℕ → ℕ → ℕ → Variables → ProgramCounter → Type 0
-Stage n w me history t since round p L11 = Low n me history since round p.moved
-Stage n w me history t since round p L12 = Low n me history since round p.moved
-Stage n w me history t since round p L13 =
-    Low n me history since round p.moved × Gathered n w me history round t p p.j 1 1 1
-Stage n w me history t since round p L14 =
-    Low n me history since round p.moved × Gathered n w me history round t p p.j 1 1 1
-    × ReadBit history round t me p.j p.x
-Stage n w me history t since round p L15 =
-    Low n me history since round p.moved × Gathered n w me history round t p p.j 1 1 1
-    × ReadBit history round t me p.j p.x × (place p.g p.j ≡ p.x)
-Stage n w me history t since round p L16 =
-    Low n me history since round p.moved × Gathered n w me history round t p (p.j + 1) 1 1 1
-Stage n w me history t since round p L17 =
-    Low n me history since round p.moved × Gathered n w me history round t p (n + 1) p.k 1 1
-Stage n w me history t since round p L18 =
-    Low n me history since round p.moved × Gathered n w me history round t p (n + 1) (p.k + 1) 1 1
-Stage n w me history t since round p L19 =
-    Low n me history since round p.moved × Gathered n w me history round t p (n + 1) (w + 1) p.k 1
-Stage n w me history t since round p L20 =
-    Low n me history since round p.moved × Gathered n w me history round t p (n + 1) (w + 1) (p.k + 1) 1
-Stage n w me history t since round p L21 =
-    Low n me history since round p.moved × Gathered n w me history round t p (n + 1) (w + 1) (w + 1) p.j
-Stage n w me history t since round p L22 =
-    Low n me history since round p.moved × (x : Gathered n w me history round t p (n + 1) (w + 1) (w + 1) p.j)
-    × ReadBit history x.ended t me p.j p.x
-Stage n w me history t since round p L23 =
-    Low n me history since round p.moved × Gathered n w me history round t p (n + 1) (w + 1) (w + 1) (p.j + 1)
-Stage n w me history t since round p L24 =
-    Low n me history since round p.moved × Gathered n w me history round t p (n + 1) (w + 1) (w + 1) (n + 1)
-Stage n w me history t since round p L25 =
-    Low n me history since round p.moved × Gathered n w me history round t p (n + 1) (w + 1) (w + 1) (n + 1)
-    × ((c : ℕ) → IsOneOf n c → place p.d c ≡ 0)
-Stage n w me history t since round p L26 =
-    Low n me history since round p.moved × Gathered n w me history round t p (n + 1) (w + 1) (w + 1) (n + 1)
-    × Marks n w me history round t p p.k
-Stage n w me history t since round p L27 =
-    Low n me history since round p.moved × Gathered n w me history round t p (n + 1) (w + 1) (w + 1) (n + 1)
-    × Marks n w me history round t p p.k × (same_at p.a p.b p.k ≡ false)
-Stage n w me history t since round p L28 =
-    Low n me history since round p.moved × Gathered n w me history round t p (n + 1) (w + 1) (w + 1) (n + 1)
-    × Marks n w me history round t p p.k × (same_at p.a p.b p.k ≡ false) × (p.x ≡ (word_at p.b p.k).id)
-Stage n w me history t since round p L29 =
-    Low n me history since round p.moved × Gathered n w me history round t p (n + 1) (w + 1) (w + 1) (n + 1)
-    × Marks n w me history round t p (p.k + 1)
-Stage n w me history t since round p L30 =
-    Low n me history since round p.moved × Gathered n w me history round t p (n + 1) (w + 1) (w + 1) (n + 1)
-    × Marks n w me history round t p (w + 1)
-Stage n w me history t since round p L31 =
-    Low n me history since round p.moved × Gathered n w me history round t p (n + 1) (w + 1) (w + 1) (n + 1)
-    × Marks n w me history round t p (w + 1)
-Stage n w me history t since round p L32 = Low n me history since t p.moved
-Stage n w me history t since round p L33 = Low n me history since t p.moved
-Stage n w me history t since round p L34 =
-    Held (words_of history) t since (map (λ (r : Word). r.datum) (take w (map plain p.b)))
-Stage n w me history t since round p L35 = Held (words_of history) t since p.s
-Stage n w me history t since round p L36 = Low n me history since t p.moved × (place p.moved p.j ≡ limit)
-Stage n w me history t since round p L37 = Held (words_of history) t since p.s × Shown n me history t since p.s
-Stage n w me history t since round p L52 = Seen history t me p
-Stage n w me history t since round p L55 = Held (words_of history) t since p.s
-Stage n w me history t since round p _ = Unit {0}
+module _ (n w me : ℕ) (history : ℕ → Registers) (t since round : ℕ) where
+  abbrev pub Stage : Variables → ProgramCounter → Type 0
+  Stage p L11 = Low n me history since round p.moved
+  Stage p L12 = Low n me history since round p.moved
+  Stage p L13 = Low n me history since round p.moved × Gathered n w me history round t p p.j 1 1 1
+  Stage p L14 =
+      Low n me history since round p.moved × Gathered n w me history round t p p.j 1 1 1
+      × ReadBit history round t me p.j p.x
+  Stage p L15 =
+      Low n me history since round p.moved × Gathered n w me history round t p p.j 1 1 1
+      × ReadBit history round t me p.j p.x × (place p.g p.j ≡ p.x)
+  Stage p L16 = Low n me history since round p.moved × Gathered n w me history round t p (p.j + 1) 1 1 1
+  Stage p L17 = Low n me history since round p.moved × Gathered n w me history round t p (n + 1) p.k 1 1
+  Stage p L18 = Low n me history since round p.moved × Gathered n w me history round t p (n + 1) (p.k + 1) 1 1
+  Stage p L19 = Low n me history since round p.moved × Gathered n w me history round t p (n + 1) (w + 1) p.k 1
+  Stage p L20 = Low n me history since round p.moved × Gathered n w me history round t p (n + 1) (w + 1) (p.k + 1) 1
+  Stage p L21 = Low n me history since round p.moved × Gathered n w me history round t p (n + 1) (w + 1) (w + 1) p.j
+  Stage p L22 =
+      Low n me history since round p.moved × (x : Gathered n w me history round t p (n + 1) (w + 1) (w + 1) p.j)
+      × ReadBit history x.ended t me p.j p.x
+  Stage p L23 =
+      Low n me history since round p.moved × Gathered n w me history round t p (n + 1) (w + 1) (w + 1) (p.j + 1)
+  Stage p L24 = Low n me history since round p.moved × Gathered n w me history round t p (n + 1) (w + 1) (w + 1) (n + 1)
+  Stage p L25 =
+      Low n me history since round p.moved × Gathered n w me history round t p (n + 1) (w + 1) (w + 1) (n + 1)
+      × ((c : ℕ) → IsOneOf n c → place p.d c ≡ 0)
+  Stage p L26 =
+      Low n me history since round p.moved × Gathered n w me history round t p (n + 1) (w + 1) (w + 1) (n + 1)
+      × Marks n w me history round t p p.k
+  Stage p L27 =
+      Low n me history since round p.moved × Gathered n w me history round t p (n + 1) (w + 1) (w + 1) (n + 1)
+      × Marks n w me history round t p p.k × (same_at p.a p.b p.k ≡ false)
+  Stage p L28 =
+      Low n me history since round p.moved × Gathered n w me history round t p (n + 1) (w + 1) (w + 1) (n + 1)
+      × Marks n w me history round t p p.k × (same_at p.a p.b p.k ≡ false) × (p.x ≡ (word_at p.b p.k).id)
+  Stage p L29 =
+      Low n me history since round p.moved × Gathered n w me history round t p (n + 1) (w + 1) (w + 1) (n + 1)
+      × Marks n w me history round t p (p.k + 1)
+  Stage p L30 =
+      Low n me history since round p.moved × Gathered n w me history round t p (n + 1) (w + 1) (w + 1) (n + 1)
+      × Marks n w me history round t p (w + 1)
+  Stage p L31 =
+      Low n me history since round p.moved × Gathered n w me history round t p (n + 1) (w + 1) (w + 1) (n + 1)
+      × Marks n w me history round t p (w + 1)
+  Stage p L32 = Low n me history since t p.moved
+  Stage p L33 = Low n me history since t p.moved
+  Stage p L34 = Held (words_of history) t since (map (λ (r : Word). r.datum) (take w (map plain p.b)))
+  Stage p L35 = Held (words_of history) t since p.s
+  Stage p L36 = Low n me history since t p.moved × (place p.moved p.j ≡ limit)
+  Stage p L37 = Held (words_of history) t since p.s × Shown n me history t since p.s
+  Stage p L52 = Seen history t me p
+  Stage p L55 = Held (words_of history) t since p.s
+  Stage p _ = Unit {0}
 
--- What a line leaves is the stage of the next one; a scan's answer was held since its start.
-abbrev pub StageMove : ℕ → ℕ → ℕ → (ℕ → Registers) → ℕ → ℕ → ℕ → Move → Type 0
-StageMove n w me history t since round (To d m p k) = Stage n w me history t since round p k
-StageMove n w me history t since round (Begin d p k) = k ≡ L10
-StageMove n w me history t since round (Answer v) = Held (words_of history) t since v
-StageMove n w me history t since round Finish = Unit {0}
+  -- What a line leaves is the stage of the next one; a scan's answer was held since its start.
+  abbrev pub StageMove : Move → Type 0
+  StageMove (To d m p k) = Stage p k
+  StageMove (Begin d p k) = k ≡ L10
+  StageMove (Answer v) = Held (words_of history) t since v
+  StageMove Finish = Unit {0}
 
 -- a line that writes no register
 abbrev pub IsQuiet : ProgramCounter → Type 0
@@ -154,11 +145,11 @@ pub record Known (n w me : ℕ) (history : ℕ → Registers) (t since round : �
   pub keeps : Keeps n w d p k
   pub quiet : IsQuiet k
 
-stage_first : (n w me : ℕ) (history : ℕ → Registers) (t since round : ℕ) (d : Mode) (m : Registers) (p : Variables)
-    (o : Option ℕ) → Low n me history since t p.moved → ((k : ℕ) → o ≡ Some k → place p.moved k ≡ limit) →
-    StageMove n w me history t since round (first_to d m p o)
-stage_first n w me history t since round d m p None h f = h
-stage_first n w me history t since round d m p (Some k) h f = (h, f k refl)
+module _ (n w me : ℕ) (history : ℕ → Registers) (t since round : ℕ) (d : Mode) (m : Registers) (p : Variables) where
+  stage_first : (o : Option ℕ) → Low n me history since t p.moved → ((k : ℕ) → o ≡ Some k → place p.moved k ≡ limit) →
+      StageMove n w me history t since round (first_to d m p o)
+  stage_first None h f = h
+  stage_first (Some k) h f = (h, f k refl)
 
 -- a bit that is read now
 reads_now : (history : ℕ → Registers) (from t me c : ℕ) (m : Registers) → history t ≡ m → from ≤ t →
@@ -174,103 +165,102 @@ marked_then : (b : Bool) (v : ℕ) → v ≡ 0 → (if not b then 1 else v) ≡ 
 marked_then true v e f = absurd (omega arith)
 marked_then false v e f = refl
 
--- line 25 marks the processes whose late bits differ
-row_starts : (n w me : ℕ) (history : ℕ → Registers) (round t : ℕ) (p : Variables) →
-    IsOneOf n me → ((u : ℕ) → u ≤ t → Laws n w history u) → round ≤ t →
-    Gathered n w me history round t p (n + 1) (w + 1) (w + 1) (n + 1) → ((c : ℕ) → IsOneOf n c → place p.d c ≡ 0) →
-    (row : List ℕ) → ((c : ℕ) → IsOneOf n c → place row c ≡ marked p c) → (k : ℕ) → k ≡ 1 →
-    Row n w me history round t p.g p.h row p.a p.b k
-row_starts n w me history round t p one laws le x zero row is k first = record {
-  bits =
-      λ c o.
-      subst (λ v. v ≤ 1) (sym (is c o)) (marked_le (nat_eq (place p.h c) (place p.g c)) (place p.d c) (zero c o));
-  shown =
-      λ c o differ.
-      is c o ∙ ap (λ b. if not b then 1 else place p.d c) (other_number (place p.h c) (place p.g c) differ);
-  words = λ y o lt. absurd (omega arith);
-  moved = λ c o e.
-      let differ : place p.h c ≢ place p.g c = other_from (place p.h c) (place p.g c)
-      (marked_then (nat_eq (place p.h c) (place p.g c)) (place p.d c) (zero c o) (sym (is c o) ∙ e)) in
-      let answers : (history round).answers c me < (history t).answers c me =
-      seen_by_bits n w me history round t p.g p.a p.b p.h one laws x c o differ in
-      let writes : (history round).writes c ≤ (history t).writes c =
-      ((laws t (omega arith)).since round le).writes c o in
-      omega arith;
-}
+module _ (n w me : ℕ) (history : ℕ → Registers) (round t : ℕ) where
+  -- line 25 marks the processes whose late bits differ
+  row_starts : (p : Variables) → IsOneOf n me → ((u : ℕ) → u ≤ t → Laws n w history u) → round ≤ t →
+      Gathered n w me history round t p (n + 1) (w + 1) (w + 1) (n + 1) → ((c : ℕ) → IsOneOf n c → place p.d c ≡ 0) →
+      (row : List ℕ) → ((c : ℕ) → IsOneOf n c → place row c ≡ marked p c) → (k : ℕ) → k ≡ 1 →
+      Row n w me history round t p.g p.h row p.a p.b k
+  row_starts p one laws le x zero row is k first = record {
+    bits =
+        λ c o.
+        subst (λ v. v ≤ 1) (sym (is c o)) (marked_le (nat_eq (place p.h c) (place p.g c)) (place p.d c) (zero c o));
+    shown =
+        λ c o differ.
+        is c o ∙ ap (λ b. if not b then 1 else place p.d c) (other_number (place p.h c) (place p.g c) differ);
+    words = λ y o lt. absurd (omega arith);
+    moved = λ c o e.
+        let differ : place p.h c ≢ place p.g c = other_from (place p.h c) (place p.g c)
+        (marked_then (nat_eq (place p.h c) (place p.g c)) (place p.d c) (zero c o) (sym (is c o) ∙ e)) in
+        let answers : (history round).answers c me < (history t).answers c me =
+        seen_by_bits n w me history round t p.g p.a p.b p.h one laws x c o differ in
+        let writes : (history round).writes c ≤ (history t).writes c =
+        ((laws t (omega arith)).since round le).writes c o in
+        omega arith;
+  }
 
--- line 26 finds the words at place k the same
-row_same : (n w me : ℕ) (history : ℕ → Registers) (round t : ℕ) (g h d : List ℕ) (a b : Words) (k : ℕ) →
-    same_at a b k ≡ true → Row n w me history round t g h d a b k → Row n w me history round t g h d a b (k + 1)
-row_same n w me history round t g h d a b k same r = record {
-  bits = r.bits;
-  shown = r.shown;
-  words = λ y o lt differ. elim (cases_eq y k) [
-    | inl e ↦ absurd (let z : true ≡ false = sym same ∙ ap (same_at a b) (sym e) ∙ differ in cc)
-    | inr other ↦ r.words y o (omega arith) differ
-  ];
-  moved = r.moved;
-}
+  -- line 26 finds the words at place k the same
+  row_same : (g h d : List ℕ) (a b : Words) (k : ℕ) → same_at a b k ≡ true → Row n w me history round t g h d a b k →
+      Row n w me history round t g h d a b (k + 1)
+  row_same g h d a b k same r = record {
+    bits = r.bits;
+    shown = r.shown;
+    words = λ y o lt differ. elim (cases_eq y k) [
+      | inl e ↦ absurd (let z : true ≡ false = sym same ∙ ap (same_at a b) (sym e) ∙ differ in cc)
+      | inr other ↦ r.words y o (omega arith) differ
+    ];
+    moved = r.moved;
+  }
 
--- line 28 marks the writer of a word that differs
-row_marks : (n w me : ℕ) (history : ℕ → Registers) (round t : ℕ) (g h d : List ℕ) (a b : Words) (k x : ℕ) →
-    IsOneOf n x → n ≤ length d →
-    x ≡ (word_at b k).id → ((y : ℕ) → IsOneOf w y → same_at a b y ≡ false → IsOneOf n (word_at b y).id) →
-    events (history round) x me < events (history t) x me → Row n w me history round t g h d a b k →
-    Row n w me history round t g h (slice_set d (x - 1) 1) a b (k + 1)
-row_marks n w me history round t g h d a b k x one len is named event r =
-    let row = slice_set d (x - 1) 1 in
-    let here : (c : ℕ) → c ≡ x → place row c ≡ 1 =
-    λ c e. ap (place row) e ∙ set_here d x 1 one.0 (let le : x ≤ n = one.1 in omega arith) in
-    let there : (c : ℕ) → 0 < c → c ≢ x → place row c ≡ place d c = λ c pos other. set_there d x c 1 one.0 pos other in
-    let stays : (c : ℕ) → IsOneOf n c → place d c ≡ 1 → place row c ≡ 1 = λ c o e. elim (cases_eq c x) [
-      | inl same ↦ here c same
-      | inr other ↦ there c o.0 other ∙ e
-    ] in
-    record {
-      bits = λ c o. elim (cases_eq c x) [
-        | inl same ↦ (let e : place row c ≡ 1 = here c same in omega arith)
-        | inr other ↦ subst (λ v. v ≤ 1) (sym (there c o.0 other)) (r.bits c o)
-      ];
-      shown = λ c o differ. stays c o (r.shown c o differ);
-      words = λ y o lt differ. elim (cases_eq (word_at b y).id x) [
-        | inl same ↦ here (word_at b y).id same
-        | inr other ↦ elim (cases_eq y k) [
-          | inl e ↦ absurd (other (ap (λ v. (word_at b v).id) e ∙ sym is))
-          | inr less ↦ stays (word_at b y).id (named y o differ) (r.words y o (omega arith) differ)
-        ]
-      ];
-      moved = λ c o e. elim (cases_eq c x) [
-        | inl same ↦ subst (λ v. events (history round) v me < events (history t) v me) (sym same) event
-        | inr other ↦ r.moved c o (sym (there c o.0 other) ∙ e)
-      ];
-    }
+  -- line 28 marks the writer of a word that differs
+  row_marks : (g h d : List ℕ) (a b : Words) (k x : ℕ) → IsOneOf n x → n ≤ length d → x ≡ (word_at b k).id →
+      ((y : ℕ) → IsOneOf w y → same_at a b y ≡ false → IsOneOf n (word_at b y).id) →
+      events (history round) x me < events (history t) x me → Row n w me history round t g h d a b k →
+      Row n w me history round t g h (slice_set d (x - 1) 1) a b (k + 1)
+  row_marks g h d a b k x one len is named event r =
+      let row = slice_set d (x - 1) 1 in
+      let here : (c : ℕ) → c ≡ x → place row c ≡ 1 =
+      λ c e. ap (place row) e ∙ set_here d x 1 one.0 (let le : x ≤ n = one.1 in omega arith) in
+      let there : (c : ℕ) → 0 < c → c ≢ x → place row c ≡ place d c = λ c pos other. set_there d x c 1 one.0 pos other in
+      let stays : (c : ℕ) → IsOneOf n c → place d c ≡ 1 → place row c ≡ 1 = λ c o e. elim (cases_eq c x) [
+        | inl same ↦ here c same
+        | inr other ↦ there c o.0 other ∙ e
+      ] in
+      record {
+        bits = λ c o. elim (cases_eq c x) [
+          | inl same ↦ (let e : place row c ≡ 1 = here c same in omega arith)
+          | inr other ↦ subst (λ v. v ≤ 1) (sym (there c o.0 other)) (r.bits c o)
+        ];
+        shown = λ c o differ. stays c o (r.shown c o differ);
+        words = λ y o lt differ. elim (cases_eq (word_at b y).id x) [
+          | inl same ↦ here (word_at b y).id same
+          | inr other ↦ elim (cases_eq y k) [
+            | inl e ↦ absurd (other (ap (λ v. (word_at b v).id) e ∙ sym is))
+            | inr less ↦ stays (word_at b y).id (named y o differ) (r.words y o (omega arith) differ)
+          ]
+        ];
+        moved = λ c o e. elim (cases_eq c x) [
+          | inl same ↦ subst (λ v. events (history round) v me < events (history t) v me) (sym same) event
+          | inr other ↦ r.moved c o (sym (there c o.0 other) ∙ e)
+        ];
+      }
 
--- where nothing is marked, no late bit and no word differs
-pub still_bits : (n w me : ℕ) (history : ℕ → Registers) (round t : ℕ) (p : Variables) (k : ℕ) →
-    Marks n w me history round t p k → all_still n p ≡ true → (c : ℕ) → IsOneOf n c → place p.h c ≡ place p.g c
-still_bits n w me history round t p k r still c o =
-    elim (cases_eq (place p.h c) (place p.g c)) [
-      | inl same ↦ same
-      | inr differ ↦ absurd (
-          let zero : place p.d c ≡ 0 =
-          same_from (place p.d c) 0 (all_pass (λ c. nat_eq (place p.d c) 0) 1 n still c (omega arith) (omega arith)) in
-          let one : place p.d c ≡ 1 = r.shown c o differ in omega arith)
-    ]
+  -- where nothing is marked, no late bit and no word differs
+  pub still_bits : (p : Variables) (k : ℕ) → Marks n w me history round t p k → all_still n p ≡ true → (c : ℕ) →
+      IsOneOf n c → place p.h c ≡ place p.g c
+  still_bits p k r still c o =
+      elim (cases_eq (place p.h c) (place p.g c)) [
+        | inl same ↦ same
+        | inr differ ↦ absurd (
+            let zero : place p.d c ≡ 0 =
+            same_from (place p.d c) 0 (all_pass (λ c. nat_eq (place p.d c) 0) 1 n still c (omega arith) (omega arith)) in
+            let one : place p.d c ≡ 1 = r.shown c o differ in omega arith)
+      ]
 
-pub still_words : (n w me : ℕ) (history : ℕ → Registers) (round t : ℕ) (p : Variables) → IsOneOf n me →
-    ((u : ℕ) → u ≤ t → Laws n w history u) → Gathered n w me history round t p (n + 1) (w + 1) (w + 1) (n + 1) →
-    Marks n w me history round t p (w + 1) → all_still n p ≡ true → (y : ℕ) → IsOneOf w y → same_at p.a p.b y ≡ true
-still_words n w me history round t p one laws x r still y o =
-    elim (same_at p.a p.b y) as (λ b. same_at p.a p.b y ≡ b → b ≡ true) [
-      | true ↦ λ e. refl
-      | false ↦ λ e. absurd (
-          let c : IsOneOf n (word_at p.b y).id =
-          (seen_by_words n w me history round t p.g p.a p.b p.h one laws x y o e).0 in
-          let zero : place p.d (word_at p.b y).id ≡ 0 = same_from (place p.d (word_at p.b y).id) 0
-          (all_pass (λ c. nat_eq (place p.d c) 0) 1 n still (word_at p.b y).id (omega arith) (omega arith)) in
-          let marked_is : place p.d (word_at p.b y).id ≡ 1 = r.words y o (let le : y ≤ w = o.1 in omega arith) e in
-          omega arith)
-    ] refl
+  pub still_words : (p : Variables) → IsOneOf n me → ((u : ℕ) → u ≤ t → Laws n w history u) →
+      Gathered n w me history round t p (n + 1) (w + 1) (w + 1) (n + 1) → Marks n w me history round t p (w + 1) →
+      all_still n p ≡ true → (y : ℕ) → IsOneOf w y → same_at p.a p.b y ≡ true
+  still_words p one laws x r still y o =
+      elim (same_at p.a p.b y) as (λ b. same_at p.a p.b y ≡ b → b ≡ true) [
+        | true ↦ λ e. refl
+        | false ↦ λ e. absurd (
+            let c : IsOneOf n (word_at p.b y).id =
+            (seen_by_words n w me history round t p.g p.a p.b p.h one laws x y o e).0 in
+            let zero : place p.d (word_at p.b y).id ≡ 0 = same_from (place p.d (word_at p.b y).id) 0
+            (all_pass (λ c. nat_eq (place p.d c) 0) 1 n still (word_at p.b y).id (omega arith) (omega arith)) in
+            let marked_is : place p.d (word_at p.b y).id ≡ 1 = r.words y o (let le : y ≤ w = o.1 in omega arith) e in
+            omega arith)
+      ] refl
 
 -- a process that is marked is counted
 counted_le : (v d low round t : ℕ) → low + v ≤ round → round ≤ t → (d ≡ 1 → round < t) →
@@ -288,182 +278,179 @@ events_le n w me u t history s one c o =
     let a : (history u).writes c ≤ (history t).writes c = s.writes c o in
     let b : (history u).answers c me ≤ (history t).answers c me = s.answers c me o one in omega arith
 
--- each line that writes no register takes the scan on; a line that starts another double collect does so at item t
-pub stage_move : (n w me : ℕ) (history : ℕ → Registers) (t since round : ℕ) (m : Registers) (d : Mode) (p : Variables)
-    (k : ProgramCounter) → Known n w me history t since round m d p k → Stage n w me history t since round p k →
-    StageMove n w me history t since (if restarts k then t else round) (move n w me d m p k)
-stage_move n w me history t since round m d p L10 e h =
-    λ c i. rw (for_each_at n (λ c. 0) p.moved c i) (let le : events (history since) c me ≤ events (history round) c me =
-    events_le n w me since round history ((e.laws round e.round_le).since since e.opened) e.one c i in omega arith)
-stage_move n w me history t since round m d p L11 e h = h
-stage_move n w me history t since round m d p L12 e h =
-    let first : p.j ≡ 1 = e.keeps.0 in (
-      h,
-      collected_as n w me history round t p.g p.a p.b p.h 1 p.j 1 1 1 1 1 1 (λ c o lt. omega arith) (λ c o lt. lt)
-          (λ c o lt. lt) (λ c o lt. lt) (collected_starts n w me history round t p.g p.a p.b p.h e.round_le),
-    )
-stage_move n w me history t since round m d p L13 e h = (h.0, h.1, reads_now history round t me p.j m e.now e.round_le)
-stage_move n w me history t since round m d p L14 e h =
-    let long : Long n w p = e.long in
-    let len : length p.g ≡ max n w = long.g in
-    let one : IsOneOf n p.j = e.keeps.0 in (
-      h.0,
-      asked_row n w me history round t p.g p.a p.b p.h p.j p.x 1 1 1 one h.1,
-      h.2,
-      set_here p.g p.j p.x one.0 (omega arith),
-    )
-stage_move n w me history t since round m d p L15 e h = absurd e.quiet
-stage_move n w me history t since round m d p L16 e h =
-    either (StageMove n w me history t since round) (nat_lt p.j n) _ _ (λ b. h)
-    (λ b. let ge : n ≤ p.j = not_lt p.j n b in
-    let k : p.k ≡ 1 = e.keeps.1 in (
-      h.0,
-      collected_as n w me history round t p.g p.a p.b p.h (p.j + 1) (n + 1) 1 p.k 1 1 1 1 (λ c o lt. omega arith)
-          (λ c o lt. omega arith) (λ c o lt. lt) (λ c o lt. lt) h.1,
-    ))
-stage_move n w me history t since round m d p L17 e h =
-    let long : Long n w p = e.long in
-    let len : length p.a ≡ max n w = long.a in
-    (h.0, first_more n w me history round t m p.g p.a p.b p.h (n + 1) p.k e.keeps.1 (omega arith) e.now h.1)
-stage_move n w me history t since round m d p L18 e h =
-    either (StageMove n w me history t since round) (nat_lt p.k w) _ _ (λ b. h)
-    (λ b. let ge : w ≤ p.k = not_lt p.k w b in (
-      h.0,
-      collected_as n w me history round t p.g p.a p.b p.h (n + 1) (n + 1) (p.k + 1) (w + 1) 1 1 1 1 (λ c o lt. lt)
-          (λ c o lt. omega arith) (λ c o lt. lt) (λ c o lt. lt) h.1,
-    ))
-stage_move n w me history t since round m d p L19 e h =
-    let long : Long n w p = e.long in
-    let len : length p.b ≡ max n w = long.b in
-    (h.0, second_more n w me history round t m p.g p.a p.b p.h (n + 1) (w + 1) p.k e.keeps.1 (omega arith) e.now h.1)
-stage_move n w me history t since round m d p L20 e h =
-    let j : p.j ≡ 1 = e.keeps.0 in
-    either (StageMove n w me history t since round) (nat_lt p.k w) _ _ (λ b. h)
-    (λ b. let ge : w ≤ p.k = not_lt p.k w b in (
-      h.0,
-      collected_as n w me history round t p.g p.a p.b p.h (n + 1) (n + 1) (w + 1) (w + 1) (p.k + 1) (w + 1) 1 p.j
-          (λ c o lt. lt) (λ c o lt. lt) (λ c o lt. omega arith) (λ c o lt. omega arith) h.1,
-    ))
-stage_move n w me history t since round m d p L21 e h =
-    let x : Gathered n w me history round t p (n + 1) (w + 1) (w + 1) p.j = h.1 in
-    (h.0, x, reads_now history x.ended t me p.j m e.now x.now)
-stage_move n w me history t since round m d p L22 e h =
-    let long : Long n w p = e.long in
-    let len : length p.h ≡ max n w = long.h in (
-      h.0,
-      late_more n w me history round t p.g p.a p.b p.h (n + 1) (w + 1) (w + 1) p.j p.x e.keeps.0 (omega arith) h.1 h.2,
-    )
-stage_move n w me history t since round m d p L23 e h =
-    either (StageMove n w me history t since round) (nat_lt p.j n) _ _ (λ b. h)
-    (λ b. let ge : n ≤ p.j = not_lt p.j n b in (
-      h.0,
-      collected_as n w me history round t p.g p.a p.b p.h (n + 1) (n + 1) (w + 1) (w + 1) (w + 1) (w + 1) (p.j + 1)
-          (n + 1) (λ c o lt. lt) (λ c o lt. lt) (λ c o lt. lt) (λ c o lt. omega arith) h.1,
-    ))
-stage_move n w me history t since round m d p L24 e h = (h.0, h.1, λ c i. for_each_at n (λ c. 0) p.d c i)
-stage_move n w me history t since round m d p L25 e h = (
-  h.0,
-  h.1,
-  row_starts n w me history round t p e.one e.laws e.round_le h.1 h.2 _
-      (λ c o. for_each_at n (marked p) p.d c o) p.k e.keeps.1,
-)
-stage_move n w me history t since round m d p L26 e h =
-    either (StageMove n w me history t since round) (same_at p.a p.b p.k) _ _
-    (λ b. (h.0, h.1, row_same n w me history round t p.g p.h p.d p.a p.b p.k b h.2)) (λ b. (h.0, h.1, h.2, b))
-stage_move n w me history t since round m d p L27 e h = (h.0, h.1, h.2, h.3, refl)
-stage_move n w me history t since round m d p L28 e h =
-    let long : Long n w p = e.long in
-    let seen = seen_by_words n w me history round t p.g p.a p.b p.h e.one e.laws h.1 p.k e.keeps.1 h.3 in
-    let named : IsOneOf n p.x = subst (IsOneOf n) (sym h.4) seen.0 in
-    let wrote : (history round).writes p.x < (history t).writes p.x =
-    subst (λ y. (history round).writes y < (history t).writes y) (sym h.4) seen.1 in
-    let answers : (history round).answers p.x me ≤ (history t).answers p.x me =
-    ((e.laws t (omega arith)).since round e.round_le).answers p.x me named e.one in (
-      h.0,
-      h.1,
-      row_marks n w me history round t p.g p.h p.d p.a p.b p.k p.x named long.d h.4
-          (λ y o differ. (seen_by_words n w me history round t p.g p.a p.b p.h e.one e.laws h.1 y o differ).0)
-          (omega arith) h.2,
-    )
-stage_move n w me history t since round m d p L29 e h =
-    either (StageMove n w me history t since round) (nat_lt p.k w) _ _ (λ b. h)
-    (λ b. let ge : w ≤ p.k = not_lt p.k w b in
-    let inside : IsOneOf w p.k = e.keeps.1 in
-    (h.0, h.1, subst (λ y. Marks n w me history round t p (y + 1)) (let f : p.k ≡ w = omega arith in f) h.2))
-stage_move n w me history t since round m d p L30 e h =
-    let long : Long n w p = e.long in
-    let len : length p.b ≡ max n w = long.b in
-    either (StageMove n w me history t since round) (all_still n p) _ _
-    (λ b. subst (Held (words_of history) t since) (sym (plain_taken plain (λ x. refl) w p.b))
-    (passed n w me history round t p.g p.a p.b p.h e.one e.laws h.1 since e.opened (omega arith)
-    (still_bits n w me history round t p (w + 1) h.2 b) (still_words n w me history round t p e.one e.laws h.1 h.2 b)))
-    (λ b. h)
-stage_move n w me history t since round m d p L31 e h =
-    let r : Marks n w me history round t p (w + 1) = h.2 in
-    λ c i. rw (for_each_at n (counted p) p.moved c i)
-    (counted_le (place p.moved c) (place p.d c) (events (history since) c me) (events (history round) c me)
-    (events (history t) c me) (h.0 c i)
-    (events_le n w me round t history ((e.laws t (omega arith)).since round e.round_le) e.one c i) (r.moved c i))
-stage_move n w me history t since round m d p L32 e h =
-    stage_first n w me history t since round d m p (third_move n p) h
-    (λ k f. same_from (place p.moved k) limit (first_found 1 n (at_limit p) k f).2)
-stage_move n w me history t since round m d p L33 e h =
-    let first : p.j ≡ 1 = e.keeps.0 in (
-      h,
-      collected_as n w me history t t p.g p.a p.b p.h 1 p.j 1 1 1 1 1 1 (λ c o lt. omega arith) (λ c o lt. lt)
-          (λ c o lt. lt) (λ c o lt. lt) (collected_starts n w me history t t p.g p.a p.b p.h (omega arith)),
-    )
-stage_move n w me history t since round m d p L34 e h = h
-stage_move n w me history t since round m Scanning p L35 e h = h
-stage_move n w me history t since round m (Embedded y z) p L35 e h = h
-stage_move n w me history t since round m (Updating y z) p L35 e h = absurd e.line
-stage_move n w me history t since round m d p L36 e h =
-    let opened : since ≤ round = e.opened in
-    let closed : round ≤ t = e.round_le in
-    let moves : place p.moved p.j ≡ limit = h.1 in
-    let low : events (history since) p.j me + place p.moved p.j ≤ events (history t) p.j me = h.0 p.j e.keeps in
-    let three : events (history since) p.j me + 3 ≤ events (history t) p.j me = omega arith in
-    let start = e.laws since (omega arith) in
-    let now = e.laws t (omega arith) in (
-      subst (λ (x : Registers). Held (words_of history) t since (view_at x.views p.j)) e.now
-          (borrowed n w me p.j since t history start now (omega arith) e.keeps e.one three),
-      record {
-        lender = p.j;
-        inside = e.keeps;
-        time = t;
-        after = omega arith;
-        before = omega arith;
-        put = borrowed_put n w me p.j since t history start now e.keeps e.one three;
-        is = ap (λ (x : Registers). view_at x.views p.j) e.now;
-      },
-    )
-stage_move n w me history t since round m Scanning p L37 e h = h.0
-stage_move n w me history t since round m (Embedded y z) p L37 e h = h.0
-stage_move n w me history t since round m (Updating y z) p L37 e h = absurd e.line
-stage_move n w me history t since round m d p L50 e h = tt
-stage_move n w me history t since round m d p L51 e h =
-    record { at = t; until = omega arith; is = ap (λ (x : Registers). bit x.q p.j me) (sym e.now); same = refl }
-stage_move n w me history t since round m d p L52 e h = absurd e.quiet
-stage_move n w me history t since round m d p L53 e h =
-    either (StageMove n w me history t since round) (nat_lt p.j n) _ _ (λ b. tt) (λ b. tt)
-stage_move n w me history t since round m Scanning p L54 e h = absurd e.line
-stage_move n w me history t since round m (Embedded y z) p L54 e h = absurd e.line
-stage_move n w me history t since round m (Updating y z) p L54 e h = refl
-stage_move n w me history t since round m d p L55 e h = absurd e.quiet
-stage_move n w me history t since round m d p L56 e h = tt
-stage_move n w me history t since round m d p L57 e h = absurd e.quiet
-stage_move n w me history t since round m d p L58 e h = tt
+module _ (n w me : ℕ) (history : ℕ → Registers) (t since round : ℕ) where
+  -- each line that writes no register takes the scan on; a line that starts another double collect does so at item t
+  pub stage_move : (m : Registers) (d : Mode) (p : Variables) (k : ProgramCounter) →
+      Known n w me history t since round m d p k → Stage n w me history t since round p k →
+      StageMove n w me history t since (if restarts k then t else round) (move n w me d m p k)
+  stage_move m d p L10 e h =
+      λ c i. rw (for_each_at n (λ c. 0) p.moved c i) (let le : events (history since) c me ≤ events (history round) c me =
+      events_le n w me since round history ((e.laws round e.round_le).since since e.opened) e.one c i in omega arith)
+  stage_move m d p L11 e h = h
+  stage_move m d p L12 e h =
+      let first : p.j ≡ 1 = e.keeps.0 in (
+        h,
+        collected_as n w me history round t p.g p.a p.b p.h 1 p.j 1 1 1 1 1 1 (λ c o lt. omega arith) (λ c o lt. lt)
+            (λ c o lt. lt) (λ c o lt. lt) (collected_starts n w me history round t p.g p.a p.b p.h e.round_le),
+      )
+  stage_move m d p L13 e h = (h.0, h.1, reads_now history round t me p.j m e.now e.round_le)
+  stage_move m d p L14 e h =
+      let long : Long n w p = e.long in
+      let len : length p.g ≡ max n w = long.g in
+      let one : IsOneOf n p.j = e.keeps.0 in (
+        h.0,
+        asked_row n w me history round t p.g p.a p.b p.h p.j p.x 1 1 1 one h.1,
+        h.2,
+        set_here p.g p.j p.x one.0 (omega arith),
+      )
+  stage_move m d p L16 e h =
+      either (StageMove n w me history t since round) (nat_lt p.j n) _ _ (λ b. h)
+      (λ b. let ge : n ≤ p.j = not_lt p.j n b in
+      let k : p.k ≡ 1 = e.keeps.1 in (
+        h.0,
+        collected_as n w me history round t p.g p.a p.b p.h (p.j + 1) (n + 1) 1 p.k 1 1 1 1 (λ c o lt. omega arith)
+            (λ c o lt. omega arith) (λ c o lt. lt) (λ c o lt. lt) h.1,
+      ))
+  stage_move m d p L17 e h =
+      let long : Long n w p = e.long in
+      let len : length p.a ≡ max n w = long.a in
+      (h.0, first_more n w me history round t m p.g p.a p.b p.h (n + 1) p.k e.keeps.1 (omega arith) e.now h.1)
+  stage_move m d p L18 e h =
+      either (StageMove n w me history t since round) (nat_lt p.k w) _ _ (λ b. h)
+      (λ b. let ge : w ≤ p.k = not_lt p.k w b in (
+        h.0,
+        collected_as n w me history round t p.g p.a p.b p.h (n + 1) (n + 1) (p.k + 1) (w + 1) 1 1 1 1 (λ c o lt. lt)
+            (λ c o lt. omega arith) (λ c o lt. lt) (λ c o lt. lt) h.1,
+      ))
+  stage_move m d p L19 e h =
+      let long : Long n w p = e.long in
+      let len : length p.b ≡ max n w = long.b in
+      (h.0, second_more n w me history round t m p.g p.a p.b p.h (n + 1) (w + 1) p.k e.keeps.1 (omega arith) e.now h.1)
+  stage_move m d p L20 e h =
+      let j : p.j ≡ 1 = e.keeps.0 in
+      either (StageMove n w me history t since round) (nat_lt p.k w) _ _ (λ b. h)
+      (λ b. let ge : w ≤ p.k = not_lt p.k w b in (
+        h.0,
+        collected_as n w me history round t p.g p.a p.b p.h (n + 1) (n + 1) (w + 1) (w + 1) (p.k + 1) (w + 1) 1 p.j
+            (λ c o lt. lt) (λ c o lt. lt) (λ c o lt. omega arith) (λ c o lt. omega arith) h.1,
+      ))
+  stage_move m d p L21 e h =
+      let x : Gathered n w me history round t p (n + 1) (w + 1) (w + 1) p.j = h.1 in
+      (h.0, x, reads_now history x.ended t me p.j m e.now x.now)
+  stage_move m d p L22 e h =
+      let long : Long n w p = e.long in
+      let len : length p.h ≡ max n w = long.h in (
+        h.0,
+        late_more n w me history round t p.g p.a p.b p.h (n + 1) (w + 1) (w + 1) p.j p.x e.keeps.0 (omega arith) h.1 h.2,
+      )
+  stage_move m d p L23 e h =
+      either (StageMove n w me history t since round) (nat_lt p.j n) _ _ (λ b. h)
+      (λ b. let ge : n ≤ p.j = not_lt p.j n b in (
+        h.0,
+        collected_as n w me history round t p.g p.a p.b p.h (n + 1) (n + 1) (w + 1) (w + 1) (w + 1) (w + 1) (p.j + 1)
+            (n + 1) (λ c o lt. lt) (λ c o lt. lt) (λ c o lt. lt) (λ c o lt. omega arith) h.1,
+      ))
+  stage_move m d p L24 e h = (h.0, h.1, λ c i. for_each_at n (λ c. 0) p.d c i)
+  stage_move m d p L25 e h = (
+    h.0,
+    h.1,
+    row_starts n w me history round t p e.one e.laws e.round_le h.1 h.2 _
+        (λ c o. for_each_at n (marked p) p.d c o) p.k e.keeps.1,
+  )
+  stage_move m d p L26 e h =
+      either (StageMove n w me history t since round) (same_at p.a p.b p.k) _ _
+      (λ b. (h.0, h.1, row_same n w me history round t p.g p.h p.d p.a p.b p.k b h.2)) (λ b. (h.0, h.1, h.2, b))
+  stage_move m d p L27 e h = (h.0, h.1, h.2, h.3, refl)
+  stage_move m d p L28 e h =
+      let long : Long n w p = e.long in
+      let seen = seen_by_words n w me history round t p.g p.a p.b p.h e.one e.laws h.1 p.k e.keeps.1 h.3 in
+      let named : IsOneOf n p.x = subst (IsOneOf n) (sym h.4) seen.0 in
+      let wrote : (history round).writes p.x < (history t).writes p.x =
+      subst (λ y. (history round).writes y < (history t).writes y) (sym h.4) seen.1 in
+      let answers : (history round).answers p.x me ≤ (history t).answers p.x me =
+      ((e.laws t (omega arith)).since round e.round_le).answers p.x me named e.one in (
+        h.0,
+        h.1,
+        row_marks n w me history round t p.g p.h p.d p.a p.b p.k p.x named long.d h.4
+            (λ y o differ. (seen_by_words n w me history round t p.g p.a p.b p.h e.one e.laws h.1 y o differ).0)
+            (omega arith) h.2,
+      )
+  stage_move m d p L29 e h =
+      either (StageMove n w me history t since round) (nat_lt p.k w) _ _ (λ b. h)
+      (λ b. let ge : w ≤ p.k = not_lt p.k w b in
+      let inside : IsOneOf w p.k = e.keeps.1 in
+      (h.0, h.1, subst (λ y. Marks n w me history round t p (y + 1)) (let f : p.k ≡ w = omega arith in f) h.2))
+  stage_move m d p L30 e h =
+      let long : Long n w p = e.long in
+      let len : length p.b ≡ max n w = long.b in
+      either (StageMove n w me history t since round) (all_still n p) _ _
+      (λ b. subst (Held (words_of history) t since) (sym (plain_taken plain (λ x. refl) w p.b))
+      (passed n w me history round t p.g p.a p.b p.h e.one e.laws h.1 since e.opened (omega arith)
+      (still_bits n w me history round t p (w + 1) h.2 b) (still_words n w me history round t p e.one e.laws h.1 h.2 b)))
+      (λ b. h)
+  stage_move m d p L31 e h =
+      let r : Marks n w me history round t p (w + 1) = h.2 in
+      λ c i. rw (for_each_at n (counted p) p.moved c i)
+      (counted_le (place p.moved c) (place p.d c) (events (history since) c me) (events (history round) c me)
+      (events (history t) c me) (h.0 c i)
+      (events_le n w me round t history ((e.laws t (omega arith)).since round e.round_le) e.one c i) (r.moved c i))
+  stage_move m d p L32 e h =
+      stage_first n w me history t since round d m p (third_move n p) h
+      (λ k f. same_from (place p.moved k) limit (first_found 1 n (at_limit p) k f).2)
+  stage_move m d p L33 e h =
+      let first : p.j ≡ 1 = e.keeps.0 in (
+        h,
+        collected_as n w me history t t p.g p.a p.b p.h 1 p.j 1 1 1 1 1 1 (λ c o lt. omega arith) (λ c o lt. lt)
+            (λ c o lt. lt) (λ c o lt. lt) (collected_starts n w me history t t p.g p.a p.b p.h (omega arith)),
+      )
+  stage_move m d p L34 e h = h
+  stage_move m Scanning p L35 e h = h
+  stage_move m (Embedded y z) p L35 e h = h
+  stage_move m (Updating y z) p L35 e h = absurd e.line
+  stage_move m d p L36 e h =
+      let opened : since ≤ round = e.opened in
+      let closed : round ≤ t = e.round_le in
+      let moves : place p.moved p.j ≡ limit = h.1 in
+      let low : events (history since) p.j me + place p.moved p.j ≤ events (history t) p.j me = h.0 p.j e.keeps in
+      let three : events (history since) p.j me + 3 ≤ events (history t) p.j me = omega arith in
+      let start = e.laws since (omega arith) in
+      let now = e.laws t (omega arith) in (
+        subst (λ (x : Registers). Held (words_of history) t since (view_at x.views p.j)) e.now
+            (borrowed n w me p.j since t history start now (omega arith) e.keeps e.one three),
+        record {
+          lender = p.j;
+          inside = e.keeps;
+          time = t;
+          after = omega arith;
+          before = omega arith;
+          put = borrowed_put n w me p.j since t history start now e.keeps e.one three;
+          is = ap (λ (x : Registers). view_at x.views p.j) e.now;
+        },
+      )
+  stage_move m Scanning p L37 e h = h.0
+  stage_move m (Embedded y z) p L37 e h = h.0
+  stage_move m (Updating y z) p L37 e h = absurd e.line
+  stage_move m d p L50 e h = tt
+  stage_move m d p L51 e h =
+      record { at = t; until = omega arith; is = ap (λ (x : Registers). bit x.q p.j me) (sym e.now); same = refl }
+  stage_move m d p L53 e h = either (StageMove n w me history t since round) (nat_lt p.j n) _ _ (λ b. tt) (λ b. tt)
+  stage_move m Scanning p L54 e h = absurd e.line
+  stage_move m (Embedded y z) p L54 e h = absurd e.line
+  stage_move m (Updating y z) p L54 e h = refl
+  stage_move m d p L56 e h = tt
+  stage_move m d p L58 e h = tt
+  stage_move m d p k e h = absurd e.quiet
 
--- line 15 asks process j
-pub stage_15 : (n w me : ℕ) (history : ℕ → Registers) (t since round : ℕ) (p : Variables) → IsOneOf n p.j →
-    ((c : ℕ) → IsOneOf n c → c ≢ p.j → bit (history (suc t)).q me c ≡ bit (history t).q me c) →
-    bit (history (suc t)).q me p.j ≡ p.x →
-    Stage n w me history t since round p L15 → Stage n w me history (suc t) since round p L16
-stage_15 n w me history t since round p one others his h = (
-  h.0,
-  asked_more n w me history round t p.g p.a p.b p.h p.j one others (his ∙ sym h.3)
-      (subst (ReadBit history round t me p.j) (sym h.3) h.2) h.1,
-)
+  -- line 15 asks process j
+  pub stage_15 : (p : Variables) → IsOneOf n p.j →
+      ((c : ℕ) → IsOneOf n c → c ≢ p.j → bit (history (suc t)).q me c ≡ bit (history t).q me c) →
+      bit (history (suc t)).q me p.j ≡ p.x → Stage n w me history t since round p L15 →
+      Stage n w me history (suc t) since round p L16
+  stage_15 p one others his h = (
+    h.0,
+    asked_more n w me history round t p.g p.a p.b p.h p.j one others (his ∙ sym h.3)
+        (subst (ReadBit history round t me p.j) (sym h.3) h.2) h.1,
+  )
 
 -- Time passes and other processes act.
 sight_kept : (history : ℕ → Registers) (from t me c value : ℕ) → ReadBit history from t me c value →
@@ -471,138 +458,125 @@ sight_kept : (history : ℕ → Registers) (from t me c value : ℕ) → ReadBit
 sight_kept history from t me c value h =
     record { at = h.at; after = h.after; until = (let u : h.at ≤ t = h.until in omega arith); is = h.is }
 
-row_kept : (n w me : ℕ) (history : ℕ → Registers) (round t : ℕ) (g h d : List ℕ) (a b : Words) (k : ℕ) →
-    IsOneOf n me → Since n w history t (suc t) →
-    Row n w me history round t g h d a b k → Row n w me history round (suc t) g h d a b k
-row_kept n w me history round t g h d a b k one s r = record {
-  bits = r.bits;
-  shown = r.shown;
-  words = r.words;
-  moved = λ c o e. let lt : events (history round) c me < events (history t) c me = r.moved c o e in
-      let le : events (history t) c me ≤ events (history (suc t)) c me =
-      events_le n w me t (suc t) history s one c o in
-      omega arith;
-}
+module _ (n w me : ℕ) (history : ℕ → Registers) where
+  row_kept : (round t : ℕ) (g h d : List ℕ) (a b : Words) (k : ℕ) → IsOneOf n me → Since n w history t (suc t) →
+      Row n w me history round t g h d a b k → Row n w me history round (suc t) g h d a b k
+  row_kept round t g h d a b k one s r = record {
+    bits = r.bits;
+    shown = r.shown;
+    words = r.words;
+    moved = λ c o e. let lt : events (history round) c me < events (history t) c me = r.moved c o e in
+        let le : events (history t) c me ≤ events (history (suc t)) c me =
+        events_le n w me t (suc t) history s one c o in
+        omega arith;
+  }
 
-high_kept : (n w me : ℕ) (history : ℕ → Registers) (since t : ℕ) (moved : List ℕ) → IsOneOf n me →
-    Since n w history t (suc t) → Low n me history since t moved → Low n me history since (suc t) moved
-high_kept n w me history since t moved one s h c o =
-    let lt : events (history since) c me + place moved c ≤ events (history t) c me = h c o in
-    let le : events (history t) c me ≤ events (history (suc t)) c me = events_le n w me t (suc t) history s one c o in
-    omega arith
+  high_kept : (since t : ℕ) (moved : List ℕ) → IsOneOf n me → Since n w history t (suc t) →
+      Low n me history since t moved → Low n me history since (suc t) moved
+  high_kept since t moved one s h c o =
+      let lt : events (history since) c me + place moved c ≤ events (history t) c me = h c o in
+      let le : events (history t) c me ≤ events (history (suc t)) c me = events_le n w me t (suc t) history s one c o in
+      omega arith
 
 -- the process's own registers stay
 pub record Apart (n me : ℕ) (m m' : Registers) : Type 0 where
   pub asks : (c : ℕ) → IsOneOf n c → bit m'.q me c ≡ bit m.q me c
   pub writes : m'.writes me ≡ m.writes me
 
-pub stage_kept : (n w me : ℕ) (history : ℕ → Registers) (t since round : ℕ) (p : Variables) (k : ProgramCounter) →
-    IsOneOf n me → Since n w history t (suc t) → Apart n me (history t) (history (suc t)) →
-    Stage n w me history t since round p k → Stage n w me history (suc t) since round p k
-stage_kept n w me history t since round p L10 i s o h = tt
-stage_kept n w me history t since round p L11 i s o h = h
-stage_kept n w me history t since round p L12 i s o h = h
-stage_kept n w me history t since round p L13 i s o h =
-    (h.0, collected_kept n w me history round t p.g p.a p.b p.h p.j 1 1 1 o.asks h.1)
-stage_kept n w me history t since round p L14 i s o h = (
-  h.0,
-  collected_kept n w me history round t p.g p.a p.b p.h p.j 1 1 1 o.asks h.1,
-  sight_kept history round t me p.j p.x h.2,
-)
-stage_kept n w me history t since round p L15 i s o h = (
-  h.0,
-  collected_kept n w me history round t p.g p.a p.b p.h p.j 1 1 1 o.asks h.1,
-  sight_kept history round t me p.j p.x h.2,
-  h.3,
-)
-stage_kept n w me history t since round p L16 i s o h =
-    (h.0, collected_kept n w me history round t p.g p.a p.b p.h (p.j + 1) 1 1 1 o.asks h.1)
-stage_kept n w me history t since round p L17 i s o h =
-    (h.0, collected_kept n w me history round t p.g p.a p.b p.h (n + 1) p.k 1 1 o.asks h.1)
-stage_kept n w me history t since round p L18 i s o h =
-    (h.0, collected_kept n w me history round t p.g p.a p.b p.h (n + 1) (p.k + 1) 1 1 o.asks h.1)
-stage_kept n w me history t since round p L19 i s o h =
-    (h.0, collected_kept n w me history round t p.g p.a p.b p.h (n + 1) (w + 1) p.k 1 o.asks h.1)
-stage_kept n w me history t since round p L20 i s o h =
-    (h.0, collected_kept n w me history round t p.g p.a p.b p.h (n + 1) (w + 1) (p.k + 1) 1 o.asks h.1)
-stage_kept n w me history t since round p L21 i s o h =
-    (h.0, collected_kept n w me history round t p.g p.a p.b p.h (n + 1) (w + 1) (w + 1) p.j o.asks h.1)
-stage_kept n w me history t since round p L22 i s o h = (
-  h.0,
-  collected_kept n w me history round t p.g p.a p.b p.h (n + 1) (w + 1) (w + 1) p.j o.asks h.1,
-  subst (λ y. ReadBit history y (suc t) me p.j p.x)
-      (sym (ended_kept n w me history round t p.g p.a p.b p.h (n + 1) (w + 1) (w + 1) p.j o.asks h.1))
-      (sight_kept history h.1.ended t me p.j p.x h.2),
-)
-stage_kept n w me history t since round p L23 i s o h =
-    (h.0, collected_kept n w me history round t p.g p.a p.b p.h (n + 1) (w + 1) (w + 1) (p.j + 1) o.asks h.1)
-stage_kept n w me history t since round p L24 i s o h =
-    (h.0, collected_kept n w me history round t p.g p.a p.b p.h (n + 1) (w + 1) (w + 1) (n + 1) o.asks h.1)
-stage_kept n w me history t since round p L25 i s o h =
-    (h.0, collected_kept n w me history round t p.g p.a p.b p.h (n + 1) (w + 1) (w + 1) (n + 1) o.asks h.1, h.2)
-stage_kept n w me history t since round p L26 i s o h = (
-  h.0,
-  collected_kept n w me history round t p.g p.a p.b p.h (n + 1) (w + 1) (w + 1) (n + 1) o.asks h.1,
-  row_kept n w me history round t p.g p.h p.d p.a p.b p.k i s h.2,
-)
-stage_kept n w me history t since round p L27 i s o h = (
-  h.0,
-  collected_kept n w me history round t p.g p.a p.b p.h (n + 1) (w + 1) (w + 1) (n + 1) o.asks h.1,
-  row_kept n w me history round t p.g p.h p.d p.a p.b p.k i s h.2,
-  h.3,
-)
-stage_kept n w me history t since round p L28 i s o h = (
-  h.0,
-  collected_kept n w me history round t p.g p.a p.b p.h (n + 1) (w + 1) (w + 1) (n + 1) o.asks h.1,
-  row_kept n w me history round t p.g p.h p.d p.a p.b p.k i s h.2,
-  h.3,
-  h.4,
-)
-stage_kept n w me history t since round p L29 i s o h = (
-  h.0,
-  collected_kept n w me history round t p.g p.a p.b p.h (n + 1) (w + 1) (w + 1) (n + 1) o.asks h.1,
-  row_kept n w me history round t p.g p.h p.d p.a p.b (p.k + 1) i s h.2,
-)
-stage_kept n w me history t since round p L30 i s o h = (
-  h.0,
-  collected_kept n w me history round t p.g p.a p.b p.h (n + 1) (w + 1) (w + 1) (n + 1) o.asks h.1,
-  row_kept n w me history round t p.g p.h p.d p.a p.b (w + 1) i s h.2,
-)
-stage_kept n w me history t since round p L31 i s o h = (
-  h.0,
-  collected_kept n w me history round t p.g p.a p.b p.h (n + 1) (w + 1) (w + 1) (n + 1) o.asks h.1,
-  row_kept n w me history round t p.g p.h p.d p.a p.b (w + 1) i s h.2,
-)
-stage_kept n w me history t since round p L32 i s o h = high_kept n w me history since t p.moved i s h
-stage_kept n w me history t since round p L33 i s o h = high_kept n w me history since t p.moved i s h
-stage_kept n w me history t since round p L34 i s o h =
-    held_wider (words_of history) t (suc t) since since
-    (map (λ (r : Word). r.datum) (take w (map plain p.b))) (omega arith) (omega arith) h
-stage_kept n w me history t since round p L35 i s o h =
-    held_wider (words_of history) t (suc t) since since p.s (omega arith) (omega arith) h
-stage_kept n w me history t since round p L36 i s o h = (high_kept n w me history since t p.moved i s h.0, h.1)
-stage_kept n w me history t since round p L37 i s o h =
-    let shown : Shown n me history t since p.s = h.1 in
-    let before : shown.time ≤ t = shown.before in (
-      held_wider (words_of history) t (suc t) since since p.s (omega arith) (omega arith) h.0,
-      record {
-        lender = shown.lender;
-        inside = shown.inside;
-        time = shown.time;
-        after = shown.after;
-        before = omega arith;
-        put = shown.put;
-        is = shown.is;
-      },
-    )
-stage_kept n w me history t since round p L50 i s o h = tt
-stage_kept n w me history t since round p L51 i s o h = tt
-stage_kept n w me history t since round p L52 i s o h =
-    record { at = h.at; until = (let u : h.at ≤ t = h.until in omega arith); is = h.is; same = h.same ∙ sym o.writes }
-stage_kept n w me history t since round p L53 i s o h = tt
-stage_kept n w me history t since round p L54 i s o h = tt
-stage_kept n w me history t since round p L55 i s o h =
-    held_wider (words_of history) t (suc t) since since p.s (omega arith) (omega arith) h
-stage_kept n w me history t since round p L56 i s o h = tt
-stage_kept n w me history t since round p L57 i s o h = tt
-stage_kept n w me history t since round p L58 i s o h = tt
+module _ (n w me : ℕ) (history : ℕ → Registers) (t since round : ℕ) (p : Variables) where
+  pub stage_kept : (k : ProgramCounter) → IsOneOf n me → Since n w history t (suc t) →
+      Apart n me (history t) (history (suc t)) → Stage n w me history t since round p k →
+      Stage n w me history (suc t) since round p k
+  stage_kept L11 i s o h = h
+  stage_kept L12 i s o h = h
+  stage_kept L13 i s o h = (h.0, collected_kept n w me history round t p.g p.a p.b p.h p.j 1 1 1 o.asks h.1)
+  stage_kept L14 i s o h = (
+    h.0,
+    collected_kept n w me history round t p.g p.a p.b p.h p.j 1 1 1 o.asks h.1,
+    sight_kept history round t me p.j p.x h.2,
+  )
+  stage_kept L15 i s o h = (
+    h.0,
+    collected_kept n w me history round t p.g p.a p.b p.h p.j 1 1 1 o.asks h.1,
+    sight_kept history round t me p.j p.x h.2,
+    h.3,
+  )
+  stage_kept L16 i s o h = (h.0, collected_kept n w me history round t p.g p.a p.b p.h (p.j + 1) 1 1 1 o.asks h.1)
+  stage_kept L17 i s o h = (h.0, collected_kept n w me history round t p.g p.a p.b p.h (n + 1) p.k 1 1 o.asks h.1)
+  stage_kept L18 i s o h = (h.0, collected_kept n w me history round t p.g p.a p.b p.h (n + 1) (p.k + 1) 1 1 o.asks h.1)
+  stage_kept L19 i s o h = (h.0, collected_kept n w me history round t p.g p.a p.b p.h (n + 1) (w + 1) p.k 1 o.asks h.1)
+  stage_kept L20 i s o h =
+      (h.0, collected_kept n w me history round t p.g p.a p.b p.h (n + 1) (w + 1) (p.k + 1) 1 o.asks h.1)
+  stage_kept L21 i s o h =
+      (h.0, collected_kept n w me history round t p.g p.a p.b p.h (n + 1) (w + 1) (w + 1) p.j o.asks h.1)
+  stage_kept L22 i s o h = (
+    h.0,
+    collected_kept n w me history round t p.g p.a p.b p.h (n + 1) (w + 1) (w + 1) p.j o.asks h.1,
+    subst (λ y. ReadBit history y (suc t) me p.j p.x)
+        (sym (ended_kept n w me history round t p.g p.a p.b p.h (n + 1) (w + 1) (w + 1) p.j o.asks h.1))
+        (sight_kept history h.1.ended t me p.j p.x h.2),
+  )
+  stage_kept L23 i s o h =
+      (h.0, collected_kept n w me history round t p.g p.a p.b p.h (n + 1) (w + 1) (w + 1) (p.j + 1) o.asks h.1)
+  stage_kept L24 i s o h =
+      (h.0, collected_kept n w me history round t p.g p.a p.b p.h (n + 1) (w + 1) (w + 1) (n + 1) o.asks h.1)
+  stage_kept L25 i s o h =
+      (h.0, collected_kept n w me history round t p.g p.a p.b p.h (n + 1) (w + 1) (w + 1) (n + 1) o.asks h.1, h.2)
+  stage_kept L26 i s o h = (
+    h.0,
+    collected_kept n w me history round t p.g p.a p.b p.h (n + 1) (w + 1) (w + 1) (n + 1) o.asks h.1,
+    row_kept n w me history round t p.g p.h p.d p.a p.b p.k i s h.2,
+  )
+  stage_kept L27 i s o h = (
+    h.0,
+    collected_kept n w me history round t p.g p.a p.b p.h (n + 1) (w + 1) (w + 1) (n + 1) o.asks h.1,
+    row_kept n w me history round t p.g p.h p.d p.a p.b p.k i s h.2,
+    h.3,
+  )
+  stage_kept L28 i s o h = (
+    h.0,
+    collected_kept n w me history round t p.g p.a p.b p.h (n + 1) (w + 1) (w + 1) (n + 1) o.asks h.1,
+    row_kept n w me history round t p.g p.h p.d p.a p.b p.k i s h.2,
+    h.3,
+    h.4,
+  )
+  stage_kept L29 i s o h = (
+    h.0,
+    collected_kept n w me history round t p.g p.a p.b p.h (n + 1) (w + 1) (w + 1) (n + 1) o.asks h.1,
+    row_kept n w me history round t p.g p.h p.d p.a p.b (p.k + 1) i s h.2,
+  )
+  stage_kept L30 i s o h = (
+    h.0,
+    collected_kept n w me history round t p.g p.a p.b p.h (n + 1) (w + 1) (w + 1) (n + 1) o.asks h.1,
+    row_kept n w me history round t p.g p.h p.d p.a p.b (w + 1) i s h.2,
+  )
+  stage_kept L31 i s o h = (
+    h.0,
+    collected_kept n w me history round t p.g p.a p.b p.h (n + 1) (w + 1) (w + 1) (n + 1) o.asks h.1,
+    row_kept n w me history round t p.g p.h p.d p.a p.b (w + 1) i s h.2,
+  )
+  stage_kept L32 i s o h = high_kept n w me history since t p.moved i s h
+  stage_kept L33 i s o h = high_kept n w me history since t p.moved i s h
+  stage_kept L34 i s o h =
+      held_wider (words_of history) t (suc t) since since
+      (map (λ (r : Word). r.datum) (take w (map plain p.b))) (omega arith) (omega arith) h
+  stage_kept L35 i s o h = held_wider (words_of history) t (suc t) since since p.s (omega arith) (omega arith) h
+  stage_kept L36 i s o h = (high_kept n w me history since t p.moved i s h.0, h.1)
+  stage_kept L37 i s o h =
+      let shown : Shown n me history t since p.s = h.1 in
+      let before : shown.time ≤ t = shown.before in (
+        held_wider (words_of history) t (suc t) since since p.s (omega arith) (omega arith) h.0,
+        record {
+          lender = shown.lender;
+          inside = shown.inside;
+          time = shown.time;
+          after = shown.after;
+          before = omega arith;
+          put = shown.put;
+          is = shown.is;
+        },
+      )
+  stage_kept L52 i s o h =
+      record { at = h.at; until = (let u : h.at ≤ t = h.until in omega arith); is = h.is; same = h.same ∙ sym o.writes }
+  stage_kept L55 i s o h = held_wider (words_of history) t (suc t) since since p.s (omega arith) (omega arith) h
+  stage_kept k i s o h = tt

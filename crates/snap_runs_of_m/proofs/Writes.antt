@@ -2,14 +2,12 @@
 -- says of the registers, and leaves what other processes own.
 use Rattle.snap_runs.proofs.Computing.{same_number, other_number}
 use Rattle.snap_runs.proofs.Algorithm.{Mode, Updating}
-use Rattle.std.specs.Prelude.{◌≡◌, ◌≢◌, ℕ, ◌+◌, ◌-◌, ◌<◌, ◌≤◌, ◌⊎◌, Bool, true, false, ◌&&◌, [], length, nat_eq}
-use Rattle.std.specs.Prelude.{if◌then◌else◌, slice_index, slice_index_or, refl}
-use Rattle.std.proofs.Common.{sym, ◌∙◌, ap, subst, arith, inl, inr}
+use Rattle.std.proofs.Common.{◌≡◌, ◌≢◌, ℕ, ◌+◌, ◌-◌, ◌<◌, ◌≤◌, ◌⊎◌, Bool, true, false, ◌&&◌, [], length, nat_eq}
+use Rattle.std.proofs.Common.{if◌then◌else◌, slice_index, slice_index_or, refl, sym, ◌∙◌, ap, subst, arith, inl, inr}
 use Rattle.std.proofs.lemmas.Bool.{cases_eq}
 use Rattle.std.proofs.lemmas.Grind.{get_or-set_at}
 use Rattle.std.proofs.lemmas.List.{length-set, get_or-set_other}
-use Rattle.snap_words.specs.Shape.{IsOneOf}
-use Rattle.snap_words.specs.Word.{Word, no_word}
+use Rattle.snap_runs.proofs.Common.{IsOneOf, Word, no_word}
 use Rattle.snap_runs.proofs.Held.{word_at, seq_at, Held, held_wider}
 use Rattle.snap_runs_of_m.proofs.Algorithm.{Registers, Variables, place, word_of, bit, view_at, flip, raised}
 use Rattle.snap_runs_of_m.proofs.Algorithm.{raised_at, with_at, written, after_15, after_52, after_55, after_57}

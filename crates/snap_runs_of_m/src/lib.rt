@@ -10,17 +10,20 @@ ghost use Rattle.snap_runs_of_m.specs.Promises.{BorrowedViewsAreLent, RunsAreSna
 ghost use Rattle.snap_runs_of_m.specs.Bounded.{StaysBounded};
 
 /// No process ever traps.
+#[tactic(auto, using(crate::proofs::Every::never_traps_lem))]
 pub fn never_traps()
     ensures { NeverTraps }
 {}
 
 /// The values change only at an item that executes line 57.
+#[tactic(auto, using(crate::proofs::Every::changes_only_at_57_lem))]
 pub fn changes_only_at_57()
     ensures { ChangesOnlyAt57 }
 {}
 
 /// An item that executes line 57 lies in an update of its process and writes that update's value at
 /// its word, nothing else.
+#[tactic(auto, using(crate::proofs::Every::writes_its_update_lem))]
 pub fn writes_its_update()
     ensures { WritesItsUpdate }
 {}
@@ -31,21 +34,25 @@ pub fn writes_once()
 {}
 
 /// Every finished scan's view is the values at some state from its start to its end.
+#[tactic(auto, using(crate::proofs::Every::have_points_lem))]
 pub fn have_points()
     ensures { HavePoints }
 {}
 
 /// Every scan, finished or not, has at most 2 n + 1 double collects.
+#[tactic(auto, using(crate::proofs::Bounds::few_collects_lem))]
 pub fn few_collects()
     ensures { FewCollects }
 {}
 
 /// Every scan, finished or not, has at most 14 n n + 16 n w + 19 n + 8 w + 10 own steps.
+#[tactic(auto, using(crate::proofs::Bounds::few_steps_lem))]
 pub fn few_steps()
     ensures { FewSteps }
 {}
 
 /// No process sees itself move: every scan has at most 2 n - 1 double collects.
+#[tactic(auto, using(crate::proofs::Bounds::sharp_collects_lem))]
 pub fn sharp_collects()
     ensures { SharpCollects }
 {}
@@ -59,6 +66,7 @@ pub fn moves_are_events()
 
 /// Where a scan's test passes, there is a state between its two collects, and no word was written
 /// between the scan's two reads of it.
+#[tactic(auto, using(crate::proofs::CleanTests::passed_tests_are_clean_lem))]
 pub fn passed_tests_are_clean()
     ensures { PassedTestsAreClean }
 {}
@@ -73,24 +81,28 @@ pub fn linearizable()
 /// Each operation of a run has its place, an item between its call and its end: an update that at
 /// which it executes line 57, and a scan one after which the values are its view; and in the order
 /// of their places they are a linearization.
+#[tactic(auto, using(crate::proofs::Every::operations_have_places_lem))]
 pub fn operations_have_places()
     ensures { OperationsHavePlaces }
 {}
 
 /// The listing is write strongly linearizable: its runs have linearizations in which the updates
 /// keep their order as a run goes on, and more come only behind them.
+#[tactic(auto, using(crate::proofs::Every::write_strongly_linearizable_lem))]
 pub fn write_strongly_linearizable()
     ensures { WriteStronglyLinearizable }
 {}
 
 /// Every call is over after so many turns of its process, whatever the others do or stop doing: at
 /// most 14 n n + 16 n w + 22 n + 8 w + 16.
+#[tactic(auto, using(crate::proofs::Every::wait_free_lem))]
 pub fn wait_free()
     ensures { WaitFree }
 {}
 
 /// A scan that borrows a view, and returns it at line 37, has that of an embedded scan of another
 /// process, all within it.
+#[tactic(auto, using(crate::proofs::Lenders::borrowed_views_are_lent_lem))]
 pub fn borrowed_views_are_lent()
     ensures { BorrowedViewsAreLent }
 {}

@@ -1,17 +1,15 @@
 -- Listing U in its own words: its lines, its variables, and what each line does.
 use Rattle.std.specs.Prelude.{◌≡◌, ◌⊎◌, ℕ, ◌+◌, ◌-◌, max, Bool, true, false, not, List, [], ◌∷◌, take, map, Option}
-use Rattle.std.specs.Prelude.{Some, None, nat_eq, nat_lt, if◌then◌else◌, slice_index, slice_set, replicate, refl}
+use Rattle.std.specs.Prelude.{Some, None, nat_eq, nat_lt, nat_le, if◌then◌else◌, slice_index, slice_set, replicate, refl}
 use Rattle.snap_words.specs.Kind.{initial_word}
-use Rattle.snap_words.specs.Word.{Word}
+use Rattle.snap_runs.proofs.Common.{Word, places_to, all_true, first_true, Op, Scan, Update}
 use Rattle.snap_words.specs.declared.kind.KindTag.TheVariants as kind
 use Rattle.snap_semantics.specs.State.{Locals, Memory}
-use Rattle.snap_semantics.specs.Table.{places_to, all_true, first_true, entry}
-use Rattle.snap_semantics.specs.declared.process.Op.{Op}
-use Rattle.snap_semantics.specs.declared.process.Op.TheVariants.{Scan, Update}
+use Rattle.snap_semantics.specs.Table.{entry}
 use Rattle.snap_runs.proofs.Algorithm as typed
 use Rattle.snap_runs.proofs.Algorithm.{Mode, Scanning, Embedded, Updating, value_of, To, Begin, Answer, Finish}
 use Rattle.snap_runs.proofs.Algorithm.{Algorithm, returning, embedding}
-use Rattle.snap_runs.proofs.Flow.{Lines, IsScanOf, IsUpdateOf, IsLine}
+use Rattle.snap_runs.proofs.Flow.{Lines, IsUpdateOf, IsLine}
 use Rattle.snap_runs.proofs.Held.{word_at}
 use Rattle.snap_runs.proofs.Places.{for_each}
 use Rattle.snap_runs_of_u.specs.ListingU as u
@@ -228,24 +226,23 @@ algorithm n = record {
 }
 
 -- which mode a line belongs to; the word of an update is the process's own
-abbrev pub IsScan : ℕ → Mode → Type 0
-IsScan me d = IsScanOf (λ word. word ≡ me) d
-
 abbrev pub IsUpdate : ℕ → Mode → Type 0
 IsUpdate me d = IsUpdateOf (λ word. word ≡ me) d
 
 -- the lines of an update outside its scan
 abbrev pub in_update : ProgramCounter → Bool
-in_update L30 = true
-in_update L31 = true
-in_update L32 = true
-in_update L33 = true
-in_update _ = false
+in_update k = nat_le 30 (number k)
 
 abbrev pub IsLineOf : ℕ → Mode → ProgramCounter → Type 0
 IsLineOf me d k = IsLine (λ word. word ≡ me) (in_update k) d
 
 -- What the lines are for.
+
+-- the scan returns its view
+abbrev pub IsReturn : ProgramCounter → Type 0
+IsReturn L22 = Unit {0}
+IsReturn L24 = Unit {0}
+IsReturn _ = ⊥
 
 -- the view is made and not yet written
 abbrev pub IsLate : ProgramCounter → Type 0
@@ -261,7 +258,7 @@ written _ = 0
 abbrev pub lines : Lines Variables ProgramCounter Words
 lines = record {
   Kept = λ m m'. m' ≡ m;
-  IsReturn = λ k. (k ≡ L22) ⊎ (k ≡ L24);
+  IsReturn = IsReturn;
   answer = λ p. p.s;
   IsWrite = λ k. k ≡ L32;
   IsLast = λ k. k ≡ L33;

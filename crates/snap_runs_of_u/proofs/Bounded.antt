@@ -5,14 +5,9 @@ use Rattle.std.specs.List.{AllByRecursion}
 use Rattle.std.proofs.Common.{sym, ◌∙◌, ap, subst, arith, inl, inr}
 use Rattle.std.proofs.Math.ListN.{get_or-map}
 use Rattle.std.proofs.lemmas.List.{map-set}
-use Rattle.snap_words.specs.Shape.{IsOneOf}
-use Rattle.snap_words.specs.Word.{Word, no_word}
-use Rattle.snap_semantics.specs.declared.process.Item.{Item}
-use Rattle.snap_semantics.specs.declared.process.Item.TheVariants.{Step}
-use Rattle.snap_semantics.specs.Table.{places_to, all_true, first_true, who}
+use Rattle.snap_runs.proofs.Common.{IsOneOf, Word, no_word, Item, Step, places_to, all_true, first_true, who, state}
 use Rattle.snap_runs.specs.Bounded.{IsValue, AtMost, IsWordWithin, HasLine, StaysWithin, sequence_numbers, one_more}
 use Rattle.snap_runs.specs.Bounded as specs
-use Rattle.snap_runs.specs.Run.{state}
 use Rattle.snap_runs.specs.Update.{executes}
 use Rattle.snap_runs.proofs.Algorithm.{Mode, Scanning, Embedded, Updating, value_of, At, item_at}
 use Rattle.snap_runs.proofs.Bounded as bounded
@@ -38,7 +33,7 @@ use Rattle.snap_runs_of_u.proofs.Control.{VariablesAt}
 use Rattle.snap_runs_of_u.proofs.Flows.{writer}
 use Rattle.snap_runs_of_u.proofs.Invariant.{pending}
 use Rattle.snap_runs_of_u.proofs.Runs.{words_at, process_after, invariant_of, all_do, execution, well_of}
-use Rattle.snap_runs_of_u.proofs.Kept.{updates}
+use Rattle.snap_runs_of_u.proofs.Kept.{kept}
 
 -- the limits rise with the items
 scalar_wider : (n t : ℕ) (is_j is_c : Bool) →
@@ -203,7 +198,7 @@ module _ (n : ℕ) (items : List Item) (fits : Ready n items) where
       let one : IsOneOf n i = executing.one_of (algorithm n) items fits.steady (all_do n items fits) t i h is in
       let x =
       word_writes.written (algorithm n) lines 32 (writer n) (execution n items fits)
-      (updates n items fits) t i d h is there in
+      (kept n items fits).updates t i d h is there in
       let ws = words_at n items t in
       let p = (process_after n items t i).variables in
       let c_is : p.c ≡ seq_at ws i + 1 =

@@ -1,15 +1,9 @@
 -- The bounds of U at work on runs by two processes, by computing.
-use Rattle.std.specs.Prelude.{◌≡◌, ℕ, Some, None, List, [], ◌∷◌, ◌++◌, replicate, true, refl}
-use Rattle.std.proofs.Common.{arith, inl, inr}
-use Rattle.snap_words.specs.Word.{Word}
-use Rattle.snap_semantics.specs.declared.process.Item.{Item}
-use Rattle.snap_semantics.specs.declared.process.Item.TheVariants.{Step, Call, Crash}
-use Rattle.snap_semantics.specs.declared.process.Op.TheVariants.{Scan, Update}
+use Rattle.std.proofs.Common.{◌≡◌, ℕ, Some, None, List, [], ◌∷◌, ◌++◌, replicate, true, refl, arith, inl, inr}
+use Rattle.snap_runs.proofs.Common.{Word, Item, Step, Call, Crash, Scan, Update, State, process_at, state}
 use Rattle.snap_semantics.specs.declared.process.Status.TheVariants.{Idle, Crashed}
-use Rattle.snap_semantics.specs.State.{State, process_at}
 use Rattle.snap_runs.specs.Bounded.{IsValue, IsWordWithin, IsStateWithin, sequence_numbers}
 use Rattle.snap_runs.specs.Promises.{row_place}
-use Rattle.snap_runs.specs.Run.{state}
 use Rattle.snap_runs.specs.Update.{executes}
 use Rattle.snap_runs_of_u.specs.Bounded.{limits}
 use Rattle.snap_runs_of_u.specs.ListingU.{listing_u, j, c, moved, a, b, s}

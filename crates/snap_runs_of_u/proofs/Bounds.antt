@@ -1,6 +1,5 @@
 -- Every scan of U keeps the limits of its promises: on its double collects, with the sharp one, and on its own steps.
-use Rattle.std.specs.Prelude.{◌+◌}
-use Rattle.std.proofs.Common.{arith}
+use Rattle.std.proofs.Common.{◌+◌, arith}
 use Rattle.snap_runs.proofs.Every as every
 use Rattle.snap_runs_of_u.specs.Promises.{FewCollects, FewSteps, SharpCollects}
 use Rattle.snap_runs_of_u.proofs.Kept.{frame, calm_kept}

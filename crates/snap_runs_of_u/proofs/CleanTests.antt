@@ -1,11 +1,7 @@
 -- The double collects of U: which line reads which copy, and that a passed test is clean.
-use Rattle.std.specs.Prelude.{◌≡◌, ℕ, suc, ◌+◌, ◌≤◌, ◌⊎◌, max, Bool, true, false, List}
-use Rattle.std.specs.Prelude.{length, map, nat_eq, nat_lt, if◌then◌else◌, refl}
-use Rattle.std.proofs.Common.{sym, ◌∙◌, ap, arith, inl, inr}
-use Rattle.snap_semantics.specs.Table.{places_to, all_true, first_true}
-use Rattle.snap_semantics.specs.declared.process.Item.{Item}
-use Rattle.snap_semantics.specs.declared.process.Op.{Op}
-use Rattle.snap_semantics.specs.declared.process.Op.TheVariants.{Scan, Update}
+use Rattle.std.proofs.Common.{◌≡◌, ℕ, suc, ◌+◌, ◌≤◌, ◌⊎◌, max, Bool, true, false, List, length, map, nat_eq, nat_lt}
+use Rattle.std.proofs.Common.{if◌then◌else◌, refl, sym, ◌∙◌, ap, arith, inl, inr}
+use Rattle.snap_runs.proofs.Common.{places_to, all_true, first_true, Item, Op, Scan, Update}
 use Rattle.snap_runs.specs.Update.{is_at}
 use Rattle.snap_runs.proofs.Algorithm.{Mode, Scanning, Embedded, Updating, To, when_busy, status_of}
 use Rattle.snap_runs.proofs.Collecting as collecting
@@ -52,9 +48,10 @@ named k = record { first = λ e. absurd (cc); second = λ e. absurd (cc); quiet 
 abbrev pub Reaches : ℕ → Words → Variables → ProgramCounter → Move → Type 0
 Reaches n = collecting.Reaches (algorithm n) (copies n)
 
--- what each line does to the copies
+-- what each line does to the copies; a line that calls or returns does what the mode says
 reaches : (n me : ℕ) (d : Mode) (m : Words) (p : Variables) (k : ProgramCounter) → IsLineOf me d k →
     VariablesAt n p k → n ≤ length p.a → n ≤ length p.b → Reaches n m p k (move n me d m p k)
+reaches n me (Updating word value) m p L30 s h a b = refl
 reaches n me d m p L11 s h a b = inl refl
 reaches n me d m p L12 s h a b = (refl, refl, h.0, a, refl)
 reaches n me d m p L13 s h a b =
@@ -69,15 +66,6 @@ reaches n me d m p L16 s h a b =
 reaches n me d m p L18 s h a b =
     whether (Reaches n m p L18) (first_to d m p) (first_true 1 (map (at_limit p) (places_to n))) (λ e. tt) (λ k e. tt)
 reaches n me d m p L19 s h a b = inl h.0
-reaches n me Scanning m p L22 s h a b = tt
-reaches n me (Embedded word value) m p L22 s h a b = tt
-reaches n me (Updating word value) m p L22 s h a b = tt
-reaches n me Scanning m p L24 s h a b = tt
-reaches n me (Embedded word value) m p L24 s h a b = tt
-reaches n me (Updating word value) m p L24 s h a b = tt
-reaches n me Scanning m p L30 s h a b = tt
-reaches n me (Embedded word value) m p L30 s h a b = tt
-reaches n me (Updating word value) m p L30 s h a b = refl
 reaches n me d m p k s h a b = tt
 
 -- the test passes only where all copies agree

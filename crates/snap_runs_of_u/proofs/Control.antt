@@ -1,12 +1,9 @@
 -- Which variables a process of U has at each line, and that no line traps.
-use Rattle.std.specs.Prelude.{◌≡◌, ℕ, ◌+◌, ◌^◌, ◌<◌, ◌≤◌, not, ◌&&◌, map, Some, None}
-use Rattle.std.specs.Prelude.{nat_eq, nat_lt, nat_le, if◌then◌else◌, refl}
-use Rattle.std.proofs.Common.{arith}
-use Rattle.snap_words.specs.Shape.{IsOneOf}
+use Rattle.std.proofs.Common.{◌≡◌, ℕ, ◌+◌, ◌^◌, ◌<◌, ◌≤◌, not, ◌&&◌, map, Some, None, nat_eq, nat_lt, nat_le}
+use Rattle.std.proofs.Common.{if◌then◌else◌, refl, arith}
+use Rattle.snap_runs.proofs.Common.{IsOneOf, places_to, all_true, first_true, Op, Scan, Update}
 use Rattle.snap_words.specs.declared.kind.KindTag.TheVariants as kind
-use Rattle.snap_semantics.specs.Table.{places_to, all_true, first_true, call_skip}
-use Rattle.snap_semantics.specs.declared.process.Op.{Op}
-use Rattle.snap_semantics.specs.declared.process.Op.TheVariants.{Scan, Update}
+use Rattle.snap_semantics.specs.Table.{call_skip}
 use Rattle.snap_semantics.specs.declared.process.Reason.TheVariants.{NoSuchWord, NotOwner}
 use Rattle.snap_runs.proofs.Algorithm.{Mode, Scanning, Embedded, Updating, mode_of, op_of}
 use Rattle.snap_runs.proofs.Algorithm.{Idle, At, WhenBusy, LeadsTo, leads_to}
@@ -83,20 +80,17 @@ move_well n me d m p L18 i s h =
     ))
     (λ k e. let r = first_found 1 n (at_limit p) k e in (s, (omega arith, omega arith), refl))
 move_well n me d m p L19 i s h = (s, ((omega arith, omega arith), h.1), refl)
-move_well n me d m p L21 i s h = (s, tt, refl)
 move_well n me Scanning m p L22 i s h = tt
 move_well n me (Embedded word value) m p L22 i s h = (s, tt, refl)
 move_well n me (Updating word value) m p L22 i s h = absurd s
-move_well n me d m p L23 i s h = (s, tt, refl)
 move_well n me Scanning m p L24 i s h = tt
 move_well n me (Embedded word value) m p L24 i s h = (s, tt, refl)
 move_well n me (Updating word value) m p L24 i s h = absurd s
 move_well n me Scanning m p L30 i s h = absurd s
 move_well n me (Embedded word value) m p L30 i s h = absurd s
 move_well n me (Updating word value) m p L30 i s h = (s, tt, refl)
-move_well n me d m p L31 i s h = (s, tt, refl)
-move_well n me d m p L32 i s h = (s, tt, refl)
 move_well n me d m p L33 i s h = tt
+move_well n me d m p k i s h = (s, tt, refl)
 
 -- what a line needs is kept; the number that line 31 raises is at most the number of items
 needs : (n time me : ℕ) (p : Variables) (k : ProgramCounter) → IsOneOf n me → p.c ≤ time → time + 1 < 2 ^ 64 →

@@ -1,15 +1,13 @@
 -- The double collects and own steps that a scan of U has made
 -- at each line, how a line raises them, and the limits on them.
-use Rattle.std.specs.Prelude.{◌≡◌, ℕ, suc, ◌+◌, ◌*◌, ◌<◌, ◌≤◌, false, not, map, nat_lt, if◌then◌else◌, refl}
-use Rattle.std.proofs.Common.{ap, arith}
-use Rattle.snap_semantics.specs.Table.{places_to, all_true, first_true}
+use Rattle.std.proofs.Common.{◌≡◌, ℕ, suc, ◌+◌, ◌*◌, ◌<◌, ◌≤◌, false, not, map, nat_lt, if◌then◌else◌, refl, ap, arith}
+use Rattle.snap_runs.proofs.Common.{places_to, all_true, first_true, IsOneOf}
 use Rattle.snap_runs.proofs.Algorithm.{Mode, Scanning, Embedded, Updating, GoesOn}
 use Rattle.snap_runs.proofs.Budget as budgets
 use Rattle.snap_runs.proofs.Budget.{budget_zero, same_budget, next_budget, budget_le}
 use Rattle.snap_runs.proofs.Computing.{not_lt, either, whether}
 use Rattle.snap_runs.proofs.Places.{for_each, for_each_at, some_fails}
 use Rattle.snap_runs.proofs.Totals.{total, total_le, total_less, total_raised}
-use Rattle.snap_words.specs.Shape.{IsOneOf}
 use Rattle.snap_runs.proofs.Flow.{IsScanLine}
 use Rattle.snap_runs_of_u.proofs.Algorithm.{Words, Move, Variables, ProgramCounter, L10, L11, L12, L13, L14, L15, L16}
 use Rattle.snap_runs_of_u.proofs.Algorithm.{L17, L18, L19, L21, L22, L23, L24, L30, L31, L32, L33, move, first_to}
@@ -89,19 +87,16 @@ pub count_move : (n me : ℕ) (d : Mode) (words : Words) (p : Variables) (k : Pr
     (own c c' recent recent' : ℕ) → c' ≡ c + tests k →
     recent' ≡ (if restarts k then 0 else recent + tests k) → VariablesAt n p k → ((k ≡ L16) → moves n p < n) →
     Count n p own c recent k → CountMove n (suc own) c' recent' (move n me d words p k)
+count_move n me (Updating w x) words p L30 own c c' recent recent' e f keeps sharp h = tt
 count_move n me d words p L10 own c c' recent recent' e f keeps sharp h = (omega arith, omega arith, omega arith)
 count_move n me d words p L11 own c c' recent recent' e f keeps sharp h =
     let b : budget n c' ≡ budget n 0 = ap (budget n) (let f : c' ≡ 0 = omega arith in f) in
     let two : budget n 0 ≡ 2 = budget_zero (round n) 2 in
     (omega arith, omega arith, omega arith)
-count_move n me d words p L12 own c c' recent recent' e f keeps sharp h =
-    let b : budget n c' ≡ budget n c = same_budget (round n) 2 c c' e in (omega arith, omega arith, omega arith)
 count_move n me d words p L13 own c c' recent recent' e f keeps sharp h =
     let b : budget n c' ≡ budget n c = same_budget (round n) 2 c c' e in
     either (CountMove n (suc own) c' recent') (nat_lt p.j n) _ _ (λ t. (omega arith, omega arith, omega arith)) (λ t.
     let ge : n ≤ p.j = not_lt p.j n t in (omega arith, omega arith, omega arith))
-count_move n me d words p L14 own c c' recent recent' e f keeps sharp h =
-    let b : budget n c' ≡ budget n c = same_budget (round n) 2 c c' e in (omega arith, omega arith, omega arith)
 count_move n me d words p L15 own c c' recent recent' e f keeps sharp h =
     let b : budget n c' ≡ budget n c = same_budget (round n) 2 c c' e in
     either (CountMove n (suc own) c' recent') (nat_lt p.j n) _ _ (λ t. (omega arith, omega arith, omega arith)) (λ t.
@@ -121,24 +116,17 @@ count_move n me d words p L18 own c c' recent recent' e f keeps sharp h =
     let b : budget n c' ≡ budget n c = same_budget (round n) 2 c c' e in
     whether (CountMove n (suc own) c' recent') (first_to d words p) (first_true 1 (map (at_limit p) (places_to n)))
     (λ none. (omega arith, omega arith)) (λ k found. (omega arith, omega arith))
-count_move n me d words p L19 own c c' recent recent' e f keeps sharp h =
-    let b : budget n c' ≡ budget n c = same_budget (round n) 2 c c' e in (omega arith, omega arith, omega arith)
 count_move n me d words p L21 own c c' recent recent' e f keeps sharp h =
     let b : budget n c' ≡ budget n c = same_budget (round n) 2 c c' e in (omega arith, omega arith)
-count_move n me Scanning words p L22 own c c' recent recent' e f keeps sharp h = tt
-count_move n me (Embedded w x) words p L22 own c c' recent recent' e f keeps sharp h = tt
-count_move n me (Updating w x) words p L22 own c c' recent recent' e f keeps sharp h = tt
 count_move n me d words p L23 own c c' recent recent' e f keeps sharp h =
     let b : budget n c' ≡ budget n c = same_budget (round n) 2 c c' e in (omega arith, omega arith)
-count_move n me Scanning words p L24 own c c' recent recent' e f keeps sharp h = tt
-count_move n me (Embedded w x) words p L24 own c c' recent recent' e f keeps sharp h = tt
-count_move n me (Updating w x) words p L24 own c c' recent recent' e f keeps sharp h = tt
-count_move n me Scanning words p L30 own c c' recent recent' e f keeps sharp h = tt
-count_move n me (Embedded w x) words p L30 own c c' recent recent' e f keeps sharp h = tt
-count_move n me (Updating w x) words p L30 own c c' recent recent' e f keeps sharp h = tt
-count_move n me d words p L31 own c c' recent recent' e f keeps sharp h = tt
-count_move n me d words p L32 own c c' recent recent' e f keeps sharp h = tt
-count_move n me d words p L33 own c c' recent recent' e f keeps sharp h = tt
+count_move n me d words p L12 own c c' recent recent' e f keeps sharp h =
+    let b : budget n c' ≡ budget n c = same_budget (round n) 2 c c' e in (omega arith, omega arith, omega arith)
+count_move n me d words p L14 own c c' recent recent' e f keeps sharp h =
+    let b : budget n c' ≡ budget n c = same_budget (round n) 2 c c' e in (omega arith, omega arith, omega arith)
+count_move n me d words p L19 own c c' recent recent' e f keeps sharp h =
+    let b : budget n c' ≡ budget n c = same_budget (round n) 2 c c' e in (omega arith, omega arith, omega arith)
+count_move n me d words p k own c c' recent recent' e f keeps sharp h = tt
 
 -- the bounds at each line of a scan
 pub collects_le : (n : ℕ) (p : Variables) (k : ProgramCounter) (own c recent : ℕ) → 0 < n → VariablesAt n p k →
@@ -149,10 +137,6 @@ collects_le n p L14 own c recent pos keeps sharp h s = let t : moves n p ≤ n =
 collects_le n p L15 own c recent pos keeps sharp h s = let t : moves n p ≤ n = moves_le n p keeps.1 in omega arith
 collects_le n p L16 own c recent pos keeps sharp h s = let t : moves n p < n = sharp refl in omega arith
 collects_le n p L19 own c recent pos keeps sharp h s = let t : moves n p ≤ n = moves_le n p keeps.1 in omega arith
-collects_le n p L30 own c recent pos keeps sharp h s = absurd s
-collects_le n p L31 own c recent pos keeps sharp h s = absurd s
-collects_le n p L32 own c recent pos keeps sharp h s = absurd s
-collects_le n p L33 own c recent pos keeps sharp h s = absurd s
 collects_le n p k own c recent pos keeps sharp h s = omega arith
 
 own_all : (n c own : ℕ) → c ≤ n → own ≤ budget n c + 4 * n → own + 1 ≤ 4 * (n * n) + 8 * n + 7
@@ -164,8 +148,4 @@ pub own_le : (n : ℕ) (p : Variables) (k : ProgramCounter) (own c recent : ℕ)
     Count n p own c recent k → c ≤ n → IsScanLine (in_update k) → own + 1 ≤ 4 * (n * n) + 8 * n + 7
 own_le n p L10 own c recent keeps h le s = omega arith
 own_le n p L11 own c recent keeps h le s = omega arith
-own_le n p L30 own c recent keeps h le s = absurd s
-own_le n p L31 own c recent keeps h le s = absurd s
-own_le n p L32 own c recent keeps h le s = absurd s
-own_le n p L33 own c recent keeps h le s = absurd s
 own_le n p k own c recent keeps h le s = own_all n c own le (omega arith)

@@ -1,7 +1,6 @@
 -- Every run of U keeps its promises, by the frame that U, B and M share: no
 -- traps, one write for each update, a point for each scan, linearizable.
-use Rattle.std.specs.Prelude.{ℕ, ◌+◌, ◌^◌, Some}
-use Rattle.std.proofs.Common.{subst, sym, arith}
+use Rattle.std.proofs.Common.{ℕ, ◌+◌, ◌^◌, Some, subst, sym, arith}
 use Rattle.std.proofs.lemmas.Bool.{eqb-true}
 use Rattle.snap_runs.specs.Snapshot.{IsSnapshotRun}
 use Rattle.snap_runs.proofs.Prefixes.{write_strongly_linearizable_by_points}

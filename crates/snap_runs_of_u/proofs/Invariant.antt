@@ -1,12 +1,10 @@
 -- The invariant of U: what holds in every state of every run.
-use Rattle.std.specs.Prelude.{◌≡◌, ℕ, suc, ◌+◌, ◌<◌, ◌≤◌, ◌⊎◌, max, length, refl}
-use Rattle.std.proofs.Common.{sym, ◌∙◌, ap, subst, arith, inl, inr}
-use Rattle.snap_semantics.specs.declared.process.Outcome.{Outcome}
+use Rattle.std.proofs.Common.{◌≡◌, ℕ, suc, ◌+◌, ◌<◌, ◌≤◌, ◌⊎◌, max, length, refl, sym, ◌∙◌, ap, subst, arith, inl, inr}
+use Rattle.snap_runs.proofs.Common.{Outcome, IsOneOf}
 use Rattle.snap_runs.proofs.Algorithm.{Idle, At, WhenBusy, when_busy, New, typed_at, changed}
 use Rattle.snap_runs.proofs.Frame as frame
 use Rattle.snap_runs.proofs.Flow.{InScan}
 use Rattle.snap_runs.proofs.Held.{word_at, held_wider, seq_at, before_seq, Grows}
-use Rattle.snap_words.specs.Shape.{IsOneOf}
 use Rattle.snap_runs_of_u.proofs.Algorithm.{Words, Control, Process, State, Variables, writes, algorithm}
 use Rattle.snap_runs_of_u.proofs.Collect.{Viewed}
 use Rattle.snap_runs_of_u.proofs.Control.{ControlWell}

@@ -1,8 +1,7 @@
 -- What the frame of the proofs asks of U: of its lines, and of its runs without crashes.
 use Rattle.std.specs.Prelude.{◌≡◌, ℕ, ◌+◌, ◌*◌, ◌<◌, ◌≤◌, Bool, true, false, List, length, refl}
 use Rattle.std.proofs.Common.{sym, subst, arith, inl, inr}
-use Rattle.snap_words.specs.Shape.{IsOneOf}
-use Rattle.snap_semantics.specs.declared.process.Item.{Item}
+use Rattle.snap_runs.proofs.Common.{IsOneOf, Item}
 use Rattle.snap_runs.proofs.Algorithm.{Mode, Embedded, Updating, At}
 use Rattle.snap_runs.proofs.Calm.{calm, calm_list}
 use Rattle.snap_runs.proofs.Flow.{IsInScan, InScan, scan_line}
@@ -12,6 +11,7 @@ use Rattle.snap_runs.proofs.UpdateSteps.{Ahead, Nearer, Resumes}
 use Rattle.snap_runs.proofs.ListingFrame as frames
 use Rattle.snap_runs_of_u.specs.Promises.{run_of, SequenceNumbersSuffice}
 use Rattle.snap_runs_of_u.proofs.Algorithm.{Words, Variables, ProgramCounter, L30, L31, L32, L33, IsUpdate, IsLineOf}
+use Rattle.snap_runs_of_u.proofs.Algorithm.{L22, L24}
 use Rattle.snap_runs_of_u.proofs.Algorithm.{in_update, tests, move, lines, algorithm}
 use Rattle.snap_runs_of_u.proofs.Count.{collects_le, own_le}
 use Rattle.snap_runs_of_u.proofs.Flows.{numbered, listed, once, writer}
@@ -20,17 +20,12 @@ use Rattle.snap_runs_of_u.proofs.Ready.{Ready, ready}
 use Rattle.snap_runs_of_u.proofs.Runs.{words_at, process_after, invariant_of, execution, well_of, stage_of, counts_of}
 use Rattle.snap_runs_of_u.proofs.Stage.{Stage}
 
--- line 32 is one of an update
-pub updates : (n : ℕ) (items : List Item) → Ready n items → (t i : ℕ) (d : Mode) → t < length items → IsOneOf n i →
-    (process_after n items t i).control ≡ At d L32 →
-    IsUpdate i d
-updates n items fits t i d h one e = (well_of n items fits t i d L32 (omega arith) one e).0
-
 -- at a line that returns s, the values were s at some state since the scan's start
 pub return_held : (n : ℕ) (history : ℕ → Words) (t since round : ℕ) (m : Words) (p : Variables) (k : ProgramCounter) →
     lines.IsReturn k → Stage n history t since round m p k → Held history t since p.s
-return_held n history t since round m p k (inl is) h = subst (Stage n history t since round m p) is h
-return_held n history t since round m p k (inr is) h = (subst (Stage n history t since round m p) is h).0
+return_held n history t since round m p L22 is h = h
+return_held n history t since round m p L24 is h = h.0
+return_held n history t since round m p k is h = absurd is
 
 -- the steps of a scan
 abbrev pub most_steps : ℕ → ℕ
@@ -82,12 +77,9 @@ nearer n me word value m p k s = absurd s
 
 pub resumes : (n me word value : ℕ) (m : Words) (p : Variables) (k : ProgramCounter) → lines.IsReturn k →
     Resumes (algorithm n) lines (its n) (move n me (Embedded word value) m p k)
-resumes n me word value m p k (inl is) =
-    subst (λ y. Resumes (algorithm n) lines (its n) (move n me (Embedded word value) m p y)) (sym is)
-    (omega arith, refl)
-resumes n me word value m p k (inr is) =
-    subst (λ y. Resumes (algorithm n) lines (its n) (move n me (Embedded word value) m p y)) (sym is)
-    (omega arith, refl)
+resumes n me word value m p L22 is = (omega arith, refl)
+resumes n me word value m p L24 is = (omega arith, refl)
+resumes n me word value m p k is = absurd is
 
 abbrev pub frame : (n : ℕ) → frames.Frame (algorithm n) lines 32
 frame n = record {
@@ -99,7 +91,7 @@ frame n = record {
   collects = n;
   steps = most_steps n;
   its = its n;
-  resumes = λ me word value m p k is. resumes n me word value m p k is;
+  resumes = resumes n;
   begins = λ p word value. (omega arith, refl);
 }
 
@@ -109,7 +101,7 @@ kept n items fits = record {
   does = (execution n items fits).does;
   flows = (execution n items fits).flows;
   wrote = (execution n items fits).wrote;
-  updates = updates n items fits;
+  updates = λ t i d h one e. (well_of n items fits t i d L32 (omega arith) one e).0;
   held = λ t i d k le one at returns.
       let q = process_after n items t i in
       return_held n (words_at n items) t q.auxiliary.since q.auxiliary.round (words_at n items t) q.variables k returns

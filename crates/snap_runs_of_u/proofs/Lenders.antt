@@ -1,15 +1,11 @@
 -- A borrowed view of a scan of U is that of an embedded scan of the lender within it.
-use Rattle.std.specs.Prelude.{ℕ, ◌+◌, List, refl}
-use Rattle.std.proofs.Common.{◌∙◌, ap, arith}
-use Rattle.snap_semantics.specs.declared.process.Item.{Item}
-use Rattle.snap_semantics.specs.declared.process.Op.{Op}
-use Rattle.snap_semantics.specs.declared.process.Op.TheVariants.{Scan, Update}
+use Rattle.std.proofs.Common.{ℕ, ◌+◌, List, refl, ◌∙◌, ap, arith}
+use Rattle.snap_runs.proofs.Common.{Item, Op, Scan, Update}
 use Rattle.snap_runs.proofs.Algorithm.{when_busy}
 use Rattle.snap_runs.proofs.Held.{seq_at}
 use Rattle.snap_runs.proofs.Single as single
 use Rattle.snap_runs_of_u.specs.Promises.{BorrowedViewsAreLent}
 use Rattle.snap_runs_of_u.proofs.Algorithm.{Control, L24, IsLate, counter}
-use Rattle.snap_runs_of_u.proofs.Flows.{embeds}
 use Rattle.snap_runs_of_u.proofs.Invariant.{pending}
 use Rattle.snap_runs_of_u.proofs.Kept.{frame, kept, calm_kept}
 use Rattle.snap_runs_of_u.proofs.Ready.{Ready, ready}
@@ -30,10 +26,6 @@ lends n items fits = record {
   views = λ t k word value. refl;
   late = tt;
   not_late = not_late;
-  embeds = λ t i short one.
-      let q = process_after n items t i in
-      when_busy _ _ (λ d k well. embeds n i d (words_at n items t) q.variables k well.0) q.control
-      (invariant_of n items fits t i (omega arith) one).well;
 }
 
 pub borrowed_views_are_lent_lem : BorrowedViewsAreLent

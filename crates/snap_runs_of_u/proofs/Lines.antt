@@ -1,18 +1,15 @@
 -- Each numbered line of listing U has the effect of its move in
 -- `Algorithm.antt`, and does not trap where it has what it needs.
-use Rattle.std.specs.Prelude.{◌≡◌, ℕ, ◌+◌, ◌-◌, ◌^◌, ◌<◌, ◌≤◌, max, map, Option, Some, None}
-use Rattle.std.specs.Prelude.{Result, Ok, nat_eq, nat_lt, slice_set, refl}
-use Rattle.std.proofs.Common.{arith}
-use Rattle.snap_words.specs.Shape.{Counts, IsOneOf}
+use Rattle.std.proofs.Common.{◌≡◌, ℕ, ◌+◌, ◌-◌, ◌^◌, ◌<◌, ◌≤◌, max, map, Option, Some, None, Result, Ok, nat_eq, nat_lt}
+use Rattle.std.proofs.Common.{slice_set, refl, arith}
+use Rattle.snap_runs.proofs.Common.{Counts, IsOneOf, places_to, all_true, first_true, Activity, Op}
 use Rattle.snap_semantics.specs.Source.{instr_at, following}
-use Rattle.snap_semantics.specs.Table.{Effect, Goes, on, effect_at, places_to, all_true, first_true, first_goes}
+use Rattle.snap_semantics.specs.Table.{Effect, Goes, on, effect_at, first_goes}
 use Rattle.snap_semantics.specs.Value.{Context, at_place, term_value}
 use Rattle.snap_semantics.specs.declared.instr.Index.TheVariants.{Place}
 use Rattle.snap_semantics.specs.declared.instr.Term.TheVariants.{Row}
-use Rattle.snap_semantics.specs.declared.process.Activity.{Activity}
 use Rattle.snap_semantics.specs.declared.process.Cause.{Cause}
 use Rattle.snap_semantics.specs.declared.process.Cause.TheVariants.{Owner}
-use Rattle.snap_semantics.specs.declared.process.Op.{Op}
 use Rattle.snap_runs.proofs.Algorithm.{Mode, Scanning, Embedded, Updating, op_of, link_of, To, shown}
 use Rattle.snap_runs.proofs.Computing.{same_number, if_of}
 use Rattle.snap_runs.proofs.Held.{word_at}
@@ -76,7 +73,6 @@ pub each_line : (n me : ℕ) (d : Mode) (m : Words) (p : Variables) (k : Program
     Needs n me p k → at_line (square n) me (op_of d) m (link_of (number back) d) (number k) p
     ≡ shown (algorithm n) m (move n me d m p k)
 each_line n me d m p L10 s h = bind_ok _ _ _ _ (each_ok _ (λ k. 0) 1 n (λ k low high. refl)) refl
-each_line n me d m p L11 s h = refl
 each_line n me d m p L12 s h =
     bind_ok _ _ _ _ (place_ok (max n n) p.j (h.0, omega arith)) (bind_ok _ _ _ _ (place_ok n p.j h) refl)
 each_line n me d m p L13 s h =
@@ -106,8 +102,6 @@ each_line n me d m p L18 s h =
     bind_ok _ _ _ _
     (each_ok _ (at_limit p) 1 n (λ k low high. bind_ok _ _ _ _ (row_moved n me d p k (in_range n k low high)) refl))
     (first_shown n d m p (first_true 1 (map (at_limit p) (places_to n))))
-each_line n me d m p L19 s h = refl
-each_line n me d m p L21 s h = refl
 each_line n me Scanning m p L22 s h = refl
 each_line n me (Embedded word value) m p L22 s h = refl
 each_line n me (Updating word value) m p L22 s h = absurd s
@@ -129,3 +123,4 @@ each_line n me (Updating word value) m p L32 s h =
 each_line n me Scanning m p L33 s h = absurd s
 each_line n me (Embedded word value) m p L33 s h = absurd s
 each_line n me (Updating word value) m p L33 s h = refl
+each_line n me d m p k s h = refl

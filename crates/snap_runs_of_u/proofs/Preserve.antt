@@ -2,15 +2,10 @@
 use Rattle.std.specs.Prelude.{◌≡◌, ℕ, suc, ◌+◌, ◌<◌, ◌≤◌, length, Option, Some, None, if◌then◌else◌, refl}
 use Rattle.std.proofs.Common.{sym, ◌∙◌, ap, subst, arith, inl, inr}
 use Rattle.std.proofs.Math.Nat.{eq-or-lt_of_le}
-use Rattle.snap_words.specs.Shape.{IsOneOf}
+use Rattle.snap_runs.proofs.Common.{IsOneOf, who, Item, Step, Call, Crash, Op, Scan, Update, Called, Stepped, Answered}
+use Rattle.snap_runs.proofs.Common.{Finished, Reason}
 use Rattle.snap_words.specs.declared.kind.KindTag.TheVariants as kind
-use Rattle.snap_semantics.specs.Table.{call_skip, who}
-use Rattle.snap_semantics.specs.declared.process.Item.{Item}
-use Rattle.snap_semantics.specs.declared.process.Item.TheVariants.{Step, Call, Crash}
-use Rattle.snap_semantics.specs.declared.process.Op.{Op}
-use Rattle.snap_semantics.specs.declared.process.Op.TheVariants.{Scan, Update}
-use Rattle.snap_semantics.specs.declared.process.Outcome.TheVariants.{Called, Stepped, Answered, Finished}
-use Rattle.snap_semantics.specs.declared.process.Reason.{Reason}
+use Rattle.snap_semantics.specs.Table.{call_skip}
 use Rattle.snap_runs.proofs.Algorithm.{Mode, Scanning, Updating, op_of, Idle, At, To, Begin, Answer, Finish, New}
 use Rattle.snap_runs.proofs.Algorithm.{by_move, by_step, by_admission, by_call, typed_at, changed, happens}
 use Rattle.snap_runs.proofs.Algorithm.{stepped_auxiliary, begun_auxiliary, called_auxiliary}

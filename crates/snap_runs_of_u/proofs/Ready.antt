@@ -1,7 +1,6 @@
 -- Runs of U without crashes that have enough sequence numbers, and the one through which a run with crashes is looked
 -- at.
-use Rattle.std.specs.Prelude.{ℕ, ◌<◌, ◌^◌, List}
-use Rattle.std.proofs.Common.{subst, sym}
+use Rattle.std.proofs.Common.{ℕ, ◌<◌, ◌^◌, List, subst, sym}
 use Rattle.snap_semantics.specs.declared.process.Item.{Item}
 use Rattle.snap_runs.proofs.Calm.{calm, calm_list, same_length}
 use Rattle.snap_runs.proofs.Steady.{Steady}

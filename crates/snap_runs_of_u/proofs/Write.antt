@@ -4,9 +4,7 @@ use Rattle.std.proofs.Common.{sym, ◌∙◌, ap, subst, arith, inl, inr}
 use Rattle.std.proofs.lemmas.Bool.{cases_eq}
 use Rattle.std.proofs.lemmas.Grind.{get_or-set_at}
 use Rattle.std.proofs.lemmas.List.{length-set, get_or-set_other}
-use Rattle.snap_semantics.specs.declared.process.Outcome.{Outcome}
-use Rattle.snap_words.specs.Shape.{IsOneOf}
-use Rattle.snap_words.specs.Word.{Word, no_word}
+use Rattle.snap_runs.proofs.Common.{Outcome, IsOneOf, Word, no_word}
 use Rattle.snap_runs.proofs.Algorithm.{Mode, At, New, typed_at, changed, stepped_auxiliary}
 use Rattle.snap_runs.proofs.Flow.{IsInScan, not_update}
 use Rattle.snap_runs.proofs.Frame as frame

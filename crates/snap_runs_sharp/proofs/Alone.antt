@@ -2,15 +2,9 @@
 -- memory and its count of double collects; what its steps lead to.
 use Rattle.std.specs.Prelude.{◌≡◌, ◌≢◌, ℕ, zero, suc, ◌+◌, List, [], ◌∷◌, length, Option, None, replicate, refl}
 use Rattle.std.proofs.Common.{◌∙◌, ap, arith}
-use Rattle.snap_words.specs.Shape.{IsOneOf}
-use Rattle.snap_semantics.specs.declared.process.Item.{Item}
+use Rattle.snap_runs.proofs.Common.{IsOneOf, Item, Step, Call, Op, Scan, Update, Outcome, Called, Stepped, Answered}
+use Rattle.snap_runs.proofs.Common.{Finished, Reason}
 use Rattle.snap_semantics.specs.Table.{call_skip}
-use Rattle.snap_semantics.specs.declared.process.Item.TheVariants.{Step, Call}
-use Rattle.snap_semantics.specs.declared.process.Op.{Op}
-use Rattle.snap_semantics.specs.declared.process.Op.TheVariants.{Scan, Update}
-use Rattle.snap_semantics.specs.declared.process.Outcome.{Outcome}
-use Rattle.snap_semantics.specs.declared.process.Outcome.TheVariants.{Called, Stepped, Answered, Finished}
-use Rattle.snap_semantics.specs.declared.process.Reason.{Reason}
 use Rattle.snap_runs.proofs.Algorithm.{Mode, Auxiliary, Scanning, Updating, Control, Idle, At, Move, To, Begin}
 use Rattle.snap_runs.proofs.Algorithm.{Answer, Finish, TypedProcess, TypedState, Algorithm, Change, New, by_move}
 use Rattle.snap_runs.proofs.Algorithm.{by_step, by_admission, by_call, typed_at, changed, happens, stepped_auxiliary}

@@ -1,18 +1,10 @@
 -- A schedule whose last item answers a scan: its run reaches as
 -- many double collects of the scan as were counted (`Reaches`).
-use Rattle.std.specs.Prelude.{◌≡◌, ℕ, zero, suc, ◌+◌, ◌<◌, Bool, true, false, ◌&&◌}
-use Rattle.std.specs.Prelude.{List, [], ◌∷◌, ◌++◌, length, None, refl}
-use Rattle.std.proofs.Common.{sym, ◌∙◌, ap, subst, arith}
+use Rattle.std.proofs.Common.{◌≡◌, ℕ, zero, suc, ◌+◌, ◌<◌, Bool, true, false, ◌&&◌, List, [], ◌∷◌, ◌++◌, length, None}
+use Rattle.std.proofs.Common.{refl, sym, ◌∙◌, ap, subst, arith}
 use Rattle.std.proofs.Math.Seq.{get_or-append_seam}
 use Rattle.std.proofs.lemmas.List.{length-append, get_or_append_left}
-use Rattle.snap_words.specs.Shape.{IsOneOf}
-use Rattle.snap_semantics.specs.State.{process_at}
-use Rattle.snap_semantics.specs.Table.{who}
-use Rattle.snap_semantics.specs.declared.process.Item.{Item}
-use Rattle.snap_semantics.specs.declared.process.Item.TheVariants.{Step}
-use Rattle.snap_semantics.specs.declared.process.Outcome.{Outcome}
-use Rattle.snap_semantics.specs.declared.process.Outcome.TheVariants.{Answered}
-use Rattle.snap_runs.specs.Run.{Run, before, item, outcome}
+use Rattle.snap_runs.proofs.Common.{IsOneOf, process_at, who, Item, Step, Outcome, Answered, Run, before, item, outcome}
 use Rattle.snap_runs.specs.Scan.{FinishedScan, steps, is_if_all, line_in, is_stepped, ends_double_collect}
 use Rattle.snap_runs.proofs.Algorithm.{Mode, Control, At, Move, Answer, Algorithm, by_move, by_step, by_item}
 use Rattle.snap_runs.proofs.Algorithm.{outcome_of, happens, item_at, typed_at, typed_state, first_state}

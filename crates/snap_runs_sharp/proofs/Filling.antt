@@ -1,13 +1,11 @@
 -- For runs that reach the bounds: lists that a process which steps alone fills place by place (`Filled`), and tests
 -- that all places pass or one fails.
-use Rattle.std.specs.Prelude.{◌≡◌, ℕ, ◌+◌, ◌-◌, ◌<◌, ◌≤◌, Bool, true, false, List, length, map, Some, None}
-use Rattle.std.specs.Prelude.{slice_index_or, slice_set, refl}
-use Rattle.std.proofs.Common.{sym, ◌∙◌, ap, arith, inl, inr}
+use Rattle.std.proofs.Common.{◌≡◌, ℕ, ◌+◌, ◌-◌, ◌<◌, ◌≤◌, Bool, true, false, List, length, map, Some, None}
+use Rattle.std.proofs.Common.{slice_index_or, slice_set, refl, sym, ◌∙◌, ap, arith, inl, inr}
 use Rattle.std.proofs.Math.Nat.{eq-or-lt_of_le}
 use Rattle.std.proofs.lemmas.Grind.{get_or-set_at}
 use Rattle.std.proofs.lemmas.List.{get_or-set_other}
-use Rattle.snap_words.specs.Shape.{IsOneOf}
-use Rattle.snap_semantics.specs.Table.{places_to, all_true, first_true}
+use Rattle.snap_runs.proofs.Common.{IsOneOf, places_to, all_true, first_true}
 use Rattle.snap_runs.proofs.Places.{all_pass, some_fails, first_found}
 
 -- the places below place j, counted from 1, have these values

@@ -1,15 +1,9 @@
 -- The items of the schedules that reach the bounds: each is a
 -- step or a call of one of n processes; and how many there are.
-use Rattle.std.specs.Prelude.{◌≡◌, ℕ, zero, suc, ◌+◌, ◌*◌, ◌≤◌, List, [], ◌∷◌, ◌++◌, length}
-use Rattle.std.proofs.Common.{arith}
+use Rattle.std.proofs.Common.{◌≡◌, ℕ, zero, suc, ◌+◌, ◌*◌, ◌≤◌, List, [], ◌∷◌, ◌++◌, length, arith}
 use Rattle.std.proofs.lemmas.List.{length-append, length-replicate}
 use Rattle.std.specs.List.{AllByRecursion}
-use Rattle.snap_words.specs.Shape.{IsOneOf}
-use Rattle.snap_semantics.specs.declared.process.Item.{Item}
-use Rattle.snap_semantics.specs.declared.process.Item.TheVariants.{Step, Call}
-use Rattle.snap_semantics.specs.declared.process.Op.TheVariants.{Scan}
-use Rattle.snap_semantics.specs.Table.{who}
-use Rattle.snap_runs.specs.Run.{Run}
+use Rattle.snap_runs.proofs.Common.{IsOneOf, Item, Step, Call, Scan, who, Run}
 use Rattle.snap_runs.proofs.Steady.{IsNoCrash, Steady}
 use Rattle.snap_runs_sharp.specs.Schedules.{steps_of, update_by, round_with, rounds, before_answer, schedule}
 

@@ -1,14 +1,10 @@
 -- No finished scan makes more double collects than the bounds,
 -- and a scan of U that steps alone makes one and not two.
-use Rattle.std.specs.Prelude.{◌≡◌, ℕ, zero, suc, ◌+◌, ◌*◌, ◌-◌, ◌<◌, ◌≤◌, List, ◌∷◌}
-use Rattle.std.specs.Prelude.{◌++◌, length, None, slice_index_or, refl}
-use Rattle.std.proofs.Common.{sym, ◌∙◌, ap, subst, arith, inl, inr}
+use Rattle.std.proofs.Common.{◌≡◌, ℕ, zero, suc, ◌+◌, ◌*◌, ◌-◌, ◌<◌, ◌≤◌, List, ◌∷◌, ◌++◌, length, None, slice_index_or}
+use Rattle.std.proofs.Common.{refl, sym, ◌∙◌, ap, subst, arith, inl, inr}
 use Rattle.std.proofs.lemmas.Bool.{cases_eq, cases_lt}
 use Rattle.std.specs.List.{AllByRecursion}
-use Rattle.snap_semantics.specs.declared.process.Item.{Item}
-use Rattle.snap_semantics.specs.declared.process.Item.TheVariants.{Step, Call}
-use Rattle.snap_semantics.specs.declared.process.Op.TheVariants.{Scan}
-use Rattle.snap_runs.specs.Run.{Run, item}
+use Rattle.snap_runs.proofs.Common.{Item, Step, Call, Scan, Run, item}
 use Rattle.snap_runs.specs.Scan.{FinishedScan, double_collects}
 use Rattle.snap_runs.proofs.Embedding.{all_index}
 use Rattle.snap_runs_of_b.specs.Promises as b

@@ -1,18 +1,15 @@
 -- The schedule of M by which a scan makes 2 n - 1 double collects: each
 -- of the other processes moves twice, and then the scan passes its test.
-use Rattle.std.specs.Prelude.{◌≡◌, ◌≢◌, ℕ, suc, ◌+◌, ◌*◌, ◌-◌, ◌<◌, ◌≤◌, max, Bool, true}
-use Rattle.std.specs.Prelude.{false, ◌&&◌, ◌∷◌, length, None, nat_eq, refl}
-use Rattle.std.proofs.Common.{sym, ◌∙◌, ap, subst, arith, inl, inr}
+use Rattle.std.proofs.Common.{◌≡◌, ◌≢◌, ℕ, suc, ◌+◌, ◌*◌, ◌-◌, ◌<◌, ◌≤◌, max, Bool, true, false, ◌&&◌, ◌∷◌, length}
+use Rattle.std.proofs.Common.{None, nat_eq, refl, sym, ◌∙◌, ap, subst, arith, inl, inr}
 use Rattle.std.proofs.lemmas.Bool.{cases_eq}
 use Rattle.std.proofs.lemmas.Grind.{get_or-set_at}
 use Rattle.std.proofs.lemmas.List.{length-set, length-append, length-replicate, get_or-set_other, get_or-replicate}
 use Rattle.std.proofs.lemmas.Nat.{mul-le}
 use Rattle.snap_words.specs.declared.kind.KindTag.TheVariants as kind
-use Rattle.snap_words.specs.Shape.{IsOneOf, max_count}
-use Rattle.snap_words.specs.Word.{Word, no_word}
+use Rattle.snap_runs.proofs.Common.{IsOneOf, Word, no_word, Call, Scan, Update}
+use Rattle.snap_words.specs.Shape.{max_count}
 use Rattle.snap_semantics.specs.Table.{call_skip}
-use Rattle.snap_semantics.specs.declared.process.Item.TheVariants.{Call}
-use Rattle.snap_semantics.specs.declared.process.Op.TheVariants.{Scan, Update}
 use Rattle.snap_runs.proofs.Algorithm.{Scanning, Idle, first_state}
 use Rattle.snap_runs.proofs.Computing.{le_true, other_number}
 use Rattle.snap_runs.proofs.Held.{word_at}

@@ -1,18 +1,14 @@
 -- The schedule of U by which a scan makes n double collects: round after
 -- round one process more has moved, and then the scan passes its test.
-use Rattle.std.specs.Prelude.{◌≡◌, ◌≢◌, ℕ, suc, ◌+◌, ◌*◌, ◌-◌, ◌<◌, ◌≤◌, max, List, [], ◌∷◌}
-use Rattle.std.specs.Prelude.{length, None, replicate, slice_set, refl}
-use Rattle.std.proofs.Common.{◌∙◌, ap, subst, arith}
+use Rattle.std.proofs.Common.{◌≡◌, ◌≢◌, ℕ, suc, ◌+◌, ◌*◌, ◌-◌, ◌<◌, ◌≤◌, max, List, [], ◌∷◌, length, None, replicate}
+use Rattle.std.proofs.Common.{slice_set, refl, ◌∙◌, ap, subst, arith}
 use Rattle.std.proofs.lemmas.Grind.{get_or-set_at}
 use Rattle.std.proofs.lemmas.List.{length-set, length-replicate, get_or-set_other, get_or-replicate}
 use Rattle.std.proofs.lemmas.Nat.{mul-le}
 use Rattle.snap_words.specs.declared.kind.KindTag.TheVariants as kind
-use Rattle.snap_words.specs.Shape.{IsOneOf, max_count}
-use Rattle.snap_words.specs.Word.{Word, no_word}
+use Rattle.snap_runs.proofs.Common.{IsOneOf, Word, no_word, Item, Call, Scan, Update}
+use Rattle.snap_words.specs.Shape.{max_count}
 use Rattle.snap_semantics.specs.Table.{call_skip}
-use Rattle.snap_semantics.specs.declared.process.Item.{Item}
-use Rattle.snap_semantics.specs.declared.process.Item.TheVariants.{Call}
-use Rattle.snap_semantics.specs.declared.process.Op.TheVariants.{Scan, Update}
 use Rattle.snap_runs.proofs.Algorithm.{Scanning, first_state}
 use Rattle.snap_runs.proofs.Computing.{lt_true, le_true, same_number}
 use Rattle.snap_runs.proofs.Held.{word_at, seq_at}

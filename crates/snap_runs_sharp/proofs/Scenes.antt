@@ -2,12 +2,8 @@
 -- to another.
 use Rattle.std.specs.Prelude.{◌≡◌, ◌≢◌, ℕ, zero, suc, ◌+◌, ◌<◌, ◌≤◌, List, [], ◌∷◌, ◌++◌, length, None, refl}
 use Rattle.std.proofs.Common.{sym, ◌∙◌, ap, subst, arith}
-use Rattle.snap_words.specs.Shape.{IsOneOf}
+use Rattle.snap_runs.proofs.Common.{IsOneOf, Item, Call, Op, Scan, Update}
 use Rattle.snap_semantics.specs.Table.{call_skip}
-use Rattle.snap_semantics.specs.declared.process.Item.{Item}
-use Rattle.snap_semantics.specs.declared.process.Item.TheVariants.{Call}
-use Rattle.snap_semantics.specs.declared.process.Op.{Op}
-use Rattle.snap_semantics.specs.declared.process.Op.TheVariants.{Scan, Update}
 use Rattle.snap_runs.proofs.Algorithm.{Scanning, Idle, TypedProcess, Algorithm, first_state, typed_at, happens}
 use Rattle.snap_runs.proofs.Embedding as embed
 use Rattle.snap_runs_sharp.specs.Schedules.{steps_of, update_by, round_with, rounds, before_answer}

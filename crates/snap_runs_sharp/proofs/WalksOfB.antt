@@ -1,13 +1,11 @@
 -- Processes of B that step alone: the handshakes and the collects of a scan, its tests, and a whole update.
-use Rattle.std.specs.Prelude.{◌≡◌, ◌≢◌, ℕ, zero, suc, ◌+◌, ◌*◌, ◌-◌, ◌<◌, ◌≤◌, Bool, true, false, not, ◌&&◌, List}
-use Rattle.std.specs.Prelude.{length, map, take, None, nat_eq, if◌then◌else◌, slice_set, refl}
-use Rattle.std.proofs.Common.{◌∙◌, ap, arith, inl, inr}
+use Rattle.std.proofs.Common.{◌≡◌, ◌≢◌, ℕ, zero, suc, ◌+◌, ◌*◌, ◌-◌, ◌<◌, ◌≤◌, Bool, true, false, not, ◌&&◌, List}
+use Rattle.std.proofs.Common.{length, map, take, None, nat_eq, if◌then◌else◌, slice_set, refl, ◌∙◌, ap, arith, inl, inr}
 use Rattle.std.proofs.lemmas.Bool.{cases_eq}
 use Rattle.std.proofs.lemmas.Grind.{get_or-set_at}
 use Rattle.std.proofs.lemmas.List.{length-set}
-use Rattle.snap_words.specs.Shape.{IsOneOf}
-use Rattle.snap_words.specs.Word.{Word, no_word}
-use Rattle.snap_semantics.specs.Table.{places_to, first_true, with_bit_at}
+use Rattle.snap_runs.proofs.Common.{IsOneOf, Word, no_word, places_to, first_true}
+use Rattle.snap_semantics.specs.Table.{with_bit_at}
 use Rattle.snap_runs.proofs.Algorithm.{Mode, Scanning, Embedded, Updating}
 use Rattle.snap_runs.proofs.Computing.{lt_true, lt_false, other_number, same_number}
 use Rattle.snap_runs.proofs.Held.{word_at, seq_at}

@@ -6,9 +6,7 @@ use Rattle.std.proofs.lemmas.Bool.{cases_eq}
 use Rattle.std.proofs.lemmas.Grind.{get_or-set_at}
 use Rattle.std.proofs.lemmas.List.{length-set, length-append, get_or-set_other}
 use Rattle.std.proofs.lemmas.List.FromFn.{length-map-range_with_len}
-use Rattle.snap_words.specs.Shape.{IsOneOf}
-use Rattle.snap_words.specs.Word.{Word, no_word}
-use Rattle.snap_semantics.specs.Table.{places_to}
+use Rattle.snap_runs.proofs.Common.{IsOneOf, Word, no_word, places_to}
 use Rattle.snap_runs.proofs.Algorithm.{Mode, Scanning, Embedded, Updating}
 use Rattle.snap_runs.proofs.Computing.{lt_true, lt_false, other_number, same_number}
 use Rattle.snap_runs.proofs.Held.{word_at}

@@ -1,11 +1,8 @@
 -- Processes of U that step alone: the collects of a scan, its tests, and a whole update.
-use Rattle.std.specs.Prelude.{◌≡◌, ◌≢◌, ℕ, suc, ◌+◌, ◌*◌, ◌-◌, ◌≤◌, true, false, not, length, map, take, None, nat_eq}
-use Rattle.std.specs.Prelude.{if◌then◌else◌, slice_set, refl}
-use Rattle.std.proofs.Common.{◌∙◌, ap, arith, inl, inr}
+use Rattle.std.proofs.Common.{◌≡◌, ◌≢◌, ℕ, suc, ◌+◌, ◌*◌, ◌-◌, ◌≤◌, true, false, not, length, map, take, None, nat_eq}
+use Rattle.std.proofs.Common.{if◌then◌else◌, slice_set, refl, ◌∙◌, ap, arith, inl, inr}
 use Rattle.std.proofs.lemmas.Bool.{cases_eq}
-use Rattle.snap_words.specs.Shape.{IsOneOf}
-use Rattle.snap_words.specs.Word.{Word, no_word}
-use Rattle.snap_semantics.specs.Table.{places_to, first_true}
+use Rattle.snap_runs.proofs.Common.{IsOneOf, Word, no_word, places_to, first_true}
 use Rattle.snap_runs.proofs.Algorithm.{Mode, Scanning, Embedded, Updating}
 use Rattle.snap_runs.proofs.Computing.{lt_true, lt_false, other_number, same_number}
 use Rattle.snap_runs.proofs.Held.{word_at, seq_at}

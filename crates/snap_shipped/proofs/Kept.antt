@@ -1,13 +1,12 @@
 -- All promises of the runs of U, B and M together: for each listing, `RunsKeepPromises` follows from its single laws.
 use Rattle.std.proofs.Common.{◌≡◌, ◌<◌, ℕ, List, arith, subst, sym}
-use Rattle.snap_semantics.specs.declared.process.Item.{Item}
+use Rattle.snap_runs.proofs.Common.{Item, Run}
 use Rattle.snap_semantics.specs.Source.{Source}
 use Rattle.snap_words.specs.declared.kind.KindTag.{KindTag}
 use Rattle.snap_words.specs.declared.kind.KindTag.TheVariants as kind
 use Rattle.std.proofs.lemmas.Bool.{eqb-true}
 use Rattle.snap_runs.specs.Placement.{OperationsHavePlaces}
 use Rattle.snap_runs.specs.Promises.{BorrowedViewsAreLent, PassedTestsAreClean}
-use Rattle.snap_runs.specs.Run.{Run}
 use Rattle.snap_runs.specs.WaitFree.{IsWaitFree}
 use Rattle.snap_runs_of_u.specs.ListingU.{listing_u}
 use Rattle.snap_runs_of_b.specs.ListingB.{listing_b}

@@ -1,23 +1,18 @@
 -- A worked linearization of a run of listing U: process 2 updates twice while process 1 scans, and the scan borrows
 -- the view of the second update.
-use Rattle.std.specs.Prelude.{◌≡◌, ◌⊎◌, ℕ, ◌<◌, ◌≤◌, Bool, true, false, List, [], ◌∷◌}
-use Rattle.std.specs.Prelude.{◌++◌, Option, Some, None, replicate, refl}
+use Rattle.std.proofs.Common.{◌≡◌, ◌⊎◌, ℕ, ◌<◌, ◌≤◌, Bool, true, false, List, [], ◌∷◌, ◌++◌, Option, Some, None}
+use Rattle.std.proofs.Common.{replicate, refl, sym, ap, subst, arith, inl, inr}
 use Rattle.std.specs.List.{Contains}
 use Rattle.std.proofs.lemmas.Bool.{cases_eq, cases_lt}
 use Rattle.std.proofs.lemmas.List.Elements.{All-from_recursion}
-use Rattle.std.proofs.Common.{sym, ap, subst, arith, inl, inr}
-use Rattle.snap_semantics.specs.declared.process.Item.{Item}
-use Rattle.snap_semantics.specs.declared.process.Item.TheVariants.{Step, Call, Crash}
-use Rattle.snap_semantics.specs.declared.process.Op.TheVariants.{Scan, Update}
-use Rattle.snap_semantics.specs.declared.process.Outcome.{Outcome}
-use Rattle.snap_semantics.specs.declared.process.Outcome.TheVariants.{Answered, Finished}
-use Rattle.snap_runs.specs.Run.{Run, item, outcome}
+use Rattle.snap_runs.proofs.Common.{Item, Step, Call, Crash, Scan, Update, Outcome, Answered, Finished, Run, item}
+use Rattle.snap_runs.proofs.Common.{outcome}
 use Rattle.snap_runs.specs.Linearization.{RunsFrom, KeepsOrder, IsLinearization}
 use Rattle.snap_runs.specs.Operation.{Sets, Sees, Operation, IsOperation, EndedBefore}
 use Rattle.snap_runs.specs.Scan.{FinishedScan, count}
 use Rattle.snap_runs.proofs.OneOperation.{has_call, one_operation}
-use Rattle.snap_runs.proofs.Operations.{count_one}
 use Rattle.snap_runs.proofs.Order.{Pairs, Apart, all_pairs, keeps_order}
+use Rattle.snap_runs.proofs.Worked.{finished_scan, finished_update, one_of_three}
 use Rattle.snap_runs_of_u.specs.Promises.{run_of}
 
 abbrev pub times : ℕ → ℕ → List Item
@@ -38,70 +33,25 @@ first_update = record { process = 2; call = 8; end = Some 25; action = Sets 2 5 
 abbrev pub second_update : Operation
 second_update = record { process = 2; call = 38; end = Some 55; action = Sets 2 6 }
 
--- no item passes a test that none is counted to pass
-pub none_in : (test : ℕ → Bool) (c e t : ℕ) → count test c e ≡ 0 → c < t → t ≤ e → test t ≡ true → ⊥
-none_in test c e t none lt le passes = let one = count_one test c t e lt le passes in omega arith
-
-abbrev pub finishes : Outcome → Bool
-finishes Finished = true
-finishes _ = false
-
-abbrev pub answers : Outcome → Bool
-answers (Answered view) = true
-answers _ = false
-
 abbrev pub is_call : Item → Bool
 is_call (Call i op) = true
 is_call (Step i) = false
 is_call (Crash i) = false
 
--- each took place so: its call, its end, and no end between
 pub scan_took_place : FinishedScan run 1 None 1 64 (0 ∷ 5 ∷ [])
-scan_took_place = record {
-  scan = record {
-    process = (omega arith, omega arith);
-    starts = (refl, refl);
-    first = omega arith;
-    order = omega arith;
-    last = omega arith;
-    goes_on =
-        λ t view lt less ends. none_in (λ u. answers (outcome run u)) 1 63 t refl lt (omega arith) (ap answers ends.1);
-  };
-  order = omega arith;
-  ends = (refl, refl);
-}
+scan_took_place =
+    finished_scan run 1 1 63 (0 ∷ 5 ∷ []) (omega arith, omega arith) (omega arith) (omega arith) (omega arith)
+    (refl, refl) (refl, refl) refl
 
 pub first_update_took_place : IsOperation run first_update
-first_update_took_place = (
-  record {
-    process = (omega arith, omega arith);
-    call = refl;
-    called = refl;
-    first = omega arith;
-    order = omega arith;
-    last = omega arith;
-    goes_on =
-        λ t lt less done. none_in (λ u. finishes (outcome run u)) 8 24 t refl lt (omega arith) (ap finishes done.1);
-  },
-  omega arith,
-  (refl, refl),
-)
+first_update_took_place =
+    finished_update run 2 2 5 8 24 (omega arith, omega arith) (omega arith) (omega arith) (omega arith) refl refl
+    (refl, refl) refl
 
 pub second_update_took_place : IsOperation run second_update
-second_update_took_place = (
-  record {
-    process = (omega arith, omega arith);
-    call = refl;
-    called = refl;
-    first = omega arith;
-    order = omega arith;
-    last = omega arith;
-    goes_on =
-        λ t lt less done. none_in (λ u. finishes (outcome run u)) 38 54 t refl lt (omega arith) (ap finishes done.1);
-  },
-  omega arith,
-  (refl, refl),
-)
+second_update_took_place =
+    finished_update run 2 2 6 38 54 (omega arith, omega arith) (omega arith) (omega arith) (omega arith) refl refl
+    (refl, refl) refl
 
 -- The scan takes place between the updates, at its point.
 abbrev pub linearized : List Operation
@@ -151,23 +101,7 @@ before_both h =
 
 -- The run has no other calls, so no other operations.
 call_at : (c : ℕ) → 0 < c → c ≤ 64 → is_call (item run c) ≡ true → (c ≡ 1) ⊎ ((c ≡ 8) ⊎ (c ≡ 38))
-call_at c pos le call =
-    elim (cases_eq c 1) [
-      | inl is ↦ inl is
-      | inr not_1 ↦ elim (cases_eq c 8) [
-        | inl is ↦ inr (inl is)
-        | inr not_8 ↦ elim (cases_eq c 38) [
-          | inl is ↦ inr (inr is)
-          | inr not_38 ↦ elim (cases_lt c 8) [
-            | inl lt ↦ absurd (none_in (λ t. is_call (item run t)) 1 7 c refl (omega arith) (omega arith) call)
-            | inr ge ↦ elim (cases_lt c 38) [
-              | inl lt ↦ absurd (none_in (λ t. is_call (item run t)) 8 37 c refl (omega arith) (omega arith) call)
-              | inr more ↦ absurd (none_in (λ t. is_call (item run t)) 38 64 c refl (omega arith) le call)
-            ]
-          ]
-        ]
-      ]
-    ]
+call_at c pos le call = one_of_three (λ t. is_call (item run t)) 0 7 37 64 c refl refl refl refl pos le call
 
 contains_first : Contains linearized first_update
 contains_first = (0, omega arith, refl)

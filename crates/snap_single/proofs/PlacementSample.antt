@@ -1,23 +1,20 @@
 -- In the worked run of listing U: the items at which its operations take place (`TakesPlaceAt`), and items at which
 -- they do not.
-use Rattle.std.specs.Prelude.{◌≡◌, ℕ, ◌<◌, ◌≤◌, true, false, List, [], ◌∷◌, ◌++◌, Some, None, refl}
+use Rattle.std.proofs.Common.{◌≡◌, ℕ, ◌<◌, ◌≤◌, true, false, List, [], ◌∷◌, ◌++◌, Some, None, refl, ap, subst, arith}
 use Rattle.std.specs.List.{AllZip}
 use Rattle.std.specs.List.Sorted.{IsNonDecreasing}
-use Rattle.std.proofs.Common.{ap, subst, arith}
 use Rattle.std.proofs.lemmas.List.Elements.{All-from_recursion}
 use Rattle.std.proofs.lemmas.List.Kept.{AllPairs-cons}
-use Rattle.snap_semantics.specs.declared.process.Item.TheVariants.{Call}
-use Rattle.snap_semantics.specs.declared.process.Op.TheVariants.{Scan, Update}
-use Rattle.snap_semantics.specs.declared.process.Outcome.{Outcome}
-use Rattle.snap_semantics.specs.declared.process.Outcome.TheVariants.{Stepped, Finished}
-use Rattle.snap_runs.specs.Run.{Run, outcome}
+use Rattle.snap_runs.proofs.Common.{Call, Scan, Update, Outcome, Stepped, Finished, Run, outcome}
 use Rattle.snap_runs.specs.Linearization.{IsLinearization}
 use Rattle.snap_runs.specs.Operation.{Action, Sets, Sees, Operation, TookPlace, IsOperation}
 use Rattle.snap_runs.specs.Placement.{TakesPlaceAt, IsPlacedLinearization}
 use Rattle.snap_runs.proofs.Placing.{non_decreasing}
+use Rattle.snap_runs.proofs.Worked as worked
+use Rattle.snap_runs.proofs.Worked.{none_ended, takes_place}
 use Rattle.snap_runs_of_u.specs.Promises.{run_of}
-use Rattle.snap_single.proofs.LinearSample.{times, run, scan, first_update, second_update, linearized, finishes}
-use Rattle.snap_single.proofs.LinearSample.{answers, none_in, contains, is_linearization}
+use Rattle.snap_single.proofs.LinearSample.{times, run, scan, first_update, second_update, linearized}
+use Rattle.snap_single.proofs.LinearSample.{contains, is_linearization}
 
 -- The updates take place at their writes, items 24 and 54; the scan may at each item from 24
 -- to 53, where the values are 0 5.
@@ -25,36 +22,18 @@ abbrev places : List ℕ
 places = 24 ∷ 24 ∷ 54 ∷ []
 
 first_place : TakesPlaceAt 32 run first_update 24
-first_place = record {
-  called = omega arith;
-  within = omega arith;
-  not_ended = λ e is. let same : 25 ≡ e = cc in omega arith;
-  happens = (omega arith, refl);
-}
+first_place =
+    takes_place run 32 first_update 25 24 refl (omega arith) (omega arith) (omega arith) (omega arith, refl)
 
 scan_place : TakesPlaceAt 32 run scan 24
-scan_place = record {
-  called = omega arith;
-  within = omega arith;
-  not_ended = λ e is. let same : 64 ≡ e = cc in omega arith;
-  happens = refl;
-}
+scan_place = takes_place run 32 scan 64 24 refl (omega arith) (omega arith) (omega arith) refl
 
 later_place : TakesPlaceAt 32 run scan 53
-later_place = record {
-  called = omega arith;
-  within = omega arith;
-  not_ended = λ e is. let same : 64 ≡ e = cc in omega arith;
-  happens = refl;
-}
+later_place = takes_place run 32 scan 64 53 refl (omega arith) (omega arith) (omega arith) refl
 
 second_place : TakesPlaceAt 32 run second_update 54
-second_place = record {
-  called = omega arith;
-  within = omega arith;
-  not_ended = λ e is. let same : 55 ≡ e = cc in omega arith;
-  happens = (omega arith, refl);
-}
+second_place =
+    takes_place run 32 second_update 55 54 refl (omega arith) (omega arith) (omega arith) (omega arith, refl)
 
 each_place : AllZip (TakesPlaceAt 32 run) linearized places
 each_place = (first_place, (scan_place, (second_place, tt)))
@@ -106,21 +85,11 @@ out_of_order h = let le : 54 ≤ 53 = h.in_order 1 2 0 (omega arith) (omega arit
 abbrev written : Run
 written = run_of 2 (Call 1 Scan ∷ (times 6 1 ++ (Call 2 (Update 2 5) ∷ times 16 2)))
 
-none_ended : (i c e : ℕ) (a : Action) → TookPlace written i c (Some e) a → ⊥
-none_ended i c e (Sets word value) took =
-    none_in (λ t. finishes (outcome written t)) 0 24 e refl
-    (let lt : c < e = took.1 in omega arith) took.0.last (ap finishes took.2.1)
-none_ended i c e (Sees view) took =
-    none_in (λ t. answers (outcome written t)) 0 24 e refl
-    (let lt : c < e = took.order in omega arith) took.scan.last (ap answers took.ends.1)
-
 empty_linearizes : IsLinearization written []
 empty_linearizes = record {
   took_place = λ j d lt. absurd (omega arith);
   once = λ i j d lt short. absurd (omega arith);
-  complete =
-      λ o took ended. absurd (none_ended o.process o.call ended.0 o.action
-      (subst (λ y. TookPlace written o.process o.call y o.action) ended.1 took));
+  complete = none_ended written refl [];
   order = λ j k d lj lk ended. absurd (omega arith);
   runs = tt;
 }
@@ -130,19 +99,9 @@ abbrev pub open_update : Operation
 open_update = record { process = 2; call = 8; end = None; action = Sets 2 5 }
 
 open_update_took_place : IsOperation written open_update
-open_update_took_place = (
-  record {
-    process = (omega arith, omega arith);
-    call = refl;
-    called = refl;
-    first = omega arith;
-    order = omega arith;
-    last = omega arith;
-    goes_on =
-        λ t lt less done. none_in (λ u. finishes (outcome written u)) 8 24 t refl lt (omega arith) (ap finishes done.1);
-  },
-  λ done. let same : ◌≡◌ {A = Outcome} Stepped Finished = done.1 in cc,
-)
+open_update_took_place =
+    worked.open_update written 2 2 5 8 23 (omega arith, omega arith) (omega arith) (omega arith) refl refl refl refl
+    refl
 
 open_place : TakesPlaceAt 32 written open_update 24
 open_place = record {
@@ -170,21 +129,8 @@ other = record { process = 2; call = 2; end = Some 28; action = Sees (0 ∷ 0 �
 
 each_falling : AllZip (TakesPlaceAt 32 two_scans) (one ∷ other ∷ []) (5 ∷ 4 ∷ [])
 each_falling = (
-  record {
-    called = omega arith;
-    within = omega arith;
-    not_ended = λ e is. let same : 15 ≡ e = cc in omega arith;
-    happens = refl;
-  },
-  (
-    record {
-      called = omega arith;
-      within = omega arith;
-      not_ended = λ e is. let same : 28 ≡ e = cc in omega arith;
-      happens = refl;
-    },
-    tt,
-  ),
+  takes_place two_scans 32 one 15 5 refl (omega arith) (omega arith) (omega arith) refl,
+  (takes_place two_scans 32 other 28 4 refl (omega arith) (omega arith) (omega arith) refl, tt),
 )
 
 -- Operations that stand in a list against the order of their places are not placed.

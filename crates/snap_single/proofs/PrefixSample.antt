@@ -1,32 +1,28 @@
 -- Samples of runs of listing U that go on: updates keep their order, and one linearization of a run that the longer
 -- run cannot keep.
-use Rattle.std.specs.Prelude.{◌≡◌, ◌⊎◌, ℕ, ◌<◌, ◌≤◌, ◌^◌, true, length, ◌&&◌, nat_eq, zero, suc, List, [], ◌∷◌, ◌++◌}
-use Rattle.std.specs.Prelude.{Option, Some, None, refl}
+use Rattle.std.proofs.Common.{◌≡◌, ◌⊎◌, ℕ, ◌<◌, ◌≤◌, ◌^◌, true, length, ◌&&◌, nat_eq, zero, suc, List, [], ◌∷◌, ◌++◌}
+use Rattle.std.proofs.Common.{Option, Some, None, refl, sym, ◌∙◌, ap, subst, arith, inl, inr}
 use Rattle.std.specs.List.{AllByRecursion, AllZip, Contains}
-use Rattle.std.proofs.Common.{sym, ◌∙◌, ap, subst, arith, inl, inr}
 use Rattle.std.proofs.lemmas.Bool.{cases_eq, cases_lt}
 use Rattle.std.proofs.lemmas.List.Elements.{All-contains, All-from_recursion, recursion_from_All}
-use Rattle.snap_semantics.specs.declared.process.Item.{Item}
-use Rattle.snap_semantics.specs.declared.process.Item.TheVariants.{Call}
-use Rattle.snap_semantics.specs.declared.process.Op.TheVariants.{Scan, Update}
-use Rattle.snap_semantics.specs.declared.process.Outcome.{Outcome}
-use Rattle.snap_semantics.specs.declared.process.Outcome.TheVariants.{Called, Finished}
-use Rattle.snap_semantics.specs.Table.{who}
-use Rattle.snap_words.specs.Shape.{IsOneOf}
-use Rattle.snap_runs.specs.Run.{Run, IsValidRun, item, outcome}
+use Rattle.snap_runs.proofs.Common.{Item, Call, Scan, Update, Outcome, Called, Finished, who, IsOneOf, Run, IsValidRun}
+use Rattle.snap_runs.proofs.Common.{item, outcome}
 use Rattle.snap_runs.specs.Linearization.{after, Allows, RunsFrom, IsLinearization}
 use Rattle.snap_runs.specs.Operation.{Action, Sets, Sees, Operation, TookPlace, IsOperation, EndedBefore}
 use Rattle.snap_runs.specs.Placement.{TakesPlaceAt, IsPlacedLinearization}
 use Rattle.snap_runs.specs.WriteStrong.{UpdateCall, updates, IsPrefix, IsWriteStrongChoice}
 use Rattle.snap_runs.proofs.OneOperation.{has_call, one_operation}
 use Rattle.snap_runs.proofs.Order.{Pairs, Apart, all_pairs, all_weaker, keeps_order}
+use Rattle.snap_runs.proofs.Worked.{finished_scan, finished_update, open_update, none_ended, one_of_three}
+use Rattle.snap_runs.proofs.Worked.{takes_place}
 use Rattle.snap_runs_of_u.specs.ListingU.{listing_u}
 use Rattle.snap_runs_of_u.specs.Promises.{run_of, square}
-use Rattle.snap_single.proofs.LinearSample.{times, linearized, finishes, answers, is_call, none_in, not_before}
-use Rattle.snap_single.proofs.PlacementSample.{open_update, rising}
+use Rattle.snap_single.proofs.LinearSample.{times, linearized, is_call, not_before}
+use Rattle.snap_single.proofs.PlacementSample as placement
+use Rattle.snap_single.proofs.PlacementSample.{rising}
 
 -- In the worked run the first update is listed once it has written, though it has not ended; it stays first.
-keeps : IsPrefix (updates (open_update ∷ [])) (updates linearized)
+keeps : IsPrefix (updates (placement.open_update ∷ [])) (updates linearized)
 keeps = (record { process = 2; call = 38; word = 2; value = 6 } ∷ [], refl)
 
 -- Two updates are called, of two words.
@@ -62,38 +58,11 @@ scan = record { process = 2; call = 20; end = Some 33; action = Sees (0 ∷ 8 �
 listed_both : IsLinearization short (open_first ∷ open_second ∷ [])
 listed_both = record {
   took_place = All-from_recursion (IsOperation short) (open_first ∷ open_second ∷ []) (
-    (
-      record {
-        process = (omega arith, omega arith);
-        call = refl;
-        called = refl;
-        first = omega arith;
-        order = omega arith;
-        last = omega arith;
-        goes_on = λ t lt less done. omega arith;
-      },
-      λ done. let is : ◌≡◌ {A = Outcome} Called Finished = done.1 in cc,
-    ),
-    (
-      (
-        record {
-          process = (omega arith, omega arith);
-          call = refl;
-          called = refl;
-          first = omega arith;
-          order = omega arith;
-          last = omega arith;
-          goes_on = λ t lt less done. omega arith;
-        },
-        λ done. let is : ◌≡◌ {A = Outcome} Called Finished = done.1 in cc,
-      ),
-      tt,
-    ),
+    open_update short 1 1 7 1 1 (omega arith, omega arith) (omega arith) (omega arith) refl refl refl refl refl,
+    (open_update short 2 2 8 2 1 (omega arith, omega arith) (omega arith) (omega arith) refl refl refl refl refl, tt),
   );
   once = λ i j d lt less. (all_pairs Apart (open_first ∷ open_second ∷ []) both_apart i j d lt less).0;
-  complete =
-      λ o took ended. absurd (none_ended o.process o.call ended.0 o.action
-      (subst (λ y. TookPlace short o.process o.call y o.action) ended.1 took));
+  complete = none_ended short refl (open_first ∷ open_second ∷ []);
   order = keeps_order (open_first ∷ open_second ∷ []) (
     not_ended open_first open_first refl,
     (not_ended open_second open_second refl, tt),
@@ -107,81 +76,25 @@ listed_both = record {
     both_apart : Pairs Apart (open_first ∷ open_second ∷ [])
     both_apart = (((λ same. omega arith, not_ended open_second open_first refl), tt), (tt, tt))
 
-    none_ended : (i c e : ℕ) (a : Action) → TookPlace short i c (Some e) a → ⊥
-    none_ended i c e (Sets word value) took =
-        none_in (λ t. finishes (outcome short t)) 0 2 e refl
-        (let lt : c < e = took.1 in omega arith) took.0.last (ap finishes took.2.1)
-    none_ended i c e (Sees view) took =
-        none_in (λ t. answers (outcome short t)) 0 2 e refl
-        (let lt : c < e = took.order in omega arith) took.scan.last (ap answers took.ends.1)
-
 -- the operations of the longer run
 first_took_place : IsOperation long first
-first_took_place = (
-  record {
-    process = (omega arith, omega arith);
-    call = refl;
-    called = refl;
-    first = omega arith;
-    order = omega arith;
-    last = omega arith;
-    goes_on =
-        λ t lt less done.
-        none_in (λ u. nat_eq (who (item long u)) 1 && finishes (outcome long u)) 1 49 t refl lt (omega arith)
-        (ap (λ y. nat_eq y 1 && finishes (outcome long t)) done.0 ∙ ap finishes done.1);
-  },
-  omega arith,
-  (refl, refl),
-)
+first_took_place =
+    finished_update long 1 1 7 1 49 (omega arith, omega arith) (omega arith) (omega arith) (omega arith) refl refl
+    (refl, refl) refl
 
 second_took_place : IsOperation long second
-second_took_place = (
-  record {
-    process = (omega arith, omega arith);
-    call = refl;
-    called = refl;
-    first = omega arith;
-    order = omega arith;
-    last = omega arith;
-    goes_on =
-        λ t lt less done. none_in (λ u. finishes (outcome long u)) 2 18 t refl lt (omega arith) (ap finishes done.1);
-  },
-  omega arith,
-  (refl, refl),
-)
+second_took_place =
+    finished_update long 2 2 8 2 18 (omega arith, omega arith) (omega arith) (omega arith) (omega arith) refl refl
+    (refl, refl) refl
 
 scan_took_place : IsOperation long scan
-scan_took_place = record {
-  scan = record {
-    process = (omega arith, omega arith);
-    starts = (refl, refl);
-    first = omega arith;
-    order = omega arith;
-    last = omega arith;
-    goes_on =
-        λ t view lt less ends.
-        none_in (λ u. answers (outcome long u)) 20 32 t refl lt (omega arith) (ap answers ends.1);
-  };
-  order = omega arith;
-  ends = (refl, refl);
-}
+scan_took_place =
+    finished_scan long 2 20 32 (0 ∷ 8 ∷ []) (omega arith, omega arith) (omega arith) (omega arith) (omega arith)
+    (refl, refl) (refl, refl) refl
 
 -- the longer run has no calls but these
 call_at : (c : ℕ) → 0 < c → c ≤ 50 → is_call (item long c) ≡ true → (c ≡ 1) ⊎ ((c ≡ 2) ⊎ (c ≡ 20))
-call_at c pos le call =
-    elim (cases_eq c 1) [
-      | inl is ↦ inl is
-      | inr not_1 ↦ elim (cases_eq c 2) [
-        | inl is ↦ inr (inl is)
-        | inr not_2 ↦ elim (cases_eq c 20) [
-          | inl is ↦ inr (inr is)
-          | inr not_20 ↦ elim (cases_lt c 20) [
-            | inl lt ↦ absurd (none_in (λ t. is_call (item long t)) 2 19 c refl (omega arith) (omega arith) call)
-            | inr more ↦ absurd (none_in (λ t. is_call (item long t)) 20 50 c refl (omega arith) le call)
-          ]
-        ]
-      ]
-    ]
+call_at c pos le call = one_of_three (λ t. is_call (item long t)) 0 1 19 50 c refl refl refl refl pos le call
 
 abbrev IsOneOfThem : Operation → Type 0
 IsOneOfThem o = (o ≡ first) ⊎ ((o ≡ second) ⊎ (o ≡ scan))
@@ -232,28 +145,10 @@ linearizes = record {
 -- Each at its place: the second update writes at item 18, and the first one at item 49.
 linear_places : AllZip (TakesPlaceAt 32 long) linear (18 ∷ 20 ∷ 49 ∷ [])
 linear_places = (
-  record {
-    called = omega arith;
-    within = omega arith;
-    not_ended = λ e is. let same : 19 ≡ e = cc in omega arith;
-    happens = (omega arith, refl);
-  },
+  takes_place long 32 second 19 18 refl (omega arith) (omega arith) (omega arith) (omega arith, refl),
   (
-    record {
-      called = omega arith;
-      within = omega arith;
-      not_ended = λ e is. let same : 33 ≡ e = cc in omega arith;
-      happens = refl;
-    },
-    (
-      record {
-        called = omega arith;
-        within = omega arith;
-        not_ended = λ e is. let same : 50 ≡ e = cc in omega arith;
-        happens = (omega arith, refl);
-      },
-      tt,
-    ),
+    takes_place long 32 scan 33 20 refl (omega arith) (omega arith) (omega arith) refl,
+    (takes_place long 32 first 50 49 refl (omega arith) (omega arith) (omega arith) (omega arith, refl), tt),
   ),
 )
 

@@ -1,16 +1,13 @@
 -- The definitions at work on runs of U by one and by two processes, by computing.
-use Rattle.std.specs.Prelude.{◌≡◌, ℕ, List, [], ◌∷◌, ◌++◌, Some, None, replicate, true, refl}
-use Rattle.std.proofs.Common.{arith}
-use Rattle.snap_semantics.specs.declared.process.Item.{Item}
-use Rattle.snap_semantics.specs.declared.process.Item.TheVariants.{Step, Call, Crash}
-use Rattle.snap_semantics.specs.declared.process.Op.TheVariants.{Scan, Update}
+use Rattle.std.proofs.Common.{◌≡◌, ℕ, List, [], ◌∷◌, ◌++◌, Some, None, replicate, true, refl, arith}
+use Rattle.snap_runs.proofs.Common.{Item, Step, Call, Crash, Scan, Update, Finished, Skipped, values, process_at, state}
+use Rattle.snap_runs.proofs.Common.{before, outcome}
 use Rattle.snap_semantics.specs.declared.event.Happening.TheVariants as what
-use Rattle.snap_semantics.specs.declared.process.Outcome.TheVariants.{Finished, Skipped, Crashed}
+use Rattle.snap_semantics.specs.declared.process.Outcome.TheVariants.{Crashed}
 use Rattle.snap_semantics.specs.declared.process.Reason.TheVariants as reason
 use Rattle.snap_semantics.specs.declared.process.Status.TheVariants as status
 use Rattle.snap_semantics.specs.Run.{events}
-use Rattle.snap_semantics.specs.State.{values, value_at, process_at, initial}
-use Rattle.snap_runs.specs.Run.{state, before, outcome}
+use Rattle.snap_semantics.specs.State.{value_at, initial}
 use Rattle.snap_runs.specs.Scan.{Starts, Ends, HasPoint, double_collects, own_steps}
 use Rattle.snap_runs.specs.Update.{executes}
 use Rattle.snap_runs.specs.Promises.{row_place}

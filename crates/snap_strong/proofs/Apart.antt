@@ -7,12 +7,8 @@ use Rattle.std.proofs.Common.{sym, ◌∙◌, ap, subst, arith, inl, inr}
 use Rattle.std.proofs.lemmas.Bool.{cases_eq, cases_lt}
 use Rattle.std.proofs.lemmas.List.{get_or-set_same, get_or-set_other, length-set}
 use Rattle.std.proofs.lemmas.List.Elements.{recursion_from_All}
-use Rattle.snap_words.specs.Shape.{IsOneOf}
-use Rattle.snap_semantics.specs.declared.process.Item.{Item}
-use Rattle.snap_semantics.specs.declared.process.Item.TheVariants.{Call, Step, Crash}
+use Rattle.snap_runs.proofs.Common.{IsOneOf, Item, Call, Step, Crash, Answered, Run, item, outcome}
 use Rattle.snap_semantics.specs.declared.process.Op.TheVariants as op
-use Rattle.snap_semantics.specs.declared.process.Outcome.TheVariants.{Answered}
-use Rattle.snap_runs.specs.Run.{Run, item, outcome}
 use Rattle.snap_runs.specs.Update.{PendingUpdate}
 use Rattle.snap_runs.specs.Operation.{Action, Sets, Sees, Operation, TookPlace}
 use Rattle.snap_runs.specs.Linearization.{after, Allows, RunsFrom}
@@ -21,7 +17,8 @@ use Rattle.snap_runs_of_u.specs.Promises.{run_of}
 use Rattle.snap_strong.specs.StrongLinearization.{IsOpenScan, IsCompleted}
 use Rattle.snap_strong.specs.Futures.{so_far, alone, overtaken, scan_seeing, update, NoneServesBoth}
 use Rattle.snap_strong.proofs.Begins.{begins_at}
-use Rattle.snap_strong.proofs.Futures.{none_in, update_took_place, alone_answers, overtaken_answers}
+use Rattle.snap_strong.proofs.Futures.{update_took_place, alone_answers, overtaken_answers}
+use Rattle.snap_runs.proofs.Worked.{none_in}
 
 -- an action that sets word 2 sets it to 5
 abbrev SetsFive : Action → Type 0
@@ -81,9 +78,7 @@ run_alone = run_of 3 (so_far ++ alone)
 
 abbrev sets_other : Item → Bool
 sets_other (Call i (op.Update word value)) = nat_eq word 2 && not (nat_eq value 5)
-sets_other (Call i op.Scan) = false
-sets_other (Step i) = false
-sets_other (Crash i) = false
+sets_other _ = false
 
 is_other : (word value : ℕ) → word ≡ 2 → value ≢ 5 → (nat_eq word 2 && not (nat_eq value 5)) ≡ true
 is_other word value same other = grind arith

@@ -1,7 +1,6 @@
 -- A list of operations that begins with another one (`BeginsWith`)
 -- has the same process, call and action at each of its places.
-use Rattle.std.specs.Prelude.{◌≡◌, ℕ, zero, suc, ◌<◌, List, [], ◌∷◌, ◌++◌, map, length, slice_index_or}
-use Rattle.std.proofs.Common.{ap, arith}
+use Rattle.std.proofs.Common.{◌≡◌, ℕ, zero, suc, ◌<◌, List, [], ◌∷◌, ◌++◌, map, length, slice_index_or, ap, arith}
 use Rattle.snap_runs.specs.Operation.{Operation}
 use Rattle.snap_strong.specs.StrongLinearization.{without_end, BeginsWith}
 

@@ -1,9 +1,8 @@
 -- A linearization in which open scans are completed is a linearization
 -- without these scans; so what is strongly linearizable is linearizable.
-use Rattle.std.specs.Prelude.{◌≡◌, ℕ, zero, suc, ◌<◌, Bool, true, false, List, [], ◌∷◌, length, Option, Some, None}
-use Rattle.std.specs.Prelude.{cond, filter, slice_index_or, replicate, refl}
+use Rattle.std.proofs.Common.{◌≡◌, ℕ, zero, suc, ◌<◌, Bool, true, false, List, [], ◌∷◌, length, Option, Some, None}
+use Rattle.std.proofs.Common.{cond, filter, slice_index_or, replicate, refl, sym, ◌∙◌, ap, subst, arith, inl, inr}
 use Rattle.std.specs.List.{AllByRecursion, AllPairs, Contains}
-use Rattle.std.proofs.Common.{sym, ◌∙◌, ap, subst, arith, inl, inr}
 use Rattle.std.proofs.lemmas.List.Elements.{All-from_recursion, recursion_from_All}
 use Rattle.snap_runs.specs.Run.{Run, run_of_items}
 use Rattle.snap_runs.specs.Operation.{Action, Sets, Sees, Operation, IsOperation, EndedBefore}

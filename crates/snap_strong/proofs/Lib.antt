@@ -3,7 +3,6 @@ mod Futures
 mod Begins
 mod Apart
 mod NotStrong
-mod LastCall
 mod Placed
 mod OneWordItems
 mod OneWordChoice

@@ -1,12 +1,10 @@
 -- Listing U is not strongly linearizable: a strong choice of linearizations would serve both futures of a run.
-use Rattle.std.specs.Prelude.{◌≡◌, ℕ, ◌≤◌, true, ◌++◌, length, slice_index_or, refl}
+use Rattle.std.proofs.Common.{◌≡◌, ℕ, ◌≤◌, true, ◌++◌, length, slice_index_or, refl, arith}
 use Rattle.std.specs.List.{list_all, AllPass}
-use Rattle.std.proofs.Common.{arith}
 use Rattle.std.proofs.lemmas.List.Elements.{recursion_from_All}
 use Rattle.std.proofs.lemmas.List.Sums.{AllPass-from_list_all}
-use Rattle.snap_words.specs.Shape.{IsOneOf, is_place}
-use Rattle.snap_semantics.specs.Table.{who}
-use Rattle.snap_runs.specs.Run.{Run, IsValidRun}
+use Rattle.snap_runs.proofs.Common.{IsOneOf, who, Run, IsValidRun}
+use Rattle.snap_words.specs.Shape.{is_place}
 use Rattle.snap_runs_of_u.specs.Promises.{run_of}
 use Rattle.snap_strong.specs.Futures.{so_far, alone, overtaken, UIsNotStronglyLinearizable}
 use Rattle.snap_strong.proofs.Apart.{none_serves_both_lem}

@@ -1,29 +1,24 @@
 -- The operations of the listing of one word in the order of their first steps are a linearization of each of its runs.
-use Rattle.std.specs.Prelude.{◌≡◌, ◌≢◌, ℕ, zero, suc, ◌-◌, ◌<◌, ◌≤◌, max, Bool, true, false, List, [], ◌∷◌, ◌++◌, map}
-use Rattle.std.specs.Prelude.{length, Option, Some, None, nat_eq, replicate, refl}
+use Rattle.std.proofs.Common.{◌≡◌, ◌≢◌, ℕ, zero, suc, ◌-◌, ◌<◌, ◌≤◌, max, Bool, true, false, List, [], ◌∷◌, ◌++◌, map}
+use Rattle.std.proofs.Common.{length, Option, Some, None, nat_eq, replicate, refl, sym, ◌∙◌, ap, subst, arith, inl, inr}
 use Rattle.std.specs.List.{AllByRecursion, Contains}
-use Rattle.std.proofs.Common.{sym, ◌∙◌, ap, subst, arith, inl, inr}
 use Rattle.std.proofs.Math.Nat.{eq-or-lt_of_le}
 use Rattle.std.proofs.lemmas.Bool.{cases_eq}
 use Rattle.std.proofs.lemmas.List.{length-replicate, get_or-replicate}
 use Rattle.std.proofs.lemmas.List.Elements.{All-from_recursion, Contains-append_left, Contains-push}
-use Rattle.snap_words.specs.Shape.{IsOneOf}
+use Rattle.snap_runs.proofs.Common.{IsOneOf, Word, Activity, Item, Call, Op, Outcome, Process, State, process_at}
+use Rattle.snap_runs.proofs.Common.{values, who, Run, IsValidRun, state, item}
 use Rattle.snap_words.specs.Kind.{initial_word}
-use Rattle.snap_words.specs.Word.{Word}
 use Rattle.snap_words.specs.declared.kind.KindTag.TheVariants.{Multi}
-use Rattle.snap_semantics.specs.declared.process.Activity.{Activity}
-use Rattle.snap_semantics.specs.declared.process.Item.{Item}
-use Rattle.snap_semantics.specs.declared.process.Item.TheVariants.{Call}
-use Rattle.snap_semantics.specs.declared.process.Op.{Op}
-use Rattle.snap_semantics.specs.declared.process.Outcome.{Outcome}
 use Rattle.snap_semantics.specs.declared.process.Outcome.TheVariants as outcome
 use Rattle.snap_semantics.specs.declared.process.Status.{Status}
 use Rattle.snap_semantics.specs.declared.process.Status.TheVariants.{Idle, Busy}
-use Rattle.snap_semantics.specs.State.{Process, State, nobody, process_at, values, initial_process}
-use Rattle.snap_semantics.specs.Table.{done, who}
+use Rattle.snap_semantics.specs.State.{nobody, initial_process}
+use Rattle.snap_semantics.specs.Table.{done}
 use Rattle.snap_runs.specs.Audit.{last_call}
 use Rattle.snap_runs.specs.Operation.{Action, Operation, HasEnded, EndedBefore}
-use Rattle.snap_runs.specs.Run.{Run, IsValidRun, state, item, outcome as outcome_at, run_of_items}
+use Rattle.snap_runs.specs.Run.{outcome as outcome_at, run_of_items}
+use Rattle.snap_runs.proofs.Audits.{last_call_under}
 use Rattle.snap_runs.proofs.Calls.{EndsWith, IsEnd, Calls, UnderCall, UnderAt, item_one, one_call, under, status}
 use Rattle.snap_runs.proofs.Computing.{other_number, same_number}
 use Rattle.snap_runs.proofs.Embedding.{next_state}
@@ -32,7 +27,6 @@ use Rattle.snap_runs_of_u.specs.ListingU.{a, s}
 use Rattle.snap_runs.proofs.Order.{Pairs, Apart, all_pairs, all_push, all_weaker, pairs_push, keeps_order}
 use Rattle.snap_strong.specs.StrongLinearization.{IsCompleted, IsCompletedLinearization}
 use Rattle.snap_strong.specs.OneWord.{one_word, shared_by}
-use Rattle.snap_strong.proofs.LastCall.{last_call_is}
 use Rattle.snap_strong.proofs.OneWordItems.{booked, process, Stage, idle, stage_map, stage_begun, stage_closed}
 use Rattle.snap_strong.proofs.OneWordItems.{Leaves, Quiet, Begins, Closes, item_does}
 use Rattle.snap_strong.proofs.Placed.{op_of, outcome_of, ends_so, ends_is_end, same_action, end_at, ended}
@@ -230,7 +224,7 @@ module _ (n : ℕ) (items : List Item) (fits : IsValidRun (run_of_items one_word
     now_placed : (g : Action) → UnderCall r fits i (op_of g) t → outcome_at r (suc t) ≡ outcome.Stepped →
         Placed r (suc t) (its i (last_call r i t) g)
     now_placed g u out =
-        let same : last_call r i t ≡ u.call = last_call_is r fits i one t (op_of g) u (omega arith) in
+        let same : last_call r i t ≡ u.call = last_call_under r fits i (op_of g) t one (omega arith) u in
         let order : u.call ≤ t = u.order in
         subst (λ c. Placed r (suc t) (its i c g)) (sym same) (record {
           one = one;
@@ -250,7 +244,7 @@ module _ (n : ℕ) (items : List Item) (fits : IsValidRun (run_of_items one_word
         (x.process ≡ i → x.end ≡ None → ⊥) →
         x.call ≡ last_call r i t → ⊥
     other_call g u x h free same =
-        let at : x.call ≡ u.call = same ∙ last_call_is r fits i one t (op_of g) u (omega arith) in
+        let at : x.call ≡ u.call = same ∙ last_call_under r fits i (op_of g) t one (omega arith) u in
         let call : Call x.process (op_of x.action) ≡ Call i (op_of g) = sym h.call_is ∙ ap (item r) at ∙ u.is.0 in
         let his : x.process ≡ i = cc in
         by_end x.process x.call x.action x.end his at (free his) h.end

@@ -1,26 +1,18 @@
 -- What one item does to the listing of one word: to the word, to its process, and to the operations that have taken
 -- place.
-use Rattle.std.specs.Prelude.{◌≡◌, ◌≢◌, ℕ, ◌-◌, ◌<◌, ◌≤◌, ◌⊎◌, max, Bool, true, false, ◌||◌, ◌&&◌, List, [], ◌∷◌}
-use Rattle.std.specs.Prelude.{◌++◌, map, length, Option, Some, None, Ok, nat_eq, nat_lt, nat_le, if◌then◌else◌}
-use Rattle.std.specs.Prelude.{slice_index_or, slice_set, refl}
-use Rattle.std.proofs.Common.{sym, ap, subst, arith, inl, inr}
+use Rattle.std.proofs.Common.{◌≡◌, ◌≢◌, ℕ, ◌-◌, ◌<◌, ◌≤◌, ◌⊎◌, max, Bool, true, false, ◌||◌, ◌&&◌, List, [], ◌∷◌, ◌++◌}
+use Rattle.std.proofs.Common.{map, length, Option, Some, None, Ok, nat_eq, nat_lt, nat_le, if◌then◌else◌}
+use Rattle.std.proofs.Common.{slice_index_or, slice_set, refl, sym, ap, subst, arith, inl, inr}
 use Rattle.std.proofs.lemmas.List.{length-set, get_or-set_same, get_or-set_other}
-use Rattle.snap_words.specs.Shape.{IsOneOf}
-use Rattle.snap_words.specs.Word.{Word, no_word}
-use Rattle.snap_semantics.specs.declared.process.Activity.{Activity}
-use Rattle.snap_semantics.specs.declared.process.Item.{Item}
-use Rattle.snap_semantics.specs.declared.process.Item.TheVariants.{Step, Call, Crash}
-use Rattle.snap_semantics.specs.declared.process.Op.{Op}
-use Rattle.snap_semantics.specs.declared.process.Op.TheVariants.{Scan, Update}
-use Rattle.snap_semantics.specs.declared.process.Outcome.{Outcome}
+use Rattle.snap_runs.proofs.Common.{IsOneOf, Word, no_word, Activity, Item, Step, Call, Crash, Op, Scan, Update}
+use Rattle.snap_runs.proofs.Common.{Outcome, Reason, Process, State, process_at, who}
 use Rattle.snap_semantics.specs.declared.process.Outcome.TheVariants as outcome
-use Rattle.snap_semantics.specs.declared.process.Reason.{Reason}
 use Rattle.snap_semantics.specs.declared.process.Reason.TheVariants as reason
 use Rattle.snap_semantics.specs.declared.process.Status.{Status}
 use Rattle.snap_semantics.specs.declared.process.Status.TheVariants.{Idle, Busy, Crashed}
 use Rattle.snap_semantics.specs.Source.{instr_at}
-use Rattle.snap_semantics.specs.State.{Locals, Memory, Process, State, nobody, process_at, with_memory_words}
-use Rattle.snap_semantics.specs.Table.{Goes, effect_at, leave, step, call, called, crash, done, who}
+use Rattle.snap_semantics.specs.State.{Locals, Memory, nobody, with_memory_words}
+use Rattle.snap_semantics.specs.Table.{Goes, effect_at, leave, step, call, called, crash, done}
 use Rattle.snap_semantics.specs.Value.{Context, place_in}
 use Rattle.snap_runs.specs.Linearization.{after, Allows}
 use Rattle.snap_runs.specs.Operation.{Action, Sets, Sees, Operation}

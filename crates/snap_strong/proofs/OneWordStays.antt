@@ -1,24 +1,19 @@
 -- The operations of the listing of one word stay in their order however a run goes on.
-use Rattle.std.specs.Prelude.{◌≡◌, ℕ, zero, suc, ◌<◌, ◌≤◌, Bool, true, false, ◌&&◌, List, [], ◌∷◌, ◌++◌, map, length}
-use Rattle.std.specs.Prelude.{nat_eq, if◌then◌else◌, refl}
-use Rattle.std.proofs.Common.{sym, ◌∙◌, ap, subst, arith, inl, inr, append_assoc}
+use Rattle.std.proofs.Common.{◌≡◌, ℕ, zero, suc, ◌<◌, ◌≤◌, Bool, true, false, ◌&&◌, List, [], ◌∷◌, ◌++◌, map, length}
+use Rattle.std.proofs.Common.{nat_eq, if◌then◌else◌, refl, sym, ◌∙◌, ap, subst, arith, inl, inr, append_assoc}
 use Rattle.std.proofs.Math.Nat.{eq-or-lt_of_le}
 use Rattle.std.proofs.lemmas.List.{append-nil, map-append, take-append-le, get_or_append_left, length-append}
-use Rattle.snap_words.specs.Shape.{Counts}
-use Rattle.snap_semantics.specs.declared.process.Item.{Item}
-use Rattle.snap_semantics.specs.declared.process.Item.TheVariants.{Step}
-use Rattle.snap_semantics.specs.declared.process.Op.{Op}
-use Rattle.snap_semantics.specs.declared.process.Outcome.{Outcome}
+use Rattle.snap_runs.proofs.Common.{Counts, Item, Step, Op, Outcome, State, process_at, values, who, Run, state, item}
 use Rattle.snap_semantics.specs.declared.process.Outcome.TheVariants as outcome
 use Rattle.snap_semantics.specs.declared.process.Status.{Status}
 use Rattle.snap_semantics.specs.declared.process.Status.TheVariants.{Idle, Busy, Trapped, Crashed}
 use Rattle.snap_semantics.specs.Source.{Source}
-use Rattle.snap_semantics.specs.State.{State, initial, process_at, values}
+use Rattle.snap_semantics.specs.State.{initial}
 use Rattle.snap_semantics.specs.Run.{after}
-use Rattle.snap_semantics.specs.Table.{done, who}
+use Rattle.snap_semantics.specs.Table.{done}
 use Rattle.snap_runs.specs.Audit.{is_called, last_call}
 use Rattle.snap_runs.specs.Operation.{Operation}
-use Rattle.snap_runs.specs.Run.{Run, state, item, outcome as outcome_at, run_of_items}
+use Rattle.snap_runs.specs.Run.{outcome as outcome_at, run_of_items}
 use Rattle.snap_strong.specs.StrongLinearization.{without_end, BeginsWith}
 use Rattle.snap_strong.specs.OneWord.{one_word, shared_by, OneWordIsStronglyLinearizable}
 use Rattle.snap_strong.proofs.OneWordItems.{is_first, started, booked}

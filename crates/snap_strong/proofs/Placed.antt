@@ -1,19 +1,13 @@
 -- Operations that have taken place among the first items of a run of any listing, ended or not.
-use Rattle.std.specs.Prelude.{◌≡◌, ℕ, suc, ◌<◌, ◌≤◌, ◌⊎◌, Bool, true, false, List, [], ◌∷◌, ◌++◌, map, length, Option}
-use Rattle.std.specs.Prelude.{Some, None, nat_eq, refl}
+use Rattle.std.proofs.Common.{◌≡◌, ℕ, suc, ◌<◌, ◌≤◌, ◌⊎◌, Bool, true, false, List, [], ◌∷◌, ◌++◌, map, length, Option}
+use Rattle.std.proofs.Common.{Some, None, nat_eq, refl, sym, ◌∙◌, ap, subst, arith, inl, inr}
 use Rattle.std.specs.List.{AllByRecursion, Contains}
-use Rattle.std.proofs.Common.{sym, ◌∙◌, ap, subst, arith, inl, inr}
 use Rattle.std.proofs.Math.Nat.{eq-or-lt_of_le}
 use Rattle.std.proofs.lemmas.List.{length-map, get_or-map}
 use Rattle.std.proofs.lemmas.List.Elements.{All-from_recursion}
-use Rattle.snap_words.specs.Shape.{IsOneOf}
-use Rattle.snap_semantics.specs.declared.process.Item.TheVariants.{Call}
-use Rattle.snap_semantics.specs.declared.process.Op.{Op}
-use Rattle.snap_semantics.specs.declared.process.Op.TheVariants.{Scan, Update}
-use Rattle.snap_semantics.specs.declared.process.Outcome.{Outcome}
+use Rattle.snap_runs.proofs.Common.{IsOneOf, Call, Op, Scan, Update, Outcome, who, Run, item}
 use Rattle.snap_semantics.specs.declared.process.Outcome.TheVariants as outcome
-use Rattle.snap_semantics.specs.Table.{who}
-use Rattle.snap_runs.specs.Run.{Run, item, outcome as outcome_at}
+use Rattle.snap_runs.specs.Run.{outcome as outcome_at}
 use Rattle.snap_runs.specs.Operation.{Action, Sets, Sees, Operation, TookPlace, IsOperation, HasEnded, EndedBefore}
 use Rattle.snap_runs.specs.Linearization.{after, Allows, RunsFrom}
 use Rattle.snap_runs.proofs.Calls.{EndsWith, IsEnd}

@@ -1,8 +1,0 @@
--- `borrowed_views_are_lent` of snap_runs_of_b (src/lib.rt): the proof of what its contract says.
--- A scan that borrows a view, and returns it at line 28, has that of an embedded scan of another process, all within
--- it.
-use Rattle.snap_runs_of_b.proofs.Lenders.{borrowed_views_are_lent_lem}
-use Rattle.snap_runs_of_b.proofs.borrowed_views_are_lent.Goals as goal
-
-pub returns : goal.returns
-returns c = borrowed_views_are_lent_lem

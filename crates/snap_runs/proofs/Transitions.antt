@@ -1,16 +1,10 @@
 -- `Transition`: what one item may do to the status of its process, and what comes of it, for any listing.
-use Rattle.std.specs.Prelude.{◌≡◌, ℕ, ◌-◌, Bool, true, false, List, [], length, nat_lt, Option, Some, None, Result}
-use Rattle.std.specs.Prelude.{Ok, Err, if◌then◌else◌, slice_set, refl}
+use Rattle.std.specs.Prelude.{◌≡◌, ℕ, ◌-◌, List, length, Option, Some, None, Result}
+use Rattle.std.specs.Prelude.{Ok, Err, slice_set, refl}
 use Rattle.std.proofs.Common.{sym, ap, subst, arith}
 use Rattle.std.proofs.lemmas.Grind.{get_or-set_at}
-use Rattle.snap_words.specs.Shape.{Counts, IsOneOf, places}
-use Rattle.snap_words.specs.Word.{Word}
-use Rattle.snap_words.specs.declared.address.Bank.TheVariants as bank
+use Rattle.snap_words.specs.Shape.{Counts, IsOneOf}
 use Rattle.snap_semantics.specs.declared.instr.Instr.{Instr}
-use Rattle.snap_semantics.specs.declared.instr.Instr.TheVariants.{Let, LetPlace, Get, Bit, Look, Put, PutBit, PutView}
-use Rattle.snap_semantics.specs.declared.instr.Instr.TheVariants.{ViewData, ViewOf, Each, First, Next, If}
-use Rattle.snap_semantics.specs.declared.instr.Instr.TheVariants.{IfAll, Goto, Return, Finish}
-use Rattle.snap_semantics.specs.declared.instr.Instr.TheVariants as instr
 use Rattle.snap_semantics.specs.declared.process.Activity.{Activity}
 use Rattle.snap_semantics.specs.declared.process.Cause.{Cause}
 use Rattle.snap_semantics.specs.declared.process.Item.{Item}
@@ -23,14 +17,14 @@ use Rattle.snap_semantics.specs.declared.process.Reason.{Reason}
 use Rattle.snap_semantics.specs.declared.process.Reason.TheVariants as reason
 use Rattle.snap_semantics.specs.declared.process.Status.{Status}
 use Rattle.snap_semantics.specs.declared.process.Status.TheVariants.{Idle, Busy, Trapped, Crashed}
-use Rattle.snap_semantics.specs.Answers.{◌>>=◌}
-use Rattle.snap_semantics.specs.Source.{Name, Source, following, instr_at}
-use Rattle.snap_semantics.specs.State.{Locals, Memory, Process, State, nobody, process_at, value_at}
-use Rattle.snap_semantics.specs.Table.{Effect, Goes, Answers, Finishes, on, range_end, places_to, all_true}
-use Rattle.snap_semantics.specs.Table.{first_true, conditions, each_value, tuple_word, with_bits, bit_value, owned}
-use Rattle.snap_semantics.specs.Table.{bank_of, first_goes, call_goes, return_goes, finish_goes, effect, effect_at}
+use Rattle.snap_semantics.specs.Source.{Source, instr_at}
+use Rattle.snap_semantics.specs.State.{Locals, Memory, Process, State, nobody, process_at}
+use Rattle.snap_semantics.specs.Table.{Effect, Goes, Answers, Finishes}
+use Rattle.snap_semantics.specs.Table.{effect_at}
 use Rattle.snap_semantics.specs.Table.{leave, step, entry, call_skip, called, call, crashed, crash, done, who}
-use Rattle.snap_semantics.specs.Value.{Context, at_place, place_in, index_value, expr_value, condition_holds, each_of}
+use Rattle.snap_runs.proofs.Effects.{Does, line_does}
+use Rattle.snap_runs.proofs.Effects as effects
+use Rattle.snap_semantics.specs.Value.{Context}
 
 -- which operation a line may end, where it does not trap or go on
 EndsOnly : Op → Result Effect Cause → Type 0
@@ -41,122 +35,30 @@ EndsOnly Scan (Ok Finishes) = ⊥
 EndsOnly (Update word value) (Ok Finishes) = Unit {0}
 EndsOnly op (Err e) = Unit {0}
 
-ends_then : {A : Type 0} (op : Op) (x : Result A Cause) (f : A → Result Effect Cause) →
-    ((v : A) → EndsOnly op (f v)) → EndsOnly op (x >>= f)
+an_answer : (o : Op) (v : List ℕ) → o ≡ Scan → EndsOnly o (Ok (Answers v))
 unfolding EndsOnly
-ends_then op (Ok v) f h = h v
-ends_then op (Err e) f h = tt
+an_answer Scan v is = tt
+an_answer (Update word value) v is = absurd cc
 
-ends_goes : (op : Op) (m : Memory) (l : Locals) (link : Option ℕ) (line : ℕ) → EndsOnly op (Ok (Goes m l link line))
+an_end : (o : Op) (word value : ℕ) → o ≡ Update word value → EndsOnly o (Ok Finishes)
 unfolding EndsOnly
-ends_goes op m l link line = tt
-
-ends_fault : (op : Op) (e : Cause) → EndsOnly op (Err e)
-unfolding EndsOnly
-ends_fault op e = tt
-
-ends_on : (op : Op) (o : Option ℕ) (m : ℕ → Memory) (l : ℕ → Locals) (link : ℕ → Option ℕ) (line : ℕ → ℕ) →
-    EndsOnly op (on o (λ k. Goes (m k) (l k) (link k) (line k)))
-unfolding EndsOnly
-ends_on op None m l link line = tt
-ends_on op (Some k) m l link line = tt
-
-ends_either : (op : Op) (b : Bool) (x y : Result Effect Cause) → EndsOnly op x → EndsOnly op y →
-    EndsOnly op (if b then x else y)
-unfolding EndsOnly
-ends_either op true x y h k = h
-ends_either op false x y h k = k
-
-ends_first : (s : Source) (op : Op) (a : Activity) (m : Memory) (l : Locals) (x : Name) (target : ℕ) (o : Option ℕ) →
-    EndsOnly op (first_goes s a m l x target o)
-ends_first s op a m l x target None = ends_on op _ _ _ _ _
-ends_first s op a m l x target (Some p) = ends_goes op _ _ _ _
-
-ends_call : (s : Source) (op : Op) (a : Activity) (m : Memory) (l : Locals) (target : ℕ) (link : Option ℕ) →
-    EndsOnly op (call_goes s a m l target link)
-ends_call s op a m l target (Some k) = ends_fault op _
-ends_call s op a m l target None = ends_on op _ _ _ _ _
-
-ends_return : (m : Memory) (l : Locals) (v : List ℕ) (op : Op) (link : Option ℕ) →
-    EndsOnly op (return_goes m l v op link)
-unfolding EndsOnly
-ends_return m l v Scan None = tt
-ends_return m l v (Update word value) None = tt
-ends_return m l v op (Some k) = tt
-
-ends_finish : (op : Op) (link : Option ℕ) → EndsOnly op (finish_goes op link)
-unfolding EndsOnly
-ends_finish Scan link = tt
-ends_finish (Update word value) None = tt
-ends_finish (Update word value) (Some k) = tt
+an_end Scan word value is = absurd cc
+an_end (Update w v) word value is = tt
 
 -- a line ends the operation under which its process is, or none
-line_ends : (s : Source) (c : Context) (m : Memory) (a : Activity) (i : Instr) → EndsOnly a.op (effect s c m a i)
-line_ends s c m a (Let x e) =
-    let next = following s.lines a.line in ends_then {A = ℕ} a.op (expr_value c e) _ (λ v. ends_on a.op next _ _ _ _)
-line_ends s c m a (LetPlace x i e) =
-    let next = following s.lines a.line in
-    ends_then {A = ℕ} a.op (place_in (places c.shape) (index_value c i)) _
-    (λ k. ends_then {A = ℕ} a.op (expr_value c e) _ (λ v. ends_on a.op next _ _ _ _))
-line_ends s c m a (Get x i j) =
-    let next = following s.lines a.line in
-    ends_then {A = ℕ} a.op (place_in (places c.shape) (index_value c i)) _
-    (λ k. ends_then {A = ℕ} a.op (place_in c.shape.w (index_value c j)) _ (λ r. ends_on a.op next _ _ _ _))
-line_ends s c m a (Bit x b i j) =
-    let next = following s.lines a.line in
-    ends_then {A = ℕ} a.op (place_in c.shape.n (index_value c i)) _
-    (λ k. ends_then {A = ℕ} a.op (place_in c.shape.n (index_value c j)) _ (λ l. ends_on a.op next _ _ _ _))
-line_ends s c m a (Look x i) =
-    let next = following s.lines a.line in
-    ends_then {A = ℕ} a.op (place_in c.shape.n (index_value c i)) _ (λ k. ends_on a.op next _ _ _ _)
-line_ends s c m a (Put i t) =
-    let next = following s.lines a.line in
-    ends_then {A = ℕ} a.op (place_in c.shape.w (index_value c i)) _ (λ r.
-    ends_then {A = Word} a.op (tuple_word c t) _ (λ parts. ends_then {A = Word} a.op (with_bits parts) _ (λ word.
-    ends_then {A = Word} a.op (owned s.kind c bank.R (index_value c i) word) _ (λ x. ends_on a.op next _ _ _ _))))
-line_ends s c m a (PutBit b i j e) =
-    let next = following s.lines a.line in
-    ends_then {A = ℕ} a.op (place_in c.shape.n (index_value c i)) _ (λ k.
-    ends_then {A = ℕ} a.op (place_in c.shape.n (index_value c j)) _ (λ l.
-    ends_then {A = ℕ} a.op (expr_value c e) _ (λ v. ends_then {A = ℕ} a.op (bit_value v) _ (λ bit.
-    ends_then {A = ℕ} a.op (owned s.kind c (bank_of b) (index_value c i) bit) _ (λ x. ends_on a.op next _ _ _ _)))))
-line_ends s c m a (PutView i x) =
-    let next = following s.lines a.line in
-    ends_then {A = ℕ} a.op (place_in c.shape.n (index_value c i)) _ (λ k. ends_then {A = List ℕ} a.op
-    (owned s.kind c bank.V (index_value c i) (value_at x c.locals.views [])) _ (λ v. ends_on a.op next _ _ _ _))
-line_ends s c m a (ViewData x y) =
-    let next = following s.lines a.line in ends_on a.op next _ _ _ _
-line_ends s c m a (ViewOf x y i) =
-    let next = following s.lines a.line in
-    ends_then {A = ℕ} a.op (place_in (places c.shape) (index_value c i)) _ (λ k. ends_on a.op next _ _ _ _)
-line_ends s c m a (Each g x e k) =
-    let next = following s.lines a.line in
-    ends_then {A = List ℕ} a.op (each_of (λ p. each_value (at_place c p) x e k) (places_to (range_end c.shape g))) _
-    (λ vs. ends_on a.op next _ _ _ _)
-line_ends s c m a (First x g k target) =
-    ends_then {A = List Bool} a.op (conditions c (range_end c.shape g) k) _
-    (λ bs. ends_first s a.op a m c.locals x target (first_true 1 bs))
-line_ends s c m a (Next x g target) =
-    let next = following s.lines a.line in
-    ends_either a.op (nat_lt (value_at x c.locals.scalars 0) (range_end c.shape g)) _ _
-    (ends_goes a.op _ _ _ _) (ends_on a.op next _ _ _ _)
-line_ends s c m a (If k target) =
-    let next = following s.lines a.line in
-    ends_then {A = Bool} a.op (condition_holds c k) _
-    (λ b. ends_either a.op b _ _ (ends_goes a.op _ _ _ _) (ends_on a.op next _ _ _ _))
-line_ends s c m a (IfAll g k target) =
-    let next = following s.lines a.line in
-    ends_then {A = List Bool} a.op (conditions c (range_end c.shape g) k) _
-    (λ bs. ends_either a.op (all_true bs) _ _ (ends_goes a.op _ _ _ _) (ends_on a.op next _ _ _ _))
-line_ends s c m a (Goto target) = ends_goes a.op _ _ _ _
-line_ends s c m a (instr.Call target) = ends_call s a.op a m c.locals target a.link
-line_ends s c m a (Return x) = ends_return m c.locals (value_at x c.locals.views []) a.op a.link
-line_ends s c m a Finish = ends_finish a.op a.link
+line_ends : (m : Memory) (l : Locals) (a : Activity) {i : Instr} {r : Result Effect Cause} → Does m l a i r →
+    EndsOnly a.op r
+unfolding EndsOnly
+line_ends m l a (effects.traps i e) = tt
+line_ends m l a (effects.goes i m' l' link line h) = tt
+line_ends m l a (effects.answers x scans alone) = an_answer a.op _ scans
+line_ends m l a (effects.finishes i word value is) = an_end a.op word value is
 
 line_at_ends : (s : Source) (c : Context) (m : Memory) (a : Activity) (i : Option Instr) →
     EndsOnly a.op (effect_at s c m a i)
-line_at_ends s c m a None = ends_fault a.op _
-line_at_ends s c m a (Some i) = line_ends s c m a i
+unfolding EndsOnly
+line_at_ends s c m a None = tt
+line_at_ends s c m a (Some i) = line_ends m c.locals a (line_does s c m a i)
 
 scan_of : (v : List ℕ) (op : Op) → EndsOnly op (Ok (Answers v)) → op ≡ Scan
 unfolding EndsOnly

@@ -32,29 +32,29 @@ Leaves m d (Ok Finishes) = Unit {0}
 Leaves m d (Err c) = Unit {0}
 
 -- other words only of a line that writes them
-wrote : (a : Activity) (m : Memory) (l : Locals) {i : Instr} {m' : Memory} {l' : Locals} → Writes m l i m' l' →
-    (line_step_role a l i ≡ Write) ⊎ (m'.words ≡ m.words)
-wrote a m l (puts_word j t k w) = inl refl
-wrote a m l (puts_bit i bits.Q j k x) = inr refl
-wrote a m l (puts_bit i bits.P j k x) = inr refl
-wrote a m l _ = inr refl
+wrote : (c : Context) (m : Memory) (a : Activity) {i : Instr} {m' : Memory} {l' : Locals} → Writes c m i m' l' →
+    (line_step_role a c.locals i ≡ Write) ⊎ (m'.words ≡ m.words)
+wrote c m a (puts_word j t k w is) = inl refl
+wrote c m a (puts_bit bits.Q j i e k p x there) = inr refl
+wrote c m a (puts_bit bits.P j i e k p x there) = inr refl
+wrote c m a _ = inr refl
 
 -- each form of a line
-leaves : (a : Activity) (m : Memory) (l : Locals) {i : Instr} {r : Result Effect Cause} → Does m l a i r →
-    Leaves m (line_step_role a l i) r
+leaves : (c : Context) (m : Memory) (a : Activity) {i : Instr} {r : Result Effect Cause} → Does c m a i r →
+    Leaves m (line_step_role a c.locals i) r
 unfolding Leaves
-leaves a m l (traps i e) = tt
-leaves a m l (goes i m' l' link line h) = wrote a m l h
-leaves a m l (answers x scans alone) =
-    let view = value_at x l.views [] in ap (returned view a.op) alone ∙ ap (λ o. returned view o None) scans
-leaves a m l (finishes i word value is) = tt
+leaves c m a (traps i e) = tt
+leaves c m a (goes i m' l' link line h) = wrote c m a h
+leaves c m a (answers x scans alone) =
+    let view = value_at x c.locals.views [] in ap (returned view a.op) alone ∙ ap (λ o. returned view o None) scans
+leaves c m a (finishes i word value is) = tt
 
 -- the line at which a process stands, where there is one
 leaves_at : (s : Source) (c : Context) (m : Memory) (a : Activity) (i : Option Instr) →
     Leaves m (step_role_at a c.locals i) (effect_at s c m a i)
 unfolding Leaves
 leaves_at s c m a None = tt
-leaves_at s c m a (Some i) = leaves a m c.locals (line_does s c m a i)
+leaves_at s c m a (Some i) = leaves c m a (line_does s c m a i)
 
 -- what a step leaves behind
 after_step : (S : State) (i : ℕ) (a : Activity) (l : Locals) (d : StepRole) (r : Result Effect Cause) →

@@ -46,19 +46,19 @@ an_end Scan word value is = absurd cc
 an_end (Update w v) word value is = tt
 
 -- a line ends the operation under which its process is, or none
-line_ends : (m : Memory) (l : Locals) (a : Activity) {i : Instr} {r : Result Effect Cause} → Does m l a i r →
+line_ends : (c : Context) (m : Memory) (a : Activity) {i : Instr} {r : Result Effect Cause} → Does c m a i r →
     EndsOnly a.op r
 unfolding EndsOnly
-line_ends m l a (effects.traps i e) = tt
-line_ends m l a (effects.goes i m' l' link line h) = tt
-line_ends m l a (effects.answers x scans alone) = an_answer a.op _ scans
-line_ends m l a (effects.finishes i word value is) = an_end a.op word value is
+line_ends c m a (effects.traps i e) = tt
+line_ends c m a (effects.goes i m' l' link line h) = tt
+line_ends c m a (effects.answers x scans alone) = an_answer a.op _ scans
+line_ends c m a (effects.finishes i word value is) = an_end a.op word value is
 
 line_at_ends : (s : Source) (c : Context) (m : Memory) (a : Activity) (i : Option Instr) →
     EndsOnly a.op (effect_at s c m a i)
 unfolding EndsOnly
 line_at_ends s c m a None = tt
-line_at_ends s c m a (Some i) = line_ends m c.locals a (line_does s c m a i)
+line_at_ends s c m a (Some i) = line_ends c m a (line_does s c m a i)
 
 scan_of : (v : List ℕ) (op : Op) → EndsOnly op (Ok (Answers v)) → op ≡ Scan
 unfolding EndsOnly

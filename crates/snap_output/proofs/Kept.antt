@@ -138,30 +138,30 @@ module _ (g : KindTag) (m0 : Memory) (l0 : Locals) where
   Keeps (Err c) = Unit {0}
 
   -- what a line writes
-  wrote : (m : Memory) (l : Locals) {i : Instr} {m' : Memory} {l' : Locals} → Writes m l i m' l' → Kept m l →
-      Kept m' l'
-  wrote m l (nothing i) h = h
-  wrote m l (sets_scalar i x v) h = scalar_kept m l x v h
-  wrote m l (sets_row i x v) h = row_kept m l x v h
-  wrote m l (sets_word i x k w) h = word_kept m l x k w h
-  wrote m l (sets_view i x v) h = view_kept m l x v h
-  wrote m l (puts_word j t k w) h = register_kept m l k w h
-  wrote m l (puts_bit i b j k x) h = bit_kept b m l j k x h
-  wrote m l (puts_view i k v) h = views_kept m l k v h
+  wrote : (c : Context) (m : Memory) {i : Instr} {m' : Memory} {l' : Locals} → Writes c m i m' l' →
+      Kept m c.locals → Kept m' l'
+  wrote c m (nothing i) h = h
+  wrote c m (sets_scalar i x v) h = scalar_kept m c.locals x v h
+  wrote c m (sets_row i x v) h = row_kept m c.locals x v h
+  wrote c m (sets_word i x k w) h = word_kept m c.locals x k w h
+  wrote c m (sets_view i x v) h = view_kept m c.locals x v h
+  wrote c m (puts_word j t k w is) h = register_kept m c.locals k w h
+  wrote c m (puts_bit b j i e k p x there) h = bit_kept b m c.locals k p x h
+  wrote c m (puts_view j x k) h = views_kept m c.locals k (value_at x c.locals.views []) h
 
   -- each form of a line
-  keeps : (m : Memory) (l : Locals) (a : Activity) {i : Instr} {r : Result Effect Cause} → Does m l a i r →
-      Kept m l → Keeps r
+  keeps : (c : Context) (m : Memory) (a : Activity) {i : Instr} {r : Result Effect Cause} → Does c m a i r →
+      Kept m c.locals → Keeps r
   unfolding Keeps
-  keeps m l a (goes i m' l' link line w) h = wrote m l w h
-  keeps m l a _ h = tt
+  keeps c m a (goes i m' l' link line w) h = wrote c m w h
+  keeps c m a _ h = tt
 
   -- the line at which a process stands, where there is one
   keeps_at : (s : Source) (c : Context) (m : Memory) (a : Activity) (i : Option Instr) →
       Kept m c.locals → Keeps (effect_at s c m a i)
   unfolding Keeps
   keeps_at s c m a None h = tt
-  keeps_at s c m a (Some i) h = keeps m c.locals a (line_does s c m a i) h
+  keeps_at s c m a (Some i) h = keeps c m a (line_does s c m a i) h
 
 -- One process and the registers have changed, each into as many lines.
 pub record IsMove (g : KindTag) (i : ℕ) (S S' : State) : Type 0 where

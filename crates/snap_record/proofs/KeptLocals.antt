@@ -38,26 +38,26 @@ module _ (P : Locals → Type 0) (scalar : (y : Name) (v : ℕ) (l : Locals) →
   Keeps (Err c) = Unit {0}
 
   -- a line that goes on leaves such locals
-  wrote : (m : Memory) (l : Locals) {i : Instr} {m' : Memory} {l' : Locals} → Writes m l i m' l' → P l → P l'
-  wrote m l (sets_scalar i x v) h = scalar x v l h
-  wrote m l (sets_row i x v) h = row x v l h
-  wrote m l (sets_word i x k w) h = words x _ l h
-  wrote m l (sets_view i x v) h = view x v l h
-  wrote m l _ h = h
+  wrote : (c : Context) (m : Memory) {i : Instr} {m' : Memory} {l' : Locals} → Writes c m i m' l' → P c.locals → P l'
+  wrote c m (sets_scalar i x v) h = scalar x v c.locals h
+  wrote c m (sets_row i x v) h = row x v c.locals h
+  wrote c m (sets_word i x k w) h = words x _ c.locals h
+  wrote c m (sets_view i x v) h = view x v c.locals h
+  wrote c m _ h = h
 
   -- each form of a line
-  keeps : (m : Memory) (l : Locals) (a : Activity) {i : Instr} {r : Result Effect Cause} → Does m l a i r → P l →
-      Keeps r
+  keeps : (c : Context) (m : Memory) (a : Activity) {i : Instr} {r : Result Effect Cause} → Does c m a i r →
+      P c.locals → Keeps r
   unfolding Keeps
-  keeps m l a (goes i m' l' link line w) h = wrote m l w h
-  keeps m l a _ h = tt
+  keeps c m a (goes i m' l' link line w) h = wrote c m w h
+  keeps c m a _ h = tt
 
   -- the line at which a process stands, where there is one
   keeps_at : (s : Source) (c : Context) (m : Memory) (a : Activity) (i : Option Instr) →
       P c.locals → Keeps (effect_at s c m a i)
   unfolding Keeps
   keeps_at s c m a None h = tt
-  keeps_at s c m a (Some i) h = keeps m c.locals a (line_does s c m a i) h
+  keeps_at s c m a (Some i) h = keeps c m a (line_does s c m a i) h
 
   -- all processes
   abbrev All : List Process → Type 0

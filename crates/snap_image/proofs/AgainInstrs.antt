@@ -29,7 +29,7 @@ use Rattle.snap_semantics.specs.Uses.{TupleUse, row, view, index_uses, expr_uses
 use Rattle.snap_semantics.specs.Uses.{tuple_uses, instr_uses}
 use Rattle.snap_image.specs.Widths.{HasShortTargets}
 use Rattle.snap_image.proofs.AgainForms.{head, first, rest, an_index, an_expr, a_condition, a_where}
-use Rattle.snap_image.proofs.AgainParts.{apart, Gives, then_gives, then_done, Again, of_one_again, of_two_again, of_three_again}
+use Rattle.snap_image.proofs.AgainParts.{regrouped, Gives, then_gives, then_done, Again, of_one_again, of_two_again, of_three_again}
 use Rattle.snap_image.proofs.AgainParts.{of_four_again, a_code, a_scalar, a_row, some_words, a_view, code_again}
 use Rattle.snap_image.proofs.AgainParts.{short_again, Right, allowed_again}
 
@@ -94,7 +94,7 @@ module _ (g : Source) (line : ℕ) where
       let more1 = rest g (expr_uses m) (row x ∷ (expr_uses n ++ view v ∷ [])) more.1 in
       let more2 = rest g (expr_uses n) (view v ∷ []) more1.1 in
       then_gives i _ (index_in (head g) line false r) _ y after
-      ((an_index g line false i h.0 (first g _ _ uses)).again _ r (apart (index_image g i) _ _ _ e)) (λ t p.
+      ((an_index g line false i h.0 (first g _ _ uses)).again _ r (regrouped (index_image g i) _ _ _ e)) (λ t p.
       of_four_again (λ d h t v. instr.Put i (tuple.Bits d h t v)) (an_expr g line false m h.1.0 (first g _ _ more.1))
       (a_row g line x more1.0) (an_expr g line false n h.1.1 (first g _ _ more1.1)) (a_view g line v more2.0) after t p)
   put_again i (tuple.Multi m n o) after r h uses e =

@@ -34,8 +34,8 @@ pub then_gives : {A B : Type 0} (x : A) (mid : List ℕ) (m : Read A) (f : (A ×
 then_gives {A} x mid m f y after g h = subst (λ (n : Read A). Gives (n >>= f) y after) (sym g.1) (h g.0 g.2)
 
 -- bytes behind two parts
-pub apart : (x y after z : List ℕ) → z ≡ (x ++ y) ++ after → z ≡ x ++ (y ++ after)
-apart x y after z e = e ∙ append_assoc x y after
+pub regrouped : (x y after z : List ℕ) → z ≡ (x ++ y) ++ after → z ≡ x ++ (y ++ after)
+regrouped x y after z e = e ∙ append_assoc x y after
 
 -- a part that a rule reads again
 pub record Again {A : Type 0} (x : A) (image : List ℕ) (read : Rest → Read A) : Type 0 where
@@ -51,7 +51,7 @@ pub of_two_again : {A B X : Type 0} {x : A} {y : B} {xs ys : List ℕ} {f : Rest
     (make : A → B → X) → Again x xs f → Again y ys g → (after : List ℕ) (r : Rest) →
     r.bytes ≡ (xs ++ ys) ++ after → Gives (of_two f g make r) (make x y) after
 of_two_again {A} {B} {X} {x} {y} {xs} {ys} {f} {g} make h k after r e =
-    then_gives x (ys ++ after) (f r) _ (make x y) after (h.again (ys ++ after) r (apart xs ys after _ e))
+    then_gives x (ys ++ after) (f r) _ (make x y) after (h.again (ys ++ after) r (regrouped xs ys after _ e))
     (λ t p. of_one_again (make x) k after t p)
 
 pub of_three_again : {A B C X : Type 0} {x : A} {y : B} {z : C} {xs ys zs : List ℕ} {f : Rest → Read A} {g : Rest → Read B}
@@ -60,7 +60,7 @@ pub of_three_again : {A B C X : Type 0} {x : A} {y : B} {z : C} {xs ys zs : List
     Gives (of_three f g i make r) (make x y z) after
 of_three_again {A} {B} {C} {X} {x} {y} {z} {xs} {ys} {zs} {f} {g} {i} make h k l after r e =
     let more = (ys ++ zs) ++ after in
-    then_gives x more (f r) _ (make x y z) after (h.again more r (apart xs (ys ++ zs) after _ e))
+    then_gives x more (f r) _ (make x y z) after (h.again more r (regrouped xs (ys ++ zs) after _ e))
     (λ t p. of_two_again (make x) k l after t p)
 
 pub of_four_again : {A B C D X : Type 0} {x : A} {y : B} {z : C} {w : D} {xs ys zs ws : List ℕ} {f : Rest → Read A}
@@ -69,7 +69,7 @@ pub of_four_again : {A B C D X : Type 0} {x : A} {y : B} {z : C} {w : D} {xs ys 
     r.bytes ≡ (xs ++ (ys ++ (zs ++ ws))) ++ after → Gives (of_four f g i j make r) (make x y z w) after
 of_four_again {A} {B} {C} {D} {X} {x} {y} {z} {w} {xs} {ys} {zs} {ws} {f} {g} {i} {j} make h k l o after r e =
     let more = (ys ++ (zs ++ ws)) ++ after in
-    then_gives x more (f r) _ (make x y z w) after (h.again more r (apart xs (ys ++ (zs ++ ws)) after _ e))
+    then_gives x more (f r) _ (make x y z w) after (h.again more r (regrouped xs (ys ++ (zs ++ ws)) after _ e))
     (λ t p. of_three_again (make x) k l o after t p)
 
 -- a test that is passed

@@ -193,7 +193,8 @@ expr_again g line q (expr.Term t) after r h uses e =
 expr_again g line q (expr.Sum t u) after r h uses e =
     let said : List ℕ = (term_image g t ++ term_image g u) ++ after in
     then_gives etag.Sum said (code_in exprs r) _ (expr.Sum t u) after (code_again exprs etag.Sum refl said r e) (λ a p.
-    of_two_again expr.Sum (a_term g line q t h.0 (first g _ _ uses)) (a_term g line q u h.1 (rest g _ _ uses)) after a p)
+    of_two_again expr.Sum (a_term g line q t h.0 (first g _ _ uses))
+    (a_term g line q u h.1 (rest g _ _ uses)) after a p)
 expr_again g line q (expr.Not t) after r h uses e =
     let said : List ℕ = term_image g t ++ after in
     then_gives etag.Not said (code_in exprs r) _ (expr.Not t) after (code_again exprs etag.Not refl said r e) (λ a p.

@@ -29,8 +29,8 @@ use Rattle.snap_semantics.specs.Uses.{TupleUse, row, view, index_uses, expr_uses
 use Rattle.snap_semantics.specs.Uses.{tuple_uses, instr_uses}
 use Rattle.snap_image.specs.Widths.{HasShortTargets}
 use Rattle.snap_image.proofs.AgainForms.{head, first, rest, an_index, an_expr, a_condition, a_where}
-use Rattle.snap_image.proofs.AgainParts.{regrouped, Gives, then_gives, then_done, Again, of_one_again, of_two_again, of_three_again}
-use Rattle.snap_image.proofs.AgainParts.{of_four_again, a_code, a_scalar, a_row, some_words, a_view, code_again}
+use Rattle.snap_image.proofs.AgainParts.{regrouped, Gives, then_gives, then_done, Again, of_one_again, of_two_again}
+use Rattle.snap_image.proofs.AgainParts.{of_three_again, of_four_again, a_code, a_scalar, a_row, some_words, a_view, code_again}
 use Rattle.snap_image.proofs.AgainParts.{short_again, Right, allowed_again}
 
 range_coded : (over : Range) → of_code ranges (range_code over) ≡ Some over
@@ -64,8 +64,8 @@ module _ (g : Source) (line : ℕ) where
       Gives (bit_in (head g) line b r) y after)
   unfolding bit_in
   bit_again x b i j after r h uses e =
-      of_three_again (λ x i j. instr.Bit x b i j) (a_scalar g line x uses.0) (an_index g line false i h.0 (first g _ _ uses.1.1))
-      (an_index g line false j h.1 (rest g _ _ uses.1.1)) after r e
+      of_three_again (λ x i j. instr.Bit x b i j) (a_scalar g line x uses.0)
+      (an_index g line false i h.0 (first g _ _ uses.1.1)) (an_index g line false j h.1 (rest g _ _ uses.1.1)) after r e
 
   put_bit_again : (b : BitBank) (i j : Index) (v : Expr) (after : List ℕ) (r : Rest) → (let y = instr.PutBit b i j v in
       HasForm y → Right g (instr_uses y) → r.bytes ≡ operands_image g y ++ after →
@@ -73,8 +73,8 @@ module _ (g : Source) (line : ℕ) where
   unfolding put_bit_in
   put_bit_again b i j v after r h uses e =
       let more = rest g (index_uses i) (index_uses j ++ expr_uses v) uses.1 in
-      of_three_again (instr.PutBit b) (an_index g line false i h.0 (first g _ _ uses.1)) (an_index g line false j h.1 (first g _ _ more))
-      (an_expr g line false v h.2 (rest g _ _ more)) after r e
+      of_three_again (instr.PutBit b) (an_index g line false i h.0 (first g _ _ uses.1))
+      (an_index g line false j h.1 (first g _ _ more)) (an_expr g line false v h.2 (rest g _ _ more)) after r e
 
   put_again : (i : Index) (u : Tuple) (after : List ℕ) (r : Rest) → (let y = instr.Put i u in
       HasForm y → Right g (instr_uses y) → r.bytes ≡ operands_image g y ++ after →
@@ -85,8 +85,8 @@ module _ (g : Source) (line : ℕ) where
       let more1 = rest g (expr_uses m) (expr_uses n ++ view v ∷ []) more.1 in
       let more2 = rest g (expr_uses n) (view v ∷ []) more1 in
       of_four_again (λ i d q v. instr.Put i (tuple.Seq d q v)) (an_index g line false i h.0 (first g _ _ uses))
-      (an_expr g line false m h.1.0 (first g _ _ more.1)) (an_expr g line false n h.1.1 (first g _ _ more1)) (a_view g line v more2.0)
-      after r e
+      (an_expr g line false m h.1.0 (first g _ _ more.1)) (an_expr g line false n h.1.1 (first g _ _ more1))
+      (a_view g line v more2.0) after r e
   put_again i (tuple.Bits m x n v) after r h uses e =
       let y = instr.Put i (tuple.Bits m x n v) in
       let more =
@@ -156,7 +156,8 @@ module _ (g : Source) (line : ℕ) where
       of_two_again instr.ViewData (a_view g line x uses.0) (some_words g line z uses.1.0) after t p)
   instr_again (instr.ViewOf x z i) after r h uses small e =
       formed_again tag.ViewOf (instr.ViewOf x z i) _ after r (uses.1.0, tt) e (λ t p.
-      of_three_again instr.ViewOf (a_view g line x uses.0) (some_words g line z uses.1.1.0) (an_index g line false i h uses.1.1.1) after t p)
+      of_three_again instr.ViewOf (a_view g line x uses.0) (some_words g line z uses.1.1.0)
+      (an_index g line false i h uses.1.1.1) after t p)
   instr_again (instr.Each over x v k) after r h uses small e =
       formed_again tag.Each (instr.Each over x v k) _ after r tt e (λ t p.
       of_four_again instr.Each (a_range over) (a_row g line x uses.0) (an_expr g line true v h.0 (first g _ _ uses.1))

@@ -292,7 +292,8 @@ head_again v g h after bytes e =
     then_gives c _ (table_in (a ++ b) r2) _ y after
     (table_again (a ++ b) c _ r2 t.words.1 s.distinct_words s.few_words (regrouped (table_image c) _ _ _ e2)) (λ r3 e3.
     then_gives d _ (table_in (a ++ (b ++ c)) r3) _ y after
-    (table_again (a ++ (b ++ c)) d _ r3 t.views.1 s.distinct_views s.few_views (regrouped (table_image d) _ _ _ e3)) (λ r4 e4.
+    (table_again (a ++ (b ++ c)) d _ r3 t.views.1 s.distinct_views s.few_views
+    (regrouped (table_image d) _ _ _ e3)) (λ r4 e4.
     then_gives g.scan _ (short_in r4) _ y after (short_again g.scan (short_number g.scan h.scan) _ r4 e4) (λ r5 e5.
     then_gives g.update _ (short_in r5) _ y after
     (short_again g.update (short_number g.update h.update) _ r5 e5) (λ r6 e6.

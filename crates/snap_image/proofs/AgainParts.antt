@@ -54,8 +54,8 @@ of_two_again {A} {B} {X} {x} {y} {xs} {ys} {f} {g} make h k after r e =
     then_gives x (ys ++ after) (f r) _ (make x y) after (h.again (ys ++ after) r (regrouped xs ys after _ e))
     (λ t p. of_one_again (make x) k after t p)
 
-pub of_three_again : {A B C X : Type 0} {x : A} {y : B} {z : C} {xs ys zs : List ℕ} {f : Rest → Read A} {g : Rest → Read B}
-    {i : Rest → Read C} (make : A → B → C → X) → Again x xs f → Again y ys g → Again z zs i →
+pub of_three_again : {A B C X : Type 0} {x : A} {y : B} {z : C} {xs ys zs : List ℕ} {f : Rest → Read A}
+    {g : Rest → Read B} {i : Rest → Read C} (make : A → B → C → X) → Again x xs f → Again y ys g → Again z zs i →
     (after : List ℕ) (r : Rest) → r.bytes ≡ (xs ++ (ys ++ zs)) ++ after →
     Gives (of_three f g i make r) (make x y z) after
 of_three_again {A} {B} {C} {X} {x} {y} {z} {xs} {ys} {zs} {f} {g} {i} make h k l after r e =

@@ -245,7 +245,8 @@ comparison_is : (ls : List Line) (s : Source) → Slots (with_lines ls s) → (l
     Holds (ComparisonIs ls s q r) (comparison_in s line q r)
 unfolding comparison_in
 comparison_is ls s h line q r =
-    of_three_said (ComparisonIs ls s q r) (λ k t u. let c : Comparison = record { left = t; relation = k; right = u } in c)
+    of_three_said (ComparisonIs ls s q r) (λ k t u.
+    let c : Comparison = record { left = t; relation = k; right = u } in c)
     (a_code relations) (a_term ls s h line q) (a_term ls s h line q) r
     (λ k e t p u l. behind (relation_code k.0) e (both p l))
 

@@ -30,8 +30,8 @@ use Rattle.snap_semantics.specs.declared.process.Cause.TheVariants as cause
 use Rattle.snap_semantics.specs.declared.process.Op.{Op}
 use Rattle.snap_semantics.specs.declared.process.Op.TheVariants.{Scan, Update}
 
--- The registers and the locals behind a line that goes on. A word is that of the tuple of a line `put r`, which writes it
--- alone; a bit is of a row that is there; and a view is that of the local which a line `put v` names.
+-- The registers and the locals behind a line that goes on. A word is that of the tuple of a line `put r`, which writes
+-- no other; a bit is of a row that is there; and a view is that of the local which a line `put v` names.
 pub data Writes (c : Context) (m : Memory) : Instr → Memory → Locals → Type 0 where
   nothing : (i : Instr) → Writes c m i m c.locals
   sets_scalar : (i : Instr) (x : Name) (v : ℕ) → Writes c m i m (with_scalar x v c.locals)

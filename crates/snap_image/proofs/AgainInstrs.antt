@@ -30,7 +30,8 @@ use Rattle.snap_semantics.specs.Uses.{tuple_uses, instr_uses}
 use Rattle.snap_image.specs.Widths.{HasShortTargets}
 use Rattle.snap_image.proofs.AgainForms.{head, first, rest, an_index, an_expr, a_condition, a_where}
 use Rattle.snap_image.proofs.AgainParts.{regrouped, Gives, then_gives, then_done, Again, of_one_again, of_two_again}
-use Rattle.snap_image.proofs.AgainParts.{of_three_again, of_four_again, a_code, a_scalar, a_row, some_words, a_view, code_again}
+use Rattle.snap_image.proofs.AgainParts.{of_three_again, of_four_again, a_code, a_scalar}
+use Rattle.snap_image.proofs.AgainParts.{a_row, some_words, a_view, code_again}
 use Rattle.snap_image.proofs.AgainParts.{short_again, Right, allowed_again}
 
 range_coded : (over : Range) → of_code ranges (range_code over) ≡ Some over

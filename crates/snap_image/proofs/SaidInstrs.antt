@@ -112,8 +112,8 @@ module _ (ls : List Line) (s : Source) (h : Slots (with_lines ls s)) (line : ℕ
       of_two_said (OperandsAre ls s tag.Look r) instr.Look view_says index_says r
       (λ a pa b pb. (refl, skip pa (skip (had a.1.bytes (form_uses tag.Look) right) pb)))
   operands_are tag.PutSeq r right =
-      of_four_said (OperandsAre ls s tag.PutSeq r) (λ i d q v. instr.Put i (tuple.Seq d q v)) index_says (expr_says false)
-      (expr_says false) view_says r (λ a pa b pb c pc d pd.
+      of_four_said (OperandsAre ls s tag.PutSeq r) (λ i d q v. instr.Put i (tuple.Seq d q v)) index_says
+      (expr_says false) (expr_says false) view_says r (λ a pa b pb c pc d pd.
       (refl, both pa (skip (had a.1.bytes (form_uses tag.PutSeq) right) (both pb (last pc pd)))))
   operands_are tag.PutBits r right =
       let O = OperandsAre ls s tag.PutBits r in
@@ -123,8 +123,8 @@ module _ (ls : List Line) (s : Source) (h : Slots (with_lines ls s)) (line : ℕ
       (λ a pa b pb c pc d pd.
       (refl, both pi (skip (had i.1.bytes (form_uses tag.PutBits) right) (both pa (skip pb (last pc pd)))))))
   operands_are tag.PutMulti r right =
-      of_four_said (OperandsAre ls s tag.PutMulti r) (λ i d k t. instr.Put i (tuple.Multi d k t)) index_says (expr_says false)
-      (expr_says false) (expr_says false) r (λ a pa b pb c pc d pd.
+      of_four_said (OperandsAre ls s tag.PutMulti r) (λ i d k t. instr.Put i (tuple.Multi d k t)) index_says
+      (expr_says false) (expr_says false) (expr_says false) r (λ a pa b pb c pc d pd.
       (refl, both pa (skip (had a.1.bytes (form_uses tag.PutMulti) right) (three_of (both pb (both pc pd))))))
   operands_are tag.PutQ r right = put_bit_is bits.Q r right
   operands_are tag.PutP r right = put_bit_is bits.P r right

@@ -463,6 +463,9 @@ no_joined : (q : Bool) (j : Join) (rest : List Token) → NoJoin rest → joined
 unfolding joined_at
 no_joined q j rest h = then_none (keyword_at (join_keyword j) rest) _ (no_join_word j rest h)
 
+join_no_bracket : (j : Join) (rest : List Token) → NoBracket (Identifier (join_keyword j) ∷ rest)
+join_no_bracket j rest = refl
+
 third_more : (q : Bool) (j : Join) (k l m o : Comparison) (rest : List Token) →
     HasComparison q o → Names (comparison_uses o) → NoJoin rest →
     third_on q j k l m (Identifier (join_keyword j) ∷ (spelled_comparison o ++ rest)) ≡ Some (Four j k l m o, rest)

@@ -120,6 +120,9 @@ lines_ok s last count (text ∷ texts) all sound =
           ∙ ap (λ (ls : List (Option (List Token))). some_line (spelled_line line) ∷ ls) k.tokens;
     })))
 
+abbrev IsTarget : List Line → ℕ → Type 0
+IsTarget lines k = has_line lines k ≡ true
+
 target_by : (P : Unit {0} → Type 0) (b : Bool) (r : Result (Unit {0}) ListingRefusal) (e : ListingRefusal) →
     (b ≡ true → HoldsOk P r) → HoldsOk P (if b then r else Err e)
 target_by P true r e h = h refl

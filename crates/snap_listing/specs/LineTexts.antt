@@ -1,8 +1,9 @@
 -- The lines of a listing, each as text: its number and its instruction as in the canonical text of the listing,
 -- without the comment.
-use Rattle.std.specs.Prelude.{ℕ, List, [], ◌∷◌, Option, Some, None, nat_eq, if◌then◌else◌}
+use Rattle.std.specs.Prelude.{ℕ, List, [], ◌∷◌, map, Option, Some, None, nat_eq, if◌then◌else◌}
 use Rattle.snap_semantics.specs.declared.instr.Line.{Line}
 use Rattle.snap_semantics.specs.Layout.{line_to}
+use Rattle.snap_semantics.specs.Source.{Source}
 use Rattle.snap_semantics.specs.Spelling.{spelled_line}
 use Rattle.snap_semantics.specs.Token.{TextLine, Token}
 use Rattle.snap_listing.specs.declared.line_texts.LineText.{LineText}
@@ -19,6 +20,10 @@ written line = record { number = line.number; text = line_to [] (spelled_line li
 abbrev pub text_with : List NumberedText → ℕ → Option (List ℕ)
 text_with [] k = None
 text_with (t ∷ ts) k = if nat_eq t.number k then Some t.text else text_with ts k
+
+-- the text of the line of a listing with this number
+abbrev pub line_text_at : Source → ℕ → Option (List ℕ)
+line_text_at s k = text_with (map written s.lines) k
 
 abbrev pub seen_line : LineText → NumberedText
 seen_line line = record { number = line.number; text = line.text.items }

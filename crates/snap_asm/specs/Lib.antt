@@ -1,6 +1,5 @@
 -- The definitions of snap_asm, by their modules.
 pub mod Declares
-pub mod LineSorts
 pub mod Numbered
 pub mod SetNames
 pub mod Laws

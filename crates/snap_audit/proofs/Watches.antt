@@ -1,6 +1,6 @@
 -- Laws of a `Watch`, what an audit has to know of the items that a machine has done: it goes on to tell of what comes
 -- next on the way, item by item.
-use Rattle.std.proofs.Common.{◌≡◌, ℕ, suc, ◌+◌, ◌-◌, ◌<◌, ◌≤◌, Bool, true, false, ◌&&◌, List, [], ◌∷◌, ◌++◌, length, map, take}
+use Rattle.std.proofs.Common.{◌≡◌, ℕ, suc, ◌+◌, ◌-◌, ◌<◌, ◌≤◌, Bool, true, false, ◌&&◌, List, [], ◌++◌, length, map}
 use Rattle.std.proofs.Common.{Option, Some, None, slice_index, slice_set, refl, sym, ap, subst, ◌∙◌}
 use Rattle.std.proofs.Common.{append-nil, length-set, length-take, if◌then◌else◌, arith}
 use Rattle.snap_words.specs.Shape.{max_items}
@@ -10,9 +10,7 @@ use Rattle.snap_semantics.specs.State.{Locals, State, process_at, values}
 use Rattle.snap_semantics.specs.Table.{done, who}
 use Rattle.snap_semantics.specs.declared.event.Event.{Event}
 use Rattle.snap_semantics.specs.declared.instr.Instr.{Instr}
-use Rattle.snap_semantics.specs.declared.instr.Instr.TheVariants.{Let, LetPlace, Get, Bit, Look, Put, PutBit, PutView}
-use Rattle.snap_semantics.specs.declared.instr.Instr.TheVariants.{ViewData, ViewOf, Each, First, Next, If, IfAll}
-use Rattle.snap_semantics.specs.declared.instr.Instr.TheVariants.{Goto, Call, Return, Finish}
+use Rattle.snap_semantics.specs.declared.instr.Instr.TheVariants.{Return}
 use Rattle.snap_semantics.specs.declared.process.Activity.{Activity}
 use Rattle.snap_semantics.specs.declared.process.Cause.{Cause}
 use Rattle.snap_semantics.specs.declared.process.Item.{Item}
@@ -53,25 +51,8 @@ returns_test view (Update word value) link = refl
 -- what an instruction is tells what its step does
 instr_told : (a : Activity) (l : Locals) (i : Instr) → (is_write (line_step_role a l i) ≡ is_write_line (instr_role i))
     × (is_test (line_step_role a l i) ≡ is_test_line (instr_role i))
-instr_told a l (Let x e) = (refl, refl)
-instr_told a l (LetPlace x i e) = (refl, refl)
-instr_told a l (Get x i j) = (refl, refl)
-instr_told a l (Bit x b i j) = (refl, refl)
-instr_told a l (Look x i) = (refl, refl)
-instr_told a l (Put i t) = (refl, refl)
-instr_told a l (PutBit b i j e) = (refl, refl)
-instr_told a l (PutView i x) = (refl, refl)
-instr_told a l (ViewData x y) = (refl, refl)
-instr_told a l (ViewOf x y i) = (refl, refl)
-instr_told a l (Each g x e c) = (refl, refl)
-instr_told a l (First x g c n) = (refl, refl)
-instr_told a l (Next x g n) = (refl, refl)
-instr_told a l (If c n) = (refl, refl)
-instr_told a l (IfAll g c n) = (refl, refl)
-instr_told a l (Goto n) = (refl, refl)
-instr_told a l (Call n) = (refl, refl)
 instr_told a l (Return x) = (returns_write _ a.op a.link, returns_test _ a.op a.link)
-instr_told a l Finish = (refl, refl)
+instr_told a l _ = (refl, refl)
 
 -- what the role tells of a line that may be missing
 line_told : (a : Activity) (l : Locals) (i : Option Instr) → (is_write (step_role_at a l i) ≡ is_write_line (role_of i))

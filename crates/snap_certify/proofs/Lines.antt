@@ -11,9 +11,7 @@ use Rattle.snap_semantics.specs.State.{Locals, Process, State, process_at, value
 use Rattle.snap_semantics.specs.Table.{done, effect_at, leave, step, who}
 use Rattle.snap_semantics.specs.Value.{Context}
 use Rattle.snap_semantics.specs.declared.instr.Instr.{Instr}
-use Rattle.snap_semantics.specs.declared.instr.Instr.TheVariants.{Let, LetPlace, Get, Bit, Look, Put, PutBit, PutView}
-use Rattle.snap_semantics.specs.declared.instr.Instr.TheVariants.{ViewData, ViewOf, Each, First, Next, If, IfAll}
-use Rattle.snap_semantics.specs.declared.instr.Instr.TheVariants.{Goto, Call, Return, Finish}
+use Rattle.snap_semantics.specs.declared.instr.Instr.TheVariants.{Return}
 use Rattle.snap_semantics.specs.declared.instr.Line.{Line}
 use Rattle.snap_semantics.specs.declared.process.Activity.{Activity}
 use Rattle.snap_semantics.specs.declared.process.Item.{Item}
@@ -40,25 +38,8 @@ returns_write view (Update word value) link = refl
 
 -- which lines write a word
 put_is : (a : Activity) (l : Locals) (i : Instr) → is_write (line_step_role a l i) ≡ is_put i
-put_is a l (Let x e) = refl
-put_is a l (LetPlace x i e) = refl
-put_is a l (Get x i j) = refl
-put_is a l (Bit x b i j) = refl
-put_is a l (Look x i) = refl
-put_is a l (Put i t) = refl
-put_is a l (PutBit b i j e) = refl
-put_is a l (PutView i x) = refl
-put_is a l (ViewData x y) = refl
-put_is a l (ViewOf x y i) = refl
-put_is a l (Each g x e c) = refl
-put_is a l (First x g c n) = refl
-put_is a l (Next x g n) = refl
-put_is a l (If c n) = refl
-put_is a l (IfAll g c n) = refl
-put_is a l (Goto n) = refl
-put_is a l (Call n) = refl
 put_is a l (Return x) = returns_write _ a.op a.link
-put_is a l Finish = refl
+put_is a l _ = refl
 
 -- one of two that are none
 none_either : (line : ℕ) (on : Bool) → at_line line (let o : Option Activity = if on then None else None in o) ≡ false

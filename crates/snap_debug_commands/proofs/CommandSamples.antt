@@ -7,13 +7,12 @@ use Rattle.snap_words.specs.declared.address.Bank.TheVariants as bank
 use Rattle.snap_semantics.specs.Layout.{line_text}
 use Rattle.snap_semantics.specs.declared.fault.Fault.TheVariants as fault
 use Rattle.snap_semantics.specs.declared.refusal.CommandRefusal.TheVariants as refusal
-use Rattle.snap_debug_commands.specs.CommandForms.{keyword_form, number_form, numbers_form, place_form, bit_form}
-use Rattle.snap_debug_commands.specs.CommandForms.{address_form, breakpoint_form, register_form, moving_form}
-use Rattle.snap_debug_commands.specs.CommandForms.{marking_form, showing_form, command_form, spelled_command}
+use Rattle.snap_debug_commands.specs.CommandForms.{spelled_command}
 use Rattle.snap_debug_commands.specs.Commands.{commands_of}
 use Rattle.snap_debug_commands.specs.FaultText.{fault_text}
 use Rattle.snap_debug_commands.specs.declared.command.Breakpoint.{Breakpoint}
 use Rattle.snap_debug_commands.specs.declared.command.Command.TheVariants as command
+use Rattle.snap_debug_commands.proofs.OnLiterals.{commands_on_literals}
 
 abbrev word_at : ℕ → Address
 word_at k = record { bank = bank.R; i = k; j = 0 }
@@ -28,8 +27,7 @@ line_of process line = record { process = process; line = line }
 moves_read : commands_of (codes "watch r 2\nrun # on\n\n rrun\nback 1\r\n\tgoto 0\nstep 18446744073709551615")
     ≡ Ok (command.Watch (word_at 2) ∷ command.Run ∷ command.ReverseRun ∷ command.Back 1 ∷ command.Goto 0
     ∷ command.Step 18446744073709551615 ∷ [])
-unfolding keyword_form number_form numbers_form place_form bit_form address_form breakpoint_form register_form
-    moving_form marking_form showing_form command_form
+unfolding commands_on_literals
 moves_read = refl
 
 -- what is shown, and marks; nothing need be there
@@ -40,8 +38,7 @@ marks_read : commands_of (codes
     ∷ command.Break (line_of 1 23) ∷ command.Clear (line_of 17 0)
     ∷ command.Watch (record { bank = bank.Q; i = 1; j = 2 })
     ∷ command.Unwatch (record { bank = bank.P; i = 2; j = 1 }) ∷ command.Step 0 ∷ [])
-unfolding keyword_form number_form numbers_form place_form bit_form address_form breakpoint_form register_form
-    moving_form marking_form showing_form command_form
+unfolding commands_on_literals
 marks_read = refl
 
 none_read : (commands_of [] ≡ Ok []) × (commands_of (codes "\n # run\n\n") ≡ Ok [])
@@ -54,8 +51,7 @@ no_tokens :
     × (commands_of (codes "goto 18446744073709551616") ≡ Err (refusal.BadCommand 1))
     × (commands_of (codes "\nrun\n$\n") ≡ Err (refusal.BadCommand 3))
     × (commands_of (codes "run $ # on") ≡ Err (refusal.BadCommand 1))
-unfolding keyword_form number_form numbers_form place_form bit_form address_form breakpoint_form register_form
-    moving_form marking_form showing_form command_form
+unfolding commands_on_literals
 no_tokens = (refl, refl, refl, refl, refl)
 
 -- tokens that fit no form
@@ -71,8 +67,7 @@ no_form :
     × (commands_of (codes "break 1") ≡ Err (refusal.BadCommand 1))
     × (commands_of (codes "break 1, 10") ≡ Err (refusal.BadCommand 1))
     × (commands_of (codes "where\nrun run\n") ≡ Err (refusal.BadCommand 2))
-unfolding keyword_form number_form numbers_form place_form bit_form address_form breakpoint_form register_form
-    moving_form marking_form showing_form command_form
+unfolding commands_on_literals
 no_form = (refl, refl, refl, refl, refl, refl, refl, refl, refl, refl, refl)
 
 -- how commands are written
@@ -101,6 +96,5 @@ too_many :
     × (commands_of (runs_and 10000 (codes "where")) ≡ Err refusal.TooLong)
     × (commands_of (runs_and 9999 (codes "$")) ≡ Err (refusal.BadCommand 10000))
     × (commands_of (runs_and 10000 (codes "# $\n\n")) ≡ Ok (replicate 10000 command.Run))
-unfolding keyword_form number_form numbers_form place_form bit_form address_form breakpoint_form register_form
-    moving_form marking_form showing_form command_form
+unfolding commands_on_literals
 too_many = (refl, refl, refl, refl)

@@ -11,8 +11,8 @@ use Rattle.snap_image.specs.ImageCodes.{of_code, versions, version_code}
 use Rattle.snap_image.specs.ImageForms.{Rest, Read, byte_in, short_in, flag_in}
 use Rattle.snap_image.specs.ImageListing.{known_version, version_in, comment_byte_in, comment_bytes_in}
 use Rattle.snap_image.specs.ImageListing.{some_comment_in, comment_in, behind_line_in}
-use Rattle.snap_image.proofs.AgainForms.{two, flag_again}
-use Rattle.snap_image.proofs.AgainParts.{Gives, then_gives, byte_again, short_again, known_again}
+use Rattle.snap_image.proofs.AgainForms.{flag_again}
+use Rattle.snap_image.proofs.AgainParts.{regrouped, Gives, then_gives, byte_again, short_again, known_again}
 use Rattle.snap_image.proofs.SaidComments.{IsSayable}
 
 version_coded : (v : ImageVersion) → of_code versions (version_code v) ≡ Some v
@@ -52,7 +52,7 @@ comment_again (Some xs) after r h e =
     then_gives true _ (flag_in r) _ (Some xs) after
     (flag_again true 1 ((to_be_bytes w16 (length xs) ++ xs) ++ after) r refl e) (λ t p.
     then_gives (length xs) (xs ++ after) (short_in t) _ (Some xs) after
-    (short_again (length xs) small (xs ++ after) t (two (to_be_bytes w16 (length xs)) xs after t.bytes p)) (λ u q.
+    (short_again (length xs) small (xs ++ after) t (regrouped (to_be_bytes w16 (length xs)) xs after t.bytes p)) (λ u q.
     then_gives xs after (comment_bytes_in (length xs) u) _ (Some xs) after
     (comment_bytes_again xs after u h.1 q) (λ w s. (w, refl, s))))
 

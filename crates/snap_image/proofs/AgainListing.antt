@@ -34,9 +34,9 @@ use Rattle.snap_semantics.specs.Uses.{is_among}
 use Rattle.snap_image.specs.Widths.{HasShortTargets, HasShortNumbers}
 use Rattle.snap_image.specs.Laws.{DecodesAllImages, RefusesMore}
 use Rattle.snap_image.proofs.AgainComments.{version_again, behind_again}
-use Rattle.snap_image.proofs.AgainForms.{head, two}
+use Rattle.snap_image.proofs.AgainForms.{head}
 use Rattle.snap_image.proofs.AgainInstrs.{instr_again}
-use Rattle.snap_image.proofs.AgainParts.{Gives, then_gives, then_done, gives_if}
+use Rattle.snap_image.proofs.AgainParts.{regrouped, Gives, then_gives, then_done, gives_if}
 use Rattle.snap_image.proofs.AgainParts.{byte_again, short_again, code_again}
 use Rattle.snap_image.proofs.SaidComments.{IsSayable}
 use Rattle.snap_image.proofs.Shorts.{short_number, short_lines}
@@ -104,9 +104,9 @@ lines_again g v place last (x ∷ xs) (c ∷ cs) after r h e =
     let y : List Line × List Comment = (x ∷ xs, c ∷ cs) in
     then_gives x _ (line_in (head g) v place last r) _ y after
     (line_again g v place last x _ r h.lines.0 h.numbers.0 h.rising.0 h.shorts.0.1
-    (two (line_image g x) (behind ++ others) after r.bytes e)) (λ a p.
+    (regrouped (line_image g x) (behind ++ others) after r.bytes e)) (λ a p.
     then_gives c _ (behind_line_in v a) _ y after
-    (behind_again v c _ a h.comments.0 h.sayable.0 (two behind others after a.bytes p)) (λ b q.
+    (behind_again v c _ a h.comments.0 h.sayable.0 (regrouped behind others after a.bytes p)) (λ b q.
     then_gives (xs, cs) after (lines_in (head g) v (length xs) (place + 1) x.number b) _ y after
     (lines_again g v (place + 1) x.number xs cs after b later q) (λ d s. (d, refl, s))))
 
@@ -285,14 +285,15 @@ head_again v g h after bytes e =
     (then_gives v _ (version_in opened.0) _ y after (version_again v _ opened.0 opened.2) (λ w ew.
     then_gives g.kind _ (code_in kinds w) _ y after (code_again kinds g.kind (kind_coded g.kind) _ w ew) (λ r0 e0.
     then_gives a _ (table_in [] r0) _ y after (table_again [] a _ r0 t.scalars.1 s.distinct_scalars s.few_scalars
-    (two (table_image a) _ _ _ e0)) (λ r1 e1.
+    (regrouped (table_image a) _ _ _ e0)) (λ r1 e1.
     then_gives b _ (table_in a r1) _ y after
-    (table_again a b _ r1 t.rows.1 s.distinct_rows s.few_rows (two (table_image b) _ _ _ e1))
+    (table_again a b _ r1 t.rows.1 s.distinct_rows s.few_rows (regrouped (table_image b) _ _ _ e1))
     (λ r2 e2.
     then_gives c _ (table_in (a ++ b) r2) _ y after
-    (table_again (a ++ b) c _ r2 t.words.1 s.distinct_words s.few_words (two (table_image c) _ _ _ e2)) (λ r3 e3.
+    (table_again (a ++ b) c _ r2 t.words.1 s.distinct_words s.few_words (regrouped (table_image c) _ _ _ e2)) (λ r3 e3.
     then_gives d _ (table_in (a ++ (b ++ c)) r3) _ y after
-    (table_again (a ++ (b ++ c)) d _ r3 t.views.1 s.distinct_views s.few_views (two (table_image d) _ _ _ e3)) (λ r4 e4.
+    (table_again (a ++ (b ++ c)) d _ r3 t.views.1 s.distinct_views s.few_views
+    (regrouped (table_image d) _ _ _ e3)) (λ r4 e4.
     then_gives g.scan _ (short_in r4) _ y after (short_again g.scan (short_number g.scan h.scan) _ r4 e4) (λ r5 e5.
     then_gives g.update _ (short_in r5) _ y after
     (short_again g.update (short_number g.update h.update) _ r5 e5) (λ r6 e6.

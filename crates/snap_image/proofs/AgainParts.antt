@@ -1,7 +1,7 @@
 -- What an image says is read from it again: bytes, numbers, codes and slots.
 use Rattle.std.proofs.Common.{◌≡◌, ℕ, ◌+◌, ◌<◌, ◌≤◌, ◌^◌, suc, Bool, true, false, ◌||◌, List, [], ◌∷◌, ◌++◌, length}
 use Rattle.std.proofs.Common.{take, drop, Option, Some, Result, Ok, Err, bytes_eq, nat_le}
-use Rattle.std.proofs.Common.{if◌then◌else◌, refl, sym, ap, ◌∙◌, subst, arith}
+use Rattle.std.proofs.Common.{if◌then◌else◌, refl, sym, ap, ◌∙◌, subst, arith, append_assoc}
 use Rattle.std.proofs.lemmas.List.{length-append}
 use Rattle.std.proofs.lemmas.Nat.{from_be_bytes-to_be_bytes_2, from_be_bytes-to_be_bytes_8}
 use Rattle.std.proofs.Math.Seq.{take-append_seam, drop-append_seam}
@@ -15,6 +15,7 @@ use Rattle.snap_semantics.specs.declared.text.Sort.TheVariants as sort
 use Rattle.snap_semantics.specs.Answers.{◌>>=◌, refused_as}
 use Rattle.snap_image.specs.Image.{slot}
 use Rattle.snap_image.specs.ImageCodes.{Codes, of_code}
+use Rattle.snap_image.specs.ImageForms.{of_one, of_two, of_three, of_four}
 use Rattle.snap_image.specs.ImageForms.{Rest, Read, byte_from, byte_in, bytes_in, short_in, long_in}
 use Rattle.snap_image.specs.ImageForms.{known_code, code_in, known_name, slot_in, allowed}
 use Rattle.snap_semantics.specs.RightUses.{IsRight}
@@ -31,6 +32,45 @@ Gives {A} m x after = (r : Rest) × (m ≡ Ok (x, r)) × (r.bytes ≡ after)
 pub then_gives : {A B : Type 0} (x : A) (mid : List ℕ) (m : Read A) (f : (A × Rest) → Read B) (y : B) (after : List ℕ) →
     Gives m x mid → ((r : Rest) → r.bytes ≡ mid → Gives (f (x, r)) y after) → Gives (m >>= f) y after
 then_gives {A} x mid m f y after g h = subst (λ (n : Read A). Gives (n >>= f) y after) (sym g.1) (h g.0 g.2)
+
+-- bytes behind two parts
+pub regrouped : (x y after z : List ℕ) → z ≡ (x ++ y) ++ after → z ≡ x ++ (y ++ after)
+regrouped x y after z e = e ∙ append_assoc x y after
+
+-- a part that a rule reads again
+pub record Again {A : Type 0} (x : A) (image : List ℕ) (read : Rest → Read A) : Type 0 where
+  pub again : (after : List ℕ) (r : Rest) → r.bytes ≡ image ++ after → Gives (read r) x after
+
+-- what is made of one part, and of so many that stand behind one another
+pub of_one_again : {A X : Type 0} {x : A} {xs : List ℕ} {f : Rest → Read A} (make : A → X) → Again x xs f →
+    (after : List ℕ) (r : Rest) → r.bytes ≡ xs ++ after → Gives (of_one f make r) (make x) after
+of_one_again {A} {X} {x} {xs} {f} make h after r e =
+    then_gives x after (f r) _ (make x) after (h.again after r e) (λ t p. (t, refl, p))
+
+pub of_two_again : {A B X : Type 0} {x : A} {y : B} {xs ys : List ℕ} {f : Rest → Read A} {g : Rest → Read B}
+    (make : A → B → X) → Again x xs f → Again y ys g → (after : List ℕ) (r : Rest) →
+    r.bytes ≡ (xs ++ ys) ++ after → Gives (of_two f g make r) (make x y) after
+of_two_again {A} {B} {X} {x} {y} {xs} {ys} {f} {g} make h k after r e =
+    then_gives x (ys ++ after) (f r) _ (make x y) after (h.again (ys ++ after) r (regrouped xs ys after _ e))
+    (λ t p. of_one_again (make x) k after t p)
+
+pub of_three_again : {A B C X : Type 0} {x : A} {y : B} {z : C} {xs ys zs : List ℕ} {f : Rest → Read A}
+    {g : Rest → Read B} {i : Rest → Read C} (make : A → B → C → X) → Again x xs f → Again y ys g → Again z zs i →
+    (after : List ℕ) (r : Rest) → r.bytes ≡ (xs ++ (ys ++ zs)) ++ after →
+    Gives (of_three f g i make r) (make x y z) after
+of_three_again {A} {B} {C} {X} {x} {y} {z} {xs} {ys} {zs} {f} {g} {i} make h k l after r e =
+    let more = (ys ++ zs) ++ after in
+    then_gives x more (f r) _ (make x y z) after (h.again more r (regrouped xs (ys ++ zs) after _ e))
+    (λ t p. of_two_again (make x) k l after t p)
+
+pub of_four_again : {A B C D X : Type 0} {x : A} {y : B} {z : C} {w : D} {xs ys zs ws : List ℕ} {f : Rest → Read A}
+    {g : Rest → Read B} {i : Rest → Read C} {j : Rest → Read D} (make : A → B → C → D → X) → Again x xs f →
+    Again y ys g → Again z zs i → Again w ws j → (after : List ℕ) (r : Rest) →
+    r.bytes ≡ (xs ++ (ys ++ (zs ++ ws))) ++ after → Gives (of_four f g i j make r) (make x y z w) after
+of_four_again {A} {B} {C} {D} {X} {x} {y} {z} {w} {xs} {ys} {zs} {ws} {f} {g} {i} {j} make h k l o after r e =
+    let more = (ys ++ (zs ++ ws)) ++ after in
+    then_gives x more (f r) _ (make x y z w) after (h.again more r (regrouped xs (ys ++ (zs ++ ws)) after _ e))
+    (λ t p. of_three_again (make x) k l o after t p)
 
 -- a test that is passed
 pub then_done : {A B : Type 0} (x : A) (m : Result A ImageRefusal) (f : A → Read B) (y : B) (after : List ℕ) →
@@ -66,12 +106,15 @@ short_again k small after r e =
     then_gives (to_be_bytes w16 k) after (bytes_in 2 r) _ k after (bytes_again 2 (to_be_bytes w16 k) after r refl e)
     (λ t h. (t, ap (λ (n : ℕ). let a : Read ℕ = Ok (n, t) in a) (from_be_bytes-to_be_bytes_2 k small), h))
 
-pub long_again : (k : ℕ) → k < 2 ^ 64 → (after : List ℕ) (r : Rest) →
+long_again : (k : ℕ) → k < 2 ^ 64 → (after : List ℕ) (r : Rest) →
     r.bytes ≡ to_be_bytes w64 k ++ after → Gives (long_in r) k after
 unfolding long_in
 long_again k small after r e =
     then_gives (to_be_bytes w64 k) after (bytes_in 8 r) _ k after (bytes_again 8 (to_be_bytes w64 k) after r refl e)
     (λ t h. (t, ap (λ (n : ℕ). let a : Read ℕ = Ok (n, t) in a) (from_be_bytes-to_be_bytes_8 k small), h))
+
+pub a_long : (k : ℕ) → k < 2 ^ 64 → Again k (to_be_bytes w64 k) long_in
+a_long k small = record { again = λ after r e. long_again k small after r e }
 
 pub known_again : {A : Type 0} (at : ℕ) (r : Rest) (o : Option A) (x : A) (after : List ℕ) → o ≡ Some x →
     r.bytes ≡ after → Gives (known_code at r o) x after
@@ -83,6 +126,10 @@ unfolding code_in
 code_again codes x coded after r e =
     then_gives (codes.code x) after (byte_in r) _ x after (byte_again (codes.code x) after r e)
     (λ t h. known_again r.passed t (of_code codes (codes.code x)) x after coded h)
+
+pub a_code : {A : Type 0} (codes : Codes A) (x : A) → of_code codes (codes.code x) ≡ Some x →
+    Again x (codes.code x ∷ []) (code_in codes)
+a_code codes x coded = record { again = λ after r e. code_again codes x coded after r e }
 
 slot_by : (n : Name) (ns : List Name) (x : Name) (b : Bool) → bytes_eq x n ≡ b → (b || is_among x ns) ≡ true →
     (is_among x ns ≡ true → slice_get ns (slot ns x) ≡ Some x) →
@@ -132,30 +179,33 @@ sorted_view false true c false e = absurd cc
 sorted_view false false true false e = absurd cc
 sorted_view false false false false e = absurd cc
 
-pub scalar_again : (g : Source) (line : ℕ) (x : Name) (after : List ℕ) (r : Rest) → IsRight g (scalar x) →
-    r.bytes ≡ slot g.scalars x ∷ after →
-    Gives (slot_in line g.scalars r) x after
-scalar_again g line x after r right e =
-    slot_again g.scalars line x after r (sorted_scalar (is_among x g.scalars) (is_among x g.rows) (is_among x g.words)
-    (is_among x g.views) right) e
+-- the names of each sort
+pub a_scalar : (g : Source) (line : ℕ) (x : Name) → IsRight g (scalar x) →
+    Again x (slot g.scalars x ∷ []) (slot_in line g.scalars)
+a_scalar g line x right = record {
+  again = λ after r e. slot_again g.scalars line x after r (sorted_scalar (is_among x g.scalars) (is_among x g.rows)
+      (is_among x g.words) (is_among x g.views) right) e;
+}
 
-pub row_again : (g : Source) (line : ℕ) (x : Name) (after : List ℕ) (r : Rest) → IsRight g (row x) →
-    r.bytes ≡ slot g.rows x ∷ after → Gives (slot_in line g.rows r) x after
-row_again g line x after r right e =
-    slot_again g.rows line x after r (sorted_row (is_among x g.scalars) (is_among x g.rows) (is_among x g.words)
-    (is_among x g.views) right) e
+pub a_row : (g : Source) (line : ℕ) (x : Name) → IsRight g (row x) → Again x (slot g.rows x ∷ []) (slot_in line g.rows)
+a_row g line x right = record {
+  again = λ after r e. slot_again g.rows line x after r (sorted_row (is_among x g.scalars) (is_among x g.rows)
+      (is_among x g.words) (is_among x g.views) right) e;
+}
 
-pub words_again : (g : Source) (line : ℕ) (x : Name) (after : List ℕ) (r : Rest) → IsRight g (words x) →
-    r.bytes ≡ slot g.words x ∷ after → Gives (slot_in line g.words r) x after
-words_again g line x after r right e =
-    slot_again g.words line x after r (sorted_words (is_among x g.scalars) (is_among x g.rows) (is_among x g.words)
-    (is_among x g.views) right) e
+pub some_words : (g : Source) (line : ℕ) (x : Name) → IsRight g (words x) →
+    Again x (slot g.words x ∷ []) (slot_in line g.words)
+some_words g line x right = record {
+  again = λ after r e. slot_again g.words line x after r (sorted_words (is_among x g.scalars) (is_among x g.rows)
+      (is_among x g.words) (is_among x g.views) right) e;
+}
 
-pub view_again : (g : Source) (line : ℕ) (x : Name) (after : List ℕ) (r : Rest) → IsRight g (view x) →
-    r.bytes ≡ slot g.views x ∷ after → Gives (slot_in line g.views r) x after
-view_again g line x after r right e =
-    slot_again g.views line x after r (sorted_view (is_among x g.scalars) (is_among x g.rows) (is_among x g.words)
-    (is_among x g.views) right) e
+pub a_view : (g : Source) (line : ℕ) (x : Name) → IsRight g (view x) →
+    Again x (slot g.views x ∷ []) (slot_in line g.views)
+a_view g line x right = record {
+  again = λ after r e. slot_again g.views line x after r (sorted_view (is_among x g.scalars) (is_among x g.rows)
+      (is_among x g.words) (is_among x g.views) right) e;
+}
 
 -- what each line of a listing speaks of
 abbrev pub Right : Source → List Use → Type 0

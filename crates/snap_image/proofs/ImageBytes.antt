@@ -93,28 +93,7 @@ field_is_byte field.Id = omega arith
 
 form_is_byte : (f : InstrTag) → IsByte (instr_code f)
 form_is_byte tag.Let = omega arith
-form_is_byte tag.LetPlace = omega arith
-form_is_byte tag.Get = omega arith
-form_is_byte tag.BitQ = omega arith
-form_is_byte tag.BitP = omega arith
-form_is_byte tag.Look = omega arith
-form_is_byte tag.PutSeq = omega arith
-form_is_byte tag.PutBits = omega arith
-form_is_byte tag.PutMulti = omega arith
-form_is_byte tag.PutQ = omega arith
-form_is_byte tag.PutP = omega arith
-form_is_byte tag.PutView = omega arith
-form_is_byte tag.ViewData = omega arith
-form_is_byte tag.ViewOf = omega arith
-form_is_byte tag.Each = omega arith
-form_is_byte tag.First = omega arith
-form_is_byte tag.Next = omega arith
-form_is_byte tag.If = omega arith
-form_is_byte tag.IfAll = omega arith
-form_is_byte tag.Goto = omega arith
-form_is_byte tag.Call = omega arith
-form_is_byte tag.Return = omega arith
-form_is_byte tag.Finish = omega arith
+form_is_byte _ = omega arith
 
 index_bytes : (g : Source) → Tables g → (i : Index) → AreBytes (index_image g i)
 index_bytes g tables (index.Number k) = (omega arith, long_bytes k)

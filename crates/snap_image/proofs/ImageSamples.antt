@@ -14,11 +14,9 @@ use Rattle.snap_semantics.specs.declared.refusal.ImageRefusal.TheVariants.{BadCo
 use Rattle.snap_semantics.specs.declared.refusal.ListingRefusal.TheVariants as refusal
 use Rattle.snap_semantics.specs.Comments.{Commented, uncommented}
 use Rattle.snap_image.specs.Image.{image_in, image_of, line_image}
-use Rattle.snap_image.specs.ImageForms as reading
-use Rattle.snap_image.specs.ImageInstrs as instrs
-use Rattle.snap_image.specs.ImageListing as images
 use Rattle.snap_image.specs.ImageListing.{commented_in, listing_of_image}
 use Rattle.snap_semantics.specs.Source.{Source}
+use Rattle.snap_image.proofs.OnLiterals.{images_on_literals}
 
 abbrev pub small : Source
 small = record {
@@ -64,17 +62,7 @@ image_read :
     × (listing_of_image (83 ∷ 78 ∷ 65 ∷ 80 ∷ 9 ∷ drop 5 first_image) ≡ Err Version)
     × (listing_of_image (83 ∷ 78 ∷ 65 ∷ 80 ∷ 1 ∷ 3 ∷ drop 6 first_image) ≡ Err (BadCode 5))
     × (listing_of_image (take 13 first_image ++ 7 ∷ drop 14 first_image) ≡ Err (Invalid (refusal.NoSuchLine 7)))
-unfolding reading.short_in reading.long_in reading.code_in reading.slot_in reading.number_index reading.scalar_index
-    reading.index_in reading.row_term reading.field_term reading.handshake_term reading.index_term reading.term_in
-    reading.plain_expr reading.sum_expr reading.not_expr reading.expr_in reading.comparison_in reading.two_in
-    reading.three_in reading.four_in reading.one_in reading.count_in reading.condition_in reading.flag_in
-    reading.where_of_flag reading.where_in instrs.let_in instrs.let_place_in instrs.get_in instrs.bit_in
-    instrs.look_in instrs.put_seq_in instrs.put_bits_in instrs.put_multi_in instrs.put_bit_in instrs.put_view_in
-    instrs.view_data_in instrs.view_of_in instrs.each_in instrs.first_in instrs.next_in instrs.if_in instrs.if_all_in
-    instrs.goto_in instrs.call_in instrs.return_in instrs.instr_in images.version_in images.letters_in
-    images.length_in images.name_in images.names_in images.table_in images.line_count_in images.head_in
-    images.comment_byte_in images.comment_bytes_in images.some_comment_in images.comment_in images.line_in
-    images.lines_in images.commented_in images.listing_of_image
+unfolding images_on_literals
 image_read = (refl, refl, refl, refl, refl, refl, refl, refl, refl, refl)
 
 -- The first version's bytes as the second version's, and the other way round; a byte too many; a byte that says
@@ -88,17 +76,7 @@ versions_apart :
     × (commented_in (take 33 done_image) ≡ Err Truncated)
     × (commented_in (take 29 done_image ++ 10 ∷ drop 30 done_image) ≡ Err (BadCode 29))
     × (listing_of_image (take 22 first_image ++ 3 ∷ 232 ∷ drop 24 first_image) ≡ Err (Invalid (refusal.BadLine 2)))
-unfolding reading.short_in reading.long_in reading.code_in reading.slot_in reading.number_index reading.scalar_index
-    reading.index_in reading.row_term reading.field_term reading.handshake_term reading.index_term reading.term_in
-    reading.plain_expr reading.sum_expr reading.not_expr reading.expr_in reading.comparison_in reading.two_in
-    reading.three_in reading.four_in reading.one_in reading.count_in reading.condition_in reading.flag_in
-    reading.where_of_flag reading.where_in instrs.let_in instrs.let_place_in instrs.get_in instrs.bit_in
-    instrs.look_in instrs.put_seq_in instrs.put_bits_in instrs.put_multi_in instrs.put_bit_in instrs.put_view_in
-    instrs.view_data_in instrs.view_of_in instrs.each_in instrs.first_in instrs.next_in instrs.if_in instrs.if_all_in
-    instrs.goto_in instrs.call_in instrs.return_in instrs.instr_in images.version_in images.letters_in
-    images.length_in images.name_in images.names_in images.table_in images.line_count_in images.head_in
-    images.comment_byte_in images.comment_bytes_in images.some_comment_in images.comment_in images.line_in
-    images.lines_in images.commented_in images.listing_of_image
+unfolding images_on_literals
 versions_apart = (refl, refl, refl, refl, refl, refl, refl)
 
 -- one comparison has the join `and`: another is no code there
@@ -129,17 +107,7 @@ if_source = record {
 
 joins_read : (image_in version.First (uncommented if_source) ≡ if_image) × (listing_of_image if_image ≡ Ok if_source)
     × (listing_of_image join_of_one ≡ Err (BadCode 20))
-unfolding reading.short_in reading.long_in reading.code_in reading.slot_in reading.number_index reading.scalar_index
-    reading.index_in reading.row_term reading.field_term reading.handshake_term reading.index_term reading.term_in
-    reading.plain_expr reading.sum_expr reading.not_expr reading.expr_in reading.comparison_in reading.two_in
-    reading.three_in reading.four_in reading.one_in reading.count_in reading.condition_in reading.flag_in
-    reading.where_of_flag reading.where_in instrs.let_in instrs.let_place_in instrs.get_in instrs.bit_in
-    instrs.look_in instrs.put_seq_in instrs.put_bits_in instrs.put_multi_in instrs.put_bit_in instrs.put_view_in
-    instrs.view_data_in instrs.view_of_in instrs.each_in instrs.first_in instrs.next_in instrs.if_in instrs.if_all_in
-    instrs.goto_in instrs.call_in instrs.return_in instrs.instr_in images.version_in images.letters_in
-    images.length_in images.name_in images.names_in images.table_in images.line_count_in images.head_in
-    images.comment_byte_in images.comment_bytes_in images.some_comment_in images.comment_in images.line_in
-    images.lines_in images.commented_in images.listing_of_image
+unfolding images_on_literals
 joins_read = (refl, refl, refl)
 
 -- two lines of listing U

@@ -1,5 +1,4 @@
 -- The proofs of snap_image, by their modules.
-pub mod FormNeeds
 pub mod Heads
 pub mod ImageSamples
 pub mod CommentSamples
@@ -23,4 +22,5 @@ pub mod CommentBytes
 pub mod Exact
 pub mod LineSteps
 pub mod Names
+pub mod OnLiterals
 pub mod Opened

@@ -12,7 +12,8 @@ use Rattle.snap_semantics.specs.declared.text.Sort.{Sort}
 use Rattle.snap_semantics.specs.Answers.{◌>>=◌}
 use Rattle.snap_image.specs.Image.{slot}
 use Rattle.snap_image.specs.ImageCodes.{Codes, coded, of_code}
-use Rattle.snap_image.specs.ImageForms.{Rest, byte_from, byte_in, bytes_in, short_in, long_in, known_code}
+use Rattle.snap_image.specs.ImageForms.{of_one, of_two, of_three, of_four}
+use Rattle.snap_image.specs.ImageForms.{Rest, Read, byte_from, byte_in, bytes_in, short_in, long_in, known_code}
 use Rattle.snap_image.specs.ImageForms.{code_in, known_name, slot_in}
 use Rattle.snap_semantics.specs.RightUses.{IsRight}
 use Rattle.snap_semantics.specs.Source.{Name, Source}
@@ -48,6 +49,38 @@ pub holds_if : {A : Type 0} (P : A → Type 0) (b : Bool) (r t : Result A ImageR
     (b ≡ false → Holds P t) → Holds P (if b then r else t)
 holds_if P true r t g h = g refl
 holds_if P false r t g h = h refl
+
+-- what a rule reads, it says
+pub record Says {A : Type 0} (P : Rest → (A × Rest) → Type 0) (read : Rest → Read A) : Type 0 where
+  pub said : (r : Rest) → Holds (P r) (read r)
+
+-- what is made of one part, and of so many that stand behind one another
+pub of_one_said : {A X : Type 0} {P : Rest → (A × Rest) → Type 0} {f : Rest → Read A} (O : (X × Rest) → Type 0)
+    (make : A → X) → Says P f → (r : Rest) → ((a : A × Rest) → P r a → O (make a.0, a.1)) → Holds O (of_one f make r)
+of_one_said {A} {X} {P} {f} O make p r h = then_with (P r) O (f r) _ (p.said r) h
+
+pub of_two_said : {A B X : Type 0} {P : Rest → (A × Rest) → Type 0} {Q : Rest → (B × Rest) → Type 0} {f : Rest → Read A}
+    {g : Rest → Read B} (O : (X × Rest) → Type 0) (make : A → B → X) → Says P f → Says Q g → (r : Rest) →
+    ((a : A × Rest) → P r a → (b : B × Rest) → Q a.1 b → O (make a.0 b.0, b.1)) → Holds O (of_two f g make r)
+of_two_said {A} {B} {X} {P} {Q} {f} {g} O make p q r h =
+    then_with (P r) O (f r) _ (p.said r) (λ a pa. of_one_said O (make a.0) q a.1 (h a pa))
+
+pub of_three_said : {A B C X : Type 0} {P : Rest → (A × Rest) → Type 0} {Q : Rest → (B × Rest) → Type 0}
+    {R : Rest → (C × Rest) → Type 0} {f : Rest → Read A} {g : Rest → Read B} {i : Rest → Read C}
+    (O : (X × Rest) → Type 0) (make : A → B → C → X) → Says P f → Says Q g → Says R i → (r : Rest) →
+    ((a : A × Rest) → P r a → (b : B × Rest) → Q a.1 b → (c : C × Rest) → R b.1 c → O (make a.0 b.0 c.0, c.1)) →
+    Holds O (of_three f g i make r)
+of_three_said {A} {B} {C} {X} {P} {Q} {R} {f} {g} {i} O make p q s r h =
+    then_with (P r) O (f r) _ (p.said r) (λ a pa. of_two_said O (make a.0) q s a.1 (h a pa))
+
+pub of_four_said : {A B C D X : Type 0} {P : Rest → (A × Rest) → Type 0} {Q : Rest → (B × Rest) → Type 0}
+    {R : Rest → (C × Rest) → Type 0} {S : Rest → (D × Rest) → Type 0} {f : Rest → Read A} {g : Rest → Read B}
+    {i : Rest → Read C} {j : Rest → Read D} (O : (X × Rest) → Type 0) (make : A → B → C → D → X) → Says P f →
+    Says Q g → Says R i → Says S j → (r : Rest) → ((a : A × Rest) → P r a → (b : B × Rest) → Q a.1 b →
+    (c : C × Rest) → R b.1 c → (d : D × Rest) → S c.1 d → O (make a.0 b.0 c.0 d.0, d.1)) →
+    Holds O (of_four f g i j make r)
+of_four_said {A} {B} {C} {D} {X} {P} {Q} {R} {S} {f} {g} {i} {j} O make p q s t r h =
+    then_with (P r) O (f r) _ (p.said r) (λ a pa. of_three_said O (make a.0) q s t a.1 (h a pa))
 
 -- What the bytes `before` say: `said`, with `after` behind it, in a form that can be said; what it
 -- speaks of is right in the listing.
@@ -149,6 +182,9 @@ code_is codes r =
     then_with (ByteIs r) (CodeIs codes r) (byte_in r) _ (byte_is r)
     (λ b e. known_is codes r b.1 b.0 (of_code codes b.0) e (coded_is codes.code codes.all b.0))
 
+pub a_code : {A : Type 0} (codes : Codes A) → Says (CodeIs codes) (code_in codes)
+a_code codes = record { said = λ r. code_is codes r }
+
 -- what the names of a sort give for a slot
 abbrev pub HasSlots : Source → List Name → Sort → Type 0
 HasSlots s names wanted =
@@ -242,7 +278,7 @@ below_64 bs small =
 abbrev pub LongIs : Source → Rest → (ℕ × Rest) → Type 0
 LongIs s r x = Part s r.bytes (to_be_bytes w64 x.0) x.1.bytes [] (x.0 < 2 ^ 64)
 
-pub long_is : (s : Source) (r : Rest) → Holds (LongIs s r) (long_in r)
+long_is : (s : Source) (r : Rest) → Holds (LongIs s r) (long_in r)
 unfolding long_in
 long_is s r =
     then_with (BytesAre 8 r) (LongIs s r) (bytes_in 8 r) _ (bytes_are 8 r) (λ x h. record {
@@ -253,3 +289,6 @@ long_is s r =
           (h.1 ∙ ap (λ (z : List ℕ). z ++ x.1.bytes) (sym w), t.1, below_64 x.0 (small_at x.0 t.0));
       uses = tt;
     })
+
+pub a_long : (s : Source) → Says (LongIs s) long_in
+a_long s = record { said = λ r. long_is s r }

@@ -11,13 +11,16 @@ use Rattle.snap_image.specs.declared.image.TermTag.{TermTag}
 use Rattle.snap_image.specs.declared.image.TermTag.TheVariants as tag
 use Rattle.snap_semantics.specs.declared.instr.Comparison.{Comparison}
 use Rattle.snap_semantics.specs.declared.instr.Condition.{Condition}
+use Rattle.snap_semantics.specs.declared.instr.Condition.TheVariants.{One, Two, Three, Four}
 use Rattle.snap_semantics.specs.declared.instr.Expr.{Expr}
+use Rattle.snap_semantics.specs.declared.instr.Expr.TheVariants as expr
 use Rattle.snap_semantics.specs.declared.instr.Index.{Index}
 use Rattle.snap_semantics.specs.declared.instr.Index.TheVariants as index
 use Rattle.snap_semantics.specs.declared.instr.Join.{Join}
 use Rattle.snap_semantics.specs.declared.instr.Join.TheVariants.{And, Or}
 use Rattle.snap_semantics.specs.declared.instr.Line.{Line}
 use Rattle.snap_semantics.specs.declared.instr.Term.{Term}
+use Rattle.snap_semantics.specs.declared.instr.Term.TheVariants as term
 use Rattle.snap_semantics.specs.declared.refusal.ImageRefusal.{ImageRefusal}
 use Rattle.snap_semantics.specs.declared.refusal.ImageRefusal.TheVariants.{Invalid}
 use Rattle.snap_semantics.specs.declared.refusal.ListingRefusal.{ListingRefusal}
@@ -28,7 +31,7 @@ use Rattle.snap_image.specs.Image.{index_image, field_tag, term_image, expr_imag
 use Rattle.snap_image.specs.Image.{condition_image, where_image}
 use Rattle.snap_image.specs.ImageCodes.{terms, exprs, relations, joins, term_code}
 use Rattle.snap_image.specs.ImageCodes.{expr_code, relation_code, join_code}
-use Rattle.snap_image.specs.ImageForms.{Rest, byte_in, long_in, known_code, code_in, slot_in, allowed}
+use Rattle.snap_image.specs.ImageForms.{Rest, byte_in, known_code, code_in, slot_in, allowed}
 use Rattle.snap_image.specs.ImageForms.{number_index, scalar_index, index_of_tag, index_in, row_term}
 use Rattle.snap_image.specs.ImageForms.{field_term, handshake_term, index_term, term_of_tag, term_in}
 use Rattle.snap_image.specs.ImageForms.{plain_expr, sum_expr, not_expr, expr_of_tag, expr_in, comparison_in}
@@ -39,9 +42,10 @@ use Rattle.snap_semantics.specs.Listing.{with_lines}
 use Rattle.snap_semantics.specs.Source.{Source}
 use Rattle.snap_semantics.specs.Uses.{Use, FieldUse, HandshakeUse, index_uses, term_uses, expr_uses, comparison_uses}
 use Rattle.snap_semantics.specs.Uses.{condition_uses, where_uses}
+use Rattle.snap_image.proofs.Parts.{Says, of_one_said, of_two_said, of_three_said, of_four_said, a_code}
 use Rattle.snap_image.proofs.Parts.{Holds, then_with, holds_as, holds_if, Part, both, reformed, skip, three_of}
 use Rattle.snap_image.proofs.Parts.{four_of, none, spoken_of, one_byte, ByteIs, byte_is, CodeIs, code_is}
-use Rattle.snap_image.proofs.Parts.{HasSlots, SlotIs, slot_is, LongIs, long_is}
+use Rattle.snap_image.proofs.Parts.{HasSlots, SlotIs, slot_is, a_long}
 
 -- the slots of the names of each sort
 pub record Slots (s : Source) : Type 0 where
@@ -49,6 +53,19 @@ pub record Slots (s : Source) : Type 0 where
   pub rows : HasSlots s s.rows sort.Row
   pub words : HasSlots s s.words sort.Words
   pub views : HasSlots s s.views sort.View
+
+module _ (ls : List Line) (s : Source) (h : Slots (with_lines ls s)) (line : ℕ) where
+  pub a_scalar : Says (SlotIs (with_lines ls s) s.scalars sort.Scalar) (slot_in line s.scalars)
+  a_scalar = record { said = λ r. slot_is (with_lines ls s) s.scalars sort.Scalar h.scalars line r }
+
+  pub a_row : Says (SlotIs (with_lines ls s) s.rows sort.Row) (slot_in line s.rows)
+  a_row = record { said = λ r. slot_is (with_lines ls s) s.rows sort.Row h.rows line r }
+
+  pub some_words : Says (SlotIs (with_lines ls s) s.words sort.Words) (slot_in line s.words)
+  some_words = record { said = λ r. slot_is (with_lines ls s) s.words sort.Words h.words line r }
+
+  pub a_view : Says (SlotIs (with_lines ls s) s.views sort.View) (slot_in line s.views)
+  a_view = record { said = λ r. slot_is (with_lines ls s) s.views sort.View h.views line r }
 
 -- a byte, and what stands behind it
 pub behind : {s : Source} {a b x c : List ℕ} {us : List Use} {F : Type 0} (k : ℕ) → a ≡ k ∷ b →
@@ -95,27 +112,18 @@ pub index_tag : (ls : List Line) (s : Source) → Slots (with_lines ls s) → (l
     (r : Rest) → Holds (IndexTag ls s q t r) (index_of_tag s line q at t r)
 unfolding number_index scalar_index
 index_tag ls s h line q at tag.Number r =
-    let g = with_lines ls s in
-    then_with (LongIs g r) (IndexTag ls s q tag.Number r) (long_in r) _ (long_is g r) (λ k p. (_, refl, p))
+    of_one_said (IndexTag ls s q tag.Number r) index.Number (a_long (with_lines ls s)) r
+    (λ k p. (_, refl, p))
 index_tag ls s h line q at tag.Processes r = ([], refl, none (with_lines ls s) r.bytes)
 index_tag ls s h line q at tag.Words r = ([], refl, none (with_lines ls s) r.bytes)
 index_tag ls s h line q at tag.Me r = ([], refl, none (with_lines ls s) r.bytes)
 index_tag ls s h line q at tag.Word r = ([], refl, none (with_lines ls s) r.bytes)
-index_tag ls s h line q at tag.Arg r = tt
 index_tag ls s h line q at tag.Place r = place_by ls s q line r
 index_tag ls s h line q at tag.Scalar r =
-    let g = with_lines ls s in
-    then_with (SlotIs g s.scalars sort.Scalar r) (IndexTag ls s q tag.Scalar r) (slot_in line s.scalars r) _
-    (slot_is g s.scalars sort.Scalar h.scalars line r)
-    (λ x p. (_, refl, p))
-index_tag ls s h line q at tag.Row r = tt
-index_tag ls s h line q at tag.Seq r = tt
-index_tag ls s h line q at tag.Datum r = tt
-index_tag ls s h line q at tag.Handshake r = tt
-index_tag ls s h line q at tag.Toggle r = tt
-index_tag ls s h line q at tag.Id r = tt
+    of_one_said (IndexTag ls s q tag.Scalar r) index.Scalar (a_scalar ls s h line) r (λ x p. (_, refl, p))
+index_tag ls s h line q at _ r = tt
 
-pub index_is : (ls : List Line) (s : Source) → Slots (with_lines ls s) → (line : ℕ) (q : Bool) (r : Rest) →
+index_is : (ls : List Line) (s : Source) → Slots (with_lines ls s) → (line : ℕ) (q : Bool) (r : Rest) →
     Holds (IndexIs ls s q r) (index_in s line q r)
 unfolding index_in
 index_is ls s h line q r =
@@ -123,6 +131,10 @@ index_is ls s h line q r =
     holds_as (IndexTag ls s q t.0 t.1) (IndexIs ls s q r) (index_of_tag s line q r.passed t.0 t.1)
     (index_tag ls s h line q r.passed t.0 t.1)
     (λ x p. said_as p.1 (behind (term_code t.0) e p.2)))
+
+pub an_index : (ls : List Line) (s : Source) → Slots (with_lines ls s) → (line : ℕ) (q : Bool) →
+    Says (IndexIs ls s q) (index_in s line q)
+an_index ls s h line q = record { said = λ r. index_is ls s h line q r }
 
 abbrev pub TermIs : List Line → Source → Bool → Rest → (Term × Rest) → Type 0
 TermIs ls s q r x =
@@ -140,11 +152,8 @@ row_is : (ls : List Line) (s : Source) → Slots (with_lines ls s) → (line : �
     Holds (TermOf ls s q tag.Row r) (row_term s line q r)
 unfolding row_term
 row_is ls s h line q r =
-    let g = with_lines ls s in
-    let T = TermOf ls s q tag.Row r in
-    then_with (SlotIs g s.rows sort.Row r) T (slot_in line s.rows r) _ (slot_is g s.rows sort.Row h.rows line r) (λ x p.
-    then_with (IndexIs ls s q x.1) T (index_in s line q x.1) _
-    (index_is ls s h line q x.1) (λ i k. (_, refl, skip p k)))
+    of_two_said (TermOf ls s q tag.Row r) term.Row (a_row ls s h line) (an_index ls s h line q) r
+    (λ x p i k. (_, refl, skip p k))
 
 field_is : (ls : List Line) (s : Source) → Slots (with_lines ls s) → (line : ℕ) (q : Bool) (f : Field) (r : Rest) →
     Holds (TermOf ls s q (field_tag f) r) (field_term s line q f r)
@@ -154,10 +163,8 @@ field_is ls s h line q f r =
     let T = TermOf ls s q (field_tag f) r in
     then_with (WhenDone (has_field s.kind f ≡ true)) T (allowed s line (FieldUse f ∷ [])) _
     (kind_ok line (has_field s.kind f)) (λ done has.
-    then_with (SlotIs g s.words sort.Words r) T (slot_in line s.words r) _
-    (slot_is g s.words sort.Words h.words line r) (λ x p.
-    then_with (IndexIs ls s q x.1) T (index_in s line q x.1) _ (index_is ls s h line q x.1) (λ i k.
-    (_, refl, skip (spoken_of g r.bytes (FieldUse f ∷ []) (has, tt)) (skip p k)))))
+    of_two_said T (term.Field f) (some_words ls s h line) (an_index ls s h line q) r (λ x p i k.
+    (_, refl, skip (spoken_of g r.bytes (FieldUse f ∷ []) (has, tt)) (skip p k))))
 
 handshake_is : (ls : List Line) (s : Source) → Slots (with_lines ls s) → (line : ℕ) (q : Bool) (r : Rest) →
     Holds (TermOf ls s q tag.Handshake r) (handshake_term s line q r)
@@ -167,11 +174,8 @@ handshake_is ls s h line q r =
     let T = TermOf ls s q tag.Handshake r in
     then_with (WhenDone (has_handshakes s.kind ≡ true)) T (allowed s line (HandshakeUse ∷ [])) _
     (kind_ok line (has_handshakes s.kind)) (λ done has.
-    then_with (SlotIs g s.words sort.Words r) T (slot_in line s.words r) _
-    (slot_is g s.words sort.Words h.words line r) (λ x p.
-    then_with (IndexIs ls s q x.1) T (index_in s line q x.1) _ (index_is ls s h line q x.1) (λ i k.
-    then_with (IndexIs ls s q i.1) T (index_in s line q i.1) _ (index_is ls s h line q i.1) (λ j l.
-    (_, refl, skip (spoken_of g r.bytes (HandshakeUse ∷ []) (has, tt)) (skip p (both k l)))))))
+    of_three_said T term.Handshake (some_words ls s h line) (an_index ls s h line q) (an_index ls s h line q) r
+    (λ x p i k j l. (_, refl, skip (spoken_of g r.bytes (HandshakeUse ∷ []) (has, tt)) (skip p (both k l)))))
 
 plain_is : (ls : List Line) (s : Source) → Slots (with_lines ls s) →
     (line : ℕ) (q : Bool) (at : ℕ) (t : TermTag) (r : Rest) → Holds (TermOf ls s q t r) (index_term s line q at t r)
@@ -182,13 +186,6 @@ plain_is ls s h line q at t r =
 
 term_tag : (ls : List Line) (s : Source) → Slots (with_lines ls s) →
     (line : ℕ) (q : Bool) (at : ℕ) (t : TermTag) (r : Rest) → Holds (TermOf ls s q t r) (term_of_tag s line q at t r)
-term_tag ls s h line q at tag.Number r = plain_is ls s h line q at tag.Number r
-term_tag ls s h line q at tag.Processes r = plain_is ls s h line q at tag.Processes r
-term_tag ls s h line q at tag.Words r = plain_is ls s h line q at tag.Words r
-term_tag ls s h line q at tag.Me r = plain_is ls s h line q at tag.Me r
-term_tag ls s h line q at tag.Word r = plain_is ls s h line q at tag.Word r
-term_tag ls s h line q at tag.Place r = plain_is ls s h line q at tag.Place r
-term_tag ls s h line q at tag.Scalar r = plain_is ls s h line q at tag.Scalar r
 term_tag ls s h line q at tag.Arg r = ([], refl, none (with_lines ls s) r.bytes)
 term_tag ls s h line q at tag.Row r = row_is ls s h line q r
 term_tag ls s h line q at tag.Seq r = field_is ls s h line q field.Seq r
@@ -196,8 +193,9 @@ term_tag ls s h line q at tag.Datum r = field_is ls s h line q field.Datum r
 term_tag ls s h line q at tag.Toggle r = field_is ls s h line q field.Toggle r
 term_tag ls s h line q at tag.Id r = field_is ls s h line q field.Id r
 term_tag ls s h line q at tag.Handshake r = handshake_is ls s h line q r
+term_tag ls s h line q at t r = plain_is ls s h line q at t r
 
-pub term_is : (ls : List Line) (s : Source) → Slots (with_lines ls s) → (line : ℕ) (q : Bool) (r : Rest) →
+term_is : (ls : List Line) (s : Source) → Slots (with_lines ls s) → (line : ℕ) (q : Bool) (r : Rest) →
     Holds (TermIs ls s q r) (term_in s line q r)
 unfolding term_in
 term_is ls s h line q r =
@@ -205,6 +203,10 @@ term_is ls s h line q r =
     holds_as (TermOf ls s q t.0 t.1) (TermIs ls s q r) (term_of_tag s line q r.passed t.0 t.1)
     (term_tag ls s h line q r.passed t.0 t.1)
     (λ x p. said_as p.1 (behind (term_code t.0) e p.2)))
+
+a_term : (ls : List Line) (s : Source) → Slots (with_lines ls s) → (line : ℕ) (q : Bool) →
+    Says (TermIs ls s q) (term_in s line q)
+a_term ls s h line q = record { said = λ r. term_is ls s h line q r }
 
 abbrev pub ExprIs : List Line → Source → Bool → Rest → (Expr × Rest) → Type 0
 ExprIs ls s q r x =
@@ -216,38 +218,41 @@ expr_tag : (ls : List Line) (s : Source) → Slots (with_lines ls s) →
     Holds (ExprIs ls s q r) (expr_of_tag s line q t after)
 unfolding plain_expr sum_expr not_expr
 expr_tag ls s h line q etag.Term r after e =
-    then_with (TermIs ls s q after) (ExprIs ls s q r) (term_in s line q after) _ (term_is ls s h line q after)
-    (λ t p. behind (expr_code etag.Term) e p)
+    of_one_said (ExprIs ls s q r) expr.Term (a_term ls s h line q) after (λ t p. behind (expr_code etag.Term) e p)
 expr_tag ls s h line q etag.Sum r after e =
-    let E = ExprIs ls s q r in
-    then_with (TermIs ls s q after) E (term_in s line q after) _ (term_is ls s h line q after) (λ t p.
-    then_with (TermIs ls s q t.1) E (term_in s line q t.1) _ (term_is ls s h line q t.1)
-    (λ u k. behind (expr_code etag.Sum) e (both p k)))
+    of_two_said (ExprIs ls s q r) expr.Sum (a_term ls s h line q) (a_term ls s h line q) after
+    (λ t p u k. behind (expr_code etag.Sum) e (both p k))
 expr_tag ls s h line q etag.Not r after e =
-    then_with (TermIs ls s q after) (ExprIs ls s q r) (term_in s line q after) _ (term_is ls s h line q after)
-    (λ t p. behind (expr_code etag.Not) e p)
+    of_one_said (ExprIs ls s q r) expr.Not (a_term ls s h line q) after (λ t p. behind (expr_code etag.Not) e p)
 
-pub expr_is : (ls : List Line) (s : Source) → Slots (with_lines ls s) → (line : ℕ) (q : Bool) (r : Rest) →
+expr_is : (ls : List Line) (s : Source) → Slots (with_lines ls s) → (line : ℕ) (q : Bool) (r : Rest) →
     Holds (ExprIs ls s q r) (expr_in s line q r)
 unfolding expr_in
 expr_is ls s h line q r =
     then_with (CodeIs exprs r) (ExprIs ls s q r) (code_in exprs r) _ (code_is exprs r)
     (λ t e. expr_tag ls s h line q t.0 r t.1 e)
 
+pub an_expr : (ls : List Line) (s : Source) → Slots (with_lines ls s) → (line : ℕ) (q : Bool) →
+    Says (ExprIs ls s q) (expr_in s line q)
+an_expr ls s h line q = record { said = λ r. expr_is ls s h line q r }
+
 abbrev pub ComparisonIs : List Line → Source → Bool → Rest → (Comparison × Rest) → Type 0
 ComparisonIs ls s q r x =
     let g = with_lines ls s in
     Part g r.bytes (comparison_image g x.0) x.1.bytes (comparison_uses x.0) (HasComparison q x.0)
 
-pub comparison_is : (ls : List Line) (s : Source) → Slots (with_lines ls s) → (line : ℕ) (q : Bool) (r : Rest) →
+comparison_is : (ls : List Line) (s : Source) → Slots (with_lines ls s) → (line : ℕ) (q : Bool) (r : Rest) →
     Holds (ComparisonIs ls s q r) (comparison_in s line q r)
 unfolding comparison_in
 comparison_is ls s h line q r =
-    let C = ComparisonIs ls s q r in
-    then_with (CodeIs relations r) C (code_in relations r) _ (code_is relations r) (λ k e.
-    then_with (TermIs ls s q k.1) C (term_in s line q k.1) _ (term_is ls s h line q k.1) (λ t p.
-    then_with (TermIs ls s q t.1) C (term_in s line q t.1) _ (term_is ls s h line q t.1)
-    (λ u l. behind (relation_code k.0) e (both p l))))
+    of_three_said (ComparisonIs ls s q r) (λ k t u.
+    let c : Comparison = record { left = t; relation = k; right = u } in c)
+    (a_code relations) (a_term ls s h line q) (a_term ls s h line q) r
+    (λ k e t p u l. behind (relation_code k.0) e (both p l))
+
+a_comparison : (ls : List Line) (s : Source) → Slots (with_lines ls s) → (line : ℕ) (q : Bool) →
+    Says (ComparisonIs ls s q) (comparison_in s line q)
+a_comparison ls s h line q = record { said = λ r. comparison_is ls s h line q r }
 
 abbrev pub ConditionIs : List Line → Source → Bool → Rest → (Condition × Rest) → Type 0
 ConditionIs ls s q r x =
@@ -267,44 +272,33 @@ one_is : (ls : List Line) (s : Source) → Slots (with_lines ls s) →
     Holds (ConditionIs ls s q r) (one_in s line q at j after)
 unfolding one_in
 one_is ls s h line q at And r after e =
-    then_with (ComparisonIs ls s q after) (ConditionIs ls s q r) (comparison_in s line q after) _
-    (comparison_is ls s h line q after) (λ k p. opened 1 And r after e p)
+    of_one_said (ConditionIs ls s q r) One (a_comparison ls s h line q) after (λ k p. opened 1 And r after e p)
 one_is ls s h line q at Or r after e = tt
 
 two_is : (ls : List Line) (s : Source) → Slots (with_lines ls s) → (line : ℕ) (q : Bool) (j : Join) (r after : Rest) →
     Opened 2 j r after → Holds (ConditionIs ls s q r) (two_in s line q j after)
 unfolding two_in
 two_is ls s h line q j r after e =
-    let C = ConditionIs ls s q r in
-    then_with (ComparisonIs ls s q after) C (comparison_in s line q after) _
-    (comparison_is ls s h line q after) (λ k pk.
-    then_with (ComparisonIs ls s q k.1) C (comparison_in s line q k.1) _ (comparison_is ls s h line q k.1) (λ l pl.
-    opened 2 j r after e (both pk pl)))
+    let k = a_comparison ls s h line q in
+    of_two_said (ConditionIs ls s q r) (Two j) k k after (λ a pa b pb. opened 2 j r after e (both pa pb))
 
 three_is : (ls : List Line) (s : Source) → Slots (with_lines ls s) →
     (line : ℕ) (q : Bool) (j : Join) (r after : Rest) → Opened 3 j r after →
     Holds (ConditionIs ls s q r) (three_in s line q j after)
 unfolding three_in
 three_is ls s h line q j r after e =
-    let C = ConditionIs ls s q r in
-    then_with (ComparisonIs ls s q after) C (comparison_in s line q after) _
-    (comparison_is ls s h line q after) (λ k pk.
-    then_with (ComparisonIs ls s q k.1) C (comparison_in s line q k.1) _ (comparison_is ls s h line q k.1) (λ l pl.
-    then_with (ComparisonIs ls s q l.1) C (comparison_in s line q l.1) _ (comparison_is ls s h line q l.1) (λ m pm.
-    opened 3 j r after e (three_of (both pk (both pl pm))))))
+    let k = a_comparison ls s h line q in
+    of_three_said (ConditionIs ls s q r) (Three j) k k k after
+    (λ a pa b pb c pc. opened 3 j r after e (three_of (both pa (both pb pc))))
 
 four_is : (ls : List Line) (s : Source) → Slots (with_lines ls s) →
     (line : ℕ) (q : Bool) (j : Join) (r after : Rest) → Opened 4 j r after →
     Holds (ConditionIs ls s q r) (four_in s line q j after)
 unfolding four_in
 four_is ls s h line q j r after e =
-    let C = ConditionIs ls s q r in
-    then_with (ComparisonIs ls s q after) C (comparison_in s line q after) _
-    (comparison_is ls s h line q after) (λ k pk.
-    then_with (ComparisonIs ls s q k.1) C (comparison_in s line q k.1) _ (comparison_is ls s h line q k.1) (λ l pl.
-    then_with (ComparisonIs ls s q l.1) C (comparison_in s line q l.1) _ (comparison_is ls s h line q l.1) (λ m pm.
-    then_with (ComparisonIs ls s q m.1) C (comparison_in s line q m.1) _ (comparison_is ls s h line q m.1) (λ o po.
-    opened 4 j r after e (four_of (both pk (both pl (both pm po))))))))
+    let k = a_comparison ls s h line q in
+    of_four_said (ConditionIs ls s q r) (Four j) k k k k after
+    (λ a pa b pb c pc d pd. opened 4 j r after e (four_of (both pa (both pb (both pc pd)))))
 
 counted_is : (ls : List Line) (s : Source) → Slots (with_lines ls s) →
     (line : ℕ) (q : Bool) (at n : ℕ) (j : Join) (r after : Rest) → (nat_le 1 n && nat_le n 4) ≡ true →
@@ -333,7 +327,7 @@ count_is r =
     then_with (ByteIs r) (CountIs r) (byte_in r) _ (byte_is r)
     (λ b e. count_if r b.1 r.passed b.0 (nat_le 1 b.0 && nat_le b.0 4) refl e)
 
-pub condition_is : (ls : List Line) (s : Source) → Slots (with_lines ls s) → (line : ℕ) (q : Bool) (r : Rest) →
+condition_is : (ls : List Line) (s : Source) → Slots (with_lines ls s) → (line : ℕ) (q : Bool) (r : Rest) →
     Holds (ConditionIs ls s q r) (condition_in s line q r)
 unfolding condition_in
 condition_is ls s h line q r =
@@ -341,6 +335,10 @@ condition_is ls s h line q r =
     then_with (CountIs r) C (count_in r) _ (count_is r) (λ n e.
     then_with (CodeIs joins n.1) C (code_in joins n.1) _ (code_is joins n.1) (λ j f.
     counted_is ls s h line q n.1.passed n.0 j.0 r j.1 e.1 (e.0 ∙ ap (λ (z : List ℕ). n.0 ∷ z) f)))
+
+pub a_condition : (ls : List Line) (s : Source) → Slots (with_lines ls s) → (line : ℕ) (q : Bool) →
+    Says (ConditionIs ls s q) (condition_in s line q)
+a_condition ls s h line q = record { said = λ r. condition_is ls s h line q r }
 
 abbrev pub flag_byte : Bool → ℕ
 flag_byte false = 0
@@ -371,11 +369,15 @@ where_by : (ls : List Line) (s : Source) → Slots (with_lines ls s) → (line :
 unfolding where_of_flag
 where_by ls s h line false r after e = behind 0 e (none (with_lines ls s) after.bytes)
 where_by ls s h line true r after e =
-    then_with (ConditionIs ls s true after) (WhereIs ls s r) (condition_in s line true after) _
-    (condition_is ls s h line true after) (λ k p. behind 1 e p)
+    of_one_said (WhereIs ls s r) (λ k. let o : Option Condition = Some k in o) (a_condition ls s h line true) after
+    (λ k p. behind 1 e p)
 
-pub where_is : (ls : List Line) (s : Source) → Slots (with_lines ls s) → (line : ℕ) (r : Rest) →
+where_is : (ls : List Line) (s : Source) → Slots (with_lines ls s) → (line : ℕ) (r : Rest) →
     Holds (WhereIs ls s r) (where_in s line r)
 unfolding where_in
 where_is ls s h line r =
     then_with (FlagIs r) (WhereIs ls s r) (flag_in r) _ (flag_is r) (λ flag e. where_by ls s h line flag.0 r flag.1 e)
+
+pub a_where : (ls : List Line) (s : Source) → Slots (with_lines ls s) → (line : ℕ) →
+    Says (WhereIs ls s) (where_in s line)
+a_where ls s h line = record { said = λ r. where_is ls s h line r }

@@ -1,12 +1,14 @@
 -- What is read from an image is what the image says: instructions.
-use Rattle.std.proofs.Common.{◌≡◌, ℕ, true, false, List, [], ◌∷◌, refl, sym, ap, ◌∙◌}
+use Rattle.std.proofs.Common.{◌≡◌, ℕ, Bool, true, false, List, [], ◌∷◌, refl, sym, ap, ◌∙◌}
 use Rattle.std.specs.List.{AllByRecursion}
 use Rattle.snap_image.specs.declared.image.InstrTag.{InstrTag}
 use Rattle.snap_image.specs.declared.image.InstrTag.TheVariants as tag
 use Rattle.snap_semantics.specs.declared.instr.BitBank.{BitBank}
 use Rattle.snap_semantics.specs.declared.instr.BitBank.TheVariants as bits
 use Rattle.snap_semantics.specs.declared.instr.Instr.{Instr}
+use Rattle.snap_semantics.specs.declared.instr.Instr.TheVariants as instr
 use Rattle.snap_semantics.specs.declared.instr.Line.{Line}
+use Rattle.snap_semantics.specs.declared.instr.Tuple.TheVariants as tuple
 use Rattle.snap_semantics.specs.declared.text.Sort.TheVariants as sort
 use Rattle.snap_image.specs.Image.{instr_tag, bit_tag, put_bit_tag, operands_image}
 use Rattle.snap_image.specs.ImageCodes.{instr_tags, ranges, range_code, instr_code}
@@ -23,10 +25,11 @@ use Rattle.snap_semantics.specs.Source.{Source}
 use Rattle.snap_semantics.specs.Table.{bank_of}
 use Rattle.snap_semantics.specs.Uses.{Use, BankUse, instr_uses}
 use Rattle.snap_image.proofs.FormUses.{uses_allowed}
-use Rattle.snap_image.proofs.Parts.{Holds, then_with, holds_as, Part, both, skip, last, ending, three_of, none}
-use Rattle.snap_image.proofs.Parts.{spoken_of, CodeIs, code_is, SlotIs, slot_is, ShortIs, short_is}
-use Rattle.snap_image.proofs.SaidForms.{Slots, behind, IndexIs, index_is, ExprIs, expr_is, ConditionIs}
-use Rattle.snap_image.proofs.SaidForms.{condition_is, WhereIs, where_is}
+use Rattle.snap_image.proofs.Parts.{Holds, then_with, holds_as, Part, U, both, skip, last, ending, three_of, none}
+use Rattle.snap_image.proofs.Parts.{Says, of_one_said, of_two_said, of_three_said, of_four_said, a_code, spoken_of}
+use Rattle.snap_image.proofs.Parts.{CodeIs, code_is, SlotIs, ShortIs, short_is}
+use Rattle.snap_image.proofs.SaidForms.{Slots, behind, IndexIs, ExprIs, ConditionIs, WhereIs, a_scalar, a_row}
+use Rattle.snap_image.proofs.SaidForms.{some_words, a_view, an_index, an_expr, a_condition, a_where}
 
 -- what stands behind the code of a form
 abbrev pub OperandsAre : List Line → Source → InstrTag → Rest → (Instr × Rest) → Type 0
@@ -37,265 +40,125 @@ OperandsAre ls s f r x =
 abbrev Right : List Line → Source → List Use → Type 0
 Right ls s us = AllByRecursion (IsRight (with_lines ls s)) us
 
-let_is : (ls : List Line) (s : Source) → Slots (with_lines ls s) → (line : ℕ) (r : Rest) →
-    Holds (OperandsAre ls s tag.Let r) (let_in s line r)
-unfolding let_in
-let_is ls s h line r =
-    let g = with_lines ls s in
-    let O = OperandsAre ls s tag.Let r in
-    then_with (SlotIs g s.scalars sort.Scalar r) O (slot_in line s.scalars r) _
-    (slot_is g s.scalars sort.Scalar h.scalars line r) (λ a pa.
-    then_with (ExprIs ls s false a.1) O (expr_in s line false a.1) _ (expr_is ls s h line false a.1) (λ b pb.
-    (refl, skip pa pb)))
+module _ (ls : List Line) (s : Source) (h : Slots (with_lines ls s)) (line : ℕ) where
+  abbrev whole : Source
+  whole = with_lines ls s
 
-let_place_is : (ls : List Line) (s : Source) → Slots (with_lines ls s) → (line : ℕ) (r : Rest) →
-    Holds (OperandsAre ls s tag.LetPlace r) (let_place_in s line r)
-unfolding let_place_in
-let_place_is ls s h line r =
-    let g = with_lines ls s in
-    let O = OperandsAre ls s tag.LetPlace r in
-    then_with (SlotIs g s.rows sort.Row r) O (slot_in line s.rows r) _
-    (slot_is g s.rows sort.Row h.rows line r) (λ a pa.
-    then_with (IndexIs ls s false a.1) O (index_in s line false a.1) _ (index_is ls s h line false a.1) (λ b pb.
-    then_with (ExprIs ls s false b.1) O (expr_in s line false b.1) _ (expr_is ls s h line false b.1) (λ c pc.
-    (refl, skip pa (both pb pc)))))
+  scalar_says : Says (SlotIs whole s.scalars sort.Scalar) (slot_in line s.scalars)
+  scalar_says = a_scalar ls s h line
 
-get_is : (ls : List Line) (s : Source) → Slots (with_lines ls s) → (line : ℕ) (r : Rest) →
-    Holds (OperandsAre ls s tag.Get r) (get_in s line r)
-unfolding get_in
-get_is ls s h line r =
-    let g = with_lines ls s in
-    let O = OperandsAre ls s tag.Get r in
-    then_with (SlotIs g s.words sort.Words r) O (slot_in line s.words r) _
-    (slot_is g s.words sort.Words h.words line r) (λ a pa.
-    then_with (IndexIs ls s false a.1) O (index_in s line false a.1) _ (index_is ls s h line false a.1) (λ b pb.
-    then_with (IndexIs ls s false b.1) O (index_in s line false b.1) _ (index_is ls s h line false b.1) (λ c pc.
-    (refl, skip pa (both pb pc)))))
+  row_says : Says (SlotIs whole s.rows sort.Row) (slot_in line s.rows)
+  row_says = a_row ls s h line
 
-bit_is : (ls : List Line) (s : Source) → Slots (with_lines ls s) → (line : ℕ) (b : BitBank) (r : Rest) →
-    Right ls s (BankUse (bank_of b) ∷ []) → Holds (OperandsAre ls s (bit_tag b) r) (bit_in s line b r)
-unfolding bit_in
-bit_is ls s h line b r right =
-    let g = with_lines ls s in
-    let O = OperandsAre ls s (bit_tag b) r in
-    then_with (SlotIs g s.scalars sort.Scalar r) O (slot_in line s.scalars r) _
-    (slot_is g s.scalars sort.Scalar h.scalars line r) (λ x px.
-    then_with (IndexIs ls s false x.1) O (index_in s line false x.1) _ (index_is ls s h line false x.1) (λ y py.
-    then_with (IndexIs ls s false y.1) O (index_in s line false y.1) _ (index_is ls s h line false y.1) (λ z pz.
-    (refl, skip px (skip (spoken_of g x.1.bytes (BankUse (bank_of b) ∷ []) right) (both py pz))))))
+  words_say : Says (SlotIs whole s.words sort.Words) (slot_in line s.words)
+  words_say = some_words ls s h line
 
-look_is : (ls : List Line) (s : Source) → Slots (with_lines ls s) → (line : ℕ) (r : Rest) →
-    Right ls s (form_uses tag.Look) → Holds (OperandsAre ls s tag.Look r) (look_in s line r)
-unfolding look_in
-look_is ls s h line r right =
-    let g = with_lines ls s in
-    let O = OperandsAre ls s tag.Look r in
-    then_with (SlotIs g s.views sort.View r) O (slot_in line s.views r) _
-    (slot_is g s.views sort.View h.views line r) (λ a pa.
-    then_with (IndexIs ls s false a.1) O (index_in s line false a.1) _ (index_is ls s h line false a.1) (λ b pb.
-    (refl, skip pa (skip (spoken_of g a.1.bytes (form_uses tag.Look) right) pb))))
+  view_says : Says (SlotIs whole s.views sort.View) (slot_in line s.views)
+  view_says = a_view ls s h line
 
-put_seq_is : (ls : List Line) (s : Source) → Slots (with_lines ls s) → (line : ℕ) (r : Rest) →
-    Right ls s (form_uses tag.PutSeq) → Holds (OperandsAre ls s tag.PutSeq r) (put_seq_in s line r)
-unfolding put_seq_in
-put_seq_is ls s h line r right =
-    let g = with_lines ls s in
-    let O = OperandsAre ls s tag.PutSeq r in
-    then_with (IndexIs ls s false r) O (index_in s line false r) _ (index_is ls s h line false r) (λ a pa.
-    then_with (ExprIs ls s false a.1) O (expr_in s line false a.1) _ (expr_is ls s h line false a.1) (λ b pb.
-    then_with (ExprIs ls s false b.1) O (expr_in s line false b.1) _ (expr_is ls s h line false b.1) (λ c pc.
-    then_with (SlotIs g s.views sort.View c.1) O (slot_in line s.views c.1) _
-    (slot_is g s.views sort.View h.views line c.1) (λ d pd.
-    (refl, both pa (skip (spoken_of g a.1.bytes (form_uses tag.PutSeq) right) (both pb (last pc pd))))))))
+  index_says : Says (IndexIs ls s false) (index_in s line false)
+  index_says = an_index ls s h line false
 
-put_bits_is : (ls : List Line) (s : Source) → Slots (with_lines ls s) → (line : ℕ) (r : Rest) →
-    Right ls s (form_uses tag.PutBits) → Holds (OperandsAre ls s tag.PutBits r) (put_bits_in s line r)
-unfolding put_bits_in
-put_bits_is ls s h line r right =
-    let g = with_lines ls s in
-    let O = OperandsAre ls s tag.PutBits r in
-    then_with (IndexIs ls s false r) O (index_in s line false r) _ (index_is ls s h line false r) (λ a pa.
-    then_with (ExprIs ls s false a.1) O (expr_in s line false a.1) _ (expr_is ls s h line false a.1) (λ b pb.
-    then_with (SlotIs g s.rows sort.Row b.1) O (slot_in line s.rows b.1) _
-    (slot_is g s.rows sort.Row h.rows line b.1) (λ c pc.
-    then_with (ExprIs ls s false c.1) O (expr_in s line false c.1) _ (expr_is ls s h line false c.1) (λ d pd.
-    then_with (SlotIs g s.views sort.View d.1) O (slot_in line s.views d.1) _
-    (slot_is g s.views sort.View h.views line d.1) (λ e pe.
-    (refl, both pa (skip (spoken_of g a.1.bytes (form_uses tag.PutBits) right) (both pb (skip pc (last pd pe))))))))))
+  expr_says : (q : Bool) → Says (ExprIs ls s q) (expr_in s line q)
+  expr_says q = an_expr ls s h line q
 
-put_multi_is : (ls : List Line) (s : Source) → Slots (with_lines ls s) → (line : ℕ) (r : Rest) →
-    Right ls s (form_uses tag.PutMulti) → Holds (OperandsAre ls s tag.PutMulti r) (put_multi_in s line r)
-unfolding put_multi_in
-put_multi_is ls s h line r right =
-    let g = with_lines ls s in
-    let O = OperandsAre ls s tag.PutMulti r in
-    then_with (IndexIs ls s false r) O (index_in s line false r) _ (index_is ls s h line false r) (λ a pa.
-    then_with (ExprIs ls s false a.1) O (expr_in s line false a.1) _ (expr_is ls s h line false a.1) (λ b pb.
-    then_with (ExprIs ls s false b.1) O (expr_in s line false b.1) _ (expr_is ls s h line false b.1) (λ c pc.
-    then_with (ExprIs ls s false c.1) O (expr_in s line false c.1) _ (expr_is ls s h line false c.1) (λ d pd.
-    (refl, both pa (skip (spoken_of g a.1.bytes (form_uses tag.PutMulti) right) (three_of (both pb (both pc pd)))))))))
+  condition_says : (q : Bool) → Says (ConditionIs ls s q) (condition_in s line q)
+  condition_says q = a_condition ls s h line q
 
-put_bit_is : (ls : List Line) (s : Source) → Slots (with_lines ls s) → (line : ℕ) (b : BitBank) (r : Rest) →
-    Right ls s (BankUse (bank_of b) ∷ []) → Holds (OperandsAre ls s (put_bit_tag b) r) (put_bit_in s line b r)
-unfolding put_bit_in
-put_bit_is ls s h line b r right =
-    let g = with_lines ls s in
-    let O = OperandsAre ls s (put_bit_tag b) r in
-    then_with (IndexIs ls s false r) O (index_in s line false r) _ (index_is ls s h line false r) (λ x px.
-    then_with (IndexIs ls s false x.1) O (index_in s line false x.1) _ (index_is ls s h line false x.1) (λ y py.
-    then_with (ExprIs ls s false y.1) O (expr_in s line false y.1) _ (expr_is ls s h line false y.1) (λ z pz.
-    (refl, skip (spoken_of g r.bytes (BankUse (bank_of b) ∷ []) right) (three_of (both px (both py pz)))))))
+  where_says : Says (WhereIs ls s) (where_in s line)
+  where_says = a_where ls s h line
 
-put_view_is : (ls : List Line) (s : Source) → Slots (with_lines ls s) → (line : ℕ) (r : Rest) →
-    Right ls s (form_uses tag.PutView) → Holds (OperandsAre ls s tag.PutView r) (put_view_in s line r)
-unfolding put_view_in
-put_view_is ls s h line r right =
-    let g = with_lines ls s in
-    let O = OperandsAre ls s tag.PutView r in
-    then_with (IndexIs ls s false r) O (index_in s line false r) _ (index_is ls s h line false r) (λ a pa.
-    then_with (SlotIs g s.views sort.View a.1) O (slot_in line s.views a.1) _
-    (slot_is g s.views sort.View h.views line a.1) (λ b pb.
-    (refl, skip (spoken_of g r.bytes (form_uses tag.PutView) right) (last pa pb))))
+  range_says : Says (CodeIs ranges) (code_in ranges)
+  range_says = a_code ranges
 
-view_data_is : (ls : List Line) (s : Source) → Slots (with_lines ls s) → (line : ℕ) (r : Rest) →
-    Holds (OperandsAre ls s tag.ViewData r) (view_data_in s line r)
-unfolding view_data_in
-view_data_is ls s h line r =
-    let g = with_lines ls s in
-    let O = OperandsAre ls s tag.ViewData r in
-    then_with (SlotIs g s.views sort.View r) O (slot_in line s.views r) _
-    (slot_is g s.views sort.View h.views line r) (λ a pa.
-    then_with (SlotIs g s.words sort.Words a.1) O (slot_in line s.words a.1) _
-    (slot_is g s.words sort.Words h.words line a.1) (λ b pb.
-    (refl, skip pa pb)))
+  target_says : Says (ShortIs whole) short_in
+  target_says = record { said = λ r. short_is whole r }
 
-view_of_is : (ls : List Line) (s : Source) → Slots (with_lines ls s) → (line : ℕ) (r : Rest) →
-    Right ls s (form_uses tag.ViewOf) → Holds (OperandsAre ls s tag.ViewOf r) (view_of_in s line r)
-unfolding view_of_in
-view_of_is ls s h line r right =
-    let g = with_lines ls s in
-    let O = OperandsAre ls s tag.ViewOf r in
-    then_with (SlotIs g s.views sort.View r) O (slot_in line s.views r) _
-    (slot_is g s.views sort.View h.views line r) (λ a pa.
-    then_with (SlotIs g s.words sort.Words a.1) O (slot_in line s.words a.1) _
-    (slot_is g s.words sort.Words h.words line a.1) (λ b pb.
-    then_with (IndexIs ls s false b.1) O (index_in s line false b.1) _ (index_is ls s h line false b.1) (λ c pc.
-    (refl, skip pa (skip (spoken_of g a.1.bytes (form_uses tag.ViewOf) right) (skip pb pc))))))
+  -- what the kind has to have, where the rule is at these bytes
+  had : (a : List ℕ) (us : List Use) → Right ls s us → Part whole a [] a us U
+  had a us right = spoken_of whole a us right
 
-each_is : (ls : List Line) (s : Source) → Slots (with_lines ls s) → (line : ℕ) (r : Rest) →
-    Holds (OperandsAre ls s tag.Each r) (each_in s line r)
-unfolding each_in
-each_is ls s h line r =
-    let g = with_lines ls s in
-    let O = OperandsAre ls s tag.Each r in
-    then_with (CodeIs ranges r) O (code_in ranges r) _ (code_is ranges r) (λ a pa.
-    then_with (SlotIs g s.rows sort.Row a.1) O (slot_in line s.rows a.1) _
-    (slot_is g s.rows sort.Row h.rows line a.1) (λ b pb.
-    then_with (ExprIs ls s true b.1) O (expr_in s line true b.1) _ (expr_is ls s h line true b.1) (λ c pc.
-    then_with (WhereIs ls s c.1) O (where_in s line c.1) _ (where_is ls s h line c.1) (λ d pd.
-    (refl, behind (range_code a.0) pa (skip pb (both pc pd)))))))
+  bit_is : (b : BitBank) (r : Rest) → Right ls s (BankUse (bank_of b) ∷ []) →
+      Holds (OperandsAre ls s (bit_tag b) r) (bit_in s line b r)
+  unfolding bit_in
+  bit_is b r right =
+      of_three_said (OperandsAre ls s (bit_tag b) r) (λ x i j. instr.Bit x b i j) scalar_says index_says index_says r
+      (λ x px y py z pz. (refl, skip px (skip (had x.1.bytes (BankUse (bank_of b) ∷ []) right) (both py pz))))
 
-first_is : (ls : List Line) (s : Source) → Slots (with_lines ls s) → (line : ℕ) (r : Rest) →
-    Holds (OperandsAre ls s tag.First r) (first_in s line r)
-unfolding first_in
-first_is ls s h line r =
-    let g = with_lines ls s in
-    let O = OperandsAre ls s tag.First r in
-    then_with (SlotIs g s.scalars sort.Scalar r) O (slot_in line s.scalars r) _
-    (slot_is g s.scalars sort.Scalar h.scalars line r) (λ a pa.
-    then_with (CodeIs ranges a.1) O (code_in ranges a.1) _ (code_is ranges a.1) (λ b pb.
-    then_with (ConditionIs ls s true b.1) O (condition_in s line true b.1) _
-    (condition_is ls s h line true b.1) (λ c pc.
-    then_with (ShortIs g c.1) O (short_in c.1) _ (short_is g c.1) (λ d pd.
-    (refl, skip pa (behind (range_code b.0) pb (ending pc pd)))))))
+  put_bit_is : (b : BitBank) (r : Rest) → Right ls s (BankUse (bank_of b) ∷ []) →
+      Holds (OperandsAre ls s (put_bit_tag b) r) (put_bit_in s line b r)
+  unfolding put_bit_in
+  put_bit_is b r right =
+      of_three_said (OperandsAre ls s (put_bit_tag b) r) (instr.PutBit b) index_says index_says (expr_says false) r
+      (λ x px y py z pz.
+      (refl, skip (had r.bytes (BankUse (bank_of b) ∷ []) right) (three_of (both px (both py pz)))))
 
-next_is : (ls : List Line) (s : Source) → Slots (with_lines ls s) → (line : ℕ) (r : Rest) →
-    Holds (OperandsAre ls s tag.Next r) (next_in s line r)
-unfolding next_in
-next_is ls s h line r =
-    let g = with_lines ls s in
-    let O = OperandsAre ls s tag.Next r in
-    then_with (SlotIs g s.scalars sort.Scalar r) O (slot_in line s.scalars r) _
-    (slot_is g s.scalars sort.Scalar h.scalars line r) (λ a pa.
-    then_with (CodeIs ranges a.1) O (code_in ranges a.1) _ (code_is ranges a.1) (λ b pb.
-    then_with (ShortIs g b.1) O (short_in b.1) _ (short_is g b.1) (λ c pc.
-    (refl, skip pa (behind (range_code b.0) pb pc)))))
-
-if_is : (ls : List Line) (s : Source) → Slots (with_lines ls s) → (line : ℕ) (r : Rest) →
-    Holds (OperandsAre ls s tag.If r) (if_in s line r)
-unfolding if_in
-if_is ls s h line r =
-    let g = with_lines ls s in
-    let O = OperandsAre ls s tag.If r in
-    then_with (ConditionIs ls s false r) O (condition_in s line false r) _ (condition_is ls s h line false r) (λ a pa.
-    then_with (ShortIs g a.1) O (short_in a.1) _ (short_is g a.1) (λ b pb.
-    (refl, ending pa pb)))
-
-if_all_is : (ls : List Line) (s : Source) → Slots (with_lines ls s) → (line : ℕ) (r : Rest) →
-    Holds (OperandsAre ls s tag.IfAll r) (if_all_in s line r)
-unfolding if_all_in
-if_all_is ls s h line r =
-    let g = with_lines ls s in
-    let O = OperandsAre ls s tag.IfAll r in
-    then_with (CodeIs ranges r) O (code_in ranges r) _ (code_is ranges r) (λ a pa.
-    then_with (ConditionIs ls s true a.1) O (condition_in s line true a.1) _
-    (condition_is ls s h line true a.1) (λ b pb.
-    then_with (ShortIs g b.1) O (short_in b.1) _ (short_is g b.1) (λ c pc.
-    (refl, behind (range_code a.0) pa (ending pb pc)))))
-
-goto_is : (ls : List Line) (s : Source) → Slots (with_lines ls s) → (line : ℕ) (r : Rest) →
-    Holds (OperandsAre ls s tag.Goto r) (goto_in r)
-unfolding goto_in
-goto_is ls s h line r =
-    let g = with_lines ls s in
-    let O = OperandsAre ls s tag.Goto r in
-    then_with (ShortIs g r) O (short_in r) _ (short_is g r) (λ a pa.
-    (refl, pa))
-
-call_is : (ls : List Line) (s : Source) → Slots (with_lines ls s) → (line : ℕ) (r : Rest) →
-    Holds (OperandsAre ls s tag.Call r) (call_in r)
-unfolding call_in
-call_is ls s h line r =
-    let g = with_lines ls s in
-    let O = OperandsAre ls s tag.Call r in
-    then_with (ShortIs g r) O (short_in r) _ (short_is g r) (λ a pa.
-    (refl, pa))
-
-return_is : (ls : List Line) (s : Source) → Slots (with_lines ls s) → (line : ℕ) (r : Rest) →
-    Holds (OperandsAre ls s tag.Return r) (return_in s line r)
-unfolding return_in
-return_is ls s h line r =
-    let g = with_lines ls s in
-    let O = OperandsAre ls s tag.Return r in
-    then_with (SlotIs g s.views sort.View r) O (slot_in line s.views r) _
-    (slot_is g s.views sort.View h.views line r) (λ a pa.
-    (refl, pa))
-
-operands_are : (ls : List Line) (s : Source) → Slots (with_lines ls s) → (line : ℕ) (f : InstrTag) (r : Rest) →
-    Right ls s (form_uses f) → Holds (OperandsAre ls s f r) (operands_in s line f r)
-operands_are ls s h line tag.Let r right = let_is ls s h line r
-operands_are ls s h line tag.LetPlace r right = let_place_is ls s h line r
-operands_are ls s h line tag.Get r right = get_is ls s h line r
-operands_are ls s h line tag.BitQ r right = bit_is ls s h line bits.Q r right
-operands_are ls s h line tag.BitP r right = bit_is ls s h line bits.P r right
-operands_are ls s h line tag.Look r right = look_is ls s h line r right
-operands_are ls s h line tag.PutSeq r right = put_seq_is ls s h line r right
-operands_are ls s h line tag.PutBits r right = put_bits_is ls s h line r right
-operands_are ls s h line tag.PutMulti r right = put_multi_is ls s h line r right
-operands_are ls s h line tag.PutQ r right = put_bit_is ls s h line bits.Q r right
-operands_are ls s h line tag.PutP r right = put_bit_is ls s h line bits.P r right
-operands_are ls s h line tag.PutView r right = put_view_is ls s h line r right
-operands_are ls s h line tag.ViewData r right = view_data_is ls s h line r
-operands_are ls s h line tag.ViewOf r right = view_of_is ls s h line r right
-operands_are ls s h line tag.Each r right = each_is ls s h line r
-operands_are ls s h line tag.First r right = first_is ls s h line r
-operands_are ls s h line tag.Next r right = next_is ls s h line r
-operands_are ls s h line tag.If r right = if_is ls s h line r
-operands_are ls s h line tag.IfAll r right = if_all_is ls s h line r
-operands_are ls s h line tag.Goto r right = goto_is ls s h line r
-operands_are ls s h line tag.Call r right = call_is ls s h line r
-operands_are ls s h line tag.Return r right = return_is ls s h line r
-operands_are ls s h line tag.Finish r right = (refl, none (with_lines ls s) r.bytes)
+  operands_are : (f : InstrTag) (r : Rest) → Right ls s (form_uses f) →
+      Holds (OperandsAre ls s f r) (operands_in s line f r)
+  unfolding let_in let_place_in get_in look_in put_seq_in put_bits_in put_multi_in put_view_in view_data_in view_of_in
+      each_in first_in next_in if_in if_all_in goto_in call_in return_in
+  operands_are tag.Let r right =
+      of_two_said (OperandsAre ls s tag.Let r) instr.Let scalar_says (expr_says false) r
+      (λ a pa b pb. (refl, skip pa pb))
+  operands_are tag.LetPlace r right =
+      of_three_said (OperandsAre ls s tag.LetPlace r) instr.LetPlace row_says index_says (expr_says false) r
+      (λ a pa b pb c pc. (refl, skip pa (both pb pc)))
+  operands_are tag.Get r right =
+      of_three_said (OperandsAre ls s tag.Get r) instr.Get words_say index_says index_says r
+      (λ a pa b pb c pc. (refl, skip pa (both pb pc)))
+  operands_are tag.BitQ r right = bit_is bits.Q r right
+  operands_are tag.BitP r right = bit_is bits.P r right
+  operands_are tag.Look r right =
+      of_two_said (OperandsAre ls s tag.Look r) instr.Look view_says index_says r
+      (λ a pa b pb. (refl, skip pa (skip (had a.1.bytes (form_uses tag.Look) right) pb)))
+  operands_are tag.PutSeq r right =
+      of_four_said (OperandsAre ls s tag.PutSeq r) (λ i d q v. instr.Put i (tuple.Seq d q v)) index_says
+      (expr_says false) (expr_says false) view_says r (λ a pa b pb c pc d pd.
+      (refl, both pa (skip (had a.1.bytes (form_uses tag.PutSeq) right) (both pb (last pc pd)))))
+  operands_are tag.PutBits r right =
+      let O = OperandsAre ls s tag.PutBits r in
+      then_with (IndexIs ls s false r) O (index_in s line false r) _ (index_says.said r) (λ i pi.
+      of_four_said O (λ d h t v. instr.Put i.0 (tuple.Bits d h t v)) (expr_says false) row_says (expr_says false)
+      view_says i.1
+      (λ a pa b pb c pc d pd.
+      (refl, both pi (skip (had i.1.bytes (form_uses tag.PutBits) right) (both pa (skip pb (last pc pd)))))))
+  operands_are tag.PutMulti r right =
+      of_four_said (OperandsAre ls s tag.PutMulti r) (λ i d k t. instr.Put i (tuple.Multi d k t)) index_says
+      (expr_says false) (expr_says false) (expr_says false) r (λ a pa b pb c pc d pd.
+      (refl, both pa (skip (had a.1.bytes (form_uses tag.PutMulti) right) (three_of (both pb (both pc pd))))))
+  operands_are tag.PutQ r right = put_bit_is bits.Q r right
+  operands_are tag.PutP r right = put_bit_is bits.P r right
+  operands_are tag.PutView r right =
+      of_two_said (OperandsAre ls s tag.PutView r) instr.PutView index_says view_says r
+      (λ a pa b pb. (refl, skip (had r.bytes (form_uses tag.PutView) right) (last pa pb)))
+  operands_are tag.ViewData r right =
+      of_two_said (OperandsAre ls s tag.ViewData r) instr.ViewData view_says words_say r
+      (λ a pa b pb. (refl, skip pa pb))
+  operands_are tag.ViewOf r right =
+      of_three_said (OperandsAre ls s tag.ViewOf r) instr.ViewOf view_says words_say index_says r
+      (λ a pa b pb c pc. (refl, skip pa (skip (had a.1.bytes (form_uses tag.ViewOf) right) (skip pb pc))))
+  operands_are tag.Each r right =
+      of_four_said (OperandsAre ls s tag.Each r) instr.Each range_says row_says (expr_says true) where_says r
+      (λ a pa b pb c pc d pd. (refl, behind (range_code a.0) pa (skip pb (both pc pd))))
+  operands_are tag.First r right =
+      of_four_said (OperandsAre ls s tag.First r) instr.First scalar_says range_says (condition_says true) target_says r
+      (λ a pa b pb c pc d pd. (refl, skip pa (behind (range_code b.0) pb (ending pc pd))))
+  operands_are tag.Next r right =
+      of_three_said (OperandsAre ls s tag.Next r) instr.Next scalar_says range_says target_says r
+      (λ a pa b pb c pc. (refl, skip pa (behind (range_code b.0) pb pc)))
+  operands_are tag.If r right =
+      of_two_said (OperandsAre ls s tag.If r) instr.If (condition_says false) target_says r
+      (λ a pa b pb. (refl, ending pa pb))
+  operands_are tag.IfAll r right =
+      of_three_said (OperandsAre ls s tag.IfAll r) instr.IfAll range_says (condition_says true) target_says r
+      (λ a pa b pb c pc. (refl, behind (range_code a.0) pa (ending pb pc)))
+  operands_are tag.Goto r right =
+      of_one_said (OperandsAre ls s tag.Goto r) instr.Goto target_says r (λ a pa. (refl, pa))
+  operands_are tag.Call r right =
+      of_one_said (OperandsAre ls s tag.Call r) instr.Call target_says r (λ a pa. (refl, pa))
+  operands_are tag.Return r right =
+      of_one_said (OperandsAre ls s tag.Return r) instr.Return view_says r (λ a pa. (refl, pa))
+  operands_are tag.Finish r right = (refl, none whole r.bytes)
 
 abbrev pub InstrIs : List Line → Source → Rest → (Instr × Rest) → Type 0
 InstrIs ls s r x =

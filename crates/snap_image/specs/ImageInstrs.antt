@@ -1,7 +1,9 @@
 -- How an instruction is read from an image: what the form that
 -- its code names needs of the kind, and then its operands.
-use Rattle.std.specs.Prelude.{ℕ, false, true, List, [], ◌∷◌, Ok}
+use Rattle.std.specs.Prelude.{ℕ, Bool, false, true, List, [], ◌∷◌, Ok}
+use Rattle.snap_words.specs.Kind.{has_bank, has_view}
 use Rattle.snap_words.specs.declared.address.Bank.TheVariants as bank
+use Rattle.snap_words.specs.declared.kind.KindTag.{KindTag}
 use Rattle.snap_words.specs.declared.kind.KindTag.TheVariants as kind
 use Rattle.snap_image.specs.declared.image.InstrTag.{InstrTag}
 use Rattle.snap_image.specs.declared.image.InstrTag.TheVariants as tag
@@ -12,16 +14,14 @@ use Rattle.snap_semantics.specs.declared.instr.Instr.TheVariants as instr
 use Rattle.snap_semantics.specs.declared.instr.Tuple.TheVariants as tuple
 use Rattle.snap_semantics.specs.Answers.{◌>>=◌}
 use Rattle.snap_image.specs.ImageCodes.{instr_tags, ranges}
-use Rattle.snap_image.specs.ImageForms.{Rest, Read, short_in, code_in, slot_in, allowed}
+use Rattle.snap_image.specs.ImageForms.{Rest, Read, of_one, of_two, of_three, of_four, short_in, code_in, slot_in}
+use Rattle.snap_image.specs.ImageForms.{allowed}
 use Rattle.snap_image.specs.ImageForms.{index_in, expr_in, condition_in, where_in}
 use Rattle.snap_semantics.specs.Source.{Source}
-use Rattle.snap_semantics.specs.Uses.{Use, BankUse, ViewUse, TupleUse}
+use Rattle.snap_semantics.specs.Uses.{Use, BankUse, ViewUse, TupleUse, same_kind}
 
 -- the bank, tuple or view of a word that a form speaks of
 abbrev pub form_uses : InstrTag → List Use
-form_uses tag.Let = []
-form_uses tag.LetPlace = []
-form_uses tag.Get = []
 form_uses tag.BitQ = BankUse bank.Q ∷ []
 form_uses tag.BitP = BankUse bank.P ∷ []
 form_uses tag.Look = BankUse bank.V ∷ []
@@ -31,152 +31,93 @@ form_uses tag.PutMulti = TupleUse kind.Multi ∷ []
 form_uses tag.PutQ = BankUse bank.Q ∷ []
 form_uses tag.PutP = BankUse bank.P ∷ []
 form_uses tag.PutView = BankUse bank.V ∷ []
-form_uses tag.ViewData = []
 form_uses tag.ViewOf = ViewUse ∷ []
-form_uses tag.Each = []
-form_uses tag.First = []
-form_uses tag.Next = []
-form_uses tag.If = []
-form_uses tag.IfAll = []
-form_uses tag.Goto = []
-form_uses tag.Call = []
-form_uses tag.Return = []
-form_uses tag.Finish = []
+form_uses _ = []
+
+-- whether a kind has what a form speaks of
+abbrev pub has_form : KindTag → InstrTag → Bool
+has_form k tag.BitQ = has_bank k bank.Q
+has_form k tag.BitP = has_bank k bank.P
+has_form k tag.Look = has_bank k bank.V
+has_form k tag.PutSeq = same_kind k kind.Seq
+has_form k tag.PutBits = same_kind k kind.Bits
+has_form k tag.PutMulti = same_kind k kind.Multi
+has_form k tag.PutQ = has_bank k bank.Q
+has_form k tag.PutP = has_bank k bank.P
+has_form k tag.PutView = has_bank k bank.V
+has_form k tag.ViewOf = has_view k
+has_form k _ = true
 
 unfoldable pub let_in : Source → ℕ → Rest → Read Instr
-let_in s line r = do
-  x ← slot_in line s.scalars r
-  e ← expr_in s line false x.1
-  Ok (instr.Let x.0 e.0, e.1)
+let_in s line r = of_two (slot_in line s.scalars) (expr_in s line false) instr.Let r
 
 unfoldable pub let_place_in : Source → ℕ → Rest → Read Instr
-let_place_in s line r = do
-  x ← slot_in line s.rows r
-  i ← index_in s line false x.1
-  e ← expr_in s line false i.1
-  Ok (instr.LetPlace x.0 i.0 e.0, e.1)
+let_place_in s line r = of_three (slot_in line s.rows) (index_in s line false) (expr_in s line false) instr.LetPlace r
 
 unfoldable pub get_in : Source → ℕ → Rest → Read Instr
-get_in s line r = do
-  x ← slot_in line s.words r
-  i ← index_in s line false x.1
-  j ← index_in s line false i.1
-  Ok (instr.Get x.0 i.0 j.0, j.1)
+get_in s line r = of_three (slot_in line s.words) (index_in s line false) (index_in s line false) instr.Get r
 
 unfoldable pub bit_in : Source → ℕ → BitBank → Rest → Read Instr
-bit_in s line b r = do
-  x ← slot_in line s.scalars r
-  i ← index_in s line false x.1
-  j ← index_in s line false i.1
-  Ok (instr.Bit x.0 b i.0 j.0, j.1)
+bit_in s line b r =
+    of_three (slot_in line s.scalars) (index_in s line false) (index_in s line false) (λ x i j. instr.Bit x b i j) r
 
 unfoldable pub look_in : Source → ℕ → Rest → Read Instr
-look_in s line r = do
-  x ← slot_in line s.views r
-  i ← index_in s line false x.1
-  Ok (instr.Look x.0 i.0, i.1)
+look_in s line r = of_two (slot_in line s.views) (index_in s line false) instr.Look r
 
 unfoldable pub put_seq_in : Source → ℕ → Rest → Read Instr
-put_seq_in s line r = do
-  i ← index_in s line false r
-  d ← expr_in s line false i.1
-  q ← expr_in s line false d.1
-  v ← slot_in line s.views q.1
-  Ok (instr.Put i.0 (tuple.Seq d.0 q.0 v.0), v.1)
+put_seq_in s line r =
+    of_four (index_in s line false) (expr_in s line false) (expr_in s line false) (slot_in line s.views)
+    (λ i d q v. instr.Put i (tuple.Seq d q v)) r
 
 unfoldable pub put_bits_in : Source → ℕ → Rest → Read Instr
 put_bits_in s line r = do
   i ← index_in s line false r
-  d ← expr_in s line false i.1
-  h ← slot_in line s.rows d.1
-  t ← expr_in s line false h.1
-  v ← slot_in line s.views t.1
-  Ok (instr.Put i.0 (tuple.Bits d.0 h.0 t.0 v.0), v.1)
+  of_four (expr_in s line false) (slot_in line s.rows) (expr_in s line false) (slot_in line s.views)
+      (λ d h t v. instr.Put i.0 (tuple.Bits d h t v)) i.1
 
 unfoldable pub put_multi_in : Source → ℕ → Rest → Read Instr
-put_multi_in s line r = do
-  i ← index_in s line false r
-  d ← expr_in s line false i.1
-  k ← expr_in s line false d.1
-  t ← expr_in s line false k.1
-  Ok (instr.Put i.0 (tuple.Multi d.0 k.0 t.0), t.1)
+put_multi_in s line r =
+    of_four (index_in s line false) (expr_in s line false) (expr_in s line false) (expr_in s line false)
+    (λ i d k t. instr.Put i (tuple.Multi d k t)) r
 
 unfoldable pub put_bit_in : Source → ℕ → BitBank → Rest → Read Instr
-put_bit_in s line b r = do
-  i ← index_in s line false r
-  j ← index_in s line false i.1
-  e ← expr_in s line false j.1
-  Ok (instr.PutBit b i.0 j.0 e.0, e.1)
+put_bit_in s line b r =
+    of_three (index_in s line false) (index_in s line false) (expr_in s line false) (instr.PutBit b) r
 
 unfoldable pub put_view_in : Source → ℕ → Rest → Read Instr
-put_view_in s line r = do
-  i ← index_in s line false r
-  v ← slot_in line s.views i.1
-  Ok (instr.PutView i.0 v.0, v.1)
+put_view_in s line r = of_two (index_in s line false) (slot_in line s.views) instr.PutView r
 
 unfoldable pub view_data_in : Source → ℕ → Rest → Read Instr
-view_data_in s line r = do
-  v ← slot_in line s.views r
-  x ← slot_in line s.words v.1
-  Ok (instr.ViewData v.0 x.0, x.1)
+view_data_in s line r = of_two (slot_in line s.views) (slot_in line s.words) instr.ViewData r
 
 unfoldable pub view_of_in : Source → ℕ → Rest → Read Instr
-view_of_in s line r = do
-  v ← slot_in line s.views r
-  x ← slot_in line s.words v.1
-  i ← index_in s line false x.1
-  Ok (instr.ViewOf v.0 x.0 i.0, i.1)
+view_of_in s line r = of_three (slot_in line s.views) (slot_in line s.words) (index_in s line false) instr.ViewOf r
 
 unfoldable pub each_in : Source → ℕ → Rest → Read Instr
-each_in s line r = do
-  g ← code_in ranges r
-  x ← slot_in line s.rows g.1
-  e ← expr_in s line true x.1
-  k ← where_in s line e.1
-  Ok (instr.Each g.0 x.0 e.0 k.0, k.1)
+each_in s line r =
+    of_four (code_in ranges) (slot_in line s.rows) (expr_in s line true) (where_in s line) instr.Each r
 
 unfoldable pub first_in : Source → ℕ → Rest → Read Instr
-first_in s line r = do
-  x ← slot_in line s.scalars r
-  g ← code_in ranges x.1
-  k ← condition_in s line true g.1
-  target ← short_in k.1
-  Ok (instr.First x.0 g.0 k.0 target.0, target.1)
+first_in s line r =
+    of_four (slot_in line s.scalars) (code_in ranges) (condition_in s line true) short_in instr.First r
 
 unfoldable pub next_in : Source → ℕ → Rest → Read Instr
-next_in s line r = do
-  x ← slot_in line s.scalars r
-  g ← code_in ranges x.1
-  target ← short_in g.1
-  Ok (instr.Next x.0 g.0 target.0, target.1)
+next_in s line r = of_three (slot_in line s.scalars) (code_in ranges) short_in instr.Next r
 
 unfoldable pub if_in : Source → ℕ → Rest → Read Instr
-if_in s line r = do
-  k ← condition_in s line false r
-  target ← short_in k.1
-  Ok (instr.If k.0 target.0, target.1)
+if_in s line r = of_two (condition_in s line false) short_in instr.If r
 
 unfoldable pub if_all_in : Source → ℕ → Rest → Read Instr
-if_all_in s line r = do
-  g ← code_in ranges r
-  k ← condition_in s line true g.1
-  target ← short_in k.1
-  Ok (instr.IfAll g.0 k.0 target.0, target.1)
+if_all_in s line r = of_three (code_in ranges) (condition_in s line true) short_in instr.IfAll r
 
 unfoldable pub goto_in : Rest → Read Instr
-goto_in r = do
-  target ← short_in r
-  Ok (instr.Goto target.0, target.1)
+goto_in r = of_one short_in instr.Goto r
 
 unfoldable pub call_in : Rest → Read Instr
-call_in r = do
-  target ← short_in r
-  Ok (instr.Call target.0, target.1)
+call_in r = of_one short_in instr.Call r
 
 unfoldable pub return_in : Source → ℕ → Rest → Read Instr
-return_in s line r = do
-  v ← slot_in line s.views r
-  Ok (instr.Return v.0, v.1)
+return_in s line r = of_one (slot_in line s.views) instr.Return r
 
 -- what stands behind the code of a form
 abbrev pub operands_in : Source → ℕ → InstrTag → Rest → Read Instr

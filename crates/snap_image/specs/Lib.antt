@@ -1,5 +1,4 @@
 -- The definitions of snap_image, by their modules.
-pub mod HasForm
 pub mod Operands
 pub mod ImageCodes
 pub mod Image

@@ -6,7 +6,7 @@ ghost use Rattle.snap_image.specs.ImageForms.{code_in, slot_in, count_in, flag_i
 ghost use Rattle.snap_image.specs.ImageListing.{signature_in, ended};
 ghost use Rattle.snap_image.specs.Reads.{Reads};
 
-use crate::codes::{Coded, with_code};
+use crate::image::{Coded, with_code};
 use snap_semantics::{ImageRefusal, ListingRefusal, Name};
 use std::marker::Model;
 

@@ -12,10 +12,9 @@ ghost use Rattle.snap_semantics.specs.declared.refusal.ImageRefusal.{ImageRefusa
 ghost use Rattle.snap_image.specs.Head.{known_names, opened};
 ghost use Rattle.snap_image.specs.Reads.{Reads};
 
-use crate::codes::with_code;
 use crate::cursor::Cursor;
 use crate::fault::ImageFault;
-use crate::image::ImageVersion;
+use crate::image::{ImageVersion, with_code};
 use snap_listing::{is_among, is_reserved};
 use snap_listing_core::Header;
 use snap_semantics::{ImageRefusal, ListingRefusal, Name};

@@ -1,7 +1,7 @@
 //! `instr`: reads an instruction from an image, with a function for the operands of each form.
 ghost use Rattle.std.specs.Prelude.{◌≡◌};
 ghost use Rattle.snap_image.specs.ImageForms.{allowed};
-ghost use Rattle.snap_image.specs.ImageInstrs.{form_uses, let_in, let_place_in, get_in};
+ghost use Rattle.snap_image.specs.ImageInstrs.{form_uses, has_form, let_in, let_place_in, get_in};
 ghost use Rattle.snap_image.specs.ImageInstrs.{bit_in, look_in, put_seq_in, put_bits_in};
 ghost use Rattle.snap_image.specs.ImageInstrs.{put_multi_in, put_bit_in, put_view_in};
 ghost use Rattle.snap_image.specs.ImageInstrs.{view_data_in, view_of_in, each_in, first_in};
@@ -9,7 +9,6 @@ ghost use Rattle.snap_image.specs.ImageInstrs.{next_in, if_in, if_all_in, goto_i
 ghost use Rattle.snap_image.specs.ImageInstrs.{call_in, return_in, operands_in, instr_in};
 ghost use Rattle.snap_listing_core.specs.Fields.{header_source};
 ghost use Rattle.snap_image.specs.Reads.{Reads};
-ghost use Rattle.snap_image.specs.HasForm.{has_form};
 
 use crate::conditions::{condition, optional_condition};
 use crate::cursor::Cursor;
@@ -282,7 +281,7 @@ fn has_form(kind: KindTag, form: InstrTag) -> bool
 }
 
 /// Checks that the kind has the registers and fields that a form needs.
-#[tactic(auto, using(crate::proofs::FormNeeds::form_allowed))]
+#[tactic(auto, using(crate::proofs::FormUses::form_allowed))]
 fn checked_form(header: &Header, line: u64, form: InstrTag) -> Result<(), ImageRefusal>
     ensures { result ≡ allowed (header_source header.now) line (form_uses form) }
 {

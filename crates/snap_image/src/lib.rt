@@ -1,7 +1,6 @@
 //! Images of listings: the format with its codes, encoded and decoded, and its laws.
 #![tactic(auto)]
 
-mod codes;
 mod comments;
 mod conditions;
 mod cursor;
@@ -15,12 +14,11 @@ mod laws;
 mod lines;
 mod terms;
 
-pub use codes::{Coded, with_code};
 pub use cursor::Cursor;
 pub use decoder::decode;
 pub use encoder::encode;
 pub use fault::ImageFault;
-pub use image::{ExprTag, ImageVersion, InstrTag, TermTag};
+pub use image::{Coded, ExprTag, ImageVersion, InstrTag, TermTag, with_code};
 pub use instrs::instr;
 pub use laws::{
     images_are_bytes, more_than_an_image_is_refused, what_is_decoded_is_an_image,

@@ -1,12 +1,10 @@
 -- A sample listing with a warning of each `Concern`, and the text that the lint prints of it, by computing.
 use Rattle.std.specs.Fmt.{digits}
 use Rattle.std.specs.Prelude.{◌≡◌, ℕ, List, ◌++◌, Ok, codes, refl}
-use Rattle.snap_semantics.specs.HeaderForms as headers
-use Rattle.snap_semantics.specs.Listing.{listing_of, listing_of_lines, header_of}
-use Rattle.snap_semantics.specs.ListingForms as forms
 use Rattle.snap_lint.specs.Marks.{reached}
 use Rattle.snap_lint.specs.Warnings.{warnings}
 use Rattle.snap_lint.specs.Lint.{lint_of}
+use Rattle.snap_semantics.proofs.OnLiterals.{listings_on_literals}
 
 abbrev listing_text : List ℕ
 listing_text =
@@ -24,14 +22,5 @@ lint_text =
     ++ codes "line 32: may run off the end\n"
 
 one_of_each : lint_of listing_text ≡ Ok lint_text
-unfolding digits lint_of reached warnings listing_of listing_of_lines header_of forms.name_at forms.number_index
-    forms.place_index forms.identifier_index forms.index_at forms.place_at forms.named_place_at forms.arg_term
-    forms.row_term forms.field_term forms.handshake_term forms.index_term forms.term_at forms.not_expr forms.plus_expr
-    forms.term_expr forms.expr_at forms.relation_at forms.comparison_at forms.joined_at forms.third_on forms.second_on
-    forms.first_on forms.condition_at forms.range_at forms.target_at forms.let_form forms.let_place_form
-    forms.get_form forms.pair_at forms.bit_bank_at forms.bit_form forms.look_form forms.seq_tuple_at
-    forms.bits_tuple_at forms.multi_tuple_at forms.triple_at forms.tuple_at forms.put_form forms.put_bit_form
-    forms.put_view_form forms.view_data_form forms.view_of_form forms.where_at forms.each_form forms.first_form
-    forms.next_form forms.if_form forms.if_all_form forms.goto_form forms.call_form forms.return_form
-    forms.finish_form forms.form_of_keyword forms.line_form headers.kind_form headers.names_form headers.entry_form
+unfolding digits lint_of reached warnings listings_on_literals
 one_of_each = refl

@@ -1,39 +1,35 @@
 -- After an item a report has as many lines of registers and of locals as before it, so that a trace compares them
 -- line by line.
-use Rattle.std.proofs.Common.{◌≡◌, ℕ, ◌+◌, ◌-◌, Bool, true, false, List, [], Option, Some, None, Result, Ok, Err}
-use Rattle.std.proofs.Common.{codes, nat_lt, if◌then◌else◌, slice_index_or, slice_set, refl, sym, ap, ◌∙◌, length-set}
+use Rattle.std.proofs.Common.{◌≡◌, ℕ, ◌+◌, ◌-◌, List, [], Option, Some, None, Result, Ok, Err}
+use Rattle.std.proofs.Common.{codes, slice_index_or, slice_set, refl, sym, ap, ◌∙◌, length-set}
 use Rattle.std.proofs.lemmas.List.{set-get_or}
-use Rattle.snap_words.specs.Shape.{Counts, places}
-use Rattle.snap_words.specs.declared.address.Bank.TheVariants as bank
+use Rattle.snap_words.specs.Shape.{Counts}
 use Rattle.snap_words.specs.declared.kind.KindTag.{KindTag}
-use Rattle.snap_semantics.specs.Answers.{◌>>=◌}
 use Rattle.snap_semantics.specs.Report.{bank_lines, head_line, list_local, locals_lines, locals_text, number_local}
 use Rattle.snap_semantics.specs.Report.{process_lines, register_lines, view_lines, word_lines, words_local}
-use Rattle.snap_semantics.specs.Source.{Name, Source, instr_at, following}
+use Rattle.snap_semantics.specs.Source.{Name, Source, instr_at}
 use Rattle.snap_semantics.specs.State.{Locals, Memory, Process, State, nobody, process_at, value_at}
 use Rattle.snap_semantics.specs.State.{with_memory_words, with_row, with_scalar, with_view, with_words}
-use Rattle.snap_semantics.specs.Table.{Effect, Goes, Answers, Finishes, on, first_true, first_goes, call_goes}
-use Rattle.snap_semantics.specs.Table.{return_goes, finish_goes, effect, effect_at, leave, step, call, called}
-use Rattle.snap_semantics.specs.Table.{call_skip, crash, done, conditions, range_end, all_true, tuple_word, with_bits}
-use Rattle.snap_semantics.specs.Table.{owned, bit_value, bank_of, bits_of, each_value, places_to, who, with_bit_at}
+use Rattle.snap_semantics.specs.Table.{Effect, Goes, Answers, Finishes}
+use Rattle.snap_semantics.specs.Table.{effect_at, leave, step, call, called}
+use Rattle.snap_semantics.specs.Table.{call_skip, crash, done}
+use Rattle.snap_semantics.specs.Table.{bits_of, who, with_bit_at}
 use Rattle.snap_semantics.specs.Table.{with_memory_bits, with_memory_views}
-use Rattle.snap_semantics.specs.Value.{Context, at_place, condition_holds, each_of, expr_value, index_value, place_in}
+use Rattle.snap_semantics.specs.Value.{Context}
 use Rattle.snap_words.specs.Word.{Word}
 use Rattle.snap_semantics.specs.declared.instr.BitBank.{BitBank}
 use Rattle.snap_semantics.specs.declared.instr.BitBank.TheVariants as bits
 use Rattle.snap_semantics.specs.declared.instr.Instr.{Instr}
-use Rattle.snap_semantics.specs.declared.instr.Instr.TheVariants.{Let, LetPlace, Get, Bit, Look, Put, PutBit, PutView}
-use Rattle.snap_semantics.specs.declared.instr.Instr.TheVariants.{ViewData, ViewOf, Each, First, Next, If, IfAll}
-use Rattle.snap_semantics.specs.declared.instr.Instr.TheVariants.{Goto, Call, Return, Finish}
 use Rattle.snap_semantics.specs.declared.process.Activity.{Activity}
 use Rattle.snap_semantics.specs.declared.process.Cause.{Cause}
 use Rattle.snap_semantics.specs.declared.process.Item.{Item}
 use Rattle.snap_semantics.specs.declared.process.Item.TheVariants as item
 use Rattle.snap_semantics.specs.declared.process.Op.{Op}
-use Rattle.snap_semantics.specs.declared.process.Op.TheVariants as op
 use Rattle.snap_semantics.specs.declared.process.Reason.{Reason}
 use Rattle.snap_semantics.specs.declared.process.Status.{Status}
 use Rattle.snap_semantics.specs.declared.process.Status.TheVariants.{Idle, Busy, Trapped, Crashed}
+use Rattle.snap_runs.proofs.Effects.{Does, goes, Writes, nothing, sets_scalar, sets_row, sets_word, sets_view}
+use Rattle.snap_runs.proofs.Effects.{puts_word, puts_bit, puts_view, line_does}
 use Rattle.snap_output.proofs.Wholes.{feeds, feeds_append}
 use Rattle.snap_output.proofs.Feeds.{head_feeds, list_set, locals_apart, number_set, registers_apart, row_set}
 use Rattle.snap_output.proofs.Feeds.{view_set, word_set, words_set}
@@ -141,124 +137,31 @@ module _ (g : KindTag) (m0 : Memory) (l0 : Locals) where
   Keeps (Ok Finishes) = Unit {0}
   Keeps (Err c) = Unit {0}
 
-  -- a value that may trap, and what is done with it
-  bound : {A : Type 0} (r : Result A Cause) (f : A → Result Effect Cause) → ((v : A) → Keeps (f v)) → Keeps (r >>= f)
-  unfolding Keeps
-  bound (Ok v) f h = h v
-  bound (Err c) f h = tt
-
-  -- on to the following line, where there is one
-  onward : (o : Option ℕ) (m : Memory) (l : Locals) (link : Option ℕ) → Kept m l → Keeps (on o (Goes m l link))
-  unfolding Keeps
-  onward None m l link h = tt
-  onward (Some k) m l link h = h
-
-  -- to a line
-  goes : (m : Memory) (l : Locals) (link : Option ℕ) (line : ℕ) → Kept m l → Keeps (Ok (Goes m l link line))
-  unfolding Keeps
-  goes m l link line h = h
-
-  -- one of two
-  choice : (b : Bool) (y z : Result Effect Cause) → Keeps y → Keeps z → Keeps (if b then y else z)
-  choice true y z hy hz = hy
-  choice false y z hy hz = hz
-
-  -- a line `first`
-  first_keeps : (s : Source) (a : Activity) (m : Memory) (l : Locals) (y : Name) (target : ℕ) (o : Option ℕ) →
-      Kept m l → Keeps (first_goes s a m l y target o)
-  first_keeps s a m l y target None h = onward (following s.lines a.line) m l a.link h
-  first_keeps s a m l y target (Some p) h = goes m (with_scalar y p l) a.link target (scalar_kept m l y p h)
-
-  -- a line `call`
-  call_keeps : (s : Source) (a : Activity) (m : Memory) (l : Locals) (target : ℕ) (o : Option ℕ) → Kept m l →
-      Keeps (call_goes s a m l target o)
-  unfolding Keeps
-  call_keeps s a m l target (Some k) h = tt
-  call_keeps s a m l target None h = by_line (following s.lines a.line)
-    where
-      by_line : (o : Option ℕ) → Keeps (on o (λ k. Goes m l (Some k) target))
-      by_line None = tt
-      by_line (Some k) = h
-
-  -- a line `return`
-  return_keeps : (m : Memory) (l : Locals) (v : List ℕ) (o : Op) (link : Option ℕ) → Kept m l →
-      Keeps (return_goes m l v o link)
-  unfolding Keeps
-  return_keeps m l v op.Scan (Some link) h = h
-  return_keeps m l v (op.Update word value) (Some link) h = h
-  return_keeps m l v op.Scan None h = tt
-  return_keeps m l v (op.Update word value) None h = tt
-
-  -- a line `finish`
-  finish_keeps : (o : Op) (link : Option ℕ) → Keeps (finish_goes o link)
-  unfolding Keeps
-  finish_keeps (op.Update word value) None = tt
-  finish_keeps (op.Update word value) (Some link) = tt
-  finish_keeps op.Scan None = tt
-  finish_keeps op.Scan (Some link) = tt
+  -- what a line writes
+  wrote : (c : Context) (m : Memory) {i : Instr} {m' : Memory} {l' : Locals} → Writes c m i m' l' →
+      Kept m c.locals → Kept m' l'
+  wrote c m (nothing i) h = h
+  wrote c m (sets_scalar i x v) h = scalar_kept m c.locals x v h
+  wrote c m (sets_row i x v) h = row_kept m c.locals x v h
+  wrote c m (sets_word i x k w) h = word_kept m c.locals x k w h
+  wrote c m (sets_view i x v) h = view_kept m c.locals x v h
+  wrote c m (puts_word j t k w is) h = register_kept m c.locals k w h
+  wrote c m (puts_bit b j i e k p x there) h = bit_kept b m c.locals k p x h
+  wrote c m (puts_view j x k) h = views_kept m c.locals k (value_at x c.locals.views []) h
 
   -- each form of a line
-  keeps : (s : Source) (c : Context) (m : Memory) (a : Activity) (i : Instr) →
-      Kept m c.locals → Keeps (effect s c m a i)
-  keeps s c m a (Let y e) h =
-      bound (expr_value c e) _ (λ v. onward (following s.lines a.line) m _ a.link (scalar_kept m c.locals y v h))
-  keeps s c m a (LetPlace y i e) h =
-      bound (place_in (places c.shape) (index_value c i)) _
-      (λ p. bound (expr_value c e) _ (λ v. onward (following s.lines a.line) m _ a.link (row_kept m c.locals y _ h)))
-  keeps s c m a (Get y i j) h =
-      bound (place_in (places c.shape) (index_value c i)) _ (λ p. bound (place_in c.shape.w (index_value c j)) _
-      (λ r. onward (following s.lines a.line) m _ a.link (word_kept m c.locals y p _ h)))
-  keeps s c m a (Bit y b i j) h =
-      bound (place_in c.shape.n (index_value c i)) _
-      (λ p. bound (place_in c.shape.n (index_value c j)) _
-      (λ q. onward (following s.lines a.line) m _ a.link (scalar_kept m c.locals y _ h)))
-  keeps s c m a (Look y i) h =
-      bound (place_in c.shape.n (index_value c i)) _
-      (λ p. onward (following s.lines a.line) m _ a.link (view_kept m c.locals y _ h))
-  keeps s c m a (Put i t) h =
-      bound (place_in c.shape.w (index_value c i)) _ (λ p. bound (tuple_word c t) _ (λ parts. bound (with_bits parts) _
-      (λ word. bound (owned s.kind c bank.R (index_value c i) word) _
-      (λ w. onward (following s.lines a.line) _ c.locals a.link (register_kept m c.locals p w h)))))
-  keeps s c m a (PutBit b i j e) h =
-      bound (place_in c.shape.n (index_value c i)) _ (λ p.
-      bound (place_in c.shape.n (index_value c j)) _ (λ q. bound (expr_value c e) _
-      (λ v. bound (bit_value v) _ (λ bit. bound (owned s.kind c (bank_of b) (index_value c i) bit) _
-      (λ w. onward (following s.lines a.line) _ c.locals a.link (bit_kept b m c.locals p q w h))))))
-  keeps s c m a (PutView i y) h =
-      bound (place_in c.shape.n (index_value c i)) _ (λ p.
-      bound (owned s.kind c bank.V (index_value c i) (value_at y c.locals.views [])) _
-      (λ v. onward (following s.lines a.line) _ c.locals a.link (views_kept m c.locals p v h)))
-  keeps s c m a (ViewData y z) h = onward (following s.lines a.line) m _ a.link (view_kept m c.locals y _ h)
-  keeps s c m a (ViewOf y z i) h =
-      bound (place_in (places c.shape) (index_value c i)) _
-      (λ p. onward (following s.lines a.line) m _ a.link (view_kept m c.locals y _ h))
-  keeps s c m a (Each r y e k) h =
-      bound (each_of (λ p. each_value (at_place c p) y e k) (places_to (range_end c.shape r))) _
-      (λ vs. onward (following s.lines a.line) m _ a.link (row_kept m c.locals y _ h))
-  keeps s c m a (First y r k target) h =
-      bound (conditions c (range_end c.shape r) k) _ (λ bs. first_keeps s a m c.locals y target (first_true 1 bs) h)
-  keeps s c m a (Next y r target) h =
-      choice (nat_lt (value_at y c.locals.scalars 0) (range_end c.shape r)) _ _
-      (goes m _ a.link target (scalar_kept m c.locals y _ h))
-      (onward (following s.lines a.line) m _ a.link (scalar_kept m c.locals y 1 h))
-  keeps s c m a (If k target) h =
-      bound (condition_holds c k) _
-      (λ b. choice b _ _ (goes m c.locals a.link target h) (onward (following s.lines a.line) m c.locals a.link h))
-  keeps s c m a (IfAll r k target) h =
-      bound (conditions c (range_end c.shape r) k) _
-      (λ bs. choice (all_true bs) _ _ (goes m c.locals a.link target h)
-      (onward (following s.lines a.line) m c.locals a.link h))
-  keeps s c m a (Goto target) h = goes m c.locals a.link target h
-  keeps s c m a (Call target) h = call_keeps s a m c.locals target a.link h
-  keeps s c m a (Return y) h = return_keeps m c.locals (value_at y c.locals.views []) a.op a.link h
-  keeps s c m a Finish h = finish_keeps a.op a.link
+  keeps : (c : Context) (m : Memory) (a : Activity) {i : Instr} {r : Result Effect Cause} → Does c m a i r →
+      Kept m c.locals → Keeps r
+  unfolding Keeps
+  keeps c m a (goes i m' l' link line w) h = wrote c m w h
+  keeps c m a _ h = tt
 
   -- the line at which a process stands, where there is one
   keeps_at : (s : Source) (c : Context) (m : Memory) (a : Activity) (i : Option Instr) →
       Kept m c.locals → Keeps (effect_at s c m a i)
   unfolding Keeps
   keeps_at s c m a None h = tt
-  keeps_at s c m a (Some i) h = keeps s c m a i h
+  keeps_at s c m a (Some i) h = keeps c m a (line_does s c m a i) h
 
 -- One process and the registers have changed, each into as many lines.
 pub record IsMove (g : KindTag) (i : ℕ) (S S' : State) : Type 0 where

@@ -4,12 +4,10 @@ use Rattle.std.proofs.Common.{length, get_or, sym, ap, subst, ◌∙◌, arith}
 use Rattle.std.proofs.Math.ListN.{get_or-append}
 use Rattle.std.proofs.Math.Nat.{eq-or-lt_of_le}
 use Rattle.std.proofs.Math.Seq.{get_or-append_seam}
-use Rattle.std.proofs.lemmas.Bool.{cases_lt}
-use Rattle.std.proofs.lemmas.List.{get_or_past, length-append}
+use Rattle.std.proofs.lemmas.List.{length-append}
 use Rattle.snap_semantics.specs.Source.{Source, instr_at}
-use Rattle.snap_record.specs.Roles.{AreRoles, NoneBeyond, role_of}
+use Rattle.snap_record.specs.Roles.{role_of}
 use Rattle.snap_record.specs.declared.roles.LineRole.{LineRole}
-use Rattle.snap_record.specs.declared.roles.LineRole.TheVariants as role
 
 -- roles of the first numbers, which are those of their lines
 abbrev pub AreFirstRoles : Source → List LineRole → Type 0
@@ -28,10 +26,3 @@ roles_more s ms new m k h at is right =
         ap (λ i. get_or (ms ++ m ∷ []) i d) same ∙ get_or-append_seam ms m [] d ∙ right
         ∙ ap (λ i. role_of (instr_at s.lines i)) (at ∙ sym same)
     by_place j d (inr less) = get_or-append ms (m ∷ []) d j less ∙ h j less d
-
--- roles of the first numbers are those of all lines, where none is left
-pub roles_all : (s : Source) (ms : List LineRole) → AreFirstRoles s ms → NoneBeyond s (length ms) → AreRoles s ms
-roles_all s ms h none k = elim (cases_lt k (length ms)) [
-  | inl here ↦ h k here role.Nothing
-  | inr beyond ↦ get_or_past ms k role.Nothing beyond ∙ ap role_of (sym (none k beyond))
-]

@@ -65,10 +65,6 @@ outcome_by : (s : Source) (n : Counts) (S S' : State) (x x' : Item) → S ≡ S'
     (done s n S x).1 ≡ (done s n S' x').1
 outcome_by s n S S' x x' a b = ap (λ (y : State). (done s n y x).1) a ∙ ap (λ (y : Item). (done s n S' y).1) b
 
--- nor what came of it
-outcome_front : (r : Run) (x : Item) (t : ℕ) → t ≤ size r → outcome (with_item r x) t ≡ outcome r t
-outcome_front r x t h = outcome_by r.source r.shape _ _ _ _ (before_front r x t (omega arith)) (item_front r x t h)
-
 -- what came of the last item
 pub outcome_last : (r : Run) (x : Item) →
     outcome (with_item r x) (suc (size r)) ≡ (done r.source r.shape (state r (size r)) x).1

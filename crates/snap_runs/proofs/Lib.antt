@@ -23,6 +23,7 @@ pub mod ListedLines
 pub mod Points
 pub mod Bounds
 pub mod Moves
+pub mod Effects
 pub mod Transitions
 pub mod Calls
 pub mod Operations

@@ -1,5 +1,5 @@
--- Schedule items whose numbers have 64 bits (`FitsItem`): lists of them joined, and steps added to them.
-use Rattle.std.proofs.Common.{◌≡◌, ℕ, zero, suc, List, [], ◌∷◌, ◌++◌, replicate, sym, subst}
+-- Schedule items whose numbers have 64 bits (`FitsItem`): lists of them joined, and steps.
+use Rattle.std.proofs.Common.{ℕ, zero, suc, List, [], ◌∷◌, ◌++◌, replicate}
 use Rattle.std.specs.List.{AllByRecursion}
 use Rattle.snap_semantics.specs.declared.process.Item.{Item}
 use Rattle.snap_semantics.specs.declared.process.Item.TheVariants as item
@@ -13,9 +13,3 @@ joined_fit (x ∷ xs) ys h g = (h.0, joined_fit xs ys h.1 g)
 pub steps_fit : (count i : ℕ) → AllByRecursion FitsItem (replicate count (item.Step i))
 steps_fit zero i = tt
 steps_fit (suc count) i = (tt, steps_fit count i)
-
--- steps that were added
-pub steps_join_fit : (old new : List Item) (count i : ℕ) → new ≡ old ++ replicate count (item.Step i) →
-    AllByRecursion FitsItem old → AllByRecursion FitsItem new
-steps_join_fit old new count i is h =
-    subst (AllByRecursion FitsItem) (sym is) (joined_fit old (replicate count (item.Step i)) h (steps_fit count i))

@@ -203,15 +203,6 @@ refused_by : (n left : ℕ) (lines : List TextLine) (r : Result ItemForm Schedul
 refused_by n left lines (Ok f) d e = absurd cc
 refused_by n left lines (Err c) d e = cc
 
--- the next form is refused, and so are the items
-pub next_refused : (n : ℕ) (lines : List TextLine) (items : List Item) (d : ScheduleRefusal) →
-    next_form n (1000000 - length items) lines ≡ Err d →
-    prefixed items (items_of n (1000000 - length items) lines) ≡ Err d
-next_refused n [] items d e = absurd cc
-next_refused n (line ∷ lines) items d e =
-    let left = 1000000 - length items in
-    ap (prefixed items) (first_line n left line lines ∙ refused_by n left lines (line_form n left line) d e)
-
 pub no_steps : (i : ℕ) → item_form (Number i ∷ Sign symbol.Star ∷ Number 0 ∷ []) ≡ None
 unfolding item_form step_form steps_form scan_form update_form crash_form
 no_steps i = refl

@@ -3,12 +3,9 @@
 use Rattle.std.specs.Prelude.{◌≡◌, List, [], ◌∷◌, Ok, Err, codes, refl}
 use Rattle.snap_words.specs.Shape.{Counts}
 use Rattle.snap_words.specs.declared.kind.KindTag.TheVariants.{Seq}
-use Rattle.snap_semantics.specs.HeaderForms as headers
-use Rattle.snap_semantics.specs.Listing.{listing_of, listing_of_lines, header_of}
-use Rattle.snap_semantics.specs.ListingForms as forms
+use Rattle.snap_semantics.specs.Listing.{listing_of}
 use Rattle.snap_semantics.specs.Run.{after}
 use Rattle.snap_semantics.specs.Schedule.{schedule_of}
-use Rattle.snap_semantics.specs.ScheduleForms as schedules
 use Rattle.snap_semantics.specs.Source.{Source}
 use Rattle.snap_semantics.specs.State.{initial}
 use Rattle.snap_semantics.specs.Table.{done}
@@ -21,6 +18,7 @@ use Rattle.snap_semantics.specs.declared.process.Outcome.TheVariants.{Skipped, C
 use Rattle.snap_semantics.specs.declared.process.Reason.TheVariants as reason
 use Rattle.snap_semantics.specs.declared.refusal.ListingRefusal.TheVariants as listing
 use Rattle.snap_semantics.specs.declared.refusal.ScheduleRefusal.TheVariants as schedule
+use Rattle.snap_semantics.proofs.OnLiterals.{listings_on_literals, schedules_on_literals}
 
 -- a listing whose two operations begin at line 10
 abbrev plain : Source
@@ -67,16 +65,7 @@ listings_refused :
     × (listing_of (codes
     "kind seq\nscalar\nrow\nwords\nview\nscan 1\nupdate 1\n1: finish\n2: finish\n3: finish\n4: finish\n5: finish\n6: finish\n7: finish\n8: finish\n9: finish\n10: finish\n11: finish\n12: finish\n13: finish\n14: finish\n15: finish\n16: finish\n17: finish\n18: finish\n19: finish\n20: finish\n21: finish\n22: finish\n23: finish\n24: finish\n25: finish\n26: finish\n27: finish\n28: finish\n29: finish\n30: finish\n31: finish\n32: finish\n33: finish\n34: finish\n35: finish\n36: finish\n37: finish\n38: finish\n39: finish\n40: finish\n41: finish\n42: finish\n43: finish\n44: finish\n45: finish\n46: finish\n47: finish\n48: finish\n49: finish\n50: finish\n51: finish\n52: finish\n53: finish\n54: finish\n55: finish\n56: finish\n57: finish\n58: finish\n59: finish\n60: finish\n61: finish\n62: finish\n63: finish\n64: finish\n65: finish\n66: finish\n67: finish\n68: finish\n69: finish\n70: finish\n71: finish\n72: finish\n73: finish\n74: finish\n75: finish\n76: finish\n77: finish\n78: finish\n79: finish\n80: finish\n81: finish\n82: finish\n83: finish\n84: finish\n85: finish\n86: finish\n87: finish\n88: finish\n89: finish\n90: finish\n91: finish\n92: finish\n93: finish\n94: finish\n95: finish\n96: finish\n97: finish\n98: finish\n99: finish\n100: finish\n101: finish\n102: finish\n103: finish\n104: finish\n105: finish\n106: finish\n107: finish\n108: finish\n109: finish\n110: finish\n111: finish\n112: finish\n113: finish\n114: finish\n115: finish\n116: finish\n117: finish\n118: finish\n119: finish\n120: finish\n121: finish\n122: finish\n123: finish\n124: finish\n125: finish\n126: finish\n127: finish\n128: finish\n129: finish\n130: finish\n131: finish\n132: finish\n133: finish\n134: finish\n135: finish\n136: finish\n137: finish\n138: finish\n139: finish\n140: finish\n141: finish\n142: finish\n143: finish\n144: finish\n145: finish\n146: finish\n147: finish\n148: finish\n149: finish\n150: finish\n151: finish\n152: finish\n153: finish\n154: finish\n155: finish\n156: finish\n157: finish\n158: finish\n159: finish\n160: finish\n161: finish\n162: finish\n163: finish\n164: finish\n165: finish\n166: finish\n167: finish\n168: finish\n169: finish\n170: finish\n171: finish\n172: finish\n173: finish\n174: finish\n175: finish\n176: finish\n177: finish\n178: finish\n179: finish\n180: finish\n181: finish\n182: finish\n183: finish\n184: finish\n185: finish\n186: finish\n187: finish\n188: finish\n189: finish\n190: finish\n191: finish\n192: finish\n193: finish\n194: finish\n195: finish\n196: finish\n197: finish\n198: finish\n199: finish\n200: finish\n201: finish\n")
     ≡ Err (listing.TooMany 208))
-unfolding listing_of listing_of_lines header_of forms.name_at forms.number_index forms.place_index
-    forms.identifier_index forms.index_at forms.place_at forms.named_place_at forms.arg_term forms.row_term
-    forms.field_term forms.handshake_term forms.index_term forms.term_at forms.not_expr forms.plus_expr
-    forms.term_expr forms.expr_at forms.relation_at forms.comparison_at forms.joined_at forms.third_on forms.second_on
-    forms.first_on forms.condition_at forms.range_at forms.target_at forms.let_form forms.let_place_form
-    forms.get_form forms.pair_at forms.bit_bank_at forms.bit_form forms.look_form forms.seq_tuple_at
-    forms.bits_tuple_at forms.multi_tuple_at forms.triple_at forms.tuple_at forms.put_form forms.put_bit_form
-    forms.put_view_form forms.view_data_form forms.view_of_form forms.where_at forms.each_form forms.first_form
-    forms.next_form forms.if_form forms.if_all_form forms.goto_form forms.call_form forms.return_form
-    forms.finish_form forms.form_of_keyword forms.line_form headers.kind_form headers.names_form headers.entry_form
+unfolding listings_on_literals
 listings_refused = (refl, refl, refl, refl)
 
 -- a line feed that is missing; a bad shape; no steps; too many; a process that is not there; comments and spaces
@@ -92,6 +81,5 @@ schedules_read :
     ≡ Ok (record { shape = record { n = 2; w = 2 }; items = Step 2 ∷ Crash 2 ∷ [] }))
     × (schedule_of (codes "shape 2 2 # two\n 2 * 3\n2\n")
     ≡ Ok (record { shape = record { n = 2; w = 2 }; items = Step 2 ∷ Step 2 ∷ Step 2 ∷ Step 2 ∷ [] }))
-unfolding schedules.shape_form schedules.step_form schedules.steps_form schedules.scan_form schedules.update_form
-    schedules.crash_form schedules.item_form
+unfolding schedules_on_literals
 schedules_read = (refl, refl, refl, refl, refl, refl, refl, refl, refl)

@@ -1,6 +1,6 @@
 -- The lender of a view is a whole scan of an update of the process that wrote the view (`FinishedScan`).
 use Rattle.std.proofs.Common.{◌≡◌, ◌⊎◌, inl, inr, ℕ, zero, suc, ◌+◌, ◌<◌, ◌≤◌, Bool, true, false, ◌&&◌, nat_eq}
-use Rattle.std.proofs.Common.{List, [], Option, Some, None, length, if◌then◌else◌, refl, sym, subst, ap, ◌∙◌, arith}
+use Rattle.std.proofs.Common.{List, [], Option, Some, length, if◌then◌else◌, refl, sym, subst, ap, ◌∙◌, arith}
 use Rattle.std.proofs.lemmas.Bool.{cases_lt, eq-eqb, eqb-true}
 use Rattle.snap_words.specs.Shape.{IsOneOf}
 use Rattle.snap_semantics.specs.IsListing.{IsListing}
@@ -8,9 +8,7 @@ use Rattle.snap_semantics.specs.Source.{Name, Source}
 use Rattle.snap_semantics.specs.State.{Locals, Process, process_at, value_at}
 use Rattle.snap_semantics.specs.Table.{who}
 use Rattle.snap_semantics.specs.declared.instr.Instr.{Instr}
-use Rattle.snap_semantics.specs.declared.instr.Instr.TheVariants.{Let, LetPlace, Get, Bit, Look, Put, PutBit, PutView}
-use Rattle.snap_semantics.specs.declared.instr.Instr.TheVariants.{ViewData, ViewOf, Each, First, Next, If, IfAll}
-use Rattle.snap_semantics.specs.declared.instr.Instr.TheVariants.{Goto, Call, Return, Finish}
+use Rattle.snap_semantics.specs.declared.instr.Instr.TheVariants.{Return}
 use Rattle.snap_semantics.specs.declared.process.Item.TheVariants as item
 use Rattle.snap_semantics.specs.declared.process.Status.{Status}
 use Rattle.snap_semantics.specs.declared.process.Status.TheVariants.{Idle, Busy, Trapped, Crashed}
@@ -114,26 +112,8 @@ is_left act.Other e = absurd cc
 -- a line that returns a view
 line_returned : (f : Option Instr) (l : Locals) (view : List ℕ) → ReturnsView f l view →
     (y : Name) × (f ≡ Some (Return y))
-line_returned None l view h = absurd h
-line_returned (Some (Let x e)) l view h = absurd h
-line_returned (Some (LetPlace x i e)) l view h = absurd h
-line_returned (Some (Get x i k)) l view h = absurd h
-line_returned (Some (Bit x b i k)) l view h = absurd h
-line_returned (Some (Look x i)) l view h = absurd h
-line_returned (Some (Put i t)) l view h = absurd h
-line_returned (Some (PutBit b i k e)) l view h = absurd h
-line_returned (Some (PutView i x)) l view h = absurd h
-line_returned (Some (ViewData x y)) l view h = absurd h
-line_returned (Some (ViewOf x y i)) l view h = absurd h
-line_returned (Some (Each g x e k)) l view h = absurd h
-line_returned (Some (First x g k target)) l view h = absurd h
-line_returned (Some (Next x g target)) l view h = absurd h
-line_returned (Some (If k target)) l view h = absurd h
-line_returned (Some (IfAll g k target)) l view h = absurd h
-line_returned (Some (Goto target)) l view h = absurd h
-line_returned (Some (Call target)) l view h = absurd h
 line_returned (Some (Return x)) l view h = (x, refl)
-line_returned (Some Finish) l view h = absurd h
+line_returned _ l view h = absurd h
 
 stands_nowhere : (s : Source) (u : Status) (i : Instr) → IsStuck u → line_in s u ≡ Some i → ⊥
 stands_nowhere s Idle i h line = absurd cc

@@ -304,14 +304,9 @@ line_first kind shape S t (instr.PutView i x) h =
     let c = context_of shape S t in
     then_place kind c i shape.n _ (register bank.V (index_value c i) 0 ∷ [])
     (one_register kind c bank.V (index_value c i) 0)
-line_first kind shape S t (instr.ViewData x y) h = refl
 line_first kind shape S t (instr.ViewOf x y i) h = one_place kind (context_of shape S t) i (places shape)
 line_first kind shape S t (instr.Each g x e k) h = values_first kind shape S t e k 1 (range_end shape g) h
 line_first kind shape S t (instr.First x g k target) h = conditions_first kind shape S t k 1 (range_end shape g) h
-line_first kind shape S t (instr.Next x g target) h = refl
 line_first kind shape S t (instr.If k target) h = condition_first kind (context_of shape S t) h k
 line_first kind shape S t (instr.IfAll g k target) h = conditions_first kind shape S t k 1 (range_end shape g) h
-line_first kind shape S t (instr.Goto target) h = refl
-line_first kind shape S t (instr.Call target) h = refl
-line_first kind shape S t (instr.Return x) h = refl
-line_first kind shape S t instr.Finish h = refl
+line_first kind shape S t _ h = refl

@@ -1,8 +1,8 @@
--- `find` of snap_image (src/codes.rt): what holds at the head of each of its loops. Returns the first of these
+-- `find` of snap_image (src/image.rt): what holds at the head of each of its loops. Returns the first of these
 -- values with this code.
 use Rattle.std.proofs.Common.{◌≡◌, drop}
 use Rattle.snap_image.specs.ImageCodes.{coded}
-use Rattle.snap_image.proofs.codes.find.Given as goal
+use Rattle.snap_image.proofs.image.find.Given as goal
 
 abbrev pub invariant-loop-value : goal.invariant-loop-value
 invariant-loop-value g l =

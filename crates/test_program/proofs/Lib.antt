@@ -1,5 +1,3 @@
 -- The proofs of test_program, by their modules.
 pub mod RunSamples
-pub mod KindSamples
 pub mod OutputSamples
-pub mod SessionSamples

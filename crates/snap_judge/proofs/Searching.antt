@@ -413,6 +413,10 @@ explains_all n w n' w' steps order e count width entered end = (
         drop_all e.config.position (steps_kept steps)
         (let len = length-map steps step_of_kept in let at = entered.at_end end in omega (arith, len, at))
 
+-- among no configurations there is no same one
+pub none_same : (failed : List Config) (c : Config) → length failed ≡ 0 → HasSame failed c → ⊥
+none_same failed c none has = let lt = has.1.1 in omega (arith, none, lt)
+
 -- from what is the same as what has failed nothing explains the rest
 pub same_fails : (steps : List KeptStep) (configs : List Config) (c : Config) →
     All (λ (x : Config). Can steps x → ⊥) configs → HasSame configs c → IsConfig steps c → Can steps c → ⊥

@@ -255,7 +255,9 @@ fn does<K: Kind>(machine: &mut Machine<K>, item: Item) -> Result<Outcome, Fail>
 }
 
 /// Returns a call of process 1.
-fn call(op: Op) -> Item {
+fn call(op: Op) -> Item
+    ensures { who result ≡ 1 }
+{
     Item::Call(1, op)
 }
 
@@ -490,10 +492,9 @@ fn copies_go_on_alike(rt: HostRuntime) -> Result<(), Fail> {
 /// Checks that process 1 crashes, and that no item of it does anything more.
 fn crashes<K: Kind>(rt: &impl Abort, machine: &mut Machine<K>) -> Result<(), Fail> {
     comes_to(rt, machine, CRASH, &Outcome::Crashed)?;
-    for item in [STEP, Item::Call(1, SCAN), CRASH] {
-        is_skipped(rt, machine, item, Reason::Crashed)?;
-    }
-    Ok(())
+    is_skipped(rt, machine, STEP, Reason::Crashed)?;
+    is_skipped(rt, machine, call(SCAN), Reason::Crashed)?;
+    is_skipped(rt, machine, CRASH, Reason::Crashed)
 }
 
 /// Makes an update by process 1 that crashes after `steps` steps, at this line and with this link.

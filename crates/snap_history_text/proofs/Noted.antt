@@ -1,7 +1,7 @@
 -- What the processes are at: as the code keeps it, and one process after another.
 use Rattle.std.proofs.Common.{◌≡◌, ℕ, zero, suc, ◌+◌, ◌-◌, ◌<◌, List, [], ◌∷◌, ◌++◌, length, map, replicate}
 use Rattle.std.proofs.Common.{refl, sym, ap, ◌∙◌, arith, slice_index_or, slice_set}
-use Rattle.std.proofs.lemmas.List.{length-map, length-replicate, length-set, map-append, map-set}
+use Rattle.std.proofs.lemmas.List.{length-map, length-set, map-append, map-set}
 use Rattle.std.proofs.lemmas.List.{replicate-append-replicate}
 use Rattle.snap_semantics.specs.declared.event.Event.{Event}
 use Rattle.snap_judge.specs.History.{Caller, Free, caller_after}
@@ -15,10 +15,6 @@ pub one_more : (xs : List code.Caller) (y : code.Caller) (k : ℕ) (a : Caller) 
 one_more xs y k a h e =
     map-append view_caller xs (y ∷ []) ∙ ap (λ ys. ys ++ view_caller y ∷ []) h ∙ ap (λ z. replicate k a ++ z ∷ []) e
     ∙ replicate-append-replicate k 1 a
-
--- there are as many as were noted
-pub as_many : (xs : List code.Caller) (k : ℕ) (a : Caller) → view_callers xs ≡ replicate k a → length xs ≡ k
-as_many xs k a h = sym (length-map xs view_caller) ∙ ap length h ∙ length-replicate k a
 
 -- one of them is noted anew
 pub noted : (xs : List code.Caller) (y : code.Caller) (e : Event) → view_caller y ≡ caller_after e.what →

@@ -1,7 +1,7 @@
 -- The events of a history are read line after line.
 use Rattle.std.proofs.Common.{◌≡◌, ℕ, zero, suc, ◌+◌, ◌-◌, ◌^◌, ◌<◌, ◌≤◌, Bool, true, false, not, ◌&&◌, List, [], ◌∷◌}
 use Rattle.std.proofs.Common.{◌++◌, length, Option, Some, None, Result, Ok, Err, nat_lt, nat_le, nat_eq, option_map}
-use Rattle.std.proofs.Common.{if◌then◌else◌, refl, sym, ap, ◌∙◌, arith, append_assoc, append-nil, subst}
+use Rattle.std.proofs.Common.{if◌then◌else◌, refl, sym, ap, ◌∙◌, arith, append_assoc, subst}
 use Rattle.std.proofs.lemmas.Bool.{leb-true, ltb-true, eqb-true, and_parts}
 use Rattle.snap_words.specs.Shape.{Counts, IsOneOf, is_place}
 use Rattle.snap_semantics.specs.declared.event.Event.{Event}
@@ -74,42 +74,6 @@ one_read shape last callers after lines e rest before more h behind added =
     events_of shape x.item (callers_behind callers x) rest >>= λ es.
     let y : Result (List Event) HistoryRefusal = Ok (x ∷ es) in y)) (sym h.event)
     ∙ ap (λ (ls : List TextLine). prefixed before (events_of shape last callers ls)) (sym h.stands)
-
--- no line is left
-none_by : (shape : Counts) (last : ℕ) (callers : List Caller) (lines rest : List TextLine) (before : List Event) →
-    next_event shape last callers lines ≡ Ok None →
-    prefixed before (events_of shape last callers lines) ≡ Ok before
-none_by shape last callers [] rest before h =
-    ap (λ (xs : List Event). let r : Result (List Event) HistoryRefusal = Ok xs in r) (append-nil before)
-none_by shape last callers (line ∷ ls) rest before h = absurd (never (line_event shape last callers line) h)
-  where
-    never : (r : Result Event HistoryRefusal) →
-        (r >>= λ x. let y : Result (Option (Event × List TextLine)) HistoryRefusal = Ok (Some (x, ls)) in y) ≡ Ok None →
-        ⊥
-    never (Ok x) e = cc
-    never (Err x) e = cc
-
-pub none_left : (shape : Counts) (last : ℕ) (callers : List Caller) (lines rest : List TextLine) (o : Option Event)
-    (before : List Event) → next_event shape last callers lines ≡ Ok (option_map (λ x. (x, rest)) o) → o ≡ None →
-    prefixed before (events_of shape last callers lines) ≡ Ok before
-none_left shape last callers lines rest o before h is =
-    none_by shape last callers lines rest before
-    (h ∙ ap (λ (x : Option Event).
-    let y : Result (Option (Event × List TextLine)) HistoryRefusal = Ok (option_map (λ z. (z, rest)) x) in y) is)
-
--- a line is refused
-pub one_refused : (shape : Counts) (last : ℕ) (callers : List Caller) (lines : List TextLine) (before : List Event)
-    (x : HistoryRefusal) → next_event shape last callers lines ≡ Err x →
-    prefixed before (events_of shape last callers lines) ≡ Err x
-one_refused shape last callers [] before x h = absurd cc
-one_refused shape last callers (line ∷ ls) before x h = refused_by (line_event shape last callers line) h
-  where
-    refused_by : (r : Result Event HistoryRefusal) →
-        (r >>= λ y. let z : Result (Option (Event × List TextLine)) HistoryRefusal = Ok (Some (y, ls)) in z) ≡ Err x →
-        prefixed before (r >>= λ y. events_of shape y.item (callers_behind callers y) ls >>= λ es.
-        let z : Result (List Event) HistoryRefusal = Ok (y ∷ es) in z) ≡ Err x
-    refused_by (Ok y) e = absurd cc
-    refused_by (Err y) e = cc
 
 -- What is known of an event that was read.
 pub record IsNextEvent (shape : Counts) (last : ℕ) (callers : List Caller) (e : Event) : Type 0 where

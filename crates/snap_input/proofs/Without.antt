@@ -140,9 +140,6 @@ pub record IsPlain (bytes : List ℕ) (n : ℕ) : Type 0 where
   pub plain : ends_part (take n bytes) ≡ false
   pub parts : parts_of bytes ≡ onto_part (take n bytes) (parts_of (drop n bytes))
 
-pub none_is_plain : (bytes : List ℕ) → IsPlain bytes 0
-none_is_plain bytes = record { within = omega arith; plain = refl; parts = sym (onto_none (full_lines bytes)) }
-
 pub all_are_plain : (bytes : List ℕ) → IsFirstByte (is_byte 37) bytes None → IsPlain bytes (length bytes)
 all_are_plain bytes none =
     let lacks = lacks_sign bytes (λ k below. other_byte (nat_eq (slice_index bytes k) 37) (none k (omega arith) below)) in

@@ -9,29 +9,8 @@ use crate::schedule_for;
 use snap_asm_program::Program;
 use snap_sched::Schedule;
 use snap_semantics::{Fault, Refusal};
-use snap_words::{Bits, Kind, KindTag, Multi, Seq};
+use snap_words::{Bits, KindTag, Multi, Seq};
 use std::alloc::Global;
-
-/// Reads schedules whose shapes fit the kind of `program`.
-///
-/// # Errors
-///
-/// `Refused` with the reason why the first text that is refused is; `Memory` where memory runs out.
-pub fn schedules_for<K: Kind>(
-    alloc: Global,
-    program: &Program,
-    texts: &[&[u8]],
-) -> Result<Vec<Schedule>, Fault<Refusal>>
-    requires { program.now.kind ≡ K.TAG }
-    ensures { Answers (λ ss. ss.items) result
-        (schedules_for program.now (map (λ text. text.now) texts.now)) }
-{
-    let mut schedules = Vec::new(alloc);
-    for text in texts {
-        schedules.push(schedule_for::<K>(alloc, program, text)?)?;
-    }
-    Ok(schedules)
-}
 
 /// Reads schedules whose shapes fit `program`, one after another.
 ///
@@ -46,11 +25,11 @@ pub fn read_schedules(
     ensures { Answers (λ ss. ss.items) result
         (schedules_for program.now (map (λ text. text.now) texts.now)) }
 {
-    match program.kind() {
-        KindTag::Seq => schedules_for::<Seq>(alloc, program, texts),
-        KindTag::Bits => schedules_for::<Bits>(alloc, program, texts),
-        KindTag::Multi => schedules_for::<Multi>(alloc, program, texts),
+    let mut schedules = Vec::new(alloc);
+    for text in texts {
+        schedules.push(read_schedule(alloc, program, text)?)?;
     }
+    Ok(schedules)
 }
 
 /// Reads a schedule whose shape fits `program`.

@@ -14,7 +14,7 @@ mod subject;
 
 pub use images::{assemble, list, program_of, upgrade};
 pub use in_threads::read_side_by_side;
-pub use in_turn::{read_schedule, read_schedules, schedules_for};
+pub use in_turn::{read_schedule, read_schedules};
 pub use part_counts::MAX_INPUT;
 pub use parts::split_parts;
 pub use prepared::{Prepared, prepare, prepare_schedules};

@@ -16,7 +16,7 @@ use Rattle.snap_judge.specs.Kept.{AreSteps, IsSettled, called_at, slot_of, actio
 use Rattle.snap_judge.specs.Kept.{called_by, step_of_kept}
 use Rattle.snap_judge.specs.Choices.{IsAlone, IsUnwanted, NotNowAt, Scans, Updates, Wants}
 use Rattle.snap_judge.proofs.SearchSlots.{at, one_open, open_not_free, open_not_taken}
-use Rattle.snap_judge.proofs.SearchLost.{sets_not_sees}
+use Rattle.snap_judge.proofs.SearchSlots.{sets_not_sees}
 use Rattle.snap_judge.proofs.Goes.{slot_at, kept_not_free}
 
 -- What is open as the definitions have it is open as the program keeps it.
@@ -100,7 +100,3 @@ pub past_waits : (steps : List KeptStep) (c : Config) (ending p : ℕ) → lengt
     NotNowAt steps c ending p
 past_waits steps c ending p past j is =
     absurd (kept_not_free (get_or c.slots.items p kept_slot.Free) j is (get_or_past c.slots.items p kept_slot.Free past))
-
-pub closed_waits : (steps : List KeptStep) (c : Config) (ending p : ℕ) (s : KeptSlot) →
-    get_or c.slots.items p kept_slot.Free ≡ s → ((j : ℕ) → s ≡ kept_slot.Open j → ⊥) → NotNowAt steps c ending p
-closed_waits steps c ending p s is shut j is' = absurd (shut j (sym is ∙ is'))

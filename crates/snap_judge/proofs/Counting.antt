@@ -14,7 +14,7 @@ use Rattle.snap_judge.specs.Kept.{AreSteps, called_at, first, IsReached, IsStepO
 use Rattle.snap_judge.specs.declared.config.Config.{Config}
 use Rattle.snap_judge.specs.Nodes.{HasCounts}
 use Rattle.snap_judge.proofs.SearchSlots.{at, open_within, taken_within}
-use Rattle.snap_judge.proofs.SearchLost.{ends_not_call, one_call, waits_not_call}
+use Rattle.snap_judge.proofs.SearchSlots.{ends_not_call, one_call, waits_not_call}
 use Rattle.snap_judge.proofs.Passing.{step_at}
 
 pub open_here : Slot → ℕ

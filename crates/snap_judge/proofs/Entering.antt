@@ -194,32 +194,6 @@ module _ (steps : List KeptStep) (node node' : Node) (order order' : List ℕ) (
   same_slots : length node'.config.slots.items ≡ length node.config.slots.items
   same_slots = ap (λ (x : Config). length x.slots.items) config
 
-  -- The search has tried the update that ends, and no place more.
-  pub has_begun : IsTried steps node → node'.next ≡ node.next → node.begun ≡ false → node'.begun ≡ true →
-      HasTried steps node node' order order' e
-  has_begun tried next was now =
-      tried_more (let le = is_node.next in omega (arith, le, next))
-      (let same = same_slots in
-      let none : left_at node'.begun ≡ 0 = ap left_at now in
-      let one : left_at node.begun ≡ 1 = ap left_at was in
-      omega (arith, same, none, one, next))
-      (λ _ q lt. tried q (omega (arith, lt, next)))
-
--- what is tried from a node that has begun is tried from the same one before
-pub has_tried_after : (steps : List KeptStep) (node begun node' : Node) (order order' : List ℕ) (e : Entered) →
-    begun.config ≡ node.config → begun.depth ≡ node.depth → tries_left begun ≤ tries_left node →
-    HasTried steps begun node' order order' e → HasTried steps node node' order order' e
-has_tried_after steps node begun node' order order' e config depth less has = record {
-  is_node = subst (λ (x : Config). IsNode (length x.slots.items) (length x.values.items) steps order' node') config has.is_node;
-  config = has.config ∙ config;
-  depth = has.depth ∙ depth;
-  less = (let fewer = has.less in omega (arith, less, fewer));
-  entered = subst (λ (x : Config). IsEntered (length x.slots.items) (length x.values.items) steps order' e) config has.entered;
-  prefix = subst (λ (k : ℕ). take k order' ≡ take k order) depth has.prefix;
-  deep = subst (λ (k : ℕ). k < length order') depth has.deep;
-  tried = has.tried;
-}
-
 -- The node, its next place moved on.
 pub has_tried : (steps : List KeptStep) (node node' : Node) (order order' : List ℕ) (u : OpenUpdate) (e : Entered) →
     IsNode (length node.config.slots.items) (length node.config.values.items) steps order node → IsTried steps node →

@@ -20,15 +20,6 @@ use Rattle.snap_judge.proofs.SearchSlots.{at}
 use Rattle.snap_judge.proofs.SearchMoves.{scan_earlier}
 use Rattle.snap_judge.proofs.Leading.{leads_on, made, same_parts, taken_on}
 
--- A search that stays where it is goes on.
-pub stays : (steps : List KeptStep) (order : List ℕ) (c : Config) → GoesOn steps order c order c
-stays steps order c = record {
-  config = λ k. k;
-  reached = λ k r. r;
-  explained = λ k e. e;
-  grows = ([], sym (append-nil order));
-}
-
 -- Operations are added to those that were added.
 pub grown : (order order' order'' : List ℕ) → Grows order order' → Grows order' order'' → Grows order order''
 grown order order' order'' g h =
@@ -67,10 +58,6 @@ is_open (kept_slot.Taken j) = ⊥
 pub kept_not_free : (s : KeptSlot) (j : ℕ) → s ≡ kept_slot.Open j → s ≡ kept_slot.Free → ⊥
 unfolding is_open
 kept_not_free s j e e' = subst is_open (sym e ∙ e') tt
-
-pub kept_not_taken : (s : KeptSlot) (j k : ℕ) → s ≡ kept_slot.Open j → s ≡ kept_slot.Taken k → ⊥
-unfolding is_open
-kept_not_taken s j k e e' = subst is_open (sym e ∙ e') tt
 
 -- What is open where a slot has changed to one that is not open was open before.
 was_open : (slots : List KeptSlot) (p q j : ℕ) (s : KeptSlot) → (is_open s → ⊥) →

@@ -1,9 +1,9 @@
 -- The steps that the program makes of a history, and what they are where the events are a history.
-use Rattle.std.proofs.Common.{◌≡◌, ℕ, zero, suc, ◌+◌, ◌<◌, ◌≤◌, ◌⊎◌, inl, inr, List, [], ◌∷◌, ◌++◌, length, get_or, drop, take, ap}
-use Rattle.std.proofs.Common.{sym, subst, arith, ◌∙◌, Option, Some, None, Bool, if◌then◌else◌, append_assoc}
+use Rattle.std.proofs.Common.{◌≡◌, ℕ, zero, suc, ◌+◌, ◌<◌, ◌≤◌, ◌⊎◌, inl, inr, List, [], ◌∷◌, length, get_or, drop, take, ap}
+use Rattle.std.proofs.Common.{sym, subst, arith, ◌∙◌, Option, Some, None, Bool, if◌then◌else◌}
 use Rattle.std.specs.List.{AllByRecursion, AllPairs}
 use Rattle.std.proofs.lemmas.Bool.{cases_lt, eq-eqb, ne_eqb}
-use Rattle.std.proofs.lemmas.List.{drop_more, length-take, map-append, get_or-take}
+use Rattle.std.proofs.lemmas.List.{drop_more, length-take, get_or-take}
 use Rattle.snap_words.specs.Shape.{Counts, IsOneOf}
 use Rattle.snap_semantics.specs.declared.event.Event.{Event}
 use Rattle.snap_semantics.specs.declared.event.Happening.{Happening}
@@ -21,7 +21,7 @@ use Rattle.snap_judge.specs.Kept.{AreNumbered, AreSteps, HasWord, IsStepOf, acti
 use Rattle.snap_judge.specs.Linearizable.{up_to}
 use Rattle.snap_judge.specs.Steps.{Calls, Ends, Step, Waits, answered_step, next_of, scan_step, step_of, steps_of}
 use Rattle.snap_judge.proofs.Passing.{step_at}
-use Rattle.snap_judge.proofs.SearchLost.{ends_not_call, one_call, waits_not_call}
+use Rattle.snap_judge.proofs.SearchSlots.{ends_not_call, one_call, waits_not_call}
 
 -- The next event of a process, where it is the one at place k.
 pub found_here : (i k : ℕ) (es : List Event) (e : Event) → k < length es → e ≡ get_or es k e → e.process ≡ i →
@@ -41,19 +41,6 @@ found_later i k es e lt is other before =
     let differ : x.process ≡ i → ⊥ = λ same. other (ap (λ (y : Event). y.process) is ∙ same) in
     sym (ap (next_of i) (drop_more es k e lt)
     ∙ ap (λ (t : Bool). if t then Some x else next_of i (drop (k + 1) es)) (ne_eqb x.process i differ)) ∙ before
-
--- One more step has been kept.
-pub step_kept : (k : ℕ) (es : List Event) (e : Event) (xs : List KeptStep) (x : KeptStep) → k < length es →
-    e ≡ get_or es k e → step_of_kept x ≡ step_of e.process e.item e.what (drop (k + 1) es) →
-    steps_kept xs ++ steps_of (drop k es) ≡ steps_of es →
-    steps_kept (xs ++ x ∷ []) ++ steps_of (drop (k + 1) es) ≡ steps_of es
-step_kept k es e xs x lt is step before =
-    let rest = steps_of (drop (k + 1) es) in
-    ap (λ (ys : List Step). ys ++ rest) (map-append step_of_kept xs (x ∷ []))
-    ∙ append_assoc (steps_kept xs) (step_of_kept x ∷ []) rest
-    ∙ ap (λ (y : Step). steps_kept xs ++ y ∷ rest)
-    (step ∙ ap (λ (y : Event). step_of y.process y.item y.what (drop (k + 1) es)) is)
-    ∙ sym (ap (λ (ys : List Event). steps_kept xs ++ steps_of ys) (drop_more es k e lt)) ∙ before
 
 -- A step of one of n processes, with one of w words, as the definitions have steps.
 IsWordOf : ℕ → Action → Type 0

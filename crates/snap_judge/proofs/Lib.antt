@@ -1,7 +1,6 @@
 -- The lemmas of snap_judge, by their modules.
 pub mod SearchSlots
 pub mod SearchMoves
-pub mod SearchLost
 pub mod SearchLater
 pub mod Leading
 pub mod Goes

@@ -4,7 +4,7 @@ use Rattle.std.proofs.Common.{refl, sym, ◌∙◌, ap, subst, arith, map, drop,
 use Rattle.std.proofs.Math.ListN.{set}
 use Rattle.std.proofs.lemmas.Bool.{cases_eq}
 use Rattle.std.proofs.lemmas.List.{get_or-set_same, get_or-set_other, length-set, map-set, length-map, append-nil}
-use Rattle.snap_runs.specs.Operation.{Operation, Sees}
+use Rattle.snap_runs.specs.Operation.{Operation}
 use Rattle.snap_judge.specs.Steps.{Step, Calls, Ends, Waits, Slot, Free, Open, Taken, MayPass, passed}
 use Rattle.snap_judge.specs.Steps.{Pass, Explains, CanBeExplained, taken}
 use Rattle.snap_judge.specs.declared.config.Step.{Step as KeptStep}
@@ -13,7 +13,7 @@ use Rattle.snap_judge.specs.declared.config.Slot.{Slot as KeptSlot}
 use Rattle.snap_judge.specs.declared.config.Slot.TheVariants as kept_slot
 use Rattle.snap_judge.specs.declared.config.Config.{Config}
 use Rattle.snap_judge.specs.Kept.{GoesOn, IsConfig, called_at, rest_of, slot_of, slots_of, steps_kept}
-use Rattle.snap_judge.specs.Kept.{step_of_kept, IsSettled, IsCallOf, IsStuck, MayNotPass, called_by, operation_of}
+use Rattle.snap_judge.specs.Kept.{step_of_kept, IsCallOf, IsStuck, MayNotPass, called_by, operation_of}
 use Rattle.snap_judge.specs.declared.operation.Operation.{Operation as KeptOperation}
 use Rattle.snap_judge.proofs.SearchSlots.{at, open_not_free, open_not_taken}
 use Rattle.snap_judge.proofs.SearchPass.{IsClear, pass_now}
@@ -110,11 +110,6 @@ module _ (steps : List KeptStep) (order : List ℕ) (c c' : Config) (place j : �
             ∙ ap (slot_of steps) held,
       ) ended_config
 
-  pub end_settled : IsSettled steps c → IsSettled steps c'
-  end_settled settled p k is sees =
-      settled p k (was_open_freed c.slots.items place p k
-      (ap (λ (l : List KeptSlot). get_or l p kept_slot.Free) (sym slots) ∙ is)) (sees ∙ ap Sees values)
-
 -- The call of an operation passes.
 module _ (steps : List KeptStep) (order : List ℕ) (c c' : Config) (place : ℕ) (lt : c.position < length steps)
     (within : place < length c.slots.items) (fits : IsConfig steps c) (is_call : IsCallOf steps c.position place)
@@ -179,29 +174,6 @@ module _ (steps : List KeptStep) (order : List ℕ) (c c' : Config) (place : ℕ
       passes steps order c c' (kept_step.Calls o) lt is_call.1 position values called_slots
       (ap length slots ∙ length-set c.slots.items place (kept_slot.Open c.position))
       (ap (at (slots_of steps c)) process ∙ slot_at steps c.slots.items place ∙ ap (slot_of steps) free) called_config
-
--- A call of a process that has something open may not pass, nor the end of what has not taken place.
-pub call_stuck : (steps : List KeptStep) (c : Config) (place : ℕ) → c.position < length steps →
-    IsCallOf steps c.position place → (get_or c.slots.items place kept_slot.Free ≡ kept_slot.Free → ⊥) → IsStuck steps c
-call_stuck steps c place lt is_call busy = (
-  lt,
-  subst (λ (x : KeptStep). MayNotPass (slots_of steps c) (step_of_kept x)) (sym is_call.1)
-      (λ free. busy (kept_free (get_or c.slots.items place kept_slot.Free)
-      (sym (slot_at steps c.slots.items place) ∙ ap (at (slots_of steps c)) (sym process) ∙ free))),
-)
-  where
-    process : (is_call.0).process - 1 ≡ place
-    process = let e : (is_call.0).process ≡ suc place = is_call.2 in omega arith
-
-    used : Slot → Type 0
-    used Free = ⊥
-    used (Open o) = Unit {0}
-    used (Taken o) = Unit {0}
-
-    kept_free : (s : KeptSlot) → slot_of steps s ≡ Free → s ≡ kept_slot.Free
-    kept_free kept_slot.Free e = refl
-    kept_free (kept_slot.Open j) e = absurd (subst used e tt)
-    kept_free (kept_slot.Taken j) e = absurd (subst used e tt)
 
 pub end_stuck : (steps : List KeptStep) (c : Config) (place : ℕ) → c.position < length steps →
     get_or steps c.position kept_step.Waits ≡ kept_step.Ends (suc place) →

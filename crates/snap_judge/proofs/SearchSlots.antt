@@ -1,10 +1,10 @@
--- Slots by their places, counted from 0, and what passing an event does to them.
+-- Slots by their places, counted from 0, and what passing an event does to them; and steps that differ.
 use Rattle.std.proofs.Common.{◌≡◌, ℕ, ◌-◌, ◌<◌, ◌≤◌, ◌⊎◌, inl, inr, List, length, get_or, refl, sym, ◌∙◌, ap}
 use Rattle.std.proofs.Common.{subst, Option, Some, None}
 use Rattle.std.proofs.Math.ListN.{set}
 use Rattle.std.proofs.lemmas.Bool.{cases_eq, cases_lt}
 use Rattle.std.proofs.lemmas.List.{get_or-set_same, get_or-set_other, get_or_past, set_past, set_comm}
-use Rattle.snap_runs.specs.Operation.{Operation}
+use Rattle.snap_runs.specs.Operation.{Action, Sets, Sees, Operation}
 use Rattle.snap_judge.specs.Steps.{Step, Calls, Ends, Waits, Slot, Free, Open, Taken, MayPass, passed}
 
 -- the slot at a place
@@ -98,13 +98,6 @@ may_pass (Ends i) S p s apart may =
     (may.0, get_or-set_other S p (i - 1) s Free (turned apart) ∙ may.1)
 may_pass Waits S p s apart may = tt
 
--- what may pass with a slot set may pass before
-pub may_pass_back : (x : Step) (S : List Slot) (p : ℕ) (s : Slot) → Apart x p → MayPass (set S p s) x → MayPass S x
-may_pass_back (Calls o) S p s apart may = sym (get_or-set_other S p (o.process - 1) s Free (turned apart)) ∙ may
-may_pass_back (Ends i) S p s apart may =
-    (may.0, sym (get_or-set_other S p (i - 1) s Free (turned apart)) ∙ may.1)
-may_pass_back Waits S p s apart may = tt
-
 pub passed_with : (x : Step) (S : List Slot) (p : ℕ) (s : Slot) → Apart x p →
     passed (set S p s) x ≡ set (passed S x) p s
 passed_with (Calls o) S p s apart = set_comm S p (o.process - 1) s (Open o) apart
@@ -130,28 +123,33 @@ still_by S q p o' o (inl here) (inr past) e = ap (λ (T : List Slot). at T p) (s
 pub still_open : (S : List Slot) (q p : ℕ) (o' o : Operation) → at (set S q (Taken o')) p ≡ Open o → at S p ≡ Open o
 still_open S q p o' o e = still_by S q p o' o (cases_eq p q) (cases_lt q (length S)) e
 
--- What is open behind an event was open before it, or is called by it.
-opened_call : (S : List Slot) (o' : Operation) (p : ℕ) (o : Operation) →
-    (p ≡ o'.process - 1) ⊎ (p ≡ o'.process - 1 → ⊥) → (o'.process - 1 < length S) ⊎ (length S ≤ o'.process - 1) →
-    at (set S (o'.process - 1) (Open o')) p ≡ Open o → (at S p ≡ Open o) ⊎ (Calls o' ≡ Calls o)
-opened_call S o' p o (inr apart) in_range e =
-    inl (sym (get_or-set_other S (o'.process - 1) p (Open o') Free apart) ∙ e)
-opened_call S o' p o (inl here) (inl lt) e =
-    inr (ap Calls (one_open (at (set S (o'.process - 1) (Open o')) p) o' o
-    (ap (at (set S (o'.process - 1) (Open o'))) here ∙ get_or-set_same S (o'.process - 1) (Open o') Free lt) e))
-opened_call S o' p o (inl here) (inr past) e =
-    inl (ap (λ (T : List Slot). at T p) (sym (set_past S (o'.process - 1) (Open o') past)) ∙ e)
+-- A call is one call, and no other step; and what writes a word sees none.
+call_of : Step → Operation → Operation
+call_of (Calls o) d = o
+call_of (Ends i) d = d
+call_of Waits d = d
 
-opened_end : (S : List Slot) (q p : ℕ) (o : Operation) → (p ≡ q) ⊎ (p ≡ q → ⊥) → (q < length S) ⊎ (length S ≤ q) →
-    at (set S q Free) p ≡ Open o → at S p ≡ Open o
-opened_end S q p o (inr apart) in_range e = sym (get_or-set_other S q p Free Free apart) ∙ e
-opened_end S q p o (inl here) (inl lt) e =
-    absurd (open_not_free (at (set S q Free) q) o (ap (at (set S q Free)) (sym here) ∙ e)
-    (get_or-set_same S q Free Free lt))
-opened_end S q p o (inl here) (inr past) e = ap (λ (T : List Slot). at T p) (sym (set_past S q Free past)) ∙ e
+is_call : Step → Type 0
+is_call (Calls o) = Unit {0}
+is_call (Ends i) = ⊥
+is_call Waits = ⊥
 
-pub opened : (x : Step) (S : List Slot) (p : ℕ) (o : Operation) → at (passed S x) p ≡ Open o →
-    (at S p ≡ Open o) ⊎ (x ≡ Calls o)
-opened (Calls o') S p o e = opened_call S o' p o (cases_eq p (o'.process - 1)) (cases_lt (o'.process - 1) (length S)) e
-opened (Ends i) S p o e = inl (opened_end S (i - 1) p o (cases_eq p (i - 1)) (cases_lt (i - 1) (length S)) e)
-opened Waits S p o e = inl e
+pub one_call : (o o' : Operation) → Calls o ≡ Calls o' → o ≡ o'
+unfolding call_of
+one_call o o' e = ap (λ (x : Step). call_of x o) e
+
+pub waits_not_call : (o : Operation) → Waits ≡ Calls o → ⊥
+unfolding is_call
+waits_not_call o e = subst is_call (sym e) tt
+
+pub ends_not_call : (i : ℕ) (o : Operation) → Ends i ≡ Calls o → ⊥
+unfolding is_call
+ends_not_call i o e = subst is_call (sym e) tt
+
+is_sets : Action → Type 0
+is_sets (Sets word value) = Unit {0}
+is_sets (Sees view) = ⊥
+
+pub sets_not_sees : (a : Action) (word value : ℕ) (view : List ℕ) → a ≡ Sets word value → a ≡ Sees view → ⊥
+unfolding is_sets
+sets_not_sees a word value view e e' = subst is_sets (sym e ∙ e') tt

@@ -1,8 +1,8 @@
 -- What a search keeps of its nodes.
 use Rattle.std.proofs.Common.{◌≡◌, ℕ, zero, suc, ◌<◌, ◌≤◌, ◌⊎◌, inl, inr, List, [], ◌∷◌, ◌++◌, length, get_or}
-use Rattle.std.proofs.Common.{refl, sym, ◌∙◌, ap, subst, arith, map, take, drop, drop-cons, true, false, Bool, Option, Some, cond}
+use Rattle.std.proofs.Common.{refl, sym, ◌∙◌, ap, subst, arith, map, take, drop, drop-cons, true, false, Bool}
 use Rattle.std.specs.Prelude.{replicate}
-use Rattle.std.specs.List.{All, Contains, find}
+use Rattle.std.specs.List.{All}
 use Rattle.std.specs.HashSet.{HashSet, PutsKey}
 use Rattle.std.proofs.lemmas.Bool.{cases_lt}
 use Rattle.std.proofs.lemmas.List.{length-append, length-map, get_or_append_left, take-take, take_all, drop_all, get_or_past}
@@ -20,7 +20,7 @@ use Rattle.snap_judge.specs.declared.config.Entered.{Entered}
 use Rattle.snap_judge.specs.Steps.{Step, Slot, Waits, Free, CanBeExplained, Explains, Move, taken}
 use Rattle.snap_judge.specs.Kept.{Can, GoesOn, IsConfig, IsReached, IsSettled, IsStuck, KeepsCounts, MayNotPass}
 use Rattle.snap_judge.specs.Kept.{first, seen_as, TellsOf}
-use Rattle.snap_judge.specs.Kept.{AreSteps, IsStepOf, called_at, operation_of, rest_of, slot_of, slots_of, step_of_kept, steps_kept}
+use Rattle.snap_judge.specs.Kept.{called_at, operation_of, rest_of, slot_of, slots_of, step_of_kept, steps_kept}
 use Rattle.snap_judge.specs.Nodes.{AreNodes, FailsBehind, HasCounts, HasSame, HasTried, IsEntered, IsNode, IsTried, NothingExplains, OnlyNodesLeft}
 use Rattle.snap_judge.proofs.SearchPass.{never_called}
 use Rattle.snap_judge.proofs.Leading.{explains_led, same_parts}
@@ -235,10 +235,6 @@ module _ (n w : ℕ) (steps : List KeptStep) (order order' : List ℕ) (front : 
           (ap (λ (x : Node). x.depth) (get_or-append_seam front node' [] d)) in
           let deep = has.deep in let depth = has.depth in omega (arith, same, deep, depth)
 
-  -- the node has tried one place more, where nothing explains the rest from there
-  pub retried_tried : (Can steps e.config → ⊥) → IsTried steps node'
-  retried_tried fails = has.tried fails
-
   pub retried_entered : IsEntered n w steps order' e
   retried_entered =
       subst (λ (m : ℕ). IsEntered m w steps order' e) was.counts.0
@@ -264,16 +260,6 @@ pub put_key : {K S : Type 0} (P : K → Type 0) (s s' : HashSet K S) (k : K) (ad
 put_key P s s' k true puts all p = All-permutation P (k ∷ s.keys) s'.keys puts (All-cons P k s.keys p all)
 put_key P s s' k false puts all p = subst (All P) (sym puts) all
 
--- what a look-up finds is there
-there_by : {K : Type 0} (x : K) (xs : List K) (r : Option K) (k : K) (b : Bool) → (r ≡ Some k → Contains xs k) →
-    cond b (Some x) r ≡ Some k → Contains (x ∷ xs) k
-there_by x xs r k true rest e = (0, omega arith, (let same : x ≡ k = cc in same))
-there_by x xs r k false rest e = let found = rest e in (suc found.0, (let lt = found.1 in omega (arith, lt)), found.2)
-
-pub found_there : {K : Type 0} (test : K → Bool) (ks : List K) (k : K) → find test ks ≡ Some k → Contains ks k
-found_there test [] k e = absurd (let no : ⊥ = cc in no)
-found_there test (x ∷ xs) k e = there_by x xs (find test xs) k (test x) (found_there test xs k) e
-
 -- Before a step that may not pass, and is no end, nothing explains the rest.
 pub no_end : (steps : List KeptStep) (c : Config) → IsStuck steps c →
     ((i : ℕ) → get_or steps c.position kept_step.Waits ≡ kept_step.Ends i → ⊥) → Can steps c → ⊥
@@ -293,11 +279,6 @@ no_end steps c stuck none can = by_step (get_or steps c.position kept_step.Waits
         (subst (λ (xs : List Step). Explains can.0 xs c.values.items (slots_of steps c)) (rest (kept_step.Calls o) is) can.1)
     by_step (kept_step.Ends i) is = none i is
     by_step kept_step.Waits is = subst (λ (y : KeptStep). MayNotPass (slots_of steps c) (step_of_kept y)) is stuck.1
-
--- the process that ends is one of those there are
-pub ends_one : (n w : ℕ) (steps : List KeptStep) (t i : ℕ) → AreSteps n w steps →
-    get_or steps t kept_step.Waits ≡ kept_step.Ends i → 0 < i
-ends_one n w steps t i are is = (subst (IsStepOf n w) is (are t)).0
 
 -- What the search has come to becomes a node that has tried nothing.
 module _ (n w : ℕ) (steps : List KeptStep) (order : List ℕ) (front : List Node) (e : Entered) (node : Node)
@@ -325,10 +306,6 @@ module _ (n w : ℕ) (steps : List KeptStep) (order : List ℕ) (front : List No
       one_more n w steps order front node are is_new
       (λ k d lt. let below = deeper k d lt in omega (arith, below, depth))
       (λ fails. (left (λ can. fails (subst (Can steps) (sym config) can))).1)
-
-  pub entered_left : OnlyNodesLeft n w steps (front ++ node ∷ [])
-  entered_left = left_of n w steps (front ++ node ∷ []) node
-      (λ d. fails_last n w steps d front node (λ p lt. absurd (omega (arith, lt, next))))
 
 -- Without nodes, nothing explains the history.
 pub without_nodes : (n w n' w' : ℕ) (steps : List KeptStep) (nodes : List Node) → n' ≡ n → w' ≡ w →
@@ -369,10 +346,6 @@ module _ (n w : ℕ) (steps : List KeptStep) (c : Config) (position : c.position
     placed = λ p j is. absurd (none_open n p j (ap (λ (l : List KeptSlot). get_or l p kept_slot.Free) (sym slots) ∙ is));
     tells = λ p j h. absurd (none_told n p j (subst (λ (l : List KeptSlot). TellsOf (get_or l p kept_slot.Free) j) slots h));
   }
-
-  pub first_settled : IsSettled steps c
-  first_settled p j is sees =
-      none_open n p j (ap (λ (l : List KeptSlot). get_or l p kept_slot.Free) (sym slots) ∙ is)
 
   first_slots : slots_of steps c ≡ replicate n Free
   first_slots = ap (map (slot_of steps)) slots ∙ all_free steps n
@@ -439,6 +412,10 @@ explains_all n w n' w' steps order e count width entered end = (
     nothing_left =
         drop_all e.config.position (steps_kept steps)
         (let len = length-map steps step_of_kept in let at = entered.at_end end in omega (arith, len, at))
+
+-- among no configurations there is no same one
+pub none_same : (failed : List Config) (c : Config) → length failed ≡ 0 → HasSame failed c → ⊥
+none_same failed c none has = let lt = has.1.1 in omega (arith, none, lt)
 
 -- from what is the same as what has failed nothing explains the rest
 pub same_fails : (steps : List KeptStep) (configs : List Config) (c : Config) →

@@ -23,32 +23,6 @@ pub enum Decision {
     Undecided,
 }
 
-/// Returns a copy of the action.
-fn copy_of_action(alloc: Global, action: &Action) -> Result<Action, AllocError>
-    ensures { IfOk result (λ a. a ≡ action.now) }
-{
-    match action {
-        Action::Sets { word, value } => Ok(Action::Sets {
-            word: *word,
-            value: *value,
-        }),
-        Action::Sees(view) => Ok(Action::Sees(view.copy(alloc)?)),
-    }
-}
-
-/// Returns a copy of the operation.
-fn copy_of(alloc: Global, operation: &Operation) -> Result<Operation, AllocError>
-    ensures { IfOk result (λ o. operation_of o ≡ operation_of operation.now) }
-{
-    let action = copy_of_action(alloc, &operation.action)?;
-    Ok(Operation {
-        process: operation.process,
-        call: operation.call,
-        end: operation.end,
-        action,
-    })
-}
-
 /// Returns an operation that sees no words, which stands for what a step calls that calls none.
 fn no_operation(alloc: Global, process: u32) -> Operation
     ensures process { result.process ≡ process }
@@ -69,7 +43,7 @@ fn called(alloc: Global, step: &Step) -> Result<Operation, AllocError>
     ensures { IfOk result (λ o. operation_of o ≡ called_by (step_of_kept step.now)) }
 {
     match step {
-        Step::Calls(operation) => copy_of(alloc, operation),
+        Step::Calls(operation) => operation.copy(alloc),
         Step::Ends(process) => Ok(no_operation(alloc, *process)),
         Step::Waits => Ok(no_operation(alloc, 0)),
     }

@@ -56,7 +56,8 @@ fn is_dead(steps: &[Step], failed: &HashSet<Config>, entered: &Entered) -> bool
     if entered.at_end {
         return false;
     }
-    if failed.contains(&entered.config) {
+    // As long as nothing has failed, no configuration is hashed.
+    if !failed.is_empty() && failed.contains(&entered.config) {
         return true;
     }
     match ending_at(steps, entered.config.position) {

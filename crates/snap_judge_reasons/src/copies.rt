@@ -1,9 +1,8 @@
-//! Copies of events and of operations.
+//! Copies of events.
 ghost use Rattle.std.specs.Prelude.{◌≡◌, ◌≤◌, length, IfOk};
 ghost use Rattle.snap_judge.specs.Linearizable.{up_to};
-ghost use Rattle.snap_judge.specs.Kept.{operation_of};
 
-use snap_judge::{Action, History, Operation};
+use snap_judge::History;
 use snap_semantics::{Event, Happening};
 use std::alloc::{AllocError, Global};
 
@@ -56,35 +55,5 @@ pub fn first_events(alloc: Global, history: &History, count: usize) -> Result<Hi
     Ok(History {
         shape: history.shape,
         events,
-    })
-}
-
-/// Returns a copy of the action.
-fn copy_of_action(alloc: Global, action: &Action) -> Result<Action, AllocError>
-    ensures { IfOk result (λ a. a ≡ action.now) }
-{
-    match action {
-        Action::Sets { word, value } => Ok(Action::Sets {
-            word: *word,
-            value: *value,
-        }),
-        Action::Sees(view) => Ok(Action::Sees(view.copy(alloc)?)),
-    }
-}
-
-/// Returns a copy of the operation.
-///
-/// # Errors
-///
-/// `AllocError` where memory runs out.
-pub fn copy_of_operation(alloc: Global, operation: &Operation) -> Result<Operation, AllocError>
-    ensures { IfOk result (λ o. operation_of o ≡ operation_of operation.now) }
-{
-    let action = copy_of_action(alloc, &operation.action)?;
-    Ok(Operation {
-        process: operation.process,
-        call: operation.call,
-        end: operation.end,
-        action,
     })
 }

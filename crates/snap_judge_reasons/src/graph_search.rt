@@ -3,7 +3,6 @@
 //! see, those that have been reached are the last ones, and none of them is looked at again.
 //!
 //! Nothing is proved of what the search finds: `is_circle` tests it.
-use crate::copies::copy_of_operation;
 use crate::graph::{Graph, Origin};
 use crate::reason::{Grounds, Reason};
 use snap_judge::{Action, Operation};
@@ -190,8 +189,8 @@ fn reason(
 ) -> Result<Reason, AllocError> {
     Ok(Reason {
         grounds,
-        first: copy_of_operation(alloc, first)?,
-        second: copy_of_operation(alloc, second)?,
+        first: first.copy(alloc)?,
+        second: second.copy(alloc)?,
     })
 }
 

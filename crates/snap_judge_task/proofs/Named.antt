@@ -1,16 +1,12 @@
 -- A judgement of a history names an event of it; and what stands behind a text is an order of what was before.
-use Rattle.std.proofs.Common.{◌≡◌, ℕ, ◌-◌, List, [], ◌∷◌, ◌++◌}
+use Rattle.std.proofs.Common.{◌≡◌, ℕ, ◌-◌, List, ◌++◌}
 use Rattle.snap_judge.specs.History.{History}
 use Rattle.snap_judge.specs.Judgement.{IsJudgement}
 use Rattle.snap_judge.specs.Linearizable.{up_to}
 use Rattle.snap_judge.specs.declared.judgements.Judgement.{Judgement}
 use Rattle.snap_judge.specs.declared.judgements.Judgement.TheVariants as judgement
 use Rattle.snap_history_text.specs.JudgementText.{NamesEvent}
-use Rattle.snap_judge_reasons.specs.FailureText.{failure_text}
-use Rattle.snap_judge_reasons.specs.Reasons.{IsCircle}
-use Rattle.snap_judge_reasons.specs.RightAnswers.{AreRightAnswers}
-use Rattle.snap_judge_reasons.specs.declared.reason.Reason.{Reason}
-use Rattle.snap_judge_task.specs.Failing.{IsCircleOrNone, TellsWhy, WasBefore, before_text}
+use Rattle.snap_judge_task.specs.Failing.{WasBefore, before_text}
 
 pub names_event : (most : ℕ) (h : History) (j : Judgement) → IsJudgement most h j → NamesEvent h j
 names_event most h (judgement.Linearizable order) is = tt
@@ -20,17 +16,3 @@ names_event most h (judgement.Undecided k) is = is.0
 pub was_before : (most : ℕ) (h : History) (k : ℕ) (j : Judgement) (text longer : List ℕ) →
     IsJudgement most (up_to (k - 1) h) j → longer ≡ text ++ before_text j → WasBefore most h k text longer
 was_before most h k j text longer is there = (j, is, there)
-
-circle : (h : History) (rs : List Reason) → IsCircle h rs → IsCircleOrNone h rs
-circle h [] is = tt
-circle h (r ∷ rs) is = is
-
--- what is told of right answers and of a circle
-pub told_why : (h : History) (k : ℕ) (views : List (List ℕ)) (rs : List Reason) (text : List ℕ) →
-    AreRightAnswers h k views → IsCircle (up_to k h) rs → text ≡ failure_text views rs → TellsWhy h k text
-told_why h k views rs text right is there = (views, rs, right, circle (up_to k h) rs is, there)
-
--- what is told of right answers alone
-pub told_answers : (h : History) (k : ℕ) (views : List (List ℕ)) (text : List ℕ) →
-    AreRightAnswers h k views → text ≡ failure_text views [] → TellsWhy h k text
-told_answers h k views text right there = (views, [], right, tt, there)

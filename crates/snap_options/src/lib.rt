@@ -1,6 +1,11 @@
-//! What the options of a command line give, as `clap` has read them.
+//! Command lines: what their options give, as `clap` has read them, what they ask for, and what a
+//! program does about one that asks for nothing.
 #![tactic(auto)]
 
+mod invocation;
 mod options;
 
-pub use options::{is_given, number_of};
+pub use invocation::{
+    Invocation, Unasked, Unread, answer_unasked, say_unread, unasked_by, words_of,
+};
+pub use options::{flag, is_given, kind_given, number, number_of, shipped};

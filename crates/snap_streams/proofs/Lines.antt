@@ -1,11 +1,11 @@
 -- A line that is typed at a console, kept byte by byte: `kept_on` for a byte, `line_at_end` for the line feed,
 -- `line_at_input_end` for the end of the input.
 use Rattle.std.proofs.Common.{◌≡◌, ◌≢◌, ℕ, ◌+◌, List, [], ◌∷◌, ◌++◌, Option, Some, None, Bool, true, false}
-use Rattle.std.proofs.Common.{if◌then◌else◌, ◌==◌, length, take, refl, sym, ap, ◌∙◌, subst}
-use Rattle.std.proofs.Common.{append_assoc, append-nil, IfSome, arith}
+use Rattle.std.proofs.Common.{if◌then◌else◌, ◌==◌, length, take, sym, ap, ◌∙◌, subst}
+use Rattle.std.proofs.Common.{append_assoc, IfSome, arith}
 use Rattle.std.proofs.lemmas.Grind.{common_steps}
 use Rattle.std.specs.Prelude.{nat_le}
-use Rattle.std.specs.Io.BufRead.{take_through, drop_through, DropsThrough}
+use Rattle.std.specs.Io.BufRead.{take_through, drop_through}
 use Rattle.snap_streams.specs.TypedLines.{kept, with_byte, GivesNext}
 use Rattle.snap_streams.specs.Talks.{HasKept}
 
@@ -16,11 +16,6 @@ kept_more_in most seen b = grind (arith, common_steps)
 
 pub kept_more : (seen : List ℕ) (b : ℕ) → with_byte (kept seen) b ≡ kept (seen ++ b ∷ [])
 kept_more seen b = sym (kept_more_in 1048576 seen b)
-
--- nothing is kept at first
-pub kept_first : (first : Option (List ℕ)) (line : List ℕ) → line ≡ [] → HasKept first first line
-kept_first None line none = tt
-kept_first (Some all) line none = (all, refl, [], refl, refl, none)
 
 is_line_feed : (b : ℕ) → b ≡ 10 → (b == 10) ≡ true
 is_line_feed b h = ap (λ x. x == 10) h
@@ -62,28 +57,3 @@ line_at_end (Some all) left next line now b h g is_now is_end =
     let takes : take_through 10 h.0 ≡ b ∷ [] =
     ap (take_through 10) t.1 ∙ ap (λ (x : Bool). if x then b ∷ [] else b ∷ take_through 10 t.0) on in
     is_now ∙ ap (λ l. with_byte l b) h.5 ∙ kept_more h.2 b ∙ ap kept (sym (h.3 ∙ ap (λ xs. h.2 ++ xs) takes))
-
-pub rest_at_end : (first left next : Option (List ℕ)) (line : List ℕ) (b : ℕ) → HasKept first left line →
-    GivesNext (Some b) left next → b ≡ 10 → DropsThrough first next 10
-rest_at_end None left next line b h g on = tt
-rest_at_end (Some all) left next line b h g is_end =
-    let on : (b == 10) ≡ true = is_line_feed b is_end in
-    let t : GivesNext (Some b) (Some h.0) next = subst (λ o. GivesNext (Some b) o next) h.1 g in
-    let drops : drop_through 10 h.0 ≡ t.0 =
-    ap (drop_through 10) t.1 ∙ ap (λ (x : Bool). if x then t.0 else drop_through 10 t.0) on in
-    t.2 ∙ ap Some (sym (h.4 ∙ drops))
-
--- the end of the input
-pub line_at_input_end : (first left next : Option (List ℕ)) (line : List ℕ) → HasKept first left line →
-    GivesNext None left next → IfSome first (λ xs. line ≡ kept (take_through 10 xs))
-line_at_input_end None left next line h g = tt
-line_at_input_end (Some all) left next line h g =
-    let t : GivesNext None (Some h.0) next = subst (λ o. GivesNext None o next) h.1 g in
-    h.5 ∙ ap kept (sym (h.3 ∙ ap (λ xs. h.2 ++ take_through 10 xs) t.0 ∙ append-nil h.2))
-
-pub rest_at_input_end : (first left next : Option (List ℕ)) (line : List ℕ) → HasKept first left line →
-    GivesNext None left next → DropsThrough first next 10
-rest_at_input_end None left next line h g = tt
-rest_at_input_end (Some all) left next line h g =
-    let t : GivesNext None (Some h.0) next = subst (λ o. GivesNext None o next) h.1 g in
-    t.1 ∙ ap Some (sym (h.4 ∙ ap (drop_through 10) t.0))

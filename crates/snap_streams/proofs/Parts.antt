@@ -1,5 +1,5 @@
 -- What was shown, and what has passed, of a dialog that was broken off.
-use Rattle.std.proofs.Common.{◌≡◌, ℕ, ◌+◌, ◌-◌, ◌^◌, ◌≤◌, List, [], ◌∷◌, ◌++◌, Option, Some, None, Bool, true, false}
+use Rattle.std.proofs.Common.{◌≡◌, ℕ, ◌+◌, ◌-◌, ◌≤◌, List, [], ◌∷◌, ◌++◌, Option, Some, None, Bool, true, false}
 use Rattle.std.proofs.Common.{Result, Ok, Err, length, take, drop, refl, sym, ap, ◌∙◌, subst, IfSome, arith}
 use Rattle.std.proofs.Common.{append-nil, ◌==◌, if◌then◌else◌, inl, inr}
 use Rattle.std.specs.Prelude.{IsErr, IsErrAnd, OnErr}
@@ -9,7 +9,6 @@ use Rattle.std.proofs.lemmas.Bool.{true≢false}
 use Rattle.std.proofs.lemmas.List.{take-append-drop}
 use Rattle.snap_streams.specs.Dialog.{IsBrokenOff, Next, SaysOrEnds, ShowsTranscriptPart}
 use Rattle.snap_streams.specs.Event.{Event, said, typed, Passes, PassesAll, Shows, ShowsPart}
-use Rattle.snap_streams.specs.Failures.{AreCountless, MayEndDialog}
 use Rattle.snap_streams.specs.Talks.{HasPassed, HasShown, HasTaken, PartPassed, PartShown, TurnShown}
 use Rattle.snap_streams.specs.TypedLines.{GivesNext, kept, typed_lines}
 use Rattle.snap_streams.specs.declared.dialog_fault.DialogFault.{DialogFault}
@@ -28,11 +27,6 @@ sent_in_part (Ok done) e text sink sink_after P h sent = absurd h.1
 sent_in_part (Err fault) e text sink sink_after P h sent =
     (take sent.0 text, drop sent.0 text, take-append-drop sent.0 text, sent.3)
 
--- nothing is taken yet
-pub none_taken : (first : Option (List ℕ)) → HasTaken 0 first first
-none_taken None = tt
-none_taken (Some all) = (all, refl, omega arith)
-
 -- one byte more
 pub byte_taken : (count b : ℕ) (first left next : Option (List ℕ)) → HasTaken count first left →
     GivesNext (Some b) left next → HasTaken (count + 1) first next
@@ -41,12 +35,6 @@ byte_taken count b (Some all) left next h gives =
     let t : GivesNext (Some b) (Some h.0) next = subst (λ o. GivesNext (Some b) o next) h.1 gives in
     let one : length h.0 ≡ length t.0 + 1 = ap length t.1 ∙ omega arith in
     (t.0, t.2, omega (arith, h.2, one))
-
--- as many as can be counted
-pub are_countless : (count : ℕ) (first left : Option (List ℕ)) → HasTaken count first left →
-    2 ^ 64 - 1 ≤ count → AreCountless first
-are_countless count None left h all = tt
-are_countless count (Some xs) left h all = omega (arith, h.2, all)
 
 -- a text that was put into an empty one
 pub into_empty : (text empty added : List ℕ) → text ≡ empty ++ added → empty ≡ [] → text ≡ added
@@ -181,13 +169,3 @@ turn_taken {S} prompt says next now later count (Some all) left rest v w more h 
       go [] fits drops shows = absurd (true≢false (sym on ∙ shows.1.1))
       go (b ∷ bs) fits drops shows =
           let less = a_byte_less b bs in (drop_through 10 (b ∷ bs), drops, omega (arith, fits, less))
-
--- why a turn was broken off, said of the whole input
-pub may_end_dialog : (e : DialogFault) (count : ℕ) (first left : Option (List ℕ)) → HasTaken count first left →
-    MayEndDialog e left → MayEndDialog e first
-may_end_dialog fault.Memory count first left h may = tt
-may_end_dialog fault.Read count first left h may = tt
-may_end_dialog fault.Write count first left h may = tt
-may_end_dialog fault.Endless count None left h may = tt
-may_end_dialog fault.Endless count (Some all) left h may =
-    let many : AreCountless (Some h.0) = subst AreCountless h.1 may in omega (arith, h.2, many)

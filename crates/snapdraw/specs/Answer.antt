@@ -1,15 +1,18 @@
 -- `AnswersLine`: what snapdraw does about its command line: what it writes for the files that are named, what it says,
 -- and the status that it ends with.
 use Rattle.std.specs.Prelude.{◌≡◌, ℕ, Bool, List, [], Option, Some, None, Result, Ok, Err, if◌then◌else◌}
-use Rattle.std.specs.Prelude.{codes, string_bytes}
+use Rattle.std.specs.Prelude.{codes}
 use Rattle.std.specs.declared.io.ErrorKind.{ErrorKind}
-use Rattle.snap_streams.specs.Sent.{Says, Sends, unsent}
+use Rattle.snap_streams.specs.Sent.{Sends, unsent}
 use Rattle.snap_streams.specs.declared.sending.Unsent.{Unsent}
 use Rattle.snap_streams.specs.State.{SinkState}
 use Rattle.snap_faults.specs.Names.{of_program}
-use Rattle.snap_faults.specs.Told.{Helps, SaysWhy, exit_status, no_memory_line, no_text_line, success}
+use Rattle.snap_faults.specs.Told.{SaysWhy, exit_status, success}
 use Rattle.snap_faults.specs.declared.fault.ProgramFault.{ProgramFault}
 use Rattle.snap_faults.specs.declared.fault.ProgramFault.TheVariants as fault
+use Rattle.snap_options.specs.CommandLines.{AnswersUnasked}
+use Rattle.snap_options.specs.declared.invocation.Invocation.{Invocation}
+use Rattle.snap_options.specs.declared.invocation.Unasked.{Unasked}
 use Rattle.snap_picture.specs.declared.options.Options.{Options}
 use Rattle.snap_named_files.specs.Explained.{explanation_in}
 use Rattle.snap_named_files.specs.Named.{names_of, view_named}
@@ -17,8 +20,6 @@ use Rattle.snap_named_files.specs.Texts.{AreTexts, Read, view_texts}
 use Rattle.snap_named_files.specs.declared.texts.Texts.{Texts}
 use Rattle.snap_semantics.specs.declared.refusal.Refusal.TheVariants.{InputTooLong}
 use Rattle.snapdraw.specs.declared.arguments.Drawing.{Drawing}
-use Rattle.snapdraw.specs.declared.command_line.CommandLine.{CommandLine}
-use Rattle.snapdraw.specs.declared.command_line.CommandLine.TheVariants.{Asks, Help, Wrong, NoText}
 use Rattle.snapdraw.specs.Drawing.{IsDrawing, options_of}
 
 -- what the program is called
@@ -63,25 +64,18 @@ DrawsRead (Err f) texts o style legend done sink sink_after =
 
 -- What the program does about a picture that is asked for. Where a text is refused, it is the one that is explained.
 abbrev pub AnswersDrawing : (files : List ℕ → Option (Result (List ℕ) ErrorKind)) → (style legend : List ℕ) →
-    Drawing → (status : ℕ) → (sink sink_after errors errors_after : SinkState) → Type 0
-AnswersDrawing files style legend d status sink sink_after errors errors_after =
+    Invocation Drawing → (status : ℕ) → (sink sink_after errors errors_after : SinkState) → Type 0
+AnswersDrawing files style legend asked status sink sink_after errors errors_after =
     (done : Result (Unit {0}) ProgramFault) × (read : Result Texts ProgramFault) × (texts : Option Read)
-    × (status ≡ exit_status success done) × AreTexts files (view_named d.named) read
-    × DrawsRead read texts (options_of d) style legend done sink sink_after
-    × SaysWhy (names_of called (view_named d.named)) (explained d.explains texts) done errors errors_after
+    × (status ≡ exit_status success done) × AreTexts files (view_named asked.request.named) read
+    × DrawsRead read texts (options_of asked.request) style legend done sink sink_after
+    × SaysWhy (names_of called (view_named asked.request.named)) (explained asked.explains texts) done errors errors_after
 
--- What the program does about a command line, or where there was no memory to read it: what it gives its sink and its
+-- What the program does about a command line, or about one that asks for no picture: what it gives its sink and its
 -- device for messages, and its status.
-abbrev pub AnswersLine : {E : Type 0} → (files : List ℕ → Option (Result (List ℕ) ErrorKind)) →
-    (style legend : List ℕ) → Result CommandLine E → (status : ℕ) →
-    (sink sink_after errors errors_after : SinkState) → Type 0
-AnswersLine files style legend (Ok (Asks d)) status sink sink_after errors errors_after =
-    AnswersDrawing files style legend d status sink sink_after errors errors_after
-AnswersLine files style legend (Ok (Help text)) status sink sink_after errors errors_after =
-    Helps (of_program called) (string_bytes text) status sink sink_after errors errors_after
-AnswersLine files style legend (Ok (Wrong text)) status sink sink_after errors errors_after =
-    (status ≡ 2) × (sink ≡ sink_after) × Says (string_bytes text) errors errors_after
-AnswersLine files style legend (Ok NoText) status sink sink_after errors errors_after =
-    (status ≡ 2) × (sink ≡ sink_after) × Says no_text_line errors errors_after
-AnswersLine files style legend (Err e) status sink sink_after errors errors_after =
-    (status ≡ 1) × (sink ≡ sink_after) × Says no_memory_line errors errors_after
+abbrev pub AnswersLine : (files : List ℕ → Option (Result (List ℕ) ErrorKind)) → (style legend : List ℕ) →
+    Result (Invocation Drawing) Unasked → (status : ℕ) → (sink sink_after errors errors_after : SinkState) → Type 0
+AnswersLine files style legend (Ok asked) status sink sink_after errors errors_after =
+    AnswersDrawing files style legend asked status sink sink_after errors errors_after
+AnswersLine files style legend (Err unasked) status sink sink_after errors errors_after =
+    AnswersUnasked (of_program called) unasked status sink sink_after errors errors_after

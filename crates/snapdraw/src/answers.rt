@@ -10,15 +10,13 @@ ghost use Rattle.snap_named_files.specs.Named.{names_of, view_named};
 ghost use Rattle.snap_named_files.specs.Texts.{view_texts};
 
 use crate::arguments::Drawing;
-use crate::command_line::CommandLine;
 use crate::drawing::draw;
-use snap_faults::{
-    Names, ProgramFault, complain, fault_status, help, say_no_memory, say_no_text, tell,
-};
+use snap_faults::{ProgramFault, complain, fault_status, tell};
 use snap_named_files::{Texts, explanation_in, names_of, read_texts};
+use snap_options::{Invocation, Unasked, answer_unasked};
 use snap_picture::Look;
 use snap_semantics::Refusal;
-use snap_streams::{ByteSink, FileSource, say, write_all};
+use snap_streams::{ByteSink, FileSource, write_all};
 use std::alloc::{AllocError, Global};
 
 /// What the program is called.
@@ -74,19 +72,19 @@ fn explained(
 /// it, and returns the status.
 fn explain<E: ByteSink>(
     alloc: Global,
-    drawing: &Drawing<'_>,
+    asked: &Invocation<Drawing<'_>>,
     texts: Option<&Texts>,
     fault: &ProgramFault,
     errors: &mut E,
 ) -> u8
     requires { (E.state errors.old).failed ≡ false }
     ensures status { result ≡ fault_status fault.now }
-    ensures says { TellsMore (names_of called (view_named drawing.now.named)) fault.now
-        (explained drawing.now.explains (option_map (λ t. view_texts t.now) texts.entry) fault.now)
+    ensures says { TellsMore (names_of called (view_named asked.now.request.named)) fault.now
+        (explained asked.now.explains (option_map (λ t. view_texts t.now) texts.entry) fault.now)
         (E.state errors.old) (E.state errors.new) }
 {
-    let names = names_of(PROGRAM, &drawing.named);
-    match explained(alloc, drawing.explains, texts, fault) {
+    let names = names_of(PROGRAM, &asked.request.named);
+    match explained(alloc, asked.explains, texts, fault) {
         Ok(more) => tell(alloc, &names, fault, more.as_slice(), errors),
         Err(_) => {
             complain(alloc, &names, fault, errors);
@@ -98,27 +96,27 @@ fn explain<E: ByteSink>(
 /// Returns the status of a picture, and says its fault if there is one.
 fn finish<E: ByteSink>(
     alloc: Global,
-    drawing: &Drawing<'_>,
+    asked: &Invocation<Drawing<'_>>,
     texts: Option<&Texts>,
     done: &Result<(), ProgramFault>,
     errors: &mut E,
 ) -> u8
     requires { (E.state errors.old).failed ≡ false }
     ensures status { result ≡ exit_status success done.now }
-    ensures says { SaysWhy (names_of called (view_named drawing.now.named))
-        (explained drawing.now.explains (option_map (λ t. view_texts t.now) texts.entry)) done.now
+    ensures says { SaysWhy (names_of called (view_named asked.now.request.named))
+        (explained asked.now.explains (option_map (λ t. view_texts t.now) texts.entry)) done.now
         (E.state errors.old) (E.state errors.new) }
 {
     match done {
         Ok(()) => 0,
-        Err(fault) => explain(alloc, drawing, texts, fault, errors),
+        Err(fault) => explain(alloc, asked, texts, fault, errors),
     }
 }
 
 /// Draws a picture, says why if nothing, or not all, is drawn, and returns the status.
 fn draw_asked<F: FileSource, W: ByteSink, E: ByteSink>(
     alloc: Global,
-    drawing: &Drawing<'_>,
+    asked: &Invocation<Drawing<'_>>,
     look: &Look<'_>,
     files: &F,
     sink: &mut W,
@@ -126,22 +124,22 @@ fn draw_asked<F: FileSource, W: ByteSink, E: ByteSink>(
 ) -> u8
     requires sink { (W.state sink.old).failed ≡ false }
     requires errors { (E.state errors.old).failed ≡ false }
-    ensures { AnswersDrawing (F.found files.now) look.now.style.now look.now.legend.now drawing.now
+    ensures { AnswersDrawing (F.found files.now) look.now.style.now look.now.legend.now asked.now
         result (W.state sink.old) (W.state sink.new) (E.state errors.old) (E.state errors.new) }
 {
-    match read_texts(alloc, files, &drawing.named) {
+    match read_texts(alloc, files, &asked.request.named) {
         Ok(texts) => {
-            let done = draw_and_write(alloc, &texts, drawing, look, sink);
-            finish(alloc, drawing, Some(&texts), &done, errors)
+            let done = draw_and_write(alloc, &texts, &asked.request, look, sink);
+            finish(alloc, asked, Some(&texts), &done, errors)
         }
-        Err(fault) => finish(alloc, drawing, None, &Err(fault), errors),
+        Err(fault) => finish(alloc, asked, None, &Err(fault), errors),
     }
 }
 
 /// Does what a command line is for, and returns the status.
 pub(crate) fn answer<F: FileSource, W: ByteSink, E: ByteSink>(
     alloc: Global,
-    line: &Result<CommandLine<'_>, AllocError>,
+    line: &Result<Invocation<Drawing<'_>>, Unasked>,
     look: &Look<'_>,
     files: &F,
     sink: &mut W,
@@ -153,25 +151,7 @@ pub(crate) fn answer<F: FileSource, W: ByteSink, E: ByteSink>(
         (W.state sink.old) (W.state sink.new) (E.state errors.old) (E.state errors.new) }
 {
     match line {
-        Ok(CommandLine::Asks(drawing)) => draw_asked(alloc, drawing, look, files, sink, errors),
-        Ok(CommandLine::Help(text)) => help(
-            alloc,
-            &Names::of_program(PROGRAM),
-            text.as_bytes(),
-            sink,
-            errors,
-        ),
-        Ok(CommandLine::Wrong(text)) => {
-            say(text.as_bytes(), errors);
-            2
-        }
-        Ok(CommandLine::NoText) => {
-            say_no_text(errors);
-            2
-        }
-        Err(_) => {
-            say_no_memory(errors);
-            1
-        }
+        Ok(asked) => draw_asked(alloc, asked, look, files, sink, errors),
+        Err(unasked) => answer_unasked(alloc, PROGRAM, unasked, sink, errors),
     }
 }

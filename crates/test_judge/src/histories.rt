@@ -11,7 +11,7 @@ use std::alloc::{AllocError, Global};
 use std::test::Fail;
 
 /// Returns a call of a scan by a process.
-fn scan(item: u64, process: u32) -> Event
+pub fn scan(item: u64, process: u32) -> Event
     ensures { result ≡ record { item = item; process = process; what = what.Call op.Scan } }
 {
     Event {
@@ -21,23 +21,23 @@ fn scan(item: u64, process: u32) -> Event
     }
 }
 
-/// Returns a call of an update of word 1 by a process.
-fn update(item: u64, process: u32, value: u64) -> Event
+/// Returns a call of an update by a process.
+pub fn update(item: u64, process: u32, word: u64, value: u64) -> Event
     ensures { result ≡ record {
       item = item;
       process = process;
-      what = what.Call (op.Update 1 value);
+      what = what.Call (op.Update word value);
     } }
 {
     Event {
         item,
         process,
-        what: Happening::Call(Op::Update { word: 1, value }),
+        what: Happening::Call(Op::Update { word, value }),
     }
 }
 
 /// Returns the end of an update of a process.
-fn done(item: u64, process: u32) -> Event
+pub fn done(item: u64, process: u32) -> Event
     ensures { result ≡ record { item = item; process = process; what = what.Done } }
 {
     Event {
@@ -72,8 +72,8 @@ pub fn two_updates(alloc: Global, last: u64) -> Result<History, Fail>
     let first_view = answer(alloc, 4, 3, 8)?;
     let last_view = answer(alloc, 8, 3, last)?;
     let events = vec![in alloc;
-        update(1, 1, 7),
-        update(2, 2, 8),
+        update(1, 1, 1, 7),
+        update(2, 2, 1, 8),
         scan(3, 3),
         first_view,
         done(5, 1),
@@ -93,7 +93,7 @@ pub fn open_update(alloc: Global, first: u64, last: u64) -> Result<History, Fail
     let first_view = answer(alloc, 3, 2, first)?;
     let last_view = answer(alloc, 5, 2, last)?;
     let events = vec![in alloc;
-        update(1, 1, 7),
+        update(1, 1, 1, 7),
         scan(2, 2),
         first_view,
         scan(4, 2),

@@ -2,50 +2,13 @@
 ghost use Rattle.std.specs.Prelude.{◌≡◌, [], ◌∷◌, IfOk};
 ghost use Rattle.snap_judge.specs.History.{IsHistory};
 ghost use Rattle.snap_semantics.specs.declared.event.Happening.TheVariants as what;
-ghost use Rattle.snap_semantics.specs.declared.process.Op.TheVariants as op;
 
+use crate::histories::{done, scan, update};
 use snap_judge::History;
-use snap_semantics::{Event, Happening, Op};
+use snap_semantics::{Event, Happening};
 use snap_words::{Shape, View};
 use std::alloc::{AllocError, Global};
 use std::test::Fail;
-
-/// Returns a call of a scan by a process.
-fn scan(item: u64, process: u32) -> Event
-    ensures { result ≡ record { item = item; process = process; what = what.Call op.Scan } }
-{
-    Event {
-        item,
-        process,
-        what: Happening::Call(Op::Scan),
-    }
-}
-
-/// Returns a call of an update by a process.
-fn update(item: u64, process: u32, word: u64, value: u64) -> Event
-    ensures { result ≡ record {
-      item = item;
-      process = process;
-      what = what.Call (op.Update word value);
-    } }
-{
-    Event {
-        item,
-        process,
-        what: Happening::Call(Op::Update { word, value }),
-    }
-}
-
-/// Returns the end of an update of a process.
-fn done(item: u64, process: u32) -> Event
-    ensures { result ≡ record { item = item; process = process; what = what.Done } }
-{
-    Event {
-        item,
-        process,
-        what: Happening::Done,
-    }
-}
 
 /// Returns the answer of a process's scan with these values of the two words.
 fn answer(

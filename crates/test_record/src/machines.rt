@@ -28,6 +28,12 @@ const UPDATE: Op = Op::Update { word: 1, value: 5 };
 
 const SCAN: Op = Op::Scan;
 
+/// A step of process 1.
+const STEP: Item = Item::Step(1);
+
+/// A crash of process 1.
+const CRASH: Item = Item::Crash(1);
+
 /// A word has one index alone.
 const LONE: Address = Address {
     bank: Bank::R,
@@ -35,209 +41,149 @@ const LONE: Address = Address {
     j: 1,
 };
 
-/// The lines of a listing, the operation that process 1 of 2 is asked for, the steps that go well,
-/// and why the next traps.
-type Trap = (&'static [u8], Op, u64, Cause);
+/// What process 1 of 2 is asked for, the steps that go well, and why the next traps.
+type Way = (Op, u64, Cause);
+
+// The first line traps, or the second one where the name ends in 2; of a scan, or of an update.
+const BAD_END: Way = (SCAN, 0, Cause::BadEnd);
+
+const INDEX: Way = (SCAN, 0, Cause::Index);
+
+const INDEX_2: Way = (SCAN, 1, Cause::Index);
+
+const NESTED_2: Way = (SCAN, 1, Cause::Nested);
+
+const NOT_A_BIT: Way = (SCAN, 0, Cause::NotABit);
+
+const OFF_END: Way = (SCAN, 0, Cause::OffEnd);
+
+const OFF_END_2: Way = (SCAN, 1, Cause::OffEnd);
+
+const OVERFLOW_2: Way = (SCAN, 1, Cause::Overflow);
+
+const OWNER: Way = (SCAN, 0, Cause::Owner);
+
+const PUT_BAD_END: Way = (UPDATE, 0, Cause::BadEnd);
+
+const PUT_BAD_END_2: Way = (UPDATE, 1, Cause::BadEnd);
+
+const PUT_INDEX: Way = (UPDATE, 0, Cause::Index);
+
+const PUT_NOT_A_BIT: Way = (UPDATE, 0, Cause::NotABit);
+
+const PUT_NOT_A_BIT_2: Way = (UPDATE, 1, Cause::NotABit);
+
+const PUT_OFF_END: Way = (UPDATE, 0, Cause::OffEnd);
+
+const PUT_OVERFLOW_2: Way = (UPDATE, 1, Cause::Overflow);
+
+const PUT_OWNER: Way = (UPDATE, 0, Cause::Owner);
+
+/// The lines of a listing, and how they trap.
+type Trap = (&'static [u8], Way);
 
 /// Lines of kind seq.
 const SEQ_TRAPS: &[Trap] = &[
-    (b"1: let x = m[0]\n2: finish\n", SCAN, 0, Cause::Index),
-    (b"1: let x = m[3]\n2: finish\n", SCAN, 0, Cause::Index),
-    (b"1: let x = seq(a[3])\n2: finish\n", SCAN, 0, Cause::Index),
+    (b"1: let x = m[0]\n2: finish\n", INDEX),
+    (b"1: let x = m[3]\n2: finish\n", INDEX),
+    (b"1: let x = seq(a[3])\n2: finish\n", INDEX),
     (
         b"1: let x = 18446744073709551615\n2: let x = x + 1\n3: finish\n",
-        SCAN,
-        1,
-        Cause::Overflow,
+        OVERFLOW_2,
     ),
-    (b"1: let x = m[9] + m[9]\n", SCAN, 0, Cause::Index),
-    (b"1: let x = 1\n", SCAN, 0, Cause::OffEnd),
-    (b"1: let m[0] = 1\n2: finish\n", SCAN, 0, Cause::Index),
+    (b"1: let x = m[9] + m[9]\n", INDEX),
+    (b"1: let x = 1\n", OFF_END),
+    (b"1: let m[0] = 1\n2: finish\n", INDEX),
     (
         b"1: let x = 18446744073709551615\n2: let m[9] = x + x\n3: finish\n",
-        SCAN,
-        1,
-        Cause::Index,
+        INDEX_2,
     ),
     (
         b"1: let x = 18446744073709551615\n2: let m[1] = x + x\n3: finish\n",
-        SCAN,
-        1,
-        Cause::Overflow,
+        OVERFLOW_2,
     ),
-    (b"1: let m[1] = 1\n", SCAN, 0, Cause::OffEnd),
-    (b"1: get a[3] = r[1]\n2: finish\n", SCAN, 0, Cause::Index),
-    (b"1: get a[1] = r[0]\n2: finish\n", SCAN, 0, Cause::Index),
-    (b"1: get a[1] = r[1]\n", SCAN, 0, Cause::OffEnd),
-    (
-        b"1: put r[3] = (arg, 0, s)\n2: finish\n",
-        UPDATE,
-        0,
-        Cause::Index,
-    ),
-    (
-        b"1: put r[2] = (m[9], 0, s)\n2: finish\n",
-        UPDATE,
-        0,
-        Cause::Index,
-    ),
+    (b"1: let m[1] = 1\n", OFF_END),
+    (b"1: get a[3] = r[1]\n2: finish\n", INDEX),
+    (b"1: get a[1] = r[0]\n2: finish\n", INDEX),
+    (b"1: get a[1] = r[1]\n", OFF_END),
+    (b"1: put r[3] = (arg, 0, s)\n2: finish\n", PUT_INDEX),
+    (b"1: put r[2] = (m[9], 0, s)\n2: finish\n", PUT_INDEX),
     (
         b"1: let x = 18446744073709551615\n2: put r[1] = (x + x, m[9], s)\n3: finish\n",
-        UPDATE,
-        1,
-        Cause::Overflow,
+        PUT_OVERFLOW_2,
     ),
-    (
-        b"1: put r[2] = (arg, 0, s)\n2: finish\n",
-        UPDATE,
-        0,
-        Cause::Owner,
-    ),
-    (b"1: put r[2] = (arg, 0, s)\n", UPDATE, 0, Cause::Owner),
-    (b"1: put r[1] = (arg, 0, s)\n", UPDATE, 0, Cause::OffEnd),
-    (b"1: view s = data(a)\n", SCAN, 0, Cause::OffEnd),
-    (
-        b"1: view s = view(a[3])\n2: return s\n",
-        SCAN,
-        0,
-        Cause::Index,
-    ),
-    (b"1: view s = view(a[1])\n", SCAN, 0, Cause::OffEnd),
-    (
-        b"1: each n: m[@] = m[0]\n2: finish\n",
-        SCAN,
-        0,
-        Cause::Index,
-    ),
-    (
-        b"1: each n: m[@] = 1 where m[3] = 1\n2: finish\n",
-        SCAN,
-        0,
-        Cause::Index,
-    ),
-    (
-        b"1: each n: m[@] = m[3] where 1 = 2\n2: finish\n",
-        SCAN,
-        0,
-        Cause::Index,
-    ),
+    (b"1: put r[2] = (arg, 0, s)\n2: finish\n", PUT_OWNER),
+    (b"1: put r[2] = (arg, 0, s)\n", PUT_OWNER),
+    (b"1: put r[1] = (arg, 0, s)\n", PUT_OFF_END),
+    (b"1: view s = data(a)\n", OFF_END),
+    (b"1: view s = view(a[3])\n2: return s\n", INDEX),
+    (b"1: view s = view(a[1])\n", OFF_END),
+    (b"1: each n: m[@] = m[0]\n2: finish\n", INDEX),
+    (b"1: each n: m[@] = 1 where m[3] = 1\n2: finish\n", INDEX),
+    (b"1: each n: m[@] = m[3] where 1 = 2\n2: finish\n", INDEX),
     (
         b"1: let x = 18446744073709551615\n2: each n: m[@] = x + 1 where m[3] = 1\n3: finish\n",
-        SCAN,
-        1,
-        Cause::Overflow,
+        OVERFLOW_2,
     ),
-    (b"1: each n: m[@] = 1\n", SCAN, 0, Cause::OffEnd),
-    (
-        b"1: first x n: m[3] = 1 goto 2\n2: finish\n",
-        SCAN,
-        0,
-        Cause::Index,
-    ),
-    (b"1: first x n: m[@] = 1 goto 1\n", SCAN, 0, Cause::OffEnd),
-    (
-        b"1: let x = 2\n2: next x n goto 1\n",
-        SCAN,
-        1,
-        Cause::OffEnd,
-    ),
-    (b"1: if m[3] = 1 goto 1\n", SCAN, 0, Cause::Index),
-    (b"1: if 1 = 1 or m[3] = 1 goto 1\n", SCAN, 0, Cause::Index),
-    (b"1: if 1 = 2 goto 1\n", SCAN, 0, Cause::OffEnd),
-    (b"1: if all n: m[3] = 1 goto 1\n", SCAN, 0, Cause::Index),
-    (b"1: if all n: 1 = 2 goto 1\n", SCAN, 0, Cause::OffEnd),
-    (b"1: call 2\n2: call 1\n3: finish\n", SCAN, 1, Cause::Nested),
-    (b"1: call 1\n", SCAN, 0, Cause::OffEnd),
-    (b"1: return s\n", UPDATE, 0, Cause::BadEnd),
-    (b"1: finish\n", SCAN, 0, Cause::BadEnd),
-    (b"1: call 2\n2: finish\n", UPDATE, 1, Cause::BadEnd),
+    (b"1: each n: m[@] = 1\n", OFF_END),
+    (b"1: first x n: m[3] = 1 goto 2\n2: finish\n", INDEX),
+    (b"1: first x n: m[@] = 1 goto 1\n", OFF_END),
+    (b"1: let x = 2\n2: next x n goto 1\n", OFF_END_2),
+    (b"1: if m[3] = 1 goto 1\n", INDEX),
+    (b"1: if 1 = 1 or m[3] = 1 goto 1\n", INDEX),
+    (b"1: if 1 = 2 goto 1\n", OFF_END),
+    (b"1: if all n: m[3] = 1 goto 1\n", INDEX),
+    (b"1: if all n: 1 = 2 goto 1\n", OFF_END),
+    (b"1: call 2\n2: call 1\n3: finish\n", NESTED_2),
+    (b"1: call 1\n", OFF_END),
+    (b"1: return s\n", PUT_BAD_END),
+    (b"1: finish\n", BAD_END),
+    (b"1: call 2\n2: finish\n", PUT_BAD_END_2),
 ];
 
 /// Lines with bits: places come first, then what is no bit, then the owner, then the end of the
 /// lines.
 const BIT_TRAPS: &[Trap] = &[
-    (b"1: bit x = q[0,1]\n2: finish\n", SCAN, 0, Cause::Index),
-    (b"1: bit x = q[1,3]\n2: finish\n", SCAN, 0, Cause::Index),
-    (b"1: bit x = q[2,2]\n", SCAN, 0, Cause::OffEnd),
-    (
-        b"1: let x = hand(a[3],1)\n2: finish\n",
-        SCAN,
-        0,
-        Cause::Index,
-    ),
-    (
-        b"1: let x = hand(a[1],0)\n2: finish\n",
-        SCAN,
-        0,
-        Cause::Index,
-    ),
-    (
-        b"1: let x = hand(a[1],3)\n2: finish\n",
-        SCAN,
-        0,
-        Cause::Index,
-    ),
-    (b"1: let x = hand(a[2],2)\n", SCAN, 0, Cause::OffEnd),
-    (b"1: put q[3,1] = 2\n2: finish\n", SCAN, 0, Cause::Index),
-    (b"1: put q[1,3] = m[9]\n2: finish\n", SCAN, 0, Cause::Index),
-    (b"1: put q[2,1] = 2\n2: finish\n", SCAN, 0, Cause::NotABit),
-    (b"1: put q[2,1] = 1\n", SCAN, 0, Cause::Owner),
-    (b"1: put q[1,2] = 1\n", SCAN, 0, Cause::OffEnd),
-    (
-        b"1: put r[3] = (arg, m, 2, s)\n2: finish\n",
-        UPDATE,
-        0,
-        Cause::Index,
-    ),
-    (
-        b"1: put r[2] = (arg, m, m[9], s)\n2: finish\n",
-        UPDATE,
-        0,
-        Cause::Index,
-    ),
-    (
-        b"1: put r[2] = (arg, m, 2, s)\n2: finish\n",
-        UPDATE,
-        0,
-        Cause::NotABit,
-    ),
+    (b"1: bit x = q[0,1]\n2: finish\n", INDEX),
+    (b"1: bit x = q[1,3]\n2: finish\n", INDEX),
+    (b"1: bit x = q[2,2]\n", OFF_END),
+    (b"1: let x = hand(a[3],1)\n2: finish\n", INDEX),
+    (b"1: let x = hand(a[1],0)\n2: finish\n", INDEX),
+    (b"1: let x = hand(a[1],3)\n2: finish\n", INDEX),
+    (b"1: let x = hand(a[2],2)\n", OFF_END),
+    (b"1: put q[3,1] = 2\n2: finish\n", INDEX),
+    (b"1: put q[1,3] = m[9]\n2: finish\n", INDEX),
+    (b"1: put q[2,1] = 2\n2: finish\n", NOT_A_BIT),
+    (b"1: put q[2,1] = 1\n", OWNER),
+    (b"1: put q[1,2] = 1\n", OFF_END),
+    (b"1: put r[3] = (arg, m, 2, s)\n2: finish\n", PUT_INDEX),
+    (b"1: put r[2] = (arg, m, m[9], s)\n2: finish\n", PUT_INDEX),
+    (b"1: put r[2] = (arg, m, 2, s)\n2: finish\n", PUT_NOT_A_BIT),
     (
         b"1: let m[2] = 2\n2: put r[2] = (arg, m, 0, s)\n3: finish\n",
-        UPDATE,
-        1,
-        Cause::NotABit,
+        PUT_NOT_A_BIT_2,
     ),
-    (b"1: put r[2] = (arg, m, 1, s)\n", UPDATE, 0, Cause::Owner),
-    (b"1: put r[1] = (arg, m, 1, s)\n", UPDATE, 0, Cause::OffEnd),
+    (b"1: put r[2] = (arg, m, 1, s)\n", PUT_OWNER),
+    (b"1: put r[1] = (arg, m, 1, s)\n", PUT_OFF_END),
 ];
 
 /// Lines of kind multi, in whose banks a process has registers of its own beside the words.
 const MULTI_TRAPS: &[Trap] = &[
-    (b"1: bit x = p[3,1]\n2: finish\n", SCAN, 0, Cause::Index),
-    (b"1: put p[2,3] = 2\n2: finish\n", SCAN, 0, Cause::Index),
-    (b"1: put p[2,1] = 2\n2: finish\n", SCAN, 0, Cause::NotABit),
-    (b"1: put p[2,1] = 0\n", SCAN, 0, Cause::Owner),
-    (b"1: put p[1,2] = 0\n", SCAN, 0, Cause::OffEnd),
-    (b"1: put q[2,1] = 0\n", SCAN, 0, Cause::Owner),
-    (b"1: look s = v[0]\n2: finish\n", SCAN, 0, Cause::Index),
-    (b"1: look s = v[2]\n", SCAN, 0, Cause::OffEnd),
-    (b"1: put v[3] = s\n2: finish\n", SCAN, 0, Cause::Index),
-    (b"1: put v[2] = s\n", SCAN, 0, Cause::Owner),
-    (b"1: put v[1] = s\n", SCAN, 0, Cause::OffEnd),
-    (
-        b"1: put r[3] = (arg, me, 2)\n2: finish\n",
-        UPDATE,
-        0,
-        Cause::Index,
-    ),
-    (
-        b"1: put r[2] = (arg, m[9], 2)\n2: finish\n",
-        UPDATE,
-        0,
-        Cause::Index,
-    ),
-    (b"1: put r[2] = (arg, me, 2)\n", UPDATE, 0, Cause::NotABit),
-    (b"1: put r[2] = (arg, me, 1)\n", UPDATE, 0, Cause::OffEnd),
+    (b"1: bit x = p[3,1]\n2: finish\n", INDEX),
+    (b"1: put p[2,3] = 2\n2: finish\n", INDEX),
+    (b"1: put p[2,1] = 2\n2: finish\n", NOT_A_BIT),
+    (b"1: put p[2,1] = 0\n", OWNER),
+    (b"1: put p[1,2] = 0\n", OFF_END),
+    (b"1: put q[2,1] = 0\n", OWNER),
+    (b"1: look s = v[0]\n2: finish\n", INDEX),
+    (b"1: look s = v[2]\n", OFF_END),
+    (b"1: put v[3] = s\n2: finish\n", INDEX),
+    (b"1: put v[2] = s\n", OWNER),
+    (b"1: put v[1] = s\n", OFF_END),
+    (b"1: put r[3] = (arg, me, 2)\n2: finish\n", PUT_INDEX),
+    (b"1: put r[2] = (arg, m[9], 2)\n2: finish\n", PUT_INDEX),
+    (b"1: put r[2] = (arg, me, 2)\n", PUT_NOT_A_BIT),
+    (b"1: put r[2] = (arg, me, 1)\n", PUT_OFF_END),
 ];
 
 /// An update puts a word, a bit of each bank and a view; a scan reads them.
@@ -308,104 +254,58 @@ fn does<K: Kind>(machine: &mut Machine<K>, item: Item) -> Result<Outcome, Fail>
     Ok(machine.apply(item)?)
 }
 
-/// Makes a step of process 1.
-fn step<K: Kind>(rt: &impl Abort, machine: &mut Machine<K>) -> Result<Outcome, Fail> {
-    assert!(rt; has(machine, 1));
-    does(machine, Item::Step(1))
+/// Returns a call of process 1.
+fn call(op: Op) -> Item
+    ensures { who result ≡ 1 }
+{
+    Item::Call(1, op)
 }
 
-/// Makes a call of process 1.
-fn call<K: Kind>(rt: &impl Abort, machine: &mut Machine<K>, op: Op) -> Result<Outcome, Fail> {
-    assert!(rt; has(machine, 1));
-    does(machine, Item::Call(1, op))
-}
-
-/// Checks that process 1 is called.
-fn is_called<K: Kind>(rt: &impl Abort, machine: &mut Machine<K>, op: Op) -> Result<(), Fail> {
-    match call(rt, machine, op)? {
-        Outcome::Called => Ok(()),
-        other => differs(rt, &other),
+/// Returns whether two outcomes are the same, and no answers.
+fn is_same(one: &Outcome, other: &Outcome) -> bool {
+    match (one, other) {
+        (Outcome::Called, Outcome::Called)
+        | (Outcome::Stepped, Outcome::Stepped)
+        | (Outcome::Finished, Outcome::Finished)
+        | (Outcome::Crashed, Outcome::Crashed) => true,
+        (Outcome::Trapped(one), Outcome::Trapped(other)) => one == other,
+        (Outcome::Skipped(one), Outcome::Skipped(other)) => one == other,
+        _ => false,
     }
 }
 
-/// Checks that a call of process 1 is skipped for this reason.
-fn is_not_called<K: Kind>(
+/// Checks that an item of process 1 has this outcome.
+fn comes_to<K: Kind>(
     rt: &impl Abort,
     machine: &mut Machine<K>,
-    op: Op,
+    item: Item,
+    want: &Outcome,
+) -> Result<(), Fail>
+    requires { who item ≡ 1 }
+{
+    assert!(rt; has(machine, 1));
+    let found = does(machine, item)?;
+    assert!(rt; is_same(&found, want), "{found:?}");
+    Ok(())
+}
+
+/// Checks that an item of process 1 is skipped for this reason.
+fn is_skipped<K: Kind>(
+    rt: &impl Abort,
+    machine: &mut Machine<K>,
+    item: Item,
     reason: Reason,
-) -> Result<(), Fail> {
-    match call(rt, machine, op)? {
-        Outcome::Skipped(found) => {
-            assert_eq!(rt; found, reason);
-            Ok(())
-        }
-        other => differs(rt, &other),
-    }
+) -> Result<(), Fail>
+    requires { who item ≡ 1 }
+{
+    comes_to(rt, machine, item, &Outcome::Skipped(reason))
 }
 
 /// Checks that `steps` steps of process 1 go well.
 fn goes_on<K: Kind>(rt: &impl Abort, machine: &mut Machine<K>, steps: u64) -> Result<(), Fail> {
     for _ in 0..steps {
-        match step(rt, machine)? {
-            Outcome::Stepped => {}
-            other => differs(rt, &other)?,
-        }
+        comes_to(rt, machine, STEP, &Outcome::Stepped)?;
     }
-    Ok(())
-}
-
-/// Checks that a step of process 1 traps at one of `lines`.
-fn traps<K: Kind>(
-    rt: &impl Abort,
-    machine: &mut Machine<K>,
-    lines: &[u8],
-    cause: Cause,
-) -> Result<(), Fail> {
-    match step(rt, machine)? {
-        Outcome::Trapped(found) => assert_eq!(rt; found, cause, "{lines:?}"),
-        other => assert!(rt; false, "{lines:?}: {other:?}"),
-    }
-    Ok(())
-}
-
-/// Checks that a step of process 1 is skipped for this reason.
-fn is_skipped<K: Kind>(
-    rt: &impl Abort,
-    machine: &mut Machine<K>,
-    reason: Reason,
-) -> Result<(), Fail> {
-    match step(rt, machine)? {
-        Outcome::Skipped(found) => {
-            assert_eq!(rt; found, reason);
-            Ok(())
-        }
-        other => differs(rt, &other),
-    }
-}
-
-/// Checks that a step of process 1 finishes its update.
-fn finishes<K: Kind>(rt: &impl Abort, machine: &mut Machine<K>) -> Result<(), Fail> {
-    match step(rt, machine)? {
-        Outcome::Finished => Ok(()),
-        other => differs(rt, &other),
-    }
-}
-
-/// Checks that a step of process 1 answers its scan.
-fn answers<K: Kind>(rt: &impl Abort, machine: &mut Machine<K>, values: &[u64]) -> Result<(), Fail> {
-    match step(rt, machine)? {
-        Outcome::Answered(view) => {
-            assert_eq!(rt; view.as_slice(), values);
-            Ok(())
-        }
-        other => differs(rt, &other),
-    }
-}
-
-/// Reports that another outcome was wanted.
-fn differs(rt: &impl Abort, outcome: &Outcome) -> Result<(), Fail> {
-    assert!(rt; false, "{outcome:?}");
     Ok(())
 }
 
@@ -416,13 +316,13 @@ fn values_are<K: Kind>(rt: &impl Abort, machine: &Machine<K>, values: &[u64]) ->
     Ok(())
 }
 
-/// Checks a row of a table: process 1 traps there, and then stays trapped.
-fn check_trap<K: Kind>(rt: &impl Abort, machine: &mut Machine<K>, trap: &Trap) -> Result<(), Fail> {
-    let (lines, op, steps, cause) = trap;
-    is_called(rt, machine, *op)?;
-    goes_on(rt, machine, *steps)?;
-    traps(rt, machine, *lines, *cause)?;
-    is_skipped(rt, machine, Reason::Trapped)
+/// Checks that process 1 traps in this way, and then stays trapped.
+fn check_trap<K: Kind>(rt: &impl Abort, machine: &mut Machine<K>, way: Way) -> Result<(), Fail> {
+    let (op, steps, cause) = way;
+    comes_to(rt, machine, call(op), &Outcome::Called)?;
+    goes_on(rt, machine, steps)?;
+    comes_to(rt, machine, STEP, &Outcome::Trapped(cause))?;
+    is_skipped(rt, machine, STEP, Reason::Trapped)
 }
 
 /// Checks that each line traps as the table says.
@@ -435,10 +335,10 @@ fn check_traps<K: Kind>(
 ) -> Result<(), Fail>
     requires { kind ≡ K.TAG }
 {
-    for trap in traps {
-        let text = text_of(alloc, line, NAMES, trap.0)?;
+    for (lines, way) in traps {
+        let text = text_of(alloc, line, NAMES, lines)?;
         let mut machine = machine_of::<K>(rt, alloc, kind, 2, text.as_slice())?;
-        check_trap(rt, &mut machine, trap)?;
+        check_trap(rt, &mut machine, *way)?;
     }
     Ok(())
 }
@@ -461,9 +361,14 @@ fn multi_lines_trap(rt: HostRuntime) -> Result<(), Fail> {
 
 /// Makes an update of word 2 by process 1.
 fn update_round<K: Kind>(rt: &impl Abort, machine: &mut Machine<K>) -> Result<(), Fail> {
-    is_called(rt, machine, Op::Update { word: 2, value: 7 })?;
+    comes_to(
+        rt,
+        machine,
+        call(Op::Update { word: 2, value: 7 }),
+        &Outcome::Called,
+    )?;
     goes_on(rt, machine, 6)?;
-    finishes(rt, machine)
+    comes_to(rt, machine, STEP, &Outcome::Finished)
 }
 
 /// Checks what the update leaves.
@@ -498,9 +403,13 @@ fn has_register<K: Kind>(machine: &Machine<K>, address: Address) -> bool {
 
 /// Makes a scan by process 1 after that update.
 fn scan_round<K: Kind>(rt: &impl Abort, machine: &mut Machine<K>) -> Result<(), Fail> {
-    is_called(rt, machine, SCAN)?;
+    comes_to(rt, machine, call(SCAN), &Outcome::Called)?;
     goes_on(rt, machine, 4)?;
-    answers(rt, machine, &[7, 7])?;
+    assert!(rt; has(machine, 1));
+    match does(machine, STEP)? {
+        Outcome::Answered(view) => assert_eq!(rt; view.as_slice(), [7, 7].as_slice()),
+        other => assert!(rt; false, "{other:?}"),
+    }
     assert!(rt; has(machine, 1));
     assert!(rt;
         matches!(
@@ -535,12 +444,12 @@ fn update_of(word: u64) -> Op {
 
 /// Checks process 1 when it is idle, then called for what is not its own, then busy.
 fn check_skips<K: Kind>(rt: &impl Abort, machine: &mut Machine<K>) -> Result<(), Fail> {
-    is_skipped(rt, machine, Reason::Idle)?;
-    is_not_called(rt, machine, update_of(2), Reason::NotOwner)?;
-    is_not_called(rt, machine, update_of(3), Reason::NoSuchWord)?;
-    is_not_called(rt, machine, update_of(0), Reason::NoSuchWord)?;
-    is_called(rt, machine, SCAN)?;
-    is_not_called(rt, machine, SCAN, Reason::Busy)
+    is_skipped(rt, machine, STEP, Reason::Idle)?;
+    is_skipped(rt, machine, call(update_of(2)), Reason::NotOwner)?;
+    is_skipped(rt, machine, call(update_of(3)), Reason::NoSuchWord)?;
+    is_skipped(rt, machine, call(update_of(0)), Reason::NoSuchWord)?;
+    comes_to(rt, machine, call(SCAN), &Outcome::Called)?;
+    is_skipped(rt, machine, call(SCAN), Reason::Busy)
 }
 
 #[test]
@@ -560,55 +469,32 @@ fn go_on_apart(
     goes_on(rt, machine, 1)?;
     values_are(rt, machine, &[7])?;
     values_are(rt, copy, &[0])?;
-    finishes(rt, machine)?;
+    comes_to(rt, machine, STEP, &Outcome::Finished)?;
     goes_on(rt, copy, 1)?;
-    finishes(rt, copy)?;
+    comes_to(rt, copy, STEP, &Outcome::Finished)?;
     values_are(rt, copy, &[7])
 }
 
 #[test]
 fn copies_go_on_alike(rt: HostRuntime) -> Result<(), Fail> {
     let mut machine = machine_of::<Seq>(&rt, rt.alloc(), KindTag::Seq, 1, text_u())?;
-    is_called(&rt, &mut machine, Op::Update { word: 1, value: 7 })?;
+    comes_to(
+        &rt,
+        &mut machine,
+        call(Op::Update { word: 1, value: 7 }),
+        &Outcome::Called,
+    )?;
     goes_on(&rt, &mut machine, 11)?;
     let mut copy = machine.copy()?;
     go_on_apart(&rt, &mut machine, &mut copy)
 }
 
-/// Makes a crash of process 1.
-fn crash<K: Kind>(rt: &impl Abort, machine: &mut Machine<K>) -> Result<Outcome, Fail> {
-    assert!(rt; has(machine, 1));
-    does(machine, Item::Crash(1))
-}
-
-/// Checks that process 1 crashes.
+/// Checks that process 1 crashes, and that no item of it does anything more.
 fn crashes<K: Kind>(rt: &impl Abort, machine: &mut Machine<K>) -> Result<(), Fail> {
-    match crash(rt, machine)? {
-        Outcome::Crashed => Ok(()),
-        other => differs(rt, &other),
-    }
-}
-
-/// Checks that a crash of process 1 is skipped for this reason.
-fn is_not_crashed<K: Kind>(
-    rt: &impl Abort,
-    machine: &mut Machine<K>,
-    reason: Reason,
-) -> Result<(), Fail> {
-    match crash(rt, machine)? {
-        Outcome::Skipped(found) => {
-            assert_eq!(rt; found, reason);
-            Ok(())
-        }
-        other => differs(rt, &other),
-    }
-}
-
-/// Checks that no item of process 1 does anything more.
-fn stands_still<K: Kind>(rt: &impl Abort, machine: &mut Machine<K>) -> Result<(), Fail> {
-    is_skipped(rt, machine, Reason::Crashed)?;
-    is_not_called(rt, machine, SCAN, Reason::Crashed)?;
-    is_not_crashed(rt, machine, Reason::Crashed)
+    comes_to(rt, machine, CRASH, &Outcome::Crashed)?;
+    is_skipped(rt, machine, STEP, Reason::Crashed)?;
+    is_skipped(rt, machine, call(SCAN), Reason::Crashed)?;
+    is_skipped(rt, machine, CRASH, Reason::Crashed)
 }
 
 /// Makes an update by process 1 that crashes after `steps` steps, at this line and with this link.
@@ -620,10 +506,9 @@ fn crash_update(
     link: Option<u64>,
 ) -> Result<Machine<Seq>, Fail> {
     let mut machine = machine_of::<Seq>(rt, alloc, KindTag::Seq, 1, text_u())?;
-    is_called(rt, &mut machine, UPDATE)?;
+    comes_to(rt, &mut machine, call(UPDATE), &Outcome::Called)?;
     goes_on(rt, &mut machine, steps)?;
     crashes(rt, &mut machine)?;
-    stands_still(rt, &mut machine)?;
     assert!(rt; has(&machine, 1));
     assert_eq!(rt; machine.line(1), Some(line));
     assert_eq!(rt; machine.operation(1), Some(UPDATE));
@@ -645,7 +530,6 @@ fn crashed_updates_stop(rt: HostRuntime) -> Result<(), Fail> {
 fn an_idle_process_crashes(rt: HostRuntime) -> Result<(), Fail> {
     let mut machine = machine_of::<Seq>(&rt, rt.alloc(), KindTag::Seq, 1, text_u())?;
     crashes(&rt, &mut machine)?;
-    stands_still(&rt, &mut machine)?;
     assert!(rt; has(&machine, 1));
     assert_eq!(rt; machine.line(1), None);
     assert_eq!(rt; machine.operation(1), None);
@@ -656,7 +540,7 @@ fn an_idle_process_crashes(rt: HostRuntime) -> Result<(), Fail> {
 fn a_trapped_process_does_not_crash(rt: HostRuntime) -> Result<(), Fail> {
     let text = text_of(rt.alloc(), SEQ, NAMES, b"1: let x = 1\n")?;
     let mut machine = machine_of::<Seq>(&rt, rt.alloc(), KindTag::Seq, 2, text.as_slice())?;
-    is_called(&rt, &mut machine, SCAN)?;
-    traps(&rt, &mut machine, b"1: let x = 1\n", Cause::OffEnd)?;
-    is_not_crashed(&rt, &mut machine, Reason::Trapped)
+    comes_to(&rt, &mut machine, call(SCAN), &Outcome::Called)?;
+    comes_to(&rt, &mut machine, STEP, &Outcome::Trapped(Cause::OffEnd))?;
+    is_skipped(&rt, &mut machine, CRASH, Reason::Trapped)
 }

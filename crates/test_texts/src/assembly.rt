@@ -1,5 +1,6 @@
 //! Tests of texts of listings that are assembled as images, listed back, upgraded, and loaded as
 //! programs.
+use crate::samples::{FIRST_IMAGE, SMALL, SMALL_IMAGE};
 use snap_asm::{Program, assemble, list, load, upgrade};
 use snap_image::ImageFault;
 use snap_listing::ListingFault;
@@ -8,22 +9,6 @@ use snap_words::KindTag;
 use std::alloc::Global;
 use std::process::Abort;
 use std::test::Fail;
-
-/// A small listing in its canonical text.
-const SMALL: &[u8] =
-    b"kind seq\nscalar\nrow\nwords\nview s\nscan 1\nupdate 2\n1: return s\n2: finish\n";
-
-/// The image of the small listing in the first version.
-const FIRST_IMAGE: [u8; 25] = [
-    0x53, 0x4e, 0x41, 0x50, 0x01, 0x00, 0x00, 0x00, 0x00, 0x01, 0x01, 0x73, 0x00, 0x01, 0x00, 0x02,
-    0x00, 0x02, 0x00, 0x01, 0x16, 0x00, 0x00, 0x02, 0x17,
-];
-
-/// The image of the small listing in the second version.
-const SMALL_IMAGE: [u8; 27] = [
-    0x53, 0x4e, 0x41, 0x50, 0x02, 0x00, 0x00, 0x00, 0x00, 0x01, 0x01, 0x73, 0x00, 0x01, 0x00, 0x02,
-    0x00, 0x02, 0x00, 0x01, 0x16, 0x00, 0x00, 0x00, 0x02, 0x17, 0x00,
-];
 
 /// The small listing with a comment.
 const DONE: &[u8] =

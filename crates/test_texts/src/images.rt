@@ -1,4 +1,5 @@
 //! Tests of images that are encoded and decoded, and of images that are cut or changed.
+use crate::samples::{FIRST_IMAGE, SMALL, SMALL_IMAGE};
 use snap_image::{ImageFault, decode, encode};
 use snap_listing::read;
 use snap_semantics::{ImageRefusal, ListingRefusal};
@@ -6,22 +7,6 @@ use snap_shipped::{text_b, text_m, text_u};
 use std::alloc::Global;
 use std::process::Abort;
 use std::test::Fail;
-
-/// A small listing.
-const SMALL: &[u8] =
-    b"kind seq\nscalar\nrow\nwords\nview s\nscan 1\nupdate 2\n1: return s\n2: finish\n";
-
-/// The image of the small listing in the first version.
-const FIRST_IMAGE: [u8; 25] = [
-    0x53, 0x4e, 0x41, 0x50, 0x01, 0x00, 0x00, 0x00, 0x00, 0x01, 0x01, 0x73, 0x00, 0x01, 0x00, 0x02,
-    0x00, 0x02, 0x00, 0x01, 0x16, 0x00, 0x00, 0x02, 0x17,
-];
-
-/// The image of the small listing in the second version.
-const SMALL_IMAGE: [u8; 27] = [
-    0x53, 0x4e, 0x41, 0x50, 0x02, 0x00, 0x00, 0x00, 0x00, 0x01, 0x01, 0x73, 0x00, 0x01, 0x00, 0x02,
-    0x00, 0x02, 0x00, 0x01, 0x16, 0x00, 0x00, 0x00, 0x02, 0x17, 0x00,
-];
 
 /// A listing of one line, with one comparison.
 const ONE_COMPARISON: &[u8] =

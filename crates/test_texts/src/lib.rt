@@ -10,6 +10,8 @@ mod images;
 #[cfg(test)]
 mod listings;
 #[cfg(test)]
+mod samples;
+#[cfg(test)]
 mod schedules;
 #[cfg(test)]
 mod scripts;

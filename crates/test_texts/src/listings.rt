@@ -1,7 +1,11 @@
 //! Tests of listings: which texts are read, why the others are refused, and what is printed.
 use snap_listing::{ListingFault, print, read, read_source};
 use snap_listing_core::Listing;
-use snap_semantics::{BitBank, Expr, Index, Instr, ListingRefusal, Name, Term, Tuple};
+use snap_semantics::ListingRefusal::{
+    self, BadHeader, BadLine, BadName, NameTwice, NoSuchLine, NumberNotRising, TooLong, TooMany,
+    UnknownName, WrongKind,
+};
+use snap_semantics::{BitBank, Expr, Index, Instr, Name, Term, Tuple};
 use snap_shipped::{text_b, text_m, text_u};
 use snap_text::{push_number, push_text};
 use snap_words::{Field, KindTag};
@@ -63,60 +67,48 @@ update 9
 ";
 
 /// The first numbered line has no form.
-const NO_FORM: Option<ListingRefusal> = Some(ListingRefusal::BadLine(8));
+const NO_FORM: Option<ListingRefusal> = Some(BadLine(8));
 
 /// The first numbered line has a name that is not declared.
-const UNKNOWN: Option<ListingRefusal> = Some(ListingRefusal::UnknownName(8));
+const UNKNOWN: Option<ListingRefusal> = Some(UnknownName(8));
 
 /// The first numbered line has a name of another sort, or what the kind does not have.
-const WRONG: Option<ListingRefusal> = Some(ListingRefusal::WrongKind(8));
+const WRONG: Option<ListingRefusal> = Some(WrongKind(8));
 
 /// Headers that are refused.
 const HEADERS: [Case; 16] = [
-    (b"", Some(ListingRefusal::BadHeader(1))),
-    (b"\n", Some(ListingRefusal::BadHeader(2))),
-    (b"kind seq\n\n", Some(ListingRefusal::BadHeader(3))),
-    (b"kind foo\n", Some(ListingRefusal::BadHeader(1))),
-    (b"kind\n", Some(ListingRefusal::BadHeader(1))),
-    (b"kind bits\n", Some(ListingRefusal::BadHeader(1))),
-    (b"kind bit multi\n", Some(ListingRefusal::BadHeader(1))),
-    (b"kind bit\n", Some(ListingRefusal::BadHeader(2))),
-    (b"kind multi\n", Some(ListingRefusal::BadHeader(2))),
-    (
-        b"kind seq\nscalar goto 5",
-        Some(ListingRefusal::BadHeader(2)),
-    ),
-    (
-        b"kind seq\n\nscalar abcdefghi x x",
-        Some(ListingRefusal::BadName(3)),
-    ),
-    (b"kind seq\nscalar x goto", Some(ListingRefusal::BadName(2))),
-    (
-        b"kind seq\nscalar x\nrow x\n",
-        Some(ListingRefusal::NameTwice(3)),
-    ),
+    (b"", Some(BadHeader(1))),
+    (b"\n", Some(BadHeader(2))),
+    (b"kind seq\n\n", Some(BadHeader(3))),
+    (b"kind foo\n", Some(BadHeader(1))),
+    (b"kind\n", Some(BadHeader(1))),
+    (b"kind bits\n", Some(BadHeader(1))),
+    (b"kind bit multi\n", Some(BadHeader(1))),
+    (b"kind bit\n", Some(BadHeader(2))),
+    (b"kind multi\n", Some(BadHeader(2))),
+    (b"kind seq\nscalar goto 5", Some(BadHeader(2))),
+    (b"kind seq\n\nscalar abcdefghi x x", Some(BadName(3))),
+    (b"kind seq\nscalar x goto", Some(BadName(2))),
+    (b"kind seq\nscalar x\nrow x\n", Some(NameTwice(3))),
     (
         b"kind seq\n\
 scalar aa ab ac ad ae af ag ah ai aj ak al am an ao ap aq ar as at au av aw ax ay az\n\
 row ba bb bc bd be bf\nwords bg",
-        Some(ListingRefusal::TooMany(4)),
+        Some(TooMany(4)),
     ),
     (
         b"kind seq\nscalar\nrow\nwords\nview\n10scan",
-        Some(ListingRefusal::BadHeader(6)),
+        Some(BadHeader(6)),
     ),
     (
         b"kind seq\nscalar\nrow\nwords\nview\nscan 10000",
-        Some(ListingRefusal::BadHeader(6)),
+        Some(BadHeader(6)),
     ),
 ];
 
 /// Lines that are refused in a listing of kind seq.
 const LINES: [Case; 14] = [
-    (
-        b"11: finish\n10: finish",
-        Some(ListingRefusal::NumberNotRising(9)),
-    ),
+    (b"11: finish\n10: finish", Some(NumberNotRising(9))),
     (b"10000: finish", NO_FORM),
     (b"007: finish", NO_FORM),
     (b"10: goto9", NO_FORM),
@@ -130,11 +122,11 @@ const LINES: [Case; 14] = [
     (b"10: let zz = 1", UNKNOWN),
     (b"10: let abcdefghi = 1", UNKNOWN),
     (b"10: let s = 1", WRONG),
-    (b"10: goto 11", Some(ListingRefusal::NoSuchLine(11))),
-    (b"11: finish", Some(ListingRefusal::NoSuchLine(10))),
+    (b"10: goto 11", Some(NoSuchLine(11))),
+    (b"11: finish", Some(NoSuchLine(10))),
     (
         b"10: goto 18446744073709551615",
-        Some(ListingRefusal::NoSuchLine(18_446_744_073_709_551_615)),
+        Some(NoSuchLine(18_446_744_073_709_551_615)),
     ),
 ];
 
@@ -401,9 +393,9 @@ fn refuses_malformed_accesses(rt: HostRuntime) -> Result<(), Fail> {
 
 #[test]
 fn refuses_long_texts(rt: HostRuntime) -> Result<(), Fail> {
-    let want = Some(ListingRefusal::BadHeader(2));
+    let want = Some(BadHeader(2));
     assert_eq!(rt; spaces_refusal(rt.alloc(), 65_536)?, want);
-    let want = Some(ListingRefusal::TooLong);
+    let want = Some(TooLong);
     assert_eq!(rt; spaces_refusal(rt.alloc(), 65_537)?, want);
     Ok(())
 }
@@ -411,7 +403,7 @@ fn refuses_long_texts(rt: HostRuntime) -> Result<(), Fail> {
 #[test]
 fn refuses_the_line_after_200(rt: HostRuntime) -> Result<(), Fail> {
     assert_eq!(rt; finish_lines_refusal(rt.alloc(), 201)?, None);
-    let want = Some(ListingRefusal::TooMany(208));
+    let want = Some(TooMany(208));
     assert_eq!(rt; finish_lines_refusal(rt.alloc(), 202)?, want);
     Ok(())
 }

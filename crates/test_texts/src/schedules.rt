@@ -1,8 +1,11 @@
 //! Tests of schedules: which texts are read, why the others are refused, and what is printed.
 use snap_sched::{Schedule, ScheduleFault, print, read};
-use snap_semantics::ScheduleRefusal;
+use snap_semantics::ScheduleRefusal::{self, BadItem, BadShape, NoSuchProcess, TooManyItems};
 use std::alloc::{AllocError, Global};
 use std::test::Fail;
+
+/// A text, and why it is refused.
+type Case = (&'static [u8], ScheduleRefusal);
 
 /// Returns whether a text is refused with `want`.
 fn is_refused(alloc: Global, text: &[u8], want: ScheduleRefusal) -> bool {
@@ -12,67 +15,40 @@ fn is_refused(alloc: Global, text: &[u8], want: ScheduleRefusal) -> bool {
     }
 }
 
+/// Texts whose shape, or an item, has no form.
+const NO_FORM: [Case; 8] = [
+    (b"", BadShape),
+    (b"$", BadShape),
+    (b"shape 0 1", BadShape),
+    (b"shape 65 1", BadShape),
+    (b"shape 2 2\n2*0", BadItem(2)),
+    (b"shape 2 2\n2\n2 crash 1", BadItem(3)),
+    (b"shape 3 3\n\n# 4\n007", BadItem(4)),
+    (b"shape 3 3\n1*18446744073709551616", BadItem(2)),
+];
+
 #[test]
 fn refuses_what_fits_no_form(rt: HostRuntime) {
-    for (text, want) in [
-        (b"".as_slice(), ScheduleRefusal::BadShape),
-        (b"$".as_slice(), ScheduleRefusal::BadShape),
-        (b"shape 0 1".as_slice(), ScheduleRefusal::BadShape),
-        (b"shape 65 1".as_slice(), ScheduleRefusal::BadShape),
-        (b"shape 2 2\n2*0".as_slice(), ScheduleRefusal::BadItem(2)),
-        (
-            b"shape 2 2\n2\n2 crash 1".as_slice(),
-            ScheduleRefusal::BadItem(3),
-        ),
-        (
-            b"shape 3 3\n\n# 4\n007".as_slice(),
-            ScheduleRefusal::BadItem(4),
-        ),
-        (
-            b"shape 3 3\n1*18446744073709551616".as_slice(),
-            ScheduleRefusal::BadItem(2),
-        ),
-    ] {
+    for (text, want) in NO_FORM {
         assert!(rt; is_refused(rt.alloc(), text, want), "{want}");
     }
 }
 
+/// Items that are too many, or of processes that there are not.
+const NO_ITEMS: [Case; 8] = [
+    (b"shape 3 3\n1*18446744073709551615", TooManyItems(2)),
+    (b"shape 3 3\n3*1000001", TooManyItems(2)),
+    (b"shape 3 3\n3*1000000\n1 scan\n", TooManyItems(3)),
+    (b"shape 3 3\n3*1000000\n1 crash\n", TooManyItems(3)),
+    (b"shape 3 3\n4 crash", NoSuchProcess(2)),
+    (b"shape 3 3\n4", NoSuchProcess(2)),
+    (b"shape 3 3\n0", NoSuchProcess(2)),
+    (b"shape 2 2\n9*99999999999999", NoSuchProcess(2)),
+];
+
 #[test]
 fn refuses_too_many_items_and_missing_processes(rt: HostRuntime) {
-    for (text, want) in [
-        (
-            b"shape 3 3\n1*18446744073709551615".as_slice(),
-            ScheduleRefusal::TooManyItems(2),
-        ),
-        (
-            b"shape 3 3\n3*1000001".as_slice(),
-            ScheduleRefusal::TooManyItems(2),
-        ),
-        (
-            b"shape 3 3\n3*1000000\n1 scan\n".as_slice(),
-            ScheduleRefusal::TooManyItems(3),
-        ),
-        (
-            b"shape 3 3\n3*1000000\n1 crash\n".as_slice(),
-            ScheduleRefusal::TooManyItems(3),
-        ),
-        (
-            b"shape 3 3\n4 crash".as_slice(),
-            ScheduleRefusal::NoSuchProcess(2),
-        ),
-        (
-            b"shape 3 3\n4".as_slice(),
-            ScheduleRefusal::NoSuchProcess(2),
-        ),
-        (
-            b"shape 3 3\n0".as_slice(),
-            ScheduleRefusal::NoSuchProcess(2),
-        ),
-        (
-            b"shape 2 2\n9*99999999999999".as_slice(),
-            ScheduleRefusal::NoSuchProcess(2),
-        ),
-    ] {
+    for (text, want) in NO_ITEMS {
         assert!(rt; is_refused(rt.alloc(), text, want), "{want}");
     }
 }

@@ -1,8 +1,12 @@
 //! Tests of scripts: which texts are read, and why the others are refused.
 use snap_sched::{ScheduleFault, Script, Scripts, read_scripts};
-use snap_semantics::{Op, ScheduleRefusal};
+use snap_semantics::Op;
+use snap_semantics::ScheduleRefusal::{self, BadItem, BadShape, NoSuchProcess};
 use std::alloc::{AllocError, Global};
 use std::test::Fail;
+
+/// A text, and why it is refused.
+type Case = (&'static [u8], ScheduleRefusal);
 
 /// Returns whether a text is refused with `want`.
 fn is_refused(alloc: Global, text: &[u8], want: ScheduleRefusal) -> bool {
@@ -12,46 +16,34 @@ fn is_refused(alloc: Global, text: &[u8], want: ScheduleRefusal) -> bool {
     }
 }
 
+/// Texts with steps, or with crashes as schedules have them.
+const OF_SCHEDULES: [Case; 7] = [
+    (b"", BadShape),
+    (b"shape 65 1", BadShape),
+    (b"shape 2 2\n1", BadItem(2)),
+    (b"shape 2 2\n1*2", BadItem(2)),
+    (b"shape 2 2\n1 scan\n1 crash", BadItem(3)),
+    (b"shape 2 2\n3 scan", NoSuchProcess(2)),
+    (b"shape 2 2\n\n3 crash 5", NoSuchProcess(3)),
+];
+
 #[test]
 fn refuses_steps_and_crashes_of_schedules(rt: HostRuntime) {
-    for (text, want) in [
-        (b"".as_slice(), ScheduleRefusal::BadShape),
-        (b"shape 65 1".as_slice(), ScheduleRefusal::BadShape),
-        (b"shape 2 2\n1".as_slice(), ScheduleRefusal::BadItem(2)),
-        (b"shape 2 2\n1*2".as_slice(), ScheduleRefusal::BadItem(2)),
-        (
-            b"shape 2 2\n1 scan\n1 crash".as_slice(),
-            ScheduleRefusal::BadItem(3),
-        ),
-        (
-            b"shape 2 2\n3 scan".as_slice(),
-            ScheduleRefusal::NoSuchProcess(2),
-        ),
-        (
-            b"shape 2 2\n\n3 crash 5".as_slice(),
-            ScheduleRefusal::NoSuchProcess(3),
-        ),
-    ] {
+    for (text, want) in OF_SCHEDULES {
         assert!(rt; is_refused(rt.alloc(), text, want), "{want}");
     }
 }
 
+/// Crashes at no turn, and a second one.
+const CRASHES: [Case; 3] = [
+    (b"shape 2 2\n1 crash 0", BadItem(2)),
+    (b"shape 2 2\n3 crash 1000001", BadItem(2)),
+    (b"shape 2 2\n2 crash 9\n1 scan\n2 crash 9", BadItem(4)),
+];
+
 #[test]
 fn refuses_turns_out_of_range_and_second_crashes(rt: HostRuntime) {
-    for (text, want) in [
-        (
-            b"shape 2 2\n1 crash 0".as_slice(),
-            ScheduleRefusal::BadItem(2),
-        ),
-        (
-            b"shape 2 2\n3 crash 1000001".as_slice(),
-            ScheduleRefusal::BadItem(2),
-        ),
-        (
-            b"shape 2 2\n2 crash 9\n1 scan\n2 crash 9".as_slice(),
-            ScheduleRefusal::BadItem(4),
-        ),
-    ] {
+    for (text, want) in CRASHES {
         assert!(rt; is_refused(rt.alloc(), text, want), "{want}");
     }
 }

@@ -14,7 +14,7 @@ returns-in-Ok-clause-says g c =
     let errors = g.E.ByteSink.state c.args.errors.now in
     let errors_after = g.E.ByteSink.state c.tell.new.errors in
     subst (λ (n : Names). TellsMore n c.args.fault.now
-    (explained c.args.drawing.now.explains (option_map (λ t. view_texts t.now) c.args.texts) c.args.fault.now) errors errors_after)
+    (explained c.args.asked.now.explains (option_map (λ t. view_texts t.now) c.args.texts) c.args.fault.now) errors errors_after)
     c.names_of-names.ensures
     (subst (λ (more : List ℕ).
     TellsMore (view_names c.names_of-names.result) c.args.fault.now more errors errors_after)

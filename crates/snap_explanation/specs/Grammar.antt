@@ -90,7 +90,7 @@ pub record Single : Type 0 where
   pub text : List ℕ
 
 -- a form of a part: how its first token is spelled, and what is wanted behind that
-pub record Form : Type 0 where
+pub record TextForm : Type 0 where
   pub part : Part
   pub text : List ℕ
   pub next : List Part
@@ -110,7 +110,7 @@ pub record Front : Type 0 where
 abbrev pub view_single : Part × Bor (List ℕ) → Single
 view_single r = record { part = r.0; text = r.1.now }
 
-abbrev pub view_form : Part × Bor (List ℕ) × Bor (List Part) → Form
+abbrev pub view_form : Part × Bor (List ℕ) × Bor (List Part) → TextForm
 view_form r = record { part = r.0; text = r.1.now; next = r.2.now }
 
 abbrev pub view_class_form : Part × Class × Bor (List Part) → ClassForm
@@ -128,19 +128,19 @@ view_pair r = (r.0, r.1.now)
 unfoldable pub singles : List Single
 singles = map (λ r. record { part = r.0; text = r.1.now }) SINGLES.now
 
-abbrev pub forms : List (Part × record { now : List ℕ } × record { now : List Part }) → List Form
+abbrev pub forms : List (Part × record { now : List ℕ } × record { now : List Part }) → List TextForm
 forms table = map (λ r. record { part = r.0; text = r.1.now; next = r.2.now }) table
 
-unfoldable pub values : List Form
+unfoldable pub values : List TextForm
 values = forms VALUES.now
 
-unfoldable pub written : List Form
+unfoldable pub written : List TextForm
 written = forms WRITTEN.now
 
-unfoldable pub instructions : List Form
+unfoldable pub instructions : List TextForm
 instructions = forms INSTRUCTIONS.now
 
-unfoldable pub commands : List Form
+unfoldable pub commands : List TextForm
 commands = forms COMMANDS.now
 
 unfoldable pub class_forms : List ClassForm
@@ -176,7 +176,7 @@ is_single p x [] = false
 is_single p x (r ∷ rs) = if same_part r.part p && bytes_eq x r.text then true else is_single p x rs
 
 -- what is wanted behind a token that is spelled so, in the first form of a part that begins with it
-abbrev pub form_in : Part → List ℕ → List Form → Option (List Part)
+abbrev pub form_in : Part → List ℕ → List TextForm → Option (List Part)
 form_in p x [] = None
 form_in p x (r ∷ rs) = if same_part r.part p && bytes_eq x r.text then Some r.next else form_in p x rs
 

@@ -1,6 +1,6 @@
 -- The token of a line that a refusal is about: a name that is unknown or declared twice, the nearest known name, or a
 -- target that is no line.
-use Rattle.std.specs.Prelude.{ℕ, ◌+◌, ◌-◌, Bool, false, ◌&&◌, ◌||◌, not, List, [], ◌∷◌, ◌++◌, drop, Option, Some}
+use Rattle.std.specs.Prelude.{ℕ, ◌+◌, ◌-◌, Bool, false, ◌&&◌, ◌||◌, List, [], ◌∷◌, ◌++◌, drop, Option, Some}
 use Rattle.std.specs.Prelude.{None, nat_eq, nat_lt, bytes_eq, codes, map, if◌then◌else◌}
 use Rattle.std.specs.List.{list_any}
 use Rattle.snap_semantics.specs.Listing.{is_bad_name}

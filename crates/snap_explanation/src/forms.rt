@@ -12,7 +12,7 @@ ghost use Rattle.snap_explanation.specs.Grammar.{is_part_among};
 ghost use Rattle.snap_explanation.specs.Steps.{view_step};
 
 use crate::grammar::{
-    CLASSES, COMMANDS, ClassForm, FRONTS, Form, Front, INSTRUCTIONS, OPTIONS, SINGLES, Single,
+    CLASSES, COMMANDS, ClassForm, FRONTS, Front, INSTRUCTIONS, OPTIONS, SINGLES, Single, TextForm,
     VALUES, WRITTEN,
 };
 use crate::parts::{Class, Part};
@@ -104,7 +104,7 @@ fn is_single(part: Part, text: &[u8], singles: &[Single]) -> bool
 
 /// Returns what is wanted behind a token that is spelled so, in the first form of a part that
 /// begins with it.
-fn form_in(part: Part, text: &[u8], forms: &'static [Form]) -> Option<&'static [Part]>
+fn form_in(part: Part, text: &[u8], forms: &'static [TextForm]) -> Option<&'static [Part]>
     ensures { option_map parts_in result ≡ form_in part text.now (map view_form forms.now) }
 {
     for form in forms {
@@ -123,28 +123,28 @@ fn singles() -> &'static [Single]
 }
 
 #[tactic(auto, unfolding(crate::specs::Grammar::values))]
-fn values() -> &'static [Form]
+fn values() -> &'static [TextForm]
     ensures { map view_form result.now ≡ values }
 {
     VALUES
 }
 
 #[tactic(auto, unfolding(crate::specs::Grammar::written))]
-fn written() -> &'static [Form]
+fn written() -> &'static [TextForm]
     ensures { map view_form result.now ≡ written }
 {
     WRITTEN
 }
 
 #[tactic(auto, unfolding(crate::specs::Grammar::instructions))]
-fn instructions() -> &'static [Form]
+fn instructions() -> &'static [TextForm]
     ensures { map view_form result.now ≡ instructions }
 {
     INSTRUCTIONS
 }
 
 #[tactic(auto, unfolding(crate::specs::Grammar::commands))]
-fn commands() -> &'static [Form]
+fn commands() -> &'static [TextForm]
     ensures { map view_form result.now ≡ commands }
 {
     COMMANDS

@@ -11,7 +11,7 @@ use crate::parts::Part::{
 use crate::parts::{Class, Part};
 
 /// A part, the text of the first token of one of its forms, and what is wanted behind that.
-pub type Form = (Part, &'static [u8], &'static [Part]);
+pub type TextForm = (Part, &'static [u8], &'static [Part]);
 
 /// A part, and the text of a token that is all of it.
 pub type Single = (Part, &'static [u8]);
@@ -83,7 +83,7 @@ const FIELD: &[Part] = &[
 const COMPARED: &[Part] = &[Term, Relation, Term];
 
 /// The forms of values and of comparisons.
-pub const VALUES: &[Form] = &[
+pub const VALUES: &[TextForm] = &[
     (Term, b"seq", FIELD),
     (Term, b"data", FIELD),
     (Term, b"toggle", FIELD),
@@ -115,7 +115,7 @@ pub const VALUES: &[Form] = &[
 ];
 
 /// The forms of what is read from registers and written to them.
-pub const WRITTEN: &[Form] = &[
+pub const WRITTEN: &[TextForm] = &[
     (
         Written,
         b"r",
@@ -153,7 +153,7 @@ pub const WRITTEN: &[Form] = &[
 ];
 
 /// The forms of instructions.
-pub const INSTRUCTIONS: &[Form] = &[
+pub const INSTRUCTIONS: &[TextForm] = &[
     (Instruction, b"let", &[Name, PlaceOption, Equal, Expr]),
     (Instruction, b"view", &[Name, Equal, ViewSource]),
     (
@@ -207,7 +207,7 @@ pub const INSTRUCTIONS: &[Form] = &[
 ];
 
 /// The forms of what a process does, and of commands.
-pub const COMMANDS: &[Form] = &[
+pub const COMMANDS: &[TextForm] = &[
     (Act, b"*", &[Positive]),
     (Act, b"update", &[Number, Number]),
     (ScriptAct, b"update", &[Number, Number]),

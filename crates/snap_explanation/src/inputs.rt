@@ -5,7 +5,7 @@ ghost use Rattle.snap_semantics.specs.Token.{begins_with, lines_of, text_lines};
 ghost use Rattle.snap_text.specs.Drafted.{Adds};
 ghost use Rattle.snap_input.specs.Parts.{ends_part, parts_of};
 ghost use Rattle.snap_text.specs.Tokens.{view_tokens};
-ghost use Rattle.snap_explanation.specs.Inputs.{parts_words, lines_behind, separators};
+ghost use Rattle.snap_explanation.specs.Inputs.{parts_words, lines_behind};
 ghost use Rattle.snap_explanation.specs.Inputs.{near_separator, near_words, separator_words};
 ghost use Rattle.snap_explanation.specs.Inputs.{parts_explained, first_is, is_front, fronts_of};
 ghost use Rattle.snap_explanation.specs.Inputs.{formless_line, has_parts, order_advice_of};

@@ -1,6 +1,6 @@
 -- Laws for the explanation of a refused input: how many lines precede a part, and which words precede a line, where
 -- there are none.
-use Rattle.std.proofs.Common.{◌≡◌, ℕ, List, [], ◌∷◌, ◌++◌, length, map, refl, sym, ap, ◌∙◌, append-nil}
+use Rattle.std.proofs.Common.{◌≡◌, ℕ, List, [], ◌∷◌, ◌++◌, length, map, refl, sym, ap, ◌∙◌, append-nil, None}
 use Rattle.std.proofs.lemmas.List.{length-map}
 use Rattle.snap_semantics.specs.Token.{Token, TextLine}
 use Rattle.snap_explanation.specs.Steps.{view_placed_token, placed_tokens}
@@ -8,6 +8,10 @@ use Rattle.snap_explanation.specs.declared.pieces.PlacedToken as token
 use Rattle.snap_text.specs.Tokens.{view_token}
 use Rattle.snap_explanation.specs.Names.{words_before, tokens_of_placed}
 use Rattle.snap_explanation.specs.Part.{lines_before}
+use Rattle.snap_explanation.specs.Sorts.{names_of, source_in, of_sort}
+use Rattle.snap_semantics.specs.declared.text.Sort.{Sort}
+use Rattle.snap_semantics.specs.declared.text.Sort.TheVariants as sort
+use Rattle.snap_words.specs.declared.kind.KindTag.{KindTag}
 
 pub none_before : (before : ℕ) (parts : List (List ℕ)) → lines_before 0 before parts ≡ before
 none_before before [] = refl
@@ -31,3 +35,11 @@ same_tokens (t ∷ ts) = ap (λ (us : List Token). view_token t.token ∷ us) (s
 
 pub placed_length : (ts : List token.PlacedToken) → length (placed_tokens ts) ≡ length ts
 placed_length ts = length-map ts (λ (t : token.PlacedToken). view_token t.token)
+
+-- the names of a sort are those behind its words
+pub names_of_sort : (k : KindTag) (ws : List (List ℕ)) (wanted : Sort) →
+    of_sort (source_in k ws) wanted ≡ names_of wanted None ws
+names_of_sort k ws sort.Scalar = refl
+names_of_sort k ws sort.Row = refl
+names_of_sort k ws sort.Words = refl
+names_of_sort k ws sort.View = refl

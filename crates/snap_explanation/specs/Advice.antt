@@ -1,21 +1,21 @@
 -- `advice`: what the explanation of a refused input advises at the token where a line is lost.
-use Rattle.std.specs.Prelude.{ℕ, Bool, true, false, List, [], ◌∷◌, Option, Some, None, if◌then◌else◌}
+use Rattle.std.specs.Prelude.{ℕ, Bool, false, ◌&&◌, ◌||◌, List, [], ◌∷◌, length, nat_eq, nat_lt}
+use Rattle.std.specs.Prelude.{if◌then◌else◌}
 use Rattle.std.specs.List.{list_all}
 use Rattle.snap_semantics.specs.declared.text.Symbol.TheVariants as symbol
 use Rattle.snap_semantics.specs.Token.{Token, is_digit, is_lexeme_byte}
 use Rattle.snap_explanation.specs.declared.line_sorts.LineSort.{LineSort}
 use Rattle.snap_explanation.specs.declared.line_sorts.LineSort.TheVariants as line
-use Rattle.snap_explanation.specs.declared.expected.Keyword.TheVariants as keyword
-use Rattle.snap_explanation.specs.declared.expected.Expected.{Expected}
-use Rattle.snap_explanation.specs.declared.expected.Expected.TheVariants as wanted
-use Rattle.snap_explanation.specs.After.{may_pass}
+use Rattle.snap_explanation.specs.declared.parts.Part.{Part}
+use Rattle.snap_explanation.specs.declared.parts.Part.TheVariants as part
+use Rattle.snap_explanation.specs.Grammar.{may_pass}
 use Rattle.snap_explanation.specs.Pieces.{PlacedToken}
 use Rattle.snap_explanation.specs.Tests.{is_symbol, is_identifier, is_name, is_line}
 use Rattle.snap_explanation.specs.declared.wording.TheConstants.{END_HINTS, INDEX_HINTS, SUM_HINTS, JOIN_HINTS}
-use Rattle.snap_explanation.specs.declared.wording.TheConstants.{NAME_HINTS}
+use Rattle.snap_explanation.specs.declared.wording.TheConstants.{NAME_HINTS, PROCESS_HINTS, RANGE_HINTS, NO_RANGES}
 use Rattle.snap_explanation.specs.declared.wording.TheConstants.{VALUE_HINTS, INSTRUCTION_HINTS, HEADERS, RESERVED}
 use Rattle.snap_explanation.specs.declared.wording.TheConstants.{VALUES, LOCAL, COMMANDS, REGISTERS, NUMBERED, SHAPE}
-use Rattle.snap_explanation.specs.declared.wording.TheConstants.{ITEM}
+use Rattle.snap_explanation.specs.declared.wording.TheConstants.{ITEM, RETURN}
 use Rattle.snap_explanation.specs.declared.wording.TheConstants.{COMPARISON_HINTS, NAMES, TARGET}
 use Rattle.snap_explanation.specs.declared.wording.TheConstants.{SCRIPT, COMMAND_FORMS, INSTRUCTION_FORMS}
 use Rattle.snap_explanation.specs.declared.wording.TheConstants.{INSTRUCTIONS}
@@ -23,66 +23,76 @@ use Rattle.snap_explanation.specs.declared.wording.TheConstants.{WRONG_NUMBER, L
 use Rattle.snap_explanation.specs.Names.{letters_of}
 use Rattle.snap_explanation.specs.Said.{rows, ranges, by_word, by_byte}
 
--- whether advice is of what stands behind this: where names may follow, it is of names
-abbrev pub passes : Expected → Bool
-passes wanted.Names = false
-passes w = may_pass w
+-- whether advice is of what stands behind this: where names may follow, it is of names, and in a schedule none is
+abbrev pub passes : Part → Bool
+passes part.Names = false
+passes part.Act = false
+passes p = may_pass p
 
--- the first that has to stand there, where one has to
-abbrev pub firm : List Expected → Option Expected
-firm [] = None
-firm (w ∷ ws) = if passes w then firm ws else Some w
+-- the first that has to stand there
+abbrev pub firm : List Part → Part
+firm [] = part.End
+firm (p ∷ ps) = if passes p then firm ps else p
 
 -- the table of what is advised at a piece, where this has to stand
-abbrev pub hints : Option Expected → List (List ℕ × List ℕ)
-hints None = rows END_HINTS.now
-hints (Some (wanted.Symbol symbol.CloseBracket)) = rows INDEX_HINTS.now
-hints (Some (wanted.Symbol symbol.Equal)) = rows SUM_HINTS.now
-hints (Some (wanted.Keyword keyword.Goto)) = rows JOIN_HINTS.now
-hints (Some wanted.Name) = rows NAME_HINTS.now
-hints (Some (wanted.Index q)) = rows NAME_HINTS.now
-hints (Some (wanted.Term q)) = rows VALUE_HINTS.now
-hints (Some (wanted.Expr q)) = rows VALUE_HINTS.now
-hints (Some (wanted.Condition q)) = rows COMPARISON_HINTS.now
-hints (Some wanted.SecondPart) = rows VALUE_HINTS.now
-hints (Some wanted.Test) = rows COMPARISON_HINTS.now
-hints (Some wanted.Instruction) = rows INSTRUCTION_HINTS.now
+abbrev pub hints : Part → List (List ℕ × List ℕ)
+hints part.End = rows END_HINTS.now
+hints part.CloseBracket = rows INDEX_HINTS.now
+hints part.Equal = rows SUM_HINTS.now
+hints part.Goto = rows JOIN_HINTS.now
+hints part.Process = rows PROCESS_HINTS.now
+hints part.Range = rows RANGE_HINTS.now
+hints part.Name = rows NAME_HINTS.now
+hints part.Index = rows NAME_HINTS.now
+hints part.Term = rows VALUE_HINTS.now
+hints part.Expr = rows VALUE_HINTS.now
+hints part.SecondPart = rows VALUE_HINTS.now
+hints part.Condition = rows COMPARISON_HINTS.now
+hints part.Test = rows COMPARISON_HINTS.now
+hints part.Instruction = rows INSTRUCTION_HINTS.now
 hints _ = []
 
--- what is advised where a value has to stand, or a name
-abbrev pub of_word : List ℕ → Token → List ℕ
-of_word x t = if is_identifier t then x else []
+-- what is advised at a word of which that table says nothing
+abbrev pub word_advice : Part → List ℕ
+word_advice part.Name = RESERVED.now
+word_advice part.Index = RESERVED.now
+word_advice part.Term = VALUES.now
+word_advice part.Expr = VALUES.now
+word_advice part.Condition = VALUES.now
+word_advice part.SecondPart = VALUES.now
+word_advice part.Test = VALUES.now
+word_advice part.LineNumber = TARGET.now
+word_advice part.Target = TARGET.now
+word_advice _ = []
 
--- what is advised at a token of which that table says nothing
-abbrev pub otherwise : Option Expected → Token → List ℕ
-otherwise (Some (wanted.Keyword keyword.Goto)) t = []
-otherwise (Some (wanted.Keyword keyword.R)) t = []
-otherwise (Some (wanted.Keyword keyword.V)) t = []
-otherwise (Some (wanted.Keyword keyword.Shape)) t = []
-otherwise (Some (wanted.Keyword k)) t = HEADERS.now
-otherwise (Some wanted.Name) t = of_word RESERVED.now t
-otherwise (Some (wanted.Index q)) t = of_word RESERVED.now t
-otherwise (Some (wanted.Term q)) t = of_word VALUES.now t
-otherwise (Some (wanted.Expr q)) t = of_word VALUES.now t
-otherwise (Some (wanted.Condition q)) t = of_word VALUES.now t
-otherwise (Some wanted.SecondPart) t = of_word VALUES.now t
-otherwise (Some wanted.Test) t = of_word VALUES.now t
-otherwise (Some wanted.Names) t = NAMES.now
-otherwise (Some wanted.LineNumber) t = of_word TARGET.now t
-otherwise (Some wanted.Instruction) t = if is_name t then LOCAL.now else []
-otherwise (Some wanted.Command) t = COMMANDS.now
-otherwise (Some wanted.Register) t = REGISTERS.now
-otherwise (Some wanted.Shown) t = REGISTERS.now
-otherwise _ t = []
-
--- whether what a process does in a schedule has to stand there, or nothing
-abbrev pub is_act : List Expected → Bool
-is_act (wanted.Act ∷ ws) = true
-is_act _ = false
+-- what is advised at a token of which it says nothing
+abbrev pub otherwise : Part → Token → List ℕ
+otherwise part.Kind t = HEADERS.now
+otherwise part.Scalar t = HEADERS.now
+otherwise part.Row t = HEADERS.now
+otherwise part.Words t = HEADERS.now
+otherwise part.View t = HEADERS.now
+otherwise part.Scan t = HEADERS.now
+otherwise part.Update t = HEADERS.now
+otherwise part.Names t = NAMES.now
+otherwise part.Command t = COMMANDS.now
+otherwise part.Register t = REGISTERS.now
+otherwise part.Shown t = REGISTERS.now
+otherwise part.Instruction t = if is_name t then LOCAL.now else []
+otherwise p t = if is_identifier t then word_advice p else []
 
 -- what is advised at a token that does not go on with what is wanted, and at the piece that it is
-abbrev pub advice : List Expected → Token → List ℕ → List ℕ
-advice ws t piece = if is_act ws then [] else by_word (hints (firm ws)) (otherwise (firm ws) t) piece
+abbrev pub advice : List Part → Token → List ℕ → List ℕ
+advice ps t piece = by_word (hints (firm ps)) (otherwise (firm ps) t) piece
+
+-- whether a line has a carriage return before another byte
+abbrev pub has_return : List ℕ → Bool
+has_return [] = false
+has_return (b ∷ bs) = (nat_eq b 13 && nat_lt 0 (length bs)) || has_return bs
+
+-- what is advised of a line with a carriage return inside
+abbrev pub return_advice : List ℕ → List ℕ
+return_advice line = if has_return line then RETURN.now else []
 
 -- the first token, where it is a word; else nothing
 abbrev pub first_word : List PlacedToken → List ℕ
@@ -108,10 +118,16 @@ form_advice line.Item ts = ITEM.now
 form_advice line.Script ts = SCRIPT.now
 form_advice line.Command ts = by_word (rows COMMAND_FORMS.now) [] (first_word ts)
 
--- what is advised of a piece that is no token
-abbrev pub stray_advice : List ℕ → List ℕ
-stray_advice [] = []
-stray_advice (b ∷ bs) =
-    if is_lexeme_byte b
-    then (if list_all is_digit (b ∷ bs) then WRONG_NUMBER.now else by_byte (ranges LEXEME_HINTS.now) b)
-    else by_byte (ranges BYTE_HINTS.now) b
+-- what is advised of letters and digits that are no token
+abbrev pub lexeme_advice : List ℕ → ℕ → List ℕ
+lexeme_advice piece b = if list_all is_digit piece then WRONG_NUMBER.now else by_byte (ranges LEXEME_HINTS.now) b
+
+-- what is advised of a byte that begins no token, in a line of this sort
+abbrev pub byte_advice : LineSort → ℕ → List ℕ
+byte_advice line.Item b = if nat_eq b 45 || nat_eq b 46 then NO_RANGES.now else by_byte (ranges BYTE_HINTS.now) b
+byte_advice sort b = by_byte (ranges BYTE_HINTS.now) b
+
+-- what is advised of a piece that is no token, in a line of this sort
+abbrev pub stray_advice : LineSort → List ℕ → List ℕ
+stray_advice sort [] = []
+stray_advice sort (b ∷ bs) = if is_lexeme_byte b then lexeme_advice (b ∷ bs) b else byte_advice sort b

@@ -32,7 +32,7 @@ use Rattle.snap_explanation.specs.declared.wording.TheConstants.{DECLARED_AS, QU
 use Rattle.snap_explanation.specs.declared.wording.TheConstants.{HAS_NUMBER, LINE_END, NO_SUCH_LINE, LONG_LISTING}
 use Rattle.snap_explanation.specs.declared.wording.TheConstants.{TOO_MANY, BAD_NAME, LONG_SCHEDULE, ITEMS, NO_PROCESS}
 use Rattle.snap_explanation.specs.declared.wording.TheConstants.{LONG_COMMANDS, NO_FIT, LONG_INPUT, AN_IMAGE}
-use Rattle.snap_explanation.specs.Advice.{advice, form_advice, stray_advice}
+use Rattle.snap_explanation.specs.Advice.{advice, form_advice, return_advice, stray_advice}
 use Rattle.snap_explanation.specs.Inputs.{parts_explained, order_advice}
 use Rattle.snap_explanation.specs.Misuse.{Misuse, wrong_in_line, misuse_text}
 use Rattle.snap_explanation.specs.Names.{Declared, letters_of, tokens_of_placed, words_before, header_count}
@@ -48,18 +48,18 @@ use Rattle.snap_explanation.specs.Texts.{expected_line}
 -- what is advised at a token, which is this piece
 abbrev pub token_advice : Place → Option PlacedToken → List ℕ → List ℕ
 token_advice p None piece = []
-token_advice p (Some t) piece = advice p.wanted t.token piece
+token_advice p (Some t) piece = advice p.wanted.parts t.token piece
 
 -- what is no token, and what is advised of it
 unfoldable pub stray_words : (piece advice : List ℕ) → List ℕ
 stray_words piece advice = QUOTE.now ++ said_cut piece ++ NO_TOKEN.now ++ advice
 
-abbrev pub stray_piece : List ℕ → List ℕ
-stray_piece piece = stray_words piece (stray_advice piece)
+abbrev pub stray_piece : LineSort → List ℕ → List ℕ
+stray_piece sort piece = stray_words piece (stray_advice sort piece)
 
 -- a byte that begins no token
-unfoldable pub stray_text : Part → (line column : ℕ) → List ℕ
-stray_text p k column = spot p k column ++ stray_piece (piece_at column (text_of p k))
+unfoldable pub stray_text : Part → LineSort → (line column : ℕ) → List ℕ
+stray_text p sort k column = spot p k column ++ stray_piece sort (piece_at column (text_of p k))
 
 -- what stands at a token, which may be the end of the line
 abbrev pub piece_of : List ℕ → Option PlacedToken → List ℕ
@@ -70,7 +70,7 @@ piece_of text (Some t) = piece_at t.column text
 abbrev pub lost_at : Part → LineSort → ℕ → List PlacedToken → Place → Option PlacedToken → List ℕ
 lost_at p sort k ts at t =
     spot p k (column_of (text_of p k) t) ++ expected_line at.wanted (piece_of (text_of p k) t)
-    ++ token_advice at t (piece_of (text_of p k) t) ++ form_advice sort ts
+    ++ token_advice at t (piece_of (text_of p k) t) ++ return_advice (text_of p k) ++ form_advice sort ts
 
 unfoldable pub lost_text : Part → LineSort → ℕ → List PlacedToken → Place → List ℕ
 lost_text p sort k ts at = lost_at p sort k ts at (nth_token at.before ts)
@@ -91,7 +91,7 @@ lost_or_line p sort k ts (Some at) = lost_text p sort k ts at
 
 -- a line with a byte that begins no token, or else one that is lost
 abbrev pub stray_or_lost : Part → LineSort → ℕ → List PlacedToken → Option ℕ → List ℕ
-stray_or_lost p sort k ts (Some column) = stray_text p k column
+stray_or_lost p sort k ts (Some column) = stray_text p sort k column
 stray_or_lost p sort k ts None = lost_or_line p sort k ts (lost_in sort (tokens_of_placed ts))
 
 abbrev pub form_text_of : Part → LineSort → ℕ → PlacedTokens → List ℕ
@@ -133,12 +133,10 @@ abbrev pub misuse_spot : Part → ℕ → Source → Option Misuse → List ℕ
 misuse_spot p k s None = token_spot p k None WRONG.now
 misuse_spot p k s (Some m) = spot p k m.token.column ++ misuse_text s m
 
-unfoldable pub names_spot : Part → ℕ → Source → List ℕ
-names_spot p k s = misuse_spot p k s (wrong_in_line s (placed_line p k))
-
-abbrev pub words_spot : Part → ℕ → List (List ℕ) → Option KindTag → List ℕ
-words_spot p k ws None = token_spot p k None WRONG.now
-words_spot p k ws (Some g) = names_spot p k (source_in g ws)
+-- a line of these tokens, behind these words of a header
+abbrev pub words_spot : Part → ℕ → List PlacedToken → List (List ℕ) → Option KindTag → List ℕ
+words_spot p k ts ws None = token_spot p k None WRONG.now
+words_spot p k ts ws (Some g) = misuse_spot p k (source_in g ws) (wrong_in_line (source_in g ws) ts)
 
 -- the words of the header lines before line k
 abbrev pub header_words : Part → ℕ → List (List ℕ)
@@ -146,7 +144,7 @@ header_words p k = words_before k header_count (text_lines p.text)
 
 -- line k, which speaks of what is not right
 unfoldable pub uses_spot : Part → ℕ → List ℕ
-uses_spot p k = words_spot p k (header_words p k) (kind_in (header_words p k))
+uses_spot p k = words_spot p k (placed_line p k) (header_words p k) (kind_in (header_words p k))
 
 -- where a name is declared
 abbrev pub declared_text : List ℕ → Option Declared → List ℕ
@@ -158,17 +156,12 @@ abbrev pub again_text : Part → Option PlacedToken → List ℕ
 again_text p None = []
 again_text p (Some t) = declared_text (letters_of t.token) (declared_at (letters_of t.token) (text_lines p.text))
 
-abbrev pub again_spot_of : Part → ℕ → Option PlacedToken → List ℕ
-again_spot_of p k t = token_spot p k t [] ++ again_text p t
+-- a numbered line
+unfoldable pub numbered_words : Numbered → List ℕ
+numbered_words last = decimal last.line ++ HAS_NUMBER.now ++ decimal last.number ++ LINE_END.now
 
--- a name that is declared before
-unfoldable pub again_spot : Part → ℕ → List ℕ
-again_spot p k = again_spot_of p k (first_again (header_words p k) (placed_line p k))
-
-unfoldable pub rising_text : ℕ → Numbered → List ℕ
-rising_text k last =
-    NUMBERS_RISE.now ++ decimal k ++ COMES_AFTER.now ++ decimal last.line ++ HAS_NUMBER.now ++ decimal last.number
-    ++ LINE_END.now
+abbrev pub rising_text : ℕ → Numbered → List ℕ
+rising_text k last = NUMBERS_RISE.now ++ decimal k ++ COMES_AFTER.now ++ numbered_words last
 
 abbrev pub number_at_token : Option PlacedToken → ℕ
 number_at_token None = 0
@@ -178,36 +171,56 @@ number_at_token (Some t) = number_of t.token
 abbrev pub line_before : Part → ℕ → Numbered
 line_before p k = last_before k (record { line = 0; number = 0 }) (text_lines p.text)
 
-abbrev pub rising_spot_of : Part → ℕ → Option PlacedToken → List ℕ
-rising_spot_of p k t = token_spot p k t [] ++ rising_text (number_at_token t) (line_before p k)
+-- the rule of listings that is broken
+unfoldable pub rule : ListingRefusal → List ℕ
+rule listing.TooLong = LONG_LISTING.now
+rule (listing.BadHeader k) = []
+rule (listing.BadLine k) = []
+rule (listing.NumberNotRising k) = RISING.now
+rule (listing.UnknownName k) = WRONG.now
+rule (listing.NameTwice k) = DECLARED_BEFORE.now
+rule (listing.WrongKind k) = WRONG.now
+rule (listing.NoSuchLine k) = NO_SUCH_LINE.now
+rule (listing.TooMany k) = TOO_MANY.now
+rule (listing.BadName k) = BAD_NAME.now
 
--- a number that is not above the one before
-unfoldable pub rising_spot : Part → ℕ → List ℕ
-rising_spot p k = rising_spot_of p k (nth_token 0 (placed_line p k))
+-- the token for which a line of these tokens is refused, by the words of the header lines before it
+abbrev pub refused_token : List (List ℕ) → List PlacedToken → ListingRefusal → Option PlacedToken
+refused_token ws ts (listing.NumberNotRising k) = nth_token 0 ts
+refused_token ws ts (listing.NameTwice k) = first_again ws ts
+refused_token ws ts (listing.NoSuchLine k) = first_led k ts
+refused_token ws ts (listing.TooMany k) = one_too_many (name_count ws) ts
+refused_token ws ts (listing.BadName k) = first_such is_bad (drop 1 ts)
+refused_token ws ts _ = None
 
--- line l leads to line k, which is none
-abbrev pub leading_spot : Part → (k l : ℕ) → List ℕ
-leading_spot p k l = token_spot p l (first_led k (placed_line p l)) NO_SUCH_LINE.now
+-- why line k is refused for a token
+abbrev pub reason : Part → ℕ → Option PlacedToken → ListingRefusal → List ℕ
+reason p k t (listing.NumberNotRising l) = rising_text (number_at_token t) (line_before p k)
+reason p k t (listing.NameTwice l) = again_text p t
+reason p k t r = rule r
+
+abbrev pub rule_spot_of : Part → ℕ → Option PlacedToken → ListingRefusal → List ℕ
+rule_spot_of p k t r = token_spot p k t [] ++ reason p k t r
+
+-- line k, which breaks a rule at a token
+unfoldable pub rule_spot : Part → ℕ → ListingRefusal → List ℕ
+rule_spot p k r = rule_spot_of p k (refused_token (header_words p k) (placed_line p k) r) r
 
 -- line k, refused at token i
 abbrev pub at_token : Part → (k i : ℕ) → List ℕ → List ℕ
 at_token p k i words = token_spot p k (nth_token i (placed_line p k)) words
 
--- the first name too many of line k, or the line itself
-abbrev pub too_many_spot : Part → ℕ → List ℕ
-too_many_spot p k = token_spot p k (one_too_many (name_count (header_words p k)) (placed_line p k)) TOO_MANY.now
-
 unfoldable pub listing_explained : Part → ListingRefusal → List ℕ
 listing_explained p listing.TooLong = LONG_LISTING.now
 listing_explained p (listing.BadHeader k) = form_text p (line.Header (header_at header.Kind k (text_lines p.text))) k
 listing_explained p (listing.BadLine k) = form_text p line.Numbered k
-listing_explained p (listing.NumberNotRising k) = rising_spot p k
 listing_explained p (listing.UnknownName k) = uses_spot p k
-listing_explained p (listing.NameTwice k) = again_spot p k
 listing_explained p (listing.WrongKind k) = uses_spot p k
-listing_explained p (listing.NoSuchLine k) = leading_spot p k (leading_line k (text_lines p.text))
-listing_explained p (listing.TooMany k) = too_many_spot p k
-listing_explained p (listing.BadName k) = token_spot p k (first_such is_bad (drop 1 (placed_line p k))) BAD_NAME.now
+listing_explained p (listing.NoSuchLine n) = rule_spot p (leading_line n (text_lines p.text)) (listing.NoSuchLine n)
+listing_explained p (listing.NumberNotRising k) = rule_spot p k (listing.NumberNotRising k)
+listing_explained p (listing.NameTwice k) = rule_spot p k (listing.NameTwice k)
+listing_explained p (listing.TooMany k) = rule_spot p k (listing.TooMany k)
+listing_explained p (listing.BadName k) = rule_spot p k (listing.BadName k)
 
 -- the sort of the lines behind the shape
 abbrev pub item_sort : Layout → LineSort
@@ -233,19 +246,6 @@ part_explained l p (refusal.Schedule r) = schedule_explained l p r
 part_explained l p (refusal.Words f) = at_token p (first_number (text_lines p.text)) 2 NO_FIT.now
 part_explained l p (refusal.Commands r) = commands_explained p r
 part_explained l p _ = []
-
--- the rule of listings that is broken
-abbrev pub rule : ListingRefusal → List ℕ
-rule listing.TooLong = LONG_LISTING.now
-rule (listing.BadHeader k) = []
-rule (listing.BadLine k) = []
-rule (listing.NumberNotRising k) = RISING.now
-rule (listing.UnknownName k) = WRONG.now
-rule (listing.NameTwice k) = DECLARED_BEFORE.now
-rule (listing.WrongKind k) = WRONG.now
-rule (listing.NoSuchLine k) = NO_SUCH_LINE.now
-rule (listing.TooMany k) = TOO_MANY.now
-rule (listing.BadName k) = BAD_NAME.now
 
 -- bytes that are no image of a listing
 abbrev pub image_explained : ImageRefusal → List ℕ

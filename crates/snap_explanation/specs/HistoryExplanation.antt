@@ -1,6 +1,6 @@
 -- `history_explanation`: what is said of an input that is no history after the line that refuses it: the line, and
 -- what may stand there.
-use Rattle.std.specs.Prelude.{ℕ, List, ◌++◌}
+use Rattle.std.specs.Prelude.{ℕ, List, [], ◌++◌}
 use Rattle.snap_semantics.specs.Token.{text_lines}
 use Rattle.snap_history_text.specs.declared.refusal.HistoryRefusal.{HistoryRefusal}
 use Rattle.snap_history_text.specs.declared.refusal.HistoryRefusal.TheVariants as history
@@ -16,19 +16,34 @@ use Rattle.snap_explanation.specs.Spot.{line_spot}
 abbrev pub history_part : List ℕ → Part
 history_part input = record { name = name.History; before = 0; text = input }
 
--- a line, and what is said of it
-unfoldable pub line_said : Part → ℕ → List ℕ → List ℕ
-line_said p k words = line_spot p k ++ words
+-- the line that is refused; 0 where none is
+abbrev pub refused_line : HistoryRefusal → ℕ
+refused_line history.TooLong = 0
+refused_line history.BadShape = 0
+refused_line (history.BadEvent k) = k
+refused_line (history.NoSuchProcess k) = k
+refused_line (history.NotRising k) = k
+refused_line (history.NoSuchWord k) = k
+refused_line (history.Busy k) = k
+refused_line (history.Crashed k) = k
+refused_line (history.NotCalled k) = k
+refused_line (history.BadView k) = k
 
--- what is said behind the line of a refusal
+-- the rule of histories that is broken
+abbrev pub history_rule : HistoryRefusal → List ℕ
+history_rule history.TooLong = LONG_HISTORY.now
+history_rule history.BadShape = []
+history_rule (history.BadEvent k) = EVENT_FORMS.now
+history_rule (history.NoSuchProcess k) = NO_PROCESS.now
+history_rule (history.NotRising k) = NOT_RISING.now
+history_rule (history.NoSuchWord k) = NO_WORD.now
+history_rule (history.Busy k) = BUSY.now
+history_rule (history.Crashed k) = CRASHED.now
+history_rule (history.NotCalled k) = NOT_CALLED.now
+history_rule (history.BadView k) = BAD_VIEW.now
+
+-- what is said behind the line of a refusal: the line, and the rule that it breaks
 unfoldable pub history_explanation : List ℕ → HistoryRefusal → List ℕ
 history_explanation input history.TooLong = LONG_HISTORY.now
 history_explanation input history.BadShape = form_text (history_part input) Shape (first_number (text_lines input))
-history_explanation input (history.BadEvent k) = line_said (history_part input) k EVENT_FORMS.now
-history_explanation input (history.NoSuchProcess k) = line_said (history_part input) k NO_PROCESS.now
-history_explanation input (history.NotRising k) = line_said (history_part input) k NOT_RISING.now
-history_explanation input (history.NoSuchWord k) = line_said (history_part input) k NO_WORD.now
-history_explanation input (history.Busy k) = line_said (history_part input) k BUSY.now
-history_explanation input (history.Crashed k) = line_said (history_part input) k CRASHED.now
-history_explanation input (history.NotCalled k) = line_said (history_part input) k NOT_CALLED.now
-history_explanation input (history.BadView k) = line_said (history_part input) k BAD_VIEW.now
+history_explanation input r = line_spot (history_part input) (refused_line r) ++ history_rule r

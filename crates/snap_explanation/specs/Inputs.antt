@@ -10,6 +10,7 @@ use Rattle.snap_semantics.specs.Token.{Token, TextLine, begins_with, lines_of, t
 use Rattle.snap_input.specs.Parts.{ends_part, part, parts_of}
 use Rattle.snap_tasks.specs.declared.subject.Subject.TheVariants as subject
 use Rattle.snap_explanation.specs.Tests.{is_word}
+use Rattle.snap_explanation.specs.declared.inputs.Fronts.{Fronts}
 use Rattle.snap_explanation.specs.declared.layout.Layout.{Layout}
 use Rattle.snap_explanation.specs.declared.layout.Layout.TheVariants as layout
 use Rattle.snap_explanation.specs.declared.layout.Texts.TheVariants as texts
@@ -68,20 +69,13 @@ abbrev pub is_front : List ℕ → List TextLine → Bool
 is_front w [] = false
 is_front w (l ∷ ls) = first_is w l.tokens
 
-abbrev pub is_listing : List ℕ → Bool
-is_listing text = is_front (codes "kind") (text_lines text)
-
-abbrev pub is_schedule : List ℕ → Bool
-is_schedule text = is_front (codes "shape") (text_lines text)
-
--- what is said where the first part is to be a listing
-abbrev pub first_part_advice : List (List ℕ) → List ℕ
-first_part_advice parts =
-    if is_schedule (part 0 parts) then (if is_listing (part 1 parts) then SWAPPED.now else SHIPPED.now) else []
-
--- what is said where the first part is to be none
-abbrev pub no_listing_advice : List (List ℕ) → List ℕ
-no_listing_advice parts = if is_listing (part 0 parts) then NO_LISTING.now else []
+-- how an input begins
+abbrev pub fronts_of : List ℕ → Fronts
+fronts_of input = record {
+  schedule = is_front (codes "shape") (text_lines input);
+  listing = is_front (codes "kind") (text_lines input);
+  listing_behind = is_front (codes "kind") (text_lines (part 1 (parts_of input)));
+}
 
 -- the text line that has not its form
 abbrev pub formless_line : ListingRefusal → List (List ℕ) → List ℕ
@@ -89,24 +83,27 @@ formless_line (listing.BadHeader k) lines = nth_line k lines
 formless_line (listing.BadLine k) lines = nth_line k lines
 formless_line _ lines = []
 
--- what is said where the whole input is to be a listing
-abbrev pub whole_advice : List ℕ → ListingRefusal → List ℕ
-whole_advice input r =
-    if is_schedule input || begins_with 37 (formless_line r (lines_of input)) then ALONE.now else []
+-- the whole input is no listing, but has parts
+abbrev pub has_parts : Fronts → ListingRefusal → List (List ℕ) → Bool
+has_parts f r lines = f.schedule || begins_with 37 (formless_line r lines)
 
--- what is said of a named file with the front of another part
-abbrev pub swapped_advice : Bool → List ℕ
-swapped_advice swapped = if swapped then FILES_SWAPPED.now else []
+-- a listing that stands behind a schedule, or none
+abbrev pub swapped_parts : Fronts → List ℕ
+swapped_parts f = if f.schedule then (if f.listing_behind then SWAPPED.now else SHIPPED.now) else []
+
+abbrev pub order_advice_of : Layout → List ℕ → Refusal → Fronts → List ℕ
+order_advice_of layout.Listing input (refusal.Listing r) f = if has_parts f r (lines_of input) then ALONE.now else []
+order_advice_of layout.NamedListing input (refusal.Listing r) f = if f.schedule then FILES_SWAPPED.now else []
+order_advice_of layout.NamedSchedule input (refusal.Schedule r) f = if f.listing then FILES_SWAPPED.now else []
+order_advice_of (layout.Parts subject.FirstPart t) input (refusal.Listing r) f = swapped_parts f
+order_advice_of (layout.Parts subject.FirstPart t) input (refusal.WrongParts k) f = swapped_parts f
+order_advice_of (layout.Parts (subject.Shipped g) t) input (refusal.Schedule r) f =
+    if f.listing then NO_LISTING.now else []
+order_advice_of _ input _ f = []
 
 -- what is said of a part that stands in another one's place
 unfoldable pub order_advice : Layout → List ℕ → Refusal → List ℕ
-order_advice layout.Listing input (refusal.Listing r) = whole_advice input r
-order_advice layout.NamedListing input (refusal.Listing r) = swapped_advice (is_schedule input)
-order_advice layout.NamedSchedule input (refusal.Schedule r) = swapped_advice (is_listing input)
-order_advice (layout.Parts subject.FirstPart t) input (refusal.Listing r) = first_part_advice (parts_of input)
-order_advice (layout.Parts subject.FirstPart t) input (refusal.WrongParts k) = first_part_advice (parts_of input)
-order_advice (layout.Parts (subject.Shipped g) t) input (refusal.Schedule r) = no_listing_advice (parts_of input)
-order_advice _ input _ = []
+order_advice l input r = order_advice_of l input r (fronts_of input)
 
 unfoldable pub parts_explained : Layout → List ℕ → List ℕ
 parts_explained l input =

@@ -1,6 +1,6 @@
 -- The definitions of snap_explanation, by their modules.
 pub mod Tests
-pub mod After
+pub mod Grammar
 pub mod Lost
 pub mod Pieces
 pub mod Steps

@@ -10,7 +10,6 @@ use Rattle.snap_semantics.specs.declared.text.Sort.TheVariants as sort
 use Rattle.snap_semantics.specs.ListingForms.{line_form}
 use Rattle.snap_semantics.specs.Rules.{or_else}
 use Rattle.snap_semantics.specs.Source.{Source}
-use Rattle.snap_semantics.specs.Spelling.{kind_keyword}
 use Rattle.snap_semantics.specs.Uses.{Use, Named, BankUse, TupleUse, kind_has, sort_of}
 use Rattle.snap_explanation.specs.Pieces.{PlacedToken}
 use Rattle.snap_explanation.specs.Names.{letters_of, nearest, tokens_of_placed}
@@ -21,7 +20,6 @@ use Rattle.snap_explanation.specs.declared.wording.TheConstants.{ROW_USE, WORDS_
 use Rattle.snap_explanation.specs.declared.wording.TheConstants.{IS_ONE, QUOTE, IS, WHILE, SEQ_BANKS, BIT_BANKS}
 use Rattle.snap_explanation.specs.declared.wording.TheConstants.{MULTI_BANKS, SEQ_FIELDS, BIT_FIELDS, MULTI_FIELDS}
 use Rattle.snap_explanation.specs.declared.wording.TheConstants.{SEQ_TUPLE, BIT_TUPLE, MULTI_TUPLE, QUOTE_END}
-use Rattle.snap_explanation.specs.declared.wording.TheConstants.{REGISTERS_OF, ARE, TUPLE_OF, IS_A, WORDS_OF, HAVE}
 use Rattle.snap_explanation.specs.declared.token_uses.Slot.{Slot}
 use Rattle.snap_explanation.specs.declared.token_uses.Slot.TheVariants as slot
 
@@ -93,7 +91,7 @@ some_words (Some x) = BELONGS.now ++ x ++ IS_ONE.now
 -- a name that is of another sort, or of none
 unfoldable pub name_text : Source → List ℕ → Sort → Option Sort → List ℕ
 name_text s w wanted found =
-    (QUOTE.now ++ w ++ IS.now ++ declared_words found ++ WHILE.now ++ sort_words wanted)
+    QUOTE.now ++ w ++ IS.now ++ declared_words found ++ WHILE.now ++ sort_words wanted
     ++ some_words (some_name w (of_sort s wanted)) ++ usage found
 
 -- the registers of a kind, and that there is no other
@@ -113,16 +111,16 @@ tuple_words kind.Seq = SEQ_TUPLE.now
 tuple_words kind.Bits = BIT_TUPLE.now
 tuple_words kind.Multi = MULTI_TUPLE.now
 
--- what registers or words of a kind are or have, and that they have not what a word says
-abbrev pub lack_text : (front name middle have w : List ℕ) → List ℕ
-lack_text front name middle have w = front ++ name ++ middle ++ have ++ w ++ QUOTE_END.now
+-- what a kind has, and that it has not what a word says
+abbrev pub lack_text : (have w : List ℕ) → List ℕ
+lack_text have w = have ++ w ++ QUOTE_END.now
 
 -- what is said of a word that speaks of what is not right
 abbrev pub use_text : Source → List ℕ → Use → List ℕ
 use_text s w (Named wanted x) = name_text s w wanted (sort_of s x)
-use_text s w (BankUse b) = lack_text REGISTERS_OF.now (kind_keyword s.kind) ARE.now (banks_words s.kind) w
-use_text s w (TupleUse k) = TUPLE_OF.now ++ kind_keyword s.kind ++ IS_A.now ++ tuple_words s.kind
-use_text s w _ = lack_text WORDS_OF.now (kind_keyword s.kind) HAVE.now (fields_words s.kind) w
+use_text s w (BankUse b) = lack_text (banks_words s.kind) w
+use_text s w (TupleUse k) = tuple_words s.kind
+use_text s w _ = lack_text (fields_words s.kind) w
 
 abbrev pub misuse_text : Source → Misuse → List ℕ
 misuse_text s m = use_text s (letters_of m.token.token) m.spoken

@@ -1,6 +1,6 @@
 -- The token of a line that a refusal is about: a name that is unknown or declared twice, the nearest known name, or a
 -- target that is no line.
-use Rattle.std.specs.Prelude.{ℕ, ◌+◌, ◌-◌, Bool, false, ◌&&◌, ◌||◌, not, List, [], ◌∷◌, ◌++◌, drop, Option, Some}
+use Rattle.std.specs.Prelude.{ℕ, ◌+◌, ◌-◌, Bool, false, ◌&&◌, ◌||◌, List, [], ◌∷◌, ◌++◌, drop, Option, Some}
 use Rattle.std.specs.Prelude.{None, nat_eq, nat_lt, bytes_eq, codes, map, if◌then◌else◌}
 use Rattle.std.specs.List.{list_any}
 use Rattle.snap_semantics.specs.Listing.{is_bad_name}
@@ -87,14 +87,24 @@ pub record Declared : Type 0 where
   pub line : ℕ
   pub keyword : List ℕ
 
-abbrev pub declared_in : (line : ℕ) → List ℕ → List (List ℕ) → Option Declared
-declared_in line x [] = None
-declared_in line x (w ∷ ws) = if is_among x ws then Some (record { line = line; keyword = w }) else None
+-- whether one of these is a word
+abbrev pub has_word : List ℕ → List Token → Bool
+has_word x ts = list_any (is_word x) ts
+
+abbrev pub declared_by : (line : ℕ) → List ℕ → Option (List Token) → Option Declared
+declared_by line x None = None
+declared_by line x (Some []) = None
+declared_by line x (Some (t ∷ ts)) =
+    if has_word x ts then Some (record { line = line; keyword = letters_of t }) else None
+
+-- a line that has a name behind the first word
+abbrev pub declared_in : List ℕ → TextLine → Option Declared
+declared_in x l = declared_by l.number x l.tokens
 
 -- the first line that has a name behind another word
 abbrev pub declared_at : List ℕ → List TextLine → Option Declared
 declared_at x [] = None
-declared_at x (l ∷ ls) = or_else (declared_in l.number x (words_of_line l.tokens)) (declared_at x ls)
+declared_at x (l ∷ ls) = or_else (declared_in x l) (declared_at x ls)
 
 abbrev pub number_of : Token → ℕ
 number_of (Identifier w) = 0
@@ -127,10 +137,10 @@ is_same_later xs ys = bytes_eq (drop 1 xs) (drop 1 ys) || (bytes_eq (drop 1 xs) 
 abbrev pub is_near : List ℕ → List ℕ → Bool
 is_near xs ys = is_same_later (drop (common_len xs ys) xs) (drop (common_len xs ys) ys)
 
--- the first of these that is one letter away and no reserved word
+-- the first of these that is one letter away
 abbrev pub nearest : List ℕ → List (List ℕ) → Option (List ℕ)
 nearest w [] = None
-nearest w (x ∷ xs) = if is_near w x && not (is_reserved x) then Some x else nearest w xs
+nearest w (x ∷ xs) = if is_near w x then Some x else nearest w xs
 
 -- whether a word leads to a line
 abbrev pub is_leading : Token → Bool

@@ -1,9 +1,7 @@
--- `said`: the text of the pieces of an explanation; and `rows`: a table of its wording.
-use Rattle.std.specs.Prelude.{ℕ, ◌&&◌, ◌||◌, List, [], ◌∷◌, ◌++◌, decimal, replicate, map, nat_eq, nat_le, bytes_eq}
+-- Bytes of an input as an explanation shows them; and `rows`: a table of its wording.
+use Rattle.std.specs.Prelude.{ℕ, ◌&&◌, ◌||◌, List, [], ◌∷◌, ◌++◌, map, nat_eq, nat_le, bytes_eq}
 use Rattle.std.specs.Prelude.{nat_lt, length, take, if◌then◌else◌}
 use Rattle.std.specs.Borrow.{Bor}
-use Rattle.snap_explanation.specs.declared.said.Said.{Said}
-use Rattle.snap_explanation.specs.declared.said.Said.TheVariants as piece
 use Rattle.snap_explanation.specs.declared.wording.TheConstants.{CUT}
 
 -- a byte as it is shown: a character of ASCII, a space for a tab or a carriage return, else `?`
@@ -16,18 +14,6 @@ shown bytes = map shown_byte bytes
 -- a piece of a line as it is shown: its first 40 bytes, and a sign where there are more
 abbrev pub said_cut : List ℕ → List ℕ
 said_cut x = shown (take 40 x) ++ (if nat_lt 40 (length x) then CUT.now else [])
-
-abbrev pub said_text : Said → List ℕ
-said_text (piece.Text x) = x.now
-said_text (piece.Shown x) = shown x.now
-said_text (piece.Piece x) = said_cut x.now
-said_text (piece.Number k) = decimal k
-said_text (piece.Spaces k) = replicate k 32
-
--- pieces, one behind the other
-abbrev pub said : List Said → List ℕ
-said [] = []
-said (p ∷ ps) = said_text p ++ said ps
 
 -- a table of pieces of a line, and what is said at each
 abbrev pub rows : List (record { now : List ℕ } × record { now : List ℕ }) → List (List ℕ × List ℕ)

@@ -1,5 +1,5 @@
 -- The parts and names of the code that explains refusals, viewed as those of its definitions.
-use Rattle.std.specs.Prelude.{[], map}
+use Rattle.std.specs.Prelude.{map}
 use Rattle.snap_semantics.specs.Source.{Source}
 use Rattle.snap_semantics.specs.Uses.{Use, Named, BankUse, FieldUse, HandshakeUse, ViewUse, TupleUse}
 use Rattle.snap_explanation.specs.Steps.{view_placed_token}
@@ -12,22 +12,14 @@ use Rattle.snap_explanation.specs.declared.names.Declared as line
 use Rattle.snap_explanation.specs.Misuse.{Misuse}
 use Rattle.snap_explanation.specs.Names.{Declared}
 use Rattle.snap_explanation.specs.Part.{Part}
+use Rattle.snap_explanation.specs.Sorts.{source_in}
 
 abbrev pub view_part : code.Part → Part
 view_part p = record { name = p.name; before = p.before; text = p.text.now }
 
--- names by their sorts as a listing without lines
+-- a kind and the words of header lines as a listing without lines
 abbrev pub view_names : names.Names → Source
-view_names n = record {
-  kind = n.kind;
-  scalars = map (λ w. w.now) n.scalars.items;
-  rows = map (λ w. w.now) n.rows.items;
-  words = map (λ w. w.now) n.words.items;
-  views = map (λ w. w.now) n.views.items;
-  scan = 0;
-  update = 0;
-  lines = [];
-}
+view_names n = source_in n.kind (map (λ w. w.now) n.words.now)
 
 abbrev pub view_use : spoken.Use → Use
 view_use (given.Named sort word) = Named sort word.now

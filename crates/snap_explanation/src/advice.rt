@@ -4,113 +4,133 @@ ghost use Rattle.std.specs.List.{list_all};
 ghost use Rattle.snap_semantics.specs.Token.{is_digit};
 ghost use Rattle.snap_text.specs.Tokens.{view_token};
 ghost use Rattle.snap_explanation.specs.Steps.{view_placed_token};
-ghost use Rattle.snap_explanation.specs.Advice.{passes, firm, hints, otherwise, is_act};
-ghost use Rattle.snap_explanation.specs.Advice.{advice, first_word};
-ghost use Rattle.snap_explanation.specs.Advice.{numbered_advice, form_advice, stray_advice};
+ghost use Rattle.snap_explanation.specs.Advice.{passes, firm, hints, word_advice, otherwise};
+ghost use Rattle.snap_explanation.specs.Advice.{advice, has_return, return_advice, first_word};
+ghost use Rattle.snap_explanation.specs.Advice.{numbered_advice, form_advice, lexeme_advice};
+ghost use Rattle.snap_explanation.specs.Advice.{byte_advice, stray_advice};
 ghost use Rattle.snap_explanation.specs.Said.{view_row};
 
-use crate::after::may_pass;
-use crate::expected::{Expected, Keyword};
+use crate::forms::may_pass;
 use crate::line_sorts::LineSort;
 use crate::names::letters_of;
+use crate::parts::Part;
 use crate::pieces::{PlacedToken, is_lexeme_byte};
 use crate::tables::{by_byte, by_word};
 use crate::tests::{is_identifier, is_line, is_name, is_symbol};
 use crate::wording::{
     BYTE_HINTS, COMMAND_FORMS, COMMANDS, COMPARISON_HINTS, END_HINTS, HEADERS, INDEX_HINTS,
     INSTRUCTION_FORMS, INSTRUCTION_HINTS, INSTRUCTIONS, ITEM, JOIN_HINTS, LEXEME_HINTS, LOCAL,
-    NAME_HINTS, NAMES, NUMBERED, REGISTERS, RESERVED, SCRIPT, SHAPE, SUM_HINTS, TARGET,
-    VALUE_HINTS, VALUES, WRONG_NUMBER,
+    NAME_HINTS, NAMES, NO_RANGES, NUMBERED, PROCESS_HINTS, RANGE_HINTS, REGISTERS, RESERVED,
+    RETURN, SCRIPT, SHAPE, SUM_HINTS, TARGET, VALUE_HINTS, VALUES, WRONG_NUMBER,
 };
 use snap_semantics::Symbol;
 use snap_text::Token;
 
-/// Returns whether the advice is of what stands behind `wanted`: where names may follow, it is of
-/// names.
-fn passes(wanted: Expected) -> bool
-    ensures { result ≡ passes wanted }
+/// Returns whether the advice is of what stands behind `part`: where names may follow, it is of
+/// names, and in a schedule there is none.
+fn passes(part: Part) -> bool
+    ensures { result ≡ passes part }
 {
-    match wanted {
-        Expected::Names => false,
-        _ => may_pass(wanted),
+    match part {
+        Part::Names | Part::Act => false,
+        _ => may_pass(part),
     }
 }
 
-/// Returns the first part that has to stand there, if one has to.
-fn firm(wanted: &[Expected]) -> Option<Expected>
+/// Returns the first part that has to stand there.
+fn firm(wanted: &[Part]) -> Part
     ensures { result ≡ firm wanted.now }
 {
     let mut rest = wanted;
     while let [first, behind @ ..] = rest {
         if !passes(*first) {
-            return Some(*first);
+            return *first;
         }
         rest = behind;
     }
-    None
+    Part::End
 }
 
-/// Returns the table of the advice at a piece, where `wanted` has to stand.
-fn hints(wanted: Option<Expected>) -> &'static [(&'static [u8], &'static [u8])]
-    ensures { map view_row result.now ≡ hints wanted }
+/// Returns the table of the advice at a piece, where `part` has to stand.
+fn hints(part: Part) -> &'static [(&'static [u8], &'static [u8])]
+    ensures { map view_row result.now ≡ hints part }
 {
-    match wanted {
-        None => END_HINTS,
-        Some(Expected::Symbol(Symbol::CloseBracket)) => INDEX_HINTS,
-        Some(Expected::Symbol(Symbol::Equal)) => SUM_HINTS,
-        Some(Expected::Keyword(Keyword::Goto)) => JOIN_HINTS,
-        Some(Expected::Name | Expected::Index(_)) => NAME_HINTS,
-        Some(Expected::Term(_) | Expected::Expr(_) | Expected::SecondPart) => VALUE_HINTS,
-        Some(Expected::Condition(_) | Expected::Test) => COMPARISON_HINTS,
-        Some(Expected::Instruction) => INSTRUCTION_HINTS,
+    match part {
+        Part::End => END_HINTS,
+        Part::CloseBracket => INDEX_HINTS,
+        Part::Equal => SUM_HINTS,
+        Part::Goto => JOIN_HINTS,
+        Part::Process => PROCESS_HINTS,
+        Part::Range => RANGE_HINTS,
+        Part::Name | Part::Index => NAME_HINTS,
+        Part::Term | Part::Expr | Part::SecondPart => VALUE_HINTS,
+        Part::Condition | Part::Test => COMPARISON_HINTS,
+        Part::Instruction => INSTRUCTION_HINTS,
         _ => &[],
     }
 }
 
-/// Returns the advice at a token of which the table says nothing.
-fn otherwise(wanted: Option<Expected>, token: &Token<'_>) -> &'static [u8]
-    ensures { result.now ≡ otherwise wanted (view_token token.now) }
+/// Returns the advice at a word of which the table says nothing.
+fn word_advice(part: Part) -> &'static [u8]
+    ensures { result.now ≡ word_advice part }
 {
-    match wanted {
-        Some(Expected::Keyword(Keyword::Goto | Keyword::R | Keyword::V | Keyword::Shape)) => b"",
-        Some(Expected::Keyword(_)) => HEADERS,
-        Some(Expected::Name | Expected::Index(_)) if is_identifier(token) => RESERVED,
-        Some(
-            Expected::Term(_)
-            | Expected::Expr(_)
-            | Expected::Condition(_)
-            | Expected::SecondPart
-            | Expected::Test,
-        ) if is_identifier(token) => VALUES,
-        Some(Expected::Names) => NAMES,
-        Some(Expected::LineNumber) if is_identifier(token) => TARGET,
-        Some(Expected::Instruction) if is_name(token) => LOCAL,
-        Some(Expected::Command) => COMMANDS,
-        Some(Expected::Register | Expected::Shown) => REGISTERS,
+    match part {
+        Part::Name | Part::Index => RESERVED,
+        Part::Term | Part::Expr | Part::Condition | Part::SecondPart | Part::Test => VALUES,
+        Part::LineNumber | Part::Target => TARGET,
         _ => b"",
     }
 }
 
-/// Returns whether what a process does in a schedule has to stand there, or nothing.
-fn is_act(wanted: &[Expected]) -> bool
-    ensures { result ≡ is_act wanted.now }
+/// Returns the advice at a token of which the table says nothing.
+fn otherwise(part: Part, token: &Token<'_>) -> &'static [u8]
+    ensures { result.now ≡ otherwise part (view_token token.now) }
 {
-    match wanted {
-        [Expected::Act, ..] => true,
-        _ => false,
+    match part {
+        Part::Kind
+        | Part::Scalar
+        | Part::Row
+        | Part::Words
+        | Part::View
+        | Part::Scan
+        | Part::Update => HEADERS,
+        Part::Names => NAMES,
+        Part::Command => COMMANDS,
+        Part::Register | Part::Shown => REGISTERS,
+        Part::Instruction if is_name(token) => LOCAL,
+        _ if is_identifier(token) => word_advice(part),
+        _ => b"",
     }
 }
 
 /// Returns the advice at a token that does not go on with what is wanted, and at the piece that it
 /// is.
-pub fn advice(wanted: &[Expected], token: &Token<'_>, piece: &[u8]) -> &'static [u8]
+pub fn advice(wanted: &[Part], token: &Token<'_>, piece: &[u8]) -> &'static [u8]
     ensures { result.now ≡ advice wanted.now (view_token token.now) piece.now }
 {
-    if is_act(wanted) {
-        return b"";
+    let part = firm(wanted);
+    by_word(hints(part), otherwise(part, token), piece)
+}
+
+/// Returns whether a line has a carriage return before another byte.
+fn has_return(line: &[u8]) -> bool
+    ensures { result ≡ has_return line.now }
+{
+    let mut rest = line;
+    while let [first, behind @ ..] = rest {
+        if *first == b'\r' && !behind.is_empty() {
+            return true;
+        }
+        rest = behind;
     }
-    let wanted = firm(wanted);
-    by_word(hints(wanted), otherwise(wanted, token), piece)
+    false
+}
+
+/// Returns the advice on a line with a carriage return inside.
+pub fn return_advice(line: &[u8]) -> &'static [u8]
+    ensures { result.now ≡ return_advice line.now }
+{
+    if has_return(line) { RETURN } else { b"" }
 }
 
 /// Returns the first token if it is a word, and an empty text otherwise.
@@ -158,22 +178,44 @@ pub fn form_advice(sort: LineSort, tokens: &[PlacedToken<'_>]) -> &'static [u8]
 fn all_digits(piece: &[u8]) -> bool
     ensures { result ≡ list_all is_digit piece.now }
 {
-    piece.iter().all(|b| b'0' <= *b && *b <= b'9')
+    let mut rest = piece;
+    while let [first, behind @ ..] = rest {
+        if *first < b'0' || b'9' < *first {
+            return false;
+        }
+        rest = behind;
+    }
+    true
 }
 
-/// Returns the advice on a piece that is no token.
-pub fn stray_advice(piece: &[u8]) -> &'static [u8]
-    ensures { result.now ≡ stray_advice piece.now }
+/// Returns the advice on letters and digits that are no token.
+fn lexeme_advice(piece: &[u8], first: u8) -> &'static [u8]
+    ensures { result.now ≡ lexeme_advice piece.now first }
+{
+    if all_digits(piece) {
+        WRONG_NUMBER
+    } else {
+        by_byte(LEXEME_HINTS, first)
+    }
+}
+
+/// Returns the advice on a byte that begins no token, in a line of this sort.
+fn byte_advice(sort: LineSort, byte: u8) -> &'static [u8]
+    ensures { result.now ≡ byte_advice sort byte }
+{
+    match sort {
+        LineSort::Item if byte == b'-' || byte == b'.' => NO_RANGES,
+        _ => by_byte(BYTE_HINTS, byte),
+    }
+}
+
+/// Returns the advice on a piece that is no token, in a line of this sort.
+pub fn stray_advice(sort: LineSort, piece: &[u8]) -> &'static [u8]
+    ensures { result.now ≡ stray_advice sort piece.now }
 {
     match piece {
         [] => b"",
-        [first, ..] if !is_lexeme_byte(*first) => by_byte(BYTE_HINTS, *first),
-        [first, ..] => {
-            if all_digits(piece) {
-                WRONG_NUMBER
-            } else {
-                by_byte(LEXEME_HINTS, *first)
-            }
-        }
+        [first, ..] if is_lexeme_byte(*first) => lexeme_advice(piece, *first),
+        [first, ..] => byte_advice(sort, *first),
     }
 }

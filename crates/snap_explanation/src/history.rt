@@ -1,16 +1,11 @@
 //! `history_explanation`: the text on an input that is no history, after the line that refuses it.
-ghost use Rattle.std.specs.Prelude.{◌≡◌, IfOk, OnOk};
-ghost use Rattle.snap_semantics.specs.Token.{text_lines};
+ghost use Rattle.std.specs.Prelude.{◌≡◌, IfOk};
 ghost use Rattle.snap_text.specs.Drafted.{Adds};
-ghost use Rattle.snap_explanation.specs.declared.line_sorts.LineSort.TheVariants.{Shape};
-ghost use Rattle.snap_explanation.specs.Explanation.{first_number, form_text};
 ghost use Rattle.snap_explanation.specs.HistoryExplanation.{history_explanation, history_part};
-ghost use Rattle.snap_explanation.specs.HistoryExplanation.{line_said};
-ghost use Rattle.snap_explanation.specs.Spot.{line_spot};
+ghost use Rattle.snap_explanation.specs.HistoryExplanation.{refused_line, history_rule};
 ghost use Rattle.snap_explanation.specs.Views.{view_part};
 
-use crate::explain::{first_number, push_form};
-use crate::line_sorts::LineSort;
+use crate::explain::push_shape;
 use crate::part::{Part, PartName};
 use crate::spot::push_line_spot;
 use crate::wording::{
@@ -31,48 +26,55 @@ fn history_part(input: &[u8]) -> Part<'_>
     }
 }
 
-/// Appends a line, and the text on it.
-#[tactic(auto, unfolding(crate::specs::HistoryExplanation::line_said))]
-fn push_line_said(out: &mut Draft, part: &Part<'_>, line: u64, said: &[u8])
-    ensures { Adds out.old out.new (line_said (view_part part.now) line said.now) }
+/// Returns the line of a history that is refused, and 0 where none is.
+fn refused_line(refusal: &HistoryRefusal) -> u64
+    ensures { result ≡ refused_line refusal.now }
 {
-    push_line_spot(out, part, line);
-    out.push(said);
+    match refusal {
+        HistoryRefusal::TooLong | HistoryRefusal::BadShape => 0,
+        HistoryRefusal::BadEvent(line)
+        | HistoryRefusal::NoSuchProcess(line)
+        | HistoryRefusal::NotRising(line)
+        | HistoryRefusal::NoSuchWord(line)
+        | HistoryRefusal::Busy(line)
+        | HistoryRefusal::Crashed(line)
+        | HistoryRefusal::NotCalled(line)
+        | HistoryRefusal::BadView(line) => *line,
+    }
 }
 
-/// Appends the text on a shape that is none.
-fn push_shape(alloc: Global, out: &mut Draft, part: &Part<'_>) -> Result<(), AllocError>
-    ensures { OnOk result (Adds out.old out.new
-        (form_text (view_part part.now) Shape (first_number (text_lines part.now.text.now)))) }
+/// Returns the rule of histories that is broken.
+fn history_rule(refusal: &HistoryRefusal) -> &'static [u8]
+    ensures { result.now ≡ history_rule refusal.now }
 {
-    let line = first_number(alloc, part.text)?;
-    push_form(alloc, out, part, LineSort::Shape, line)
+    match refusal {
+        HistoryRefusal::TooLong => LONG_HISTORY,
+        HistoryRefusal::BadShape => b"",
+        HistoryRefusal::BadEvent(_) => EVENT_FORMS,
+        HistoryRefusal::NoSuchProcess(_) => NO_PROCESS,
+        HistoryRefusal::NotRising(_) => NOT_RISING,
+        HistoryRefusal::NoSuchWord(_) => NO_WORD,
+        HistoryRefusal::Busy(_) => BUSY,
+        HistoryRefusal::Crashed(_) => CRASHED,
+        HistoryRefusal::NotCalled(_) => NOT_CALLED,
+        HistoryRefusal::BadView(_) => BAD_VIEW,
+    }
 }
 
 /// Appends the text on an input that is no history.
 #[tactic(auto, unfolding(crate::specs::HistoryExplanation::history_explanation))]
-fn push_history(
-    alloc: Global,
-    out: &mut Draft,
-    input: &[u8],
-    refusal: &HistoryRefusal,
-) -> Result<(), AllocError>
-    ensures { OnOk result (Adds out.old out.new (history_explanation input.now refusal.now)) }
+fn push_history(alloc: Global, out: &mut Draft, input: &[u8], refusal: &HistoryRefusal)
+    ensures { Adds out.old out.new (history_explanation input.now refusal.now) }
 {
     let part = history_part(input);
     match refusal {
         HistoryRefusal::TooLong => out.push(LONG_HISTORY),
-        HistoryRefusal::BadShape => push_shape(alloc, out, &part)?,
-        HistoryRefusal::BadEvent(line) => push_line_said(out, &part, *line, EVENT_FORMS),
-        HistoryRefusal::NoSuchProcess(line) => push_line_said(out, &part, *line, NO_PROCESS),
-        HistoryRefusal::NotRising(line) => push_line_said(out, &part, *line, NOT_RISING),
-        HistoryRefusal::NoSuchWord(line) => push_line_said(out, &part, *line, NO_WORD),
-        HistoryRefusal::Busy(line) => push_line_said(out, &part, *line, BUSY),
-        HistoryRefusal::Crashed(line) => push_line_said(out, &part, *line, CRASHED),
-        HistoryRefusal::NotCalled(line) => push_line_said(out, &part, *line, NOT_CALLED),
-        HistoryRefusal::BadView(line) => push_line_said(out, &part, *line, BAD_VIEW),
+        HistoryRefusal::BadShape => push_shape(alloc, out, &part),
+        _ => {
+            push_line_spot(out, &part, refused_line(refusal));
+            out.push(history_rule(refusal));
+        }
     }
-    Ok(())
 }
 
 /// Returns the text on an input that is no history behind the line that refuses it.
@@ -88,6 +90,6 @@ pub fn history_explanation(
     ensures { IfOk result (λ text. text.items ≡ history_explanation input.now refusal.now) }
 {
     let mut out = Draft::new(alloc);
-    push_history(alloc, &mut out, input, refusal)?;
+    push_history(alloc, &mut out, input, refusal);
     out.finish()
 }

@@ -1,22 +1,19 @@
 //! What is said of the parts of an input: of their number, and of one that stands in another one's
 //! place.
-ghost use Rattle.std.specs.Prelude.{◌≡◌, IfOk, OnOk, map, option_map, take};
+ghost use Rattle.std.specs.Prelude.{◌≡◌, ◌-◌, IfOk, length, map, option_map, take};
 ghost use Rattle.snap_semantics.specs.Token.{begins_with, lines_of, text_lines};
 ghost use Rattle.snap_text.specs.Drafted.{Adds};
 ghost use Rattle.snap_input.specs.Parts.{ends_part, parts_of};
 ghost use Rattle.snap_text.specs.Tokens.{view_tokens};
-ghost use Rattle.snap_explanation.specs.Inputs.{parts_words, lines_behind, separators};
+ghost use Rattle.snap_explanation.specs.Inputs.{parts_words, lines_behind};
 ghost use Rattle.snap_explanation.specs.Inputs.{near_separator, near_words, separator_words};
-ghost use Rattle.snap_explanation.specs.Inputs.{parts_explained};
-ghost use Rattle.snap_explanation.specs.Inputs.{first_is, is_front, is_listing, is_schedule};
-ghost use Rattle.snap_explanation.specs.Inputs.{first_part_advice, no_listing_advice};
-ghost use Rattle.snap_explanation.specs.Inputs.{formless_line, whole_advice, swapped_advice};
+ghost use Rattle.snap_explanation.specs.Inputs.{parts_explained, first_is, is_front, fronts_of};
+ghost use Rattle.snap_explanation.specs.Inputs.{formless_line, has_parts, order_advice_of};
 ghost use Rattle.snap_explanation.specs.Inputs.{order_advice};
 
 use crate::layout::{Layout, Texts};
 use crate::names::same_word;
 use crate::part::{lines_through, part_at};
-use crate::said::{Said, push_said};
 use crate::spot::{line_of, split_line};
 use crate::tests::is_word;
 use crate::wording::{
@@ -122,10 +119,9 @@ fn push_near(out: &mut Draft, number: u64)
     ensures { Adds out.old out.new (near_words number) }
 {
     if number > 0 {
-        push_said(
-            out,
-            &[Said::Text(LINE), Said::Number(number), Said::Text(NEAR)],
-        );
+        out.push(LINE);
+        out.push_number(number);
+        out.push(NEAR);
     }
 }
 
@@ -137,26 +133,26 @@ fn part_ends(alloc: Global, input: &[u8]) -> Result<Vec<u64>, AllocError>
     lines_behind(alloc, parts.as_slice())
 }
 
-/// Appends how many parts are taken, and where the lines `%` are.
-///
-/// # Errors
-///
-/// `AllocError` where memory runs out.
-#[tactic(auto, unfolding(crate::specs::Inputs::parts_explained))]
-pub fn push_parts(
-    alloc: Global,
-    out: &mut Draft,
-    layout: Layout,
-    input: &[u8],
-) -> Result<(), AllocError>
-    ensures { OnOk result (Adds out.old out.new (parts_explained layout input.now)) }
+/// Appends where the lines `%` are that are behind these parts, but for the last one.
+fn push_separators_of(out: &mut Draft, lines: &[u64])
+    ensures { Adds out.old out.new (separator_words (take (length lines.now - 1) lines.now)) }
 {
-    let lines = part_ends(alloc, input)?;
-    let lines = lines.as_slice();
-    out.push(parts_words(layout));
     push_separators(out, &lines[..lines.len().saturating_sub(1)]);
-    push_near(out, near_separator(input));
-    Ok(())
+}
+
+/// Appends how many parts are taken, and where the lines `%` are.
+#[tactic(auto, unfolding(crate::specs::Inputs::parts_explained))]
+pub fn push_parts(alloc: Global, out: &mut Draft, layout: Layout, input: &[u8])
+    ensures { Adds out.old out.new (parts_explained layout input.now) }
+{
+    match part_ends(alloc, input) {
+        Ok(lines) => {
+            out.push(parts_words(layout));
+            push_separators_of(out, lines.as_slice());
+            push_near(out, near_separator(input));
+        }
+        Err(error) => out.fail(error),
+    }
 }
 
 /// Returns whether the first token of a line is this word.
@@ -182,41 +178,25 @@ fn is_front(alloc: Global, word: &[u8], text: &[u8]) -> Result<bool, AllocError>
     }
 }
 
-fn is_listing(alloc: Global, text: &[u8]) -> Result<bool, AllocError>
-    ensures { IfOk result (λ is. is ≡ is_listing text.now) }
-{
-    is_front(alloc, b"kind", text)
+/// Whether an input begins as a schedule or as a listing does, and whether its second part begins
+/// as a listing does.
+#[derive(Clone, Copy)]
+pub struct Fronts {
+    pub schedule: bool,
+    pub listing: bool,
+    pub listing_behind: bool,
 }
 
-fn is_schedule(alloc: Global, text: &[u8]) -> Result<bool, AllocError>
-    ensures { IfOk result (λ is. is ≡ is_schedule text.now) }
+/// Returns how an input begins.
+fn fronts_of(alloc: Global, input: &[u8]) -> Result<Fronts, AllocError>
+    ensures { IfOk result (λ fronts. fronts ≡ fronts_of input.now) }
 {
-    is_front(alloc, b"shape", text)
-}
-
-/// Returns the text where the first part is to be a listing.
-fn first_part_advice(alloc: Global, parts: &[&[u8]]) -> Result<&'static [u8], AllocError>
-    ensures { IfOk result (λ text. text.now ≡ first_part_advice (map (λ p. p.now) parts.now)) }
-{
-    if !is_schedule(alloc, part_at(parts, 0))? {
-        return Ok(b"");
-    }
-    if is_listing(alloc, part_at(parts, 1))? {
-        Ok(SWAPPED)
-    } else {
-        Ok(SHIPPED)
-    }
-}
-
-/// Returns the text where the first part is to be no listing.
-fn no_listing_advice(alloc: Global, parts: &[&[u8]]) -> Result<&'static [u8], AllocError>
-    ensures { IfOk result (λ text. text.now ≡ no_listing_advice (map (λ p. p.now) parts.now)) }
-{
-    if is_listing(alloc, part_at(parts, 0))? {
-        Ok(NO_LISTING)
-    } else {
-        Ok(b"")
-    }
+    let parts = split_parts(alloc, input)?;
+    Ok(Fronts {
+        schedule: is_front(alloc, b"shape", input)?,
+        listing: is_front(alloc, b"kind", input)?,
+        listing_behind: is_front(alloc, b"kind", part_at(parts.as_slice(), 1))?,
+    })
 }
 
 /// Returns the text line that lacks its form.
@@ -239,72 +219,50 @@ fn begins_with(byte: u8, bytes: &[u8]) -> bool
     }
 }
 
-/// Returns the text where the whole input is to be a listing.
-fn whole_advice(
-    alloc: Global,
-    input: &[u8],
-    refusal: &ListingRefusal,
-) -> Result<&'static [u8], AllocError>
-    ensures { IfOk result (λ text. text.now ≡ whole_advice input.now refusal.now) }
+/// Returns whether the whole input is no listing, but has parts: it begins as a schedule does, or
+/// the line without a form begins with `%`.
+fn has_parts(fronts: Fronts, refusal: &ListingRefusal, input: &[u8]) -> bool
+    ensures { result ≡ has_parts fronts refusal.now (lines_of input.now) }
 {
-    if is_schedule(alloc, input)? || begins_with(b'%', formless_line(refusal, input)) {
-        Ok(ALONE)
-    } else {
-        Ok(b"")
-    }
-}
-
-/// Returns the text on a named file with the front of another part.
-fn swapped_advice(swapped: bool) -> &'static [u8]
-    ensures { result.now ≡ swapped_advice swapped }
-{
-    if swapped { FILES_SWAPPED } else { b"" }
+    fronts.schedule || begins_with(b'%', formless_line(refusal, input))
 }
 
 /// Returns the text on a part that stands in another one's place.
-#[tactic(auto, unfolding(crate::specs::Inputs::order_advice))]
-fn order_advice(
-    alloc: Global,
-    layout: Layout,
-    input: &[u8],
-    refusal: &Refusal,
-) -> Result<&'static [u8], AllocError>
-    ensures { IfOk result (λ text. text.now ≡ order_advice layout input.now refusal.now) }
+fn order_advice(layout: Layout, input: &[u8], refusal: &Refusal, fronts: Fronts) -> &'static [u8]
+    ensures { result.now ≡ order_advice_of layout input.now refusal.now fronts }
 {
     match (layout, refusal) {
-        (Layout::Listing, Refusal::Listing(refusal)) => whole_advice(alloc, input, refusal),
-        (Layout::NamedListing, Refusal::Listing(_)) => {
-            Ok(swapped_advice(is_schedule(alloc, input)?))
+        (Layout::Listing, Refusal::Listing(refusal)) if has_parts(fronts, refusal, input) => ALONE,
+        (Layout::NamedListing, Refusal::Listing(_)) if fronts.schedule => FILES_SWAPPED,
+        (Layout::NamedSchedule, Refusal::Schedule(_)) if fronts.listing => FILES_SWAPPED,
+        (Layout::Parts(Subject::FirstPart, _), Refusal::Listing(_) | Refusal::WrongParts(_))
+            if fronts.schedule => {
+            if fronts.listing_behind {
+                SWAPPED
+            } else {
+                SHIPPED
+            }
         }
-        (Layout::NamedSchedule, Refusal::Schedule(_)) => {
-            Ok(swapped_advice(is_listing(alloc, input)?))
+        (Layout::Parts(Subject::Shipped(_), _), Refusal::Schedule(_)) if fronts.listing => {
+            NO_LISTING
         }
-        (Layout::Parts(Subject::FirstPart, _), Refusal::Listing(_) | Refusal::WrongParts(_)) => {
-            let parts = split_parts(alloc, input)?;
-            first_part_advice(alloc, parts.as_slice())
-        }
-        (Layout::Parts(Subject::Shipped(_), _), Refusal::Schedule(_)) => {
-            let parts = split_parts(alloc, input)?;
-            no_listing_advice(alloc, parts.as_slice())
-        }
-        _ => Ok(b""),
+        _ => b"",
     }
 }
 
 /// Appends the text on a part that stands in another one's place.
-///
-/// # Errors
-///
-/// `AllocError` where memory runs out.
+#[tactic(auto, unfolding(crate::specs::Inputs::order_advice))]
 pub fn push_order_advice(
     alloc: Global,
     out: &mut Draft,
     layout: Layout,
     input: &[u8],
     refusal: &Refusal,
-) -> Result<(), AllocError>
-    ensures { OnOk result (Adds out.old out.new (order_advice layout input.now refusal.now)) }
+)
+    ensures { Adds out.old out.new (order_advice layout input.now refusal.now) }
 {
-    out.push(order_advice(alloc, layout, input, refusal)?);
-    Ok(())
+    match fronts_of(alloc, input) {
+        Ok(fronts) => out.push(order_advice(layout, input, refusal, fronts)),
+        Err(error) => out.fail(error),
+    }
 }

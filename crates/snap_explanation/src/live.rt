@@ -3,7 +3,6 @@
 ghost use Rattle.std.specs.Prelude.{◌≡◌, IfOk};
 ghost use Rattle.snap_explanation.specs.LiveExplanation.{turn_limit_explanation};
 
-use crate::said::{Said, push_said};
 use crate::wording::{NOT_DONE, SCRIPT_OF};
 use snap_text::Draft;
 use std::alloc::{AllocError, Global};
@@ -18,13 +17,8 @@ pub fn turn_limit_explanation(alloc: Global, process: u32) -> Result<Vec<u8>, Al
     ensures { IfOk result (λ text. text.items ≡ turn_limit_explanation process) }
 {
     let mut out = Draft::new(alloc);
-    push_said(
-        &mut out,
-        &[
-            Said::Text(SCRIPT_OF),
-            Said::Number(u64::from(process)),
-            Said::Text(NOT_DONE),
-        ],
-    );
+    out.push(SCRIPT_OF);
+    out.push_number(u64::from(process));
+    out.push(NOT_DONE);
     out.finish()
 }

@@ -1,42 +1,66 @@
 //! `lost_in`: where a line of an input is lost, the first token with which no line of its sort goes
 //! on, and what is wanted there.
-ghost use Rattle.std.specs.Prelude.{◌≡◌, IfOk, option_map, vec_items};
+ghost use Rattle.std.specs.Prelude.{◌≡◌, ◌++◌, ◌||◌, IfOk, option_map};
 ghost use Rattle.snap_text.specs.Tokens.{view_token};
-ghost use Rattle.snap_explanation.specs.Lost.{step, may_end, lost, wanted_of_header, wanted_of};
+ghost use Rattle.snap_explanation.specs.Grammar.{may_pass, same_part};
+ghost use Rattle.snap_explanation.specs.Lost.{step, may_end, lost, parts_of_header, parts_of_line};
 ghost use Rattle.snap_explanation.specs.Lost.{lost_in};
-ghost use Rattle.snap_explanation.specs.Steps.{placed_tokens, view_lost};
+ghost use Rattle.snap_explanation.specs.Steps.{placed_tokens, view_lost, view_wanted};
 
-use crate::after::{TokenStep, after, may_pass};
-use crate::expected::{Expected, Keyword};
+use crate::forms::{TokenStep, after, may_pass, same_part};
 use crate::line_sorts::{Header, LineSort};
+use crate::parts::Part;
 use crate::pieces::PlacedToken;
-use snap_semantics::Symbol;
 use snap_text::Token;
 use std::alloc::{AllocError, Global};
+
+/// What is wanted in a row, and whether `@` is an index there.
+#[derive(Drop)]
+pub struct Wanted {
+    pub parts: Vec<Part>,
+    pub places: bool,
+}
 
 /// A place in a line: how many tokens stand before it, and what was wanted there.
 #[derive(Drop)]
 pub struct LostPlace {
     pub before: usize,
-    pub wanted: Vec<Expected>,
+    pub wanted: Wanted,
 }
 
-/// Returns what is wanted behind `token`, where `wanted` are wanted in a row; `None` if the line
-/// does not go on with it.
+/// Returns three lists of parts, one behind the other.
+fn joined(
+    alloc: Global,
+    first: &[Part],
+    second: &[Part],
+    third: &[Part],
+) -> Result<Vec<Part>, AllocError>
+    ensures { IfOk result (λ parts. parts.items ≡ (first.now ++ second.now) ++ third.now) }
+{
+    let mut parts = Vec::from_slice(alloc, first)?;
+    parts.extend_from_slice(second)?;
+    parts.extend_from_slice(third)?;
+    Ok(parts)
+}
+
+/// Returns what is wanted behind `token`; `None` if the line does not go on with it.
 fn step(
     alloc: Global,
     token: &Token<'_>,
-    wanted: &[Expected],
-) -> Result<Option<Vec<Expected>>, AllocError>
-    ensures { IfOk result (λ next. option_map vec_items next
-        ≡ step (view_token token.now) wanted.now) }
+    places: bool,
+    parts: &[Part],
+) -> Result<Option<Wanted>, AllocError>
+    ensures { IfOk result (λ next. option_map view_wanted next
+        ≡ step places (view_token token.now) parts.now) }
 {
-    let mut rest = wanted;
+    let mut rest = parts;
     while let [first, behind @ ..] = rest {
-        match after(alloc, *first, token)? {
-            TokenStep::Takes(mut next) => {
-                next.extend_from_slice(behind)?;
-                return Ok(Some(next));
+        match after(places, *first, token) {
+            TokenStep::Takes(next, more) => {
+                return Ok(Some(Wanted {
+                    parts: joined(alloc, next, more, behind)?,
+                    places: places || same_part(*first, Part::Range),
+                }));
             }
             TokenStep::Passes => rest = behind,
             TokenStep::Refuses => return Ok(None),
@@ -45,11 +69,11 @@ fn step(
     Ok(None)
 }
 
-/// Returns whether a line may end where `wanted` are wanted in a row.
-fn may_end(wanted: &[Expected]) -> bool
-    ensures { result ≡ may_end wanted.now }
+/// Returns whether a line may end where `parts` are wanted in a row.
+fn may_end(parts: &[Part]) -> bool
+    ensures { result ≡ may_end parts.now }
 {
-    let mut rest = wanted;
+    let mut rest = parts;
     while let [first, behind @ ..] = rest {
         if !may_pass(*first) {
             return false;
@@ -62,22 +86,23 @@ fn may_end(wanted: &[Expected]) -> bool
 /// Returns where tokens are lost of which `wanted` are wanted in a row.
 fn lost(
     alloc: Global,
-    wanted: Vec<Expected>,
+    wanted: Wanted,
     tokens: &[PlacedToken<'_>],
 ) -> Result<Option<LostPlace>, AllocError>
     ensures { IfOk result (λ place. option_map view_lost place
-        ≡ lost 0 wanted.items (placed_tokens tokens.now)) }
+        ≡ lost 0 (view_wanted wanted) (placed_tokens tokens.now)) }
 {
     let mut wanted = wanted;
     let mut before = 0;
     while before < tokens.len() {
-        match step(alloc, &tokens[before].token, wanted.as_slice())? {
+        let token = &tokens[before].token;
+        match step(alloc, token, wanted.places, wanted.parts.as_slice())? {
             Some(next) => wanted = next,
             None => return Ok(Some(LostPlace { before, wanted })),
         }
         before += 1;
     }
-    if may_end(wanted.as_slice()) {
+    if may_end(wanted.parts.as_slice()) {
         Ok(None)
     } else {
         Ok(Some(LostPlace { before, wanted }))
@@ -85,48 +110,32 @@ fn lost(
 }
 
 /// Returns the parts of a header line.
-fn wanted_of_header(alloc: Global, header: Header) -> Result<Vec<Expected>, AllocError>
-    ensures { IfOk result (λ wanted. wanted.items ≡ wanted_of_header header) }
+fn parts_of_header(header: Header) -> &'static [Part]
+    ensures { result.now ≡ parts_of_header header }
 {
-    let (keyword, rest) = match header {
-        Header::Kind => (Keyword::Kind, Expected::KindName),
-        Header::Scalars => (Keyword::Scalar, Expected::Names),
-        Header::Rows => (Keyword::Row, Expected::Names),
-        Header::Words => (Keyword::Words, Expected::Names),
-        Header::Views => (Keyword::View, Expected::Names),
-        Header::Scan => (Keyword::Scan, Expected::LineNumber),
-        Header::Update => (Keyword::Update, Expected::LineNumber),
-    };
-    Vec::from_slice(alloc, &[Expected::Keyword(keyword), rest])
+    match header {
+        Header::Kind => &[Part::Kind, Part::KindName],
+        Header::Scalars => &[Part::Scalar, Part::Names],
+        Header::Rows => &[Part::Row, Part::Names],
+        Header::Words => &[Part::Words, Part::Names],
+        Header::Views => &[Part::View, Part::Names],
+        Header::Scan => &[Part::Scan, Part::LineNumber],
+        Header::Update => &[Part::Update, Part::LineNumber],
+    }
 }
 
 /// Returns the parts of a line of this sort.
-///
-/// # Errors
-///
-/// `AllocError` where memory runs out.
-pub fn wanted_of(alloc: Global, sort: LineSort) -> Result<Vec<Expected>, AllocError>
-    ensures { IfOk result (λ wanted. wanted.items ≡ wanted_of sort) }
+fn parts_of_line(sort: LineSort) -> &'static [Part]
+    ensures { result.now ≡ parts_of_line sort }
 {
-    let wanted: &[Expected] = match sort {
-        LineSort::Header(header) => return wanted_of_header(alloc, header),
-        LineSort::Numbered => {
-            &[
-                Expected::LineNumber,
-                Expected::Symbol(Symbol::Colon),
-                Expected::Instruction,
-            ]
-        }
-        LineSort::Shape => &[
-            Expected::Keyword(Keyword::Shape),
-            Expected::Count,
-            Expected::Count,
-        ],
-        LineSort::Item => &[Expected::Number, Expected::Act],
-        LineSort::Script => &[Expected::Number, Expected::ScriptAct],
-        LineSort::Command => &[Expected::Command],
-    };
-    Vec::from_slice(alloc, wanted)
+    match sort {
+        LineSort::Header(header) => parts_of_header(header),
+        LineSort::Numbered => &[Part::LineNumber, Part::Colon, Part::Instruction],
+        LineSort::Shape => &[Part::Shape, Part::Count, Part::Count],
+        LineSort::Item => &[Part::Process, Part::Act],
+        LineSort::Script => &[Part::Process, Part::ScriptAct],
+        LineSort::Command => &[Part::Command],
+    }
 }
 
 /// Returns where a line of this sort is lost: the first token with which no line of its sort goes
@@ -143,5 +152,7 @@ pub fn lost_in(
     ensures { IfOk result (λ place. option_map view_lost place
         ≡ lost_in sort (placed_tokens tokens.now)) }
 {
-    lost(alloc, wanted_of(alloc, sort)?, tokens)
+    let parts = Vec::from_slice(alloc, parts_of_line(sort))?;
+    let places = false;
+    lost(alloc, Wanted { parts, places }, tokens)
 }

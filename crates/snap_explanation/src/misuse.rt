@@ -1,28 +1,25 @@
 //! The first token of a numbered line that is not as the kind and the declared names of the listing
 //! have it, and the text on it.
 ghost use Rattle.std.specs.Prelude.{◌≡◌, Ok, Err, IfOk, IfErr, map, option_map};
-ghost use Rattle.snap_semantics.specs.Spelling.{kind_keyword};
 ghost use Rattle.snap_text.specs.Tokens.{view_token};
 ghost use Rattle.snap_text.specs.Drafted.{Adds};
 ghost use Rattle.snap_explanation.specs.Steps.{view_placed_token};
 ghost use Rattle.snap_explanation.specs.Misuse.{is_right, step_at, first_wrong, wrong_in_line};
-ghost use Rattle.snap_explanation.specs.Misuse.{sort_words, declared_words, usage, some_name};
+ghost use Rattle.snap_explanation.specs.Misuse.{sort_words, declared_words, usage};
 ghost use Rattle.snap_explanation.specs.Misuse.{some_words, name_text, banks_words, fields_words};
 ghost use Rattle.snap_explanation.specs.Misuse.{tuple_words, lack_text, misuse_text};
 ghost use Rattle.snap_explanation.specs.Names.{tokens_of_placed};
 ghost use Rattle.snap_explanation.specs.Views.{view_names, view_use, view_misuse};
 ghost use Rattle.snap_explanation.specs.declared.token_uses.Slot.TheVariants.{Value};
 
-use crate::names::{letters_of, nearest};
+use crate::names::letters_of;
 use crate::pieces::PlacedToken;
-use crate::said::{Said, push_said};
-use crate::sorts::{Names, is_sort, of_sort, sort_of};
+use crate::sorts::{Names, is_sort, some_name, sort_of};
 use crate::token_uses::{Slot, Use, slot_after, use_at};
 use crate::wording::{
-    A_LIST, A_ROW, A_SCALAR, A_VIEW, ARE, BELONGS, BIT_BANKS, BIT_FIELDS, BIT_TUPLE, HAVE, IS,
-    IS_A, IS_ONE, MULTI_BANKS, MULTI_FIELDS, MULTI_TUPLE, NONE_DECLARED, NOT_DECLARED, QUOTE,
-    QUOTE_END, REGISTERS_OF, ROW_USE, SEQ_BANKS, SEQ_FIELDS, SEQ_TUPLE, TUPLE_OF, VIEW_USE, WHILE,
-    WORDS_OF, WORDS_USE,
+    A_LIST, A_ROW, A_SCALAR, A_VIEW, BELONGS, BIT_BANKS, BIT_FIELDS, BIT_TUPLE, IS, IS_ONE,
+    MULTI_BANKS, MULTI_FIELDS, MULTI_TUPLE, NONE_DECLARED, NOT_DECLARED, QUOTE, QUOTE_END, ROW_USE,
+    SEQ_BANKS, SEQ_FIELDS, SEQ_TUPLE, VIEW_USE, WHILE, WORDS_USE,
 };
 use snap_listing::{has_bank, has_field, has_handshakes, has_view, line_form, same_kind};
 use snap_semantics::{Instr, Sort};
@@ -166,26 +163,16 @@ fn usage(found: Option<Sort>) -> &'static [u8]
     }
 }
 
-/// Returns a name that is near, or else any.
-fn some_name<'a>(word: &[u8], names: &[&'a [u8]]) -> Option<&'a [u8]>
-    ensures { option_map (λ w. w.now) result ≡ some_name word.now (map (λ w. w.now) names.now) }
-{
-    match (nearest(word, names), names) {
-        (Some(name), _) => Some(name),
-        (None, [first, ..]) => Some(*first),
-        (None, []) => None,
-    }
-}
-
 /// Appends that the sort belongs here, and a name of it, if there is one.
 fn push_some(out: &mut Draft, name: Option<&[u8]>)
     ensures { Adds out.old out.new (some_words (option_map (λ w. w.now) name.entry)) }
 {
     match name {
-        Some(name) => push_said(
-            out,
-            &[Said::Text(BELONGS), Said::Text(name), Said::Text(IS_ONE)],
-        ),
+        Some(name) => {
+            out.push(BELONGS);
+            out.push(name);
+            out.push(IS_ONE);
+        }
         None => out.push(NONE_DECLARED),
     }
 }
@@ -201,30 +188,14 @@ fn push_name_text(
 )
     ensures { Adds out.old out.new (name_text (view_names names.now) word.now wanted found) }
 {
-    push_said(
-        out,
-        &[
-            Said::Text(QUOTE),
-            Said::Text(word),
-            Said::Text(IS),
-            Said::Text(declared_words(found)),
-            Said::Text(WHILE),
-            Said::Text(sort_words(wanted)),
-        ],
-    );
-    push_some(out, some_name(word, of_sort(names, wanted)));
+    out.push(QUOTE);
+    out.push(word);
+    out.push(IS);
+    out.push(declared_words(found));
+    out.push(WHILE);
+    out.push(sort_words(wanted));
+    push_some(out, some_name(names, wanted, word));
     out.push(usage(found));
-}
-
-/// Returns the name of a kind.
-fn kind_keyword(kind: KindTag) -> &'static [u8]
-    ensures { result.now ≡ kind_keyword kind }
-{
-    match kind {
-        KindTag::Seq => b"seq",
-        KindTag::Bits => b"bit",
-        KindTag::Multi => b"multi",
-    }
 }
 
 /// Returns the registers of a kind, and that there is no other.
@@ -260,28 +231,13 @@ fn tuple_words(kind: KindTag) -> &'static [u8]
     }
 }
 
-/// Appends what registers or words of a kind are or have, and that they lack what a word says.
-fn push_lack<'a>(
-    out: &mut Draft,
-    front: &'a [u8],
-    name: &'a [u8],
-    middle: &'a [u8],
-    have: &'a [u8],
-    word: &'a [u8],
-)
-    ensures { Adds out.old out.new (lack_text front.now name.now middle.now have.now word.now) }
+/// Appends what a kind has, and that it lacks what a word says.
+fn push_lack(out: &mut Draft, have: &[u8], word: &[u8])
+    ensures { Adds out.old out.new (lack_text have.now word.now) }
 {
-    push_said(
-        out,
-        &[
-            Said::Text(front),
-            Said::Text(name),
-            Said::Text(middle),
-            Said::Text(have),
-            Said::Text(word),
-            Said::Text(QUOTE_END),
-        ],
-    );
+    out.push(have);
+    out.push(word);
+    out.push(QUOTE_END);
 }
 
 /// Appends the text on a token that is not right.
@@ -289,23 +245,14 @@ pub fn push_misuse(out: &mut Draft, names: &Names<'_>, misuse: &Misuse<'_>)
     ensures { Adds out.old out.new (misuse_text (view_names names.now) (view_misuse misuse.now)) }
 {
     let word = letters_of(&misuse.token.token);
-    let kind = kind_keyword(names.kind);
     match misuse.spoken {
         Use::Named(wanted, name) => {
             push_name_text(out, names, word, wanted, sort_of(names, name))
         }
-        Use::Bank(_) => push_lack(out, REGISTERS_OF, kind, ARE, banks_words(names.kind), word),
-        Use::Tuple(_) => push_said(
-            out,
-            &[
-                Said::Text(TUPLE_OF),
-                Said::Text(kind),
-                Said::Text(IS_A),
-                Said::Text(tuple_words(names.kind)),
-            ],
-        ),
+        Use::Bank(_) => push_lack(out, banks_words(names.kind), word),
+        Use::Tuple(_) => out.push(tuple_words(names.kind)),
         Use::Field(_) | Use::Handshake | Use::View => {
-            push_lack(out, WORDS_OF, kind, HAVE, fields_words(names.kind), word)
+            push_lack(out, fields_words(names.kind), word)
         }
     }
 }

@@ -3,14 +3,15 @@
 ghost use Rattle.std.specs.Prelude.{◌≡◌, ◌≤◌, ◌++◌, IfOk, OnOk, bytes_eq, length, drop, map};
 ghost use Rattle.std.specs.Prelude.{option_map};
 ghost use Rattle.snap_semantics.specs.Token.{text_lines};
+ghost use Rattle.snap_text.specs.Lines.{view_line};
 ghost use Rattle.snap_text.specs.Tokens.{view_token, view_tokens};
 ghost use Rattle.snap_explanation.specs.Steps.{view_placed_token};
-ghost use Rattle.snap_explanation.specs.Names.{words_of, words_of_line, words_before, is_among};
+ghost use Rattle.snap_explanation.specs.Names.{words_of, words_before, is_among, has_word};
 ghost use Rattle.snap_explanation.specs.Names.{letters_of, nth_token, first_such, is_bad};
 ghost use Rattle.snap_explanation.specs.Names.{first_again};
 ghost use Rattle.snap_explanation.specs.Names.{name_count, one_too_many, declared_in, declared_at};
 ghost use Rattle.snap_explanation.specs.Names.{front_number, last_before};
-ghost use Rattle.snap_explanation.specs.Names.{common_len, is_same_later, is_near, nearest};
+ghost use Rattle.snap_explanation.specs.Names.{common_len, is_same_later, is_near};
 ghost use Rattle.snap_explanation.specs.Names.{is_leading, is_number, number_there, first_led};
 ghost use Rattle.snap_explanation.specs.Names.{begins_with_number, leads_to, line_leads_to};
 ghost use Rattle.snap_explanation.specs.Names.{leading_line};
@@ -19,7 +20,7 @@ ghost use Rattle.snap_explanation.specs.Views.{view_declared};
 use crate::pieces::PlacedToken;
 use crate::tests::{is_identifier, is_word};
 use snap_listing::is_reserved;
-use snap_text::{TextLines, Token};
+use snap_text::{TextLines, Token, TokenLine};
 use std::alloc::{AllocError, Global};
 
 /// How many header lines a listing has.
@@ -212,33 +213,35 @@ pub struct Declared<'a> {
     pub keyword: &'a [u8],
 }
 
-/// Returns a line of words, if it has this name behind the first word.
-fn declared_in<'a>(line: u64, name: &[u8], words: &[&'a [u8]]) -> Option<Declared<'a>>
-    ensures { option_map view_declared result
-        ≡ declared_in line name.now (map (λ w. w.now) words.now) }
+/// Returns whether one of `tokens` is this word.
+fn has_word(word: &[u8], tokens: &[Token<'_>]) -> bool
+    ensures { result ≡ has_word word.now (view_tokens tokens.now) }
 {
-    match words {
-        [keyword, names @ ..] if is_among(name, names) => Some(Declared {
-            line,
-            keyword: *keyword,
-        }),
-        _ => None,
+    let mut rest = tokens;
+    while let [first, behind @ ..] = rest {
+        if is_word(word, first) {
+            return true;
+        }
+        rest = behind;
     }
+    false
 }
 
-/// Returns the words of a line.
-fn words_of_line<'a>(
-    alloc: Global,
-    tokens: &Option<Vec<Token<'a>>>,
-) -> Result<Vec<&'a [u8]>, AllocError>
-    ensures { IfOk result (λ words. map (λ w. w.now) words.items
-        ≡ words_of_line (option_map (λ ts. view_tokens ts.items) tokens.now)) }
+/// Returns a line, if it has this name behind the first word.
+fn declared_in<'a>(name: &[u8], line: &TokenLine<'a>) -> Option<Declared<'a>>
+    ensures { option_map view_declared result
+        ≡ declared_in name.now (view_line line.now) }
 {
-    let mut words = Vec::new(alloc);
-    if let Some(tokens) = tokens {
-        push_words(&mut words, tokens.as_slice())?;
+    match &line.tokens {
+        Some(tokens) => match tokens.as_slice() {
+            [first, names @ ..] if has_word(name, names) => Some(Declared {
+                line: line.number,
+                keyword: letters_of(first),
+            }),
+            _ => None,
+        },
+        None => None,
     }
-    Ok(words)
 }
 
 /// Returns the first line of a text that has a name behind another word.
@@ -256,8 +259,7 @@ pub fn declared_at<'a>(
 {
     let mut lines = TextLines::new(text);
     while let Some(line) = lines.next_line(alloc)? {
-        let words = words_of_line(alloc, &line.tokens)?;
-        if let Some(found) = declared_in(line.number, name, words.as_slice()) {
+        if let Some(found) = declared_in(name, &line) {
             return Ok(Some(found));
         }
     }
@@ -352,25 +354,11 @@ fn is_same_later(one: &[u8], other: &[u8]) -> bool
 }
 
 /// Returns whether two words are one letter away.
-fn is_near(one: &[u8], other: &[u8]) -> bool
+pub fn is_near(one: &[u8], other: &[u8]) -> bool
     ensures { result ≡ is_near one.now other.now }
 {
     let len = common_len(one, other);
     is_same_later(&one[len..], &other[len..])
-}
-
-/// Returns the first of `words` that is one letter away and not reserved.
-pub fn nearest<'a>(word: &[u8], words: &[&'a [u8]]) -> Option<&'a [u8]>
-    ensures { option_map (λ w. w.now) result ≡ nearest word.now (map (λ w. w.now) words.now) }
-{
-    let mut rest = words;
-    while let [first, behind @ ..] = rest {
-        if is_near(word, first) && !is_reserved(first) {
-            return Some(*first);
-        }
-        rest = behind;
-    }
-    None
 }
 
 /// Returns whether a word leads to a line.

@@ -1,37 +1,24 @@
 //! The names of a listing by their sorts, from the words of its header lines.
-ghost use Rattle.std.specs.Prelude.{◌≡◌, IfOk, None, map};
+ghost use Rattle.std.specs.Prelude.{◌≡◌, None, map, option_map};
 ghost use Rattle.snap_semantics.specs.HeaderForms.{kind_of_keyword};
-ghost use Rattle.snap_semantics.specs.Uses.{sort_of};
+ghost use Rattle.snap_semantics.specs.Rules.{or_else};
+ghost use Rattle.snap_semantics.specs.Uses.{is_among, sort_of};
+ghost use Rattle.snap_explanation.specs.Misuse.{first_name, some_name};
+ghost use Rattle.snap_explanation.specs.Names.{nearest};
 ghost use Rattle.snap_explanation.specs.Sorts.{sort_of_keyword, is_sort, names_of, kind_in};
-ghost use Rattle.snap_explanation.specs.Sorts.{source_in, of_sort};
+ghost use Rattle.snap_explanation.specs.Sorts.{of_sort};
 ghost use Rattle.snap_explanation.specs.Views.{view_names};
 
-use crate::names::{is_among, same_word};
+use crate::names::{is_near, same_word};
 use snap_listing::is_reserved;
 use snap_semantics::Sort;
 use snap_words::KindTag;
-use std::alloc::{AllocError, Global};
 
-/// The names of a listing by their sorts, and its kind.
+/// The kind of a listing, and the words of its header lines.
+#[derive(Clone, Copy)]
 pub struct Names<'a> {
     pub kind: KindTag,
-    pub scalars: Vec<&'a [u8]>,
-    pub rows: Vec<&'a [u8]>,
-    pub words: Vec<&'a [u8]>,
-    pub views: Vec<&'a [u8]>,
-}
-
-impl Drop for Names<'_> {
-    // A drop that is written out is one call: it is proved once, and not again at each drop.
-    fn drop(self) {
-        let Names {
-            kind: _,
-            scalars: _,
-            rows: _,
-            words: _,
-            views: _,
-        } = self;
-    }
+    pub words: &'a [&'a [u8]],
 }
 
 /// Returns the sort that a header line declares, by its first word.
@@ -61,29 +48,68 @@ pub fn is_sort(wanted: Sort, found: Option<Sort>) -> bool
     }
 }
 
-/// Returns the names of a sort among the words of header lines.
-fn names_of<'a>(
-    alloc: Global,
-    wanted: Sort,
-    words: &[&'a [u8]],
-) -> Result<Vec<&'a [u8]>, AllocError>
-    ensures { IfOk result (λ names. map (λ w. w.now) names.items
-        ≡ names_of wanted None (map (λ w. w.now) words.now)) }
+/// Returns the sort of the names behind a reserved word, behind which names of sort `now` stand.
+fn sort_behind(now: Option<Sort>, word: &[u8]) -> Option<Sort>
+    ensures { result ≡ or_else (sort_of_keyword word.now) now }
 {
-    let mut names = Vec::new(alloc);
+    match sort_of_keyword(word) {
+        Some(sort) => Some(sort),
+        None => now,
+    }
+}
+
+/// Returns whether a name is of a sort, by the words of header lines.
+fn is_named(wanted: Sort, name: &[u8], words: &[&[u8]]) -> bool
+    ensures { result
+        ≡ is_among name.now (names_of wanted None (map (λ w. w.now) words.now)) }
+{
     let mut now = None;
     let mut rest = words;
     while let [word, behind @ ..] = rest {
         if is_reserved(word) {
-            if let Some(sort) = sort_of_keyword(word) {
-                now = Some(sort);
-            }
-        } else if is_sort(wanted, now) {
-            names.push(*word)?;
+            now = sort_behind(now, word);
+        } else if is_sort(wanted, now) && name == *word {
+            return true;
         }
         rest = behind;
     }
-    Ok(names)
+    false
+}
+
+/// Returns the first name of a sort, by the words of header lines.
+fn first_of<'a>(wanted: Sort, words: &[&'a [u8]]) -> Option<&'a [u8]>
+    ensures { option_map (λ w. w.now) result
+        ≡ first_name (names_of wanted None (map (λ w. w.now) words.now)) }
+{
+    let mut now = None;
+    let mut rest = words;
+    while let [word, behind @ ..] = rest {
+        if is_reserved(word) {
+            now = sort_behind(now, word);
+        } else if is_sort(wanted, now) {
+            return Some(*word);
+        }
+        rest = behind;
+    }
+    None
+}
+
+/// Returns the first name of a sort that is one letter away, by the words of header lines.
+fn nearest_of<'a>(wanted: Sort, name: &[u8], words: &[&'a [u8]]) -> Option<&'a [u8]>
+    ensures { option_map (λ w. w.now) result
+        ≡ nearest name.now (names_of wanted None (map (λ w. w.now) words.now)) }
+{
+    let mut now = None;
+    let mut rest = words;
+    while let [word, behind @ ..] = rest {
+        if is_reserved(word) {
+            now = sort_behind(now, word);
+        } else if is_sort(wanted, now) && is_near(name, word) {
+            return Some(*word);
+        }
+        rest = behind;
+    }
+    None
 }
 
 /// Returns the kind that a word is.
@@ -111,53 +137,31 @@ pub fn kind_in(words: &[&[u8]]) -> Option<KindTag>
     }
 }
 
-/// Returns the names that the words of header lines declare.
-///
-/// # Errors
-///
-/// `AllocError` where memory runs out.
-pub fn names_in<'a>(
-    alloc: Global,
-    kind: KindTag,
-    words: &[&'a [u8]],
-) -> Result<Names<'a>, AllocError>
-    ensures { IfOk result (λ names. view_names names
-        ≡ source_in kind (map (λ w. w.now) words.now)) }
-{
-    Ok(Names {
-        kind,
-        scalars: names_of(alloc, Sort::Scalar, words)?,
-        rows: names_of(alloc, Sort::Row, words)?,
-        words: names_of(alloc, Sort::Words, words)?,
-        views: names_of(alloc, Sort::View, words)?,
-    })
-}
-
 /// Returns the sort of a declared name.
-pub fn sort_of(names: &Names<'_>, word: &[u8]) -> Option<Sort>
-    ensures { result ≡ sort_of (view_names names.now) word.now }
+pub fn sort_of(names: &Names<'_>, name: &[u8]) -> Option<Sort>
+    ensures { result ≡ sort_of (view_names names.now) name.now }
 {
-    if is_among(word, names.scalars.as_slice()) {
+    if is_named(Sort::Scalar, name, names.words) {
         Some(Sort::Scalar)
-    } else if is_among(word, names.rows.as_slice()) {
+    } else if is_named(Sort::Row, name, names.words) {
         Some(Sort::Row)
-    } else if is_among(word, names.words.as_slice()) {
+    } else if is_named(Sort::Words, name, names.words) {
         Some(Sort::Words)
-    } else if is_among(word, names.views.as_slice()) {
+    } else if is_named(Sort::View, name, names.words) {
         Some(Sort::View)
     } else {
         None
     }
 }
 
-/// Returns the names of one sort.
-pub fn of_sort<'a, 'b>(names: &'a Names<'b>, sort: Sort) -> &'a [&'b [u8]]
-    ensures { map (λ w. w.now) result.now ≡ of_sort (view_names names.now) sort }
+/// Returns a name of a sort that is near, or else the first one.
+#[tactic(auto, using(crate::proofs::Counts::names_of_sort))]
+pub fn some_name<'a>(names: &Names<'a>, wanted: Sort, name: &[u8]) -> Option<&'a [u8]>
+    ensures { option_map (λ w. w.now) result
+        ≡ some_name name.now (of_sort (view_names names.now) wanted) }
 {
-    match sort {
-        Sort::Scalar => names.scalars.as_slice(),
-        Sort::Row => names.rows.as_slice(),
-        Sort::Words => names.words.as_slice(),
-        Sort::View => names.views.as_slice(),
+    match nearest_of(wanted, name, names.words) {
+        Some(near) => Some(near),
+        None => first_of(wanted, names.words),
     }
 }

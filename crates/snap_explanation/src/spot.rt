@@ -11,7 +11,7 @@ ghost use Rattle.snap_explanation.specs.Views.{view_part};
 
 use crate::part::{Part, PartName};
 use crate::pieces::{PlacedToken, piece_len};
-use crate::said::{Said, push_said};
+use crate::said::{push_shown, push_spaces};
 use crate::wording::{
     COLUMN, LINE, LINE_END, MARGIN, MARK, NTH_SCHEDULE, OF, OF_THE_INPUT, PLACE_END, THE_COMMANDS,
     THE_HISTORY, THE_LISTING, THE_SCHEDULE, THE_SCRIPTS,
@@ -78,10 +78,8 @@ fn push_part_name(out: &mut Draft, name: PartName)
         PartName::Listing => out.push(THE_LISTING),
         PartName::Schedule => out.push(THE_SCHEDULE),
         PartName::NthSchedule(number) => {
-            push_said(
-                out,
-                &[Said::Text(NTH_SCHEDULE), Said::Number(number as u64)],
-            );
+            out.push(NTH_SCHEDULE);
+            out.push_number(number as u64);
         }
         PartName::Scripts => out.push(THE_SCRIPTS),
         PartName::Commands => out.push(THE_COMMANDS),
@@ -105,16 +103,11 @@ fn line_of_input(before: u64, line: u64) -> u64
 fn push_line_place(out: &mut Draft, part: &Part<'_>, line: u64)
     ensures { Adds out.old out.new (line_place (view_part part.now) line) }
 {
-    push_said(
-        out,
-        &[
-            Said::Text(LINE),
-            Said::Number(line_of_input(part.before, line)),
-            Said::Text(OF_THE_INPUT),
-            Said::Number(line),
-            Said::Text(OF),
-        ],
-    );
+    out.push(LINE);
+    out.push_number(line_of_input(part.before, line));
+    out.push(OF_THE_INPUT);
+    out.push_number(line);
+    out.push(OF);
     push_part_name(out, part.name);
 }
 
@@ -123,14 +116,9 @@ fn push_line_place(out: &mut Draft, part: &Part<'_>, line: u64)
 fn push_column_words(out: &mut Draft, column: usize)
     ensures { Adds out.old out.new (column_words column) }
 {
-    push_said(
-        out,
-        &[
-            Said::Text(COLUMN),
-            Said::Number(column as u64),
-            Said::Text(PLACE_END),
-        ],
-    );
+    out.push(COLUMN);
+    out.push_number(column as u64);
+    out.push(PLACE_END);
 }
 
 /// Appends a line of text around a column.
@@ -139,10 +127,9 @@ fn push_window(out: &mut Draft, text: &[u8], column: usize)
     ensures { Adds out.old out.new (window text.now column) }
 {
     let shown = front(behind(text, column.saturating_sub(BEFORE_MARK)), WINDOW);
-    push_said(
-        out,
-        &[Said::Text(MARGIN), Said::Shown(shown), Said::Text(LINE_END)],
-    );
+    out.push(MARGIN);
+    push_shown(out, shown);
+    out.push(LINE_END);
 }
 
 /// Appends a mark under a column.
@@ -153,10 +140,9 @@ fn push_mark(out: &mut Draft, column: usize)
     let count = column
         .saturating_sub(1)
         .saturating_sub(column.saturating_sub(BEFORE_MARK));
-    push_said(
-        out,
-        &[Said::Text(MARGIN), Said::Spaces(count), Said::Text(MARK)],
-    );
+    out.push(MARGIN);
+    push_spaces(out, count);
+    out.push(MARK);
 }
 
 /// Appends a line around a column, marked.

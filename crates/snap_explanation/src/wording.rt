@@ -1,6 +1,8 @@
 //! Each sentence of an explanation, written once, and the tables that say at which piece of a line
 //! a sentence stands. The definitions name these sentences.
 
+use crate::parts::Part;
+
 // Words between pieces.
 pub const QUOTE: &[u8] = b"`";
 
@@ -44,67 +46,71 @@ pub const FOUND: &[u8] = b"; found ";
 
 pub const END_OF_LINE: &[u8] = b"the end of the line";
 
-pub const NUMBER: &[u8] = b"a number";
-
-pub const LINE_NUMBER: &[u8] = b"a line number, 1 to 9999";
-
-pub const COUNT: &[u8] = b"a number, 1 to 64";
-
-pub const POSITIVE: &[u8] = b"a number, at least 1";
-
-pub const TURN: &[u8] = b"a number of turns, 1 to 1000000";
-
-pub const NAME: &[u8] = b"a name";
-
-pub const INDEX: &[u8] = b"an index: a number, a name, `n`, `w`, `me` or `word`";
-
 pub const INDEX_OR_PLACE: &[u8] = b"an index: a number, a name, `n`, `w`, `me`, `word` or `@`";
 
-pub const RANGE: &[u8] = b"`n` or `w`";
-
-pub const RELATION: &[u8] = b"`=`, `!=` or `<`";
-
-pub const KIND_NAME: &[u8] = b"`seq`, `bit` or `multi`";
-
-pub const INSTRUCTION: &[u8] = b"an instruction";
-
-pub const VALUE: &[u8] = b"a value";
-
-pub const OPEN_BRACKET: &[u8] = b"`[`";
-
-pub const PLUS: &[u8] = b"`+`";
-
-pub const COMPARISON: &[u8] = b"a comparison";
-
-pub const AND_OR: &[u8] = b"`and` or `or`";
-
-pub const AND_ALONE: &[u8] = b"`and`";
-
-pub const OR_ALONE: &[u8] = b"`or`";
-
-pub const WHERE: &[u8] = b"`where`";
-
-pub const REGISTER: &[u8] = b"`r`, `q`, `p` or `v`";
-
-pub const BIT: &[u8] = b"`q` or `p`";
-
-pub const TUPLE: &[u8] = b"`(`";
-
-pub const BEHIND_NAME: &[u8] = b"`,`, `+` or `[`";
-
-pub const BEHIND_THIRD: &[u8] = b"`,` or `)`";
-
-pub const VIEW_SOURCE: &[u8] = b"`data` or `view`";
-
-pub const TEST: &[u8] = b"a comparison or `all`";
-
-pub const ACT: &[u8] = b"`*`, `scan`, `update` or `crash`";
-
-pub const SCRIPT_ACT: &[u8] = b"`scan`, `update` or `crash`";
-
-pub const COMMAND: &[u8] = b"a command";
-
-pub const SHOWN: &[u8] = b"`r`, `q`, `p`, `v` or a process";
+/// What a part of a line is called.
+pub const PART_WORDS: &[(Part, &[u8])] = &[
+    (Part::Colon, b"`:`"),
+    (Part::Equal, b"`=`"),
+    (Part::Place, b"`@`"),
+    (Part::OpenBracket, b"`[`"),
+    (Part::CloseBracket, b"`]`"),
+    (Part::OpenParenthesis, b"`(`"),
+    (Part::CloseParenthesis, b"`)`"),
+    (Part::Comma, b"`,`"),
+    (Part::Goto, b"`goto`"),
+    (Part::R, b"`r`"),
+    (Part::V, b"`v`"),
+    (Part::Kind, b"`kind`"),
+    (Part::Scalar, b"`scalar`"),
+    (Part::Row, b"`row`"),
+    (Part::Words, b"`words`"),
+    (Part::View, b"`view`"),
+    (Part::Scan, b"`scan`"),
+    (Part::Update, b"`update`"),
+    (Part::Shape, b"`shape`"),
+    (Part::Number, b"a number"),
+    (Part::Process, b"a number"),
+    (Part::Target, b"a number"),
+    (Part::LineNumber, b"a line number, 1 to 9999"),
+    (Part::Count, b"a number, 1 to 64"),
+    (Part::Positive, b"a number, at least 1"),
+    (Part::Turn, b"a number of turns, 1 to 1000000"),
+    (Part::Name, b"a name"),
+    (Part::Names, b"a name"),
+    (
+        Part::Index,
+        b"an index: a number, a name, `n`, `w`, `me` or `word`",
+    ),
+    (Part::Range, b"`n` or `w`"),
+    (Part::Relation, b"`=`, `!=` or `<`"),
+    (Part::KindName, b"`seq`, `bit` or `multi`"),
+    (Part::Instruction, b"an instruction"),
+    (Part::Term, b"a value"),
+    (Part::PlaceOption, b"`[`"),
+    (Part::Expr, b"a value"),
+    (Part::SumOption, b"`+`"),
+    (Part::Condition, b"a comparison"),
+    (Part::FirstJoin, b"`and` or `or`"),
+    (Part::SecondAnd, b"`and`"),
+    (Part::SecondOr, b"`or`"),
+    (Part::ThirdAnd, b"`and`"),
+    (Part::ThirdOr, b"`or`"),
+    (Part::WhereOption, b"`where`"),
+    (Part::Written, b"`r`, `q`, `p` or `v`"),
+    (Part::Bit, b"`q` or `p`"),
+    (Part::Tuple, b"`(`"),
+    (Part::SecondPart, b"a value"),
+    (Part::BehindName, b"`,`, `+` or `[`"),
+    (Part::BehindThird, b"`,` or `)`"),
+    (Part::ViewSource, b"`data` or `view`"),
+    (Part::Test, b"a comparison or `all`"),
+    (Part::Act, b"`*`, `scan`, `update` or `crash`"),
+    (Part::ScriptAct, b"`scan`, `update` or `crash`"),
+    (Part::Command, b"a command"),
+    (Part::Register, b"`r`, `q`, `p` or `v`"),
+    (Part::Shown, b"`r`, `q`, `p`, `v` or a process"),
+];
 
 // What is advised at a token.
 pub const NO_TOKEN: &[u8] = b"` is no token\n";
@@ -163,6 +169,19 @@ const BRANCH: &[u8] = b"a test is `if C goto L`; where C does not hold, the next
 const WRITTEN: &[u8] =
     b"a register is written by `put`, as in `put r[I] = ..`, and read by `get`, `bit` or `look`\n";
 
+const ALL: &[u8] = b"`all` stands behind `if` alone: `if all n: C goto L`, or with `w`; \
+      `each n: R[@] = E` sets each place of a row\n";
+
+/// The advice where the number of a process has to stand, by piece.
+pub const PROCESS_HINTS: &[(&[u8], &[u8])] = &[(
+    b"shape",
+    b"a schedule has one line `shape N W`; in a batch or a survey a line `%` stands between two \
+      schedules\n",
+)];
+
+/// The advice where `n` or `w` has to stand, by piece.
+pub const RANGE_HINTS: &[(&[u8], &[u8])] = &[(b"all", ALL)];
+
 /// What is advised at a piece where the index of a register has to end.
 pub const INDEX_HINTS: &[(&[u8], &[u8])] = &[(
     b"+",
@@ -181,6 +200,7 @@ pub const NAME_HINTS: &[(&[u8], &[u8])] = &[
     (b"v", BANKS),
     (b"q", BANKS),
     (b"p", BANKS),
+    (b"all", ALL),
 ];
 
 /// The advice where a value has to stand, by piece.
@@ -192,6 +212,7 @@ pub const VALUE_HINTS: &[(&[u8], &[u8])] = &[
     (b"p", READ_BIT),
     (b"v", READ_VIEW),
     (b"view", SET_VIEW),
+    (b"all", ALL),
 ];
 
 /// The advice where a comparison has to stand, by piece.
@@ -202,6 +223,7 @@ pub const COMPARISON_HINTS: &[(&[u8], &[u8])] = &[
     (b"p", READ_BIT),
     (b"v", READ_VIEW),
     (b"view", SET_VIEW),
+    (b"all", ALL),
 ];
 
 /// The advice where an instruction has to stand, by piece.
@@ -211,6 +233,7 @@ pub const INSTRUCTION_HINTS: &[(&[u8], &[u8])] = &[
     (b"loop", LOOP),
     (b"else", BRANCH),
     (b"then", BRANCH),
+    (b"all", ALL),
     (b"r", WRITTEN),
     (b"v", WRITTEN),
     (b"q", WRITTEN),
@@ -336,6 +359,14 @@ pub const INSTRUCTION_FORMS: &[(&[u8], &[u8])] = &[
     (b"finish", b""),
 ];
 
+// What is advised of a line with a carriage return inside, and of a range in a schedule.
+pub const RETURN: &[u8] =
+    b"this line has a carriage return inside, which is a space: a line ends with a line feed\n";
+
+pub const NO_RANGES: &[u8] =
+    b"a schedule has no ranges: `1*5` is five steps of process 1, and each process takes a line of \
+    its own\n";
+
 // What is advised of a piece that is no token.
 pub const WRONG_NUMBER: &[u8] = b"a number has no leading zero and is below 2^64\n";
 
@@ -380,7 +411,11 @@ pub const BYTE_HINTS: &[(u8, u8, &[u8])] = &[
         b'-',
         b"there is no `-`: values are numbers from 0, and `+` is the only operation\n",
     ),
-    (b';', b';', b"a line ends without `;`\n"),
+    (
+        b';',
+        b';',
+        b"a line ends without `;`, and `,` stands between the parts of a tuple\n",
+    ),
     (b'/', b'/', b"a comment begins with `#`\n"),
     (b'!', b'!', b"different is `!=`\n"),
     (
@@ -477,39 +512,32 @@ pub const WORDS_USE: &[u8] = b"a field of a word is `data(W[I])`; `get W[I] = r[
 
 pub const VIEW_USE: &[u8] = b"a view is set by `view S = ..` or `look S = ..`\n";
 
-pub const REGISTERS_OF: &[u8] = b"registers of kind ";
-
-pub const ARE: &[u8] = b" are ";
-
-pub const WORDS_OF: &[u8] = b"words of kind ";
-
-pub const HAVE: &[u8] = b" have ";
-
 pub const SEQ_BANKS: &[u8] =
-    b"`r[I]`, written as in `put r[I] = (value, number, view)`; there is no `";
+    b"registers of kind seq are `r[I]`, written as in `put r[I] = (value, number, view)`; \
+    there is no `";
 
-pub const BIT_BANKS: &[u8] = b"`r[I]` and `q[I,J]`; there is no `";
+pub const BIT_BANKS: &[u8] = b"registers of kind bit are `r[I]` and `q[I,J]`; there is no `";
 
-pub const MULTI_BANKS: &[u8] = b"`r[I]`, `q[I,J]`, `p[I,J]` and `v[I]`; there is no `";
+pub const MULTI_BANKS: &[u8] =
+    b"registers of kind multi are `r[I]`, `q[I,J]`, `p[I,J]` and `v[I]`; there is no `";
 
-pub const SEQ_FIELDS: &[u8] = b"`data`, `seq` and `view`, and no `";
+pub const SEQ_FIELDS: &[u8] = b"words of kind seq have `data`, `seq` and `view`, and no `";
 
-pub const BIT_FIELDS: &[u8] = b"`data`, `hand`, `toggle` and `view`, and no `";
+pub const BIT_FIELDS: &[u8] =
+    b"words of kind bit have `data`, `hand`, `toggle` and `view`, and no `";
 
-pub const MULTI_FIELDS: &[u8] = b"`data`, `id` and `toggle`, and no `";
+pub const MULTI_FIELDS: &[u8] = b"words of kind multi have `data`, `id` and `toggle`, and no `";
 
 pub const QUOTE_END: &[u8] = b"`\n";
 
-pub const TUPLE_OF: &[u8] = b"a tuple of kind ";
-
-pub const IS_A: &[u8] = b" is ";
-
-pub const SEQ_TUPLE: &[u8] = b"`(value, number, view)`, where the view is a name alone\n";
+pub const SEQ_TUPLE: &[u8] =
+    b"a tuple of kind seq is `(value, number, view)`, where the view is a name alone\n";
 
 pub const BIT_TUPLE: &[u8] =
-    b"`(value, row, toggle, view)`, where the row and the view are names alone\n";
+    b"a tuple of kind bit is `(value, row, toggle, view)`, where the row and the view are names \
+    alone\n";
 
-pub const MULTI_TUPLE: &[u8] = b"`(value, id, toggle)`\n";
+pub const MULTI_TUPLE: &[u8] = b"a tuple of kind multi is `(value, id, toggle)`\n";
 
 pub const DECLARED_IN: &[u8] = b"` is declared in line ";
 

@@ -12,6 +12,8 @@ use Rattle.snap_debug_commands.specs.declared.command.Command.{Command}
 use Rattle.snap_listing.proofs.HasForms.{Holds, then_with, either}
 use Rattle.snap_listing.proofs.SpelledTerms.{NumberIs, number_is, KeywordIs, keyword_is, EndIs, end_is, on_cons}
 use Rattle.snap_explanation.specs.declared.line_sorts.LineSort.TheVariants as line
+use Rattle.snap_explanation.specs.Grammar.{singles, values, written, instructions, commands, class_forms, fronts}
+use Rattle.snap_explanation.specs.Grammar.{options}
 use Rattle.snap_explanation.specs.Lost.{lost_in}
 use Rattle.snap_reading_laws.proofs.Forms.{mapped, holds_more}
 
@@ -87,7 +89,8 @@ register_goes w hr hq hp hv ts =
     subst CommandNotLost (sym e) h))
 
 pub command_goes : (ts : List Token) → Holds (λ (c : Command). CommandNotLost ts) (command_form ts)
-unfolding command_form moving_form marking_form showing_form
+unfolding command_form moving_form marking_form showing_form singles values written instructions commands class_forms
+    fronts options
 command_goes ts =
     let C = CommandNotLost ts in let Q = λ (c : Command). C in
     either Q _ _

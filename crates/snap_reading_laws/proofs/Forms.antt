@@ -1,9 +1,9 @@
 -- A line that has the form of a shape, an item, a header line or a line of scripts is not lost (`lost_in` finds no
 -- place).
 use Rattle.std.proofs.Common.{◌≡◌, ℕ, ◌+◌, Bool, true, false, ◌&&◌, List, [], ◌∷◌, Option, Some, None, option_map}
-use Rattle.std.proofs.Common.{nat_lt, nat_le, bytes_eq, codes, if◌then◌else◌, refl, sym, ap, ◌∙◌, subst}
+use Rattle.std.proofs.Common.{nat_lt, bytes_eq, codes, if◌then◌else◌, refl, sym, ap, ◌∙◌, subst}
 use Rattle.std.specs.Prelude.{is_some}
-use Rattle.std.proofs.lemmas.Bool.{and_parts, or_left, or_right}
+use Rattle.std.proofs.lemmas.Bool.{and_parts}
 use Rattle.snap_semantics.specs.declared.text.Symbol.TheVariants as symbol
 use Rattle.snap_semantics.specs.HeaderForms.{kind_of_keyword, kind_form, words_form, names_form, entry_form}
 use Rattle.snap_semantics.specs.ListingForms.{is_line_number}
@@ -20,22 +20,49 @@ use Rattle.snap_words.specs.Shape.{Counts}
 use Rattle.snap_words.specs.declared.kind.KindTag.{KindTag}
 use Rattle.snap_listing.proofs.HasForms.{Holds, then_with, either}
 use Rattle.snap_listing.proofs.SpelledTerms.{if_when, WordIs, word_is, NumberIs, number_is, KeywordIs}
-use Rattle.snap_listing.proofs.SpelledTerms.{keyword_is, SymbolIs, symbol_is, EndIs, end_is, on_cons}
-use Rattle.snap_explanation.specs.declared.expected.Keyword.{Keyword}
-use Rattle.snap_explanation.specs.declared.expected.Keyword.TheVariants as keyword
-use Rattle.snap_explanation.specs.declared.expected.Expected.{Expected}
-use Rattle.snap_explanation.specs.declared.expected.Expected.TheVariants as wanted
+use Rattle.snap_listing.proofs.SpelledTerms.{same_word, keyword_is, SymbolIs, symbol_is, EndIs, end_is, on_cons}
+use Rattle.snap_explanation.specs.declared.parts.Part.{Part}
+use Rattle.snap_explanation.specs.declared.parts.Part.TheVariants as part
 use Rattle.snap_explanation.specs.declared.line_sorts.LineSort.{LineSort}
 use Rattle.snap_explanation.specs.declared.line_sorts.LineSort.TheVariants as line
 use Rattle.snap_explanation.specs.declared.line_sorts.Header.TheVariants as header
-use Rattle.snap_explanation.specs.After.{one, maybe_begun}
-use Rattle.snap_explanation.specs.Lost.{Place, lost, lost_at, lost_in, step, stepped, may_end}
-use Rattle.snap_explanation.specs.Tests.{keyword_text, is_kind}
+use Rattle.snap_explanation.specs.Grammar.{TokenStep, Takes, after, by_form, same_part, singles, values, written}
+use Rattle.snap_explanation.specs.Grammar.{instructions, commands, class_forms, fronts, options}
+use Rattle.snap_explanation.specs.Lost.{Wanted, lost, lost_at, lost_in, step, stepped}
 
--- a token that passes its test
-passes : (k : ℕ) (ws all : List Expected) (ts : List Token) (o : Option (List Expected)) (b : Bool) → b ≡ true →
-    lost_at k all (λ more. lost (k + 1) more ts) (stepped ws o (one b)) ≡ lost (k + 1) ws ts
-passes k ws all ts o b e = ap (λ (c : Bool). lost_at k all (λ more. lost (k + 1) more ts) (stepped ws o (one c))) e
+-- parts that are wanted where `@` is no index
+abbrev pub plain : List Part → Wanted
+plain ps = record { parts = ps; places = false }
+
+-- a token that is all of the first part
+passes : (k : ℕ) (p : Part) (ps : List Part) (t : Token) (ts : List Token) → same_part p part.Range ≡ false →
+    after false p t ≡ Takes [] → lost k (plain (p ∷ ps)) (t ∷ ts) ≡ lost (k + 1) (plain ps) ts
+passes k p ps t ts f e =
+    ap (λ (s : TokenStep). lost_at k (plain (p ∷ ps)) (λ more. lost (k + 1) more ts)
+    (stepped (same_part p part.Range) ps (step false t ps) s)) e
+    ∙ ap (λ (q : Bool). lost (k + 1) (record { parts = ps; places = q }) ts) f
+
+-- a token of a set
+taken_by : (p : Part) (t : Token) (b : Bool) → b ≡ true →
+    by_form false p t (if b then (let none : List Part = [] in Some none) else None) ≡ Takes []
+taken_by p t b e =
+    ap (λ (c : Bool). by_form false p t (if c then (let none : List Part = [] in Some none) else None)) e
+
+count_taken : (n : ℕ) → is_count n ≡ true → after false part.Count (Number n) ≡ Takes []
+unfolding singles values written instructions commands class_forms fronts options
+count_taken n e = taken_by part.Count (Number n) (is_count n) e
+
+positive_taken : (n : ℕ) → nat_lt 0 n ≡ true → after false part.Positive (Number n) ≡ Takes []
+unfolding singles values written instructions commands class_forms fronts options
+positive_taken n e = taken_by part.Positive (Number n) (nat_lt 0 n) e
+
+turn_taken : (n : ℕ) → is_turn n ≡ true → after false part.Turn (Number n) ≡ Takes []
+unfolding singles values written instructions commands class_forms fronts options
+turn_taken n e = taken_by part.Turn (Number n) (is_turn n) e
+
+line_taken : (n : ℕ) → is_line_number n ≡ true → after false part.LineNumber (Number n) ≡ Takes []
+unfolding singles values written instructions commands class_forms fronts options
+line_taken n e = taken_by part.LineNumber (Number n) (is_line_number n) e
 
 -- what is found tells that the line is not lost
 abbrev pub NotLost : {A : Type 0} → LineSort → List Token → A → Type 0
@@ -49,10 +76,10 @@ told sort ts (Some x) h e = h
 -- shapes
 shape_lost : (n w : ℕ) → is_count n ≡ true → is_count w ≡ true →
     lost_in line.Shape (Identifier (codes "shape") ∷ Number n ∷ Number w ∷ []) ≡ None
+unfolding singles values written instructions commands class_forms fronts options
 shape_lost n w e f =
-    passes 1 (wanted.Count ∷ []) (wanted.Count ∷ wanted.Count ∷ []) (Number w ∷ [])
-    (step (Number n) (wanted.Count ∷ [])) (is_count n) e
-    ∙ passes 2 [] (wanted.Count ∷ []) [] (step (Number w) []) (is_count w) f
+    passes 1 part.Count (part.Count ∷ []) (Number n) (Number w ∷ []) refl (count_taken n e)
+    ∙ passes 2 part.Count [] (Number w) [] refl (count_taken w f)
 
 pub shape_goes : (ts : List Token) → Holds (NotLost line.Shape ts) (shape_form ts)
 unfolding shape_form
@@ -81,10 +108,12 @@ closes sort ts all e h = ap (λ (x : List Token). lost_in sort x) e ∙ h
 
 -- items
 steps_lost : (i k : ℕ) → nat_lt 0 k ≡ true → lost_in line.Item (Number i ∷ Sign symbol.Star ∷ Number k ∷ []) ≡ None
-steps_lost i k e = passes 2 [] (wanted.Positive ∷ []) [] (step (Number k) []) (nat_lt 0 k) e
+unfolding singles values written instructions commands class_forms fronts options
+steps_lost i k e = passes 2 part.Positive [] (Number k) [] refl (positive_taken k e)
 
 pub item_goes : (ts : List Token) → Holds (NotLost line.Item ts) (item_form ts)
-unfolding item_form step_form steps_form scan_form update_form crash_form
+unfolding item_form step_form steps_form scan_form update_form crash_form singles values written instructions commands
+    class_forms fronts options
 item_goes ts =
     let P = NotLost {A = ItemForm} line.Item ts in
     either P _ _
@@ -124,15 +153,13 @@ item_goes ts =
 kind_lost : (w : List ℕ) →
     Holds (λ (k : KindTag). lost_in (line.Header header.Kind) (Identifier (codes "kind") ∷ Identifier w ∷ []) ≡ None)
     (kind_of_keyword w)
+unfolding singles values written instructions commands class_forms fronts options
 kind_lost w =
     let P = λ (k : KindTag). lost_in (line.Header header.Kind) (Identifier (codes "kind") ∷ Identifier w ∷ []) ≡ None in
-    if_when P (bytes_eq w (codes "seq")) _ _ (λ e. kind_by (rw e refl))
-    (if_when P (bytes_eq w (codes "bit")) _ _ (λ e. kind_by (or_right _ _ (or_left _ _ e)))
-    (if_when P (bytes_eq w (codes "multi")) _ _ (λ e. kind_by (or_right _ _ (or_right _ _ e))) tt))
-  where
-    kind_by : is_kind (Identifier w) ≡ true →
-        lost_in (line.Header header.Kind) (Identifier (codes "kind") ∷ Identifier w ∷ []) ≡ None
-    kind_by e = passes 1 [] (wanted.KindName ∷ []) [] (step (Identifier w) []) (is_kind (Identifier w)) e
+    let L = λ (ts : List Token). lost_in (line.Header header.Kind) (Identifier (codes "kind") ∷ ts) in
+    if_when P (bytes_eq w (codes "seq")) _ _ (λ e. ap L (same_word w (codes "seq") [] e))
+    (if_when P (bytes_eq w (codes "bit")) _ _ (λ e. ap L (same_word w (codes "bit") [] e))
+    (if_when P (bytes_eq w (codes "multi")) _ _ (λ e. ap L (same_word w (codes "multi") [] e)) tt))
 
 pub kind_goes : (ts : List Token) → Holds (NotLost (line.Header header.Kind) ts) (kind_form ts)
 unfolding kind_form
@@ -147,11 +174,12 @@ kind_goes ts =
 
 -- identifiers to the end of the line
 words_go : (k : ℕ) (ts : List Token) →
-    Holds (λ (ws : List (List ℕ)). lost k (wanted.Names ∷ []) ts ≡ None) (words_form ts)
+    Holds (λ (ws : List (List ℕ)). lost k (plain (part.Names ∷ [])) ts ≡ None) (words_form ts)
+unfolding singles values written instructions commands class_forms fronts options
 words_go k [] = refl
 words_go k (Identifier w ∷ ts) =
-    then_with (λ (ws : List (List ℕ)). lost (k + 1) (wanted.Names ∷ []) ts ≡ None)
-    (λ (ws : List (List ℕ)). lost k (wanted.Names ∷ []) (Identifier w ∷ ts) ≡ None) (words_form ts) _
+    then_with (λ (ws : List (List ℕ)). lost (k + 1) (plain (part.Names ∷ [])) ts ≡ None)
+    (λ (ws : List (List ℕ)). lost k (plain (part.Names ∷ [])) (Identifier w ∷ ts) ≡ None) (words_form ts) _
     (words_go (k + 1) ts) (λ ws h. h)
 words_go k (Number n ∷ ts) = tt
 words_go k (Sign m ∷ ts) = tt
@@ -160,52 +188,38 @@ pub holds_more : {A : Type 0} (Q P : A → Type 0) (o : Option A) → Holds Q o 
 holds_more Q P None h f = tt
 holds_more Q P (Some x) h f = f x h
 
-pub same_keyword : (x : Keyword) → bytes_eq (keyword_text x) (keyword_text x) ≡ true
-same_keyword keyword.Kind = refl
-same_keyword keyword.Scalar = refl
-same_keyword keyword.Row = refl
-same_keyword keyword.Words = refl
-same_keyword keyword.View = refl
-same_keyword keyword.Scan = refl
-same_keyword keyword.Update = refl
-same_keyword keyword.Shape = refl
-same_keyword keyword.Goto = refl
-same_keyword keyword.R = refl
-same_keyword keyword.V = refl
-
-keyword_first : (x : Keyword) (w : Expected) (ts : List Token) →
-    lost 0 (wanted.Keyword x ∷ w ∷ []) (Identifier (keyword_text x) ∷ ts) ≡ lost 1 (w ∷ []) ts
-keyword_first x w ts =
-    passes 0 (w ∷ []) (wanted.Keyword x ∷ w ∷ []) ts (step (Identifier (keyword_text x)) (w ∷ []))
-    (bytes_eq (keyword_text x) (keyword_text x)) (same_keyword x)
-
-pub names_by : (x : Keyword) (ts : List Token) →
-    Holds (λ (ws : List (List ℕ)). lost 0 (wanted.Keyword x ∷ wanted.Names ∷ []) ts ≡ None)
-    (names_form (keyword_text x) ts)
+-- a header line whose word is taken is its names
+pub names_by : (p : Part) (x : List ℕ) →
+    ((ts : List Token) → lost 0 (plain (p ∷ part.Names ∷ [])) (Identifier x ∷ ts) ≡ lost 1 (plain (part.Names ∷ [])) ts)
+    → (ts : List Token) →
+    Holds (λ (ws : List (List ℕ)). lost 0 (plain (p ∷ part.Names ∷ [])) ts ≡ None) (names_form x ts)
 unfolding names_form
-names_by x ts =
-    let P = λ (ws : List (List ℕ)). lost 0 (wanted.Keyword x ∷ wanted.Names ∷ []) ts ≡ None in
-    then_with (KeywordIs (keyword_text x) ts) P (keyword_at (keyword_text x) ts) _
-    (keyword_is (keyword_text x) ts) (λ a e.
-    holds_more (λ (ws : List (List ℕ)). lost 1 (wanted.Names ∷ []) a ≡ None) P (words_form a) (words_go 1 a) (λ ws h.
-    ap (λ (y : List Token). lost 0 (wanted.Keyword x ∷ wanted.Names ∷ []) y) e ∙ keyword_first x wanted.Names a ∙ h))
+names_by p x first ts =
+    let P = λ (ws : List (List ℕ)). lost 0 (plain (p ∷ part.Names ∷ [])) ts ≡ None in
+    then_with (KeywordIs x ts) P (keyword_at x ts) _ (keyword_is x ts) (λ a e.
+    holds_more (λ (ws : List (List ℕ)). lost 1 (plain (part.Names ∷ [])) a ≡ None) P (words_form a) (words_go 1 a) (λ ws h.
+    ap (λ (y : List Token). lost 0 (plain (p ∷ part.Names ∷ [])) y) e ∙ first a ∙ h))
 
-line_lost : (k : ℕ) → is_line_number k ≡ true → lost 1 (wanted.LineNumber ∷ []) (Number k ∷ []) ≡ None
-line_lost k e = passes 1 [] (wanted.LineNumber ∷ []) [] (step (Number k) []) (is_line_number k) e
+line_lost : (k : ℕ) → is_line_number k ≡ true → lost 1 (plain (part.LineNumber ∷ [])) (Number k ∷ []) ≡ None
+line_lost k e = passes 1 part.LineNumber [] (Number k) [] refl (line_taken k e)
 
-pub entry_by : (x : Keyword) (ts : List Token) →
-    Holds (λ (k : ℕ). lost 0 (wanted.Keyword x ∷ wanted.LineNumber ∷ []) ts ≡ None) (entry_form (keyword_text x) ts)
+-- a header line whose word is taken is the number of its line
+pub entry_by : (p : Part) (x : List ℕ) →
+    ((ts : List Token) → lost 0 (plain (p ∷ part.LineNumber ∷ [])) (Identifier x ∷ ts)
+    ≡ lost 1 (plain (part.LineNumber ∷ [])) ts)
+    → (ts : List Token) →
+    Holds (λ (k : ℕ). lost 0 (plain (p ∷ part.LineNumber ∷ [])) ts ≡ None) (entry_form x ts)
 unfolding entry_form
-entry_by x ts =
-    let P = λ (k : ℕ). lost 0 (wanted.Keyword x ∷ wanted.LineNumber ∷ []) ts ≡ None in
-    then_with (KeywordIs (keyword_text x) ts) P (keyword_at (keyword_text x) ts) _
-    (keyword_is (keyword_text x) ts) (λ a e.
+entry_by p x first ts =
+    let P = λ (k : ℕ). lost 0 (plain (p ∷ part.LineNumber ∷ [])) ts ≡ None in
+    then_with (KeywordIs x ts) P (keyword_at x ts) _ (keyword_is x ts) (λ a e.
     then_with (NumberIs a) P (number_at a) _ (number_is a) (λ k f.
     then_with (EndIs k.1) P (end_at k.1) _ (end_is k.1) (λ z h.
     if_when P (is_line_number k.0) _ _ (λ t.
-    ap (λ (y : List Token). lost 0 (wanted.Keyword x ∷ wanted.LineNumber ∷ []) y) e
-    ∙ keyword_first x wanted.LineNumber a
-    ∙ ap (λ (y : List Token). lost 1 (wanted.LineNumber ∷ []) y) (on_cons (Number k.0) a k.1 [] f h) ∙ line_lost k.0 t)
+    ap (λ (y : List Token). lost 0 (plain (p ∷ part.LineNumber ∷ [])) y) e
+    ∙ first a
+    ∙ ap (λ (y : List Token). lost 1 (plain (part.LineNumber ∷ [])) y) (on_cons (Number k.0) a k.1 [] f h)
+    ∙ line_lost k.0 t)
     tt)))
 
 -- scripts
@@ -215,6 +229,7 @@ found_holds P (Some x) h = h x refl
 
 call_goes : (ts : List Token) (f : ItemForm) → IsSpelling f ts →
     Holds (NotLost {A = ScriptForm} line.Script ts) (as_call f)
+unfolding singles values written instructions commands class_forms fronts options
 call_goes ts (Steps i count) h = tt
 call_goes ts (Calls i op.Scan) h = closes line.Script ts (spelled_call i op.Scan) h refl
 call_goes ts (Calls i (op.Update word value)) h = closes line.Script ts (spelled_call i (op.Update word value)) h refl
@@ -222,7 +237,8 @@ call_goes ts (Crashes i) h = tt
 
 turn_lost : (i k : ℕ) → is_turn k ≡ true →
     lost_in line.Script (Number i ∷ Identifier (codes "crash") ∷ Number k ∷ []) ≡ None
-turn_lost i k e = passes 2 [] (wanted.Turn ∷ []) [] (step (Number k) []) (is_turn k) e
+unfolding singles values written instructions commands class_forms fronts options
+turn_lost i k e = passes 2 part.Turn [] (Number k) [] refl (turn_taken k e)
 
 pub script_goes : (ts : List Token) → Holds (NotLost {A = ScriptForm} line.Script ts) (script_form ts)
 unfolding script_form call_form crash_at_form

@@ -1,9 +1,25 @@
-//! `Expected`: what a line of an input is to have next, a token or tokens in a row by their rule.
-use snap_semantics::{Join, Symbol};
+//! `Part`: what a line of an input is to have next, a token or tokens in a row by their rule; and
+//! `Class`: a set of tokens.
 
-/// A word of a line that stands for itself.
+/// A part of a line.
 #[derive(Clone, Copy)]
-pub enum Keyword {
+pub enum Part {
+    /// Nothing more.
+    End,
+    Colon,
+    Equal,
+    /// `@`.
+    Place,
+    OpenBracket,
+    CloseBracket,
+    OpenParenthesis,
+    CloseParenthesis,
+    Comma,
+    Goto,
+    /// The bank `r`.
+    R,
+    /// The bank `v`.
+    V,
     Kind,
     Scalar,
     Row,
@@ -12,20 +28,11 @@ pub enum Keyword {
     Scan,
     Update,
     Shape,
-    Goto,
-    /// The bank `r`.
-    R,
-    /// The bank `v`.
-    V,
-}
-
-/// A part of a line: a token, or tokens in a row by their rule. A rule with a `bool` is that of
-/// quantifiers, where `@` may be an index, if it is true.
-#[derive(Clone, Copy)]
-pub enum Expected {
-    Symbol(Symbol),
-    Keyword(Keyword),
     Number,
+    /// The number of a process, at the front of a line.
+    Process,
+    /// The number of a line to which a line leads.
+    Target,
     /// 1 to 9999.
     LineNumber,
     /// 1 to `snap_words::MAX_COUNT`.
@@ -35,36 +42,36 @@ pub enum Expected {
     /// 1 to 1,000,000.
     Turn,
     Name,
-    Index(bool),
-    /// `n` or `w`.
+    /// Identifiers to the end of the line.
+    Names,
+    Index,
+    /// `n` or `w`; `@` is an index behind it.
     Range,
-    /// `=`, `!=` or `<`.
     Relation,
     /// `seq`, `bit` or `multi`.
     KindName,
-    /// Identifiers to the end of the line.
-    Names,
     Instruction,
-    Term(bool),
+    Term,
     /// `[I]` behind a name, or nothing.
-    PlaceOption(bool),
-    Expr(bool),
+    PlaceOption,
+    Expr,
     /// `+` and a term, or nothing.
-    SumOption(bool),
-    Condition(bool),
+    SumOption,
+    Condition,
     /// What stands behind one comparison: `and` or `or` and a second one, or nothing.
-    FirstJoin(bool),
-    /// What stands behind two comparisons: the same word and a third one, or nothing.
-    SecondJoin(Join, bool),
-    /// What stands behind three comparisons: the same word and a fourth one, or nothing.
-    ThirdJoin(Join, bool),
+    FirstJoin,
+    /// `and` behind two comparisons, and a third one, or nothing.
+    SecondAnd,
+    SecondOr,
+    /// `and` behind three comparisons, and a fourth one, or nothing.
+    ThirdAnd,
+    ThirdOr,
     /// `where` and a condition, or nothing.
     WhereOption,
     /// The register that a `put` writes, and what it writes.
-    Target,
+    Written,
     /// `q` or `p`, and `[I,J]`.
     Bit,
-    /// A tuple.
     Tuple,
     /// The second part of a tuple, and what stands behind it.
     SecondPart,
@@ -85,4 +92,19 @@ pub enum Expected {
     Register,
     /// A register or a process, as a command names it.
     Shown,
+}
+
+/// A set of tokens.
+#[derive(Clone, Copy)]
+pub enum Class {
+    Number,
+    LineNumber,
+    Count,
+    Positive,
+    Turn,
+    /// Identifiers that are not reserved.
+    Name,
+    Identifier,
+    /// `@`, where it is an index.
+    Place,
 }

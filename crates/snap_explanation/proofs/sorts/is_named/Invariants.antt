@@ -1,0 +1,13 @@
+-- `is_named` of snap_explanation (src/sorts.rt): what holds at the head of its loop.
+use Rattle.std.proofs.Common.{◌≡◌, None, map, length}
+use Rattle.snap_semantics.specs.Uses.{is_among}
+use Rattle.snap_explanation.specs.Sorts.{names_of}
+use Rattle.snap_explanation.proofs.sorts.is_named.Given as goal
+
+abbrev pub invariant-loop-rest : goal.invariant-loop-rest
+invariant-loop-rest l =
+    is_among l.name (names_of l.wanted l.now (map (λ w. w.now) l.rest))
+    ≡ is_among l.name (names_of l.wanted None (map (λ w. w.now) l.words))
+
+abbrev pub decreases-loop-rest : goal.decreases-loop-rest
+decreases-loop-rest l = length l.rest

@@ -2,5 +2,7 @@
 #![tactic(auto)]
 
 mod options;
+mod shipped;
 
 pub use options::{is_given, number_of};
+pub use shipped::shipped_advice;

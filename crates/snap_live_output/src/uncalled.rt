@@ -113,9 +113,9 @@ fn uncalled_calls(
     by_process(alloc, scripts.scripts(), skipped.as_slice())
 }
 
-/// Appends the front of a line.
+/// Appends the front of a line on a call that was skipped.
 #[tactic(auto, unfolding(crate::specs::Uncalled::line_front))]
-fn push_front(out: &mut Draft)
+pub fn push_front(out: &mut Draft)
     ensures { Adds out.old out.new line_front }
 {
     out.push(b"not called: ");
@@ -155,7 +155,7 @@ fn push_others_text(out: &mut Draft, count: u64)
 }
 
 /// Appends a line for `count` other operations, if there are any.
-fn push_others(out: &mut Draft, count: u64)
+pub fn push_others(out: &mut Draft, count: u64)
     ensures { Adds out.old out.new (others_line count) }
 {
     if count == 0 {

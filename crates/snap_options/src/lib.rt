@@ -2,9 +2,11 @@
 //! program does about one that asks for nothing.
 #![tactic(auto)]
 
+mod advice;
 mod invocation;
 mod options;
 
+pub use advice::shipped_advice;
 pub use invocation::{
     Invocation, Unasked, Unread, answer_unasked, say_unread, unasked_by, words_of,
 };

@@ -1,7 +1,7 @@
 -- `AnswersLine`: what snaplab does about its command line, what it reads, writes and says, and the status that it
 -- ends with.
-use Rattle.std.specs.Prelude.{◌≡◌, ℕ, Vec, Bool, true, not, ◌&&◌, List, [], ◌++◌, Result, Ok, Err}
-use Rattle.std.specs.Prelude.{if◌then◌else◌, codes, string_bytes, ◌⊎◌}
+use Rattle.std.specs.Prelude.{◌≡◌, ℕ, Vec, Bool, true, not, ◌&&◌, List, [], Result, Ok, Err}
+use Rattle.std.specs.Prelude.{if◌then◌else◌, codes, string_bytes}
 use Rattle.std.specs.Global.{Global}
 use Rattle.snap_program.specs.declared.command_line.Invocation.{Invocation}
 use Rattle.snap_program.specs.declared.command_line.CommandLine.{CommandLine}
@@ -9,6 +9,7 @@ use Rattle.snap_program.specs.declared.command_line.CommandLine.TheVariants.{Ask
 use Rattle.snap_tasks.specs.declared.request.Request.{Request}
 use Rattle.snap_tasks.specs.declared.request.Request.TheVariants as request
 use Rattle.snap_tasks.specs.declared.task.Task.{Task}
+use Rattle.snap_tasks.specs.declared.task.Task.TheVariants as task
 use Rattle.snap_tasks.specs.declared.subject.Subject.{Subject}
 use Rattle.snap_tasks.specs.declared.judge_request.JudgeRequest.{JudgeRequest}
 use Rattle.snap_run_judge.specs.declared.linearizability.Linearizability.{Linearizability}
@@ -20,7 +21,7 @@ use Rattle.snap_faults.specs.declared.fault.ProgramFault.{ProgramFault}
 use Rattle.snap_faults.specs.declared.fault.ProgramFault.TheVariants.{Refused, History, Live}
 use Rattle.snap_streams.specs.Sent.{Says}
 use Rattle.snap_streams.specs.State.{SourceState, SinkState}
-use Rattle.snap_program.specs.TaskRun.{ConductsTask}
+use Rattle.snap_program.specs.TaskRun.{ConductsTask, ConductsTelling}
 use Rattle.snap_explanation.specs.Explanation.{explanation}
 use Rattle.snap_explanation.specs.HistoryExplanation.{history_explanation}
 use Rattle.snap_explanation.specs.LiveExplanation.{turn_limit_explanation}
@@ -52,7 +53,7 @@ why asked input _ = []
 abbrev pub explained : Invocation → (input : List ℕ) → ProgramFault → List ℕ
 explained asked input fault = if asked.explains then why asked.request input fault else []
 
--- A whole live run: where it was written, what is said of the operations that call nothing.
+-- A whole live run, or one under a schedule: where it was written, what is said of the operations that call nothing.
 abbrev pub SaysUncalled : Invocation → (input : List ℕ) → Result (Vec ℕ Global) ProgramFault →
     (errors errors_after : SinkState) → Type 0
 SaysUncalled asked input (Ok uncalled) errors errors_after = Says uncalled.items errors errors_after
@@ -76,6 +77,22 @@ AnswersTask task asked status source source_after sink sink_after errors errors_
     (done : Result Bool ProgramFault) × (kept : List ℕ) × (status ≡ exit_status (task_status asked.strict) done)
     × ConductsTask done task kept source source_after sink sink_after
     × SaysWhy snaplab (explained asked kept) done errors errors_after
+
+-- What it does about a run under a schedule where refusals are explained: it tells of the calls that the run skipped.
+abbrev pub AnswersTelling : Subject → Invocation → (status : ℕ) →
+    (source source_after : SourceState) → (sink sink_after errors errors_after : SinkState) → Type 0
+AnswersTelling subject asked status source source_after sink sink_after errors errors_after =
+    (done : Result (Vec ℕ Global) ProgramFault) × (kept : List ℕ) × (status ≡ exit_status success done)
+    × ConductsTelling done subject kept source source_after sink sink_after
+    × SaysUncalled asked kept done errors errors_after
+
+-- What it does about a task, and whether it tells more than why it is not done.
+abbrev pub AnswersTold : (tells : Bool) → Task → Invocation → (status : ℕ) →
+    (source source_after : SourceState) → (sink sink_after errors errors_after : SinkState) → Type 0
+AnswersTold true (task.Run subject) asked status source source_after sink sink_after errors errors_after =
+    AnswersTelling subject asked status source source_after sink sink_after errors errors_after
+AnswersTold _ t asked status source source_after sink sink_after errors errors_after =
+    AnswersTask t asked status source source_after sink sink_after errors errors_after
 
 -- What it does about a live run, at no gate.
 abbrev pub AnswersLively : Subject → (limit : ℕ) → Invocation → (status : ℕ) →
@@ -105,8 +122,8 @@ AnswersModelled subject asked status source source_after sink sink_after errors 
 -- What it does about what was asked for.
 abbrev pub AnswersRequest : Request → Invocation → (status : ℕ) →
     (source source_after : SourceState) → (sink sink_after errors errors_after : SinkState) → Type 0
-AnswersRequest (request.Do task) asked status source source_after sink sink_after errors errors_after =
-    AnswersTask task asked status source source_after sink sink_after errors errors_after
+AnswersRequest (request.Do t) asked status source source_after sink sink_after errors errors_after =
+    AnswersTold asked.explains t asked status source source_after sink sink_after errors errors_after
 AnswersRequest (request.Live subject limit) asked status source source_after sink sink_after errors errors_after =
     AnswersLively subject limit asked status source source_after sink sink_after errors errors_after
 AnswersRequest (request.Judge judged) asked status source source_after sink sink_after errors errors_after =

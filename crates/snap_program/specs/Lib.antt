@@ -3,5 +3,6 @@ pub mod ModelOutput
 pub mod Limits
 pub mod Invocations
 pub mod WholeRun
+pub mod Skipped
 pub mod TaskRun
 pub mod Answer

@@ -10,13 +10,15 @@ ghost use Rattle.snap_tasks.specs.Request.{HasLimit};
 ghost use Rattle.snap_tasks.specs.declared.request.Request.TheVariants.{Live};
 ghost use Rattle.snap_program.specs.Answer.{AnswersJudge, AnswersLine, AnswersLively};
 ghost use Rattle.snap_program.specs.Answer.{AnswersModelled, AnswersRequest};
-ghost use Rattle.snap_program.specs.Answer.{AnswersTask, SaysTerminal, explained, snaplab};
+ghost use Rattle.snap_program.specs.Answer.{AnswersTask, AnswersTelling, AnswersTold};
+ghost use Rattle.snap_program.specs.Answer.{SaysTerminal, explained, snaplab};
 ghost use Rattle.snap_program.specs.Answer.{task_status, word_status};
 
 use crate::command_line::{CommandLine, Invocation};
 use crate::judge_run::conduct_judge;
 use crate::live_run::conduct_live_keeping;
 use crate::model_run::conduct_model;
+use crate::told_run::conduct_telling;
 use crate::whole_run::conduct_keeping;
 use snap_explanation::{explanation, history_explanation, layout_of, turn_limit_explanation};
 use snap_faults::{
@@ -140,6 +142,61 @@ fn do_task<R: ByteSource, W: ByteSink, E: ByteSink>(
     }
 }
 
+/// Runs a listing under a schedule, says why if that is not done, and which calls were skipped if it
+/// is, and returns the status.
+fn run_telling<R: ByteSource, W: ByteSink, E: ByteSink>(
+    alloc: Global,
+    asked: &Invocation,
+    subject: Subject,
+    source: &mut R,
+    sink: &mut W,
+    errors: &mut E,
+) -> u8
+    requires source { (R.state source.old).failed ≡ false }
+    requires sink { (W.state sink.old).failed ≡ false }
+    requires goes_on { (W.state sink.old).stalled ≡ false }
+    requires errors { (E.state errors.old).failed ≡ false }
+    ensures { AnswersTelling subject asked.now result (R.state source.old) (R.state source.new)
+        (W.state sink.old) (W.state sink.new)
+        (E.state errors.old) (E.state errors.new) }
+{
+    let mut input = Vec::new(alloc);
+    match conduct_telling(alloc, subject, source, sink, &mut input) {
+        Ok(told) => {
+            say(told.as_slice(), errors);
+            0
+        }
+        Err(fault) => explain(alloc, asked, input.as_slice(), &fault, errors),
+    }
+}
+
+/// Does a task, and tells of the calls that a run under a schedule skipped if refusals are
+/// explained.
+fn do_told<R: ByteSource, W: ByteSink, E: ByteSink>(
+    rt: &(impl Threads + Sync),
+    alloc: Global,
+    asked: &Invocation,
+    task: &Task,
+    source: &mut R,
+    sink: &mut W,
+    errors: &mut E,
+) -> u8
+    requires source { (R.state source.old).failed ≡ false }
+    requires sink { (W.state sink.old).failed ≡ false }
+    requires goes_on { (W.state sink.old).stalled ≡ false }
+    requires errors { (E.state errors.old).failed ≡ false }
+    ensures { AnswersTold asked.now.explains task.now asked.now result (R.state source.old)
+        (R.state source.new) (W.state sink.old) (W.state sink.new)
+        (E.state errors.old) (E.state errors.new) }
+{
+    match *task {
+        Task::Run(subject) if asked.explains => {
+            run_telling(alloc, asked, subject, source, sink, errors)
+        }
+        _ => do_task(rt, alloc, asked, task, source, sink, errors),
+    }
+}
+
 /// Plays live, says why if that is not done, and which operations call nothing if it is, and
 /// returns the status.
 fn play_live<R: ByteSource, W: ByteSink, E: ByteSink>(
@@ -251,7 +308,7 @@ fn do_asked<R: ByteSource, W: ByteSink, E: ByteSink>(
         (E.state errors.old) (E.state errors.new) }
 {
     match asked.request {
-        Request::Do(task) => do_task(rt, alloc, asked, &task, source, sink, errors),
+        Request::Do(task) => do_told(rt, alloc, asked, &task, source, sink, errors),
         Request::Live(subject, limit) => {
             play_live(rt, alloc, asked, subject, limit, source, sink, errors)
         }

@@ -13,7 +13,7 @@ use crate::texts::{HELP, JUDGE, LIVE, OF_RUNS, OF_TEXTS, PROMELA, SURVEY, Told};
 use clap::builder::ValueParser;
 use clap::error::ErrorKind;
 use clap::{Arg, ArgAction, ArgMatches, Command, Error};
-use snap_options::{is_given, number_of};
+use snap_options::{is_given, number_of, shipped_advice};
 use snap_tasks::{Options, Subject, kind_of, request_of};
 use snap_words::MAX_ITEMS;
 use std::alloc::{AllocError, Global};
@@ -271,6 +271,21 @@ fn request_by(matches: &ArgMatches<'_>) -> Option<Invocation>
     asked_by(name, arguments, matches)
 }
 
+/// Returns the error of a command line, which names the kind that was meant where `--shipped` gives
+/// the letter of a listing.
+fn advised(
+    command: &mut Command<'_>,
+    arguments: &[String],
+    error: Error,
+) -> Result<Error, AllocError> {
+    match shipped_advice(arguments) {
+        Some(advice) if error.kind() == ErrorKind::InvalidValue => {
+            command.error(ErrorKind::InvalidValue, advice)
+        }
+        _ => Ok(error),
+    }
+}
+
 /// Returns the request of the arguments, the program's own name first.
 ///
 /// # Errors
@@ -281,7 +296,10 @@ pub fn request_of_arguments<'a>(alloc: Global, arguments: &'a [String]) -> Resul
     ensures limit { IfOk result (λ asked. HasLimit asked.request) }
 {
     let mut command = command(alloc)?;
-    let matches = command.try_get_matches_from_mut(arguments)?;
+    let matches = match command.try_get_matches_from_mut(arguments) {
+        Ok(matches) => matches,
+        Err(error) => return Err(advised(&mut command, arguments, error)?),
+    };
     if names_a_file(&matches) {
         return Err(command.error(ErrorKind::UnknownArgument, NO_FILES)?);
     }

@@ -9,7 +9,9 @@ mod judge_run;
 mod live_run;
 mod model_run;
 mod output;
+mod skipped;
 mod texts;
+mod told_run;
 mod whole_run;
 mod whole_texts;
 
@@ -19,6 +21,7 @@ pub use judge_run::conduct_judge;
 pub use live_run::{conduct_live, conduct_live_keeping};
 pub use model_run::conduct_model;
 pub use output::model_output;
+pub use skipped::SkippedCall;
 pub use snap_faults::{ProgramFault, ProgramFault as Fault, fault_status, write_all};
 pub use snap_input::{shipped, split_parts};
 pub use snap_judge_task::Linearizability;
@@ -30,5 +33,6 @@ pub use snap_streams::{ByteSink, ByteSink as Sink, ByteSource, ByteSource as Sou
 pub use snap_tasks::{
     JudgeRequest, JudgeSource, Options, Request, Subject, Task, kind_of, request_of,
 };
+pub use told_run::conduct_telling;
 pub use whole_run::{conduct, conduct_keeping};
 pub use whole_texts::read_all;

@@ -131,6 +131,8 @@ Examples:
 const RUN: &str = "\
 Reads: LISTING, %, SCHEDULE from standard input; SCHEDULE with --shipped
 
+Standard error names calls that were skipped, with --explain or at a terminal.
+
 Examples:
   snaplab run < examples/borrowed-view/stdin
   snaplab run --shipped seq < examples/shipped-borrowed-view/stdin";

@@ -19,7 +19,11 @@ use std::thread::Threads;
 
 /// Returns the output for the input that is kept, if it is run. The input is freed once its program
 /// and its schedule are read.
-fn run_kept(alloc: Global, subject: Subject, kept: &mut Vec<u8>) -> Result<Vec<u8>, Fault<Refusal>>
+pub(crate) fn run_kept(
+    alloc: Global,
+    subject: Subject,
+    kept: &mut Vec<u8>,
+) -> Result<Vec<u8>, Fault<Refusal>>
     ensures output { Answers (λ out. out.items) result
         (output_of [] (Run subject) kept.old.items) }
     ensures kept { (r : Refusal) → result ≡ Err (Refused r) → kept.new.items ≡ kept.old.items }

@@ -94,25 +94,25 @@ saving_adds p v line n file old new after more is counts none names saves on =
 -- any other line
 pub asked_adds : (p v : Prompt) (line : List ℕ) (n : ℕ) (r : Result Ask CommandRefusal) (old new : Drafted)
     (after : Prompt) (more : Bool) → v ≡ p → n ≡ min (v.lines + 1) (2 ^ 64 - 1) → v.question ≡ None →
-    saving_of line ≡ None → ask_of n line ≡ r → IsAdded (asked (with_lines n v) r).said old new →
-    after ≡ (asked (with_lines n v) r).state → more ≡ (asked (with_lines n v) r).goes_on →
+    saving_of line ≡ None → ask_of n line ≡ r → IsAdded (asked (with_lines n v) line r).said old new →
+    after ≡ (asked (with_lines n v) line r).state → more ≡ (asked (with_lines n v) line r).goes_on →
     AddsReply p line old new after more
 asked_adds p v line n r old new after more is counts none unnamed asks adds state on =
-    let it = it_is_said (asked (with_lines n v) r).said old new adds in
-    let asked_so : answer_line p line ≡ asked (with_lines n v) r =
+    let it = it_is_said (asked (with_lines n v) line r).said old new adds in
+    let asked_so : answer_line p line ≡ asked (with_lines n v) line r =
     answered_now p v line n None is counts none
     ∙ ap (λ (f : Option (List ℕ × Bool)). saved_or_asked (with_lines n v) f line) unnamed
-    ∙ ap (λ (x : Result Ask CommandRefusal). asked (with_lines n v) x) asks in
+    ∙ ap (λ (x : Result Ask CommandRefusal). asked (with_lines n v) line x) asks in
     let under : saves_under p.question line ≡ None =
     ap (λ (o : Option Question). saves_under o line) (ap (λ (x : Prompt). x.question) (sym is) ∙ none)
     ∙ ap (λ (f : Option (List ℕ × Bool)). option_map (λ x. x.0) f) unnamed in
-    answers_so p line it.0 old new (asked (with_lines n v) r) after more asked_so under it.1 it.2 state on
+    answers_so p line it.0 old new (asked (with_lines n v) line r) after more asked_so under it.1 it.2 state on
 
 pub asked_adds_all : {E : Type 0} (done : Result Bool E) (p v : Prompt) (line : List ℕ) (n : ℕ)
     (r : Result Ask CommandRefusal) (old new : Drafted) (after : Prompt) → v ≡ p → n ≡ min (v.lines + 1) (2 ^ 64 - 1) →
     v.question ≡ None → saving_of line ≡ None → ask_of n line ≡ r →
-    OnOk done (IsAdded (asked (with_lines n v) r).said old new) → OnOk done (after ≡ (asked (with_lines n v) r).state) →
-    IfOk done (λ more. more ≡ (asked (with_lines n v) r).goes_on) →
+    OnOk done (IsAdded (asked (with_lines n v) line r).said old new) → OnOk done (after ≡ (asked (with_lines n v) line r).state) →
+    IfOk done (λ more. more ≡ (asked (with_lines n v) line r).goes_on) →
     IfOk done (λ more. AddsReply p line old new after more)
 asked_adds_all (Ok more) p v line n r old new after is counts none unnamed asks adds state on =
     asked_adds p v line n r old new after more is counts none unnamed asks adds state on

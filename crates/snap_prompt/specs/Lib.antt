@@ -2,6 +2,7 @@
 pub mod Ask
 pub mod Edits
 pub mod SaveForm
+pub mod Typed
 pub mod Changed
 pub mod Explained
 pub mod Greeting

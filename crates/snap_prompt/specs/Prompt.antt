@@ -36,6 +36,7 @@ use Rattle.snap_prompt.specs.Listed.{list_text, process_of}
 use Rattle.snap_prompt.specs.Said.{IsSaid, Said, saved, text}
 use Rattle.snap_prompt.specs.Saved.{IsSavedLine, tells_saved}
 use Rattle.snap_prompt.specs.Shows.{greets, places}
+use Rattle.snap_prompt.specs.Typed.{typed_text}
 use Rattle.snap_prompt.specs.declared.question.Question.{Question}
 use Rattle.snap_prompt.specs.declared.question.Question.TheVariants as question
 use Rattle.snap_prompt.specs.declared.shows.Shows.{Shows}
@@ -276,9 +277,9 @@ done_meant p None = says p (text [])
 done_meant p (Some a) = done (with_last a p) a
 
 -- what comes of what a line asks for, or why it is refused
-unfoldable pub asked : Prompt → Result Ask CommandRefusal → Answer Said
-asked p (Err r) = says p (text (refused_line p.session r))
-asked p (Ok a) = done_meant p (meant p.last a)
+unfoldable pub asked : Prompt → (line : List ℕ) → Result Ask CommandRefusal → Answer Said
+asked p line (Err r) = says p (text (refused_line p.session r ++ typed_text line r))
+asked p line (Ok a) = done_meant p (meant p.last a)
 
 -- what is done where a line says yes to a question
 abbrev pub agreed_to : Prompt → Question → Answer (List ℕ)
@@ -296,7 +297,7 @@ decided p q agreed = if agreed then agreed_to (with_question None p) q else says
 
 -- what comes of a line that names a file in which the schedule is to be saved, or of another one
 abbrev pub saved_or_asked : Prompt → Option (List ℕ × Bool) → List ℕ → Answer Said
-saved_or_asked p None line = asked p (ask_of p.lines line)
+saved_or_asked p None line = asked p line (ask_of p.lines line)
 saved_or_asked p (Some file) line = says p (saved file.0)
 
 abbrev pub answered_to : Prompt → Option Question → List ℕ → Answer Said

@@ -23,6 +23,7 @@ mod saved;
 mod short;
 mod shows;
 mod steps;
+mod typed;
 
 pub use addition::Addition;
 pub use ask::{Ask, ask_of, is_yes};

@@ -37,6 +37,7 @@ use crate::question::Question;
 use crate::save_form::saving_of;
 use crate::saved::push_saved;
 use crate::shows::Shows;
+use crate::typed::push_typed;
 use crate::{Goal, steps_to};
 use snap_asm_program::Program;
 use snap_debug::{Command, Session};
@@ -442,12 +443,13 @@ impl<K: Kind, S: Folder + Copy> Prompt<K, S> {
     fn push_asked(
         &mut self,
         out: &mut Draft,
+        line: &[u8],
         ask: Result<Ask, CommandRefusal>,
     ) -> Result<bool, AllocError>
         ensures text { OnOk result
-            (IsAdded (asked self.old ask).said out.old out.new) }
-        ensures state { OnOk result (self.new ≡ (asked self.old ask).state) }
-        ensures goes_on { IfOk result (λ more. more ≡ (asked self.old ask).goes_on) }
+            (IsAdded (asked self.old line.now ask).said out.old out.new) }
+        ensures state { OnOk result (self.new ≡ (asked self.old line.now ask).state) }
+        ensures goes_on { IfOk result (λ more. more ≡ (asked self.old line.now ask).goes_on) }
     {
         match ask {
             Ok(ask) => match meant(self.last, ask) {
@@ -459,6 +461,7 @@ impl<K: Kind, S: Folder + Copy> Prompt<K, S> {
             },
             Err(refusal) => {
                 push_refused_line(out, &self.session, &refusal);
+                push_typed(self.alloc, out, line, &refusal)?;
                 Ok(true)
             }
         }
@@ -546,8 +549,8 @@ impl<K: Kind, S: Folder + Copy> Prompt<K, S> {
             return Ok(true);
         }
         match ask_of(self.alloc, self.lines, line) {
-            Ok(ask) => self.push_asked(out, Ok(ask)),
-            Err(Fault::Refused(refusal)) => self.push_asked(out, Err(refusal)),
+            Ok(ask) => self.push_asked(out, line, Ok(ask)),
+            Err(Fault::Refused(refusal)) => self.push_asked(out, line, Err(refusal)),
             Err(Fault::Memory) => Err(AllocError),
         }
     }

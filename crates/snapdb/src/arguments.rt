@@ -7,7 +7,7 @@ ghost use Rattle.snapdb.specs.Sessions.{IsAskedBy, kind_given};
 use clap::error::ErrorKind;
 use clap::{Arg, ArgAction, ArgMatches, Command, Error};
 use snap_named_files::{Named, named_of};
-use snap_options::is_given;
+use snap_options::{is_given, shipped_advice};
 use snap_tasks::kind_of;
 use snap_words::KindTag;
 use std::alloc::{AllocError, Global};
@@ -80,12 +80,30 @@ fn session_by<'a>(matches: &ArgMatches<'a>) -> Option<Session<'a>>
     })
 }
 
+/// Returns the error of a command line, which names the kind that was meant where `--shipped` gives
+/// the letter of a listing.
+fn advised(
+    command: &mut Command<'_>,
+    arguments: &[String],
+    error: Error,
+) -> Result<Error, AllocError> {
+    match shipped_advice(arguments) {
+        Some(advice) if error.kind() == ErrorKind::InvalidValue => {
+            command.error(ErrorKind::InvalidValue, advice)
+        }
+        _ => Ok(error),
+    }
+}
+
 /// Returns what the arguments are for, the program's own name first.
 pub(crate) fn session_of<'a>(alloc: Global, arguments: &'a [String]) -> Result<Session<'a>, Error>
     ensures { IfOk result (λ s. (m : ArgMatches) × IsAskedBy (found_of m) s) }
 {
     let mut command = command(alloc)?;
-    let matches = command.try_get_matches_from_mut(arguments)?;
+    let matches = match command.try_get_matches_from_mut(arguments) {
+        Ok(matches) => matches,
+        Err(error) => return Err(advised(&mut command, arguments, error)?),
+    };
     match session_by(&matches) {
         Some(session) => Ok(session),
         None => Err(command.error(

@@ -1,0 +1,37 @@
+//! `shipped_advice`: the kind that was meant where `--shipped` names a listing by its letter.
+
+/// Returns the advice on a value of `--shipped` that is the letter of a shipped listing.
+fn advice_on(value: &str) -> Option<&'static str> {
+    match value {
+        "u" | "U" => Some("listing U is the one of kind seq: `--shipped seq`"),
+        "b" | "B" => Some("listing B is the one of kind bit: `--shipped bit`"),
+        "m" | "M" => Some("listing M is the one of kind multi: `--shipped multi`"),
+        _ => None,
+    }
+}
+
+/// Returns the value of `--shipped` in a word of the command line, where the word before it was
+/// that option or not; an empty text if there is none.
+fn value_in(word: &str, is_behind: bool) -> &str {
+    if is_behind {
+        return word;
+    }
+    match word.strip_prefix("--shipped=") {
+        Some(value) => value,
+        None => "",
+    }
+}
+
+/// Returns the kind that was meant where `--shipped` gives the letter of a shipped listing, as
+/// advice; `None` where it gives none.
+pub fn shipped_advice(arguments: &[String]) -> Option<&'static str> {
+    let mut is_behind = false;
+    for argument in arguments {
+        let word = argument.as_str();
+        if let Some(advice) = advice_on(value_in(word, is_behind)) {
+            return Some(advice);
+        }
+        is_behind = word == "--shipped";
+    }
+    None
+}

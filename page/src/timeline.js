@@ -2,7 +2,7 @@
 // A shape's items, process and words are the module's; what comes after the position is pale, and its ends are untold.
 import {$, within} from './elements.js';
 import {goTo, isDrawable, state} from './state.js';
-import {outcome, unexplained} from './lessons.js';
+import {unexplained} from './lessons.js';
 
 const LABEL = 46, RIGHT = 12, GRAIN = 1.5, VALUES = 18, POINTS = 8, LANES = VALUES + POINTS, AXIS = 16;
 const LEAST_WORDS = 22;
@@ -27,7 +27,9 @@ export function showTimeline() {
     showLane(box, Number(state.last.split(' ')[0]));
     // A share of the box, which is in its place before the canvas has been drawn for another width, too.
     box.style.setProperty('--place', `calc(${LABEL}px + ${shareOf(at)} * (100% - ${LABEL + RIGHT}px))`);
-    Object.assign(box, {ariaValueMax: total, ariaValueNow: at, ariaValueText: `item ${at} of ${total}: ${outcome()}`});
+    // What the position is in words is told once: by the time line where that has the focus, and else as a message.
+    $('where').ariaLive = document.activeElement === box ? 'off' : 'polite';
+    Object.assign(box, {ariaValueMax: total, ariaValueNow: at, ariaValueText: $('where').textContent});
 }
 
 // Where there are more lanes than room, that of the process of the last item is in sight.
@@ -136,6 +138,17 @@ function shape(x, y, corners, fill) {
     pen.stroke();
 }
 
+// As many whole words as there is room for: a value that is cut would look like another one.
+function fitting(words, room) {
+    const all = words.split(' '), fits = text => pen.measureText(text).width <= room;
+    if (fits(words)) return words;
+    for (let count = all.length - 1; count > 0; count--) {
+        const some = `${all.slice(0, count).join(' ')}\u2026`;
+        if (fits(some)) return some;
+    }
+    return /^[a-z]/.test(words) && fits(all[0]) ? all[0] : '';
+}
+
 // Writes into a box, and not beyond it.
 function write(words, ink, left, top, wide, tall, size) {
     pen.save();
@@ -143,7 +156,7 @@ function write(words, ink, left, top, wide, tall, size) {
     pen.rect(left, top - 2, wide, tall + 4);
     pen.clip();
     Object.assign(pen, {fillStyle: colour(ink), font: `${size * large()}px system-ui, "DejaVu Sans", sans-serif`});
-    pen.fillText(words, left + 6, top + tall / 2 + 1);
+    pen.fillText(fitting(words, wide - 6), left + 6, top + tall / 2 + 1);
     pen.restore();
 }
 

@@ -227,7 +227,7 @@ class Monkey:
 
     def wrong_verdicts(self):
         self.tab.settled()
-        shown = self.tab.run("[...document.querySelectorAll('#verdicts button')].map(b => b.textContent)")
+        shown = self.tab.run("[...document.querySelectorAll('#verdicts button:not(.why)')].map(b => b.textContent)")
         told = [re.match(r"scan (\d+) call (\d+) answer (\d+) point (\w+) collects (\d+)", line) for line in self.program.says(
             "audit", self.seen["listing"], self.seen["schedule"]).splitlines()]
         wanted = [f"{v[1]} scan, items {v[2]} to {v[3]}" for v in told if int(v[3]) <= self.at]
@@ -241,7 +241,7 @@ def main():
     words = sys.argv[1:] + ["200", "2", "1"][len(sys.argv) - 1:]
     actions, seeds, first = (int(word) for word in words)
     count = browser.Count()
-    with browser.Browser() as running:
+    with browser.started() as running:
         program = Program(running)
         print("compared with", program.path or "the module of another tab")
         for seed in range(first, first + seeds):

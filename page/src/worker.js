@@ -193,7 +193,8 @@ const tryInput = ({text}) => asText(glue.answer('page_output', ['debug', '', end
 
 async function start(letters) {
     if (typeof WebAssembly === 'undefined') throw new Error('it has no WebAssembly');
-    const bytes = Uint8Array.from(atob(letters), letter => letter.charCodeAt(0));
+    const text = atob(letters), bytes = new Uint8Array(text.length);
+    for (let k = 0; k < text.length; k++) bytes[k] = text.charCodeAt(k);
     glue = new Glue(await WebAssembly.compile(bytes));
     return {code: OUTPUT};
 }

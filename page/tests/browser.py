@@ -198,9 +198,11 @@ class Steps:
             raise Failed(f"there is no {selector} ({nth})")
         self.mouse(*box)
 
+    drawn = "0"      # what is waited for until a part that comes into view is laid out
+
     def middle(self, selector, nth):
-        return self.run(f"""(() => {{ const e = document.querySelectorAll({json.dumps(selector)})[{nth}];
-            if (!e) return null; e.scrollIntoView({{block: 'nearest', inline: 'nearest'}});
+        return self.run(f"""(async () => {{ const e = document.querySelectorAll({json.dumps(selector)})[{nth}];
+            if (!e) return null; e.scrollIntoView({{block: 'nearest', inline: 'nearest'}}); await {self.drawn};
             const r = e.getBoundingClientRect(); return [r.x + r.width / 2, r.y + r.height / 2]; }})()""")
 
     def ask_module(self, name, texts, numbers=()):

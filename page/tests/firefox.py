@@ -166,6 +166,8 @@ class Browser:
 class Tab(Steps):
     """One page of the browser."""
 
+    drawn = "new Promise(done => requestAnimationFrame(() => requestAnimationFrame(done)))"
+
     def __init__(self, browser, width=1280, height=720, dark=False, scale=1, mobile=False, address=None, wait=True):
         self.browser = browser
         self.context = browser.ask("browsingContext.create", type="tab")["context"]

@@ -684,6 +684,7 @@ def try_contrast(page, count):
     page.click("#change")
     page.click("#end")
     page.click("#verdicts .none")
+    page.click("#verdicts .why")
     page.click("#memory [data-register='r 1']")
     for name in ("light", "dark"):
         page.tab.look(1280, 720, name == "dark")

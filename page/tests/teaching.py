@@ -684,10 +684,10 @@ def try_contrast(page, count):
     page.click("#change")
     page.click("#end")
     page.click("#verdicts .none")
-    page.click("#verdicts .why")
     page.click("#memory [data-register='r 1']")
     for name in ("light", "dark"):
         page.tab.look(1280, 720, name == "dark")
+        page.click("#verdicts .why")
         page.key("ArrowLeft", "ArrowRight")
         seen, low = page.run(CONTRAST)
         count.check(f"contrast, {name}: {seen} texts", seen > 60 and not low, low[:6])

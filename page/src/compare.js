@@ -61,7 +61,8 @@ function column(texts, others, run, parted) {
     const drawn = make('div', {className: 'picture'});
     if (run.picture) showDrawn(drawn, run.picture);
     const items = run.items.map(one => itemRow(one, texts, parted));
-    return make('section', {ariaLabel: texts.name}, title, ...lines, make('ol', {}, ...items), ...told, judged,
+    const list = make('ol', {ariaLabel: `Items of ${texts.name.toLowerCase()}`}, ...items);
+    return make('section', {ariaLabel: texts.name}, title, ...lines, list, ...told, judged,
         ...run.picture ? [drawn] : []);
 }
 

@@ -593,6 +593,19 @@ def try_spoken(page, count):
                 "getElementById('where').getAttribute('aria-live')]"
         slider, words, live = page.run(where)
         count.check(f"item {item}: the position is told once, by the time line that has the focus", slider == words != "" and live == "off", [slider, words, live])
+    for button in ("menu", "keys", "words", "trust", "picture", "compare", "make"):
+        page.click("#" + button)
+        page.tab.until("document.querySelector('dialog[open]') !== null && snaplab.settled()")
+        told = spoken(page.tab)
+        unnamed = [role for role, name, *_ in told if role in CONTROLS + PARTS and not name]
+        count.check(f"what {button} opens has names", not unnamed and any(role == "dialog" for role, *_ in told), unnamed[:5])
+        page.tab.key("Escape")
+    page.click("#verdicts .why")
+    told = spoken(page.tab)
+    unnamed = [role for role, name, *_ in told if role in CONTROLS + PARTS and not name]
+    heard = {(role, name) for role, name, *_ in told}
+    count.check("so has why", not unnamed and {("region", "Why item 64 came out so"), ("button", "point: to item 24")} <= heard, unnamed[:5])
+    page.click("#why-close")
     page.tab.ask("Accessibility.disable")
     page.click("#memory [data-register='r 1']")
 

@@ -20,9 +20,9 @@ from browser import Failed, NotHere, Steps
 NAMES = ("firefox-esr", "firefox")
 SETTINGS = {
     "app.update.enabled": False, "browser.download.folderList": 2, "browser.download.useDownloadDir": True, "datareporting.policy.dataSubmissionEnabled": False,
-    "browser.shell.checkDefaultBrowser": False, "browser.startup.homepage_override.mstone": "ignore", "dom.disable_open_during_load": False,
+    "browser.shell.checkDefaultBrowser": False, "browser.startup.homepage_override.mstone": "ignore",
     "network.captive-portal-service.enabled": False, "network.connectivity-service.enabled": False, "toolkit.telemetry.enabled": False,
-    "browser.download.alwaysOpenPanel": False, "browser.download.manager.addToRecentDocs": False, "ui.prefersReducedMotion": 0,
+    "browser.download.alwaysOpenPanel": False, "browser.download.manager.addToRecentDocs": False,
 }
 # Keys that are no letters, as WebDriver writes them.
 KEYS = {"ArrowLeft": "\ue012", "ArrowUp": "\ue013", "ArrowRight": "\ue014", "ArrowDown": "\ue015", "Home": "\ue011", "End": "\ue010", "Enter": "\ue007",

@@ -13,7 +13,7 @@ import {choose, fillLessons, makeExercise, nextCaption, openLessons, showIdea, s
 import {showMarks, showMemory} from './memory.js';
 import {endPlay, play, present, watchPanes, watchSize} from './panes.js';
 import {cards, showProcesses} from './processes.js';
-import {showTimeline, watchTimeline, zoom} from './timeline.js';
+import {showLane, showTimeline, watchTimeline, zoom} from './timeline.js';
 import {closeWhy, explain, showWhy} from './why.js';
 
 const HELLO = 'snaplab.hello';
@@ -89,13 +89,14 @@ function pressKey(event) {
     pressed();
 }
 
-// What follows the state; the texts come last, since their scrolling lays out what the others have written.
+// What follows the state; the texts and the lane come last: their scrolling lays out what the others have written.
 export function showState() {
     const shown = [showProcesses, showMemory, showMarks, showVerdicts, showWhy, showIdea, showWhere, showTimeline];
     if (state.report) shown.forEach(show => show());
     $('undo').disabled = !state.past.length;
     $('redo').disabled = !state.future.length;
     showTexts();
+    if (state.report) showLane();
     window.snaplab.shownAt ??= performance.now();
 }
 

@@ -24,7 +24,6 @@ export function showTimeline() {
         Object.assign(line, {drawn, shapes, high, n, past: at, wrong});
         draw();
     }
-    showLane(box, Number(state.last.split(' ')[0]));
     // A share of the box, which is in its place before the canvas has been drawn for another width, too.
     box.style.setProperty('--place', `calc(${LABEL}px + ${shareOf(at)} * (100% - ${LABEL + RIGHT}px))`);
     // What the position is in words is told once: by the time line where that has the focus, and else as a message.
@@ -32,9 +31,10 @@ export function showTimeline() {
     Object.assign(box, {ariaValueMax: total, ariaValueNow: at, ariaValueText: $('where').textContent});
 }
 
-// Where there are more lanes than room, that of the process of the last item is in sight.
-function showLane(box, who) {
-    const top = who ? topOf(who) : 0, bottom = top + line.high, room = box.clientHeight;
+// Where there are more lanes than room, that of the process of the last item is in sight. This lays out the page.
+export function showLane() {
+    const box = $('timeline'), who = Number(state.last.split(' ')[0]), room = box.clientHeight;
+    const top = who ? topOf(who) : 0, bottom = top + line.high;
     if (top < box.scrollTop) box.scrollTop = who > 1 ? top : 0;
     else if (bottom > box.scrollTop + room) box.scrollTop = bottom - room;
 }
@@ -325,7 +325,9 @@ function tellItem(item) {
 // Draws for the box as it is now, where its width, its height of a lane, its letters or its pixels are other ones.
 export function fitTimeline() {
     line.wide = $('timeline').clientWidth;
-    if (state.report) showTimeline();
+    if (!state.report) return;
+    showTimeline();
+    showLane();
 }
 
 export function watchTimeline() {

@@ -11,38 +11,38 @@ use Rattle.snap_debug_commands.specs.Commands.{commands_of}
 use Rattle.snap_debug_commands.specs.declared.command.Command.{Command}
 use Rattle.snap_debug_commands.specs.declared.command.Command.TheVariants as command
 use Rattle.snap_debug.specs.Marks.{same_address, same_breakpoint}
-use Rattle.snap_page.specs.declared.marking.Mark.{Mark}
-use Rattle.snap_page.specs.declared.marking.Mark.TheVariants as mark
+use Rattle.snap_page.specs.declared.marking.AnyMark.{AnyMark}
+use Rattle.snap_page.specs.declared.marking.AnyMark.TheVariants as mark
 
 -- whether two marks are the same
-abbrev pub same_mark : Mark → Mark → Bool
-same_mark (mark.Line a) (mark.Line b) = same_breakpoint a b
-same_mark (mark.Register a) (mark.Register b) = same_address a b
-same_mark _ _ = false
+abbrev pub is_same_mark : AnyMark → AnyMark → Bool
+is_same_mark (mark.Line a) (mark.Line b) = same_breakpoint a b
+is_same_mark (mark.Register a) (mark.Register b) = same_address a b
+is_same_mark _ _ = false
 
 -- the mark that a command sets
-abbrev pub set_by : Command → Option Mark
+abbrev pub set_by : Command → Option AnyMark
 set_by (command.Break b) = Some (mark.Line b)
 set_by (command.Watch a) = Some (mark.Register a)
 set_by _ = None
 
 -- the mark that a command sets or takes away
-abbrev pub meant_by : Command → Option Mark
+abbrev pub meant_by : Command → Option AnyMark
 meant_by (command.Clear b) = Some (mark.Line b)
 meant_by (command.Unwatch a) = Some (mark.Register a)
 meant_by c = set_by c
 
 -- whether a mark is this one, where there is one
-abbrev pub is_same : Mark → Option Mark → Bool
+abbrev pub is_same : AnyMark → Option AnyMark → Bool
 is_same m None = false
-is_same m (Some other) = same_mark m other
+is_same m (Some other) = is_same_mark m other
 
 -- whether a command sets or takes away this mark
-abbrev pub means : Mark → Command → Bool
+abbrev pub means : AnyMark → Command → Bool
 means m c = is_same m (meant_by c)
 
 -- whether a mark that is set, if one is, is meant by none of the commands behind
-abbrev pub stays : Option Mark → (later : List Command) → Bool
+abbrev pub stays : Option AnyMark → (later : List Command) → Bool
 stays None later = false
 stays (Some m) later = not (list_any (means m) later)
 

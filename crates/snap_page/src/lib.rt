@@ -4,7 +4,8 @@
 //! a run that fails.
 #![tactic(auto)]
 
-ghost use Rattle.std.specs.Prelude.{◌≡◌, ◌≢◌, ◌<◌, ◌⊎◌, ◌↔◌, ℕ, List, None, Result, Some, length, take};
+ghost use Rattle.std.specs.Prelude.{◌≡◌, ◌≢◌, ◌<◌, ◌⊎◌, ◌↔◌};
+ghost use Rattle.std.specs.Prelude.{ℕ, List, None, Result, Some, length, take};
 ghost use Rattle.snap_page.specs.Answer.{IsAnswerFor, found_at_once};
 ghost use Rattle.snap_page.specs.Page.{answer_code, answer_text, asked_of};
 ghost use Rattle.snap_page.specs.Hunt.{IsHandedHunt, IsHuntAnswer, IsHuntable, hunt_asked};
@@ -79,8 +80,8 @@ pub extern "C" fn page_output(
     handed_answer(alloc, answer, room)
 }
 
-/// Hands a page the explanation of a refused input, which stands behind the line of the refusal that
-/// `page_output` hands for the same names; no text if the input is not refused.
+/// Hands a page the explanation of a refused input, which stands behind the line of the refusal
+/// that `page_output` hands for the same names; no text if the input is not refused.
 #[unsafe(no_mangle)]
 pub extern "C" fn page_explanation(
     alloc: Global,
@@ -92,10 +93,12 @@ pub extern "C" fn page_explanation(
     ensures code { result.code < 5 × (result.code ≢ 1) }
     ensures no_task { result.code ≡ 4 ↔ asked_of subcommand.now shipped.now ≡ None }
     ensures small { result.code ≡ 3 ↔ length room.old < result.len }
-    ensures answer { (a : PageRequest) → asked_of subcommand.now shipped.now ≡ Some a → result.code ≡ 0 →
+    ensures answer { (a : PageRequest) → asked_of subcommand.now shipped.now ≡ Some a →
+        result.code ≡ 0 →
         (answer : Result (List ℕ) Refusal) × IsAnswerFor a input.now answer
         × (take result.len room.new ≡ explained a input.now answer) }
-    ensures needed { (a : PageRequest) → asked_of subcommand.now shipped.now ≡ Some a → result.code ≡ 3 →
+    ensures needed { (a : PageRequest) → asked_of subcommand.now shipped.now ≡ Some a →
+        result.code ≡ 3 →
         (answer : Result (List ℕ) Refusal) × IsAnswerFor a input.now answer
         × (result.len ≡ length (explained a input.now answer)) }
 {
@@ -105,8 +108,9 @@ pub extern "C" fn page_explanation(
     handed_pushed(0, explained(alloc, &asked, input), room)
 }
 
-/// Hands a page how many steps lead a process to a line from a position of a listing's run, where it
-/// stops earlier if it is no longer busy: the fewest, in digits; or the line that says why none do.
+/// Hands a page how many steps lead a process to a line from a position of a listing's run, where
+/// it stops earlier if it is no longer busy: the fewest, in digits; or the line that says why none
+/// do.
 #[unsafe(no_mangle)]
 pub extern "C" fn page_until(
     alloc: Global,
@@ -191,8 +195,8 @@ pub extern "C" fn page_marks(alloc: Global, commands: &[u8], room: &mut [u8]) ->
     handed_answer(alloc, answer, room)
 }
 
-/// Hands a page what the picture of a listing's run under a schedule draws from one item to another,
-/// a line a shape, in items and processes; or the line that says why it draws nothing.
+/// Hands a page what the picture of a listing's run under a schedule draws from one item to
+/// another, a line a shape, in items and processes; or the line that says why it draws nothing.
 #[unsafe(no_mangle)]
 pub extern "C" fn page_shapes(
     alloc: Global,

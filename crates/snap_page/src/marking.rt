@@ -5,7 +5,7 @@ ghost use Rattle.snap_semantics.specs.Answers.{Answers};
 ghost use Rattle.snap_text.specs.Drafted.{Adds};
 ghost use Rattle.snap_debug.specs.Marks.{same_address, same_bank, same_breakpoint};
 ghost use Rattle.snap_page.specs.Marks.{is_same, mark_line, marks_asked, marks_text, meant_by};
-ghost use Rattle.snap_page.specs.Marks.{means, same_mark, set_by, stays};
+ghost use Rattle.snap_page.specs.Marks.{is_same_mark, means, set_by, stays};
 
 use snap_debug_commands::{Breakpoint, Command, push_command, read_commands};
 use snap_semantics::{Fault, Refusal};
@@ -15,7 +15,7 @@ use std::alloc::{AllocError, Global};
 
 /// What stops a run.
 #[derive(Clone, Copy)]
-pub enum Mark {
+pub enum AnyMark {
     /// A process that comes to a line.
     Line(Breakpoint),
     /// A register that changes.
@@ -47,57 +47,57 @@ fn same_address(a: Address, b: Address) -> bool
 }
 
 /// Returns whether two marks are the same.
-fn same_mark(a: Mark, b: Mark) -> bool
-    ensures { result ≡ same_mark a b }
+fn is_same_mark(a: AnyMark, b: AnyMark) -> bool
+    ensures { result ≡ is_same_mark a b }
 {
     match (a, b) {
-        (Mark::Line(a), Mark::Line(b)) => same_breakpoint(a, b),
-        (Mark::Register(a), Mark::Register(b)) => same_address(a, b),
+        (AnyMark::Line(a), AnyMark::Line(b)) => same_breakpoint(a, b),
+        (AnyMark::Register(a), AnyMark::Register(b)) => same_address(a, b),
         _ => false,
     }
 }
 
 /// Returns the mark that a command sets.
-fn set_by(command: Command) -> Option<Mark>
+fn set_by(command: Command) -> Option<AnyMark>
     ensures { result ≡ set_by command }
 {
     match command {
-        Command::Break(breakpoint) => Some(Mark::Line(breakpoint)),
-        Command::Watch(address) => Some(Mark::Register(address)),
+        Command::Break(breakpoint) => Some(AnyMark::Line(breakpoint)),
+        Command::Watch(address) => Some(AnyMark::Register(address)),
         _ => None,
     }
 }
 
 /// Returns the mark that a command sets or takes away.
-fn meant_by(command: Command) -> Option<Mark>
+fn meant_by(command: Command) -> Option<AnyMark>
     ensures { result ≡ meant_by command }
 {
     match command {
-        Command::Clear(breakpoint) => Some(Mark::Line(breakpoint)),
-        Command::Unwatch(address) => Some(Mark::Register(address)),
+        Command::Clear(breakpoint) => Some(AnyMark::Line(breakpoint)),
+        Command::Unwatch(address) => Some(AnyMark::Register(address)),
         _ => set_by(command),
     }
 }
 
 /// Returns whether a command sets or takes away this mark.
-fn means(mark: Mark, command: Command) -> bool
+fn means(mark: AnyMark, command: Command) -> bool
     ensures { result ≡ means mark command }
 {
     match meant_by(command) {
-        Some(other) => same_mark(mark, other),
+        Some(other) => is_same_mark(mark, other),
         None => false,
     }
 }
 
 /// Returns whether one of these commands sets or takes away this mark.
-fn is_meant(mark: Mark, later: &[Command]) -> bool
+fn is_meant(mark: AnyMark, later: &[Command]) -> bool
     ensures { result ≡ list_any (means mark) later.now }
 {
     later.iter().any(|command| means(mark, *command))
 }
 
 /// Returns whether a mark is set, and none of the commands behind sets it or takes it away.
-fn stays(mark: Option<Mark>, later: &[Command]) -> bool
+fn stays(mark: Option<AnyMark>, later: &[Command]) -> bool
     ensures { result ≡ stays mark later.now }
 {
     match mark {

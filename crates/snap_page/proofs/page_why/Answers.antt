@@ -13,7 +13,8 @@ returns-clause-answer c little =
     let code = c.handed_answer.result.code in
     let room = take c.handed_answer.result.len c.handed_answer.new.room in
     let found =
-    right (IsWhyAsked c.args.listing.now c.args.schedule.now c.args.item) c.why_asked-answer.result c.why_asked-answer.ensures
+    right (IsWhyAsked c.args.listing.now c.args.schedule.now c.args.item)
+    c.why_asked-answer.result c.why_asked-answer.ensures
     (λ d. (code ≡ answer_code d) × (room ≡ answer_text d))
     (λ d is. c.handed_answer.ensures.answer d is little)
     (λ all. let zero : code ≡ 0 = (all (Ok [])).0 in let one : code ≡ 1 = (all (Err InputTooLong)).0 in
@@ -24,6 +25,7 @@ returns-clause-answer c little =
 pub returns-clause-needed : goal.returns-clause-needed
 returns-clause-needed c large =
     let len = c.handed_answer.result.len in
-    right (IsWhyAsked c.args.listing.now c.args.schedule.now c.args.item) c.why_asked-answer.result c.why_asked-answer.ensures
+    right (IsWhyAsked c.args.listing.now c.args.schedule.now c.args.item)
+    c.why_asked-answer.result c.why_asked-answer.ensures
     (λ d. len ≡ length (answer_text d)) (λ d is. c.handed_answer.ensures.needed d is large)
     (λ all. let zero : len ≡ 0 = all (Ok []) in let one : len ≡ 1 = all (Ok (0 ∷ [])) in omega (arith, zero, one))

@@ -91,7 +91,9 @@ export function markCommands() {
 export function marksOf(told, processes) {
     const all = told.split('\n').filter(Boolean).map(mark => mark.split(' '));
     const breaks = Object.groupBy(all.filter(([verb]) => verb === 'break'), ([, , line]) => line);
-    const lines = Object.entries(breaks).flatMap(([line, each]) => each.length === processes ? [`line ${line}`] :
+    const isOne = ([, who]) => within(Number(who), 1, processes) === Number(who);
+    const areAll = each => each.length === processes && each.every(isOne);
+    const lines = Object.entries(breaks).flatMap(([line, each]) => areAll(each) ? [`line ${line}`] :
         each.map(([, who]) => `line ${line} of ${who}`));
     return [...lines, ...all.filter(([verb]) => verb === 'watch').map(([, ...register]) => register.join(' '))];
 }

@@ -264,7 +264,10 @@ def try_files(page, count, running):
 
 def try_picture(page, count):
     page.choose(FIRST_IDEA + 2)
+    page.run("(window.blocked = [], document.addEventListener('securitypolicyviolation', event => blocked.push(event.violatedDirective)), 0)")
     page.click("#picture")
+    colour = page.run("getComputedStyle(document.getElementById('drawn').shadowRoot.querySelector('.values rect')).fill")
+    count.check("a picture has its colours, and breaks no policy", colour == "rgb(240, 228, 66)" and not page.run("blocked"), [colour, page.run("blocked")])
     shown = page.run("document.getElementById('drawn').shadowRoot?.querySelector('title')?.textContent ?? ''")
     count.check("a picture of the run", page.shown("#picture-shown") and "items 1 to 64 of 64" in shown, shown + page.text("#note"))
     count.check("and of which items it is", page.text("#drawn-items") == "items 1 to 64 of 64", page.text("#drawn-items"))

@@ -300,6 +300,8 @@ def try_opening(page, count):
     open_bytes(page, f"{listing}%\n{schedule}%\nbreak 1 14\n".encode())
     count.check("a breakpoint of one process is one of this one", "line 14 of process 1" in page.text("#marks"), page.text("#marks"))
     count.check("and saved so", "break 1 14" in page.run("asInput()") and "break 2 14" not in page.run("asInput()"))
+    told = page.run("['break 1 14\\nbreak 2 14\\n', 'break 1 14\\nbreak 9 14\\n', 'break 2 14\\nwatch q 1 2\\n'].map(text => marksOf(text, 2).join())")
+    count.check("one of each process is one of the line", told == ["line 14", "line 14 of 1,line 14 of 9", "line 14 of 2,q 1 2"], told)
     page.click("#home")
     for _ in range(4):
         page.key("r")

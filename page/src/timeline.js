@@ -11,7 +11,7 @@ const DIAMOND = [[0, -5.5], [5.5, 0], [0, 5.5], [-5.5, 0]], TRAP = [[0, -8], [8,
 const BOX = [[-4, -4], [4, -4], [4, 4], [-4, 4]];
 export const line = {from: 0, to: 1, width: Infinity, wide: 0, drawn: [], high: 0, n: 0, grain: 0, past: 0, wrong: 0};
 const pen = $('timeline').querySelector('canvas').getContext('2d');
-let colours = {};
+let colours = {}, areDark = dark.matches;
 
 export function showTimeline() {
     const {items, report, at} = state, {wide} = line, shapes = drawnShapes(), box = $('timeline');
@@ -80,7 +80,8 @@ function draw() {
     if (canvas.width !== size[0] || canvas.height !== size[1]) [canvas.width, canvas.height] = size;
     canvas.style.height = `${tall}px`;
     line.grain = (line.to - line.from) / wide * GRAIN;
-    colours = {};
+    // To ask for a colour takes time, since it lays out styles: each is asked for once.
+    if (areDark !== dark.matches) [colours, areDark] = [{}, dark.matches];
     pen.setTransform(devicePixelRatio, 0, 0, devicePixelRatio, 0, 0);
     Object.assign(pen, {textBaseline: 'middle', textAlign: 'left', lineCap: 'butt'});
     paint('paper', 0, 0, wide, tall);

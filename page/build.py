@@ -1,7 +1,8 @@
 #!/usr/bin/env python3
 """Makes page/snaplab.html, one file, of page/src, the documents and examples that it shows, and the module.
 
-The scripts are modules; here they become one script, and the page allows that script alone, by its hash.
+The scripts are modules; here they become one script, and the page allows that script and its style
+alone, by their hashes.
 
     page/build.py --module PATH/snap_page.wasm     with this module
     page/build.py                                  with the module that is inside the page already
@@ -149,6 +150,15 @@ def page_script():
     return re.search(r"(?s)<script>(.*?)</script>", source("page.html"))[1]
 
 
+def page_style():
+    """What the page's own style is."""
+    return re.search(r"(?s)<style>(.*?)</style>", source("page.html"))[1]
+
+
+def hash_of(said):
+    return f"'sha256-{base64.b64encode(hashlib.sha256(said.encode()).digest()).decode()}'"
+
+
 def data():
     told, groups, count = {"choices": sum(choices().values(), [])}, [], 0
     for name, group in choices().items():
@@ -166,9 +176,8 @@ def built(module):
             return "\n".join(module[k:k + 120] for k in range(0, len(module), 120))
         if names == "data":
             return data()
-        if names == "script hash":
-            said = PLACE.sub(put, page_script())
-            return f"'sha256-{base64.b64encode(hashlib.sha256(said.encode()).digest()).decode()}'"
+        if names in ("script hash", "style hash"):
+            return hash_of(PLACE.sub(put, page_script() if names == "script hash" else page_style()))
         if names.endswith(".txt"):
             return html.escape(source(names), quote=False)
         return script(names) if names.endswith(".js") else source(names)

@@ -1,7 +1,7 @@
 // Two runs side by side: the one before a change and the one after it, which lines differ, the first item at which the
 // runs part, and what is judged of each. What the items did is the module's trace.
 import {OUTPUT} from './text.js';
-import {$, compared, data, make, say} from './elements.js';
+import {$, compared, data, make, say, showDrawn} from './elements.js';
 import {aside, readRefusal} from './asker.js';
 import {timelineFocus} from './editor.js';
 import {newLines} from './listing.js';
@@ -59,9 +59,10 @@ function column(texts, others, run, parted) {
     const judged = verdict ? make('p', {className: verdict.startsWith('not') ? 'wrong' : ''},
         `${verdict[0].toUpperCase()}${verdict.slice(1)}${named && `:${named}`}.`) : '';
     const drawn = make('div', {className: 'picture'});
-    if (run.picture) drawn.attachShadow({mode: 'open'}).innerHTML = run.picture;
+    if (run.picture) showDrawn(drawn, run.picture);
     const items = run.items.map(one => itemRow(one, texts, parted));
-    return make('section', {ariaLabel: texts.name}, title, ...lines, make('ol', {}, ...items), ...told, judged,
+    const list = make('ol', {ariaLabel: `Items of ${texts.name.toLowerCase()}`}, ...items);
+    return make('section', {ariaLabel: texts.name}, title, ...lines, list, ...told, judged,
         ...run.picture ? [drawn] : []);
 }
 

@@ -26,7 +26,8 @@ export function make(tag, properties = {}, ...children) {
 
 // A process's number in its colour; odd ones are round and even ones square.
 export const badge = (who, more = '') =>
-    make('span', {className: `badge ${who % 2 ? '' : 'even'} ${more}`, style: `--p: var(--p${who % 8})`}, String(who));
+    make('span', {className: `badge ${who % 2 ? '' : 'even'} ${more}`, style: `--p: var(--p${who % 8})`, role: 'img',
+        ariaLabel: `process ${who}`}, String(who));
 
 // A printed text, the words of one item before beside those that the item made of them; all of it is marked where
 // their count differs, and where many differ. What was another one at the position shown before, and is not of this
@@ -46,6 +47,16 @@ export function compared(older, newer, since = undefined, item = 0) {
 
 const changed = (older, newer) =>
     make('span', {className: 'changed'}, make('s', {}, older), '\u2192', make('b', {}, newer));
+
+// Puts a picture into an element, in a root of its own. Its style becomes a sheet of that root: the policy of the page
+// allows no style in the text.
+export function showDrawn(element, text) {
+    const root = element.shadowRoot ?? element.attachShadow({mode: 'open'}), sheet = new CSSStyleSheet();
+    const [before, style, after] = text.split(/<\/?style>/);
+    sheet.replaceSync(style);
+    root.adoptedStyleSheets = [sheet];
+    root.innerHTML = before + after;
+}
 
 // Puts children into an element, where they are not there already: the key, a list, says what they show.
 const shown = new WeakMap();

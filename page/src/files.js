@@ -1,9 +1,9 @@
 // What stands here as an input of 'snaplab debug', as a link, as a frame for another page, and as a picture.
-import {OUTPUT, inputOf, processesOf} from './text.js';
-import {$, make, say, within} from './elements.js';
+import {OUTPUT, inputOf} from './text.js';
+import {$, make, say, showDrawn, within} from './elements.js';
 import {aside, asker, readRefusal} from './asker.js';
 import {readGoal} from './drafts.js';
-import {change, ideaOf, markCommands, readMarks, state, titleOf} from './state.js';
+import {change, ideaOf, markCommands, marksOf, state, titleOf} from './state.js';
 import {choose} from './lessons.js';
 import {line} from './timeline.js';
 
@@ -38,8 +38,9 @@ export async function takeInput(text, more = null) {
         const refused = await asker.ask('tryInput', {text}, 'tried');
         return refused && say(`This is not opened: ${refused.text.trim()} (it has ${parts.length} parts).`);
     }
-    const marks = readMarks(commands, processesOf(schedule)), lesson = more ?? readAside(commands);
+    const lesson = more ?? readAside(commands);
     const reached = commands.trim() ? await asker.ask('look', {listing, schedule, commands}, 'opened') : null;
+    const marks = marksOf(reached?.left ?? '', reached?.report?.processes.length ?? 0);
     await change({listing, schedule, at: reached?.report?.at ?? 0, marks, ...lesson});
     if (reached?.text?.startsWith('refused: G')) say(`The commands of this input are ${reached.text.trim()}`);
 }
@@ -143,8 +144,7 @@ export async function showPicture() {
     const [before, to] = many ? [start, start + MOST_PICTURED] : [line.from, line.to];
     const answer = await aside.ask('draw', {listing, schedule, from: before + 1, to, seen: true});
     if (answer?.code !== OUTPUT) return answer && say(readRefusal(answer).text);
-    const root = $('drawn').shadowRoot ?? $('drawn').attachShadow({mode: 'open'});
-    root.innerHTML = answer.text;
+    showDrawn($('drawn'), answer.text);
     $('drawn-items').textContent = `items ${before + 1} to ${to} of ${total}${many ? ', around the position' : ''}`;
     $('keep').onclick = () => save(answer.text, 'snaplab-run.svg', 'the picture, as SVG');
     $('keep-png').onclick = () => savePng(answer.text);

@@ -4,6 +4,7 @@ import {$, badge, data, fill, make, say} from './elements.js';
 import {timelineFocus} from './editor.js';
 import {change, goTo, state, titleOf} from './state.js';
 import {shapeWords} from './timeline.js';
+import {whyButton} from './why.js';
 
 // A lesson, before its first item or in its middle.
 export function choose(k, {middle = false} = {}) {
@@ -201,7 +202,8 @@ export function showVerdicts() {
             `: ${verdictWords(verdict)}${more}`];
         const title = point ? `To its point: the first state since its call that has these values. ${why}` : why;
         const button = {className: point ? '' : 'none', title, onclick: () => goTo(point || answer)};
-        return [make('button', button, badge(who), ...words)];
+        const asked = whyButton(`scan of process ${who}, item ${answer}`, answer);
+        return [make('button', button, badge(who), ...words), asked];
     };
     const more = later ? [[`${later} more end${later === 1 ? 's' : ''} later.`]] : [];
     fill($('verdicts'), [near, over.length, shapes?.loan, audited, left, wrong], () =>

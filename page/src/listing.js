@@ -42,11 +42,12 @@ function showMargins() {
     const [executed, now] = linesOfLast();
     const named = part => [...edited[part].map(line => [line, 'edited']), [badLine(part), 'bad']];
     const ran = stale ? [] : [[executed, 'now']];
-    listingEditor.mark(place => listingRow(place, rows.get(place), places), [...ran, ...named('listing')]);
+    const last = stale ? -1 : executed, row = place => listingRow(place, rows.get(place), places, place === last);
+    listingEditor.mark(row, [...ran, ...named('listing')]);
     scheduleEditor.mark(line => {
         const text = line !== here || stale ? '' : countOf(state), at = text && `item ${state.at} is here; `;
         return {key: [text, line], children: () => text ? [text] : [make('small', {}, String(line + 1))],
-            label: `${at}line ${line + 1}: ${scheduleEditor.part[line - scheduleEditor.first]}`};
+            label: `${at}line ${line + 1}: ${scheduleEditor.part[line - scheduleEditor.first] || 'empty'}`};
     }, [...stale ? [] : [[here, 'now']], ...named('schedule')]);
     scheduleEditor.reveal(badLine('schedule') < 0 ? here : badLine('schedule'));
     if (badLine('listing') >= 0) listingEditor.reveal(badLine('listing'));
@@ -63,11 +64,12 @@ function countOf({items, at}) {
 const marksAt = number => [...state.marks].filter(mark => `${mark} `.startsWith(`line ${number} `));
 
 // A line of the listing, with the processes that are here, and those that return here.
-function listingRow(place, line, places) {
+function listingRow(place, line, places, isLast) {
     const text = listingEditor.part[place - listingEditor.first] ?? '';
     if (!line) return {key: [], children: () => [], label: `no numbered line: ${text || 'empty'}`};
     const {number} = line, stops = marksAt(number), here = places.filter(([at]) => at === number);
     const who = here.map(([, process, link]) => `process ${process} ${link ? 'returns here' : 'is here'}`);
+    if (isLast) who.push(`item ${state.at} executed it`);
     const stop = stops.map(mark => mark.replace(`line ${number}`, 'breakpoint').replace('of', 'of process'));
     const more = here.length - MOST_BADGES, some = stops[0]?.includes('of') ? 'stop some' : 'stop';
     return {

@@ -13,7 +13,8 @@ import {choose, fillLessons, makeExercise, nextCaption, openLessons, showIdea, s
 import {showMarks, showMemory} from './memory.js';
 import {endPlay, play, present, watchPanes, watchSize} from './panes.js';
 import {cards, showProcesses} from './processes.js';
-import {showTimeline, watchTimeline, zoom} from './timeline.js';
+import {showLane, showTimeline, watchTimeline, zoom} from './timeline.js';
+import {closeWhy, explain, showWhy} from './why.js';
 
 const HELLO = 'snaplab.hello';
 const BUTTONS = {
@@ -25,13 +26,13 @@ const BUTTONS = {
     back: () => goTo(state.at - 1), on: () => goTo(state.at + 1), run: () => refresh('run'),
     rrun: () => refresh('rrun'), closer: () => zoom(.5), wider: () => zoom(2), fit: () => zoom(0), stop: stopAsking,
     cut: cutHere, hunt, play, next: () => nextCaption(1), previous: () => nextCaption(-1), more,
-    'hello-close': closeHello,
+    'hello-close': closeHello, 'why-close': closeWhy,
 };
 
 // Keys of their own, beside those that page.html writes at buttons; it lists them all.
 const KEYS = {
     PageUp: () => goTo(state.at - 10), PageDown: () => goTo(state.at + 10), b: () => toggleBreak(breakLine()),
-    w: watchFocused, u: goToLine, e: goToEnd, l: () => listingEditor.gutter.focus(),
+    w: watchFocused, u: goToLine, e: goToEnd, x: () => explain(state.at), l: () => listingEditor.gutter.focus(),
     m: () => $('memory').querySelector('[data-register]').focus(),
     p: () => $('processes').querySelector('button:not(:disabled)').focus(), t: () => $('timeline').focus(),
 };
@@ -79,6 +80,7 @@ function watchFocused() {
 
 function pressKey(event) {
     const {key, target} = event, typing = target.matches('textarea, input, select, dialog *');
+    if (key === 'Escape' && target.closest('#why')) return closeWhy();
     if (key === 'Escape' && typing && !target.closest('dialog')) return timelineFocus();
     const pressed = /^[1-9]$/.test(key) ? cards[key - 1] && (() => press(Number(key))) : KEYS[key];
     if (event.ctrlKey || event.metaKey || event.altKey || typing || !pressed) return;
@@ -87,13 +89,14 @@ function pressKey(event) {
     pressed();
 }
 
-// What follows the state; the texts come last, since their scrolling lays out what the others have written.
+// What follows the state; the texts and the lane come last: their scrolling lays out what the others have written.
 export function showState() {
-    const shown = [showProcesses, showMemory, showMarks, showVerdicts, showIdea, showWhere, showTimeline];
+    const shown = [showProcesses, showMemory, showMarks, showVerdicts, showWhy, showIdea, showWhere, showTimeline];
     if (state.report) shown.forEach(show => show());
     $('undo').disabled = !state.past.length;
     $('redo').disabled = !state.future.length;
     showTexts();
+    if (state.report) showLane();
     window.snaplab.shownAt ??= performance.now();
 }
 

@@ -38,7 +38,8 @@ function columns(text, bank) {
 }
 
 function table(bank, corner, head, rows) {
-    const cells = [corner, ...head].map(name => make('th', {scope: 'col'}, name));
+    const cells = [make(corner ? 'th' : 'td', corner ? {scope: 'col'} : {}, corner),
+        ...head.map(name => make('th', {scope: 'col'}, name))];
     const body = rows.map(([name, cells, className = '']) =>
         make('tr', {className}, make('th', {scope: 'row'}, name), ...cells.map(cell => make('td', {}, ...cell))));
     const top = make('thead', {}, make('tr', {}, ...cells));
@@ -67,7 +68,7 @@ function valuesOf(was, once) {
 function writerButton(name, part, content, tabIndex) {
     const title = `To the item that wrote ${name}`;
     const button = make('button', {className: 'writer', title, tabIndex}, ...content);
-    button.ariaLabel = `${part} of ${name}: ${button.textContent}; to the item that wrote it`;
+    button.ariaLabel = `${part} of ${name}: ${spoken(button)}`;
     button.onclick = () => goToWriter(name);
     return button;
 }
@@ -99,11 +100,14 @@ function bits(bank, all) {
     return table(bank, bank, count > MATRIX ? [`1 to ${count}`] : places.map(j => String(j + 1)), rows);
 }
 
+// What an element shows, for those who listen: '5\u21926' in words.
+const spoken = element => element.textContent.replaceAll('\u2192', ' became ');
+
 function watchButton(name, content = null) {
     const button = make('button', {ariaPressed: state.marks.has(name), title: `Watch ${name}, or no longer (w)`,
         onclick: () => toggle(name)}, ...content ?? [name]);
     button.dataset.register = name;
-    if (content) button.ariaLabel = `${name}: ${button.textContent}`;
+    if (content) button.ariaLabel = `${name}: ${spoken(button)}`;
     return button;
 }
 

@@ -3,6 +3,7 @@ import {OUTPUT} from './text.js';
 import {$, badge, compared, fill, make} from './elements.js';
 import {aside} from './asker.js';
 import {goOn, hindrance, parted, press, state, withItem} from './state.js';
+import {whyButton} from './why.js';
 
 export const cards = [];
 const MOST_CHANGES = 4, MANY = 16, PARTS = ['what', 'next', 'peek', 'changes', 'locals'];
@@ -28,7 +29,8 @@ function makeCard(who) {
     const on = make('button', {className: 'finish', ariaLabel: `to the end, process ${who}`, onclick: () => goOn(who),
         title: `Process ${who} takes as many steps as lead to the end of its operation`}, '\u25B6\u25AE');
     buttons.push(on);
-    const head = make('div', {className: 'head'}, badge(who), what, buttons[0], on, ...buttons.slice(1, 4));
+    const number = Object.assign(badge(who), {role: 'presentation', ariaHidden: 'true'});   // the group's name tells it
+    const head = make('div', {className: 'head'}, number, what, buttons[0], on, ...buttons.slice(1, 4));
     const group = {className: 'process', role: 'group', ariaLabel: `Process ${who}`, style: `--p: var(--p${who % 8})`};
     const box = make('div', group, head, next, peek, details);
     $('processes').append(box);
@@ -43,11 +45,12 @@ function updateOf(who, called) {
 }
 
 export function showProcesses() {
-    const {report, listing, lines, last, refusal} = state, moved = Number(last.split(' ')[0]);
+    const {report, lines, last, refusal} = state, moved = Number(last.split(' ')[0]);
     while (cards.length > report.processes.length) cards.pop().box.remove();
     while (cards.length < report.processes.length) cards.push(makeCard(cards.length + 1));
     report.processes.forEach((process, k) => showCard(cards[k], process, lines, moved));
-    const own = !/^\s*kind\s+multi\b/m.test(listing), words = report.values.split(' ').map((_, k) => String(k + 1));
+    const own = !report.registers.some(line => line.startsWith('v '));
+    const words = report.values.split(' ').map((_, k) => String(k + 1));
     fill($('word'), [own, ...words], () => [...own ? ['own'] : [], ...words].map(word => make('option', {}, word)));
     document.body.classList.toggle('stale', Boolean(refusal));
     document.body.classList.toggle('many', cards.length > MANY);
@@ -61,7 +64,8 @@ function showCard(card, {who, what, at, link}, lines, moved) {
     fill(card.what, [told], () => [make('span', {className: trouble ? 'gone' : ''}, told)]);
     const next = at && !trouble ? `next ${at}: ${lines.get(at)?.text ?? ''}` : trouble ? 'it does nothing more' :
         'idle: a scan or an update can be called';
-    fill(card.next, [next], () => [next]);
+    const why = () => whyButton(`process ${who} trapped`, 0, who), trapped = what.startsWith('trapped');
+    fill(card.next, [next, trapped], () => [next, ...trapped ? [' ', why()] : []]);
     card.box.classList.toggle('last', moved === who);
     ['', 'scan', 'update', 'crash', ''].forEach((call, k) => {
         const button = card.buttons[k], why = hindrance(who, call);

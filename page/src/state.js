@@ -17,7 +17,7 @@ export const state = {
     lines: new Map(), items: readItems(''), report: null, before: null, since: null, last: 'none',
     operations: readOperations(''), verdicts: NO_VERDICTS, refusal: null,
     shapes: null, oldShapes: null, serial: 0, timer: 0, past: [], future: [], typed: null, typedAt: 0, audited: null,
-    appended: false, judged: null, run: {}, shownRun: null, thread: {},
+    appended: false, judged: null, run: {}, shownRun: null, thread: {}, why: null,
 };
 asker.items = () => state.items?.total ?? 0;
 
@@ -86,22 +86,16 @@ export function markCommands() {
     });
 }
 
-// The marks that commands leave; a line is marked for every process where each one of them has a breakpoint there.
-export function readMarks(commands, processes) {
-    const breaks = new Map(), watched = new Set();
-    for (const command of commands.split('\n')) {
-        const words = command.replace(/#.*/, '').trim().replace(/[ \t\r]+/g, ' ');
-        const [, verb, who, line] = /^(break|clear) (\d+) (\d+)$/.exec(words) ?? [];
-        const [, watch, register] = /^(watch|unwatch) (r \d+|v \d+|[qp] \d+ \d+)$/.exec(words) ?? [];
-        if (line && !breaks.has(Number(line))) breaks.set(Number(line), new Set());
-        if (verb === 'break') breaks.get(Number(line)).add(Number(who));
-        if (verb === 'clear') breaks.get(Number(line)).delete(Number(who));
-        if (watch === 'watch') watched.add(register);
-        if (watch === 'unwatch') watched.delete(register);
-    }
-    const lines = [...breaks].flatMap(([line, who]) => processes && who.size === processes ? [`line ${line}`] :
-        [...who].map(one => `line ${line} of ${one}`));
-    return [...lines, ...watched];
+// The marks that the module has read, as 'break 1 23' and 'watch r 1'; a line is marked for every process where each
+// one of them has a breakpoint there.
+export function marksOf(told, processes) {
+    const all = told.split('\n').filter(Boolean).map(mark => mark.split(' '));
+    const breaks = Object.groupBy(all.filter(([verb]) => verb === 'break'), ([, , line]) => line);
+    const isOne = ([, who]) => within(Number(who), 1, processes) === Number(who);
+    const areAll = each => each.length === processes && each.every(isOne);
+    const lines = Object.entries(breaks).flatMap(([line, each]) => areAll(each) ? [`line ${line}`] :
+        each.map(([, who]) => `line ${line} of ${who}`));
+    return [...lines, ...all.filter(([verb]) => verb === 'watch').map(([, ...register]) => register.join(' '))];
 }
 
 export function toggle(mark) {

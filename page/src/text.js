@@ -3,11 +3,11 @@
 // The module's codes, and two of the page's own: after a trap, and where the user has stopped a run.
 export const OUTPUT = 0, REFUSED = 1, MEMORY = 2, SMALL = 3, UNSAID = 5, TRAPPED = 6, STOPPED = 7;
 export const KINDS = [undefined, 'scan', 'update', 'crash'], STEP = 0, CRASH = 3, MOST_ITEMS = 1000000, MOST_TOLD = 999;
-export const ITEM = /^[ \t\r]*(\d+)[ \t\r]*(?:\*[ \t\r]*(\d+)|(scan|crash|update)\b[^#]*)?[ \t\r]*(?:#.*)?$/;
-export const SHAPE = /^[ \t\r]*shape[ \t\r]+(\d+)[ \t\r]+(\d+)/;
-export const EMPTY = /^[ \t\r]*(?:#.*)?$/;
-export const EVENT = /^event (\d+) (\d+) (scan|update|answer|done|crash)/gm;
-export const COMMENT = /#\s*(.*?)\s*$/;
+const ITEM = /^[ \t\r]*(\d+)[ \t\r]*(?:\*[ \t\r]*(\d+)|(scan|crash|update)\b[^#]*)?[ \t\r]*(?:#.*)?$/;
+const SHAPE = /^[ \t\r]*shape[ \t\r]+(\d+)[ \t\r]+(\d+)/;
+const EMPTY = /^[ \t\r]*(?:#.*)?$/;
+const EVENT = /^event (\d+) (\d+) (scan|update|answer|done|crash)/gm;
+const COMMENT = /#\s*(.*?)\s*$/;
 
 // Whether two keys, numbers, texts or lists of these, are alike, part by part.
 export function same(one, other) {
@@ -42,17 +42,6 @@ export function readItems(text) {
     return packed(items, 'from', 'who', 'kind', 'line');
 }
 
-// How many processes a schedule has: its first line that is not empty says so.
-export function processesOf(schedule) {
-    for (let from = 0; from < schedule.length;) {
-        const feed = schedule.indexOf('\n', from), end = feed < 0 ? schedule.length : feed;
-        const line = schedule.slice(from, end);
-        if (!EMPTY.test(line)) return Number(SHAPE.exec(line)?.[1] ?? 0);
-        from = end + 1;
-    }
-    return 0;
-}
-
 // Lists of numbers go fast from the worker to the page.
 export function packed(found, ...lists) {
     for (const list of lists) found[list] = Uint32Array.from(found[list]);
@@ -72,13 +61,6 @@ export function leastPlace(count, holds) {
 
 // The place, in the lists of a schedule, of the line that has this item.
 export const lineOf = ({from}, item) => leastPlace(from.length, k => from[k] >= item) - 1;
-
-// The last item of a process before this one; 0 where there is none.
-export function itemBefore(items, who, item) {
-    let k = lineOf(items, item - 1);
-    while (k >= 0 && items.who[k] !== who) k--;
-    return k < 0 ? 0 : Math.min(items.from[k + 1] ?? items.total, item - 1);
-}
 
 // The replies of a session, each with its command, and the report behind them.
 export function readSession(text) {

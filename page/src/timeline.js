@@ -2,7 +2,7 @@
 // A shape's items, process and words are the module's; what comes after the position is pale, and its ends are untold.
 import {$, within} from './elements.js';
 import {goTo, isDrawable, state} from './state.js';
-import {outcome, unexplained} from './lessons.js';
+import {unexplained} from './lessons.js';
 
 const LABEL = 46, RIGHT = 12, GRAIN = 1.5, VALUES = 18, POINTS = 8, LANES = VALUES + POINTS, AXIS = 16;
 const LEAST_WORDS = 22;
@@ -11,7 +11,7 @@ const DIAMOND = [[0, -5.5], [5.5, 0], [0, 5.5], [-5.5, 0]], TRAP = [[0, -8], [8,
 const BOX = [[-4, -4], [4, -4], [4, 4], [-4, 4]];
 export const line = {from: 0, to: 1, width: Infinity, wide: 0, drawn: [], high: 0, n: 0, grain: 0, past: 0, wrong: 0};
 const pen = $('timeline').querySelector('canvas').getContext('2d');
-let colours = {};
+let colours = {}, areDark = dark.matches;
 
 export function showTimeline() {
     const {items, report, at} = state, {wide} = line, shapes = drawnShapes(), box = $('timeline');
@@ -24,15 +24,17 @@ export function showTimeline() {
         Object.assign(line, {drawn, shapes, high, n, past: at, wrong});
         draw();
     }
-    showLane(box, Number(state.last.split(' ')[0]));
     // A share of the box, which is in its place before the canvas has been drawn for another width, too.
     box.style.setProperty('--place', `calc(${LABEL}px + ${shareOf(at)} * (100% - ${LABEL + RIGHT}px))`);
-    Object.assign(box, {ariaValueMax: total, ariaValueNow: at, ariaValueText: `item ${at} of ${total}: ${outcome()}`});
+    // What the position is in words is told once: by the time line where that has the focus, and else as a message.
+    $('where').ariaLive = document.activeElement === box ? 'off' : 'polite';
+    Object.assign(box, {ariaValueMax: total, ariaValueNow: at, ariaValueText: $('where').textContent});
 }
 
-// Where there are more lanes than room, that of the process of the last item is in sight.
-function showLane(box, who) {
-    const top = who ? topOf(who) : 0, bottom = top + line.high, room = box.clientHeight;
+// Where there are more lanes than room, that of the process of the last item is in sight. This lays out the page.
+export function showLane() {
+    const box = $('timeline'), who = Number(state.last.split(' ')[0]), room = box.clientHeight;
+    const top = who ? topOf(who) : 0, bottom = top + line.high;
     if (top < box.scrollTop) box.scrollTop = who > 1 ? top : 0;
     else if (bottom > box.scrollTop + room) box.scrollTop = bottom - room;
 }
@@ -78,7 +80,8 @@ function draw() {
     if (canvas.width !== size[0] || canvas.height !== size[1]) [canvas.width, canvas.height] = size;
     canvas.style.height = `${tall}px`;
     line.grain = (line.to - line.from) / wide * GRAIN;
-    colours = {};
+    // To ask for a colour takes time, since it lays out styles: each is asked for once.
+    if (areDark !== dark.matches) [colours, areDark] = [{}, dark.matches];
     pen.setTransform(devicePixelRatio, 0, 0, devicePixelRatio, 0, 0);
     Object.assign(pen, {textBaseline: 'middle', textAlign: 'left', lineCap: 'butt'});
     paint('paper', 0, 0, wide, tall);
@@ -136,6 +139,17 @@ function shape(x, y, corners, fill) {
     pen.stroke();
 }
 
+// As many whole words as there is room for: a value that is cut would look like another one.
+function fitting(words, room) {
+    const all = words.split(' '), fits = text => pen.measureText(text).width <= room;
+    if (fits(words)) return words;
+    for (let count = all.length - 1; count > 0; count--) {
+        const some = `${all.slice(0, count).join(' ')}\u2026`;
+        if (fits(some)) return some;
+    }
+    return /^[a-z]/.test(words) && fits(all[0]) ? all[0] : '';
+}
+
 // Writes into a box, and not beyond it.
 function write(words, ink, left, top, wide, tall, size) {
     pen.save();
@@ -143,7 +157,7 @@ function write(words, ink, left, top, wide, tall, size) {
     pen.rect(left, top - 2, wide, tall + 4);
     pen.clip();
     Object.assign(pen, {fillStyle: colour(ink), font: `${size * large()}px system-ui, "DejaVu Sans", sans-serif`});
-    pen.fillText(words, left + 6, top + tall / 2 + 1);
+    pen.fillText(fitting(words, wide - 6), left + 6, top + tall / 2 + 1);
     pen.restore();
 }
 
@@ -312,7 +326,9 @@ function tellItem(item) {
 // Draws for the box as it is now, where its width, its height of a lane, its letters or its pixels are other ones.
 export function fitTimeline() {
     line.wide = $('timeline').clientWidth;
-    if (state.report) showTimeline();
+    if (!state.report) return;
+    showTimeline();
+    showLane();
 }
 
 export function watchTimeline() {

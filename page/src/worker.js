@@ -1,6 +1,6 @@
 // The worker: asks the module, and reads its answers, so that the page is never held up.
-import {OUTPUT, REFUSED, TRAPPED, ended, inputOf, readHead, readItems, readJudgement, readOperations, readSession,
-    readShapes, readTrace, readVerdicts, verdictAt, viewAt} from './text.js';
+import {OUTPUT, REFUSED, TRAPPED, ended, inputOf, leastPlace, readHead, readItems, readJudgement, readOperations,
+    readSession, readShapes, readTrace, readVerdicts, verdictAt, viewAt} from './text.js';
 import {Glue} from './glue.js';
 
 const NEAR = 60;        // so many scans, the last ones, are told of in words, and as many without a point
@@ -70,8 +70,8 @@ function look({listing, schedule, total, marks, at, go, commands, wantsBefore, n
     const both = names && (wantsBefore || go) && place > 0 && commands === undefined;
     const asked = commands ?? [...known || end ? [] : [`goto ${items.total}`, 'events'],
         ...both ? showing(names, place - 1) : [], `goto ${place}`, 'where'].join('\n');
-    const answer = askOf('debug', listing, schedule, asked);
-    if (answer.code === REFUSED) return {...answer, items, why: explain('debug', listing, schedule, asked)};
+    const answer = askOf('debug', listing, schedule, asked), left = commands === undefined ? '' : marksLeft(commands);
+    if (answer.code === REFUSED) return {...answer, items, left, why: explain('debug', listing, schedule, asked)};
     if (answer.code !== OUTPUT) return {...answer, items};
     const {replies, report: {events, ...report}} = readSession(answer.text);
     const called = end ? events : replies.find(reply => reply.command === 'events')?.lines.slice(1) ?? [];
@@ -83,8 +83,14 @@ function look({listing, schedule, total, marks, at, go, commands, wantsBefore, n
         (wantsBefore || go) && report.at ? reportAt(listing, schedule, report.at - 1) : null;
     const drawn = wantsShapes && report.total && report.total <= DRAWN_AT_ONCE ?
         shapes({listing, schedule, from: 1, to: report.total}).shapes : null;
-    return {code: OUTPUT, report, last, before, refused: found.refused, items, drawn,
+    return {code: OUTPUT, report, last, before, refused: found.refused, items, drawn, left,
         operations: alike ? null : operations};
+}
+
+// The marks that commands leave, a line each, as the command that sets it; none where these are no commands.
+function marksLeft(commands) {
+    const {code, text} = asText(glue.answer('page_marks', [ended(commands)]));
+    return code === OUTPUT ? text : '';
 }
 
 // The report of a position; null where there is none.
@@ -103,6 +109,13 @@ function reach({listing, schedule, at, who, line}) {
 function writer({listing, schedule, at, name}) {
     const answer = askOf('debug', listing, schedule, `watch ${name}\ngoto ${at}\nrrun`);
     return answer.code === OUTPUT ? {code: OUTPUT, item: readSession(answer.text).report.at} : answer;
+}
+
+// Why an item came out so; of a process the item at which it trapped, the first one up to this one that leaves it so.
+function why({listing, schedule, item, who}) {
+    const traps = at => reportAt(listing, schedule, at)?.processes[who - 1]?.what.startsWith('trapped');
+    const found = who ? leastPlace(item, traps) : item;
+    return {...asText(glue.answer('page_why', [listing, schedule], [found])), item: found};
 }
 
 // What one item more would do: the report after it, and its outcome.
@@ -180,12 +193,13 @@ const tryInput = ({text}) => asText(glue.answer('page_output', ['debug', '', end
 
 async function start(letters) {
     if (typeof WebAssembly === 'undefined') throw new Error('it has no WebAssembly');
-    const bytes = Uint8Array.from(atob(letters), letter => letter.charCodeAt(0));
+    const text = atob(letters), bytes = new Uint8Array(text.length);
+    for (let k = 0; k < text.length; k++) bytes[k] = text.charCodeAt(k);
     glue = new Glue(await WebAssembly.compile(bytes));
     return {code: OUTPUT};
 }
 
-const TASKS = {start, look, audit, judge, draw, shapes, peek, reach, writer, compare, hunt, tryInput,
+const TASKS = {start, look, audit, judge, draw, shapes, peek, reach, writer, why, compare, hunt, tryInput,
     answer: ({name, texts, numbers}) => glue.answer(name, texts, numbers)};
 
 onmessage = async ({data: {kind, request}}) => {

@@ -7,6 +7,7 @@ inputs what the native program says.
 The native program is crates/snaplab/out/snaplab, or what SNAPLAB names; without it the made-up pairs are skipped.
 """
 import base64
+import itertools
 import json
 import os
 import re
@@ -212,6 +213,52 @@ def try_steps(tab, count):
     count.check("a listing that is none", told == (1, b"refused: L2 BadHeader 1\n"), told)
 
 
+SHIPPED = {"seq": "u.txt", "bit": "b.txt", "multi": "m.txt"}
+
+
+def try_reasons(tab, count):
+    """Why an item came out so is what bin/snapdb says of it, in those of its examples that begin by that."""
+    tried, place = 0, os.path.join(TOP, "examples", "prompt")
+    for name in sorted(os.listdir(place)):
+        folder = os.path.join(place, name)
+        asked = [line.partition("#")[0].split() for line in read(os.path.join(folder, "stdin"), "r").splitlines()]
+        items = [int((words[1:] or [0])[0]) for words in itertools.takewhile(lambda words: words[:1] == ["why"], asked)]
+        if not items:
+            continue
+        tried += 1
+        args = read(os.path.join(folder, "args"), "r").split()
+        kind = args[1] if args[0] == "--shipped" else None
+        listing = read(os.path.join(TOP, "examples", SHIPPED[kind])) if kind else read(os.path.join(folder, os.path.basename(args[0])))
+        schedule = read(os.path.join(folder, os.path.basename(args[-1])))
+        told = [tab.ask_module("page_why", (listing, schedule), (item,)) for item in items]
+        said = b"".join(text for _, text in itertools.takewhile(lambda one: one[0] == 0, told))
+        count.check(f"examples/prompt/{name}", said and read(os.path.join(folder, "stdout")).startswith(said), said[-300:])
+    count.check("there are reasons to be tried", tried > 2, tried)
+    listing = read(os.path.join(TOP, "examples", "u.txt"))
+    refused = {b"G5 NoSuchPosition": (listing, b"shape 2 2\n1 scan\n", 2), b"S3 BadItem 2": (listing, b"shape 2 2\nhello\n", 0),
+               b"W1 BadShape": (listing, b"shape 2 3\n", 0), b"L2 BadHeader 1": (b"kind so\n", b"shape 2 2\n", 0)}
+    for line, (one, other, item) in refused.items():
+        told = tab.ask_module("page_why", (one, other), (item,))
+        count.check(f"nothing is said of why: {line.decode()}", told == (1, b"refused: " + line + b"\n"), told)
+
+
+def try_marks(tab, count):
+    """The marks that commands leave, worked by hand."""
+    wanted = {
+        b"break 1 5\nbreak 2 5\nwatch r 1\nclear 1 5 # no more\ngoto 3\n  watch\tr  1\n": b"break 2 5\nwatch r 1\n",
+        b"watch q 1 2\nwatch p 1 2\nunwatch q 1 2\nbreak 1 2\nclear 1 2\nbreak 1 2\n": b"watch p 1 2\nbreak 1 2\n",
+        b"clear 1 2\nunwatch v 3\nshow v 3\nshow 3\nrun\nrrun\nstep 1\nback 1\nvalues\nevents\nwhere\n": b"",
+        b"watch v 3\nwatch r 3\nunwatch v 4\n# watch r 9\n": b"watch v 3\nwatch r 3\n", b"": b"",
+        b"".join(b"break 9 %d\n" % k for k in range(1, 200)): b"".join(b"break 9 %d\n" % k for k in range(1, 200)),
+    }
+    for commands, marks in wanted.items():
+        told = tab.ask_module("page_marks", (commands,))
+        count.check(f"marks: {commands.decode()[:40]!r}", told == (0, marks), told)
+    for commands, line in {b"break 1 5\nwatch r\n": b"G1 BadCommand 2", b"#" * 1048577: b"G7 TooLong"}.items():
+        told = tab.ask_module("page_marks", (commands,))
+        count.check(f"no marks: {line.decode()}", told == (1, b"refused: " + line + b"\n"), told)
+
+
 def lines_of_picture(svg):
     """The lines of what a picture draws, of its titles."""
     drawn, found = svg[svg.index("</metadata>"):svg.rindex('<g class="legend"')], []
@@ -255,18 +302,47 @@ def try_shapes(tab, count):
     count.check("a crash", told == (0, b"values 0 2 0 0\nscan 1 1 2 crash\ncrash 1 2 10\n"), told)
 
 
+def made_up(folder, seed):
+    """Listing, schedule and commands of a seed, and their kind."""
+    tools = os.path.join(TOP, "tools", "fuzzing")
+    subprocess.run(["awk", "-v", f"seed={seed}", "-v", f"into={folder}", "-v", f"examples={TOP}/examples", "-f", f"{tools}/random.awk", "-f",
+                    f"{tools}/case.awk"], check=True, cwd=folder)
+    return *(read(os.path.join(folder, name)) for name in ("text", "schedule", "commands")), read(os.path.join(folder, "facts"), "r").split()[0]
+
+
+def try_lines(tab, count, pairs, first):
+    """The page's own reader of a schedule finds as many processes and items as the module does, each of the same process, and the line of each."""
+    same = accepted = 0
+    with tempfile.TemporaryDirectory() as folder:
+        for seed in range(first, first + pairs):
+            text, schedule, _, _ = made_up(folder, seed)
+            code, traced = tab.answer("trace", "", text + b"%\n" + schedule)
+            if code:
+                continue
+            accepted += 1
+            lines = schedule.decode().split("\n")
+            found = tab.run(f"(found => [found.processes, found.total, ...['from', 'who', 'line'].map(part => [...found[part]])])(readItems({json.dumps(schedule.decode())}))")
+            processes, total, begins, who, places = found
+            spread = [one for one, start, end in zip(who, begins, [*begins[1:], total]) for _ in range(end - start)]
+            wanted = [int(one) for one in re.findall(rb"(?m)^item \d+ (\d+) ", traced)]
+            told = [k for k, line in enumerate(lines) if line.partition("#")[0].strip()]
+            shape = lines[told[0]].split("#")[0].split()
+            if spread == wanted and places == told[1:] and processes == int(shape[1]):
+                same += 1
+            else:
+                count.check(f"seed {seed}: the lines of a schedule", False, found)
+    count.check(f"the lines of {accepted} made-up schedules: {same} are found right", same == accepted > pairs / 4)
+
+
 def try_pairs(tab, count, pairs, first):
     program = os.environ.get("SNAPLAB") or os.path.join(TOP, "crates", "snaplab", "out", "snaplab")
     if not os.access(program, os.X_OK):
         count.skip(f"{pairs} made-up pairs", "there is no native program")
         return
-    tools, same = os.path.join(TOP, "tools", "fuzzing"), 0
+    same = 0
     with tempfile.TemporaryDirectory() as folder:
         for seed in range(first, first + pairs):
-            subprocess.run(["awk", "-v", f"seed={seed}", "-v", f"into={folder}", "-v", f"examples={TOP}/examples", "-f",
-                            f"{tools}/random.awk", "-f", f"{tools}/case.awk"], check=True, cwd=folder)
-            text, schedule, asked = (read(os.path.join(folder, name)) for name in ("text", "schedule", "commands"))
-            kind = read(os.path.join(folder, "facts"), "r").split()[0]
+            text, schedule, asked, kind = made_up(folder, seed)
             for args, parts in ((["run"], (text, schedule)), (["audit"], (text, schedule)), (["debug"], (text, schedule, asked)),
                                 (["check"], (text,)), (["run", "--shipped", kind], (schedule,))):
                 given = b"%\n".join(parts)
@@ -282,7 +358,7 @@ def main():
     browser.need()
     pairs, first = (int(word) for word in (sys.argv[1:] + ["200", "1"][len(sys.argv) - 1:]))
     count = browser.Count()
-    with browser.Browser() as running:
+    with browser.started() as running:
         tab = running.tab()
         try_examples(tab, count)
         try_gallery(tab, count)
@@ -291,6 +367,9 @@ def main():
         try_explanations(tab, count)
         try_steps(tab, count)
         try_shapes(tab, count)
+        try_reasons(tab, count)
+        try_marks(tab, count)
+        try_lines(tab, count, pairs, first)
         try_pairs(tab, count, pairs, first)
         count.check("a subcommand that is none is told so", tab.answer("live", "", b"") == (4, b""))
     count.finish()

@@ -1,6 +1,7 @@
 """A headless Chromium, driven through the DevTools protocol over two pipes. Standard library alone.
 
 The environment's SLOWED, as 4, makes pages so many times as slow as the machine is: a test waits for what is to be, never for a time.
+Its BROWSER=firefox takes Firefox in place of Chromium, for what firefox.py has.
 """
 import base64
 import itertools
@@ -25,6 +26,10 @@ class Failed(Exception):
     """What the browser or the page refused."""
 
 
+class NotHere(Exception):
+    """What this browser has not."""
+
+
 def wait_for(what, holds, limit=60):
     """What holds() tells as soon as that is true; a slow machine has time for it."""
     end = time.time() + limit
@@ -43,11 +48,28 @@ def program():
     return named or next(filter(None, map(shutil.which, NAMES)), None)
 
 
+def is_firefox():
+    return os.environ.get("BROWSER") == "firefox"
+
+
 def need():
     """Ends the test where there is no browser."""
-    if not program():
-        print("there is no Chromium here")
+    if is_firefox():
+        import firefox
+        there = firefox.program()
+    else:
+        there = program()
+    if not there:
+        print("there is no such browser here")
         sys.exit(NOT_HERE)
+
+
+def started():
+    """The browser of the environment, which runs."""
+    if is_firefox():
+        import firefox
+        return firefox.Browser()
+    return Browser()
 
 
 class Browser:
@@ -130,45 +152,19 @@ KEYS = {"ArrowLeft": 37, "ArrowRight": 39, "ArrowUp": 38, "ArrowDown": 40, "Home
         "Escape": 27, " ": 32}
 
 
-class Tab:
-    """One page of the browser."""
+class Steps:
+    """What is done with a page, whatever browser has it: by 'run' for a script, 'go' for an address, 'mouse', 'key' and 'look'."""
 
-    def __init__(self, browser, width=1280, height=720, dark=False, scale=1, mobile=False, address=None, wait=True):
-        self.browser = browser
-        self.target = browser.ask("Target.createTarget", url="about:blank")["targetId"]
-        self.session = browser.ask("Target.attachToTarget", targetId=self.target, flatten=True)["sessionId"]
-        for domain in ("Page", "Runtime", "Log"):
-            self.ask(domain + ".enable")
-        if os.environ.get("SLOWED"):
-            self.ask("Emulation.setCPUThrottlingRate", rate=float(os.environ["SLOWED"]))
-        self.look(width, height, dark, scale, mobile)
-        self.open(address or "file://" + PAGE, wait)
-
-    def ask(self, method, limit=60, **params):
-        return self.browser.ask(method, self.session, limit, **params)
-
-    def look(self, width, height, dark=False, scale=1, mobile=False):
-        """Another window; a page that is there already is waited for until it knows its width."""
-        self.ask("Emulation.setDeviceMetricsOverride", width=width, height=height, deviceScaleFactor=scale, mobile=mobile)
-        scheme = {"name": "prefers-color-scheme", "value": "dark" if dark else "light"}
-        self.ask("Emulation.setEmulatedMedia", features=[scheme])
+    def laid_out(self):
+        """A page that is there already is waited for until it knows its width."""
         self.until("window.snaplab === undefined || line.wide === document.getElementById('timeline').clientWidth")
 
     def open(self, address, wait=True):
         self.run("window.oldPage = true")
-        self.ask("Page.navigate", url=address)
+        self.go(address or "file://" + PAGE)
         if wait:
             self.until("window.oldPage === undefined && document.readyState === 'complete' && window.snaplab !== undefined")
             self.settled()
-
-    def run(self, script, limit=60):
-        """The value of an expression; promises are waited for."""
-        told = self.ask("Runtime.evaluate", limit, expression=script, awaitPromise=True, returnByValue=True,
-                        userGesture=True)
-        if "exceptionDetails" in told:
-            details = told["exceptionDetails"]
-            raise Failed(details.get("exception", {}).get("description", details["text"]))
-        return told["result"].get("value")
 
     def until(self, script, limit=60):
         """Waits until an expression is true."""
@@ -194,38 +190,20 @@ class Tab:
         self.until("window.snaplab.settled()", limit)
 
     def click(self, selector, nth=0):
-        """A click of the mouse in the middle of an element, which is scrolled into view."""
-        box = self.run(f"""(() => {{ const e = document.querySelectorAll({json.dumps(selector)})[{nth}];
-            if (!e) return null; e.scrollIntoView({{block: 'nearest', inline: 'nearest'}});
-            const r = e.getBoundingClientRect(); return [r.x + r.width / 2, r.y + r.height / 2]; }})()""")
+        """A click of the mouse in the middle of an element, which is scrolled into view, and stays where it is."""
+        box, last = self.middle(selector, nth), None
+        while box != last:
+            box, last = self.middle(selector, nth), box
         if not box:
             raise Failed(f"there is no {selector} ({nth})")
         self.mouse(*box)
 
-    def mouse(self, x, y, *way):
-        """Presses the mouse here, moves on these points, and lets it go at the last of them."""
-        for kind, (px, py) in [("mousePressed", (x, y)), *(("mouseMoved", at) for at in way),
-                               ("mouseReleased", way[-1] if way else (x, y))]:
-            self.ask("Input.dispatchMouseEvent", type=kind, x=px, y=py, button="left", buttons=1, clickCount=1)
+    drawn = "0"      # what is waited for until a part that comes into view is laid out
 
-    def key(self, key, modifiers=0):
-        """One key, pressed and let go."""
-        how = {"key": key, "modifiers": modifiers, "windowsVirtualKeyCode": KEYS.get(key, ord(key[0].upper()))}
-        if len(key) == 1:
-            how["text"] = key
-        elif key == "Enter":
-            how["text"] = "\r"
-        self.ask("Input.dispatchKeyEvent", type="keyDown", **how)
-        how.pop("text", None)
-        self.ask("Input.dispatchKeyEvent", type="keyUp", **how)
-
-    def type(self, text):
-        self.ask("Input.insertText", text=text)
-
-    def picture(self, path, whole=False):
-        got = self.ask("Page.captureScreenshot", format="png", captureBeyondViewport=whole)
-        with open(path, "wb") as file:
-            file.write(base64.b64decode(got["data"]))
+    def middle(self, selector, nth):
+        return self.run(f"""(async () => {{ const e = document.querySelectorAll({json.dumps(selector)})[{nth}];
+            if (!e) return null; e.scrollIntoView({{block: 'nearest', inline: 'nearest'}}); await {self.drawn};
+            const r = e.getBoundingClientRect(); return [r.x + r.width / 2, r.y + r.height / 2]; }})()""")
 
     def ask_module(self, name, texts, numbers=()):
         """What a function of the module answers to these bytes and numbers: its code and bytes."""
@@ -250,6 +228,81 @@ class Tab:
             }
             return best; })()""")
         return max(1, best / USUAL_LOOP)
+
+
+class Tab(Steps):
+    """One page of the browser."""
+
+    def __init__(self, browser, width=1280, height=720, dark=False, scale=1, mobile=False, address=None, wait=True):
+        self.browser = browser
+        self.target = browser.ask("Target.createTarget", url="about:blank")["targetId"]
+        self.session = browser.ask("Target.attachToTarget", targetId=self.target, flatten=True)["sessionId"]
+        for domain in ("Page", "Runtime", "Log"):
+            self.ask(domain + ".enable")
+        if os.environ.get("SLOWED"):
+            self.ask("Emulation.setCPUThrottlingRate", rate=float(os.environ["SLOWED"]))
+        self.look(width, height, dark, scale, mobile)
+        self.open(address, wait)
+
+    def ask(self, method, limit=60, **params):
+        return self.browser.ask(method, self.session, limit, **params)
+
+    def look(self, width, height, dark=False, scale=1, mobile=False):
+        self.ask("Emulation.setDeviceMetricsOverride", width=width, height=height, deviceScaleFactor=scale, mobile=mobile)
+        scheme = {"name": "prefers-color-scheme", "value": "dark" if dark else "light"}
+        self.ask("Emulation.setEmulatedMedia", features=[scheme])
+        self.laid_out()
+
+    def go(self, address):
+        self.ask("Page.navigate", url=address)
+
+    def run(self, script, limit=60):
+        """The value of an expression; promises are waited for."""
+        told = self.ask("Runtime.evaluate", limit, expression=script, awaitPromise=True, returnByValue=True,
+                        userGesture=True)
+        if "exceptionDetails" in told:
+            details = told["exceptionDetails"]
+            raise Failed(details.get("exception", {}).get("description", details["text"]))
+        return told["result"].get("value")
+
+    def mouse(self, x, y, *way):
+        """Presses the mouse here, moves on these points, and lets it go at the last of them."""
+        for kind, (px, py) in [("mousePressed", (x, y)), *(("mouseMoved", at) for at in way),
+                               ("mouseReleased", way[-1] if way else (x, y))]:
+            self.ask("Input.dispatchMouseEvent", type=kind, x=px, y=py, button="left", buttons=1, clickCount=1)
+
+    def key(self, key, modifiers=0):
+        """One key, pressed and let go."""
+        how = {"key": key, "modifiers": modifiers, "windowsVirtualKeyCode": KEYS.get(key, ord(key[0].upper()))}
+        if len(key) == 1:
+            how["text"] = key
+        elif key == "Enter":
+            how["text"] = "\r"
+        self.ask("Input.dispatchKeyEvent", type="keyDown", **how)
+        how.pop("text", None)
+        self.ask("Input.dispatchKeyEvent", type="keyUp", **how)
+
+    def hover(self, x, y):
+        """The mouse comes here."""
+        self.ask("Input.dispatchMouseEvent", type="mouseMoved", x=x, y=y)
+
+    def type(self, text):
+        self.ask("Input.insertText", text=text)
+
+    def give_file(self, selector, path):
+        """A file for an element that takes one."""
+        root = self.ask("DOM.getDocument")["root"]["nodeId"]
+        self.ask("DOM.setFileInputFiles", files=[path], nodeId=self.ask("DOM.querySelector", nodeId=root, selector=selector)["nodeId"])
+
+    def downloads(self, folder):
+        """The folder that files are saved in from now on: this one."""
+        self.ask("Browser.setDownloadBehavior", behavior="allow", downloadPath=folder)
+        return folder
+
+    def picture(self, path, whole=False):
+        got = self.ask("Page.captureScreenshot", format="png", captureBeyondViewport=whole)
+        with open(path, "wb") as file:
+            file.write(base64.b64decode(got["data"]))
 
     def watch_tasks(self):
         """Begins to note what the page's thread does."""

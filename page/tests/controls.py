@@ -8,7 +8,7 @@ import tempfile
 
 sys.dont_write_bytecode = True
 import browser  # noqa: E402
-from browser import TOP, Failed
+from browser import TOP, Failed, NotHere
 
 FIRST_IDEA = 3
 
@@ -249,7 +249,7 @@ def try_files(page, count, running):
     count.check("the link has all of it", other.run("asInput()") == text and other.run("snaplab.state.idea") == FIRST_IDEA + 2, link[:60])
     other.tab.close()
     with tempfile.TemporaryDirectory() as folder:
-        page.tab.ask("Browser.setDownloadBehavior", behavior="allow", downloadPath=folder)
+        folder = page.tab.downloads(folder)
         page.click("#save")
         path = saved(page, folder, "snaplab-input.txt")
         count.check("save", os.path.exists(path) and open(path, encoding="utf-8").read() == text)
@@ -264,12 +264,15 @@ def try_files(page, count, running):
 
 def try_picture(page, count):
     page.choose(FIRST_IDEA + 2)
+    page.run("(window.blocked = [], document.addEventListener('securitypolicyviolation', event => blocked.push(event.violatedDirective)), 0)")
     page.click("#picture")
+    colour = page.run("getComputedStyle(document.getElementById('drawn').shadowRoot.querySelector('.values rect')).fill")
+    count.check("a picture has its colours, and breaks no policy", colour == "rgb(240, 228, 66)" and not page.run("blocked"), [colour, page.run("blocked")])
     shown = page.run("document.getElementById('drawn').shadowRoot?.querySelector('title')?.textContent ?? ''")
     count.check("a picture of the run", page.shown("#picture-shown") and "items 1 to 64 of 64" in shown, shown + page.text("#note"))
     count.check("and of which items it is", page.text("#drawn-items") == "items 1 to 64 of 64", page.text("#drawn-items"))
     with tempfile.TemporaryDirectory() as folder:
-        page.tab.ask("Browser.setDownloadBehavior", behavior="allow", downloadPath=folder)
+        folder = page.tab.downloads(folder)
         page.click("#keep")
         path = saved(page, folder, "snaplab-run.svg")
         wanted = re.sub("<metadata>#.*\n", "<metadata>", read("docs", "pictures", "borrowed-view.svg"))
@@ -302,9 +305,7 @@ def saved(page, folder, name):
 
 
 def open_file(page, path):
-    root = page.tab.ask("DOM.getDocument")["root"]["nodeId"]
-    node = page.tab.ask("DOM.querySelector", nodeId=root, selector="#file")["nodeId"]
-    page.tab.ask("DOM.setFileInputFiles", files=[path], nodeId=node)
+    page.tab.give_file("#file", path)
     page.tab.until("document.getElementById('file').value === '' && snaplab.settled()")
 
 
@@ -435,7 +436,6 @@ def try_tasks(page, count):
 
 
 def try_sizes(page, count):
-    try_tasks(page, count)
     page.choose(2)
     page.write("schedule", "shape 64 64\n" + "".join(f"{k} update {65 - k} {k}\n{k}*900\n" for k in range(1, 65)))
     page.click("#end")
@@ -546,14 +546,86 @@ def try_readers(page, count):
     count.check("y brings back", page.schedule().endswith("1*3\n"))
 
 
+CONTROLS = ("button", "textbox", "combobox", "slider", "listbox", "link", "option", "separator", "splitter", "DisclosureTriangle")
+PARTS = ("region", "table", "list", "group", "dialog", "heading", "rowheader", "columnheader")
+# Where one comes to on the way through the page, in this order.
+WAY = (("button", "Lesson 3. A scan that borrows its view"), ("button", "Undo"), ("region", "Listing"), ("listbox", "Margin: Listing"), ("textbox", "Listing"),
+       ("region", "Processes and schedule"), ("group", "Process 1"), ("group", "Process 2"), ("heading", "Schedule"), ("button", "Find a failure"),
+       ("textbox", "Schedule"), ("region", "Memory and verdicts"), ("table", "Registers r"), ("list", "Verdicts"), ("button", "Next caption"),
+       ("region", "Position"), ("button", "One item on"), ("slider", "Time line: position in the schedule"))
+
+
+def spoken(tab):
+    """What a screen reader is told, in order: role, name, description and states of each part."""
+    nodes, found = {one["nodeId"]: one for one in tab.ask("Accessibility.getFullAXTree")["nodes"]}, []
+
+    def walk(node):
+        if not node.get("ignored"):
+            states = {one["name"]: one["value"].get("value") for one in node.get("properties", [])}
+            found.append((node["role"]["value"], *(node.get(part, {}).get("value", "").strip() for part in ("name", "description")), states))
+        for child in node.get("childIds", []):
+            if child in nodes:
+                walk(nodes[child])
+
+    walk(next(one for one in nodes.values() if "parentId" not in one))
+    return found
+
+
+def try_spoken(page, count):
+    """What a screen reader is told at three positions of a lesson: a name of each control, its state, and nothing twice."""
+    page.choose(FIRST_IDEA + 2)
+    page.click("#memory [data-register='r 1']")
+    page.leave()
+    page.tab.ask("Accessibility.enable")
+    for item in (0, 54, 64):
+        page.run(f"(document.getElementById('timeline').focus(), goTo({item}).then(() => 0))")
+        page.tab.settled()
+        told = spoken(page.tab)
+        unnamed = [role for role, name, *_ in told if role in CONTROLS + PARTS and not name]
+        count.check(f"item {item}: every control has a name", len(told) > 300 and not unnamed, unnamed[:5])
+        names = [name for role, name, *_ in told if role == "button"]
+        count.check(f"item {item}: and each button a name of its own", len(names) == len(set(names)) > 50, sorted(one for one in names if names.count(one) > 1))
+        twice = [(name, more) for role, name, more, _ in told if role in CONTROLS and more and (more in name or name == more)]
+        count.check(f"item {item}: no name is told again behind it", not twice, twice[:3])
+        places = [next((k for k, one in enumerate(told) if one[:2] == part), -1) for part in WAY]
+        count.check(f"item {item}: the way through the page is in order", -1 not in places and places == sorted(places), list(zip(WAY, places)))
+        states = {name: states for role, name, _, states in told if role == "button"}
+        count.check(f"item {item}: states are told", states["r 1"]["pressed"] == "true" and states["r 2"]["pressed"] == "false" and (
+            states["step, process 1"].get("disabled") or False) == (item != 54), [states["r 1"], states["step, process 1"]])
+        where = "[document.getElementById('timeline').getAttribute('aria-valuetext'), document.getElementById('where').textContent, document." \
+                "getElementById('where').getAttribute('aria-live')]"
+        slider, words, live = page.run(where)
+        count.check(f"item {item}: the position is told once, by the time line that has the focus", slider == words != "" and live == "off", [slider, words, live])
+    for button in ("menu", "keys", "words", "trust", "picture", "compare", "make"):
+        page.click("#" + button)
+        page.tab.until("document.querySelector('dialog[open]') !== null && snaplab.settled()")
+        told = spoken(page.tab)
+        unnamed = [role for role, name, *_ in told if role in CONTROLS + PARTS and not name]
+        count.check(f"what {button} opens has names", not unnamed and any(role == "dialog" for role, *_ in told), unnamed[:5])
+        page.tab.key("Escape")
+    page.click("#verdicts .why")
+    told = spoken(page.tab)
+    unnamed = [role for role, name, *_ in told if role in CONTROLS + PARTS and not name]
+    heard = {(role, name) for role, name, *_ in told}
+    count.check("so has why", not unnamed and {("region", "Why item 64 came out so"), ("button", "point: to item 24")} <= heard, unnamed[:5])
+    page.click("#why-close")
+    page.tab.ask("Accessibility.disable")
+    page.click("#memory [data-register='r 1']")
+
+
 def try_alone(page, count):
     """The page is one file, and asks for nothing."""
     text = open(browser.PAGE, encoding="utf-8").read()
     policy = re.search(r'http-equiv="Content-Security-Policy" content="([^"]*)"', text)[1]
-    count.check("the policy allows the page's script alone, by its hash", "sha256-" in policy and "'unsafe-inline'" not in re.search(
-        r"script-src[^;]*", policy)[0] and "base-uri 'none'" in policy and "form-action 'none'" in policy, policy)
+    hashed = [re.search(rf"{part} 'sha256-[A-Za-z0-9+/=]*'", policy) for part in ("script-src", "style-src")]
+    count.check("the policy allows the page's script and style alone, by their hashes", all(hashed) and "unsafe-inline" not in policy and all(
+        part in policy for part in ("default-src 'none'", "base-uri 'none'", "form-action 'none'")), policy)
     page.run("document.body.append(Object.assign(document.createElement('script'), {textContent: 'window.strange = 1'}))")
     count.check("another script does not run", page.run("window.strange === undefined"))
+    page.run("document.body.append(Object.assign(document.createElement('style'), {textContent: 'h1 { letter-spacing: 9px; }'}))")
+    page.run("document.querySelector('h1').setAttribute('style', 'word-spacing: 9px')")
+    told = page.run("(() => { const s = getComputedStyle(document.querySelector('h1')); return [s.letterSpacing, s.wordSpacing]; })()")
+    count.check("nor has another style any effect", "9px" not in told, told)
     outside = re.findall(r"(?:src|href)=\"?(?!data:)[a-z]+:|url\(|@import|fetch\(|XMLHttpRequest|https?://", text)
     count.check("nothing is loaded from elsewhere", not outside, outside[:5])
     page.click("#trust")
@@ -567,9 +639,9 @@ def try_alone(page, count):
 def main():
     browser.need()
     count = browser.Count()
-    with browser.Browser() as running:
+    with browser.started() as running:
         page = Page(running.tab())
-        for trial in (try_alone, try_gallery, try_buttons, try_walk, try_marks, try_picture, try_readers, try_refusals, try_sizes,
+        for trial in (try_alone, try_gallery, try_buttons, try_walk, try_marks, try_picture, try_readers, try_spoken, try_refusals, try_tasks, try_sizes,
                       try_stop, try_trap):
             attempt(trial, count, page)
         attempt(try_files, count, page, running)
@@ -582,6 +654,8 @@ def main():
 def attempt(trial, count, page, *more):
     try:
         trial(page, count, *more)
+    except NotHere as why:
+        print(f"left out here, the rest of {trial.__name__}: {why}")
     except Failed as failed:
         count.check(trial.__name__, False, str(failed)[:300])
 

@@ -187,7 +187,7 @@ def try_stopped(page, count):
 def main():
     browser.need()
     count = browser.Count()
-    with browser.Browser() as running:
+    with browser.started() as running:
         page = Page(running.tab())
         for trial in (try_wrong, try_untold, try_no_point, try_undecided, try_once, try_hunt, try_stopped):
             attempt(trial, count, page)

@@ -64,7 +64,7 @@ def main():
     browser.need()
     repeats = int(sys.argv[1]) if len(sys.argv) > 1 else 9
     print(f"{os.cpu_count()} processors, load {os.getloadavg()[0]:.1f}")
-    with browser.Browser() as running:
+    with browser.started() as running:
         loads = [first_paint(running) for _ in range(max(repeats // 3, 1))]
         tell("first paint", [paint for paint, _ in loads])
         tell("first state", [state for _, state in loads])

@@ -4,7 +4,8 @@ with what each press is to do.
 
     page/tests/monkey.py [ACTIONS [SEEDS [FIRST]]]    so many actions (200) for each of so many seeds (2), from this one on (1)
 
-The program is crates/snaplab/out/snaplab, or what SNAPLAB names; without it the module of another tab answers.
+The program is crates/snaplab/out/snaplab, or what SNAPLAB names; without it the module of another tab answers. Why an item came out so is
+compared with what crates/snapdb/out/snapdb says, where that is there.
 """
 import json
 import os
@@ -12,6 +13,7 @@ import random
 import re
 import subprocess
 import sys
+import tempfile
 
 sys.dont_write_bytecode = True
 import browser  # noqa: E402
@@ -20,7 +22,7 @@ from browser import TOP, Failed  # noqa: E402
 LESSONS, MOST_ITEMS = 17, 400
 # What there is to press, and how often.
 ACTIONS = {"step": 30, "call": 14, "crash": 1, "back": 10, "on": 8, "home": 2, "end": 5, "run": 5, "rrun": 3, "break": 4, "watch": 3, "undo": 7,
-           "redo": 5, "cut": 2, "lesson": 1, "jump": 5, "zoom": 2, "far": 3, "type": 2}
+           "redo": 5, "cut": 2, "lesson": 1, "jump": 5, "zoom": 2, "far": 3, "type": 2, "why": 3}
 SHOWN = """
 window.act = async (selector, nth, key) => {
     const target = key ? document.activeElement : document.querySelectorAll(selector)[nth];
@@ -68,6 +70,19 @@ class Program:
         return self.tab.answer(sub, "", given.encode())[1].decode()
 
 
+    def says_why(self, listing, schedule, item):
+        """What the program with a prompt says of an item, a line each; none where there is no such program."""
+        path = os.path.join(TOP, "crates", "snapdb", "out", "snapdb")
+        if not os.access(path, os.X_OK):
+            return None
+        with tempfile.TemporaryDirectory() as folder:
+            for name, text in (("listing", listing), ("schedule", schedule)):
+                with open(os.path.join(folder, name), "w", encoding="utf-8") as file:
+                    file.write(text)
+            return subprocess.run([path, "listing", "schedule"], input=f"why {item}\n".encode(), capture_output=True, check=False,
+                                  cwd=folder).stdout.decode().splitlines()
+
+
 def report_of(text):
     """Position, values, rows, places and outcome, as the page shows them, of a session's output."""
     last = re.findall(r"(?m)^last (.*)$", text)[-1]
@@ -89,7 +104,7 @@ class Monkey:
     """One run of presses; it keeps what the items, the position and the undone steps have to be."""
 
     def __init__(self, tab, program, seed):
-        self.tab, self.program, self.dice = tab, program, random.Random(seed)
+        self.tab, self.program, self.dice, self.reasons = tab, program, random.Random(seed), []
         self.lesson()
 
     def act(self, selector="", nth=0, key=""):
@@ -183,7 +198,24 @@ class Monkey:
                 a.dispatchEvent(new Event('input', {{bubbles: true}})); return tellShown(); }})()""")
         if kind == "lesson":
             return kind, self.lesson()
+        if kind == "why":
+            return kind, self.why()
         return kind, self.act(self.dice.choice(["#closer", "#wider", "#fit"]))
+
+    def why(self):
+        """Asks why the item of the position came out so; where that stands there already, it is put away, and asked for anew."""
+        shown, lines = "!document.getElementById('why').hidden", "[...document.querySelectorAll('#why-lines p')].map(p => p.textContent)"
+        title = "document.getElementById('why-title').textContent"
+        for _ in range(2):
+            seen = self.act(key="x")
+            self.tab.settled()
+            if self.tab.run(shown):
+                break
+        wanted = self.program.says_why(seen["listing"], seen["schedule"], self.at)
+        told = [line.replace(": item ", ": goto ") for line in self.tab.run(lines)]
+        named = self.tab.run(title) == f"Why item {self.at} came out so"
+        self.reasons = [] if named and wanted in (None, told) else [f"why {self.at}: {told}, not {wanted}"]
+        return self.tab.run("tellShown()")
 
     def mark(self, mark):
         self.step(marks=[one for one in self.marks if one != mark] if mark in self.marks else [*self.marks, mark])
@@ -208,7 +240,7 @@ class Monkey:
 
     def wrong(self, verdicts):
         """What is shown, and is not so."""
-        seen, found = self.seen, []
+        seen, found = self.seen, [*self.reasons]
         if items_of(seen["schedule"]) != self.items:
             found.append(f"the schedule has other items: {items_of(seen['schedule'])[-8:]}, not {self.items[-8:]}")
         if sorted(seen["marks"]) != sorted(self.marks):
@@ -227,7 +259,7 @@ class Monkey:
 
     def wrong_verdicts(self):
         self.tab.settled()
-        shown = self.tab.run("[...document.querySelectorAll('#verdicts button')].map(b => b.textContent)")
+        shown = self.tab.run("[...document.querySelectorAll('#verdicts button:not(.why)')].map(b => b.textContent)")
         told = [re.match(r"scan (\d+) call (\d+) answer (\d+) point (\w+) collects (\d+)", line) for line in self.program.says(
             "audit", self.seen["listing"], self.seen["schedule"]).splitlines()]
         wanted = [f"{v[1]} scan, items {v[2]} to {v[3]}" for v in told if int(v[3]) <= self.at]
@@ -241,7 +273,7 @@ def main():
     words = sys.argv[1:] + ["200", "2", "1"][len(sys.argv) - 1:]
     actions, seeds, first = (int(word) for word in words)
     count = browser.Count()
-    with browser.Browser() as running:
+    with browser.started() as running:
         program = Program(running)
         print("compared with", program.path or "the module of another tab")
         for seed in range(first, first + seeds):

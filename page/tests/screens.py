@@ -42,7 +42,7 @@ def main():
     browser.need()
     folder = sys.argv[1]
     os.makedirs(folder, exist_ok=True)
-    with browser.Browser() as running:
+    with browser.started() as running:
         for size, how in SIZES.items():
             for dark in (False, True):
                 tab = running.tab(dark=dark, **how)

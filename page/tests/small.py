@@ -104,6 +104,8 @@ def try_keys(page, count):
         for _ in range(150):
             page.tab.key("Tab")
             found.add(page.run("document.activeElement.id"))
+            if "timeline" in found:     # the last one: from there the key may lead out of the page
+                break
         missing = [one for one in HEADER + CONTROLS if one not in found]
         count.check(f"{name}: the Tab key leads to all buttons", first == "more" and not missing, [first, missing])
 
@@ -176,7 +178,7 @@ def try_values(page, count):
 def main():
     browser.need()
     count = browser.Count()
-    with browser.Browser() as running:
+    with browser.started() as running:
         page = Page(running.tab())
         page.run("document.getElementById('hello-close').click()")
         for trial in (try_edges, try_words, try_keys, try_names, try_lanes, try_many, try_values, try_lower):

@@ -300,6 +300,8 @@ def try_opening(page, count):
     open_bytes(page, f"{listing}%\n{schedule}%\nbreak 1 14\n".encode())
     count.check("a breakpoint of one process is one of this one", "line 14 of process 1" in page.text("#marks"), page.text("#marks"))
     count.check("and saved so", "break 1 14" in page.run("asInput()") and "break 2 14" not in page.run("asInput()"))
+    told = page.run("['break 1 14\\nbreak 2 14\\n', 'break 1 14\\nbreak 9 14\\n', 'break 2 14\\nwatch q 1 2\\n'].map(text => marksOf(text, 2).join())")
+    count.check("one of each process is one of the line", told == ["line 14", "line 14 of 1,line 14 of 9", "line 14 of 2,q 1 2"], told)
     page.click("#home")
     for _ in range(4):
         page.key("r")
@@ -331,7 +333,7 @@ def try_traps(page, count):
     count.check("a trap is a mark of the time line", bool(re.match(r"\d+ \d+", traps)), traps)
     item = int(traps.split()[0])
     box = page.run(f"(() => {{ const r = document.getElementById('timeline').getBoundingClientRect(); return [r.x + placeOf({item}), r.y + 22]; }})()")
-    page.tab.ask("Input.dispatchMouseEvent", type="mouseMoved", x=box[0], y=box[1])
+    page.tab.hover(box[0], box[1])
     title = page.run("document.getElementById('timeline').title")
     count.check("and says what it is", f"item {item}" in title and "trap" in title, title)
     page.run(f"goTo({item})")
@@ -348,7 +350,7 @@ DOTS = """((top, tall, red, green, blue) => { const c = document.querySelector('
 def told_at(page, item):
     """What the time line tells where the mouse is at an item."""
     box = page.run(f"(() => {{ const r = document.getElementById('timeline').getBoundingClientRect(); return [r.x + placeOf({item}), r.y + 40]; }})()")
-    page.tab.ask("Input.dispatchMouseEvent", type="mouseMoved", x=box[0], y=box[1])
+    page.tab.hover(box[0], box[1])
     return page.run("document.getElementById('timeline').title")
 
 
@@ -451,8 +453,8 @@ def try_movers(page, count):
         page.click(".process .step", 1)
     count.check("what is busy is not called", page.run("document.querySelectorAll('.process .scan')[1].disabled"))
     box = page.run("(() => { const r = document.querySelectorAll('.process .step')[1].getBoundingClientRect(); return [r.x + 5, r.y + 5]; })()")
-    page.tab.ask("Input.dispatchMouseEvent", type="mouseMoved", x=1, y=1)
-    page.tab.ask("Input.dispatchMouseEvent", type="mouseMoved", x=box[0], y=box[1])
+    page.tab.hover(1, 1)
+    page.tab.hover(box[0], box[1])
     page.tab.until("document.querySelectorAll('.process .peek')[1].innerText !== ''")
     told, before = page.text(".process:nth-child(2) .peek"), page.run("snaplab.state.report.processes[1].locals")
     page.click(".process .step", 1)
@@ -495,6 +497,48 @@ def try_movers(page, count):
     page.click("#end")
     page.click("#memory .writer", 1)
     count.check("a value leads to its write", page.at() == "Item 54 of 64", page.at())
+
+
+def reasons(page):
+    """What is said of why an item came out so, a line each, with the commands that bin/snapdb names."""
+    return [line.replace(": item ", ": goto ") for line in page.run("[...document.querySelectorAll('#why-lines p')].map(p => p.textContent)")]
+
+
+def try_why(page, count):
+    """Why a scan answered so, and why a process trapped: by buttons, and by keys."""
+    wanted = read("examples", "prompt", "why", "stdout").splitlines()
+    page.choose(FIRST_IDEA + 9)
+    page.click("#end")
+    page.tab.settled()
+    page.click("#verdicts .why")
+    count.check("why a scan answered so", page.text("#why-title") == "Why item 142 came out so" and reasons(page) == wanted[1:13], reasons(page))
+    count.check("its words have the focus", page.run("document.activeElement.id") == "why-title")
+    page.tab.key("Tab")
+    page.tab.key("Enter")
+    page.tab.settled()
+    count.check("a key leads to an item that is named", page.at() == "Item 1 of 142" and page.shown("#why"), page.at())
+    page.click("#why-lines button", 1)
+    count.check("so does a click", page.at() == "Item 78 of 142", page.at())
+    page.key("End", "x")
+    count.check("the same key again puts it away", not page.shown("#why"))
+    page.key("x")
+    page.tab.key("Escape")
+    count.check("so does Escape", not page.shown("#why"))
+    page.key("Home", "x")
+    count.check("where there is nothing to explain, it says where there is", reasons(page) == wanted[:1], reasons(page))
+    page.click("#why-close")
+    page.key("x", "l")
+    page.write("schedule", "shape 2 2\n1 scan\n")
+    page.leave()
+    count.check("it goes with its run", not page.shown("#why"))
+    folder = ("examples", "prompt", "why-trap")
+    open_bytes(page, f"{read(*folder, 'listing.txt')}%\n{read(*folder, 'schedule.txt')}".encode())
+    page.click("#end")
+    page.tab.settled()
+    page.click(".process .why", 2)
+    said = read(*folder, "stdout").splitlines()
+    count.check("why a process trapped", page.text("#why-title") == "Why item 14 came out so" and reasons(page) == said[4:6], reasons(page))
+    page.click("#undo")
 
 
 def written_at(page, register):
@@ -593,8 +637,9 @@ CONTRAST = """(() => {
 
 def try_lessons(page, count):
     """Three lessons, by clicks and by keys alone, in each size, light and dark: each caption is on the screen, and the end is told."""
-    for name, how in (("1440 x 900", {"width": 1440, "height": 900}), ("1280 x 720", PROJECTOR), ("200 %", ZOOMED), ("a phone", PHONE)):
-        for dark in (False, True):
+    sizes = (("1440 x 900", {"width": 1440, "height": 900}), ("1280 x 720", PROJECTOR), ("200 %", ZOOMED), ("a phone", PHONE))
+    for dark in (False, True):
+        for name, how in sizes:
             page.tab.look(how["width"], how["height"], dark, how.get("scale", 1), how.get("mobile", False))
             page.run("scrollTo(0, 0)")
             for idea, answer in ((1, "answers 0 0: point 1,"), (3, "answers 0 5: point 24,"), (10, "answers 0 5 7: point 78,")):
@@ -644,6 +689,7 @@ def try_contrast(page, count):
     page.click("#memory [data-register='r 1']")
     for name in ("light", "dark"):
         page.tab.look(1280, 720, name == "dark")
+        page.click("#verdicts .why")
         page.key("ArrowLeft", "ArrowRight")
         seen, low = page.run(CONTRAST)
         count.check(f"contrast, {name}: {seen} texts", seen > 60 and not low, low[:6])
@@ -722,7 +768,7 @@ def try_png(page, count):
     page.choose(FIRST_IDEA + 2)
     page.click("#picture")
     with tempfile.TemporaryDirectory() as folder:
-        page.tab.ask("Browser.setDownloadBehavior", behavior="allow", downloadPath=folder)
+        folder = page.tab.downloads(folder)
         page.click("#keep-png")
         head = open(saved(page, folder, "snaplab-run.png"), "rb").read(24)
         count.check("a picture is saved as PNG", head[:8] == b"\x89PNG\r\n\x1a\n" and int.from_bytes(head[16:20], "big") == 3200, head)
@@ -732,10 +778,10 @@ def try_png(page, count):
 def main():
     browser.need()
     count = browser.Count()
-    with browser.Browser() as running:
+    with browser.started() as running:
         page = fresh(running.tab(**PROJECTOR))
         for trial in (try_first_seconds, try_position, try_keys_after_a_choice, try_loans, try_keeping, try_changes, try_texts, try_zoomed,
-                      try_exercises, try_refusals, try_opening, try_notes, try_traps, try_timeline, try_untold, try_margin, try_movers, try_writers, try_compare, try_lessons, try_contrast, try_play,
+                      try_exercises, try_refusals, try_opening, try_notes, try_traps, try_timeline, try_untold, try_margin, try_movers, try_writers, try_why, try_compare, try_lessons, try_contrast, try_play,
                       try_png):
             attempt(trial, count, page)
         attempt(try_without_module, count, page, running)

@@ -14,6 +14,7 @@ use Rattle.snap_hunt_output.specs.declared.hunt_request.HuntRequest as hunt
 use Rattle.snap_hunt_output.specs.declared.hunted.Hunted.{Hunted}
 use Rattle.snap_faults.specs.declared.fault.ProgramFault.{ProgramFault}
 use Rattle.snap_page.specs.Hunt.{IsHuntAnswer}
+use Rattle.snap_page.specs.Why.{AnswersBy}
 use Rattle.snap_picture.specs.Picture.{AnswersPicture, IsPictureBy}
 use Rattle.snap_picture.specs.declared.refusal.PictureRefusal.{PictureRefusal}
 
@@ -43,6 +44,21 @@ module _ (IsWrong : Option Event → Type 0) (picture : Option Event → Result 
     of : (answer : Result (Vec ℕ Global) (Fault PictureRefusal)) → AnswersPicture IsWrong answer picture →
         ((d : Result (List ℕ) PictureRefusal) → Answers {X = Vec ℕ Global} (λ out. out.items) answer d → Tells d) →
         (d : Result (List ℕ) PictureRefusal) × IsPictureBy IsWrong picture d × Tells d
+    of (Ok out) h says = (Ok out.items, h, says (Ok out.items) refl)
+    of (Err (fault.Refused r)) h says = (Err r, h, says (Err r) refl)
+    of (Err fault.Memory) h says = absurd (apart (λ d. says d tt))
+
+-- What is handed over is right, where several answers may be given.
+module _ (IsRight : Result (List ℕ) Refusal → Type 0) (result : Result (Vec ℕ Global) (Fault Refusal))
+    (given : AnswersBy IsRight result) where
+  pub right : (Tells : Result (List ℕ) Refusal → Type 0) →
+      ((d : Result (List ℕ) Refusal) → Answers {X = Vec ℕ Global} (λ out. out.items) result d → Tells d) →
+      (((d : Result (List ℕ) Refusal) → Tells d) → ⊥) →
+      (d : Result (List ℕ) Refusal) × IsRight d × Tells d
+  right Tells tells apart = of result given tells where
+    of : (answer : Result (Vec ℕ Global) (Fault Refusal)) → AnswersBy IsRight answer →
+        ((d : Result (List ℕ) Refusal) → Answers {X = Vec ℕ Global} (λ out. out.items) answer d → Tells d) →
+        (d : Result (List ℕ) Refusal) × IsRight d × Tells d
     of (Ok out) h says = (Ok out.items, h, says (Ok out.items) refl)
     of (Err (fault.Refused r)) h says = (Err r, h, says (Err r) refl)
     of (Err fault.Memory) h says = absurd (apart (λ d. says d tt))

@@ -1,15 +1,19 @@
 //! What a page in a browser wants of the program, in one thread: a task on an input, whether a run
 //! is linearizable, why an input is refused, the picture of a run and what it draws, the steps to a
-//! line or to the end of an operation, and a run that fails.
+//! line or to the end of an operation, why an item came out so, the marks that commands leave, and
+//! a run that fails.
 #![tactic(auto)]
 
-ghost use Rattle.std.specs.Prelude.{◌≡◌, ◌≢◌, ◌<◌, ◌⊎◌, ◌↔◌, ℕ, List, None, Result, Some, length, take};
+ghost use Rattle.std.specs.Prelude.{◌≡◌, ◌≢◌, ◌<◌, ◌⊎◌, ◌↔◌};
+ghost use Rattle.std.specs.Prelude.{ℕ, List, None, Result, Some, length, take};
 ghost use Rattle.snap_page.specs.Answer.{IsAnswerFor, found_at_once};
 ghost use Rattle.snap_page.specs.Page.{answer_code, answer_text, asked_of};
 ghost use Rattle.snap_page.specs.Hunt.{IsHandedHunt, IsHuntAnswer, IsHuntable, hunt_asked};
 ghost use Rattle.snap_page.specs.Explained.{explained};
 ghost use Rattle.snap_page.specs.Picture.{IsDrawn, drawn_code, drawn_text, told};
+ghost use Rattle.snap_page.specs.Marks.{marks_asked};
 ghost use Rattle.snap_page.specs.Steps.{steps_asked, steps_code, steps_text};
+ghost use Rattle.snap_page.specs.Why.{IsWhyAsked};
 ghost use Rattle.snap_prompt.specs.declared.goal.Goal.TheVariants as goal;
 ghost use Rattle.snap_picture.specs.declared.refusal.PictureRefusal.{PictureRefusal};
 ghost use Rattle.snap_semantics.specs.declared.refusal.Refusal.{Refusal};
@@ -22,7 +26,9 @@ mod drawing;
 mod explaining;
 mod handed;
 mod hunting;
+mod marking;
 mod page_request;
+mod reasons;
 mod stepping;
 
 use answering::answer_to;
@@ -30,7 +36,9 @@ use drawing::{drawn, handed_picture, told};
 use explaining::explained;
 use handed::{Handed, handed_answer, handed_pushed};
 use hunting::{handed_hunt, hunt_asked};
+use marking::marks_asked;
 use page_request::asked_of;
+use reasons::why_asked;
 use snap_hunt_output::hunt_alone;
 use snap_picture::{LEGEND, Look, STYLE};
 use snap_prompt::Goal;
@@ -72,8 +80,8 @@ pub extern "C" fn page_output(
     handed_answer(alloc, answer, room)
 }
 
-/// Hands a page the explanation of a refused input, which stands behind the line of the refusal that
-/// `page_output` hands for the same names; no text if the input is not refused.
+/// Hands a page the explanation of a refused input, which stands behind the line of the refusal
+/// that `page_output` hands for the same names; no text if the input is not refused.
 #[unsafe(no_mangle)]
 pub extern "C" fn page_explanation(
     alloc: Global,
@@ -85,10 +93,12 @@ pub extern "C" fn page_explanation(
     ensures code { result.code < 5 × (result.code ≢ 1) }
     ensures no_task { result.code ≡ 4 ↔ asked_of subcommand.now shipped.now ≡ None }
     ensures small { result.code ≡ 3 ↔ length room.old < result.len }
-    ensures answer { (a : PageRequest) → asked_of subcommand.now shipped.now ≡ Some a → result.code ≡ 0 →
+    ensures answer { (a : PageRequest) → asked_of subcommand.now shipped.now ≡ Some a →
+        result.code ≡ 0 →
         (answer : Result (List ℕ) Refusal) × IsAnswerFor a input.now answer
         × (take result.len room.new ≡ explained a input.now answer) }
-    ensures needed { (a : PageRequest) → asked_of subcommand.now shipped.now ≡ Some a → result.code ≡ 3 →
+    ensures needed { (a : PageRequest) → asked_of subcommand.now shipped.now ≡ Some a →
+        result.code ≡ 3 →
         (answer : Result (List ℕ) Refusal) × IsAnswerFor a input.now answer
         × (result.len ≡ length (explained a input.now answer)) }
 {
@@ -98,8 +108,9 @@ pub extern "C" fn page_explanation(
     handed_pushed(0, explained(alloc, &asked, input), room)
 }
 
-/// Hands a page how many steps lead a process to a line from a position of a listing's run, where it
-/// stops earlier if it is no longer busy: the fewest, in digits; or the line that says why none do.
+/// Hands a page how many steps lead a process to a line from a position of a listing's run, where
+/// it stops earlier if it is no longer busy: the fewest, in digits; or the line that says why none
+/// do.
 #[unsafe(no_mangle)]
 pub extern "C" fn page_until(
     alloc: Global,
@@ -145,8 +156,47 @@ pub extern "C" fn page_end(
     handed_steps(alloc, answer, room)
 }
 
-/// Hands a page what the picture of a listing's run under a schedule draws from one item to another,
-/// a line a shape, in items and processes; or the line that says why it draws nothing.
+/// Hands a page why an item of a listing's run under a schedule came out as it did: why a scan that
+/// it answers answered so, or why its process trapped; that it did neither, and which item does; or
+/// the line that says why nothing is said of it.
+#[unsafe(no_mangle)]
+pub extern "C" fn page_why(
+    alloc: Global,
+    listing: &[u8],
+    schedule: &[u8],
+    item: u64,
+    room: &mut [u8],
+) -> Handed
+    ensures code { result.code < 4 }
+    ensures small { result.code ≡ 3 ↔ length room.old < result.len }
+    ensures answer { result.code < 2 →
+        (why : Result (List ℕ) Refusal) × IsWhyAsked listing.now schedule.now item why
+        × (result.code ≡ answer_code why) × (take result.len room.new ≡ answer_text why) }
+    ensures needed { result.code ≡ 3 →
+        (why : Result (List ℕ) Refusal) × IsWhyAsked listing.now schedule.now item why
+        × (result.len ≡ length (answer_text why)) }
+{
+    let answer = why_asked(alloc, listing, schedule, item);
+    handed_answer(alloc, answer, room)
+}
+
+/// Hands a page the marks that a text of debugger commands leaves, a line each, the command that
+/// sets it; or the line that says why the text is none.
+#[unsafe(no_mangle)]
+pub extern "C" fn page_marks(alloc: Global, commands: &[u8], room: &mut [u8]) -> Handed
+    ensures code { result.code < 4 }
+    ensures small { result.code ≡ 3 ↔ length room.old < result.len }
+    ensures answer { let marks = marks_asked commands.now in result.code < 2 →
+        (result.code ≡ answer_code marks) × (take result.len room.new ≡ answer_text marks) }
+    ensures needed { let marks = marks_asked commands.now in result.code ≡ 3 →
+        result.len ≡ length (answer_text marks) }
+{
+    let answer = marks_asked(alloc, commands);
+    handed_answer(alloc, answer, room)
+}
+
+/// Hands a page what the picture of a listing's run under a schedule draws from one item to
+/// another, a line a shape, in items and processes; or the line that says why it draws nothing.
 #[unsafe(no_mangle)]
 pub extern "C" fn page_shapes(
     alloc: Global,

@@ -4,6 +4,7 @@ pub mod Changes
 pub mod Owned
 pub mod Feeds
 pub mod Kept
+pub mod HeadTexts
 pub mod Parts
 pub mod Splits
 pub mod Differs
@@ -12,6 +13,7 @@ pub mod Named
 pub mod Locals
 pub mod Registers
 pub mod Own
+pub mod Pieces
 pub mod Touched
 pub mod Said
 pub mod Items

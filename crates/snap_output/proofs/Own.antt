@@ -2,7 +2,7 @@
 -- speak of themselves, and the line of a local gets its process in front.
 use Rattle.std.proofs.Common.{◌≡◌, ℕ, zero, suc, ◌+◌, ◌/◌, ◌%◌, Bool, true, false, List, [], ◌∷◌, ◌++◌, length}
 use Rattle.std.proofs.Common.{Option, Some, None, codes, decimal, nat_lt, if◌then◌else◌, option_map, slice_get, take}
-use Rattle.std.proofs.Common.{refl, sym, ap, ◌∙◌, append_assoc, append-nil, arith}
+use Rattle.std.proofs.Common.{refl, sym, ap, ◌∙◌, append_assoc, append-nil, arith, subst}
 use Rattle.std.proofs.lemmas.Bool.{ne_eqb}
 use Rattle.std.proofs.lemmas.List.{length-append}
 use Rattle.std.proofs.Math.Seq.{take-length}
@@ -32,7 +32,7 @@ use Rattle.snap_machine.specs.Undo.{LocalWord, LocalView}
 use Rattle.snap_report.specs.ReportLines.{register_line}
 use Rattle.snap_report.specs.WrittenLines.{named_lines, place_line, written_local, written_shared, word_there}
 use Rattle.snap_output.specs.Between.{owned}
-use Rattle.snap_output.specs.Touched.{of_process, touched_text}
+use Rattle.snap_output.specs.Touched.{of_process}
 use Rattle.snap_output.proofs.Wholes.{IsWhole, before, feeds, feeds_append, joined, new_line, no_text}
 use Rattle.snap_output.proofs.Feeds.{bit_feeds, decimal_plain, head_feeds, list_feeds, number_feeds, numbers_plain}
 use Rattle.snap_output.proofs.Feeds.{op_plain, place_feeds, values_feeds, view_feeds, word_feeds}
@@ -110,13 +110,13 @@ happening_plain (Answer view) = numbers_plain view
 happening_plain Done = refl
 happening_plain Crash = refl
 
+pub event_feeds : (e : Event) → feeds (event_line e) ≡ 1
+event_feeds e = simp (feeds_append, decimal_plain, happening_plain)
+
 event_own : (e : Event) → IsOwn (event_line e)
 event_own e =
     line_own 101 (codes "vent " ++ decimal e.item ++ codes " " ++ decimal e.process ++ codes " "
-    ++ happening_text e.what) refl count
-  where
-    count : feeds (event_line e) ≡ 1
-    count = simp (feeds_append, decimal_plain, happening_plain)
+    ++ happening_text e.what) refl (event_feeds e)
 
 events_own : (es : List Event) → IsOwn (event_lines es)
 events_own [] = none_own
@@ -165,7 +165,6 @@ owner_is i =
     long : length (codes "process " ++ decimal i) ≡ 8 + length (decimal i)
     long = length-append (codes "process ") (decimal i)
 
--- the line of a local, or none
 abbrev IsTold : ℕ → List ℕ → Type 0
 IsTold i t = owned_text (owner_of i) (lines_of t) ≡ of_process i t
 
@@ -175,17 +174,26 @@ line_told i a e =
     ∙ append-nil ((owner_of i ++ a) ++ codes "\n") ∙ append_assoc (owner_of i) a (codes "\n")
     ∙ ap (λ o. o ++ (a ++ codes "\n")) (owner_is i)
 
-number_told : (i : ℕ) (x : Name) (v : ℕ) → IsPlain x → IsTold i (number_local x v)
-number_told i x v h =
-    line_told i (codes " " ++ x ++ codes " = " ++ decimal v) (number_feeds x v ∙ ap (λ n. n + 1) h)
+-- the line of a local, or none
+pub data IsLocalLine (t : List ℕ) : Type 0 where
+  no_line : t ≡ [] → IsLocalLine t
+  one_of : (a : List ℕ) → t ≡ (32 ∷ a) ++ codes "\n" → feeds ((32 ∷ a) ++ codes "\n") ≡ 1 → IsLocalLine t
 
-list_told : (i : ℕ) (x : Name) (vs : List ℕ) → IsPlain x → IsTold i (list_local x vs)
-list_told i x vs h =
-    line_told i (codes " " ++ x ++ codes " =" ++ numbers_text vs) (list_feeds x vs ∙ ap (λ n. n + 1) h)
+local_line_told : (i : ℕ) (t : List ℕ) → IsLocalLine t → IsTold i t
+local_line_told i t (no_line e) = subst (IsTold i) (sym e) refl
+local_line_told i t (one_of a e feed) = subst (IsTold i) (sym e) (line_told i a feed)
 
-place_told : (i : ℕ) (g : KindTag) (x : Name) (p : ℕ) (v : Word) → IsPlain x → IsTold i (word_local g x p v)
-place_told i g x p v h =
-    line_told i (codes " " ++ x ++ codes " " ++ decimal p ++ codes " = " ++ word_text g v)
+number_line : (x : Name) (v : ℕ) → IsPlain x → IsLocalLine (number_local x v)
+number_line x v h =
+    one_of (codes " " ++ x ++ codes " = " ++ decimal v) refl (number_feeds x v ∙ ap (λ n. n + 1) h)
+
+list_line : (x : Name) (vs : List ℕ) → IsPlain x → IsLocalLine (list_local x vs)
+list_line x vs h =
+    one_of (codes " " ++ x ++ codes " =" ++ numbers_text vs) refl (list_feeds x vs ∙ ap (λ n. n + 1) h)
+
+place_is_line : (g : KindTag) (x : Name) (p : ℕ) (v : Word) → IsPlain x → IsLocalLine (word_local g x p v)
+place_is_line g x p v h =
+    one_of (codes " " ++ x ++ codes " " ++ decimal p ++ codes " = " ++ word_text g v) refl
     (place_feeds g x p v ∙ ap (λ n. n + 1) h)
 
 -- the name of an entry
@@ -199,48 +207,50 @@ entry_plain [] k h = tt
 entry_plain (e ∷ es) zero h = h.0
 entry_plain (e ∷ es) (suc k) h = entry_plain es k h.1
 
-module _ (i : ℕ) (g : KindTag) where
-  scalar_told : (o : Option (Name × ℕ)) → IsPlainEntry o →
-      IsTold i (named_lines g (option_map (λ e. (e.0, NumberValue e.1)) o))
-  scalar_told None h = refl
-  scalar_told (Some e) h = number_told i e.0 e.1 h
+module _ (g : KindTag) where
+  scalar_line : (o : Option (Name × ℕ)) → IsPlainEntry o →
+      IsLocalLine (named_lines g (option_map (λ e. (e.0, NumberValue e.1)) o))
+  scalar_line None h = no_line refl
+  scalar_line (Some e) h = number_line e.0 e.1 h
 
-  row_told : (o : Option (Name × List ℕ)) → IsPlainEntry o →
-      IsTold i (named_lines g (option_map (λ e. (e.0, RowValue e.1)) o))
-  row_told None h = refl
-  row_told (Some e) h = list_told i e.0 e.1 h
+  row_line : (o : Option (Name × List ℕ)) → IsPlainEntry o →
+      IsLocalLine (named_lines g (option_map (λ e. (e.0, RowValue e.1)) o))
+  row_line None h = no_line refl
+  row_line (Some e) h = list_line e.0 e.1 h
 
-  view_told : (o : Option (Name × List ℕ)) → IsPlainEntry o →
-      IsTold i (named_lines g (option_map (λ e. (e.0, ViewValue e.1)) o))
-  view_told None h = refl
-  view_told (Some e) h = list_told i e.0 e.1 h
+  view_is_line : (o : Option (Name × List ℕ)) → IsPlainEntry o →
+      IsLocalLine (named_lines g (option_map (λ e. (e.0, ViewValue e.1)) o))
+  view_is_line None h = no_line refl
+  view_is_line (Some e) h = list_line e.0 e.1 h
 
-  there_told : (x : Name) (p : ℕ) (o : Option Word) → IsPlain x → IsTold i (word_there g x p o)
-  there_told x p None h = refl
-  there_told x p (Some w) h = place_told i g x (p + 1) w h
+  there_line : (x : Name) (p : ℕ) (o : Option Word) → IsPlain x → IsLocalLine (word_there g x p o)
+  there_line x p None h = no_line refl
+  there_line x p (Some w) h = place_is_line g x (p + 1) w h
 
-  word_told : (p : ℕ) (o : Option (Name × List Word)) → IsPlainEntry o →
-      IsTold i (place_line g p (option_map (λ e. (e.0, WordsValue e.1)) o))
-  word_told p None h = refl
-  word_told p (Some e) h = there_told e.0 p (slice_get e.1 p) h
+  word_is_line : (p : ℕ) (o : Option (Name × List Word)) → IsPlainEntry o →
+      IsLocalLine (place_line g p (option_map (λ e. (e.0, WordsValue e.1)) o))
+  word_is_line p None h = no_line refl
+  word_is_line p (Some e) h = there_line e.0 p (slice_get e.1 p) h
 
-  local_told : (s : Source) (l : Locals) (p : Place) → IsSorted s l → IsTold i (written_local g l (write_place_of p))
-  local_told s l Nowhere h = refl
-  local_told s l (WordRegister k x) h = refl
-  local_told s l (BitRegister b r c x) h = refl
-  local_told s l (ViewRegister r v) h = refl
-  local_told s l (Scalar k v) h =
-      scalar_told (slice_get l.scalars k)
+  -- a place of a local has one line
+  pub local_line : (s : Source) (l : Locals) (p : Place) → IsSorted s l →
+      IsLocalLine (written_local g l (write_place_of p))
+  local_line s l Nowhere h = no_line refl
+  local_line s l (WordRegister k x) h = no_line refl
+  local_line s l (BitRegister b r c x) h = no_line refl
+  local_line s l (ViewRegister r v) h = no_line refl
+  local_line s l (Scalar k v) h =
+      scalar_line (slice_get l.scalars k)
       (entry_plain l.scalars k (entries_plain s.scalars l.scalars h.scalars.plain h.scalars_named))
-  local_told s l (Number k p v) h =
-      row_told (slice_get l.rows k) (entry_plain l.rows k (entries_plain s.rows l.rows h.rows.plain h.rows_named))
-  local_told s l (Row k r) h =
-      row_told (slice_get l.rows k) (entry_plain l.rows k (entries_plain s.rows l.rows h.rows.plain h.rows_named))
-  local_told s l (LocalWord k p x) h =
-      word_told p (slice_get l.words k)
+  local_line s l (Number k p v) h =
+      row_line (slice_get l.rows k) (entry_plain l.rows k (entries_plain s.rows l.rows h.rows.plain h.rows_named))
+  local_line s l (Row k r) h =
+      row_line (slice_get l.rows k) (entry_plain l.rows k (entries_plain s.rows l.rows h.rows.plain h.rows_named))
+  local_line s l (LocalWord k p x) h =
+      word_is_line p (slice_get l.words k)
       (entry_plain l.words k (entries_plain s.words l.words h.words.plain h.words_named))
-  local_told s l (LocalView k v) h =
-      view_told (slice_get l.views k)
+  local_line s l (LocalView k v) h =
+      view_is_line (slice_get l.views k)
       (entry_plain l.views k (entries_plain s.views l.views h.views.plain h.views_named))
 
 -- all lines in order
@@ -277,9 +287,11 @@ in_order i s a m e ha hm told he =
 pub told : (s : Source) (i : ℕ) (S : State) (p : Place) (es : List Event) → IsSorted s (process_at S i).locals →
     owned (((written_shared s.kind S (write_place_of p) ++ head_line i (process_at S i).status)
     ++ written_local s.kind (process_at S i).locals (write_place_of p)) ++ event_lines es)
-    ≡ touched_text s.kind i (write_place_of p) S es
+    ≡ ((written_shared s.kind S (write_place_of p) ++ head_line i (process_at S i).status)
+    ++ of_process i (written_local s.kind (process_at S i).locals (write_place_of p))) ++ event_lines es
 told s i S p es h =
     in_order i (process_at S i).status (written_shared s.kind S (write_place_of p))
     (written_local s.kind (process_at S i).locals (write_place_of p)) (event_lines es) (written_own s.kind S p)
     (local_differs s.kind s (process_at S i).locals h p).alike.mine'.whole
-    (local_told i s.kind s (process_at S i).locals p h) (events_own es)
+    (local_line_told i (written_local s.kind (process_at S i).locals (write_place_of p))
+    (local_line s.kind s (process_at S i).locals p h)) (events_own es)

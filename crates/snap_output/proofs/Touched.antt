@@ -24,7 +24,7 @@ use Rattle.snap_machine.specs.Undo.{ViewRegister, Scalar, Number, Row, LocalWord
 use Rattle.snap_machine.specs.Configuration.{HasLocals}
 use Rattle.snap_report.specs.WrittenLines.{written_local, written_shared}
 use Rattle.snap_output.specs.Between.{between, owned, process_text}
-use Rattle.snap_output.specs.Touched.{touched_text}
+use Rattle.snap_output.specs.Touched.{of_process, touched_text}
 use Rattle.snap_output.proofs.Wholes.{IsWhole, feeds, feeds_append, joined, no_text}
 use Rattle.snap_output.proofs.Feeds.{head_feeds, values_feeds}
 use Rattle.snap_output.proofs.Kept.{IsMove, moves}
@@ -35,7 +35,8 @@ use Rattle.snap_output.proofs.Named.{IsSorted, sorted, sorted_before}
 use Rattle.snap_output.proofs.Differs.{Differs}
 use Rattle.snap_output.proofs.Locals.{local_differs}
 use Rattle.snap_output.proofs.Registers.{register_differs, registers_part}
-use Rattle.snap_output.proofs.Own.{told}
+use Rattle.snap_output.proofs.Own.{local_line, told}
+use Rattle.snap_output.proofs.Pieces.{in_pieces}
 
 -- the lines that an item can change, as they stand in a report
 abbrev reported_text : KindTag → ℕ → WritePlace → State → List Event → List ℕ
@@ -203,14 +204,21 @@ pub touched : (s : Source) (n : Counts) (S : State) (x : Item) (u : Overwritten)
     who x - 1 < length S.processes → HasLocals s (process_at S (who x)).locals → u.process ≡ who x → CanPut s n u →
     put s u (done s n S x).0 ≡ S →
     between (process_text s.kind (who x) S []) (process_text s.kind (who x) (done s n S x).0 new)
-    ≡ text_between (lines_of (touched_text s.kind (who x) (write_place_of u.place) S []))
-    (lines_of (touched_text s.kind (who x) (write_place_of u.place) (done s n S x).0 new))
+    ≡ touched_text s.kind (who x) (write_place_of u.place) S (done s n S x).0 new
 touched s n S x u new rules there locals is fits back =
     shortened s i S S' u.place move short mine count new
     ∙ ap (λ t. text_between (lines_of t) (lines_of (owned (reported_text s.kind i (write_place_of u.place) S' new))))
     (told s i S u.place [] stands)
-    ∙ ap (λ t. text_between (lines_of (touched_text s.kind i (write_place_of u.place) S [])) (lines_of t))
+    ∙ ap (λ t. text_between (lines_of (((written_shared s.kind S (write_place_of u.place)
+    ++ head_line i (process_at S i).status)
+    ++ of_process i (written_local s.kind (process_at S i).locals (write_place_of u.place))) ++ [])) (lines_of t))
     (told s i S' u.place new stands')
+    ∙ in_pieces i (process_at S i).status (process_at S' i).status
+    (written_shared s.kind S (write_place_of u.place)) (written_shared s.kind S' (write_place_of u.place))
+    (written_local s.kind (process_at S i).locals (write_place_of u.place))
+    (written_local s.kind (process_at S' i).locals (write_place_of u.place)) new short.whole short.whole' short.count
+    (local_line s.kind s (process_at S i).locals u.place stands)
+    (local_line s.kind s (process_at S' i).locals u.place stands') mine.alike.same
   where
     i : ℕ
     i = who x

@@ -1,9 +1,11 @@
--- `touched_text`: of a report, the lines that an item can change, each of which says of whom it speaks.
-use Rattle.std.specs.Prelude.{ℕ, List, [], ◌∷◌, ◌++◌, codes, decimal}
+-- What a trace says of the lines of a report that an item changes, each of which says of whom it speaks.
+use Rattle.std.specs.Prelude.{ℕ, ◌+◌, List, [], ◌∷◌, ◌++◌, bytes_eq, codes, decimal, if◌then◌else◌}
 use Rattle.snap_words.specs.declared.kind.KindTag.{KindTag}
 use Rattle.snap_semantics.specs.declared.event.Event.{Event}
-use Rattle.snap_semantics.specs.Report.{event_lines, head_line}
-use Rattle.snap_semantics.specs.State.{State, process_at}
+use Rattle.snap_semantics.specs.Report.{event_line, head_line}
+use Rattle.snap_semantics.specs.State.{Process, State, process_at}
+use Rattle.snap_semantics.specs.Token.{lines_of}
+use Rattle.snap_text.specs.Changes.{text_between}
 use Rattle.snap_machine.specs.declared.undo.WritePlace.{WritePlace}
 use Rattle.snap_report.specs.WrittenLines.{written_local, written_shared}
 
@@ -12,9 +14,30 @@ abbrev pub of_process : ℕ → List ℕ → List ℕ
 of_process i [] = []
 of_process i (b ∷ bs) = codes "process " ++ decimal i ++ bs
 
--- The register where an item writes, with the values where it is a word; how its process i stands, and the local that
--- it writes; and events.
-abbrev pub touched_text : KindTag → ℕ → WritePlace → State → List Event → List ℕ
-touched_text g i written S es =
-    written_shared g S written ++ head_line i (process_at S i).status
-    ++ of_process i (written_local g (process_at S i).locals written) ++ event_lines es
+-- the first lines of processes, the first of which is process i
+abbrev pub head_texts : ℕ → List Process → List (List ℕ)
+head_texts i [] = []
+head_texts i (p ∷ ps) = head_line i p.status ∷ head_texts (i + 1) ps
+
+-- a line and the one that stands in its place, each with its line feed; nothing where they are the same
+abbrev pub changed_line : List ℕ → List ℕ → List ℕ
+changed_line x y = if bytes_eq x y then [] else codes "- " ++ x ++ codes "+ " ++ y
+
+-- the same of a line of a local of process i
+abbrev pub changed_local : ℕ → List ℕ → List ℕ → List ℕ
+changed_local i x y = if bytes_eq x y then [] else codes "- " ++ of_process i x ++ codes "+ " ++ of_process i y
+
+-- events that came
+abbrev pub came_text : List Event → List ℕ
+came_text [] = []
+came_text (e ∷ es) = codes "+ " ++ event_line e ++ came_text es
+
+-- What an item of process i changed: the register where it writes, with the values where it is a word; how its process
+-- stands, and the local that it writes; and events that came.
+abbrev pub touched_text : KindTag → ℕ → WritePlace → State → State → List Event → List ℕ
+touched_text g i written S S' new =
+    text_between (lines_of (written_shared g S written)) (lines_of (written_shared g S' written))
+    ++ changed_line (head_line i (process_at S i).status) (head_line i (process_at S' i).status)
+    ++ changed_local i (written_local g (process_at S i).locals written)
+    (written_local g (process_at S' i).locals written)
+    ++ came_text new

@@ -1,16 +1,27 @@
 //! The trace of one item of a run: its outcome, the line of the listing that it ran, and what it
 //! changed in the report.
-ghost use Rattle.std.specs.Prelude.{◌≡◌, [], ◌++◌, IfOk, OnOk, false};
+ghost use Rattle.std.specs.Prelude.{◌≡◌, ◌-◌, [], ◌++◌, false, IfOk, IsTrue, OnOk};
+ghost use Rattle.std.specs.Prelude.{get_or, length, slice_set};
+ghost use Rattle.snap_text.specs.Changes.{text_between};
 ghost use Rattle.snap_text.specs.Drafted.{Adds};
 ghost use Rattle.snap_words.specs.Shape.{IsOneOf};
+ghost use Rattle.snap_semantics.specs.Report.{head_line};
 ghost use Rattle.snap_semantics.specs.Run.{event_of};
+ghost use Rattle.snap_semantics.specs.State.{process_at};
 ghost use Rattle.snap_semantics.specs.Table.{done, who};
+ghost use Rattle.snap_semantics.specs.Token.{lines_of};
+ghost use Rattle.snap_semantics.specs.declared.process.Outcome.TheVariants as outcomes;
+ghost use Rattle.snap_semantics.specs.declared.process.Reason.{Reason};
+ghost use Rattle.snap_record.specs.SeenRoles.{of_option};
+ghost use Rattle.snap_report.specs.WrittenLines.{written_local, written_shared};
 ghost use Rattle.snap_output.specs.Step.{done_text, head_text, line_run, number_text, run_text};
-ghost use Rattle.snap_output.specs.Touched.{of_process, touched_text};
+ghost use Rattle.snap_output.specs.Touched.{came_text, changed_line, changed_local};
+ghost use Rattle.snap_output.specs.Touched.{head_texts, of_process};
 
+use crate::heads::Heads;
 use snap_listing::LineTexts;
 use snap_machine::{Machine, WritePlace};
-use snap_report::{event_lines, head_line, outcome_text, written_local, written_shared};
+use snap_report::{event_line, outcome_text, written_local, written_shared};
 use snap_semantics::{Event, Happening, Item, Outcome, Status, who};
 use snap_text::{Draft, push_changes};
 use snap_words::Kind;
@@ -26,29 +37,22 @@ fn line_run(item: Item, status: Status) -> Option<u64>
     }
 }
 
-/// Returns what callers see of an item of this number.
-fn events_of(
-    alloc: Global,
-    number: u64,
-    item: Item,
-    outcome: Outcome,
-) -> Result<Vec<Event>, AllocError>
-    ensures { IfOk result (λ events. events.items ≡ event_of number item outcome) }
+/// Returns what callers see of an item of this number, if they see something.
+fn event_of(number: u64, item: Item, outcome: Outcome) -> Option<Event>
+    ensures { of_option result ≡ event_of number item outcome }
 {
-    let mut events = Vec::new(alloc);
     let what = match (outcome, item) {
         (Outcome::Called, Item::Call(_, op)) => Happening::Call(op),
         (Outcome::Answered(view), _) => Happening::Answer(view),
         (Outcome::Finished, _) => Happening::Done,
         (Outcome::Crashed, _) => Happening::Crash,
-        _ => return Ok(events),
+        _ => return None,
     };
-    events.push(Event {
+    Some(Event {
         item: number,
         process: who(item),
         what,
-    })?;
-    Ok(events)
+    })
 }
 
 /// Appends the line of a local, with its process in place of its first space.
@@ -65,28 +69,70 @@ fn push_of_process(out: &mut Draft, i: u32, line: &[u8])
     }
 }
 
-/// Makes the text of what an item that writes at `place` can change in a report, and of events:
-/// each line names its owner. The line of a local is made in memory of its own.
-fn touched_text<K: Kind>(
-    text: &mut Draft,
-    local: &mut Draft,
-    machine: &Machine<K>,
-    i: u32,
-    place: WritePlace,
-    events: &[Event],
-) -> Result<(), AllocError>
-    requires { IsOneOf machine.now.shape.n i }
-    ensures { OnOk result (text.new.failed ≡ false →
-        text.new.text ≡ touched_text machine.now.source.kind i place machine.now.state events.now) }
+/// Appends what changed of the line of a local of process `i`, if it did.
+fn push_changed_local(out: &mut Draft, i: u32, before: &[u8], after: &[u8])
+    ensures { Adds out.old out.new (changed_local i before.now after.now) }
 {
-    text.clear();
-    written_shared(text, machine, place);
-    head_line(text, machine, i);
-    local.clear();
-    written_local(local, machine, i, place);
-    push_of_process(text, i, local.text()?);
-    event_lines(text, events);
-    Ok(())
+    if before == after {
+        return;
+    }
+    out.push(b"- ");
+    push_of_process(out, i, before);
+    out.push(b"+ ");
+    push_of_process(out, i, after);
+}
+
+/// Appends an event that came, if there is one.
+fn push_came(out: &mut Draft, event: &Option<Event>)
+    ensures { Adds out.old out.new (came_text (of_option event.now)) }
+{
+    match event {
+        Some(event) => {
+            out.push(b"+ ");
+            event_line(out, event);
+        }
+        None => {}
+    }
+}
+
+/// Returns whether an item was skipped.
+fn is_skipped(outcome: &Outcome) -> bool
+    ensures { IsTrue result → (r : Reason) × (outcome.now ≡ outcomes.Skipped r) }
+{
+    match outcome {
+        Outcome::Skipped(_) => true,
+        _ => false,
+    }
+}
+
+/// The lines at a place where an item writes: of the registers, and of the locals of its process.
+#[derive(Drop)]
+struct PlaceLines {
+    shared: Draft,
+    local: Draft,
+}
+
+impl PlaceLines {
+    fn new(alloc: Global) -> PlaceLines {
+        PlaceLines {
+            shared: Draft::new(alloc),
+            local: Draft::new(alloc),
+        }
+    }
+
+    /// Makes the lines at `place` anew, in the same memory.
+    fn renew<K: Kind>(&mut self, machine: &Machine<K>, i: u32, place: WritePlace)
+        requires { IsOneOf machine.now.shape.n i }
+        ensures shared { self.new.shared.failed ≡ false → self.new.shared.text
+            ≡ written_shared machine.now.source.kind machine.now.state place }
+        ensures local { self.new.local.failed ≡ false → self.new.local.text
+            ≡ written_local machine.now.source.kind (process_at machine.now.state i).locals place }
+    {
+        self.shared.clear();
+        written_shared(&mut self.shared, machine, place);
+        self.local.clear();
+        written_local(&mut self.local, machine, i, place);
+    }
 }
 
 /// Appends ` at ` and the text of the line that was run, if one was.
@@ -134,26 +180,28 @@ fn push_did(
     out.push(b"\n");
 }
 
-/// What is written, and texts that are made anew for each item, in the same memory.
+/// What is written, the first line of each process, and the lines at the place where an item
+/// writes, before it and after it, which are made anew for each item in the same memory.
 #[derive(Drop)]
 pub(crate) struct Sheet {
     out: Draft,
-    before: Draft,
-    after: Draft,
-    local: Draft,
+    heads: Heads,
+    before: PlaceLines,
+    after: PlaceLines,
 }
 
 impl Sheet {
-    /// Returns a sheet without text.
-    pub(crate) fn new(alloc: Global) -> Sheet
-        ensures { result.out.text ≡ [] }
+    /// Returns a sheet without text, for a run that begins as `machine` stands.
+    pub(crate) fn new<K: Kind>(alloc: Global, machine: &Machine<K>) -> Result<Sheet, AllocError>
+        ensures text { IfOk result (λ s. s.out.text ≡ []) }
+        ensures heads { IfOk result (λ s. s.heads ≡ head_texts 1 machine.now.state.processes) }
     {
-        Sheet {
+        Ok(Sheet {
             out: Draft::new(alloc),
-            before: Draft::new(alloc),
-            after: Draft::new(alloc),
-            local: Draft::new(alloc),
-        }
+            heads: Heads::of(alloc, machine)?,
+            before: PlaceLines::new(alloc),
+            after: PlaceLines::new(alloc),
+        })
     }
 
     /// Returns the text of the sheet.
@@ -162,11 +210,39 @@ impl Sheet {
     {
         let Sheet {
             out,
+            heads: _,
             before: _,
             after: _,
-            local: _,
         } = self;
         out.finish()
+    }
+
+    /// Appends what an item of process `i` changed besides the events, where the lines at its place
+    /// were made before it and after it.
+    fn push_changed<K: Kind>(&mut self, machine: &Machine<K>, i: u32) -> Result<(), AllocError>
+        requires process { IsOneOf machine.now.shape.n i }
+        requires count { length self.old.heads ≡ machine.now.shape.n }
+        ensures text { OnOk result (Adds self.old.out self.new.out
+            (text_between (lines_of self.old.before.shared.text) (lines_of self.old.after.shared.text)
+            ++ changed_line (get_or self.old.heads (i - 1) [])
+            (head_line i (process_at machine.now.state i).status)
+            ++ changed_local i self.old.before.local.text self.old.after.local.text)) }
+        ensures well { OnOk result ((self.old.before.shared.failed ≡ false)
+            × (self.old.after.shared.failed ≡ false) × (self.old.before.local.failed ≡ false)
+            × (self.old.after.local.failed ≡ false)) }
+        ensures heads { OnOk result (self.new.heads ≡ slice_set self.old.heads (i - 1)
+            (head_line i (process_at machine.now.state i).status)) }
+    {
+        let Sheet {
+            out,
+            heads,
+            before,
+            after,
+        } = self;
+        push_changes(out, before.shared.text()?, after.shared.text()?);
+        heads.renew(out, machine, i)?;
+        push_changed_local(out, i, before.local.text()?, after.local.text()?);
+        Ok(())
     }
 }
 
@@ -174,15 +250,16 @@ impl Sheet {
 #[tactic(auto, unfolding(crate::specs::Step::done_text))]
 pub(crate) fn push_item<K: Kind>(
     sheet: &mut Sheet,
-    alloc: Global,
     texts: &LineTexts,
     machine: &mut Machine<K>,
     number: u64,
     item: Item,
 ) -> Result<(), AllocError>
-    requires { IsOneOf machine.old.shape.n (who item) }
+    requires process { IsOneOf machine.old.shape.n (who item) }
+    requires heads { sheet.old.heads ≡ head_texts 1 machine.old.state.processes }
     ensures text { OnOk result (sheet.new.out.text ≡ sheet.old.out.text ++ done_text texts.now
         machine.old.source machine.old.shape machine.old.state number item) }
+    ensures heads { OnOk result (sheet.new.heads ≡ head_texts 1 machine.new.state.processes) }
     ensures state { OnOk result (machine.new.state
         ≡ (done machine.old.source machine.old.shape machine.old.state item).0) }
     ensures source { machine.new.source ≡ machine.old.source }
@@ -195,21 +272,16 @@ pub(crate) fn push_item<K: Kind>(
     let _shape = machine.shape();
     let _lines = machine.program().listing().lines();
     let place = machine.overwritten(item)?.write_place();
-    touched_text(&mut sheet.before, &mut sheet.local, machine, i, place, &[])?;
+    sheet.before.renew(machine, i, place);
     let outcome = machine.apply(item)?;
     push_did(&mut sheet.out, texts, number, i, &outcome, run);
-    let events = events_of(alloc, number, item, outcome)?;
-    touched_text(
-        &mut sheet.after,
-        &mut sheet.local,
-        machine,
-        i,
-        place,
-        events.as_slice(),
-    )?;
-    let before = sheet.before.text()?;
-    let after = sheet.after.text()?;
-    push_changes(&mut sheet.out, before, after);
+    if is_skipped(&outcome) {
+        let _skipped = sheet.out.text()?;
+        return Ok(());
+    }
+    sheet.after.renew(machine, i, place);
+    sheet.push_changed(machine, i)?;
+    push_came(&mut sheet.out, &event_of(number, item, outcome));
     let _well = sheet.out.text()?;
     Ok(())
 }

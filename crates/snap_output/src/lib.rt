@@ -7,6 +7,7 @@ mod batch_output;
 mod debug_output;
 mod debug_task;
 mod headlines;
+mod heads;
 mod inputs;
 mod item;
 mod laws;

@@ -27,12 +27,12 @@ pub fn trace<K: Kind>(
     let texts = LineTexts::of(alloc, program.listing())?;
     let shape = schedule.shape();
     let mut machine = Machine::<K>::new(alloc, program, shape)?;
-    let mut sheet = Sheet::new(alloc);
+    let mut sheet = Sheet::new(alloc, &machine)?;
     let mut number: u64 = 0;
     let mut left = schedule.items().iter();
     while let Some(item) = left.next() {
         number += 1;
-        push_item(&mut sheet, alloc, &texts, &mut machine, number, item)?;
+        push_item(&mut sheet, &texts, &mut machine, number, item)?;
     }
     sheet.into_text()
 }

@@ -17,14 +17,15 @@ loop-item-init g c =
     c.texts.view_is ∙ c.in_ok-texts.ensures ∙ ap (λ (s : Source). map written s.lines) c.listing.ensures in (
       begun (run_over c.args.program.now c.args.schedule.now)
           (map seen_line c.texts.inside.lines.items) c.in_ok-machine.machine
-          c.new-sheet.result.out.text c.iter-left.result texts_are
+          c.in_ok-sheet.sheet.out.text c.iter-left.result texts_are
           (ap (λ (m : Configuration). m.source) c.in_ok-machine.ensures)
           (ap (λ (m : Configuration). m.shape) c.in_ok-machine.ensures ∙ c.shape-shape.ensures.shape)
           (ap (λ (m : Configuration). m.state) c.in_ok-machine.ensures
           ∙ ap (initial c.args.program.now) c.shape-shape.ensures.shape)
           (c.iter-left.ensures ∙ c.items.ensures.items) c.shape-shape.ensures.schedule.few
           c.shape-shape.ensures.schedule.processes
-          c.new-sheet.ensures,
+          c.in_ok-sheet.ensures.text,
+      c.in_ok-sheet.ensures.heads,
       tt,
       tt,
     )
@@ -38,9 +39,12 @@ overflow_add-number g c =
           c.loop-item.number c.loop-item.sheet.out.text c.loop-item.left c.loop-item.invariant.0,
     )
 
-pub push_item-requires-after_bounds : goal.push_item-requires-after_bounds
-push_item-requires-after_bounds g c =
-    λ κs bounds. next_fits (run_over c.args.program.now c.args.schedule.now)
+pub push_item-requires-clause-heads : goal.push_item-requires-clause-heads
+push_item-requires-clause-heads g c κs bounds = c.loop-item.invariant.1
+
+pub push_item-requires-clause-process : goal.push_item-requires-clause-process
+push_item-requires-clause-process g c κs bounds =
+    next_fits (run_over c.args.program.now c.args.schedule.now)
     (map seen_line c.texts.inside.lines.items) c.loop-item.machine
     c.loop-item.number c.loop-item.sheet.out.text c.loop-item.left c.next.new.self c.in-Some.item
     c.loop-item.invariant.0 c.in-Some.ensures.steps
@@ -57,6 +61,7 @@ loop-item-preserved g c =
           (c.in_ok-push_item.ensures.text
           ∙ ap (λ ts. c.loop-item.sheet.out.text ++ done_text ts c.loop-item.machine.source c.loop-item.machine.shape
           c.loop-item.machine.state (c.loop-item.number + 1) c.in-Some.item) seen),
+      c.in_ok-push_item.ensures.heads,
       tt,
       tt,
     )

@@ -1,8 +1,9 @@
 -- `trace` of snap_output (src/run_trace.rt): what holds at the head of each of its loops. Returns what each item of
 -- the run of `program` over `schedule` did, and what it changed.
-use Rattle.std.proofs.Common.{map}
+use Rattle.std.proofs.Common.{◌≡◌, map}
 use Rattle.snap_runs.specs.Run.{run_over}
 use Rattle.snap_listing.specs.LineTexts.{seen_line}
+use Rattle.snap_output.specs.Touched.{head_texts}
 use Rattle.snap_output.proofs.Walks.{Going}
 use Rattle.snap_output.proofs.run_trace.trace.Given as goal
 
@@ -11,4 +12,4 @@ abbrev pub invariant-loop-item : goal.invariant-loop-item
 invariant-loop-item g l =
     Going (run_over l.program l.schedule)
     (map seen_line l.texts-inside.lines.items) l.machine l.number l.sheet.out.text l.left
-    × (goal.iterator-loop-item g).can_next l.left × (goal.iterator-loop-item g).is_finite l.left
+    × (l.sheet.heads ≡ head_texts 1 l.machine.state.processes) × (goal.iterator-loop-item g).can_next l.left × (goal.iterator-loop-item g).is_finite l.left

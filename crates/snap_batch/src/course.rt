@@ -108,10 +108,6 @@ impl<K: Kind> Course<K> {
     }
 
     /// Appends the report of the end of the schedule.
-    ///
-    /// # Errors
-    ///
-    /// `AllocError` where memory runs out.
     #[tactic(auto, using(crate::proofs::Ends::end_reported))]
     pub fn push_report(&self, out: &mut Draft)
         ensures { (l : Source) (s : Schedule) → IsEnd l s self.now →

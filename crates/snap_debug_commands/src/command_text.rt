@@ -39,10 +39,6 @@ fn push_register(out: &mut Draft, keyword: &[u8], address: &Address)
 }
 
 /// Appends the line of `command`.
-///
-/// # Errors
-///
-/// `AllocError` where memory runs out.
 pub fn push_command(out: &mut Draft, command: &Command)
     ensures { Adds out.old out.new (line_text (spelled_command command.now)) }
 {

@@ -9,10 +9,6 @@ use snap_text::Draft;
 use std::alloc::{AllocError, Global};
 
 /// Appends the code of a refusal, its name and its number.
-///
-/// # Errors
-///
-/// `AllocError` where memory runs out.
 pub fn push_refusal(out: &mut Draft, refusal: &CommandRefusal)
     ensures { Adds out.old out.new (refusal_text refusal.now) }
 {
@@ -31,10 +27,6 @@ pub fn push_refusal(out: &mut Draft, refusal: &CommandRefusal)
 }
 
 /// Appends the line that says why a command is refused.
-///
-/// # Errors
-///
-/// `AllocError` where memory runs out.
 pub fn push_refusal_line(out: &mut Draft, refusal: &CommandRefusal)
     ensures { Adds out.old out.new (refusal_line refusal.now) }
 {

@@ -20,10 +20,6 @@ use snap_words::WordFault;
 use std::alloc::{AllocError, Global};
 
 /// Appends `name`, and `number` behind a space.
-///
-/// # Errors
-///
-/// `AllocError` where memory runs out.
 pub fn push_numbered(out: &mut Draft, name: &[u8], number: u64)
     ensures { Adds out.old out.new (numbered name.now number) }
 {
@@ -101,10 +97,6 @@ fn push_refusal(out: &mut Draft, refusal: &Refusal)
 }
 
 /// Appends the words that say why an input is refused.
-///
-/// # Errors
-///
-/// `AllocError` where memory runs out.
 pub fn push_refused(out: &mut Draft, refusal: &Refusal)
     ensures { Adds out.old out.new (refused_text refusal.now) }
 {

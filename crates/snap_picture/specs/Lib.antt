@@ -6,5 +6,6 @@ pub mod ShapeText
 pub mod FrameText
 pub mod Crossed
 pub mod Picture
+pub mod LastPlaces
 pub mod Shapes
 pub mod ShapeLines

@@ -9,6 +9,7 @@ mod drawn;
 mod elements;
 mod escape;
 mod frame;
+mod last_writes;
 mod look;
 mod options;
 mod print;

@@ -4,6 +4,7 @@ ghost use Rattle.std.specs.Prelude.{◌≡◌, ◌≤◌, ◌<◌, ◌+◌, ◌+
 ghost use Rattle.std.specs.Prelude.{IfOk, IfSome, OnOk, drop, length, option_map};
 ghost use Rattle.snap_acts.specs.Searches.{last_before};
 ghost use Rattle.snap_acts.specs.declared.searches.StepPattern.TheVariants as wanted;
+ghost use Rattle.snap_picture.specs.LastPlaces.{AreLast};
 ghost use Rattle.snap_picture.specs.declared.shape.Shape.TheVariants as shape;
 ghost use Rattle.snap_picture.specs.Shapes.{
   bar_of,
@@ -21,10 +22,9 @@ ghost use Rattle.snap_picture.specs.Shapes.{
   written_at,
 };
 
+use crate::last_writes::LastWrites;
 use crate::shape::{Bar, End, Loan, Period, Read, Shape, Span, Spot, Write, Written};
-use snap_acts::{
-    Act, ScanPlaces, StepPattern, TraceStep, first_from, last_before, lender_at, source_at,
-};
+use snap_acts::{Act, ScanPlaces, StepPattern, TraceStep, first_from, lender_at, source_at};
 use snap_semantics::Op;
 use snap_words::View;
 use std::alloc::{AllocError, Global};
@@ -187,16 +187,17 @@ fn push_write(
     Ok(())
 }
 
-/// Returns the read of a word by the step at a place.
-fn read_of(steps: &[TraceStep], k: usize, step: &TraceStep, word: u64) -> Shape
-    requires { k ≤ length steps.now }
+/// Returns the read of a word by the step at a place, before which `writes` are the last writes.
+fn read_of(steps: &[TraceStep], writes: &LastWrites, k: usize, step: &TraceStep, word: u64) -> Shape
+    requires few { k ≤ length steps.now }
+    requires noted { AreLast steps.now k writes.now.places }
     ensures { result ≡ shape.Read (record {
       spot = spot_of step.now;
       word = word;
       written = written_at steps.now (last_before (wanted.WriteOf word) steps.now k);
     }) }
 {
-    let place = last_before(steps, k, StepPattern::WriteOf(word));
+    let place = writes.of(steps, k, word);
     Shape::Read(Read {
         spot: spot_of(step),
         word,
@@ -233,10 +234,12 @@ fn push_shapes_of(
     alloc: Global,
     shapes: &mut Vec<Shape>,
     steps: &[TraceStep],
+    writes: &LastWrites,
     k: usize,
     step: &TraceStep,
 ) -> Result<(), AllocError>
-    requires { k < length steps.now }
+    requires few { k < length steps.now }
+    requires noted { AreLast steps.now k writes.now.places }
     ensures { OnOk result (shapes.new.items ≡ shapes.old.items
         ++ shapes_of steps.now k step.now step.now.act) }
 {
@@ -246,7 +249,7 @@ fn push_shapes_of(
         Act::Write(word, values, _) => {
             push_write(alloc, shapes, steps, k + 1, step, *word, values)
         }
-        Act::Read(word, _) => push(shapes, read_of(steps, k, step, *word)),
+        Act::Read(word, _) => push(shapes, read_of(steps, writes, k, step, *word)),
         Act::Test(passed) => push(shapes, Shape::Test(spot_of(step), *passed)),
         Act::Trap => push(shapes, Shape::Trap(spot_of(step))),
         Act::Crash => push(shapes, Shape::Crash(spot_of(step))),
@@ -262,12 +265,14 @@ fn push_shapes_at(
     alloc: Global,
     shapes: &mut Vec<Shape>,
     steps: &[TraceStep],
+    writes: &LastWrites,
     k: usize,
 ) -> Result<(), AllocError>
-    requires { k < length steps.now }
+    requires few { k < length steps.now }
+    requires noted { AreLast steps.now k writes.now.places }
     ensures { OnOk result (shapes.new.items ≡ shapes.old.items ++ shapes_at steps.now k) }
 {
-    push_shapes_of(alloc, shapes, steps, k, &steps[k])
+    push_shapes_of(alloc, shapes, steps, writes, k, &steps[k])
 }
 
 /// Appends what is drawn of all steps.
@@ -279,8 +284,10 @@ pub(crate) fn push_steps(
     ensures { OnOk result (shapes.new.items ≡ shapes.old.items
         ++ shapes_to steps.now (length steps.now)) }
 {
+    let mut writes = LastWrites::new();
     for k in 0..steps.len() {
-        push_shapes_at(alloc, shapes, steps, k)?;
+        push_shapes_at(alloc, shapes, steps, &writes, k)?;
+        writes.note(k, &steps[k]);
     }
     Ok(())
 }

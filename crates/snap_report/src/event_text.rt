@@ -6,10 +6,6 @@ use snap_semantics::{Event, Happening, Op};
 use snap_text::Draft;
 
 /// Appends an operation.
-///
-/// # Errors
-///
-/// `AllocError` where memory runs out.
 pub fn op_text(out: &mut Draft, op: Op)
     ensures { Adds out.old out.new (op_text op) }
 {
@@ -40,10 +36,6 @@ fn happening_text(out: &mut Draft, what: &Happening)
 }
 
 /// Appends `event ITEM PROCESS` and what happened.
-///
-/// # Errors
-///
-/// `AllocError` where memory runs out.
 pub fn event_line(out: &mut Draft, event: &Event)
     ensures { Adds out.old out.new (event_line event.now) }
 {
@@ -57,10 +49,6 @@ pub fn event_line(out: &mut Draft, event: &Event)
 }
 
 /// Appends the lines of events.
-///
-/// # Errors
-///
-/// `AllocError` where memory runs out.
 pub fn event_lines(out: &mut Draft, events: &[Event])
     ensures { Adds out.old out.new (event_lines events.now) }
 {

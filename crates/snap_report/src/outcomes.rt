@@ -10,10 +10,6 @@ use snap_text::Draft;
 use snap_words::Kind;
 
 /// Appends why an item is skipped.
-///
-/// # Errors
-///
-/// `AllocError` where memory runs out.
 pub fn reason_text(out: &mut Draft, reason: Reason)
     ensures { Adds out.old out.new (reason_text reason) }
 {
@@ -28,10 +24,6 @@ pub fn reason_text(out: &mut Draft, reason: Reason)
 }
 
 /// Appends the outcome of an item.
-///
-/// # Errors
-///
-/// `AllocError` where memory runs out.
 pub fn outcome_text(out: &mut Draft, outcome: &Outcome)
     ensures { Adds out.old out.new (outcome_text outcome.now) }
 {
@@ -56,10 +48,6 @@ pub fn outcome_text(out: &mut Draft, outcome: &Outcome)
 }
 
 /// Appends the status of each process, from process 1 on.
-///
-/// # Errors
-///
-/// `AllocError` where memory runs out.
 pub fn head_lines<K: Kind>(out: &mut Draft, machine: &Machine<K>)
     ensures { Adds out.old out.new (head_lines 1 machine.now.state.processes) }
 {

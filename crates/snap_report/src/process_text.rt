@@ -94,10 +94,6 @@ fn status_text(out: &mut Draft, status: &Status)
 }
 
 /// Appends `process I` and the status of process `i`.
-///
-/// # Errors
-///
-/// `AllocError` where memory runs out.
 pub fn head_line<K: Kind>(out: &mut Draft, machine: &Machine<K>, i: u32)
     requires { IsOneOf machine.now.shape.n i }
     ensures { Adds out.old out.new (head_line i (process_at machine.now.state i).status) }
@@ -209,10 +205,6 @@ fn locals_text<K: Kind>(out: &mut Draft, machine: &Machine<K>, i: u32)
 }
 
 /// Appends the lines of process i.
-///
-/// # Errors
-///
-/// `AllocError` where memory runs out.
 pub fn process_lines<K: Kind>(out: &mut Draft, machine: &Machine<K>, i: u32)
     requires { IsOneOf machine.now.shape.n i }
     ensures { Adds out.old out.new
@@ -223,10 +215,6 @@ pub fn process_lines<K: Kind>(out: &mut Draft, machine: &Machine<K>, i: u32)
 }
 
 /// Appends the lines of the processes, from process 1 on.
-///
-/// # Errors
-///
-/// `AllocError` where memory runs out.
 pub fn processes_lines<K: Kind>(out: &mut Draft, machine: &Machine<K>)
     ensures { Adds out.old out.new
         (processes_lines machine.now.source.kind 1 machine.now.state.processes) }

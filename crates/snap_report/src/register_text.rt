@@ -22,10 +22,6 @@ use snap_text::Draft;
 use snap_words::{Address, Bank, Kind, KindTag, View};
 
 /// Appends the line of the values of the words.
-///
-/// # Errors
-///
-/// `AllocError` where memory runs out.
 pub fn values_line<K: Kind>(out: &mut Draft, machine: &Machine<K>)
     ensures { Adds out.old out.new (values_line (values machine.now.state)) }
 {
@@ -88,10 +84,6 @@ fn view_line(out: &mut Draft, i: u64, view: &View)
 }
 
 /// Appends the line of a register, or nothing where there is no such register.
-///
-/// # Errors
-///
-/// `AllocError` where memory runs out.
 pub fn register_line<K: Kind>(out: &mut Draft, machine: &Machine<K>, address: Address)
     ensures { let read = contents machine.now.state.memory address.bank address.i address.j in
         Adds out.old out.new
@@ -166,10 +158,6 @@ fn view_lines<K: Kind>(out: &mut Draft, machine: &Machine<K>)
 }
 
 /// Appends the lines of the registers: words, bits and views.
-///
-/// # Errors
-///
-/// `AllocError` where memory runs out.
 pub fn register_lines<K: Kind>(out: &mut Draft, machine: &Machine<K>)
     ensures { Adds out.old out.new
         (register_lines machine.now.source.kind machine.now.state.memory) }

@@ -13,10 +13,6 @@ use snap_text::Draft;
 use snap_words::Kind;
 
 /// Appends `position T of TOTAL`.
-///
-/// # Errors
-///
-/// `AllocError` where memory runs out.
 pub fn position_line(out: &mut Draft, position: u64, total: u64)
     ensures { Adds out.old out.new (position_line position total) }
 {
@@ -40,10 +36,6 @@ fn first_line(out: &mut Draft, position: u64, total: u64)
 
 /// Appends the report of the state of `machine` after `position` of `total` items, and of the
 /// events up to it.
-///
-/// # Errors
-///
-/// `AllocError` where memory runs out.
 pub fn report<K: Kind>(
     out: &mut Draft,
     machine: &Machine<K>,

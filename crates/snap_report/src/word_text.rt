@@ -16,10 +16,6 @@ fn push_handshakes<K: Kind>(out: &mut Draft, word: &K::Word)
 }
 
 /// Appends a word.
-///
-/// # Errors
-///
-/// `AllocError` where memory runs out.
 pub fn word_text<K: Kind>(out: &mut Draft, kind: KindTag, word: &K::Word)
     ensures { Adds out.old out.new (word_text kind (K.as_word word.now)) }
 {

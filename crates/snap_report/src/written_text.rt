@@ -14,10 +14,6 @@ use snap_text::Draft;
 use snap_words::{Bank, Kind, KindTag};
 
 /// Appends the line of the register that an item has written, behind the values if it is a word.
-///
-/// # Errors
-///
-/// `AllocError` where memory runs out.
 pub fn written_shared<K: Kind>(out: &mut Draft, machine: &Machine<K>, written: WritePlace)
     ensures { Adds out.old out.new
         (written_shared machine.now.source.kind machine.now.state written) }
@@ -84,10 +80,6 @@ fn place_lines<K: Kind>(out: &mut Draft, machine: &Machine<K>, i: u32, k: usize,
 }
 
 /// Appends the lines of the local of process `i` at a write place.
-///
-/// # Errors
-///
-/// `AllocError` where memory runs out.
 pub fn written_local<K: Kind>(out: &mut Draft, machine: &Machine<K>, i: u32, written: WritePlace)
     requires { IsOneOf machine.now.shape.n i }
     ensures { Adds out.old out.new

@@ -110,10 +110,6 @@ fn push_not_own(out: &mut Draft, bank: Bank, i: u64, j: u64)
 }
 
 /// Appends the text on an operand at which a line traps.
-///
-/// # Errors
-///
-/// `AllocError` where memory runs out.
 pub fn push_trouble(out: &mut Draft, trouble: &Trouble)
     ensures { Adds out.old out.new (trouble_text trouble.now) }
 {

@@ -1,13 +1,16 @@
 -- The lint is sound: in every run, control stays on the lines that its flow reaches, and a trap that it can foresee
 -- is at a line with a warning of it.
-use Rattle.std.specs.Prelude.{◌≡◌, ◌≢◌, ℕ, zero, suc, ◌-◌, List, [], ◌∷◌, length, take}
+use Rattle.std.specs.Prelude.{◌≡◌, ◌≢◌, ℕ, zero, suc, ◌-◌, ◌<◌, Bool, true, false, ◌&&◌, List, [], ◌∷◌, length, take}
+use Rattle.std.specs.Prelude.{nat_eq, nat_lt, nat_le, if◌then◌else◌, slice_index_or, slice_set}
 use Rattle.std.specs.Prelude.{Option, Some, None, Result, Ok, Err, refl}
-use Rattle.std.proofs.Common.{sym, subst, inl, inr}
-use Rattle.std.proofs.lemmas.Bool.{cases_lt}
-use Rattle.std.proofs.lemmas.List.{get_or_past}
-use Rattle.std.proofs.lemmas.List.Elements.{All-contains, All-replicate, All-set}
-use Rattle.std.specs.List.{All}
-use Rattle.snap_words.specs.Shape.{Counts}
+use Rattle.std.proofs.Common.{sym, subst, inl, inr, arith}
+use Rattle.std.proofs.lemmas.Bool.{cases_eq, cases_lt, eqb-true}
+use Rattle.std.proofs.lemmas.Grind.{get_or-set_at}
+use Rattle.std.proofs.lemmas.List.{get_or_past, get_or-replicate, get_or-set_other, length-replicate, length-set}
+use Rattle.std.proofs.lemmas.List.Elements.{All-contains}
+use Rattle.snap_words.specs.Shape.{Counts, IsOneOf}
+use Rattle.snap_words.specs.declared.kind.KindTag.{KindTag}
+use Rattle.snap_words.specs.declared.kind.KindTag.TheVariants as kind
 use Rattle.snap_semantics.specs.declared.instr.Instr.{Instr}
 use Rattle.snap_semantics.specs.declared.process.Activity.{Activity}
 use Rattle.snap_semantics.specs.declared.process.Cause.{Cause}
@@ -24,103 +27,163 @@ use Rattle.snap_semantics.specs.Run.{after}
 use Rattle.snap_semantics.specs.Source.{Source, instr_at}
 use Rattle.snap_semantics.specs.State.{Locals, Memory, Process, State, initial, initial_process, nobody, process_at}
 use Rattle.snap_semantics.specs.Table.{Effect, Goes, Answers, Finishes, effect_at, leave, step, entry, call_skip}
-use Rattle.snap_semantics.specs.Table.{called, call, crash, done}
+use Rattle.snap_semantics.specs.Table.{called, call, crash, done, owner_skip, who}
 use Rattle.snap_semantics.specs.Value.{Context}
 use Rattle.snap_runs.specs.Run.{before, item, outcome as outcome_at, run_of_items, state}
 use Rattle.snap_lint.specs.declared.concern.Concern.{Concern}
 use Rattle.snap_lint.specs.declared.concern.Warning.{Warning}
-use Rattle.snap_lint.specs.Sound.{IsWarnedOf, SaysNothingOf, SilentNeverTraps, TrapsAreWarnedOf, concern_of}
-use Rattle.snap_lint.specs.Warnings.{warnings}
+use Rattle.snap_lint.specs.Sound.{AreOfProcesses, IsWarnedOf, SaysNothingOf, SilentNeverTraps, TrapsAreWarnedOf, concern_of}
+use Rattle.snap_lint.specs.Warnings.{has_owners, warnings}
 use Rattle.snap_lint.proofs.Lines.{has_instr}
-use Rattle.snap_lint.proofs.Steps.{Keeps, MayStand, comes_to_line, line_keeps, scan_begins, update_begins}
+use Rattle.snap_lint.proofs.Steps.{Keeps, MayStand, OwnsWord, comes_to_line, line_keeps, scan_begins, update_begins}
 use Rattle.snap_lint.proofs.Warned.{warning_at}
 
--- a process is where control may come, or it has trapped where that is warned of
-abbrev IsInFlow : Source → Status → Type 0
-IsInFlow s Idle = Unit {0}
-IsInFlow s (Busy a) = MayStand s a.op a.link a.line
-IsInFlow s (Trapped why a) = IsWarnedOf s a.line why
-IsInFlow s (Crashed was) = Unit {0}
+-- a process is where control may come and updates no word of another one, or it has trapped where that is warned of
+abbrev IsInFlow : Source → (who : ℕ) → Status → Type 0
+IsInFlow s who Idle = Unit {0}
+IsInFlow s who (Busy a) = MayStand s a.op a.link a.line × OwnsWord s.kind who a.op
+IsInFlow s who (Trapped why a) = IsWarnedOf s a.line why
+IsInFlow s who (Crashed was) = Unit {0}
 
-abbrev ProcessInFlow : Source → Process → Type 0
-ProcessInFlow s p = IsInFlow s p.status
+-- each of some processes is, by its number
+abbrev AreInFlow : Source → List Process → Type 0
+AreInFlow s ps = (k : ℕ) (d : Process) → k < length ps → IsInFlow s (suc k) (slice_index_or ps k d).status
 
 abbrev StateInFlow : Source → State → Type 0
-StateInFlow s S = All (ProcessInFlow s) S.processes
+StateInFlow s S = AreInFlow s S.processes
+
+-- with another process in one place
+set_in : (s : Source) (ps : List Process) (k : ℕ) (p : Process) → IsInFlow s (suc k) p.status → AreInFlow s ps →
+    AreInFlow s (slice_set ps k p)
+set_in s ps k p own h j d lt = elim (cases_eq j k) [
+  | inl is ↦
+      subst (λ (q : Process). IsInFlow s (suc j) q.status)
+      (sym (get_or-set_at ps k j p d is (omega (arith, lt, length-set ps k p, is))))
+      (subst (λ (n : ℕ). IsInFlow s (suc n) p.status) (sym is) own)
+  | inr not ↦
+      subst (λ (q : Process). IsInFlow s (suc j) q.status) (sym (get_or-set_other ps k j p d not))
+      (h j d (omega (arith, lt, length-set ps k p)))
+]
+
+-- a test of which nothing came was passed
+either_none : (b : Bool) (r : Reason) → (if b then None else Some r) ≡ None → b ≡ true
+either_none true r is = refl
+either_none false r is = absurd (cc)
+
+first_none : (b : Bool) (x : Option Reason) (r : Reason) → (if b then x else Some r) ≡ None → x ≡ None
+first_none true x r is = is
+first_none false x r is = absurd (cc)
+
+-- a number from 1 is behind one from 0
+behind : (n i : ℕ) → IsOneOf n i → suc (i - 1) ≡ i
+behind n i is = omega (arith, is.0)
 
 module _ (s : Source) (listing : IsListing s) (shape : Counts) where
-  process_in : (S : State) → StateInFlow s S → (i : ℕ) → ProcessInFlow s (process_at S i)
+  process_in : (S : State) → StateInFlow s S → (i : ℕ) → IsInFlow s (suc (i - 1)) (process_at S i).status
   process_in S h i = elim (cases_lt (i - 1) (length S.processes)) [
     | inl less ↦ h (i - 1) nobody less
-    | inr past ↦ subst (ProcessInFlow s) (sym (get_or_past S.processes (i - 1) nobody past)) tt
+    | inr past ↦
+        subst (λ (p : Process). IsInFlow s (suc (i - 1)) p.status) (sym (get_or_past S.processes (i - 1) nobody past)) tt
   ]
 
   -- who takes the step
   abbrev taker : ℕ → Process → Activity → Context
   taker i p a = record { shape = shape; me = i; op = a.op; locals = p.locals; place = 0 }
 
-  at_keeps : (c : Context) (m : Memory) (a : Activity) → MayStand s a.op a.link a.line → (i : Option Instr) →
-      instr_at s.lines a.line ≡ i → Keeps s a.line a.op (effect_at s c m a i)
-  at_keeps c m a stand None is = absurd (has_instr s.lines a.line (comes_to_line s _ a.line stand.here) is)
-  at_keeps c m a stand (Some i) is = line_keeps s listing c m a stand i is
+  at_keeps : (c : Context) (m : Memory) (a : Activity) → MayStand s a.op a.link a.line → c.op ≡ a.op →
+      OwnsWord s.kind c.me a.op → (i : Option Instr) → instr_at s.lines a.line ≡ i →
+      Keeps s a.line a.op (effect_at s c m a i)
+  at_keeps c m a stand same owns None is = absurd (has_instr s.lines a.line (comes_to_line s _ a.line stand.here) is)
+  at_keeps c m a stand same owns (Some i) is = line_keeps s listing c m a stand same owns i is
+
+  -- what a step of a process at a line does is as it may be
+  taken : (i : ℕ) (p : Process) (a : Activity) (m : Memory) → IsOneOf shape.n i → IsInFlow s (suc (i - 1)) (Busy a) →
+      Keeps s a.line a.op (effect_at s (taker i p a) m a (instr_at s.lines a.line))
+  taken i p a m one own =
+      at_keeps (taker i p a) m a own.0 refl
+      (subst (λ (n : ℕ). OwnsWord s.kind n a.op) (behind shape.n i one) own.1) (instr_at s.lines a.line) refl
 
   leave_keeps : (S : State) (i : ℕ) (a : Activity) (l : Locals) (r : Result Effect Cause) → StateInFlow s S →
-      Keeps s a.line a.op r → StateInFlow s (leave S i a l r).0
+      OwnsWord s.kind (suc (i - 1)) a.op → Keeps s a.line a.op r → StateInFlow s (leave S i a l r).0
   unfolding Keeps
-  leave_keeps S i a l (Ok (Goes m k link line)) h keeps = All-set (ProcessInFlow s) S.processes (i - 1) _ keeps h
-  leave_keeps S i a l (Ok (Answers v)) h keeps = All-set (ProcessInFlow s) S.processes (i - 1) _ tt h
-  leave_keeps S i a l (Ok Finishes) h keeps = All-set (ProcessInFlow s) S.processes (i - 1) _ tt h
-  leave_keeps S i a l (Err e) h keeps = All-set (ProcessInFlow s) S.processes (i - 1) _ keeps h
+  leave_keeps S i a l (Ok (Goes m k link line)) h owns keeps = set_in s S.processes (i - 1) _ (keeps, owns) h
+  leave_keeps S i a l (Ok (Answers v)) h owns keeps = set_in s S.processes (i - 1) _ tt h
+  leave_keeps S i a l (Ok Finishes) h owns keeps = set_in s S.processes (i - 1) _ tt h
+  leave_keeps S i a l (Err e) h owns keeps = set_in s S.processes (i - 1) _ keeps h
 
-  step_keeps : (S : State) (i : ℕ) (p : Process) (status : Status) → StateInFlow s S → IsInFlow s status →
-      StateInFlow s (step s shape S i p status).0
-  step_keeps S i p Idle h own = h
-  step_keeps S i p (Trapped why a) h own = h
-  step_keeps S i p (Crashed was) h own = h
-  step_keeps S i p (Busy a) h own =
-      leave_keeps S i a p.locals _ h (at_keeps (taker i p a) S.memory a own (instr_at s.lines a.line) refl)
+  step_keeps : (S : State) (i : ℕ) (p : Process) (status : Status) → IsOneOf shape.n i → StateInFlow s S →
+      IsInFlow s (suc (i - 1)) status → StateInFlow s (step s shape S i p status).0
+  step_keeps S i p Idle one h own = h
+  step_keeps S i p (Trapped why a) one h own = h
+  step_keeps S i p (Crashed was) one h own = h
+  step_keeps S i p (Busy a) one h own = leave_keeps S i a p.locals _ h own.1 (taken i p a S.memory one own)
 
   entry_comes : (o : Op) → MayStand s o None (entry s o)
   entry_comes Scan = record { here = scan_begins s listing.targets.0; after_call = tt }
   entry_comes (Update word value) = record { here = update_begins s listing.targets.1.0; after_call = tt }
 
-  called_keeps : (S : State) (i : ℕ) (p : Process) (o : Op) (why : Option Reason) → StateInFlow s S →
-      StateInFlow s (called s S i p o why).0
-  called_keeps S i p o (Some why) h = h
-  called_keeps S i p o None h = All-set (ProcessInFlow s) S.processes (i - 1) _ (entry_comes o) h
+  -- a call that is not skipped is of no update of another process's word
+  by_owner : (k : KindTag) (i word : ℕ) → owner_skip k i word ≡ None → has_owners k ≡ true → word ≡ i
+  by_owner kind.Seq i word is has = eqb-true word i (either_none (nat_eq word i) _ is)
+  by_owner kind.Bits i word is has = eqb-true word i (either_none (nat_eq word i) _ is)
+  by_owner kind.Multi i word is has = absurd (let e : false ≡ true = has in cc)
 
-  call_keeps : (S : State) (i : ℕ) (o : Op) (p : Process) (status : Status) → StateInFlow s S →
+  call_owns : (i : ℕ) (o : Op) → call_skip s.kind shape i o ≡ None → OwnsWord s.kind i o
+  call_owns i Scan is = tt
+  call_owns i (Update word value) is =
+      by_owner s.kind i word (first_none (nat_lt 0 word && nat_le word shape.w) (owner_skip s.kind i word) _ is)
+
+  called_keeps : (S : State) (i : ℕ) (p : Process) (o : Op) (why : Option Reason) → IsOneOf shape.n i →
+      call_skip s.kind shape i o ≡ why → StateInFlow s S → StateInFlow s (called s S i p o why).0
+  called_keeps S i p o (Some why) one is h = h
+  called_keeps S i p o None one is h =
+      set_in s S.processes (i - 1) _
+      (entry_comes o, subst (λ (n : ℕ). OwnsWord s.kind n o) (sym (behind shape.n i one)) (call_owns i o is)) h
+
+  call_keeps : (S : State) (i : ℕ) (o : Op) (p : Process) (status : Status) → IsOneOf shape.n i → StateInFlow s S →
       StateInFlow s (call s shape S i o p status).0
-  call_keeps S i o p (Trapped e a) h = h
-  call_keeps S i o p (Crashed was) h = h
-  call_keeps S i o p (Busy a) h = h
-  call_keeps S i o p Idle h = called_keeps S i p o (call_skip s.kind shape i o) h
+  call_keeps S i o p (Trapped e a) one h = h
+  call_keeps S i o p (Crashed was) one h = h
+  call_keeps S i o p (Busy a) one h = h
+  call_keeps S i o p Idle one h = called_keeps S i p o (call_skip s.kind shape i o) one refl h
 
   crash_keeps : (S : State) (i : ℕ) (p : Process) (status : Status) → StateInFlow s S →
       StateInFlow s (crash S i p status).0
   crash_keeps S i p (Trapped e a) h = h
   crash_keeps S i p (Crashed was) h = h
-  crash_keeps S i p (Busy a) h = All-set (ProcessInFlow s) S.processes (i - 1) _ tt h
-  crash_keeps S i p Idle h = All-set (ProcessInFlow s) S.processes (i - 1) _ tt h
+  crash_keeps S i p (Busy a) h = set_in s S.processes (i - 1) _ tt h
+  crash_keeps S i p Idle h = set_in s S.processes (i - 1) _ tt h
 
-  done_keeps : (S : State) (x : Item) → StateInFlow s S → StateInFlow s (done s shape S x).0
-  done_keeps S (Step i) h = step_keeps S i (process_at S i) (process_at S i).status h (process_in S h i)
-  done_keeps S (Call i o) h = call_keeps S i o (process_at S i) (process_at S i).status h
-  done_keeps S (Crash i) h = crash_keeps S i (process_at S i) (process_at S i).status h
+  done_keeps : (S : State) (x : Item) → IsOneOf shape.n (who x) → StateInFlow s S → StateInFlow s (done s shape S x).0
+  done_keeps S (Step i) one h = step_keeps S i (process_at S i) (process_at S i).status one h (process_in S h i)
+  done_keeps S (Call i o) one h = call_keeps S i o (process_at S i) (process_at S i).status one h
+  done_keeps S (Crash i) one h = crash_keeps S i (process_at S i) (process_at S i).status h
 
-  after_keeps : (S : State) (items : List Item) → StateInFlow s S → StateInFlow s (after s shape S items)
-  after_keeps S [] h = h
-  after_keeps S (x ∷ xs) h = after_keeps (done s shape S x).0 xs (done_keeps S x h)
+  after_keeps : (S : State) (items : List Item) → AreOfProcesses shape items → StateInFlow s S →
+      StateInFlow s (after s shape S items)
+  after_keeps S [] all h = h
+  after_keeps S (x ∷ xs) all h = after_keeps (done s shape S x).0 xs all.1 (done_keeps S x all.0 h)
 
   begins_in : StateInFlow s (initial s shape)
-  begins_in = All-replicate (ProcessInFlow s) shape.n (initial_process s shape) tt
+  begins_in k d lt =
+      subst (λ (p : Process). IsInFlow s (suc k) p.status)
+      (sym (get_or-replicate shape.n k (initial_process s shape) d
+      (omega (arith, lt, length-replicate shape.n (initial_process s shape))))) tt
 
-  state_in : (items : List Item) (t : ℕ) → StateInFlow s (state (run_of_items s shape items) t)
-  state_in items t = after_keeps (initial s shape) (take t items) begins_in
+  -- the first items are of processes
+  front_of : (t : ℕ) (items : List Item) → AreOfProcesses shape items → AreOfProcesses shape (take t items)
+  front_of zero items all = tt
+  front_of (suc t) [] all = tt
+  front_of (suc t) (x ∷ xs) all = (all.0, front_of t xs all.1)
 
-  before_in : (items : List Item) (t : ℕ) → StateInFlow s (before (run_of_items s shape items) t)
-  before_in items zero = state_in items 0
-  before_in items (suc t) = state_in items t
+  state_in : (items : List Item) (t : ℕ) → AreOfProcesses shape items →
+      StateInFlow s (state (run_of_items s shape items) t)
+  state_in items t all = after_keeps (initial s shape) (take t items) (front_of t items all) begins_in
+
+  before_in : (items : List Item) (t : ℕ) → AreOfProcesses shape items →
+      StateInFlow s (before (run_of_items s shape items) t)
+  before_in items zero all = state_in items 0 all
+  before_in items (suc t) all = state_in items t all
 
   -- what a step traps on is warned of
   left_trap : (S : State) (i : ℕ) (a : Activity) (l : Locals) (r : Result Effect Cause) (why : Cause) →
@@ -134,13 +197,13 @@ module _ (s : Source) (listing : IsListing s) (shape : Counts) where
   abbrev WarnedSomewhere : Cause → Type 0
   WarnedSomewhere why = (k : ℕ) × IsWarnedOf s k why
 
-  step_trap : (S : State) (i : ℕ) (p : Process) (status : Status) (why : Cause) → IsInFlow s status →
-      (step s shape S i p status).1 ≡ outcome.Trapped why → WarnedSomewhere why
-  step_trap S i p Idle why own is = absurd (cc)
-  step_trap S i p (Trapped e a) why own is = absurd (cc)
-  step_trap S i p (Crashed was) why own is = absurd (cc)
-  step_trap S i p (Busy a) why own is =
-      (a.line, left_trap S i a p.locals _ why (at_keeps (taker i p a) S.memory a own (instr_at s.lines a.line) refl) is)
+  step_trap : (S : State) (i : ℕ) (p : Process) (status : Status) (why : Cause) → IsOneOf shape.n i →
+      IsInFlow s (suc (i - 1)) status → (step s shape S i p status).1 ≡ outcome.Trapped why → WarnedSomewhere why
+  step_trap S i p Idle why one own is = absurd (cc)
+  step_trap S i p (Trapped e a) why one own is = absurd (cc)
+  step_trap S i p (Crashed was) why one own is = absurd (cc)
+  step_trap S i p (Busy a) why one own is =
+      (a.line, left_trap S i a p.locals _ why (taken i p a S.memory one own) is)
 
   called_trap : (S : State) (i : ℕ) (p : Process) (o : Op) (skip : Option Reason) (why : Cause) →
       (called s S i p o skip).1 ≡ outcome.Trapped why → WarnedSomewhere why
@@ -161,24 +224,36 @@ module _ (s : Source) (listing : IsListing s) (shape : Counts) where
   crash_trap S i p (Busy a) why is = absurd (cc)
   crash_trap S i p Idle why is = absurd (cc)
 
-  item_trap : (S : State) (x : Item) (why : Cause) → StateInFlow s S →
+  item_trap : (S : State) (x : Item) (why : Cause) → IsOneOf shape.n (who x) → StateInFlow s S →
       (done s shape S x).1 ≡ outcome.Trapped why → WarnedSomewhere why
-  item_trap S (Step i) why h is = step_trap S i (process_at S i) (process_at S i).status why (process_in S h i) is
-  item_trap S (Call i o) why h is = call_trap S i o (process_at S i) (process_at S i).status why is
-  item_trap S (Crash i) why h is = crash_trap S i (process_at S i) (process_at S i).status why is
+  item_trap S (Step i) why one h is =
+      step_trap S i (process_at S i) (process_at S i).status why one (process_in S h i) is
+  item_trap S (Call i o) why one h is = call_trap S i o (process_at S i) (process_at S i).status why is
+  item_trap S (Crash i) why one h is = crash_trap S i (process_at S i) (process_at S i).status why is
+
+  -- an item of the run is of a process
+  item_of : (items : List Item) (t : ℕ) → AreOfProcesses shape items → IsOneOf (length items) t →
+      IsOneOf shape.n (who (item (run_of_items s shape items) t))
+  item_of items zero all there = absurd (omega (arith, there.0))
+  item_of [] (suc t) all there = absurd (omega (arith, there.1))
+  item_of (x ∷ xs) (suc zero) all there = all.0
+  item_of (x ∷ xs) (suc (suc t)) all there = item_of xs (suc t) all.1 (omega arith, omega (arith, there.1))
 
   silent : (c : Concern) → SaysNothingOf c (warnings s) → (why : Cause) → concern_of why ≡ Some c →
-      (items : List Item) (t : ℕ) → outcome_at (run_of_items s shape items) t ≡ outcome.Trapped why → ⊥
-  silent c nothing why of items t is =
+      (items : List Item) → AreOfProcesses shape items → (t : ℕ) → IsOneOf (length items) t →
+      outcome_at (run_of_items s shape items) t ≡ outcome.Trapped why → ⊥
+  silent c nothing why of items all t there is =
       let r = run_of_items s shape items in
-      let warned = item_trap (before r t) (item r t) why (before_in items t) is in
+      let warned =
+      item_trap (before r t) (item r t) why (item_of items t all there) (before_in items t all) is in
       All-contains (λ (w : Warning). w.concern ≢ c) (warnings s) (warning_at warned.0 c) nothing (warned.1 c of) refl
 
 pub traps_are_warned_of : TrapsAreWarnedOf
-traps_are_warned_of l listing shape items t i why a is =
+traps_are_warned_of l listing shape items all t i why a is =
     let r = run_of_items l shape items in
-    let there = process_in l listing shape (state r t) (state_in l listing shape items t) i in
-    subst (IsInFlow l) is there
+    let there = process_in l listing shape (state r t) (state_in l listing shape items t all) i in
+    subst (IsInFlow l (suc (i - 1))) is there
 
 pub silent_never_traps : SilentNeverTraps
-silent_never_traps l listing c nothing why of shape items t = silent l listing shape c nothing why of items t
+silent_never_traps l listing c nothing why of shape items all t there =
+    silent l listing shape c nothing why of items all t there

@@ -1,9 +1,9 @@
 -- One step keeps a process within the lint's flow of control: it goes from a reached line to a reached line, ends the
 -- operation, or traps where the lint warns of that.
-use Rattle.std.specs.Prelude.{◌≡◌, ℕ, Bool, true, false, not, List, [], ◌∷◌, Option, Some, None, Result, Ok, Err}
+use Rattle.std.specs.Prelude.{◌≡◌, ℕ, Bool, true, false, not, ◌&&◌, ◌||◌, List, [], ◌∷◌, Option, Some, None, Result, Ok, Err}
 use Rattle.std.specs.Prelude.{nat_eq, nat_lt, is_none, if◌then◌else◌, refl}
 use Rattle.std.proofs.Common.{sym, ◌∙◌, ap, subst, arith, inl, inr}
-use Rattle.std.proofs.lemmas.Bool.{and_from, cases_Bool, or_cases, or_left, eq-eqb}
+use Rattle.std.proofs.lemmas.Bool.{and_from, and_parts, cases_Bool, or_cases, or_left, eq-eqb}
 use Rattle.std.proofs.lemmas.List.Folds.{list_any_at}
 use Rattle.std.proofs.lemmas.List.Elements.{Contains-append_left, Contains-append_right}
 use Rattle.std.specs.List.{AllByRecursion, Contains}
@@ -38,6 +38,7 @@ use Rattle.snap_semantics.specs.Table.{Effect, Goes, Answers, Finishes, on, rang
 use Rattle.snap_semantics.specs.Table.{first_true, conditions, each_value, tuple_word, with_bits, bit_value, owned}
 use Rattle.snap_semantics.specs.Table.{bank_of, first_goes, call_goes, return_goes, finish_goes, effect}
 use Rattle.snap_semantics.specs.Value.{Context, at_place, place_in, index_value, expr_value, condition_holds, each_of}
+use Rattle.snap_semantics.specs.Value.{word_of}
 use Rattle.snap_lint.specs.declared.edges.Edge.{Edge}
 use Rattle.snap_lint.specs.declared.mode.Mode.{Mode}
 use Rattle.snap_lint.specs.declared.mode.Mode.TheVariants as mode
@@ -46,7 +47,8 @@ use Rattle.snap_lint.specs.Flow.{callees, edge_to, edges, is_within, jump, line_
 use Rattle.snap_lint.specs.Flow.{marked_callee, may_go_on, reach_of, way_of}
 use Rattle.snap_lint.specs.Marks.{is_in, reached}
 use Rattle.snap_lint.specs.Sound.{IsWarnedOf, concern_of}
-use Rattle.snap_lint.specs.Warnings.{is_me, is_own, is_shared, may_write_others}
+use Rattle.snap_lint.specs.Warnings.{has_owners, is_in_update, is_me, is_own, is_own_word, is_shared, is_word}
+use Rattle.snap_lint.specs.Warnings.{may_write_others}
 use Rattle.snap_lint.proofs.Lines.{found, following_there, in_flat, line_of, targets_of}
 use Rattle.snap_lint.proofs.Marking.{edge_reached, line_reached, start_reached}
 use Rattle.snap_lint.proofs.Quiet.{IsQuiet, quiet_fault, place_quiet, expr_quiet, condition_quiet, conditions_quiet}
@@ -59,6 +61,11 @@ mode_of op.Scan None = mode.Scan
 mode_of op.Scan (Some link) = mode.ScanCall
 mode_of (op.Update word value) None = mode.Update
 mode_of (op.Update word value) (Some link) = mode.UpdateCall
+
+-- an operation of a process is no update of a word of another one
+abbrev pub OwnsWord : KindTag → (who : ℕ) → Op → Type 0
+OwnsWord k who op.Scan = Unit {0}
+OwnsWord k who (op.Update word value) = has_owners k ≡ true → word ≡ who
 
 -- control may come to a line in a mode
 abbrev pub Comes : Source → Mode → ℕ → Type 0
@@ -190,12 +197,45 @@ mine k c b index.Word is = absurd (let e : false ≡ true = is in cc)
 mine k c b index.Place is = absurd (let e : false ≡ true = is in cc)
 mine k c b (index.Scalar x) is = absurd (let e : false ≡ true = is in cc)
 
-own_may : (k : KindTag) (c : Context) (b : Bank) (x : Index) → is_own k b x ≡ true →
-    may_write k c.me b (index_value c x) ≡ true
-own_may k c b x is = elim (or_cases (is_shared k b) (is_me x) is) [
-  | inl all ↦ shared k b c.me (index_value c x) all
-  | inr me ↦ mine k c b x me
-]
+-- the index `word`
+the_word : (c : Context) (x : Index) → is_word x ≡ true → index_value c x ≡ word_of c.op
+the_word c (index.Number n) is = absurd (let e : false ≡ true = is in cc)
+the_word c index.Processes is = absurd (let e : false ≡ true = is in cc)
+the_word c index.Words is = absurd (let e : false ≡ true = is in cc)
+the_word c index.Me is = absurd (let e : false ≡ true = is in cc)
+the_word c index.Word is = refl
+the_word c index.Place is = absurd (let e : false ≡ true = is in cc)
+the_word c (index.Scalar x) is = absurd (let e : false ≡ true = is in cc)
+
+of_update : (k : KindTag) (who : ℕ) (o : Op) (link : Option ℕ) → OwnsWord k who o → has_owners k ≡ true →
+    is_in_update (mode_of o link) ≡ true → word_of o ≡ who
+of_update k who op.Scan None owns has is = absurd (let e : false ≡ true = is in cc)
+of_update k who op.Scan (Some link) owns has is = absurd (let e : false ≡ true = is in cc)
+of_update k who (op.Update word value) link owns has is = owns has
+
+written : (k : KindTag) (who n : ℕ) (b : Bank) → has_owners k ≡ true → n ≡ who → may_write k who b n ≡ true
+written kind.Seq who n b has is = eq-eqb n who is
+written kind.Bits who n b has is = eq-eqb n who is
+written kind.Multi who n b has is = absurd (let e : false ≡ true = has in cc)
+
+module _ (k : KindTag) (c : Context) (o : Op) (link : Option ℕ) (same_op : c.op ≡ o) (owns : OwnsWord k c.me o) where
+  own_word : (b : Bank) (x : Index) → is_own_word k (mode_of o link) x ≡ true →
+      may_write k c.me b (index_value c x) ≡ true
+  own_word b x is =
+      let has = and_parts (has_owners k) (is_in_update (mode_of o link) && is_word x) is in
+      let in' = and_parts (is_in_update (mode_of o link)) (is_word x) has.1 in
+      written k c.me (index_value c x) b has.0
+      (the_word c x in'.1 ∙ ap word_of same_op ∙ of_update k c.me o link owns has.0 in'.0)
+
+  own_may : (b : Bank) (x : Index) → is_own k (mode_of o link) b x ≡ true →
+      may_write k c.me b (index_value c x) ≡ true
+  own_may b x is = elim (or_cases (is_shared k b) (is_me x || is_own_word k (mode_of o link) x) is) [
+    | inl all ↦ shared k b c.me (index_value c x) all
+    | inr his ↦ elim (or_cases (is_me x) (is_own_word k (mode_of o link) x) his) [
+      | inl me ↦ mine k c b x me
+      | inr word ↦ own_word b x word
+    ]
+  ]
 
 within_call : (o : Op) (link : ℕ) → is_within (way_of (mode_of o (Some link))) ≡ true
 within_call op.Scan link = refl
@@ -250,13 +290,15 @@ module _ (s : Source) (listing : IsListing s) (k : ℕ) (i : Instr) (here : inst
       record { here = jumps s k i here (mode_of o link) target stand.here is line; after_call = stand.after_call }
 
   keeps_owned : {A : Type 0} (c : Context) (link : Option ℕ) (b : Bank) (x : Index) (v : A)
-      (f : A → Result Effect Cause) → MayStand s o link k → may_write_others s.kind i ≡ not (is_own s.kind b x) →
+      (f : A → Result Effect Cause) → c.op ≡ o → OwnsWord s.kind c.me o → MayStand s o link k →
+      may_write_others s.kind (mode_of o link) i ≡ not (is_own s.kind (mode_of o link) b x) →
       ((w : A) → Keeps s k o (f w)) → Keeps s k o (owned s.kind c b (index_value c x) v >>= f)
   unfolding Keeps
-  keeps_owned {A} c link b x v f stand says h =
+  keeps_owned {A} c link b x v f same_op owns stand says h =
       let after = λ (t : Bool). ◌>>=◌ {A = A} (if t then Ok v else Err cause.Owner) f in
-      elim (cases_Bool (is_own s.kind b x)) [
-        | inl is ↦ subst (λ t. Keeps s k o (after t)) (sym (own_may s.kind c b x is)) (h v)
+      elim (cases_Bool (is_own s.kind (mode_of o link) b x)) [
+        | inl is ↦
+            subst (λ t. Keeps s k o (after t)) (sym (own_may s.kind c o link same_op owns b x is)) (h v)
         | inr is ↦
             let warned : IsWarnedOf s k cause.Owner =
             owner_warned s k i here (mode_of o link) stand.here (says ∙ ap not is) in
@@ -321,7 +363,7 @@ module _ (s : Source) (k : ℕ) (here : instr_at s.lines k ≡ Some Finish) wher
   finishes op.Scan (Some link) stand = bad_end_warned s k Finish here mode.ScanCall stand.here refl
 
 module _ (s : Source) (listing : IsListing s) (c : Context) (m : Memory) (a : Activity)
-    (stand : MayStand s a.op a.link a.line) where
+    (stand : MayStand s a.op a.link a.line) (same_op : c.op ≡ a.op) (owns : OwnsWord s.kind c.me a.op) where
   abbrev Kept : Result Effect Cause → Type 0
   Kept r = Keeps s a.line a.op r
 
@@ -376,20 +418,20 @@ module _ (s : Source) (listing : IsListing s) (c : Context) (m : Memory) (a : Ac
       place_then i here c.shape.w (index_value c j) _ (λ r.
       taken {A = Word} i here (tuple_word c t) _ (tuple_quiet c t) (λ parts.
       taken {A = Word} i here (with_bits parts) _ (word_quiet parts) (λ word.
-      keeps_owned s listing a.line i here a.op {A = Word} c a.link bank.R j word _ stand refl
+      keeps_owned s listing a.line i here a.op {A = Word} c a.link bank.R j word _ same_op owns stand refl
       (λ x. behind i here (writes_on (mode_of a.op a.link) j t) _ _))))
   line_keeps (PutBit b j l e) here =
       let i = PutBit b j l e in
       place_then i here c.shape.n (index_value c j) _ (λ k.
       place_then i here c.shape.n (index_value c l) _ (λ r. expr_then i here c e _ (λ v.
       taken {A = ℕ} i here (bit_value v) _ (bit_quiet v) (λ bit.
-      keeps_owned s listing a.line i here a.op {A = ℕ} c a.link (bank_of b) j bit _ stand refl
+      keeps_owned s listing a.line i here a.op {A = ℕ} c a.link (bank_of b) j bit _ same_op owns stand refl
       (λ x. behind i here refl _ _)))))
   line_keeps (PutView j x) here =
       let i = PutView j x in
       place_then i here c.shape.n (index_value c j) _ (λ k.
       keeps_owned s listing a.line i here a.op {A = List ℕ} c a.link bank.V j
-      (value_at x c.locals.views []) _ stand refl (λ v. behind i here refl _ _))
+      (value_at x c.locals.views []) _ same_op owns stand refl (λ v. behind i here refl _ _))
   line_keeps (ViewData x y) here = behind (ViewData x y) here refl _ _
   line_keeps (ViewOf x y j) here =
       let i = ViewOf x y j in

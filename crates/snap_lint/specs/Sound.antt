@@ -1,8 +1,8 @@
 -- Soundness of the lint (`TrapsAreWarnedOf`, `SilentNeverTraps`): in no run does a process trap, for a cause that has
 -- a `Concern`, at a line without that warning.
-use Rattle.std.specs.Prelude.{◌≡◌, ◌≢◌, ℕ, List, Option, Some, None}
-use Rattle.std.specs.List.{All, Contains}
-use Rattle.snap_words.specs.Shape.{Counts}
+use Rattle.std.specs.Prelude.{◌≡◌, ◌≢◌, ℕ, List, length, Option, Some, None}
+use Rattle.std.specs.List.{All, AllByRecursion, Contains}
+use Rattle.snap_words.specs.Shape.{Counts, IsOneOf}
 use Rattle.snap_lint.specs.declared.concern.Concern.{Concern}
 use Rattle.snap_lint.specs.declared.concern.Concern.TheVariants as concern
 use Rattle.snap_lint.specs.declared.concern.Warning.{Warning}
@@ -15,6 +15,7 @@ use Rattle.snap_semantics.specs.declared.process.Status.TheVariants.{Trapped}
 use Rattle.snap_semantics.specs.IsListing.{IsListing}
 use Rattle.snap_semantics.specs.Source.{Source}
 use Rattle.snap_semantics.specs.State.{process_at}
+use Rattle.snap_semantics.specs.Table.{who}
 use Rattle.snap_runs.specs.Run.{run_of_items, state, outcome}
 use Rattle.snap_lint.specs.Warnings.{warnings}
 
@@ -33,10 +34,15 @@ abbrev pub IsWarnedOf : Source → ℕ → Cause → Type 0
 IsWarnedOf l line why =
     (c : Concern) → concern_of why ≡ Some c → Contains (warnings l) (record { line = line; concern = c })
 
+-- each item is of one of the processes, as reading a schedule makes sure
+abbrev pub AreOfProcesses : Counts → List Item → Type 0
+AreOfProcesses shape items = AllByRecursion (λ x. IsOneOf shape.n (who x)) items
+
 -- After t items of any schedule: where process i has trapped, the line at which it stands is warned of.
 abbrev pub TrapsAreWarnedOf : Type 0
 TrapsAreWarnedOf =
-    (l : Source) → IsListing l → (shape : Counts) (items : List Item) (t i : ℕ) (why : Cause) (a : Activity) →
+    (l : Source) → IsListing l → (shape : Counts) (items : List Item) → AreOfProcesses shape items →
+    (t i : ℕ) (why : Cause) (a : Activity) →
     (process_at (state (run_of_items l shape items) t) i).status ≡ Trapped why a → IsWarnedOf l a.line why
 
 -- nothing is said of a concern
@@ -48,4 +54,5 @@ abbrev pub SilentNeverTraps : Type 0
 SilentNeverTraps =
     (l : Source) → IsListing l → (c : Concern) → SaysNothingOf c (warnings l) →
     (why : Cause) → concern_of why ≡ Some c →
-    (shape : Counts) (items : List Item) (t : ℕ) → outcome (run_of_items l shape items) t ≢ outcome.Trapped why
+    (shape : Counts) (items : List Item) → AreOfProcesses shape items →
+    (t : ℕ) → IsOneOf (length items) t → outcome (run_of_items l shape items) t ≢ outcome.Trapped why

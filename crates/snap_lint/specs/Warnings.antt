@@ -48,23 +48,44 @@ abbrev pub is_me : Index → Bool
 is_me index.Me = true
 is_me i = false
 
+abbrev pub is_word : Index → Bool
+is_word index.Word = true
+is_word i = false
+
+-- kinds in which a process is asked for updates of its own word alone
+abbrev pub has_owners : KindTag → Bool
+has_owners kind.Seq = true
+has_owners kind.Bits = true
+has_owners kind.Multi = false
+
+-- an update, outside its calls and within them
+abbrev pub is_in_update : Mode → Bool
+is_in_update mode.Scan = false
+is_in_update mode.ScanCall = false
+is_in_update mode.Update = true
+is_in_update mode.UpdateCall = true
+
+-- the word of an update, which is its process's own
+abbrev pub is_own_word : KindTag → Mode → Index → Bool
+is_own_word k m i = has_owners k && (is_in_update m && is_word i)
+
 -- a register that its process may write, as its first index is written
-abbrev pub is_own : KindTag → Bank → Index → Bool
-is_own k b i = is_shared k b || is_me i
+abbrev pub is_own : KindTag → Mode → Bank → Index → Bool
+is_own k m b i = is_shared k b || (is_me i || is_own_word k m i)
 
 -- a write of a register that may be another process's
-abbrev pub may_write_others : KindTag → Instr → Bool
-may_write_others k (Put i t) = not (is_own k bank.R i)
-may_write_others k (PutBit b i j e) = not (is_own k (bank_of b) i)
-may_write_others k (PutView i x) = not (is_own k bank.V i)
-may_write_others k _ = false
+abbrev pub may_write_others : KindTag → Mode → Instr → Bool
+may_write_others k m (Put i t) = not (is_own k m bank.R i)
+may_write_others k m (PutBit b i j e) = not (is_own k m (bank_of b) i)
+may_write_others k m (PutView i x) = not (is_own k m bank.V i)
+may_write_others k m _ = false
 
 -- a line may trap so in this mode; the other concerns are of no trap
 abbrev pub may_trap : Source → Concern → Mode → Line → Bool
 may_trap s concern.OffEnd m line = may_run_off s.lines (way_of m) line
 may_trap s concern.Nested m line = may_nest m line.instr
 may_trap s concern.BadEnd m line = may_end_badly m line.instr
-may_trap s concern.Owner m line = may_write_others s.kind line.instr
+may_trap s concern.Owner m line = may_write_others s.kind m line.instr
 may_trap s _ m line = false
 
 abbrev pub modes : List Mode

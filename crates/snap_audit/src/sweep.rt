@@ -141,7 +141,7 @@ pub fn audit_over<K: Kind>(
 {
     let mut walk = Walk::<K>::over(alloc, program, schedule)?;
     let mut watch = Watch::new(alloc, program, schedule)?;
-    while let Some(passed) = walk.next()? {
+    while let Some(passed) = walk.next_told(watch.silent_lines(), false)? {
         watch.note(&walk, passed)?;
     }
     watch.verdicts(alloc)

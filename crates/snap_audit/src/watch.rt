@@ -1,20 +1,17 @@
 //! `Watch`: what an audit has to know of the items that a machine has done on its way through a
 //! run. The items are not kept, unlike in a record.
-ghost use Rattle.std.specs.Prelude.{◌≡◌, ◌<◌, ◌+◌, ◌++◌, ◌∷◌, IfOk, IsTrue, OnOk};
+ghost use Rattle.std.specs.Prelude.{◌≡◌, ◌<◌, ◌+◌, ◌++◌, ◌∷◌, IfOk, OnOk};
 ghost use Rattle.std.specs.Prelude.{◌-◌, false, length, map, option_to_list, replicate, slice_index, ◌^◌};
 ghost use Rattle.snap_words.specs.Shape.{IsOneOf};
-ghost use Rattle.snap_semantics.specs.State.{State, process_at, values};
-ghost use Rattle.snap_semantics.specs.Source.{Source};
-ghost use Rattle.snap_semantics.specs.Table.{who};
+ghost use Rattle.snap_semantics.specs.State.{values};
 ghost use Rattle.snap_semantics.specs.declared.event.Event.{Event};
-ghost use Rattle.snap_semantics.specs.declared.process.Outcome.TheVariants.{Stepped};
 ghost use Rattle.snap_runs.specs.Audit.{audit};
 ghost use Rattle.snap_runs.specs.Run.{events_of, run_over};
-ghost use Rattle.snap_runs.specs.StepRoles.{StepRole, is_test, is_write, step_role_of};
+ghost use Rattle.snap_runs.specs.StepRoles.{StepRole, is_test};
 ghost use Rattle.snap_record.specs.History.{changes_to, counted};
-ghost use Rattle.snap_record.specs.Roles.{AreRoles};
-ghost use Rattle.snap_walk.specs.Walk.{Passes, Way};
-ghost use Rattle.snap_audit.specs.Watch.{Watches, is_test_line, is_write_line, so_far};
+ghost use Rattle.snap_walk.specs.Walk.{Way};
+ghost use Rattle.snap_audit.specs.Watch.{Watches, WatchesOn, is_silent, is_test_line, is_write_line};
+ghost use Rattle.snap_audit.specs.Watch.{silent_lines, so_far, told_role};
 
 use crate::sweep::sweep;
 use snap_asm_program::Program;
@@ -22,7 +19,7 @@ use snap_machine::Machine;
 use snap_record::{Change, LineRole, Row, event_of, new_roles, note_values, role_in};
 use snap_runs::Verdict;
 use snap_sched::Schedule;
-use snap_semantics::{Event, Item, Outcome, Status, who};
+use snap_semantics::{Activity, Event, Outcome, who};
 use snap_walk::{Passed, Walk};
 use snap_words::{Kind, Shape};
 use std::alloc::{AllocError, Global};
@@ -33,6 +30,8 @@ pub struct Watch {
     shape: Shape,
     /// What the lines are, by their numbers.
     roles: Vec<LineRole>,
+    /// Whether there is nothing to note of a line, by its number.
+    silent: Vec<bool>,
     values: Row,
     /// The changes of values, in order.
     changes: Vec<Change>,
@@ -43,24 +42,15 @@ pub struct Watch {
     at_events: Vec<u64>,
 }
 
-/// Returns the role of the line that an item runs, of a process with this status. An item that runs
-/// none writes no word, and tests nothing for all.
+/// Returns the role of the line that an item is told to run. An item that runs none, or one that is
+/// not told, writes no word, and tests nothing for all.
 #[inline(always)]
-#[tactic(auto, using(crate::proofs::Watches::busy_told, crate::proofs::Watches::idle_told, crate::proofs::Watches::trapped_told, crate::proofs::Watches::crashed_told))]
-fn item_role(roles: &[LineRole], item: Item, before: Status) -> LineRole
-    ensures { (s : Source) (S : State) → AreRoles s roles.now →
-        before ≡ (process_at S (who item)).status →
-        (is_write (step_role_of s S item) ≡ is_write_line result)
-        × (is_test (step_role_of s S item) ≡ is_test_line result) }
+fn told_role(roles: &[LineRole], activity: Option<Activity>) -> LineRole
+    ensures { result ≡ told_role roles.now activity }
 {
-    let Item::Step(_) = item else {
-        return LineRole::Nothing;
-    };
-    match before {
-        Status::Busy(activity) => role_in(roles, activity.line),
-        Status::Idle => LineRole::Nothing,
-        Status::Trapped(_, _) => LineRole::Nothing,
-        Status::Crashed(_) => LineRole::Nothing,
+    match activity {
+        Some(activity) => role_in(roles, activity.line),
+        None => LineRole::Nothing,
     }
 }
 
@@ -77,23 +67,27 @@ fn is_write(role: LineRole) -> bool
     }
 }
 
-/// Returns whether there is nothing to note of an item, as is the case for most.
-#[inline(always)]
-fn is_quiet(role: LineRole, outcome: &Outcome) -> bool
-    ensures write { IsTrue result → is_write_line role ≡ false }
-    ensures test { IsTrue result → is_test_line role ≡ false }
-    ensures unseen { IsTrue result → outcome.now ≡ Stepped }
+/// Returns whether there is nothing to note of a step that goes on from a line of this role.
+fn is_silent(role: LineRole) -> bool
+    ensures { result ≡ is_silent role }
 {
-    // The outcome is tested first, since the compiler knows it where a line ends.
-    match outcome {
-        Outcome::Stepped => match role {
-            LineRole::Write => false,
-            LineRole::Test => false,
-            LineRole::Return => true,
-            LineRole::Nothing => true,
-        },
-        _ => false,
+    match role {
+        LineRole::Write => false,
+        LineRole::Test => false,
+        LineRole::Return => true,
+        LineRole::Nothing => true,
     }
+}
+
+/// Returns for each line, by its number, whether there is nothing to note of it.
+fn silent_lines(alloc: Global, roles: &[LineRole]) -> Result<Vec<bool>, AllocError>
+    ensures { IfOk result (λ v. v.items ≡ map is_silent roles.now) }
+{
+    let mut silent = Vec::new(alloc);
+    for role in roles {
+        silent.push(is_silent(*role))?;
+    }
+    Ok(silent)
 }
 
 /// Notes the values after item number `number`, which leaves `machine`. The values stay as they are
@@ -171,9 +165,12 @@ impl Watch {
         // What `items` promises: the schedule keeps the rules of schedules.
         let _items = schedule.items();
         let shape = schedule.shape();
+        let roles = new_roles(alloc, program)?;
+        let silent = silent_lines(alloc, roles.as_slice())?;
         Ok(Watch {
             shape,
-            roles: new_roles(alloc, program)?,
+            roles,
+            silent,
             values: Row::zeros(alloc, shape.w())?,
             changes: Vec::new(alloc),
             events: Vec::new(alloc),
@@ -182,27 +179,31 @@ impl Watch {
         })
     }
 
-    /// Notes the item that was passed last on the way.
+    /// Returns for each line, by its number, whether it is silent: a step that goes on from it is not
+    /// noted. Nor are skipped items.
+    pub fn silent_lines(&self) -> &[bool]
+        ensures { result.now ≡ silent_lines self.now }
+    {
+        self.silent.as_slice()
+    }
+
+    /// Notes the item that was told last on the way, where silent lines are quiet.
     ///
     /// # Errors
     ///
     /// `AllocError` where memory runs out.
-    #[inline(always)]
     pub fn note<K: Kind>(&mut self, walk: &Walk<'_, K>, passed: Passed) -> Result<(), AllocError>
-        requires passed { (w : Way) × Watches w self.old × Passes w passed walk.now }
-        ensures { OnOk result ((w : Way) → Watches w self.old → Passes w passed walk.now →
-            Watches walk.now self.new) }
+        requires passed { (w : Way) × WatchesOn w self.old passed walk.now }
+        ensures watches { OnOk result (Watches walk.now self.new) }
+        ensures lines { silent_lines self.new ≡ silent_lines self.old }
     {
         let Passed {
             number,
             item,
-            before,
+            activity,
             outcome,
         } = passed;
-        let role = item_role(self.roles.as_slice(), item, before);
-        if is_quiet(role, &outcome) {
-            return Ok(());
-        }
+        let role = told_role(self.roles.as_slice(), activity);
         note_changes(
             &mut self.values,
             &mut self.changes,

@@ -2,29 +2,37 @@
 -- changes the values.
 use Rattle.std.specs.Prelude.{◌≡◌, ℕ, suc, ◌-◌, ◌<◌, Bool, true, false, not, List, length, Option, Some, None}
 use Rattle.std.specs.Prelude.{bytes_eq, get_or, if◌then◌else◌, option_map, refl}
-use Rattle.std.proofs.Common.{sym, ◌∙◌, ap, subst, arith}
+use Rattle.std.proofs.Common.{sym, ◌∙◌, ap, subst, arith, inl, inr}
 use Rattle.snap_semantics.specs.Source.{Source}
 use Rattle.snap_semantics.specs.State.{State, process_at, values}
 use Rattle.snap_semantics.specs.Table.{who}
 use Rattle.snap_semantics.specs.declared.process.Activity.{Activity}
 use Rattle.snap_semantics.specs.declared.process.Item.{Item}
+use Rattle.snap_semantics.specs.declared.process.Item.TheVariants.{Step, Call, Crash}
 use Rattle.snap_semantics.specs.declared.process.Outcome.{Outcome}
 use Rattle.snap_semantics.specs.declared.process.Status.{Status}
+use Rattle.snap_semantics.specs.declared.process.Status.TheVariants.{Idle, Busy, Trapped, Crashed}
+use Rattle.snap_runs.specs.Audit.{is_called}
 use Rattle.snap_runs.specs.Run.{Run, before, item as item_at, outcome as outcome_at, state}
 use Rattle.snap_runs.specs.StepRoles.{is_write, step_role_of}
 use Rattle.snap_record.specs.Roles.{AreRoles}
 use Rattle.snap_record.specs.declared.roles.LineRole.{LineRole}
-use Rattle.snap_walk.specs.Walk.{Passes, Way}
+use Rattle.snap_walk.specs.Walk.{Passes, PassesOver, Way, further, is_quiet, line_told, look, look_ahead, look_at_step}
+use Rattle.snap_walk.specs.declared.glance.Glance.TheVariants as glance
 use Rattle.snap_walk.specs.declared.passed.Passed.{Passed}
-use Rattle.snap_certify.specs.Certification.{at_line, changes, changing_line, executed, seen_item, stepping}
+use Rattle.snap_certify.specs.Certification.{at_line, changes, changing_line, ended, executed, seen_item, stepping}
 use Rattle.snap_certify.specs.declared.found.Progress.{Progress}
 use Rattle.snap_certify.specs.declared.found.SeenItem.{SeenItem}
 use Rattle.snap_certify.proofs.Findings.{equal_numbers}
-use Rattle.snap_audit.specs.Watch.{Watches}
+use Rattle.snap_audit.specs.Watch.{AreSilent, Watches, is_write_line, silent_lines, told_role}
 use Rattle.snap_audit.specs.declared.watch.Watch.{Watch}
+use Rattle.snap_audit.proofs.Watches.{item_told, quiet_told, silent_here, silent_too}
+use Rattle.snap_walk.proofs.Over.{Keeps, kept_over, looks_ahead, untold_cases}
+use Rattle.snap_walk.proofs.Ways.{skipped_nothing}
+use Rattle.snap_certify.specs.declared.found.Finding.TheVariants as finding
 use Rattle.snap_certify.specs.Finding.{Finds, Notes, all_of, changed_line, fresh, seen_write}
 use Rattle.snap_certify.specs.declared.finder.Finder.{Finder}
-use Rattle.snap_certify.proofs.FindingSteps.{finds_more}
+use Rattle.snap_certify.proofs.FindingSteps.{finds_more, noted_nothing}
 use Rattle.snap_certify.proofs.Lines.{dry_line, dry_values}
 
 -- an item that is seen so
@@ -39,27 +47,49 @@ still_values x still = by (bytes_eq x.values_before x.values_after) refl still
     by true is none = sym (equal_numbers x.values_before x.values_after is)
     by false is none = absurd cc
 
--- an item writes no word, whatever the state
-abbrev pub WritesNone : List LineRole → Item → Status → Type 0
-WritesNone roles x status =
-    (s : Source) (S : State) → AreRoles s roles → status ≡ (process_at S (who x)).status →
-    is_write (step_role_of s S x) ≡ false
+-- what a step finds its process at, where its line is told
+stepped_at : (quiet : List Bool) (i : ℕ) (t : Status) (a : Activity) → line_told (look_at_step quiet t) ≡ Some a →
+    stepping (Step i) t ≡ Some a
+stepped_at quiet i Idle a is = absurd cc
+stepped_at quiet i (Trapped cause b) a is = absurd cc
+stepped_at quiet i (Crashed was) a is = absurd cc
+stepped_at quiet i (Busy b) a is = by (is_quiet quiet b.line) is
+  where
+    by : (silent : Bool) → line_told (if silent then glance.Quiet else glance.Line b) ≡ Some a →
+        stepping (Step i) (Busy b) ≡ Some a
+    by true e = absurd cc
+    by false e = e
+
+told_at : (quiet : List Bool) (x : Item) (t : Status) (a : Activity) → line_told (look quiet x t) ≡ Some a →
+    stepping x t ≡ Some a
+told_at quiet (Step i) t a is = stepped_at quiet i t a is
+told_at quiet (Call i op) t a is = absurd cc
+told_at quiet (Crash i) t a is = absurd cc
 
 module _ (w w' : Way) (p : Passed) (d : Passes w p w') where
   abbrev next : SeenItem
   next = seen_item w.run (suc w.at)
+
+  -- how its process stands before it
+  abbrev status_before : Status
+  status_before = (process_at (state w.run w.at) (who p.item)).status
+
+  -- what its process was at, where its line is told
+  pub told_stepping : (quiet : List Bool) (a : Activity) → p.activity ≡ line_told (look_ahead quiet w) → p.activity ≡ Some a →
+      stepping p.item status_before ≡ Some a
+  told_stepping quiet a told some =
+      told_at quiet p.item status_before a (ap line_told (looks_ahead quiet w p d) ∙ sym told ∙ some)
 
   -- the values after it
   left_by : (vs : List ℕ) → vs ≡ values (state w'.run w'.at) → vs ≡ values (state w.run (suc w.at))
   left_by vs is = is ∙ ap (λ (v : Way). values (state v.run v.at)) d.way
 
   -- an item that was passed is seen as the definitions see it
-  pub seen_passed : (a : Activity) (vs ws : List ℕ) → stepping p.item p.before ≡ Some a →
+  pub seen_passed : (a : Activity) (vs ws : List ℕ) → stepping p.item status_before ≡ Some a →
       vs ≡ values (state w.run w.at) → ws ≡ values (state w'.run w'.at) →
       seen_write (who p.item) a p.outcome vs ws ≡ next
   seen_passed a vs ws at was left =
       ap (λ b. seen p.item b p.outcome vs ws) (sym at)
-      ∙ ap (λ (status : Status). seen p.item (stepping p.item status) p.outcome vs ws) d.status
       ∙ ap (λ o. seen p.item (stepping p.item (process_at (before w.run (suc w.at)) (who p.item)).status) o vs ws) d.outcome
       ∙ ap (λ us. seen p.item (stepping p.item (process_at (before w.run (suc w.at)) (who p.item)).status)
       (outcome_at w.run (suc w.at)) us ws) was
@@ -69,15 +99,21 @@ module _ (w w' : Way) (p : Passed) (d : Passes w p w') where
       (outcome_at w.run (suc w.at)) (values (state w.run w.at)) (values (state w.run (suc w.at)))) d.item
 
   -- an item that was passed writes no word
-  passed_dry : (roles : List LineRole) → AreRoles w.run.source roles → WritesNone roles p.item p.before →
-      is_write (step_role_of w.run.source (state w.run w.at) (item_at w.run (suc w.at))) ≡ false
-  passed_dry roles are none =
-      sym (ap (λ (x : Item). is_write (step_role_of w.run.source (state w.run w.at) x)) d.item)
-      ∙ none w.run.source (state w.run w.at) are d.status
+  abbrev pub IsDry : Type 0
+  IsDry = is_write (step_role_of w.run.source (state w.run w.at) p.item) ≡ false
 
-  pub passed_still : (roles : List LineRole) → AreRoles w.run.source roles → WritesNone roles p.item p.before →
-      changes next ≡ false
-  passed_still roles are none = dry_values w.run w.at d.left (passed_dry roles are none)
+  -- as its role tells, where the line that it runs is told
+  pub told_dry : (quiet : List Bool) (roles : List LineRole) → AreRoles w.run.source roles → AreSilent quiet roles →
+      p.activity ≡ line_told (look_ahead quiet w) → is_write_line (told_role roles p.activity) ≡ false → IsDry
+  told_dry quiet roles are silent told none =
+      (item_told w.run.source quiet roles (state w.run w.at) p.item p.activity are silent
+      (told ∙ ap line_told (sym (looks_ahead quiet w p d)))).0 ∙ none
+
+  passed_dry : IsDry → is_write (step_role_of w.run.source (state w.run w.at) (item_at w.run (suc w.at))) ≡ false
+  passed_dry dry = sym (ap (λ (x : Item). is_write (step_role_of w.run.source (state w.run w.at) x)) d.item) ∙ dry
+
+  pub passed_still : IsDry → changes next ≡ false
+  passed_still dry = dry_values w.run w.at d.left (passed_dry dry)
 
   module _ (f g : Finder) (h : Finds w.run w.at f) where
     found_by : Finds w.run (suc w.at) g → Finds w'.run w'.at g
@@ -85,7 +121,7 @@ module _ (w w' : Way) (p : Passed) (d : Passes w p w') where
 
     -- a step at a line that writes a word is noted
     pub note_seen : (n i : ℕ) (a : Activity) (ws : List ℕ) → n ≡ p.number → i ≡ who p.item →
-        stepping p.item p.before ≡ Some a → ws ≡ values (state w'.run w'.at) →
+        stepping p.item status_before ≡ Some a → ws ≡ values (state w'.run w'.at) →
         ((q : Progress) → Notes n (seen_write i a p.outcome f.values ws) (get_or f.progress.items (i - 1) q) f g) →
         g.values ≡ ws → Finds w'.run w'.at g
     note_seen n i a ws number process at left noted now =
@@ -99,19 +135,53 @@ module _ (w w' : Way) (p : Passed) (d : Passes w p w') where
         (seen_passed a f.values ws at h.values left) there) (now ∙ left_by ws left))
 
     -- another item is noted
-    pub note_rest : (n i : ℕ) → n ≡ p.number → i ≡ who p.item → WritesNone f.roles.items p.item p.before →
+    pub note_rest : (n i : ℕ) → n ≡ p.number → i ≡ who p.item → IsDry →
         ((x : SeenItem) (q : Progress) → x.process ≡ i → x.outcome ≡ p.outcome → changes x ≡ false →
         at_line f.line (executed x) ≡ false → Notes n x (get_or f.progress.items (i - 1) q) f g) →
         g.values ≡ f.values → Finds w'.run w'.at g
-    note_rest n i number process none noted now =
-        let still = passed_still f.roles.items h.roles none in
+    note_rest n i number process dry noted now =
+        let still = passed_still dry in
         let here : who (item_at w.run (suc w.at)) ≡ i = sym (process ∙ ap (λ (x : Item). who x) d.item) in
         let there = noted next fresh here (sym d.outcome) still
-        (dry_line w.run f.line w.at h.word (passed_dry f.roles.items h.roles none)) in
+        (dry_line w.run f.line w.at h.word (passed_dry dry)) in
         found_by (finds_more w.run w.at f g h d.left
         (subst (λ j. Notes (suc w.at) next (get_or f.progress.items (j - 1) fresh) f g) (sym here)
         (subst (λ m. Notes m next (get_or f.progress.items (i - 1) fresh) f g) (number ∙ d.number) there))
         (now ∙ h.values ∙ sym (still_values next still)))
+
+-- an item that is passed over leaves what was found as it is
+untold_found : (quiet : List Bool) (skips : Bool) (f : Finder) → AreSilent quiet f.roles.items →
+    Keeps quiet skips (λ w. Finds w.run w.at f)
+untold_found quiet skips f silent w p d untold h =
+    let S = state w.run w.at in
+    let kept : IsDry w (further w) p d → is_called p.outcome ≡ false →
+    ((x : SeenItem) (q : Progress) → ended p.number x q p.outcome ≡ finding.Nothing) →
+    Finds (further w).run (further w).at f =
+    (λ dry none ends.
+    note_rest w (further w) p d f f h p.number (who p.item) refl refl dry
+    (λ x q process out still other.
+    subst (λ j. Notes p.number x (get_or f.progress.items (j - 1) q) f f) process
+    (noted_nothing p.number x f f q still other refl refl p.outcome out none (ends x) refl)) refl) in
+    elim (untold_cases (look_ahead quiet w) p.outcome skips untold) [
+      | inl stepped ↦
+          kept
+          (quiet_told w.run.source quiet f.roles.items S p.item h.roles silent (looks_ahead quiet w p d ∙ stepped.0)).0
+          (ap is_called stepped.1) (λ x q. ap (ended p.number x q) stepped.1)
+      | inr skipped ↦
+          kept (ap is_write (skipped_nothing w (further w) p d skipped.0 skipped.1)) (ap is_called skipped.1)
+          (λ x q. ap (ended p.number x q) skipped.1)
+    ]
+
+pub found_over : (quiet : List Bool) (skips : Bool) (f : Finder) → AreSilent quiet f.roles.items → (w v : Way) →
+    PassesOver quiet skips w v → Finds w.run w.at f → Finds v.run v.at f
+found_over quiet skips f silent w v over h =
+    kept_over quiet skips (λ u. Finds u.run u.at f) (untold_found quiet skips f silent) w v over h
+
+-- the lines of which a watch notes nothing write no word
+pub silent_for : (w : Way) (x : Watch) (f : Finder) → Watches w x → Finds w.run w.at f → (quiet : List Bool) →
+    quiet ≡ silent_lines x → AreSilent quiet f.roles.items
+silent_for w x f h found quiet is =
+    silent_too w.run.source quiet x.roles.items f.roles.items h.roles found.roles (silent_here w x h quiet is)
 
 -- where all items are passed, what is found is found of all
 pub found_all : (r : Run) (w : Way) (f : Finder) → w.run ≡ r → Finds w.run w.at f → w.at ≡ length w.run.items →
@@ -120,9 +190,9 @@ found_all r w f run found over =
     subst (λ (s : Run). Finds s (length s.items) f) run (subst (λ n. Finds w.run n f) over found)
 
 -- what an audit has to know is known at the end
-pub watched_all : (r : Run) (w : Way) (x : Watch) → w.run ≡ r → Watches w x → w.at ≡ length w.run.items →
+pub watched_end : (r : Run) (w : Way) (x : Watch) → w.run ≡ r → Watches w x → w.at ≡ length w.run.items →
     Watches (all_of r) x
-watched_all r w x run h over =
+watched_end r w x run h over =
     subst (λ (q : Run). Watches (all_of q) x) run
     (subst (λ n. Watches (record { run = w.run; at = n }) x) over h)
 

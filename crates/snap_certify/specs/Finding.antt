@@ -1,6 +1,6 @@
 -- What a `Finder` has found of the first items of a run (`Finds`): how far each process is, and the writes of the
 -- updates, or the first thing that is missing.
-use Rattle.std.specs.Prelude.{◌≡◌, ℕ, ◌-◌, true, false, List, length, Option, Some, None, Result, Ok, Err, get_or}
+use Rattle.std.specs.Prelude.{◌≡◌, ℕ, ◌-◌, Bool, true, false, List, length, Option, Some, None, Result, Ok, Err, get_or}
 use Rattle.std.specs.Prelude.{if◌then◌else◌, option_map, slice_set}
 use Rattle.snap_words.specs.Shape.{IsOneOf}
 use Rattle.snap_semantics.specs.Answers.{◌>>=◌}
@@ -13,7 +13,9 @@ use Rattle.snap_semantics.specs.declared.process.Outcome.{Outcome}
 use Rattle.snap_runs.specs.Audit.{audit}
 use Rattle.snap_runs.specs.Run.{Run, IsValidRun, run_over, state}
 use Rattle.snap_record.specs.Roles.{AreRoles}
-use Rattle.snap_walk.specs.Walk.{Way}
+use Rattle.snap_walk.specs.Walk.{Tells, Way}
+use Rattle.snap_walk.specs.declared.passed.Passed.{Passed}
+use Rattle.snap_audit.specs.Watch.{AreSilent}
 use Rattle.snap_certify.specs.Certification.{Evidence, changes, executed, found_at, is_put, points}
 use Rattle.snap_certify.specs.Certification.{progress, progress_after, with_finding, writes}
 use Rattle.snap_certify.specs.declared.found.Finding.{Finding}
@@ -85,6 +87,14 @@ pub record Finds (r : Run) (t : ℕ) (f : Finder) : Type 0 where
   pub values : f.values ≡ values (state r t)
   pub progress : AreProgress r f.line t f.progress.items
   pub found : writes r f.line t ≡ so_far f.missing f.writes.items
+
+-- what was found, and the next item that is told, where quiet lines write no word
+pub record FindsOn (w : Way) (f : Finder) (p : Passed) (w' : Way) : Type 0 where
+  pub finds : Finds w.run w.at f
+  pub quiet : List Bool
+  pub tells_skips : Bool
+  pub silent : AreSilent quiet f.roles.items
+  pub tells : Tells quiet tells_skips w p w'
 
 -- the end of the way through a run
 abbrev pub all_of : Run → Way

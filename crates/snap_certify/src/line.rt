@@ -1,10 +1,10 @@
 //! The line at which updates write, as the certification of a run chooses it: that of the first
 //! item which changes the values.
-ghost use Rattle.std.specs.Prelude.{◌≡◌, IfOk, length, suc};
+ghost use Rattle.std.specs.Prelude.{◌≡◌, [], IfOk, length, suc};
 ghost use Rattle.snap_semantics.specs.State.{values};
 ghost use Rattle.snap_runs.specs.Run.{run_over, state};
 ghost use Rattle.snap_record.specs.Roles.{AreRoles};
-ghost use Rattle.snap_walk.specs.Walk.{Passes, Way};
+ghost use Rattle.snap_walk.specs.Walk.{Passes, Way, line_told, look_ahead};
 ghost use Rattle.snap_certify.specs.Certification.{
   changing_line,
   is_put,
@@ -32,10 +32,10 @@ fn changed_line<K: Kind>(
     passed: &Passed,
 ) -> Result<Option<Option<u64>>, AllocError>
     ensures { IfOk result (λ o. (w : Way) → Passes w passed.now walk.now →
-        AreRoles w.run.source roles.now → past.now ≡ values (state w.run w.at) →
+        passed.now.activity ≡ line_told (look_ahead [] w) → AreRoles w.run.source roles.now → past.now ≡ values (state w.run w.at) →
         o ≡ changed_line (seen_item w.run (suc w.at))) }
 {
-    let Some(activity) = writing(roles, passed.item, passed.before) else {
+    let Some(activity) = writing(roles, passed.activity) else {
         return Ok(None);
     };
     let after = walk.machine().values()?;

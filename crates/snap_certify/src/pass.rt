@@ -1,9 +1,9 @@
 //! One pass over the items of a run, which finds its writes, or the first thing that is missing.
 ghost use Rattle.std.specs.Prelude.{◌≡◌, IfOk, OnOk, length};
 ghost use Rattle.snap_runs.specs.Run.{run_over};
-ghost use Rattle.snap_walk.specs.Walk.{Passes, Way};
+ghost use Rattle.snap_walk.specs.Walk.{Way};
 ghost use Rattle.snap_audit.specs.Watch.{Watches};
-ghost use Rattle.snap_certify.specs.Finding.{Finds, WritesWord, all_of};
+ghost use Rattle.snap_certify.specs.Finding.{Finds, FindsOn, WritesWord, all_of};
 
 use crate::finder::Finder;
 use crate::sight::writing;
@@ -15,21 +15,19 @@ use snap_walk::{Passed, Walk};
 use snap_words::Kind;
 use std::alloc::{AllocError, Global};
 
-/// Notes the item that was passed last on the way, for the finder.
-#[inline(always)]
+/// Notes the item that was told last on the way, for the finder.
 fn notice<K: Kind>(
     finder: &mut Finder,
     walk: &Walk<'_, K>,
     passed: &Passed,
 ) -> Result<(), AllocError>
-    requires passed { (w : Way) × Finds w.run w.at finder.old × Passes w passed.now walk.now }
+    requires passed { (w : Way) × FindsOn w finder.old passed.now walk.now }
     ensures line { OnOk result (finder.new.line ≡ finder.old.line) }
-    ensures finds { OnOk result ((w : Way) → Finds w.run w.at finder.old →
-        Passes w passed.now walk.now → Finds walk.now.run walk.now.at finder.new) }
+    ensures finds { OnOk result (Finds walk.now.run walk.now.at finder.new) }
 {
     let process = who(passed.item);
     let outcome = &passed.outcome;
-    match writing(finder.roles.as_slice(), passed.item, passed.before) {
+    match writing(finder.roles.as_slice(), passed.activity) {
         Some(activity) => {
             finder.note_write(walk.machine(), passed.number, process, activity, outcome)
         }
@@ -59,7 +57,7 @@ pub(crate) fn find<K: Kind>(
     let values = walk.machine().values()?;
     let mut finder = Finder::new(alloc, program, schedule, line, values)?;
     let mut watch = Watch::new(alloc, program, schedule)?;
-    while let Some(passed) = walk.next()? {
+    while let Some(passed) = walk.next_told(watch.silent_lines(), false)? {
         notice(&mut finder, &walk, &passed)?;
         watch.note(&walk, passed)?;
     }

@@ -1,16 +1,12 @@
 //! `Sight`: an item as a certification sees it, with the values before and after it; and which
 //! items are seen as such.
 ghost use Rattle.std.specs.Prelude.{◌≡◌, false, IfSome, None, option_map, Some};
-ghost use Rattle.snap_semantics.specs.Source.{Source};
-ghost use Rattle.snap_semantics.specs.State.{State, process_at};
-ghost use Rattle.snap_semantics.specs.Table.{who};
-ghost use Rattle.snap_runs.specs.StepRoles.{is_write, step_role_of};
-ghost use Rattle.snap_record.specs.Roles.{AreRoles};
-ghost use Rattle.snap_certify.specs.Certification.{changes, executed, stepping};
+ghost use Rattle.snap_audit.specs.Watch.{is_write_line, told_role};
+ghost use Rattle.snap_certify.specs.Certification.{changes, executed};
 ghost use Rattle.snap_certify.specs.Finding.{seen_sight};
 
 use snap_record::{LineRole, role_in};
-use snap_semantics::{Activity, Item, Outcome, Status};
+use snap_semantics::{Activity, Outcome};
 
 /// An item as a certification sees it (`SeenItem`), of which a machine and a walk have the parts.
 #[derive(Drop)]
@@ -50,18 +46,14 @@ pub(crate) fn executed_line(item: &Sight<'_>) -> Option<u64>
     Some(executed(item)?.line)
 }
 
-/// Returns the activity at which an item finds its process, if it is a step at a line that writes a
-/// word. No other item writes one.
+/// Returns what the process of an item was at, if a line is told that writes a word. No other item
+/// writes one.
 #[inline(always)]
-pub(crate) fn writing(roles: &[LineRole], item: Item, before: Status) -> Option<Activity>
-    ensures some { IfSome result (λ a. stepping item before ≡ Some a) }
-    ensures none { result ≡ None → (s : Source) (S : State) → AreRoles s roles.now →
-        before ≡ (process_at S (who item)).status → is_write (step_role_of s S item) ≡ false }
+pub(crate) fn writing(roles: &[LineRole], activity: Option<Activity>) -> Option<Activity>
+    ensures some { IfSome result (λ a. activity ≡ Some a) }
+    ensures none { result ≡ None → is_write_line (told_role roles.now activity) ≡ false }
 {
-    let Item::Step(_) = item else {
-        return None;
-    };
-    let Status::Busy(activity) = before else {
+    let Some(activity) = activity else {
         return None;
     };
     match role_in(roles, activity.line) {

@@ -27,7 +27,7 @@ fn failure_of_run<K: Kind>(
 {
     let mut walk = Walk::<K>::over(alloc, program, schedule)?;
     let mut watch = Watch::new(alloc, program, schedule)?;
-    while let Some(passed) = walk.next()? {
+    while let Some(passed) = walk.next_told(watch.silent_lines(), false)? {
         watch.note(&walk, passed)?;
     }
     failure(alloc, &walk, watch, None, wanted)
@@ -50,7 +50,7 @@ fn failure_of_steps<K: Kind>(
     let mut watch = Watch::new(alloc, program, schedule)?;
     let mut owns = none_taken(alloc, schedule.shape().n())?;
     let mut overrun = None;
-    while let Some(passed) = walk.next()? {
+    while let Some(passed) = walk.next_told(&[], false)? {
         let found = note(&mut owns, most, passed.number, passed.item, &passed.outcome);
         overrun = first(overrun, found);
         watch.note(&walk, passed)?;

@@ -5,7 +5,7 @@ use Rattle.snap_runs.specs.Run.{Run}
 use Rattle.snap_runs.specs.Scan.{count}
 use Rattle.snap_runs.specs.declared.verdict.Verdict.{Verdict}
 use Rattle.snap_runs.proofs.Counting.{count_next}
-use Rattle.snap_survey.specs.Survey.{is_open, most_collects, survey_of, without_point}
+use Rattle.snap_survey.specs.Survey.{is_open, is_skipped, most_collects, survey_of, without_point}
 use Rattle.snap_survey.specs.Tally.{tally_of}
 use Rattle.snap_survey.specs.declared.findings.Survey.{Survey}
 use Rattle.snap_survey.specs.declared.tally.Tally.{Tally}
@@ -20,9 +20,9 @@ count_more f k b is =
     ∙ ap (λ y. if y then suc (count f 0 k) else count f 0 k) (ap f (sym next) ∙ is)
     ∙ ap (λ y. if b then y else count f 0 k) (more (count f 0 k))
 
--- a survey of what was counted, of verdicts, and of so many open operations
-abbrev pub survey_by : Tally → List Verdict → ℕ → Survey
-survey_by a vs opened = record {
+-- a survey of what was counted, of verdicts, and of so many open operations and skipped items
+abbrev pub survey_by : Tally → List Verdict → (opened skipped : ℕ) → Survey
+survey_by a vs opened skipped = record {
   scans_called = a.scans_called;
   scans_answered = length vs;
   scans_without_point = without_point vs;
@@ -33,14 +33,16 @@ survey_by a vs opened = record {
   traps = a.traps;
   first_trap = a.first_trap;
   crashes = a.crashes;
-  skips = a.skips;
+  skips = skipped;
   first_skip = a.first_skip;
 }
 
 -- where these are those of a run, it is what the run came to
-pub survey_made : (r : Run) (a : Tally) (vs : List Verdict) (opened : ℕ) → a ≡ tally_of r (length r.items) →
-    vs ≡ audit r → opened ≡ count (is_open r) 0 r.shape.n → survey_by a vs opened ≡ survey_of r
-survey_made r a vs opened counted judged is =
-    ap (λ (b : Tally). survey_by b vs opened) counted
-    ∙ ap (λ (us : List Verdict). survey_by (tally_of r (length r.items)) us opened) judged
-    ∙ ap (survey_by (tally_of r (length r.items)) (audit r)) is
+pub survey_made : (r : Run) (a : Tally) (vs : List Verdict) (opened skipped : ℕ) → a ≡ tally_of r (length r.items) →
+    vs ≡ audit r → opened ≡ count (is_open r) 0 r.shape.n → skipped ≡ count (is_skipped r) 0 (length r.items) →
+    survey_by a vs opened skipped ≡ survey_of r
+survey_made r a vs opened skipped counted judged is skips =
+    ap (λ (b : Tally). survey_by b vs opened skipped) counted
+    ∙ ap (λ (us : List Verdict). survey_by (tally_of r (length r.items)) us opened skipped) judged
+    ∙ ap (λ k. survey_by (tally_of r (length r.items)) (audit r) k skipped) is
+    ∙ ap (survey_by (tally_of r (length r.items)) (audit r) (count (is_open r) 0 r.shape.n)) skips

@@ -1,6 +1,6 @@
 -- `tally_of`: what the first items of a run came to, in counts of calls, ends, traps, crashes and skips; and with one
 -- item more.
-use Rattle.std.specs.Prelude.{ℕ, suc, ◌<◌, Bool, ◌&&◌, None, is_some, if◌then◌else◌}
+use Rattle.std.specs.Prelude.{◌≡◌, ℕ, suc, ◌<◌, Bool, ◌&&◌, List, None, is_none, is_some, if◌then◌else◌}
 use Rattle.snap_semantics.specs.declared.process.Item.{Item}
 use Rattle.snap_semantics.specs.declared.process.Outcome.{Outcome}
 use Rattle.snap_semantics.specs.declared.process.Status.{Status}
@@ -11,8 +11,10 @@ use Rattle.snap_semantics.specs.Table.{who}
 use Rattle.snap_runs.specs.Audit.{is_called}
 use Rattle.snap_runs.specs.Run.{Run}
 use Rattle.snap_runs.specs.Scan.{count}
-use Rattle.snap_survey.specs.Survey.{asks_scan, asks_update, is_done, is_trap, is_crash, is_skip, calls_scan}
-use Rattle.snap_survey.specs.Survey.{calls_update, ends_update, traps, crashes, is_skipped}
+use Rattle.snap_walk.specs.Walk.{Tells, Way}
+use Rattle.snap_walk.specs.declared.passed.Passed.{Passed}
+use Rattle.snap_survey.specs.Survey.{asks_scan, asks_update, is_done, is_trap, is_crash, calls_scan}
+use Rattle.snap_survey.specs.Survey.{calls_update, ends_update, traps, crashes}
 use Rattle.snap_survey.specs.Survey.{trap_by, trap_at, skip_by, skip_at, first_found}
 use Rattle.snap_survey.specs.declared.tally.Tally.{Tally}
 
@@ -25,7 +27,6 @@ tally_of r t = record {
   traps = count (traps r) 0 t;
   first_trap = first_found (trap_at r) t;
   crashes = count (crashes r) 0 t;
-  skips = count (is_skipped r) 0 t;
   first_skip = first_found (skip_at r) t;
 }
 
@@ -38,7 +39,6 @@ none_noted = record {
   traps = 0;
   first_trap = None;
   crashes = 0;
-  skips = 0;
   first_skip = None;
 }
 
@@ -51,7 +51,6 @@ noted a t x o s = record {
   traps = if is_trap o then suc a.traps else a.traps;
   first_trap = or_else a.first_trap (trap_by t (who x) o s);
   crashes = if is_crash o then suc a.crashes else a.crashes;
-  skips = if is_skip o then suc a.skips else a.skips;
   first_skip = or_else a.first_skip (skip_by t (who x) o);
 }
 
@@ -62,7 +61,12 @@ pub record IsWithin (a : Tally) (t : ℕ) : Type 0 where
   pub updates_done : a.updates_done < t
   pub traps : a.traps < t
   pub crashes : a.crashes < t
-  pub skips : a.skips < t
+
+-- what was counted, and the next item that is told, where skipped items are told up to the first
+pub record TalliesOn (w : Way) (a : Tally) (p : Passed) (w' : Way) : Type 0 where
+  pub tally : a ≡ tally_of w.run w.at
+  pub quiet : List Bool
+  pub tells : Tells quiet (is_none a.first_skip) w p w'
 
 -- whether process i is at an operation, or was at one when it trapped or crashed
 abbrev pub is_open_in : State → ℕ → Bool

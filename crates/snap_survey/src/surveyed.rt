@@ -4,10 +4,10 @@ ghost use Rattle.std.specs.Prelude.{◌≡◌, IfOk, length};
 ghost use Rattle.snap_semantics.specs.State.{State};
 ghost use Rattle.snap_runs.specs.Run.{run_over};
 ghost use Rattle.snap_runs.specs.Scan.{count};
-ghost use Rattle.snap_walk.specs.Walk.{Passes, Way};
+ghost use Rattle.snap_walk.specs.Walk.{Way};
 ghost use Rattle.snap_audit.specs.Watch.{Watches};
 ghost use Rattle.snap_survey.specs.Survey.{IsSurveyOf, survey_of};
-ghost use Rattle.snap_survey.specs.Tally.{is_open_in, tally_of};
+ghost use Rattle.snap_survey.specs.Tally.{TalliesOn, is_open_in, tally_of};
 
 use crate::findings::{JudgedSurvey, Survey};
 use crate::scans::{most_collects, without_point};
@@ -17,22 +17,16 @@ use snap_audit::Watch;
 use snap_machine::Machine;
 use snap_run_judge::{History, MOST_CONFIGURATIONS, judge_history, word_of};
 use snap_sched::Schedule;
-use snap_semantics::{Outcome, who};
+use snap_semantics::who;
 use snap_walk::{Passed, Walk};
 use snap_words::Kind;
 use std::alloc::{AllocError, Global};
 
-/// Notes the item that was passed last in a tally.
-#[inline(always)]
+/// Notes the item that was told last in a tally.
 fn note<K: Kind>(tally: &mut Tally, walk: &Walk<'_, K>, passed: &Passed)
-    requires passed { (w : Way) × Passes w passed.now walk.now × (tally.old ≡ tally_of w.run w.at) }
-    ensures { (w : Way) → Passes w passed.now walk.now → tally.old ≡ tally_of w.run w.at →
-        tally.new ≡ tally_of walk.now.run walk.now.at }
+    requires passed { (w : Way) × TalliesOn w tally.old passed.now walk.now }
+    ensures { tally.new ≡ tally_of walk.now.run walk.now.at }
 {
-    // Most items end a line, and come to nothing that is counted.
-    if let Outcome::Stepped = &passed.outcome {
-        return;
-    }
     let status = walk.machine().status(who(passed.item));
     tally.note(passed.number, passed.item, &passed.outcome, status);
 }
@@ -74,7 +68,7 @@ fn survey_of<K: Kind>(
         traps: tally.traps,
         first_trap: tally.first_trap,
         crashes: tally.crashes,
-        skips: tally.skips,
+        skips: walk.skipped(),
         first_skip: tally.first_skip,
     })
 }
@@ -120,7 +114,7 @@ pub fn survey<K: Kind>(
     let mut walk = Walk::<K>::over(alloc, program, schedule)?;
     let mut watch = Watch::new(alloc, program, schedule)?;
     let mut tally = Tally::new();
-    while let Some(passed) = walk.next()? {
+    while let Some(passed) = walk.next_told(watch.silent_lines(), tally.seeks_skip())? {
         note(&mut tally, &walk, &passed);
         watch.note(&walk, passed)?;
     }

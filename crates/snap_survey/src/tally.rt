@@ -1,5 +1,6 @@
-//! `Tally`: counts, for a survey, of the calls, ends, traps, crashes and skips of a run so far.
-ghost use Rattle.std.specs.Prelude.{◌≡◌};
+//! `Tally`: counts, for a survey, of the calls, ends, traps and crashes of a run so far, with the
+//! first trap and the first skip.
+ghost use Rattle.std.specs.Prelude.{◌≡◌, is_none};
 ghost use Rattle.snap_survey.specs.Survey.{trap_of};
 ghost use Rattle.snap_survey.specs.Tally.{IsWithin, noted, none_noted};
 
@@ -15,7 +16,6 @@ pub(crate) struct Tally {
     pub(crate) traps: u64,
     pub(crate) first_trap: Option<Trap>,
     pub(crate) crashes: u64,
-    pub(crate) skips: u64,
     pub(crate) first_skip: Option<Skip>,
 }
 
@@ -46,8 +46,17 @@ impl Tally {
             traps: 0,
             first_trap: None,
             crashes: 0,
-            skips: 0,
             first_skip: None,
+        }
+    }
+
+    /// Returns whether no skipped item was noted.
+    pub(crate) fn seeks_skip(&self) -> bool
+        ensures { result ≡ is_none self.now.first_skip }
+    {
+        match self.first_skip {
+            Some(_) => false,
+            None => true,
         }
     }
 
@@ -72,7 +81,6 @@ impl Tally {
             }
             Outcome::Crashed => self.crashes += 1,
             Outcome::Skipped(reason) => {
-                self.skips += 1;
                 if self.first_skip.is_none() {
                     self.first_skip = Some(Skip {
                         item: number,

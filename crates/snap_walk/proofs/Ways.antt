@@ -1,18 +1,25 @@
 -- Laws of a run item by item, for those who go through it: the items so far, the state and the events, each with one
 -- item more, and behind the last item.
-use Rattle.std.proofs.Common.{◌≡◌, ℕ, suc, ◌+◌, ◌<◌, List, [], ◌∷◌, ◌++◌, length, take, sym, ap, ◌∙◌, arith}
+use Rattle.std.proofs.Common.{◌≡◌, ℕ, suc, ◌+◌, ◌<◌, List, [], ◌∷◌, ◌++◌, length, take, refl, sym, ap, ◌∙◌, arith, Result, Ok, Err}
 use Rattle.std.proofs.Common.{append_assoc, append-nil, length-take}
 use Rattle.std.proofs.lemmas.List.{take_all}
 use Rattle.std.proofs.Math.Seq.{take-suc}
 use Rattle.snap_words.specs.Shape.{Counts}
 use Rattle.snap_semantics.specs.declared.process.Item.{Item}
-use Rattle.snap_semantics.specs.declared.process.Item.TheVariants.{Step}
+use Rattle.snap_semantics.specs.declared.process.Activity.{Activity}
+use Rattle.snap_semantics.specs.declared.process.Cause.{Cause}
+use Rattle.snap_semantics.specs.declared.process.Item.TheVariants.{Step, Call, Crash}
 use Rattle.snap_semantics.specs.declared.process.Outcome.{Outcome}
+use Rattle.snap_semantics.specs.declared.process.Outcome.TheVariants.{Skipped}
+use Rattle.snap_semantics.specs.declared.process.Reason.{Reason}
+use Rattle.snap_semantics.specs.declared.process.Status.{Status}
+use Rattle.snap_semantics.specs.declared.process.Status.TheVariants.{Idle, Busy, Trapped, Crashed}
 use Rattle.snap_semantics.specs.Run.{after, event_of, events}
-use Rattle.snap_semantics.specs.Source.{Source}
-use Rattle.snap_semantics.specs.State.{State, initial}
-use Rattle.snap_semantics.specs.Table.{done}
+use Rattle.snap_semantics.specs.Source.{Source, instr_at}
+use Rattle.snap_semantics.specs.State.{Locals, State, initial, process_at}
+use Rattle.snap_semantics.specs.Table.{Answers, Effect, Finishes, Goes, done, effect_at, leave, step}
 use Rattle.snap_runs.specs.Run.{Run, events_of, item, outcome, state}
+use Rattle.snap_runs.specs.StepRoles.{Nothing, step_role_in, step_role_of}
 use Rattle.snap_runs.proofs.Embedding.{next_state}
 use Rattle.snap_walk.specs.Walk.{Passes, Way}
 use Rattle.snap_walk.specs.declared.passed.Passed.{Passed}
@@ -77,3 +84,36 @@ passed_events w w' p is =
     ∙ ap (λ k. events_of w.run w.at ++ event_of k (item w.run (suc w.at)) (outcome w.run (suc w.at))) (sym is.number)
     ∙ ap (λ (x : Item). events_of w.run w.at ++ event_of p.number x (outcome w.run (suc w.at))) (sym is.item)
     ∙ ap (λ (o : Outcome). events_of w.run w.at ++ event_of p.number p.item o) (sym is.outcome)
+
+-- a step that goes on or ends is not skipped
+left_done : (S : State) (i : ℕ) (a : Activity) (l : Locals) (e : Result Effect Cause) (r : Reason) →
+    (leave S i a l e).1 ≡ Skipped r → ⊥
+left_done S i a l (Ok (Goes m l' link line)) r is = absurd cc
+left_done S i a l (Ok (Answers v)) r is = absurd cc
+left_done S i a l (Ok Finishes) r is = absurd cc
+left_done S i a l (Err c) r is = absurd cc
+
+step_skipped : (s : Source) (n : Counts) (S : State) (i : ℕ) (t : Status) (r : Reason) →
+    (step s n S i (process_at S i) t).1 ≡ Skipped r → step_role_in s (process_at S i).locals t ≡ Nothing
+step_skipped s n S i Idle r is = refl
+step_skipped s n S i (Trapped c a) r is = refl
+step_skipped s n S i (Crashed was) r is = refl
+step_skipped s n S i (Busy a) r is =
+    absurd (left_done S i a (process_at S i).locals (effect_at s
+    (record { shape = n; me = i; op = a.op; locals = (process_at S i).locals; place = 0 }) S.memory a
+    (instr_at s.lines a.line)) r is)
+
+item_skipped : (s : Source) (n : Counts) (S : State) (x : Item) (r : Reason) → (done s n S x).1 ≡ Skipped r →
+    step_role_of s S x ≡ Nothing
+item_skipped s n S (Step i) r is = step_skipped s n S i (process_at S i).status r is
+item_skipped s n S (Call i op) r is = refl
+item_skipped s n S (Crash i) r is = refl
+
+-- an item that is skipped does nothing
+pub skipped_nothing : (w w' : Way) (p : Passed) → Passes w p w' → (r : Reason) → p.outcome ≡ Skipped r →
+    step_role_of w.run.source (state w.run w.at) p.item ≡ Nothing
+skipped_nothing w w' p is r skipped =
+    let s = w.run.source in
+    let S = state w.run w.at in
+    item_skipped s w.run.shape S p.item r
+    (ap (λ (x : Item). (done s w.run.shape S x).1) is.item ∙ sym is.outcome ∙ skipped)

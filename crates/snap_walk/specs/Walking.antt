@@ -1,17 +1,31 @@
--- What a `Walk` keeps of its machine and of its schedule (`IsWalking`).
-use Rattle.std.specs.Prelude.{◌≡◌, ℕ, suc, ◌≤◌, List, drop, length, Option, slice_get}
+-- What a `Walk` keeps of its machine and of its schedule (`IsWalking`), and of the items that are left (`IsAhead`).
+use Rattle.std.specs.Prelude.{◌≡◌, ℕ, ◌≤◌, List, [], drop, if◌then◌else◌, length}
+use Rattle.std.specs.List.{AllByRecursion}
 use Rattle.snap_semantics.specs.declared.process.Item.{Item}
+use Rattle.snap_semantics.specs.declared.process.Outcome.{Outcome}
 use Rattle.snap_semantics.specs.Schedule.{Schedule}
 use Rattle.snap_semantics.specs.ScheduleText.{IsSchedule}
 use Rattle.snap_runs.specs.Run.{run_over, state}
+use Rattle.snap_runs.specs.Scan.{count}
+use Rattle.snap_sched.specs.ItemsLeft.{IsSome}
+use Rattle.snap_sched.specs.declared.segments.Segment.{Segment}
 use Rattle.snap_machine.specs.Configuration.{Configuration}
+use Rattle.snap_walk.specs.Walk.{is_skip, is_skipped}
 
--- a machine has done so many items of a schedule, and the first of the others and the rest of them are these
-pub record IsWalking (m : Configuration) (s : Schedule) (done : ℕ) (first : Option Item)
-    (rest : List Item) : Type 0 where
+-- the segments behind those of the next items have an item at least, and there are none where no item comes next
+pub record IsAhead (often : ℕ) (rest : List Segment) : Type 0 where
+  pub some : AllByRecursion IsSome rest
+  pub end : often ≡ 0 → rest ≡ []
+
+-- a machine has done so many items of a schedule, of which so many were skipped, and these are left
+pub record IsWalking (m : Configuration) (s : Schedule) (done skipped : ℕ) (ahead : List Item) : Type 0 where
   pub schedule : IsSchedule s
   pub shape : m.shape ≡ s.shape
   pub state_is : m.state ≡ state (run_over m.source s) done
   pub within : done ≤ length s.items
-  pub upcoming : first ≡ slice_get s.items done
-  pub left : rest ≡ drop (suc done) s.items
+  pub skips : skipped ≡ count (is_skipped (run_over m.source s)) 0 done
+  pub left : ahead ≡ drop done s.items
+
+-- how many items are skipped by one of this outcome
+abbrev pub skips_by : Outcome → ℕ
+skips_by o = if is_skip o then 1 else 0

@@ -1,16 +1,23 @@
 //! `Walk`: a machine that does the items of a schedule in order.
-ghost use Rattle.std.specs.Prelude.{◌≡◌, ◌≤◌, ◌<◌, suc, length, IfOk, IsTrue, MatchOption, OnErr};
+ghost use Rattle.std.specs.Prelude.{◌≡◌, ◌≤◌, ◌<◌, suc, length, IfOk, IsTrue, MatchOption, OnErr, OnOk};
+ghost use Rattle.std.specs.Prelude.{[], false, IfSome};
 ghost use Rattle.snap_words.specs.Shape.{IsOneOf, max_items};
 ghost use Rattle.snap_semantics.specs.Memory.{may_grow};
+ghost use Rattle.snap_semantics.specs.State.{process_at};
 ghost use Rattle.snap_semantics.specs.Table.{who};
-ghost use Rattle.snap_runs.specs.Run.{item, run_over, state};
-ghost use Rattle.snap_walk.specs.Walk.{Passes};
+ghost use Rattle.snap_runs.specs.Run.{item as item_at, outcome as outcome_at, run_over, state};
+ghost use Rattle.snap_runs.specs.Scan.{count};
+ghost use Rattle.snap_walk.specs.Walk.{Passes, PassesOver, Tells, TellsNone, further, is_skipped, line_told, look_ahead};
+ghost use Rattle.snap_walk.specs.Walking.{skips_by};
+ghost use Rattle.snap_walk.specs.declared.glance.Glance.TheVariants as looks;
 
+use crate::ahead::Ahead;
+use crate::glance::{Glance, is_idle, is_untold, line_told, look};
 use crate::passed::Passed;
 use snap_asm_program::Program;
-use snap_machine::Machine;
-use snap_sched::{ItemIter, Schedule};
-use snap_semantics::{Item, who};
+use snap_machine::{Machine, OwnCode};
+use snap_sched::Schedule;
+use snap_semantics::{Item, Outcome, who};
 use snap_words::Kind;
 use std::alloc::{AllocError, Global};
 use std::marker::Model;
@@ -18,14 +25,16 @@ use std::marker::Model;
 /// A machine on its way through the run of a program over a schedule, seen as the run and the
 /// number of items that are done.
 pub struct Walk<'a, K: Kind> {
-    machine: Machine<K>,
+    /// The machine is of a kind of its own, so that its step is inlined into `advance`, the only
+    /// loop that steps such machines. The machine of `run` has another kind.
+    machine: Machine<OwnCode<OwnCode<K>>>,
     schedule: &'a Schedule,
     /// How many items are done.
     done: u64,
-    /// The next item.
-    upcoming: Option<Item>,
-    /// The items behind the next one.
-    left: ItemIter<'a>,
+    /// How many of these were skipped.
+    skipped: u64,
+    /// The items that are left.
+    ahead: Ahead<'a>,
 }
 
 impl<'a, K: Kind> Drop for Walk<'a, K> {
@@ -35,8 +44,8 @@ impl<'a, K: Kind> Drop for Walk<'a, K> {
             machine: _,
             schedule: _,
             done: _,
-            upcoming: _,
-            left: _,
+            skipped: _,
+            ahead: _,
         } = self;
     }
 }
@@ -54,7 +63,18 @@ impl<'a, K: Kind> Model for Walk<'a, K> {
       at = w.done;
     } };
 
-    ghost invariant = { λ w. IsWalking w.machine w.schedule.now w.done w.upcoming w.left };
+    ghost invariant = { λ w. IsWalking w.machine w.schedule.now w.done w.skipped w.ahead };
+}
+
+/// Returns how many items are skipped by one of this outcome.
+#[inline(always)]
+fn skip_count(outcome: &Outcome) -> u64
+    ensures { result ≡ skips_by outcome.now }
+{
+    match outcome {
+        Outcome::Skipped(_) => 1,
+        _ => 0,
+    }
 }
 
 impl<'a, K: Kind> Walk<'a, K> {
@@ -73,19 +93,17 @@ impl<'a, K: Kind> Walk<'a, K> {
             w ≡ record { run = run_over program.now schedule.now; at = 0 }) }
     {
         let machine = Machine::new(alloc, program, schedule.shape())?;
-        let mut left = schedule.items().iter();
-        let upcoming = left.next();
         Ok(Walk {
             machine,
             schedule,
             done: 0,
-            upcoming,
-            left,
+            skipped: 0,
+            ahead: Ahead::new(schedule.items()),
         })
     }
 
     /// Returns the machine, which has done the items so far.
-    pub fn machine(&self) -> &Machine<K>
+    pub fn machine(&self) -> &Machine<OwnCode<OwnCode<K>>>
         ensures source { result.now.source ≡ self.now.run.source }
         ensures shape { result.now.shape ≡ self.now.run.shape }
         ensures state { result.now.state ≡ state self.now.run self.now.at }
@@ -101,43 +119,138 @@ impl<'a, K: Kind> Walk<'a, K> {
         self.done
     }
 
-    /// Returns the item that comes next, if there is one.
-    pub fn upcoming(&self) -> Option<Item>
-        ensures { MatchOption result (self.now.at ≡ length self.now.run.items)
-            (λ x. (self.now.at < length self.now.run.items) × (x ≡ item self.now.run (suc self.now.at))
-            × IsOneOf self.now.run.shape.n (who x)) }
+    /// Returns how many of the items that are done were skipped.
+    pub fn skipped(&self) -> u64
+        ensures { result ≡ count (is_skipped self.now.run) 0 self.now.at }
     {
-        self.upcoming
+        self.skipped
     }
 
-    /// Does the next item, if there is one.
+    /// Returns the item that comes next, if there is one.
+    #[inline(always)]
+    pub fn upcoming(&self) -> Option<Item>
+        ensures { MatchOption result (self.now.at ≡ length self.now.run.items)
+            (λ x. (self.now.at < length self.now.run.items) × (x ≡ item_at self.now.run (suc self.now.at))
+            × IsOneOf self.now.run.shape.n (who x)) }
+    {
+        self.ahead.first()
+    }
+
+    /// Does the next item, which is `item`.
+    #[inline(always)]
+    fn take(&mut self, item: Item) -> Result<Outcome, AllocError>
+        requires left { self.old.at < length self.old.run.items }
+        requires next { item ≡ item_at self.old.run (suc self.old.at) }
+        ensures outcome { IfOk result (λ o. o ≡ outcome_at self.old.run (suc self.old.at)) }
+        ensures further { OnOk result (self.new ≡ further self.old) }
+        ensures unchanged { OnErr result (self.new ≡ self.old) }
+        ensures grows { OnErr result (IsTrue (may_grow self.old.run.source self.old.run.shape
+            (state self.old.run self.old.at) (item_at self.old.run (suc self.old.at)))) }
+    {
+        let outcome = self.machine.apply(item)?;
+        self.done += 1;
+        self.ahead.pass();
+        self.skipped += skip_count(&outcome);
+        Ok(outcome)
+    }
+
+    /// Passes over the items that come next and are alike, which are steps of a process that is not
+    /// busy.
+    #[inline(always)]
+    fn pass_idle(&mut self, quiet: &[bool])
+        requires left { self.old.at < length self.old.run.items }
+        requires idle { look_ahead quiet.now self.old ≡ looks.Idle }
+        ensures over { PassesOver quiet.now false self.old self.new }
+        ensures some { self.old.at < self.new.at }
+        ensures within { self.new.at ≤ length self.old.run.items }
+    {
+        let count = self.ahead.pass_alike();
+        self.done += count;
+        self.skipped += count;
+    }
+
+    /// Does items up to the next one that is told, and that one.
+    #[inline(never)]
+    fn advance(&mut self, quiet: &[bool], tells_skips: bool) -> Result<Option<Passed>, AllocError>
+        ensures told { IfOk result (λ o. MatchOption o
+            (TellsNone quiet.now tells_skips self.old self.new)
+            (λ p. Tells quiet.now tells_skips self.old p self.new)) }
+        ensures over { OnErr result (PassesOver quiet.now tells_skips self.old self.new) }
+        ensures grows { OnErr result ((self.new.at < length self.new.run.items)
+            × IsTrue (may_grow self.new.run.source self.new.run.shape (state self.new.run self.new.at)
+            (item_at self.new.run (suc self.new.at)))) }
+    {
+        while let Some(item) = self.upcoming() {
+            let glance = look(self.machine(), item, quiet);
+            if is_idle(glance) && !tells_skips {
+                self.pass_idle(quiet);
+            } else {
+                let outcome = self.take(item)?;
+                if !is_untold(glance, &outcome, tells_skips) {
+                    return Ok(Some(self.passed(item, glance, outcome)));
+                }
+            }
+        }
+        Ok(None)
+    }
+
+    /// Returns the item that was done last, as it is told.
+    #[inline(always)]
+    fn passed(&self, item: Item, glance: Glance, outcome: Outcome) -> Passed
+        ensures { result ≡ record {
+          number = self.now.at;
+          item = item;
+          activity = line_told glance;
+          outcome = outcome;
+        } }
+    {
+        Passed {
+            number: self.done,
+            item,
+            activity: line_told(glance),
+            outcome,
+        }
+    }
+
+    /// Does the next item, if there is one, and tells what its process was at, if the item is a
+    /// step of a busy process.
     ///
     /// # Errors
     ///
     /// `AllocError` where memory runs out; the walk is as before then.
-    #[inline(always)]
     pub fn next(&mut self) -> Result<Option<Passed>, AllocError>
         ensures passed { IfOk result (λ o.
             MatchOption o ((self.old.at ≡ length self.old.run.items) × (self.new ≡ self.old))
             (λ p. Passes self.old p self.new)) }
+        ensures activity { IfOk result (λ o.
+            IfSome o (λ p. p.activity ≡ line_told (look_ahead [] self.old))) }
         ensures few { length self.old.run.items ≤ max_items }
         ensures unchanged { OnErr result (self.new ≡ self.old) }
         ensures grows { OnErr result ((self.old.at < length self.old.run.items)
             × IsTrue (may_grow self.old.run.source self.old.run.shape (state self.old.run self.old.at)
-            (item self.old.run (suc self.old.at)))) }
+            (item_at self.old.run (suc self.old.at)))) }
     {
-        let Some(item) = self.upcoming else {
-            return Ok(None);
-        };
-        let before = self.machine.status(who(item));
-        let outcome = self.machine.apply(item)?;
-        self.done += 1;
-        self.upcoming = self.left.next();
-        Ok(Some(Passed {
-            number: self.done,
-            item,
-            before,
-            outcome,
-        }))
+        // What `shape` promises: the schedule has at most as many items as schedules may have.
+        let _shape = self.schedule.shape();
+        self.advance(&[], true)
+    }
+
+    /// Does items up to the next one that is told, and that one, if there is one. Steps that go on
+    /// from lines that are `quiet` are not told, nor are skipped items unless `tells_skips`.
+    ///
+    /// # Errors
+    ///
+    /// `AllocError` where memory runs out; all items done before that are passed over.
+    pub fn next_told(
+        &mut self,
+        quiet: &[bool],
+        tells_skips: bool,
+    ) -> Result<Option<Passed>, AllocError>
+        ensures told { IfOk result (λ o. MatchOption o
+            (TellsNone quiet.now tells_skips self.old self.new)
+            (λ p. Tells quiet.now tells_skips self.old p self.new)) }
+        ensures over { OnErr result (PassesOver quiet.now tells_skips self.old self.new) }
+    {
+        self.advance(quiet, tells_skips)
     }
 }

@@ -1,6 +1,6 @@
 -- `audit_over` of snap_audit (src/sweep.rt): the proof of what its contract says. Returns the verdicts of `audit` on
 -- the run of `program` over the whole of `schedule`, of which no record is kept.
-use Rattle.std.proofs.Common.{◌≡◌, IfOk, Vec, ap, subst, ◌∙◌}
+use Rattle.std.proofs.Common.{◌≡◌, IfOk, Vec, false, subst, ◌∙◌}
 use Rattle.std.proofs.lemmas.Result.{IfOk-weaker}
 use Rattle.std.specs.Global.{Global}
 use Rattle.snap_runs.specs.Audit.{audit}
@@ -8,36 +8,55 @@ use Rattle.snap_runs.specs.Run.{Run}
 use Rattle.snap_runs.specs.declared.verdict.Verdict.{Verdict}
 use Rattle.snap_walk.specs.Walk.{Way}
 use Rattle.snap_audit.specs.Watch.{Watches, so_far}
-use Rattle.snap_audit.proofs.Watches.{less_left, whole_way}
+use Rattle.snap_audit.proofs.Watches.{fewer_left, same_run, silent_here, watched_all, whole_way}
 use Rattle.snap_audit.proofs.sweep.audit_over.Goals as goal
 
 pub note-requires-clause-passed : goal.note-requires-clause-passed
-note-requires-clause-passed g c κs within =
-    (c.loop-watch.walk, c.loop-watch.invariant.watches, rw c.in-Some.is at c.in_ok-passed.ensures.passed)
+note-requires-clause-passed g c κs within = (
+  c.loop-watch.walk,
+  record {
+    watches = c.loop-watch.invariant.watches;
+    quiet = c.silent_lines.result.now;
+    silent =
+        silent_here c.loop-watch.walk c.loop-watch.watch c.loop-watch.invariant.watches c.silent_lines.result.now
+        c.silent_lines.ensures;
+    tells_skips = false;
+    tells = rw c.in-Some.is at c.in_ok-passed.ensures.told;
+  },
+)
 
 pub loop-watch-preserved : goal.loop-watch-preserved
 loop-watch-preserved g c =
-    let w = c.loop-watch.walk in
-    let d = rw c.in-Some.is at c.in_ok-passed.ensures.passed in
+    let told = rw c.in-Some.is at c.in_ok-passed.ensures.told in
     record {
-      run = ap (λ (v : Way). v.run) d.way ∙ c.loop-watch.invariant.run;
-      watches = c.in_ok-note.ensures w c.loop-watch.invariant.watches d;
+      run =
+          same_run c.silent_lines.result.now false c.loop-watch.walk c.next_told.new.self c.in-Some.passed told
+          ∙ c.loop-watch.invariant.run;
+      watches = c.in_ok-note.ensures.watches;
     }
 
 pub loop-watch-smaller : goal.loop-watch-smaller
 loop-watch-smaller g c =
-    less_left c.loop-watch.walk c.next.new.self c.in-Some.passed
-    (rw c.in-Some.is at c.in_ok-passed.ensures.passed)
+    fewer_left c.silent_lines.result.now false c.loop-watch.walk c.next_told.new.self c.in-Some.passed
+    (rw c.in-Some.is at c.in_ok-passed.ensures.told)
 
 pub verdicts-requires : goal.verdicts-requires
-verdicts-requires g c = (c.loop-watch.walk, c.loop-watch.invariant.watches)
+verdicts-requires g c =
+    let none = rw c.in_default.is at c.in_ok-passed.ensures.told in (
+      c.next_told.new.self,
+      watched_all c.silent_lines.result.now false c.loop-watch.watch c.loop-watch.walk c.next_told.new.self
+          c.silent_lines.ensures none c.loop-watch.invariant.watches,
+    )
 
 pub returns : goal.returns
 returns g c =
-    let w = c.loop-watch.walk in
-    let over = rw c.in_default.is at c.in_ok-passed.ensures.passed in
-    let Tells : Vec Verdict Global → Type 0 =
+    let w = c.next_told.new.self in
+    let none = rw c.in_default.is at c.in_ok-passed.ensures.told in
+    let watches =
+    watched_all c.silent_lines.result.now false c.loop-watch.watch c.loop-watch.walk w c.silent_lines.ensures none
+    c.loop-watch.invariant.watches in
+    let Says : Vec Verdict Global → Type 0 =
     λ v. (u : Way) → Watches u c.loop-watch.watch → v.items ≡ audit (so_far u) in
-    subst (λ (r : Run). IfOk c.verdicts.result (λ v. v.items ≡ audit r)) (whole_way w over.0 ∙ c.loop-watch.invariant.run)
-    (IfOk-weaker c.verdicts.result Tells (λ v. v.items ≡ audit (so_far w))
-    (λ v is. is w c.loop-watch.invariant.watches) c.verdicts.ensures)
+    subst (λ (r : Run). IfOk c.verdicts.result (λ v. v.items ≡ audit r))
+    (whole_way w none.end ∙ none.over.run ∙ c.loop-watch.invariant.run)
+    (IfOk-weaker c.verdicts.result Says (λ v. v.items ≡ audit (so_far w)) (λ v is. is w watches) c.verdicts.ensures)

@@ -12,7 +12,7 @@ returns-in-Some-changed g c =
     let h = c.loop-values.invariant in
     let d = rw c.in-Some.is at c.in_ok-passed.ensures.passed in
     let told =
-    c.in_ok-changed.ensures w d (are_roles r w c.in_ok-values.values c.as_slice.result.now c.in_ok-roles.roles.items h
+    c.in_ok-changed.ensures w d (rw c.in-Some.is at c.in_ok-passed.ensures.activity) (are_roles r w c.in_ok-values.values c.as_slice.result.now c.in_ok-roles.roles.items h
     c.as_slice.ensures.value c.in_ok-roles.ensures) (c.as_slice-in-Some.ensures ∙ h.values) in
     sought r w c.next.new.self c.in-Some.passed c.in_ok-values.values h d c.in-Some-changed.line
     (sym c.in-Some-changed.is ∙ told)
@@ -24,7 +24,7 @@ loop-values-preserved-in_default-changed g c =
     let h = c.loop-values.invariant in
     let d = rw c.in-Some.is at c.in_ok-passed.ensures.passed in
     let told =
-    c.in_ok-changed.ensures w d (are_roles r w c.in_ok-values.values c.as_slice.result.now c.in_ok-roles.roles.items h
+    c.in_ok-changed.ensures w d (rw c.in-Some.is at c.in_ok-passed.ensures.activity) (are_roles r w c.in_ok-values.values c.as_slice.result.now c.in_ok-roles.roles.items h
     c.as_slice.ensures.value c.in_ok-roles.ensures) (c.as_slice-in-Some.ensures ∙ h.values) in
     seeks_on r w c.next.new.self c.in-Some.passed c.in_ok-values.values h d (sym c.in_default-changed.is ∙ told)
 
@@ -35,6 +35,6 @@ loop-values-preserved g c =
     let h = c.loop-values.invariant in
     let d = rw c.in-Some.is at c.in_ok-passed.ensures.passed in
     let told =
-    c.in_ok-changed.ensures w d (are_roles r w c.in_ok-values.values c.as_slice.result.now c.in_ok-roles.roles.items h
+    c.in_ok-changed.ensures w d (rw c.in-Some.is at c.in_ok-passed.ensures.activity) (are_roles r w c.in_ok-values.values c.as_slice.result.now c.in_ok-roles.roles.items h
     c.as_slice.ensures.value c.in_ok-roles.ensures) (c.as_slice-in-Some.ensures ∙ h.values) in
     seeks_on r w c.next.new.self c.in-Some.passed c.in_ok-values.values h d (sym c.in_default-changed.is ∙ told)

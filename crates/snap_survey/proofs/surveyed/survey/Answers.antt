@@ -1,50 +1,75 @@
 -- `survey` of snap_survey (src/surveyed.rt): the proof of what its contract says. Returns what the run of `program`
 -- over `schedule` came to, and whether it is linearizable.
-use Rattle.std.proofs.Common.{◌≡◌, IfOk, ap, length, sym, subst, ◌∙◌}
+use Rattle.std.proofs.Common.{IfOk, subst, ◌∙◌}
 use Rattle.snap_runs.specs.Run.{Run}
-use Rattle.snap_walk.specs.Walk.{Way}
-use Rattle.snap_audit.specs.Watch.{Watches}
-use Rattle.snap_audit.proofs.Watches.{less_left}
+use Rattle.snap_walk.specs.Walk.{PassesOver, Tells}
+use Rattle.snap_audit.proofs.Watches.{fewer_left, same_run, silent_here, watched_all}
 use Rattle.snap_survey.specs.Survey.{IsSurveyOf}
-use Rattle.snap_survey.specs.Tally.{tally_of}
+use Rattle.snap_survey.proofs.Tallies.{tallied_over}
 use Rattle.snap_survey.proofs.surveyed.survey.Goals as goal
 
 pub note-requires-clause-passed : goal.note-requires-clause-passed
-note-requires-clause-passed g c κs within =
-    (c.loop-watch.walk, rw c.in-Some.is at c.in_ok-passed.ensures.passed, c.loop-watch.invariant.tally)
+note-requires-clause-passed g c κs within = (
+  c.loop-watch.walk,
+  record {
+    tally = c.loop-watch.invariant.tally;
+    quiet = c.silent_lines.result.now;
+    tells =
+        subst (λ skips. Tells c.silent_lines.result.now skips c.loop-watch.walk c.in-Some.passed c.next_told.new.self)
+        c.seeks_skip.ensures (rw c.in-Some.is at c.in_ok-passed.ensures.told);
+  },
+)
+
+pub note-requires-in-Some-clause-passed : goal.note-requires-in-Some-clause-passed
+note-requires-in-Some-clause-passed g c κs within = (
+  c.loop-watch.walk,
+  record {
+    watches = c.loop-watch.invariant.watches;
+    quiet = c.silent_lines.result.now;
+    silent =
+        silent_here c.loop-watch.walk c.loop-watch.watch c.loop-watch.invariant.watches c.silent_lines.result.now
+        c.silent_lines.ensures;
+    tells_skips = c.seeks_skip.result;
+    tells = rw c.in-Some.is at c.in_ok-passed.ensures.told;
+  },
+)
 
 pub loop-watch-preserved : goal.loop-watch-preserved
 loop-watch-preserved g c =
-    let w = c.loop-watch.walk in
-    let d = rw c.in-Some.is at c.in_ok-passed.ensures.passed in
+    let told = rw c.in-Some.is at c.in_ok-passed.ensures.told in
     record {
-      run = ap (λ (v : Way). v.run) d.way ∙ c.loop-watch.invariant.run;
-      watches = c.in_ok-note.ensures w c.loop-watch.invariant.watches d;
-      tally = c.note.ensures w d c.loop-watch.invariant.tally;
+      run =
+          same_run c.silent_lines.result.now c.seeks_skip.result c.loop-watch.walk c.next_told.new.self c.in-Some.passed told
+          ∙ c.loop-watch.invariant.run;
+      watches = c.in_ok-note.ensures.watches;
+      tally = c.note.ensures;
     }
 
 pub loop-watch-smaller : goal.loop-watch-smaller
 loop-watch-smaller g c =
-    less_left c.loop-watch.walk c.next.new.self c.in-Some.passed
-    (rw c.in-Some.is at c.in_ok-passed.ensures.passed)
+    fewer_left c.silent_lines.result.now c.seeks_skip.result c.loop-watch.walk c.next_told.new.self c.in-Some.passed
+    (rw c.in-Some.is at c.in_ok-passed.ensures.told)
 
 pub judged_survey-requires-clause-end : goal.judged_survey-requires-clause-end
 judged_survey-requires-clause-end g c κs within =
-    let over = rw c.in_default.is at c.in_ok-passed.ensures.passed in
-    subst (λ (w : Way). w.at ≡ length w.run.items) (sym over.1) over.0
+    let none = rw c.in_default.is at c.in_ok-passed.ensures.told in
+    none.end
 
 pub judged_survey-requires-clause-watch : goal.judged_survey-requires-clause-watch
 judged_survey-requires-clause-watch g c κs within =
-    let over = rw c.in_default.is at c.in_ok-passed.ensures.passed in
-    subst (λ (w : Way). Watches w c.loop-watch.watch) (sym over.1) c.loop-watch.invariant.watches
+    let none = rw c.in_default.is at c.in_ok-passed.ensures.told in
+    watched_all c.silent_lines.result.now c.seeks_skip.result c.loop-watch.watch c.loop-watch.walk c.next_told.new.self
+    c.silent_lines.ensures none c.loop-watch.invariant.watches
 
 pub judged_survey-requires-clause-tally : goal.judged_survey-requires-clause-tally
 judged_survey-requires-clause-tally g c κs within =
-    let over = rw c.in_default.is at c.in_ok-passed.ensures.passed in
-    subst (λ (w : Way). c.loop-watch.tally ≡ tally_of w.run w.at) (sym over.1) c.loop-watch.invariant.tally
+    let none = rw c.in_default.is at c.in_ok-passed.ensures.told in
+    tallied_over c.silent_lines.result.now c.loop-watch.tally c.loop-watch.walk c.next_told.new.self
+    (subst (λ skips. PassesOver c.silent_lines.result.now skips c.loop-watch.walk c.next_told.new.self)
+    c.seeks_skip.ensures none.over) c.loop-watch.invariant.tally
 
 pub returns : goal.returns
 returns g c =
-    let over = rw c.in_default.is at c.in_ok-passed.ensures.passed in
-    subst (λ (r : Run). IfOk c.judged_survey.result (IsSurveyOf r))
-    (ap (λ (w : Way). w.run) over.1 ∙ c.loop-watch.invariant.run) c.judged_survey.ensures
+    let none = rw c.in_default.is at c.in_ok-passed.ensures.told in
+    subst (λ (r : Run). IfOk c.judged_survey.result (IsSurveyOf r)) (none.over.run ∙ c.loop-watch.invariant.run)
+    c.judged_survey.ensures

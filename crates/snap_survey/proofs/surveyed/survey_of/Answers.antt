@@ -7,7 +7,9 @@ use Rattle.snap_runs.specs.Run.{Run, state}
 use Rattle.snap_runs.specs.Scan.{count}
 use Rattle.snap_audit.proofs.Watches.{whole_way}
 use Rattle.snap_survey.specs.Tally.{is_open_in, tally_of}
+use Rattle.snap_survey.specs.Survey.{is_skipped}
 use Rattle.snap_survey.proofs.Surveying.{survey_made}
+use Rattle.snap_survey.proofs.Tallies.{skips_same}
 use Rattle.snap_survey.proofs.surveyed.survey_of.Goals as goal
 
 pub returns : goal.returns
@@ -23,9 +25,10 @@ returns g c =
       c.as_slice.ensures.value,
       c.most_collects.ensures,
       c.as_slice-2.ensures.value,
-    ) (survey_made r c.args.tally.now vs c.open_operations.result
+    ) (survey_made r c.args.tally.now vs c.open_operations.result c.skipped.result
     (c.requires.tally ∙ ap (tally_of r) c.requires.end)
     (subst (λ (q : Run). vs ≡ audit q) (whole_way w c.requires.end) (c.in_ok-verdicts.ensures w c.requires.watch))
     (c.open_operations.ensures
     ∙ ap (λ n. count (is_open_in c.machine.result.now.state) 0 n.n) c.machine.ensures.shape
-    ∙ ap (λ (S : State). count (is_open_in S) 0 r.shape.n) (c.machine.ensures.state ∙ ap (state r) c.requires.end)))
+    ∙ ap (λ (S : State). count (is_open_in S) 0 r.shape.n) (c.machine.ensures.state ∙ ap (state r) c.requires.end))
+    (c.skipped.ensures ∙ skips_same r w.at ∙ ap (count (is_skipped r) 0) c.requires.end))

@@ -1,9 +1,10 @@
 -- `Watch::new` of snap_audit (src/watch.rt): the proof of what its contract says. Returns a watch before the first item
 -- of the run of `program` over a schedule.
-use Rattle.std.proofs.Common.{ap, ◌∙◌, [], replicate, refl}
+use Rattle.std.proofs.Common.{ap, ◌∙◌, [], map, replicate, refl}
 use Rattle.snap_words.specs.Shape.{Counts}
 use Rattle.snap_semantics.specs.State.{initial}
 use Rattle.snap_record.proofs.Recording.{started}
+use Rattle.snap_audit.specs.Watch.{is_silent}
 use Rattle.snap_audit.proofs.watch.Watch.new.Goals as goal
 
 pub returns : goal.returns
@@ -13,7 +14,8 @@ returns c =
     let shape = c.shape-shape.ensures.shape in
     record {
       shape = shape;
-      roles = c.in_ok-new_roles.ensures;
+      roles = c.in_ok-roles.ensures;
+      silent = c.in_ok-silent.ensures ∙ ap (map is_silent) c.as_slice.ensures.value;
       notes =
           started s n s.kind (record { source = s; shape = n; state = initial s n }) [] c.in_ok-zeros.field-0
           c.new.result.items c.new-2.result.items c.in_ok-zeros-2.field-0.items c.new-3.result.items refl refl refl

@@ -1,5 +1,5 @@
 -- `Watch::note` of snap_audit (src/watch.rt): the proof of what its contract says.
--- Notes the item that was passed last on the way.
+-- Notes the item that was told last on the way.
 use Rattle.std.proofs.Common.{◌++◌, ◌-◌, length, map, refl, sym, ap, subst, ◌∙◌, slice_index}
 use Rattle.snap_words.specs.Shape.{Counts, IsOneOf}
 use Rattle.snap_semantics.specs.Run.{event_of}
@@ -8,86 +8,90 @@ use Rattle.snap_semantics.specs.declared.event.Event.{Event}
 use Rattle.snap_runs.specs.Run.{state}
 use Rattle.snap_runs.specs.StepRoles.{step_role_of}
 use Rattle.snap_record.specs.History.{changes_to, counted}
-use Rattle.snap_record.specs.Roles.{AreRoles}
 use Rattle.snap_record.proofs.Recording.{few_collects}
 use Rattle.snap_walk.specs.Walk.{Way}
-use Rattle.snap_audit.specs.Watch.{so_far}
-use Rattle.snap_audit.proofs.Watches.{counted_length, noted, quiet, values_stay}
+use Rattle.snap_audit.specs.Watch.{is_test_line, is_write_line, so_far, told_role}
+use Rattle.snap_audit.proofs.Watches.{counted_length, noted, told_line, values_stay, watched_before}
 use Rattle.snap_audit.proofs.watch.Watch.note.Goals as goal
-
-pub returns-then-is_quiet : goal.returns-then-is_quiet
-returns-then-is_quiet g c = λ w h d.
-    let x = c.args.self.now in
-    let told =
-    c.item_role-role.ensures w.run.source (state w.run w.at)
-    (subst (AreRoles w.run.source) (sym c.as_slice.ensures.value) h.roles) d.status in
-    let nothing = c.if-is_quiet.ensures in
-    quiet w c.args.walk.now c.args.passed x x h d refl refl refl refl refl refl refl
-    (told.0 ∙ nothing.write refl) (told.1 ∙ nothing.test refl) (nothing.unseen refl)
 
 pub note_changes-requires-clause-stay : goal.note_changes-requires-clause-stay
 note_changes-requires-clause-stay g c κs within = λ dry.
     let w = c.requires.passed.0 in
-    let h = c.requires.passed.1 in
-    let d = c.requires.passed.2 in
-    let told =
-    c.item_role-role.ensures w.run.source (state w.run w.at)
-    (subst (AreRoles w.run.source) (sym c.as_slice.ensures.value) h.roles) d.status in
-    ap values c.machine.ensures.state ∙ values_stay w c.args.walk.now c.args.passed c.args.self.now h d (told.0 ∙ dry)
+    let on = c.requires.passed.1 in
+    let x = c.args.self.now in
+    let p = c.args.passed in
+    let v = on.tells.between in
+    let told = told_line w c.args.walk.now x p on in
+    let role =
+    c.told_role-role.ensures ∙ ap (λ ms. told_role ms p.activity) c.as_slice.ensures.value in
+    ap values c.machine.ensures.state
+    ∙ values_stay v c.args.walk.now p x (watched_before w c.args.walk.now x p on) on.tells.passes
+    (told.0 ∙ ap is_write_line (sym role) ∙ dry)
 
 pub note_test-requires-clause-few : goal.note_test-requires-clause-few
 note_test-requires-clause-few g c =
     let x = c.args.self.now in
     let w = c.requires.passed.0 in
-    let h = c.requires.passed.1 in
-    let d = c.requires.passed.2 in
+    let on = c.requires.passed.1 in
+    let v = on.tells.between in
+    let h = watched_before w c.args.walk.now x c.args.passed on in
     let few =
-    few_collects (so_far w) w.run.source.kind (state w.run w.at) x.values x.changes.items x.events.items
-    x.collects.items x.at_events.items _ h.notes d.process in
+    few_collects (so_far v) v.run.source.kind (state v.run v.at) x.values x.changes.items x.events.items
+    x.collects.items x.at_events.items _ h.notes on.tells.passes.process in
     rw c.who-i.ensures few
 
 pub note_event-requires : goal.note_event-requires
 note_event-requires g c =
     let x = c.args.self.now in
     let w = c.requires.passed.0 in
-    let h = c.requires.passed.1 in
-    let d = c.requires.passed.2 in
+    let on = c.requires.passed.1 in
     let p = c.args.passed in
-    let told =
-    c.item_role-role.ensures w.run.source (state w.run w.at)
-    (subst (AreRoles w.run.source) (sym c.as_slice.ensures.value) h.roles) d.status in
-    let step = step_role_of w.run.source (state w.run w.at) p.item in
+    let v = on.tells.between in
+    let h = watched_before w c.args.walk.now x p on in
+    let d = on.tells.passes in
+    let told = told_line w c.args.walk.now x p on in
+    let role =
+    c.told_role-role.ensures ∙ ap (λ ms. told_role ms p.activity) c.as_slice.ensures.value in
+    let step = step_role_of v.run.source (state v.run v.at) p.item in
+    let test = told.1 ∙ ap is_test_line (sym role) in
     let many =
-    ap length (c.as_slice-2.ensures.value ∙ c.note_test.ensures step told.1)
+    ap length (c.as_slice-2.ensures.value ∙ c.note_test.ensures step test)
     ∙ counted_length step p.outcome c.who-i.result x.collects.items ∙ h.notes.tells.process_count in
     subst (λ n. IsOneOf n c.who-i.result) (sym many)
-    (subst (λ k. IsOneOf w.run.shape.n k) (sym c.who-i.ensures) d.process)
+    (subst (λ k. IsOneOf v.run.shape.n k) (sym c.who-i.ensures) d.process)
 
-pub returns : goal.returns
-returns g c = λ w h d.
+pub returns-clause-watches : goal.returns-clause-watches
+returns-clause-watches g c =
     let x = c.args.self.now in
+    let w = c.requires.passed.0 in
+    let on = c.requires.passed.1 in
     let p = c.args.passed in
-    let told =
-    c.item_role-role.ensures w.run.source (state w.run w.at)
-    (subst (AreRoles w.run.source) (sym c.as_slice.ensures.value) h.roles) d.status in
+    let v = on.tells.between in
+    let h = watched_before w c.args.walk.now x p on in
+    let d = on.tells.passes in
+    let told = told_line w c.args.walk.now x p on in
+    let role =
+    c.told_role-role.ensures ∙ ap (λ ms. told_role ms p.activity) c.as_slice.ensures.value in
     let changed = c.in_ok-note_changes.ensures in
     let seen = c.in_ok-note_event.ensures in
-    let step = step_role_of w.run.source (state w.run w.at) p.item in
+    let step = step_role_of v.run.source (state v.run v.at) p.item in
     let collects = c.note_test.new.collects.items in
-    noted w c.args.walk.now p x (record {
+    let test = told.1 ∙ ap is_test_line (sym role) in
+    noted v c.args.walk.now p x (record {
       shape = x.shape;
       roles = x.roles;
+      silent = x.silent;
       values = c.note_changes.new.now;
       changes = c.note_changes.new.changes;
       events = c.note_event.new.events;
       collects = c.note_test.new.collects;
       at_events = c.note_event.new.at_events;
-    }) h d refl refl (changed.now ∙ ap values c.machine.ensures.state)
-    (changed.count ∙ ap (λ (n : Counts). n.w) (c.machine.ensures.shape ∙ ap (λ (v : Way). v.run.shape) d.way))
+    }) h d refl refl refl (changed.now ∙ ap values c.machine.ensures.state)
+    (changed.count ∙ ap (λ (n : Counts). n.w) (c.machine.ensures.shape ∙ ap (λ (u : Way). u.run.shape) d.way))
     (changed.changes
     ∙ ap (λ (S : State). x.changes.items ++ changes_to p.number 0 x.values (values S)) c.machine.ensures.state)
     (seen.events ∙ ap (λ es. x.events.items ++ es) c.event_of-event.ensures)
-    (c.note_test.ensures step told.1 ∙ ap (λ k. counted step p.outcome k x.collects.items) c.who-i.ensures)
+    (c.note_test.ensures step test ∙ ap (λ k. counted step p.outcome k x.collects.items) c.who-i.ensures)
     (seen.at_events
     ∙ ap (λ es. x.at_events.items ++ map (λ (e : Event). slice_index c.as_slice-2.result.now (c.who-i.result - 1)) es)
     c.event_of-event.ensures

@@ -31,4 +31,8 @@ pub use explain::explanation;
 pub use history::history_explanation;
 pub use laws::what_is_lost_stays_lost;
 pub use layout::{Layout, Texts, layout_of};
+pub use line_sorts::{Header, LineSort};
 pub use live::turn_limit_explanation;
+pub use lost::{LostPlace, Wanted, lost_in};
+pub use parts::Part;
+pub use pieces::{PlacedToken, PlacedTokens, placed_tokens};

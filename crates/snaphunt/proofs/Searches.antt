@@ -1,5 +1,5 @@
 -- What the hunt that a command line asks for comes to, by what was read of its listing.
-use Rattle.std.proofs.Common.{◌≡◌, inl, inr, ℕ, List, Vec, Option, Result, Ok, Err, ap, refl, sym}
+use Rattle.std.proofs.Common.{◌≡◌, inl, ℕ, List, Vec, Option, Result, Ok, Err, ap, refl, sym}
 use Rattle.std.specs.Global.{Global}
 use Rattle.std.specs.declared.io.ErrorKind.{ErrorKind}
 use Rattle.snap_semantics.specs.Answers.{refused_as}
@@ -14,10 +14,9 @@ use Rattle.snap_streams.specs.declared.file_fault.FileFault.TheVariants as file
 use Rattle.snap_streams.proofs.Texts.{text_read}
 use Rattle.snap_hunt_output.specs.Hunted.{IsDue}
 use Rattle.snap_hunt_output.specs.declared.hunt_request.HuntRequest.{HuntRequest}
-use Rattle.snap_hunt_output.specs.declared.hunted.Hunted.{Hunted}
 use Rattle.snaphunt.specs.Search.{Named, File, Shipped}
 use Rattle.snaphunt.specs.Answer.{Hunts, HuntsIn}
-use Rattle.snaphunt.specs.Searching.{ComesTo, GivesText, IsSearched, IsText, too_many}
+use Rattle.snaphunt.specs.Searching.{GivesText, IsText, too_many}
 
 -- the text of a file that was read
 pub file_read : (files : List ℕ → Option (Result (List ℕ) ErrorKind)) (name : List ℕ) (v : Vec ℕ Global) →
@@ -69,15 +68,3 @@ pub no_text : (files : List ℕ → Option (Result (List ℕ) ErrorKind)) (named
 no_text files named a fault.Memory text sink h = (Err fault.Memory, tt, refl)
 no_text files named a (fault.Write n) text sink h = absurd (no_write files named n h)
 no_text files named a e text sink h = (Err e, inl h, (refl, refl))
-
-in_text : (files : List ℕ → Option (Result (List ℕ) ErrorKind)) (named : Named) (a : HuntRequest) (text : List ℕ)
-    (r : Result Hunted ProgramFault) → IsText files named (Ok text) → ComesTo text a r → IsSearched files named a text r
-in_text files named a text (Ok h) is comes = (is, comes)
-in_text files named a text (Err fault.Memory) is comes = tt
-in_text files named a text (Err e) is comes = inr (is, comes)
-
--- there is one, and this was printed of a hunt in it
-pub with_text : (files : List ℕ → Option (Result (List ℕ) ErrorKind)) (named : Named) (a : HuntRequest) (text : List ℕ)
-    (done : Result Hunted ProgramFault) (sink sink_after : SinkState) → IsText files named (Ok text) →
-    HuntsIn text a done sink sink_after → Hunts files named a text done sink sink_after
-with_text files named a text done sink sink_after is h = (h.0, in_text files named a text h.0 is h.1, h.2)

@@ -1,13 +1,12 @@
 -- `AnswersLine`: what snaphunt does about its command line: what it prints for the files that are there, what it says,
 -- and the status that it ends with.
 use Rattle.std.specs.Prelude.{◌≡◌, ℕ, Bool, List, [], Option, Some, None, Result, Ok, Err, if◌then◌else◌, codes}
-use Rattle.std.specs.Prelude.{string_bytes}
 use Rattle.std.specs.declared.io.ErrorKind.{ErrorKind}
-use Rattle.snap_streams.specs.Sent.{Says, Sends, unsent}
+use Rattle.snap_streams.specs.Sent.{Sends, unsent}
 use Rattle.snap_streams.specs.declared.sending.Unsent.{Unsent}
 use Rattle.snap_streams.specs.State.{SinkState}
 use Rattle.snap_faults.specs.Names.{Names, of_program}
-use Rattle.snap_faults.specs.Told.{Helps, SaysWhy, exit_status, no_memory_line, no_text_line}
+use Rattle.snap_faults.specs.Told.{SaysWhy, exit_status}
 use Rattle.snap_faults.specs.declared.fault.ProgramFault.{ProgramFault}
 use Rattle.snap_faults.specs.declared.fault.ProgramFault.TheVariants as fault
 use Rattle.snap_semantics.specs.declared.refusal.Refusal.TheVariants as refusal
@@ -16,10 +15,11 @@ use Rattle.snap_explanation.specs.declared.layout.Layout.TheVariants as layout
 use Rattle.snap_hunt_output.specs.declared.hunt_request.HuntRequest.{HuntRequest}
 use Rattle.snap_hunt_output.specs.declared.hunted.Hunted.{Hunted}
 use Rattle.snap_hunt_output.specs.declared.hunted.Hunted.TheVariants as hunted
+use Rattle.snap_options.specs.CommandLines.{AnswersUnasked}
+use Rattle.snap_options.specs.declared.invocation.Invocation.{Invocation}
+use Rattle.snap_options.specs.declared.invocation.Unasked.{Unasked}
 use Rattle.snaphunt.specs.Search.{Named, File, Shipped, view_listed}
 use Rattle.snaphunt.specs.declared.arguments.Search.{Search}
-use Rattle.snaphunt.specs.declared.command_line.CommandLine.{CommandLine}
-use Rattle.snaphunt.specs.declared.command_line.CommandLine.TheVariants.{Asks, Help, Wrong, NoText}
 use Rattle.snaphunt.specs.Searching.{ComesTo, IsSearched, hunted_text}
 
 -- 0 where none of the runs fails, 4 where one does
@@ -67,24 +67,18 @@ abbrev pub explained : (explains : Bool) → (text : List ℕ) → ProgramFault 
 explained explains text f = if explains then why text f else []
 
 -- What the program does about a search. Where the listing is refused, it is the one that is explained.
-abbrev pub AnswersSearch : (files : List ℕ → Option (Result (List ℕ) ErrorKind)) → Search → (status : ℕ) →
+abbrev pub AnswersSearch : (files : List ℕ → Option (Result (List ℕ) ErrorKind)) → Invocation Search → (status : ℕ) →
     (sink sink_after errors errors_after : SinkState) → Type 0
-AnswersSearch files search status sink sink_after errors errors_after =
+AnswersSearch files asked status sink sink_after errors errors_after =
     (done : Result Hunted ProgramFault) × (text : List ℕ) × (status ≡ exit_status hunted_status done)
-    × Hunts files (view_listed search.listed) search.asked text done sink sink_after
-    × SaysWhy (names_of (view_listed search.listed)) (explained search.explains text) done errors errors_after
+    × Hunts files (view_listed asked.request.listed) asked.request.asked text done sink sink_after
+    × SaysWhy (names_of (view_listed asked.request.listed)) (explained asked.explains text) done errors errors_after
 
--- What the program does about a command line, or where there was no memory to read it: what it gives its sink and its
--- device for messages, and its status.
-abbrev pub AnswersLine : {E : Type 0} → (files : List ℕ → Option (Result (List ℕ) ErrorKind)) → Result CommandLine E →
+-- What the program does about a command line, or about one that asks for no hunt: what it gives its sink and its device
+-- for messages, and its status.
+abbrev pub AnswersLine : (files : List ℕ → Option (Result (List ℕ) ErrorKind)) → Result (Invocation Search) Unasked →
     (status : ℕ) → (sink sink_after errors errors_after : SinkState) → Type 0
-AnswersLine files (Ok (Asks search)) status sink sink_after errors errors_after =
-    AnswersSearch files search status sink sink_after errors errors_after
-AnswersLine files (Ok (Help text)) status sink sink_after errors errors_after =
-    Helps (of_program (codes "snaphunt")) (string_bytes text) status sink sink_after errors errors_after
-AnswersLine files (Ok (Wrong text)) status sink sink_after errors errors_after =
-    (status ≡ 2) × (sink ≡ sink_after) × Says (string_bytes text) errors errors_after
-AnswersLine files (Ok NoText) status sink sink_after errors errors_after =
-    (status ≡ 2) × (sink ≡ sink_after) × Says no_text_line errors errors_after
-AnswersLine files (Err e) status sink sink_after errors errors_after =
-    (status ≡ 1) × (sink ≡ sink_after) × Says no_memory_line errors errors_after
+AnswersLine files (Ok asked) status sink sink_after errors errors_after =
+    AnswersSearch files asked status sink sink_after errors errors_after
+AnswersLine files (Err unasked) status sink sink_after errors errors_after =
+    AnswersUnasked (of_program (codes "snaphunt")) unasked status sink sink_after errors errors_after

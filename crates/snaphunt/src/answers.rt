@@ -2,23 +2,21 @@
 //! and its status.
 ghost use Rattle.std.specs.Prelude.{◌≡◌, ◌<◌, ◌^◌, Ok, Err, IfOk, false};
 ghost use Rattle.snap_faults.specs.Faults.{fault_status};
-ghost use Rattle.snap_faults.specs.Names.{of_program, view_names};
+ghost use Rattle.snap_faults.specs.Names.{view_names};
 ghost use Rattle.snap_faults.specs.Told.{SaysWhy, TellsMore, exit_status};
 ghost use Rattle.snaphunt.specs.Answer.{AnswersLine, AnswersSearch, HuntsIn, Prints, explained};
 ghost use Rattle.snaphunt.specs.Answer.{hunted_status, names_of};
-ghost use Rattle.snaphunt.specs.Search.{IsLine, IsSearch, view_listed};
+ghost use Rattle.snaphunt.specs.Search.{IsSearch, view_listed};
 
 use crate::arguments::{Listed, Search};
-use crate::command_line::CommandLine;
 use crate::searching::{hunted_text, text_of};
 use snap_explanation::{Layout, explanation};
-use snap_faults::{
-    Names, ProgramFault, complain, fault_status, help, say_no_memory, say_no_text, tell,
-};
+use snap_faults::{Names, ProgramFault, complain, fault_status, tell};
 use snap_hunt::Watcher;
 use snap_hunt_output::{HuntRequest, Hunted, hunt_listing};
+use snap_options::{Invocation, Unasked, answer_unasked};
 use snap_semantics::Refusal;
-use snap_streams::{ByteSink, FileSource, say, write_all};
+use snap_streams::{ByteSink, FileSource, write_all};
 use std::alloc::{AllocError, Global};
 use std::thread::Threads;
 
@@ -113,18 +111,18 @@ fn explained(
 /// it, and returns the status.
 fn explain<E: ByteSink>(
     alloc: Global,
-    asked: &Search<'_>,
+    asked: &Invocation<Search<'_>>,
     listing: &[u8],
     fault: &ProgramFault,
     errors: &mut E,
 ) -> u8
     requires { (E.state errors.old).failed ≡ false }
     ensures status { result ≡ fault_status fault.now }
-    ensures says { TellsMore (names_of (view_listed asked.now.listed)) fault.now
+    ensures says { TellsMore (names_of (view_listed asked.now.request.listed)) fault.now
         (explained asked.now.explains listing.now fault.now) (E.state errors.old)
         (E.state errors.new) }
 {
-    let names = names_of(&asked.listed);
+    let names = names_of(&asked.request.listed);
     match explained(alloc, asked.explains, listing, fault) {
         Ok(more) => tell(alloc, &names, fault, more.as_slice(), errors),
         Err(_) => {
@@ -137,14 +135,14 @@ fn explain<E: ByteSink>(
 /// Returns the status of a whole hunt, and says its fault if there is one.
 fn finish<E: ByteSink>(
     alloc: Global,
-    asked: &Search<'_>,
+    asked: &Invocation<Search<'_>>,
     listing: &[u8],
     done: &Result<Hunted, ProgramFault>,
     errors: &mut E,
 ) -> u8
     requires { (E.state errors.old).failed ≡ false }
     ensures status { result ≡ exit_status hunted_status done.now }
-    ensures says { SaysWhy (names_of (view_listed asked.now.listed))
+    ensures says { SaysWhy (names_of (view_listed asked.now.request.listed))
         (explained asked.now.explains listing.now) done.now (E.state errors.old)
         (E.state errors.new) }
 {
@@ -158,25 +156,25 @@ fn finish<E: ByteSink>(
 fn hunt<F: FileSource, W: Watcher, S: ByteSink, E: ByteSink>(
     threads: &(impl Threads + Sync),
     alloc: Global,
-    asked: &Search<'_>,
+    asked: &Invocation<Search<'_>>,
     files: &F,
     watcher: &mut W,
     sink: &mut S,
     errors: &mut E,
 ) -> u8
-    requires search { IsSearch asked.now }
+    requires search { IsSearch asked.now.request }
     requires sink { (S.state sink.old).failed ≡ false }
     requires errors { (E.state errors.old).failed ≡ false }
     ensures { AnswersSearch (F.found files.now) asked.now result (S.state sink.old)
         (S.state sink.new) (E.state errors.old) (E.state errors.new) }
 {
-    match text_of(alloc, files, &asked.listed) {
+    match text_of(alloc, files, &asked.request.listed) {
         Ok(listing) => {
             let done = hunt_in(
                 threads,
                 alloc,
                 listing.as_slice(),
-                &asked.asked,
+                &asked.request.asked,
                 watcher,
                 sink,
             );
@@ -190,38 +188,20 @@ fn hunt<F: FileSource, W: Watcher, S: ByteSink, E: ByteSink>(
 pub(crate) fn answer<F: FileSource, W: Watcher, S: ByteSink, E: ByteSink>(
     threads: &(impl Threads + Sync),
     alloc: Global,
-    line: &Result<CommandLine<'_>, AllocError>,
+    line: &Result<Invocation<Search<'_>>, Unasked>,
     files: &F,
     watcher: &mut W,
     sink: &mut S,
     errors: &mut E,
 ) -> u8
-    requires line { IfOk line.now IsLine }
+    requires line { IfOk line.now (λ asked. IsSearch asked.request) }
     requires sink { (S.state sink.old).failed ≡ false }
     requires errors { (E.state errors.old).failed ≡ false }
     ensures { AnswersLine (F.found files.now) line.now result (S.state sink.old)
         (S.state sink.new) (E.state errors.old) (E.state errors.new) }
 {
     match line {
-        Ok(CommandLine::Asks(asked)) => hunt(threads, alloc, asked, files, watcher, sink, errors),
-        Ok(CommandLine::Help(text)) => help(
-            alloc,
-            &Names::of_program(PROGRAM),
-            text.as_bytes(),
-            sink,
-            errors,
-        ),
-        Ok(CommandLine::Wrong(text)) => {
-            say(text.as_bytes(), errors);
-            2
-        }
-        Ok(CommandLine::NoText) => {
-            say_no_text(errors);
-            2
-        }
-        Err(_) => {
-            say_no_memory(errors);
-            1
-        }
+        Ok(asked) => hunt(threads, alloc, asked, files, watcher, sink, errors),
+        Err(unasked) => answer_unasked(alloc, PROGRAM, unasked, sink, errors),
     }
 }

@@ -3,22 +3,17 @@
 ghost use Rattle.std.specs.Prelude.{IfOk, IfSome};
 ghost use Rattle.snaphunt.specs.Search.{IsSearch};
 
-use clap::builder::ValueParser;
 use clap::error::ErrorKind;
-use clap::{Arg, ArgAction, ArgMatches, Command, Error};
+use clap::{Arg, ArgMatches, Command, Error};
 use snap_chance::{MAX_TURNS, Pace, Plan};
 use snap_hunt::{StepBound, Wanted};
 use snap_hunt_output::HuntRequest;
-use snap_options::is_given;
-use snap_tasks::kind_of;
+use snap_options::{Invocation, flag, is_given, kind_given, number, number_of, shipped};
 use snap_words::{KindTag, MAX_COUNT, Shape};
 use std::alloc::{AllocError, Global};
 
 /// The version of the program.
 const VERSION: &str = "0.1.0";
-
-/// The kinds that `--shipped` takes.
-const KINDS: &[&str] = &["seq", "bit", "multi"];
 
 /// The paces that `--pace` takes.
 const PACES: &[&str] = &[
@@ -78,17 +73,15 @@ pub enum Listed<'a> {
     Shipped(KindTag),
 }
 
-/// What a command line is for: the listing, what is hunted in its runs, and whether a refusal is
-/// explained.
+/// What a command line is for: the listing, and what is hunted in its runs.
 #[derive(Clone, Copy)]
 pub struct Search<'a> {
     pub listed: Listed<'a>,
     pub asked: HuntRequest,
-    pub explains: bool,
 }
 
 /// Returns an option that takes a number, with the number that it has if it is not given.
-fn number<'a>(
+fn number_or<'a>(
     alloc: Global,
     name: &'a str,
     least: u64,
@@ -96,27 +89,13 @@ fn number<'a>(
     usual: &'a str,
     help: &'a str,
 ) -> Arg<'a> {
-    Arg::new(alloc, name)
-        .long(name)
-        .value_name("N")
-        .value_parser(ValueParser::unsigned(least, most))
-        .default_value(usual)
-        .help(help)
-}
-
-/// Returns the argument that says that priorities decide who moves.
-fn depth<'a>(alloc: Global) -> Arg<'a> {
-    Arg::new(alloc, "depth")
-        .long("depth")
-        .value_name("D")
-        .value_parser(ValueParser::unsigned(1, MAX_DEPTH))
-        .help("Priorities, lowered at D - 1 turns, decide which{n}process moves")
+    number(alloc, name, "N", least, most, help).default_value(usual)
 }
 
 /// Returns the arguments that say how many processes and words there are.
 fn with_shape<'a>(alloc: Global, command: Command<'a>) -> Result<Command<'a>, AllocError> {
     command
-        .arg(number(
+        .arg(number_or(
             alloc,
             "processes",
             1,
@@ -124,7 +103,7 @@ fn with_shape<'a>(alloc: Global, command: Command<'a>) -> Result<Command<'a>, Al
             "3",
             "How many processes there are",
         ))?
-        .arg(number(
+        .arg(number_or(
             alloc,
             "words",
             0,
@@ -145,8 +124,15 @@ fn with_plan<'a>(alloc: Global, command: Command<'a>) -> Result<Command<'a>, All
         .help(PACE_HELP);
     with_shape(alloc, command)?
         .arg(pace)?
-        .arg(depth(alloc))?
         .arg(number(
+            alloc,
+            "depth",
+            "D",
+            1,
+            MAX_DEPTH,
+            "Priorities, lowered at D - 1 turns, decide which{n}process moves",
+        ))?
+        .arg(number_or(
             alloc,
             "turns",
             1,
@@ -154,7 +140,7 @@ fn with_plan<'a>(alloc: Global, command: Command<'a>) -> Result<Command<'a>, All
             "120",
             "How many turns a schedule has",
         ))?
-        .arg(number(
+        .arg(number_or(
             alloc,
             "crash",
             0,
@@ -162,7 +148,7 @@ fn with_plan<'a>(alloc: Global, command: Command<'a>) -> Result<Command<'a>, All
             "0",
             "How many of a thousand turns are crashes",
         ))?
-        .arg(number(alloc, "repeat", 0, 4_294_967_295, "1", REPEAT_HELP))
+        .arg(number_or(alloc, "repeat", 0, 4_294_967_295, "1", REPEAT_HELP))
 }
 
 /// Returns the arguments of the failures to hunt.
@@ -176,7 +162,7 @@ fn with_failures<'a>(alloc: Global, command: Command<'a>) -> Result<Command<'a>,
         .help(FAILS_HELP);
     command
         .arg(fails)?
-        .arg(number(
+        .arg(number_or(
             alloc,
             "steps",
             0,
@@ -184,7 +170,7 @@ fn with_failures<'a>(alloc: Global, command: Command<'a>) -> Result<Command<'a>,
             "0",
             "Hunts an operation of more own steps than this; 0: than{n}the shipped listing takes",
         ))?
-        .arg(number(
+        .arg(number_or(
             alloc,
             "collects",
             0,
@@ -197,24 +183,24 @@ fn with_failures<'a>(alloc: Global, command: Command<'a>) -> Result<Command<'a>,
 /// Returns the arguments that a hunt takes.
 fn command<'a>(alloc: Global) -> Result<Command<'a>, AllocError> {
     let listing = Arg::new(alloc, "LISTING").help("The file of the listing");
-    let shipped = Arg::new(alloc, "shipped")
-        .long("shipped")
-        .value_name("KIND")
-        .value_parser(KINDS)
-        .help("Hunts in the shipped listing of this kind of registers;{n}no LISTING is named");
-    let explain = Arg::new(alloc, "explain")
-        .long("explain")
-        .action(ArgAction::SetTrue)
-        .help("Explains on standard error where and why the listing{n}is refused");
+    let kind = shipped(
+        alloc,
+        "Hunts in the shipped listing of this kind of registers;{n}no LISTING is named",
+    );
+    let explain = flag(
+        alloc,
+        "explain",
+        "Explains on standard error where and why the listing{n}is refused",
+    );
     let command = Command::new(alloc, "snaphunt")
         .about("Looks for a run of a listing that fails")
         .version(VERSION)
         .after_help(MORE)
         .arg(listing)?
-        .arg(shipped)?
+        .arg(kind)?
         .arg(explain)?;
     let command = with_failures(alloc, command)?
-        .arg(number(
+        .arg(number_or(
             alloc,
             "runs",
             1,
@@ -222,7 +208,7 @@ fn command<'a>(alloc: Global) -> Result<Command<'a>, AllocError> {
             "100000",
             "How many runs are made",
         ))?
-        .arg(number(
+        .arg(number_or(
             alloc,
             "seed",
             0,
@@ -231,11 +217,6 @@ fn command<'a>(alloc: Global) -> Result<Command<'a>, AllocError> {
             "What decides all schedules",
         ))?;
     with_plan(alloc, command)
-}
-
-/// Returns the number that an option gives.
-fn number_of(arguments: &ArgMatches<'_>, name: &str) -> Option<u64> {
-    arguments.get_one::<u64>(name)
 }
 
 /// Returns the most steps that an operation may take, if they are bounded by a number or by a word.
@@ -311,27 +292,24 @@ fn listed_of<'a>(file: Option<&'a str>, shipped: Option<KindTag>) -> Option<List
 }
 
 /// Returns what the arguments are for.
-fn search_of<'a>(arguments: &ArgMatches<'a>) -> Option<Search<'a>>
-    ensures { IfSome result IsSearch }
+fn search_of<'a>(arguments: &ArgMatches<'a>) -> Option<Invocation<Search<'a>>>
+    ensures { IfSome result (λ asked. IsSearch asked.request) }
 {
-    let shipped = match arguments.get_str("shipped") {
-        Some(kind) => Some(kind_of(kind)?),
-        None => None,
-    };
     let runs = number_of(arguments, "runs")?;
     if runs > MAX_RUNS {
         return None;
     }
-    Some(Search {
-        listed: listed_of(arguments.get_str("LISTING"), shipped)?,
+    let request = Search {
+        listed: listed_of(arguments.get_str("LISTING"), kind_given(arguments)?)?,
         asked: HuntRequest {
             plan: plan_of(arguments)?,
             wanted: wanted_of(arguments)?,
             seed: number_of(arguments, "seed")?,
             runs,
         },
-        explains: is_given(arguments, "explain"),
-    })
+    };
+    let explains = is_given(arguments, "explain");
+    Some(Invocation { request, explains })
 }
 
 /// Returns what the arguments are for, the program's own name first. The arguments name a file or a
@@ -340,13 +318,16 @@ fn search_of<'a>(arguments: &ArgMatches<'a>) -> Option<Search<'a>>
 /// # Errors
 ///
 /// The error of `clap` where the arguments are invalid, or ask for help or the version.
-pub fn search_of_arguments<'a>(alloc: Global, arguments: &'a [String]) -> Result<Search<'a>, Error>
-    ensures { IfOk result IsSearch }
+pub fn invocation_of<'a>(
+    alloc: Global,
+    arguments: &'a [String],
+) -> Result<Invocation<Search<'a>>, Error>
+    ensures { IfOk result (λ asked. IsSearch asked.request) }
 {
     let mut command = command(alloc)?;
     let matches = command.try_get_matches_from_mut(arguments)?;
     match search_of(&matches) {
-        Some(search) => Ok(search),
+        Some(asked) => Ok(asked),
         None => Err(command.error(
             ErrorKind::MissingRequiredArgument,
             "a listing is wanted: a file, or a kind behind --shipped",

@@ -2,67 +2,44 @@
 #![tactic(auto)]
 
 ghost use Rattle.std.specs.Prelude.{IfOk};
-ghost use Rattle.snaphunt.specs.Search.{IsLine};
+ghost use Rattle.snaphunt.specs.Search.{IsSearch};
 
 mod answers;
 mod arguments;
-mod command_line;
 mod progress;
 mod searching;
 
 use crate::answers::answer;
-use crate::command_line::{CommandLine, read_arguments};
+use crate::arguments::{Search, invocation_of};
 use crate::progress::Progress;
+use snap_options::{Invocation, Unasked, Unread, unasked_by, words_of};
 use snap_streams::{Disk, Messages, Piped, Std, end};
-use std::alloc::AllocError;
-use std::io::IsTerminal;
+use std::io::{self, IsTerminal};
 use std::process::ExitCode;
-use std::{env, io};
 
-/// Returns the words of the command line, if they are valid UTF-8.
-fn words_of(rt: &HostRuntime) -> Result<Option<Vec<String>>, AllocError> {
-    let arguments = match env::args(rt) {
-        Ok(arguments) => arguments,
-        Err(error) if error.kind() == io::ErrorKind::OutOfMemory => return Err(AllocError),
-        Err(_) => return Ok(None),
-    };
-    match arguments.collect::<Vec<String>>(rt.alloc()) {
-        Ok(words) => Ok(Some(words)),
-        Err(_) => Err(AllocError),
-    }
-}
-
-/// Returns what the words of a command line come to.
+/// Returns what the words of a command line ask for, in which a refusal is explained in any case at
+/// a terminal.
 fn line_of<'a>(
     rt: &HostRuntime,
-    words: &'a Result<Option<Vec<String>>, AllocError>,
-) -> Result<CommandLine<'a>, AllocError>
-    ensures { IfOk result IsLine }
+    words: &'a Result<Vec<String>, Unread>,
+) -> Result<Invocation<Search<'a>>, Unasked>
+    ensures { IfOk result (λ asked. IsSearch asked.request) }
 {
     match words {
-        Ok(Some(words)) => read_arguments(rt.alloc(), words.as_slice()),
-        Ok(None) => Ok(CommandLine::NoText),
-        Err(_) => Err(AllocError),
-    }
-}
-
-/// Returns the same command line, in which a refusal is explained in any case if `explains`.
-fn explained_line(
-    line: Result<CommandLine<'_>, AllocError>,
-    explains: bool,
-) -> Result<CommandLine<'_>, AllocError>
-    requires { IfOk line IsLine }
-    ensures { IfOk result IsLine }
-{
-    match line {
-        Ok(line) => Ok(line.explained_if(explains)),
-        Err(error) => Err(error),
+        Ok(words) => match invocation_of(rt.alloc(), words.as_slice()) {
+            Ok(asked) => Ok(Invocation {
+                request: asked.request,
+                explains: asked.explains || rt.stderr().is_terminal(),
+            }),
+            Err(error) => Err(unasked_by(rt.alloc(), &error)),
+        },
+        Err(unread) => Err(Unasked::Unread(*unread)),
     }
 }
 
 fn main(rt: HostRuntime) -> ExitCode {
     let words = words_of(&rt);
-    let line = explained_line(line_of(&rt, &words), rt.stderr().is_terminal());
+    let line = line_of(&rt, &words);
     let mut progress = Progress::new(&rt);
     let mut sink = Piped::new(io::writer(&rt));
     let mut errors = Messages::new(rt.alloc());

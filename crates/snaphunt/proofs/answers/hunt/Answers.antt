@@ -7,7 +7,7 @@ use Rattle.snaphunt.proofs.answers.hunt.Goals as goal
 
 pub returns-in-Err : goal.returns-in-Err
 returns-in-Err g c =
-    let asked = c.args.asked.now in (
+    let asked = c.args.asked.now.request in (
       Err c.in-Err.fault,
       [],
       c.finish-in-Err.ensures.status,

@@ -1,4 +1,8 @@
-//! `shipped_advice`: the kind that was meant where `--shipped` names a listing by its letter.
+//! `advised`: the error of a command line, which names the kind that was meant where `--shipped`
+//! names a listing by its letter.
+use clap::error::ErrorKind;
+use clap::{Command, Error};
+use std::alloc::AllocError;
 
 /// Returns the advice on a value of `--shipped` that is the letter of a shipped listing.
 fn advice_on(value: &str) -> Option<&'static str> {
@@ -24,7 +28,7 @@ fn value_in(word: &str, is_behind: bool) -> &str {
 
 /// Returns the kind that was meant where `--shipped` gives the letter of a shipped listing, as
 /// advice; `None` where it gives none.
-pub fn shipped_advice(arguments: &[String]) -> Option<&'static str> {
+fn shipped_advice(arguments: &[String]) -> Option<&'static str> {
     let mut is_behind = false;
     for argument in arguments {
         let word = argument.as_str();
@@ -34,4 +38,23 @@ pub fn shipped_advice(arguments: &[String]) -> Option<&'static str> {
         is_behind = word == "--shipped";
     }
     None
+}
+
+/// Returns the error of a command line, which names the kind that was meant where `--shipped` gives
+/// the letter of a shipped listing.
+///
+/// # Errors
+///
+/// `AllocError` where memory runs out.
+pub fn advised(
+    command: &mut Command<'_>,
+    arguments: &[String],
+    error: Error,
+) -> Result<Error, AllocError> {
+    match shipped_advice(arguments) {
+        Some(advice) if error.kind() == ErrorKind::InvalidValue => {
+            command.error(ErrorKind::InvalidValue, advice)
+        }
+        _ => Ok(error),
+    }
 }

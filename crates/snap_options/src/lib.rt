@@ -6,7 +6,7 @@ mod advice;
 mod invocation;
 mod options;
 
-pub use advice::shipped_advice;
+pub use advice::advised;
 pub use invocation::{
     Invocation, Unasked, Unread, answer_unasked, say_unread, unasked_by, words_of,
 };

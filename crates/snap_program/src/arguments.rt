@@ -13,7 +13,7 @@ use crate::texts::{HELP, JUDGE, LIVE, OF_RUNS, OF_TEXTS, PROMELA, SURVEY, Told};
 use clap::builder::ValueParser;
 use clap::error::ErrorKind;
 use clap::{Arg, ArgAction, ArgMatches, Command, Error};
-use snap_options::{is_given, number_of, shipped_advice};
+use snap_options::{advised, is_given, number_of};
 use snap_tasks::{Options, Subject, kind_of, request_of};
 use snap_words::MAX_ITEMS;
 use std::alloc::{AllocError, Global};
@@ -269,21 +269,6 @@ fn request_by(matches: &ArgMatches<'_>) -> Option<Invocation>
 {
     let (name, arguments) = matches.subcommand()?;
     asked_by(name, arguments, matches)
-}
-
-/// Returns the error of a command line, which names the kind that was meant where `--shipped` gives
-/// the letter of a listing.
-fn advised(
-    command: &mut Command<'_>,
-    arguments: &[String],
-    error: Error,
-) -> Result<Error, AllocError> {
-    match shipped_advice(arguments) {
-        Some(advice) if error.kind() == ErrorKind::InvalidValue => {
-            command.error(ErrorKind::InvalidValue, advice)
-        }
-        _ => Ok(error),
-    }
 }
 
 /// Returns the request of the arguments, the program's own name first.

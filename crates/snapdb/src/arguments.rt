@@ -7,7 +7,7 @@ ghost use Rattle.snapdb.specs.Sessions.{IsAskedBy, kind_given};
 use clap::error::ErrorKind;
 use clap::{Arg, ArgAction, ArgMatches, Command, Error};
 use snap_named_files::{Named, named_of};
-use snap_options::{is_given, shipped_advice};
+use snap_options::{advised, is_given};
 use snap_tasks::kind_of;
 use snap_words::KindTag;
 use std::alloc::{AllocError, Global};
@@ -78,21 +78,6 @@ fn session_by<'a>(matches: &ArgMatches<'a>) -> Option<Session<'a>>
         named: named_of(kind, names)?,
         explains: is_given(matches, "explain"),
     })
-}
-
-/// Returns the error of a command line, which names the kind that was meant where `--shipped` gives
-/// the letter of a listing.
-fn advised(
-    command: &mut Command<'_>,
-    arguments: &[String],
-    error: Error,
-) -> Result<Error, AllocError> {
-    match shipped_advice(arguments) {
-        Some(advice) if error.kind() == ErrorKind::InvalidValue => {
-            command.error(ErrorKind::InvalidValue, advice)
-        }
-        _ => Ok(error),
-    }
 }
 
 /// Returns what the arguments are for, the program's own name first.

@@ -7,7 +7,7 @@ ghost use Rattle.snapdraw.specs.Drawings.{IsAskedBy};
 use clap::error::ErrorKind;
 use clap::{Arg, ArgMatches, Command, Error};
 use snap_named_files::{Named, named_of};
-use snap_options::{Invocation, flag, is_given, kind_given, number, number_of, shipped};
+use snap_options::{Invocation, advised, flag, is_given, kind_given, number, number_of, shipped};
 use snap_words::MAX_ITEMS;
 use std::alloc::{AllocError, Global};
 
@@ -105,7 +105,10 @@ pub(crate) fn invocation_of<'a>(
     ensures { IfOk result (λ asked. (m : ArgMatches) × IsAskedBy (found_of m) asked) }
 {
     let mut command = command(alloc)?;
-    let matches = command.try_get_matches_from_mut(arguments)?;
+    let matches = match command.try_get_matches_from_mut(arguments) {
+        Ok(matches) => matches,
+        Err(error) => return Err(advised(&mut command, arguments, error)?),
+    };
     match drawing_by(&matches) {
         Some(asked) => Ok(asked),
         None => Err(command.error(

@@ -8,7 +8,7 @@ use clap::{Arg, ArgMatches, Command, Error};
 use snap_chance::{MAX_TURNS, Pace, Plan};
 use snap_hunt::{StepBound, Wanted};
 use snap_hunt_output::HuntRequest;
-use snap_options::{Invocation, flag, is_given, kind_given, number, number_of, shipped};
+use snap_options::{Invocation, advised, flag, is_given, kind_given, number, number_of, shipped};
 use snap_words::{KindTag, MAX_COUNT, Shape};
 use std::alloc::{AllocError, Global};
 
@@ -325,7 +325,10 @@ pub fn invocation_of<'a>(
     ensures { IfOk result (λ asked. IsSearch asked.request) }
 {
     let mut command = command(alloc)?;
-    let matches = command.try_get_matches_from_mut(arguments)?;
+    let matches = match command.try_get_matches_from_mut(arguments) {
+        Ok(matches) => matches,
+        Err(error) => return Err(advised(&mut command, arguments, error)?),
+    };
     match search_of(&matches) {
         Some(asked) => Ok(asked),
         None => Err(command.error(

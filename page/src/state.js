@@ -9,7 +9,7 @@ import {showIdea} from './lessons.js';
 import {showTexts} from './listing.js';
 import {showState} from './main.js';
 
-const BIG = 300000, QUIET = 120, MOST_DRAWN = 20000, MOST_OPERATIONS = 4000;
+const BIG = 300000, QUIET = 120, MOST_DRAWN = 20000;
 const MOST_NAMES = 300, MOST_UNDONE = 500, MOST_UNDONE_LETTERS = 3e7, PAUSE = 1500;
 const NO_VERDICTS = {numbers: readVerdicts(''), near: [], none: new Set()};
 export const state = {
@@ -160,7 +160,7 @@ function askAudit() {
     const {listing, schedule, operations: {answers}, audited, refusal, shapes, thread} = state;
     const texts = audited?.listing === listing && (audited.schedule === schedule || state.appended);
     const known = texts && audited.answers === answers;
-    const seen = !isDrawable() || shapes?.schedule === schedule && isSeen(shapes);
+    const seen = shapes?.schedule === schedule && isSeen(shapes);
     if (refusal || known && seen && !isToBeJudged()) return;
     state.timer = setTimeout(async () => {
         state.timer = 0;
@@ -192,13 +192,10 @@ async function askJudgement() {
 
 const isSeen = ({from, to}) => from < Math.max(state.at, 1) && to >= Math.min(state.at, state.report?.total ?? 0);
 
-// Drawing takes time with the square of the operations of the run.
-export const isDrawable = () => state.operations.from.length <= MOST_OPERATIONS;
-
 // What the module draws of the items around the position, all of them where these are few.
 async function askShapes() {
     const {listing, schedule, report, at, run} = state, total = report?.total;
-    if (!total || !isDrawable() || state.shapes?.schedule === schedule && isSeen(state.shapes)) return;
+    if (!total || state.shapes?.schedule === schedule && isSeen(state.shapes)) return;
     const from = within(at - (MOST_DRAWN >> 1), 0, Math.max(total - MOST_DRAWN, 0));
     const to = Math.min(from + MOST_DRAWN, total);
     const answer = await aside.ask('shapes', {listing, schedule, from: from + 1, to});

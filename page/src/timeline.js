@@ -1,7 +1,7 @@
 // The time line: what the module's picture of the items draws, in lanes, with an axis below and the position above it.
 // A shape's items, process and words are the module's; what comes after the position is pale, and its ends are untold.
 import {$, within} from './elements.js';
-import {goTo, isDrawable, state} from './state.js';
+import {goTo, state} from './state.js';
 import {unexplained} from './lessons.js';
 
 const LABEL = 46, RIGHT = 12, GRAIN = 1.5, VALUES = 18, POINTS = 8, LANES = VALUES + POINTS, AXIS = 16;
@@ -88,7 +88,6 @@ function draw() {
     for (let who = 1; who <= n; who++) drawLane(who);
     write('values', 'dim', 2 - 6, 0, LABEL, VALUES - 3, 12);
     if (line.shapes) drawShapes(line.shapes);
-    else if (!isDrawable()) write('More than 4,000 operations: none is drawn.', 'dim', LABEL, LANES, wide, high, 13);
     drawAxis(tall);
 }
 

@@ -178,6 +178,9 @@ def try_explanations(tab, count):
         plain = [word for word in args if word != "--explain"]
         if "--explain" not in args or plain[0] not in ASKED or plain[1:] and (len(plain) != 3 or plain[1] != "--shipped"):
             continue
+        # (a run that is not refused tells of skipped calls, which is no explanation)
+        if plain[0] == "run" and not os.path.isfile(os.path.join(folder, "status")):
+            continue
         tried += 1
         given, wanted = read(os.path.join(folder, "stdin")), read(os.path.join(folder, "stderr")).partition(b"\n")[2]
         names = (plain[0].encode(), plain[2].encode() if plain[1:] else b"")

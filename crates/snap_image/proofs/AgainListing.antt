@@ -35,7 +35,7 @@ use Rattle.snap_image.specs.Widths.{HasShortTargets, HasShortNumbers}
 use Rattle.snap_image.specs.Laws.{DecodesAllImages, RefusesMore}
 use Rattle.snap_image.proofs.AgainComments.{version_again, behind_again}
 use Rattle.snap_image.proofs.AgainForms.{head}
-use Rattle.snap_image.proofs.AgainInstrs.{instr_again}
+use Rattle.snap_image.proofs.InstrLaws.{instr_again}
 use Rattle.snap_image.proofs.AgainParts.{regrouped, Gives, then_gives, then_done, gives_if}
 use Rattle.snap_image.proofs.AgainParts.{byte_again, short_again, code_again}
 use Rattle.snap_image.proofs.SaidComments.{IsSayable}

@@ -16,6 +16,7 @@ use Rattle.snap_semantics.specs.Comments.{Commented, uncommented}
 use Rattle.snap_image.specs.Image.{image_in, image_of, line_image}
 use Rattle.snap_image.specs.ImageListing.{commented_in, listing_of_image}
 use Rattle.snap_semantics.specs.Source.{Source}
+use Rattle.snap_image.proofs.InstrLaws.{instrs_on_literals}
 use Rattle.snap_image.proofs.OnLiterals.{images_on_literals}
 
 abbrev pub small : Source
@@ -62,7 +63,7 @@ image_read :
     × (listing_of_image (83 ∷ 78 ∷ 65 ∷ 80 ∷ 9 ∷ drop 5 first_image) ≡ Err Version)
     × (listing_of_image (83 ∷ 78 ∷ 65 ∷ 80 ∷ 1 ∷ 3 ∷ drop 6 first_image) ≡ Err (BadCode 5))
     × (listing_of_image (take 13 first_image ++ 7 ∷ drop 14 first_image) ≡ Err (Invalid (refusal.NoSuchLine 7)))
-unfolding images_on_literals
+unfolding images_on_literals instrs_on_literals
 image_read = (refl, refl, refl, refl, refl, refl, refl, refl, refl, refl)
 
 -- The first version's bytes as the second version's, and the other way round; a byte too many; a byte that says
@@ -76,7 +77,7 @@ versions_apart :
     × (commented_in (take 33 done_image) ≡ Err Truncated)
     × (commented_in (take 29 done_image ++ 10 ∷ drop 30 done_image) ≡ Err (BadCode 29))
     × (listing_of_image (take 22 first_image ++ 3 ∷ 232 ∷ drop 24 first_image) ≡ Err (Invalid (refusal.BadLine 2)))
-unfolding images_on_literals
+unfolding images_on_literals instrs_on_literals
 versions_apart = (refl, refl, refl, refl, refl, refl, refl)
 
 -- one comparison has the join `and`: another is no code there
@@ -107,7 +108,7 @@ if_source = record {
 
 joins_read : (image_in version.First (uncommented if_source) ≡ if_image) × (listing_of_image if_image ≡ Ok if_source)
     × (listing_of_image join_of_one ≡ Err (BadCode 20))
-unfolding images_on_literals
+unfolding images_on_literals instrs_on_literals
 joins_read = (refl, refl, refl)
 
 -- two lines of listing U

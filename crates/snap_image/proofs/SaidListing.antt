@@ -38,7 +38,7 @@ use Rattle.snap_image.proofs.Parts.{reformed, ByteIs, byte_is, CodeIs, code_is, 
 use Rattle.snap_image.proofs.Distinct.{head_distinct}
 use Rattle.snap_image.proofs.SaidComments.{version_is, IsSayable, BehindIs, behind_is}
 use Rattle.snap_image.proofs.SaidForms.{Slots, behind}
-use Rattle.snap_image.proofs.SaidInstrs.{InstrIs, instr_is}
+use Rattle.snap_image.proofs.InstrLaws.{InstrIs, instr_is}
 use Rattle.snap_image.proofs.Shorts.{number_within, numbered}
 use Rattle.snap_image.proofs.Slots.{slots_of}
 

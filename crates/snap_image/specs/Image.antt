@@ -1,41 +1,41 @@
 -- The image of a listing: one string of bytes. Numbers have two or eight bytes, the highest first. A name is said by
--- its slot, its place among the names of its sort from 0; a target by its line number.
-use Rattle.std.specs.Int.{w16, w64, to_be_bytes}
-use Rattle.std.specs.Prelude.{◌≡◌, ℕ, ◌+◌, Bool, true, ◌&&◌, List, [], ◌∷◌, ◌++◌, length, map, Option, Some, None}
-use Rattle.std.specs.Prelude.{nat_le, bytes_eq, codes, if◌then◌else◌}
+-- its slot, its place among the names of its sort from 0; a target by its line number; a form of line by its code.
+use Rattle.std.specs.Prelude.{ℕ, ◌+◌, List, ◌∷◌, bytes_eq, if◌then◌else◌, [], ◌++◌, Option, Some, None, length, codes}
+use Rattle.std.specs.Prelude.{Bool, ◌&&◌, nat_le, ◌≡◌, true, map}
+use Rattle.std.specs.Int.{w64, to_be_bytes, w16}
 use Rattle.std.specs.List.{AllByRecursion}
 use Rattle.snap_words.specs.declared.kind.Field.{Field}
 use Rattle.snap_words.specs.declared.kind.Field.TheVariants as field
-use Rattle.snap_image.specs.declared.image.ExprTag.TheVariants as exprs
-use Rattle.snap_image.specs.declared.image.InstrTag.{InstrTag}
-use Rattle.snap_image.specs.declared.image.InstrTag.TheVariants as form
-use Rattle.snap_image.specs.declared.image.ImageVersion.{ImageVersion}
-use Rattle.snap_image.specs.declared.image.ImageVersion.TheVariants as version
-use Rattle.snap_image.specs.declared.image.TermTag.{TermTag}
-use Rattle.snap_image.specs.declared.image.TermTag.TheVariants as tag
-use Rattle.snap_semantics.specs.declared.instr.BitBank.{BitBank}
-use Rattle.snap_semantics.specs.declared.instr.BitBank.TheVariants as bits
+use Rattle.snap_semantics.specs.declared.instr.Index.{Index}
+use Rattle.snap_semantics.specs.declared.instr.Index.TheVariants as index
+use Rattle.snap_semantics.specs.declared.instr.Term.{Term}
+use Rattle.snap_semantics.specs.declared.instr.Term.TheVariants as term
+use Rattle.snap_semantics.specs.declared.instr.Expr.{Expr}
+use Rattle.snap_semantics.specs.declared.instr.Expr.TheVariants as expr
 use Rattle.snap_semantics.specs.declared.instr.Comparison.{Comparison}
 use Rattle.snap_semantics.specs.declared.instr.Condition.{Condition}
 use Rattle.snap_semantics.specs.declared.instr.Condition.TheVariants.{One, Two, Three, Four}
-use Rattle.snap_semantics.specs.declared.instr.Expr.{Expr}
-use Rattle.snap_semantics.specs.declared.instr.Expr.TheVariants as expr
-use Rattle.snap_semantics.specs.declared.instr.Index.{Index}
-use Rattle.snap_semantics.specs.declared.instr.Index.TheVariants as index
-use Rattle.snap_semantics.specs.declared.instr.Instr.{Instr}
-use Rattle.snap_semantics.specs.declared.instr.Instr.TheVariants.{Let, LetPlace, Get, Bit, Look, Put, PutBit, PutView}
-use Rattle.snap_semantics.specs.declared.instr.Instr.TheVariants.{ViewData, ViewOf, Each, First, Next, If, IfAll}
-use Rattle.snap_semantics.specs.declared.instr.Instr.TheVariants.{Goto, Call, Return, Finish}
-use Rattle.snap_semantics.specs.declared.instr.Line.{Line}
-use Rattle.snap_semantics.specs.declared.instr.Term.{Term}
-use Rattle.snap_semantics.specs.declared.instr.Term.TheVariants as term
 use Rattle.snap_semantics.specs.declared.instr.Tuple.{Tuple}
 use Rattle.snap_semantics.specs.declared.instr.Tuple.TheVariants as tuple
-use Rattle.snap_semantics.specs.Comments.{Comment, Commented, first_comment, other_comments, no_comment}
-use Rattle.snap_image.specs.ImageCodes.{version_code, kind_code, term_code, expr_code, relation_code}
-use Rattle.snap_image.specs.ImageCodes.{join_code, range_code, instr_code}
-use Rattle.snap_semantics.specs.ListingForms.{is_line_number}
+use Rattle.snap_semantics.specs.declared.instr.BitBank.{BitBank}
+use Rattle.snap_semantics.specs.declared.instr.BitBank.TheVariants as bits
+use Rattle.snap_semantics.specs.declared.instr.Instr.{Instr}
+use Rattle.snap_semantics.specs.declared.instr.Instr.TheVariants.{Let, LetPlace, Get, Bit, Look, Put, PutBit, PutView}
+use Rattle.snap_semantics.specs.declared.instr.Instr.TheVariants.{ViewData, ViewOf, Each, First, Next, If, IfAll, Goto}
+use Rattle.snap_semantics.specs.declared.instr.Instr.TheVariants.{Call, Return, Finish}
+use Rattle.snap_semantics.specs.declared.instr.Line.{Line}
 use Rattle.snap_semantics.specs.Source.{Name, Source}
+use Rattle.snap_semantics.specs.Comments.{Comment, first_comment, other_comments, Commented, no_comment}
+use Rattle.snap_semantics.specs.ListingForms.{is_line_number}
+use Rattle.snap_image.specs.declared.image.TermTag.TheVariants as tag
+use Rattle.snap_image.specs.declared.image.TermTag.{TermTag}
+use Rattle.snap_image.specs.declared.image.ExprTag.TheVariants as exprs
+use Rattle.snap_image.specs.declared.instrs.InstrTag.{InstrTag}
+use Rattle.snap_image.specs.declared.instrs.InstrTag.TheVariants as form
+use Rattle.snap_image.specs.declared.image.ImageVersion.{ImageVersion}
+use Rattle.snap_image.specs.declared.image.ImageVersion.TheVariants as version
+use Rattle.snap_image.specs.ImageCodes.{term_code, expr_code, relation_code, join_code, Codes, range_code, version_code}
+use Rattle.snap_image.specs.ImageCodes.{kind_code}
 
 -- the place of a name, counted from 0; as many as there are for a name that is not among them
 abbrev pub slot : List Name → Name → ℕ
@@ -85,15 +85,51 @@ abbrev pub where_image : Source → Option Condition → List ℕ
 where_image s None = 0 ∷ []
 where_image s (Some k) = 1 ∷ condition_image s k
 
-abbrev pub tuple_tag : Tuple → InstrTag
-tuple_tag (tuple.Seq d q v) = form.PutSeq
-tuple_tag (tuple.Bits d h t v) = form.PutBits
-tuple_tag (tuple.Multi d i t) = form.PutMulti
-
 abbrev pub tuple_image : Source → Tuple → List ℕ
 tuple_image s (tuple.Seq d q v) = expr_image s d ++ (expr_image s q ++ slot s.views v ∷ [])
 tuple_image s (tuple.Bits d h t v) = expr_image s d ++ slot s.rows h ∷ (expr_image s t ++ slot s.views v ∷ [])
 tuple_image s (tuple.Multi d i t) = expr_image s d ++ (expr_image s i ++ expr_image s t)
+
+abbrev pub instr_code : InstrTag → ℕ
+instr_code form.Let = 1
+instr_code form.LetPlace = 2
+instr_code form.Get = 3
+instr_code form.BitQ = 4
+instr_code form.BitP = 5
+instr_code form.Look = 6
+instr_code form.PutSeq = 7
+instr_code form.PutBits = 8
+instr_code form.PutMulti = 9
+instr_code form.PutQ = 10
+instr_code form.PutP = 11
+instr_code form.PutView = 12
+instr_code form.ViewData = 13
+instr_code form.ViewOf = 14
+instr_code form.Each = 15
+instr_code form.First = 16
+instr_code form.Next = 17
+instr_code form.If = 18
+instr_code form.IfAll = 19
+instr_code form.Goto = 20
+instr_code form.Call = 21
+instr_code form.Return = 22
+instr_code form.Finish = 23
+
+abbrev pub instr_tags : Codes InstrTag
+instr_tags = record {
+  all =
+      form.Let ∷ form.LetPlace ∷ form.Get ∷ form.BitQ ∷ form.BitP ∷ form.Look ∷ form.PutSeq
+      ∷ form.PutBits ∷ form.PutMulti ∷ form.PutQ
+      ∷ form.PutP ∷ form.PutView ∷ form.ViewData ∷ form.ViewOf ∷ form.Each ∷ form.First ∷ form.Next
+      ∷ form.If ∷ form.IfAll ∷ form.Goto
+      ∷ form.Call ∷ form.Return ∷ form.Finish ∷ [];
+  code = instr_code;
+}
+
+abbrev pub tuple_tag : Tuple → InstrTag
+tuple_tag (tuple.Seq d q v) = form.PutSeq
+tuple_tag (tuple.Bits d h t v) = form.PutBits
+tuple_tag (tuple.Multi d i t) = form.PutMulti
 
 abbrev pub bit_tag : BitBank → InstrTag
 bit_tag bits.Q = form.BitQ

@@ -1,21 +1,19 @@
 -- The codes of an image, as definitions: a table (`Codes`) for each type, in which the value of a byte is looked up.
-use Rattle.std.specs.Prelude.{ℕ, List, [], ◌∷◌, Option, Some, None, nat_eq, if◌then◌else◌}
+use Rattle.std.specs.Prelude.{ℕ, List, ◌∷◌, Option, Some, None, nat_eq, if◌then◌else◌, []}
 use Rattle.snap_words.specs.declared.kind.KindTag.{KindTag}
 use Rattle.snap_words.specs.declared.kind.KindTag.TheVariants as kind
-use Rattle.snap_image.specs.declared.image.ExprTag.{ExprTag}
-use Rattle.snap_image.specs.declared.image.ExprTag.TheVariants as expr
-use Rattle.snap_image.specs.declared.image.InstrTag.{InstrTag}
-use Rattle.snap_image.specs.declared.image.InstrTag.TheVariants as tag
-use Rattle.snap_image.specs.declared.image.ImageVersion.{ImageVersion}
-use Rattle.snap_image.specs.declared.image.ImageVersion.TheVariants as version
-use Rattle.snap_image.specs.declared.image.TermTag.{TermTag}
-use Rattle.snap_image.specs.declared.image.TermTag.TheVariants as term
+use Rattle.snap_semantics.specs.declared.instr.Relation.{Relation}
+use Rattle.snap_semantics.specs.declared.instr.Relation.TheVariants as relation
 use Rattle.snap_semantics.specs.declared.instr.Join.{Join}
 use Rattle.snap_semantics.specs.declared.instr.Join.TheVariants as join
 use Rattle.snap_semantics.specs.declared.instr.Range.{Range}
 use Rattle.snap_semantics.specs.declared.instr.Range.TheVariants as range
-use Rattle.snap_semantics.specs.declared.instr.Relation.{Relation}
-use Rattle.snap_semantics.specs.declared.instr.Relation.TheVariants as relation
+use Rattle.snap_image.specs.declared.image.ImageVersion.{ImageVersion}
+use Rattle.snap_image.specs.declared.image.ImageVersion.TheVariants as version
+use Rattle.snap_image.specs.declared.image.TermTag.{TermTag}
+use Rattle.snap_image.specs.declared.image.TermTag.TheVariants as term
+use Rattle.snap_image.specs.declared.image.ExprTag.{ExprTag}
+use Rattle.snap_image.specs.declared.image.ExprTag.TheVariants as expr
 
 -- a table of codes: what has one, and which
 pub record Codes (A : Type 0) : Type 0 where
@@ -100,39 +98,3 @@ range_code range.Words = 1
 
 abbrev pub ranges : Codes Range
 ranges = record { all = range.Processes ∷ range.Words ∷ []; code = range_code }
-
-abbrev pub instr_code : InstrTag → ℕ
-instr_code tag.Let = 1
-instr_code tag.LetPlace = 2
-instr_code tag.Get = 3
-instr_code tag.BitQ = 4
-instr_code tag.BitP = 5
-instr_code tag.Look = 6
-instr_code tag.PutSeq = 7
-instr_code tag.PutBits = 8
-instr_code tag.PutMulti = 9
-instr_code tag.PutQ = 10
-instr_code tag.PutP = 11
-instr_code tag.PutView = 12
-instr_code tag.ViewData = 13
-instr_code tag.ViewOf = 14
-instr_code tag.Each = 15
-instr_code tag.First = 16
-instr_code tag.Next = 17
-instr_code tag.If = 18
-instr_code tag.IfAll = 19
-instr_code tag.Goto = 20
-instr_code tag.Call = 21
-instr_code tag.Return = 22
-instr_code tag.Finish = 23
-
-abbrev pub instr_tags : Codes InstrTag
-instr_tags = record {
-  all =
-      tag.Let ∷ tag.LetPlace ∷ tag.Get ∷ tag.BitQ ∷ tag.BitP ∷ tag.Look ∷ tag.PutSeq
-      ∷ tag.PutBits ∷ tag.PutMulti ∷ tag.PutQ
-      ∷ tag.PutP ∷ tag.PutView ∷ tag.ViewData ∷ tag.ViewOf ∷ tag.Each ∷ tag.First ∷ tag.Next
-      ∷ tag.If ∷ tag.IfAll ∷ tag.Goto
-      ∷ tag.Call ∷ tag.Return ∷ tag.Finish ∷ [];
-  code = instr_code;
-}

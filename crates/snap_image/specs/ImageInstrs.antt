@@ -1,24 +1,24 @@
 -- How an instruction is read from an image: what the form that
 -- its code names needs of the kind, and then its operands.
-use Rattle.std.specs.Prelude.{ℕ, Bool, false, true, List, [], ◌∷◌, Ok}
-use Rattle.snap_words.specs.Kind.{has_bank, has_view}
+use Rattle.std.specs.Prelude.{List, [], ◌∷◌, Bool, true, ℕ, false, Ok}
 use Rattle.snap_words.specs.declared.address.Bank.TheVariants as bank
-use Rattle.snap_words.specs.declared.kind.KindTag.{KindTag}
 use Rattle.snap_words.specs.declared.kind.KindTag.TheVariants as kind
-use Rattle.snap_image.specs.declared.image.InstrTag.{InstrTag}
-use Rattle.snap_image.specs.declared.image.InstrTag.TheVariants as tag
-use Rattle.snap_semantics.specs.declared.instr.BitBank.{BitBank}
-use Rattle.snap_semantics.specs.declared.instr.BitBank.TheVariants as bits
+use Rattle.snap_words.specs.Kind.{has_bank, has_view}
+use Rattle.snap_words.specs.declared.kind.KindTag.{KindTag}
 use Rattle.snap_semantics.specs.declared.instr.Instr.{Instr}
 use Rattle.snap_semantics.specs.declared.instr.Instr.TheVariants as instr
+use Rattle.snap_semantics.specs.declared.instr.BitBank.{BitBank}
 use Rattle.snap_semantics.specs.declared.instr.Tuple.TheVariants as tuple
-use Rattle.snap_semantics.specs.Answers.{◌>>=◌}
-use Rattle.snap_image.specs.ImageCodes.{instr_tags, ranges}
-use Rattle.snap_image.specs.ImageForms.{Rest, Read, of_one, of_two, of_three, of_four, short_in, code_in, slot_in}
-use Rattle.snap_image.specs.ImageForms.{allowed}
-use Rattle.snap_image.specs.ImageForms.{index_in, expr_in, condition_in, where_in}
-use Rattle.snap_semantics.specs.Source.{Source}
+use Rattle.snap_semantics.specs.declared.instr.BitBank.TheVariants as bits
 use Rattle.snap_semantics.specs.Uses.{Use, BankUse, ViewUse, TupleUse, same_kind}
+use Rattle.snap_semantics.specs.Answers.{◌>>=◌}
+use Rattle.snap_semantics.specs.Source.{Source}
+use Rattle.snap_image.specs.declared.instrs.InstrTag.{InstrTag}
+use Rattle.snap_image.specs.declared.instrs.InstrTag.TheVariants as tag
+use Rattle.snap_image.specs.ImageForms.{Rest, Read, of_two, slot_in, expr_in, of_three, index_in, of_four, code_in}
+use Rattle.snap_image.specs.ImageForms.{where_in, short_in, condition_in, of_one, allowed}
+use Rattle.snap_image.specs.ImageCodes.{ranges}
+use Rattle.snap_image.specs.Image.{instr_tags}
 
 -- the bank, tuple or view of a word that a form speaks of
 abbrev pub form_uses : InstrTag → List Use

@@ -1,9 +1,9 @@
-//! `ImageVersion`, and the tags of terms, expressions and instructions (`TermTag`, `ExprTag`,
-//! `InstrTag`); the trait `Coded` of the types whose values have codes in an image, with their
-//! codes; and `with_code`, which looks up the value of a byte.
+//! `ImageVersion`, and the tags of terms and expressions (`TermTag`, `ExprTag`); the trait `Coded`
+//! of the types whose values have codes in an image, with their codes; and `with_code`, which looks
+//! up the value of a byte.
 ghost use Rattle.std.specs.Prelude.{◌≡◌};
 ghost use Rattle.snap_image.specs.ImageCodes.{Codes, coded, of_code, versions, kinds, terms};
-ghost use Rattle.snap_image.specs.ImageCodes.{exprs, relations, joins, ranges, instr_tags};
+ghost use Rattle.snap_image.specs.ImageCodes.{exprs, relations, joins, ranges};
 
 use snap_semantics::{Join, Range, Relation};
 use snap_words::KindTag;
@@ -45,34 +45,6 @@ pub enum ExprTag {
     Term,
     Sum,
     Not,
-}
-
-/// The tag of an instruction.
-#[derive(Clone, Copy, PartialEq, Eq)]
-pub enum InstrTag {
-    Let,
-    LetPlace,
-    Get,
-    BitQ,
-    BitP,
-    Look,
-    PutSeq,
-    PutBits,
-    PutMulti,
-    PutQ,
-    PutP,
-    PutView,
-    ViewData,
-    ViewOf,
-    Each,
-    First,
-    Next,
-    If,
-    IfAll,
-    Goto,
-    Call,
-    Return,
-    Finish,
 }
 
 /// A type whose values have codes.
@@ -259,69 +231,6 @@ impl Coded for Range {
         match self {
             Range::Processes => 0,
             Range::Words => 1,
-        }
-    }
-}
-
-/// All forms of instructions.
-const FORMS: [InstrTag; 23] = [
-    InstrTag::Let,
-    InstrTag::LetPlace,
-    InstrTag::Get,
-    InstrTag::BitQ,
-    InstrTag::BitP,
-    InstrTag::Look,
-    InstrTag::PutSeq,
-    InstrTag::PutBits,
-    InstrTag::PutMulti,
-    InstrTag::PutQ,
-    InstrTag::PutP,
-    InstrTag::PutView,
-    InstrTag::ViewData,
-    InstrTag::ViewOf,
-    InstrTag::Each,
-    InstrTag::First,
-    InstrTag::Next,
-    InstrTag::If,
-    InstrTag::IfAll,
-    InstrTag::Goto,
-    InstrTag::Call,
-    InstrTag::Return,
-    InstrTag::Finish,
-];
-
-impl Coded for InstrTag {
-    ghost table = { instr_tags };
-
-    fn all() -> &'static [Self] {
-        &FORMS
-    }
-
-    fn code(self) -> u8 {
-        match self {
-            InstrTag::Let => 1,
-            InstrTag::LetPlace => 2,
-            InstrTag::Get => 3,
-            InstrTag::BitQ => 4,
-            InstrTag::BitP => 5,
-            InstrTag::Look => 6,
-            InstrTag::PutSeq => 7,
-            InstrTag::PutBits => 8,
-            InstrTag::PutMulti => 9,
-            InstrTag::PutQ => 10,
-            InstrTag::PutP => 11,
-            InstrTag::PutView => 12,
-            InstrTag::ViewData => 13,
-            InstrTag::ViewOf => 14,
-            InstrTag::Each => 15,
-            InstrTag::First => 16,
-            InstrTag::Next => 17,
-            InstrTag::If => 18,
-            InstrTag::IfAll => 19,
-            InstrTag::Goto => 20,
-            InstrTag::Call => 21,
-            InstrTag::Return => 22,
-            InstrTag::Finish => 23,
         }
     }
 }

@@ -1,6 +1,12 @@
-//! `instr`: reads an instruction from an image, with a function for the operands of each form.
+//! Instructions in an image, form by form: the tag of a form (`InstrTag`) with its code, and the
+//! operands behind it, appended (`push_operands`) and read (`instr`, by a function for each form).
 ghost use Rattle.std.specs.Prelude.{◌≡◌};
+ghost use Rattle.snap_semantics.specs.IsListing.{IsListing};
 ghost use Rattle.snap_image.specs.ImageForms.{allowed};
+ghost use Rattle.snap_image.specs.Image.{instr_tags, tuple_tag, bit_tag, put_bit_tag};
+ghost use Rattle.snap_image.specs.Image.{instr_tag, operands_image};
+ghost use Rattle.snap_image.specs.Operands.{access_image};
+ghost use Rattle.snap_image.specs.Operands.{assignment_image, jump_image};
 ghost use Rattle.snap_image.specs.ImageInstrs.{form_uses, has_form, let_in, let_place_in, get_in};
 ghost use Rattle.snap_image.specs.ImageInstrs.{bit_in, look_in, put_seq_in, put_bits_in};
 ghost use Rattle.snap_image.specs.ImageInstrs.{put_multi_in, put_bit_in, put_view_in};
@@ -9,15 +15,305 @@ ghost use Rattle.snap_image.specs.ImageInstrs.{next_in, if_in, if_all_in, goto_i
 ghost use Rattle.snap_image.specs.ImageInstrs.{call_in, return_in, operands_in, instr_in};
 ghost use Rattle.snap_listing_core.specs.Fields.{header_source};
 ghost use Rattle.snap_image.specs.Reads.{Reads};
+ghost use Rattle.snap_image.specs.Widths.{HasShortTargets};
+ghost use Rattle.snap_text.specs.Drafted.{Adds};
 
 use crate::conditions::{condition, optional_condition};
 use crate::cursor::Cursor;
-use crate::image::InstrTag;
+use crate::encoder::{
+    push_code, push_condition, push_expr, push_index, push_row, push_scalar, push_short,
+    push_tuple, push_view, push_where, push_words,
+};
+use crate::image::Coded;
 use crate::terms::{expr, index};
 use snap_listing::{has_bank, has_view, same_kind};
-use snap_listing_core::Header;
+use snap_listing_core::{Header, Listing};
 use snap_semantics::{BitBank, ImageRefusal, Instr, ListingRefusal, Range, Tuple};
+use snap_text::Draft;
 use snap_words::{Bank, KindTag};
+
+/// The tag of an instruction.
+#[derive(Clone, Copy, PartialEq, Eq)]
+pub enum InstrTag {
+    Let,
+    LetPlace,
+    Get,
+    BitQ,
+    BitP,
+    Look,
+    PutSeq,
+    PutBits,
+    PutMulti,
+    PutQ,
+    PutP,
+    PutView,
+    ViewData,
+    ViewOf,
+    Each,
+    First,
+    Next,
+    If,
+    IfAll,
+    Goto,
+    Call,
+    Return,
+    Finish,
+}
+
+/// All forms of instructions.
+const FORMS: [InstrTag; 23] = [
+    InstrTag::Let,
+    InstrTag::LetPlace,
+    InstrTag::Get,
+    InstrTag::BitQ,
+    InstrTag::BitP,
+    InstrTag::Look,
+    InstrTag::PutSeq,
+    InstrTag::PutBits,
+    InstrTag::PutMulti,
+    InstrTag::PutQ,
+    InstrTag::PutP,
+    InstrTag::PutView,
+    InstrTag::ViewData,
+    InstrTag::ViewOf,
+    InstrTag::Each,
+    InstrTag::First,
+    InstrTag::Next,
+    InstrTag::If,
+    InstrTag::IfAll,
+    InstrTag::Goto,
+    InstrTag::Call,
+    InstrTag::Return,
+    InstrTag::Finish,
+];
+
+impl Coded for InstrTag {
+    ghost table = { instr_tags };
+
+    fn all() -> &'static [Self] {
+        &FORMS
+    }
+
+    fn code(self) -> u8 {
+        match self {
+            InstrTag::Let => 1,
+            InstrTag::LetPlace => 2,
+            InstrTag::Get => 3,
+            InstrTag::BitQ => 4,
+            InstrTag::BitP => 5,
+            InstrTag::Look => 6,
+            InstrTag::PutSeq => 7,
+            InstrTag::PutBits => 8,
+            InstrTag::PutMulti => 9,
+            InstrTag::PutQ => 10,
+            InstrTag::PutP => 11,
+            InstrTag::PutView => 12,
+            InstrTag::ViewData => 13,
+            InstrTag::ViewOf => 14,
+            InstrTag::Each => 15,
+            InstrTag::First => 16,
+            InstrTag::Next => 17,
+            InstrTag::If => 18,
+            InstrTag::IfAll => 19,
+            InstrTag::Goto => 20,
+            InstrTag::Call => 21,
+            InstrTag::Return => 22,
+            InstrTag::Finish => 23,
+        }
+    }
+}
+
+/// Returns the form of a tuple.
+fn tuple_tag(tuple: &Tuple) -> InstrTag
+    ensures { result ≡ tuple_tag tuple.now }
+{
+    match tuple {
+        Tuple::Seq(..) => InstrTag::PutSeq,
+        Tuple::Bits(..) => InstrTag::PutBits,
+        Tuple::Multi(..) => InstrTag::PutMulti,
+    }
+}
+
+/// Returns the form that reads a bit of a bank.
+fn bit_tag(bits: BitBank) -> InstrTag
+    ensures { result ≡ bit_tag bits }
+{
+    match bits {
+        BitBank::Q => InstrTag::BitQ,
+        BitBank::P => InstrTag::BitP,
+    }
+}
+
+/// Returns the form that writes a bit of a bank.
+fn put_bit_tag(bits: BitBank) -> InstrTag
+    ensures { result ≡ put_bit_tag bits }
+{
+    match bits {
+        BitBank::Q => InstrTag::PutQ,
+        BitBank::P => InstrTag::PutP,
+    }
+}
+
+/// Returns the form of an instruction.
+pub(crate) fn instr_tag(instr: &Instr) -> InstrTag
+    ensures { result ≡ instr_tag instr.now }
+{
+    match instr {
+        Instr::Let(..) => InstrTag::Let,
+        Instr::LetPlace(..) => InstrTag::LetPlace,
+        Instr::Get(..) => InstrTag::Get,
+        Instr::Bit(_, bits, _, _) => bit_tag(*bits),
+        Instr::Look(..) => InstrTag::Look,
+        Instr::Put(_, tuple) => tuple_tag(tuple),
+        Instr::PutBit(bits, _, _, _) => put_bit_tag(*bits),
+        Instr::PutView(..) => InstrTag::PutView,
+        Instr::ViewData(..) => InstrTag::ViewData,
+        Instr::ViewOf(..) => InstrTag::ViewOf,
+        Instr::Each(..) => InstrTag::Each,
+        Instr::First(..) => InstrTag::First,
+        Instr::Next(..) => InstrTag::Next,
+        Instr::If(..) => InstrTag::If,
+        Instr::IfAll(..) => InstrTag::IfAll,
+        Instr::Goto(_) => InstrTag::Goto,
+        Instr::Call(_) => InstrTag::Call,
+        Instr::Return(_) => InstrTag::Return,
+        Instr::Finish => InstrTag::Finish,
+    }
+}
+
+/// Appends the operands of an instruction that reads or writes a register, and nothing for any
+/// other.
+fn push_access(listing: &Listing, instr: &Instr, out: &mut Draft)
+    requires { IsListing listing.now }
+    ensures { Adds out.old out.new (access_image listing.now instr.now) }
+{
+    match instr {
+        Instr::Get(words, index, register) => {
+            push_words(listing, words, out);
+            push_index(listing, index, out);
+            push_index(listing, register, out);
+        }
+        Instr::Bit(scalar, _, first, second) => {
+            push_scalar(listing, scalar, out);
+            push_index(listing, first, out);
+            push_index(listing, second, out);
+        }
+        Instr::Look(view, register) => {
+            push_view(listing, view, out);
+            push_index(listing, register, out);
+        }
+        Instr::Put(register, tuple) => {
+            push_index(listing, register, out);
+            push_tuple(listing, tuple, out);
+        }
+        Instr::PutBit(_, first, second, value) => {
+            push_index(listing, first, out);
+            push_index(listing, second, out);
+            push_expr(listing, value, out);
+        }
+        Instr::PutView(register, view) => {
+            push_index(listing, register, out);
+            push_view(listing, view, out);
+        }
+        _ => {}
+    }
+}
+
+/// Appends the operands of an instruction that sets a local by locals, and nothing for any other.
+fn push_assignment(listing: &Listing, instr: &Instr, out: &mut Draft)
+    requires { IsListing listing.now }
+    ensures { Adds out.old out.new (assignment_image listing.now instr.now) }
+{
+    match instr {
+        Instr::Let(scalar, value) => {
+            push_scalar(listing, scalar, out);
+            push_expr(listing, value, out);
+        }
+        Instr::LetPlace(row, index, value) => {
+            push_row(listing, row, out);
+            push_index(listing, index, out);
+            push_expr(listing, value, out);
+        }
+        Instr::ViewData(view, words) => {
+            push_view(listing, view, out);
+            push_words(listing, words, out);
+        }
+        Instr::ViewOf(view, words, index) => {
+            push_view(listing, view, out);
+            push_words(listing, words, out);
+            push_index(listing, index, out);
+        }
+        Instr::Each(range, row, value, condition) => {
+            push_code(*range, out);
+            push_row(listing, row, out);
+            push_expr(listing, value, out);
+            push_where(listing, condition, out);
+        }
+        _ => {}
+    }
+}
+
+/// Appends the operands of an instruction that may lead elsewhere, and nothing for any other.
+fn push_jump(listing: &Listing, instr: &Instr, out: &mut Draft)
+    requires rules { IsListing listing.now }
+    requires short { HasShortTargets instr.now }
+    ensures { Adds out.old out.new (jump_image listing.now instr.now) }
+{
+    match instr {
+        Instr::First(scalar, range, condition, target) => {
+            push_scalar(listing, scalar, out);
+            push_code(*range, out);
+            push_condition(listing, condition, out);
+            push_short(*target, out);
+        }
+        Instr::Next(scalar, range, target) => {
+            push_scalar(listing, scalar, out);
+            push_code(*range, out);
+            push_short(*target, out);
+        }
+        Instr::If(condition, target) => {
+            push_condition(listing, condition, out);
+            push_short(*target, out);
+        }
+        Instr::IfAll(range, condition, target) => {
+            push_code(*range, out);
+            push_condition(listing, condition, out);
+            push_short(*target, out);
+        }
+        Instr::Goto(target) => push_short(*target, out),
+        Instr::Call(target) => push_short(*target, out),
+        _ => {}
+    }
+}
+
+/// Appends the operands of an instruction.
+pub(crate) fn push_operands(listing: &Listing, instr: &Instr, out: &mut Draft)
+    requires rules { IsListing listing.now }
+    requires short { HasShortTargets instr.now }
+    ensures { Adds out.old out.new (operands_image listing.now instr.now) }
+{
+    match instr {
+        Instr::Get(..)
+        | Instr::Bit(..)
+        | Instr::Look(..)
+        | Instr::Put(..)
+        | Instr::PutBit(..)
+        | Instr::PutView(..) => push_access(listing, instr, out),
+        Instr::Let(..)
+        | Instr::LetPlace(..)
+        | Instr::ViewData(..)
+        | Instr::ViewOf(..)
+        | Instr::Each(..) => push_assignment(listing, instr, out),
+        Instr::First(..)
+        | Instr::Next(..)
+        | Instr::If(..)
+        | Instr::IfAll(..)
+        | Instr::Goto(_)
+        | Instr::Call(_) => push_jump(listing, instr, out),
+        Instr::Return(view) => push_view(listing, view, out),
+        Instr::Finish => {}
+    }
+}
 
 /// Reads `let X = E`.
 #[tactic(auto, unfolding(crate::specs::ImageInstrs::let_in))]
@@ -281,7 +577,7 @@ fn has_form(kind: KindTag, form: InstrTag) -> bool
 }
 
 /// Checks that the kind has the registers and fields that a form needs.
-#[tactic(auto, using(crate::proofs::FormUses::form_allowed))]
+#[tactic(auto, using(crate::proofs::InstrLaws::form_allowed))]
 fn checked_form(header: &Header, line: u64, form: InstrTag) -> Result<(), ImageRefusal>
     ensures { result ≡ allowed (header_source header.now) line (form_uses form) }
 {

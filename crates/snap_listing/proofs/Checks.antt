@@ -1,34 +1,26 @@
--- Checking an instruction part by part (`checked_instr`) comes to
--- checking one by one all that it names and needs of the kind.
-use Rattle.std.proofs.Common.{◌≡◌, ℕ, List, [], ◌∷◌, ◌++◌, Option, Some, None, Ok, Err, refl, ap, ◌∙◌, append_assoc}
-use Rattle.snap_words.specs.declared.address.Bank.TheVariants as bank
+-- The checks of the parts of a line are those of its uses, one behind another.
+use Rattle.std.proofs.Common.{◌≡◌, Ok, Err, refl, ℕ, List, ◌∷◌, ◌++◌, ap, ◌∙◌, Option, Some, None, append_assoc, []}
 use Rattle.snap_words.specs.declared.kind.KindTag.TheVariants as kind
+use Rattle.snap_semantics.specs.declared.instr.Index.{Index}
+use Rattle.snap_semantics.specs.declared.instr.Index.TheVariants as index
+use Rattle.snap_semantics.specs.declared.text.Sort.{Sort}
+use Rattle.snap_semantics.specs.declared.instr.Term.{Term}
+use Rattle.snap_semantics.specs.declared.instr.Term.TheVariants as term
+use Rattle.snap_semantics.specs.declared.text.Sort.TheVariants as sort
+use Rattle.snap_semantics.specs.declared.instr.Expr.{Expr}
+use Rattle.snap_semantics.specs.declared.instr.Expr.TheVariants as expr
 use Rattle.snap_semantics.specs.declared.instr.Comparison.{Comparison}
 use Rattle.snap_semantics.specs.declared.instr.Condition.{Condition}
 use Rattle.snap_semantics.specs.declared.instr.Condition.TheVariants.{One, Two, Three, Four}
-use Rattle.snap_semantics.specs.declared.instr.Expr.{Expr}
-use Rattle.snap_semantics.specs.declared.instr.Expr.TheVariants as expr
-use Rattle.snap_semantics.specs.declared.instr.Index.{Index}
-use Rattle.snap_semantics.specs.declared.instr.Index.TheVariants as index
-use Rattle.snap_semantics.specs.declared.instr.Instr.{Instr}
-use Rattle.snap_semantics.specs.declared.instr.Instr.TheVariants.{Let, LetPlace, Get, Bit, Look, Put, PutBit, PutView}
-use Rattle.snap_semantics.specs.declared.instr.Instr.TheVariants.{ViewData, ViewOf, Each, First, Next, If, IfAll}
-use Rattle.snap_semantics.specs.declared.instr.Instr.TheVariants.{Goto, Call, Return, Finish}
-use Rattle.snap_semantics.specs.declared.instr.Term.{Term}
-use Rattle.snap_semantics.specs.declared.instr.Term.TheVariants as term
 use Rattle.snap_semantics.specs.declared.instr.Tuple.{Tuple}
 use Rattle.snap_semantics.specs.declared.instr.Tuple.TheVariants as tuple
-use Rattle.snap_semantics.specs.declared.text.Sort.{Sort}
-use Rattle.snap_semantics.specs.declared.text.Sort.TheVariants as sort
 use Rattle.snap_semantics.specs.Answers.{◌>>=◌}
-use Rattle.snap_semantics.specs.Source.{Name, Source}
-use Rattle.snap_semantics.specs.Table.{bank_of}
-use Rattle.snap_semantics.specs.Uses.{Use, Named, BankUse, FieldUse, HandshakeUse, ViewUse, TupleUse, scalar, row}
-use Rattle.snap_semantics.specs.Uses.{words, view, checked_use, checked_uses, index_uses, term_uses, expr_uses}
-use Rattle.snap_semantics.specs.Uses.{comparison_uses, condition_uses, where_uses, tuple_uses, instr_uses}
+use Rattle.snap_semantics.specs.Source.{Source, Name}
+use Rattle.snap_semantics.specs.Uses.{Use, checked_use, checked_uses, scalar, index_uses, Named, FieldUse, HandshakeUse}
+use Rattle.snap_semantics.specs.Uses.{words, term_uses, expr_uses, comparison_uses, condition_uses, where_uses}
+use Rattle.snap_semantics.specs.Uses.{TupleUse, row, view, tuple_uses}
 use Rattle.snap_listing.specs.Checks.{Checked, checked_index, checked_indexes, checked_place, checked_term}
-use Rattle.snap_listing.specs.Checks.{checked_expr, checked_comparison, checked_condition, checked_where}
-use Rattle.snap_listing.specs.Checks.{checked_tuple, checked_instr}
+use Rattle.snap_listing.specs.Checks.{checked_expr, checked_comparison, checked_condition, checked_where, checked_tuple}
 
 then_nothing : (r : Checked) → r ≡ (r >>= λ (done : Unit {0}). let alone : Checked = Ok tt in alone)
 then_nothing (Ok x) = refl
@@ -50,14 +42,14 @@ both s line (u ∷ us) vs r k p q =
     ∙ ap (λ (x : Checked). first >>= λ (done : Unit {0}). x) (both s line us vs (checked_uses s line us) k refl q)
 
 -- one, and then the rest
-first_then : (s : Source) (line : ℕ) (u : Use) (us : List Use) (k : Checked) → k ≡ checked_uses s line us →
+pub first_then : (s : Source) (line : ℕ) (u : Use) (us : List Use) (k : Checked) → k ≡ checked_uses s line us →
     (checked_use s line u >>= λ (done : Unit {0}). k) ≡ checked_uses s line (u ∷ us)
 first_then s line u us k q = ap (λ (x : Checked). checked_use s line u >>= λ (done : Unit {0}). x) q
 
-alone : (s : Source) (line : ℕ) (u : Use) → checked_use s line u ≡ checked_uses s line (u ∷ [])
+pub alone : (s : Source) (line : ℕ) (u : Use) → checked_use s line u ≡ checked_uses s line (u ∷ [])
 alone s line u = then_nothing (checked_use s line u)
 
-index_checks : (s : Source) (line : ℕ) (i : Index) → checked_index s line i ≡ checked_uses s line (index_uses i)
+pub index_checks : (s : Source) (line : ℕ) (i : Index) → checked_index s line i ≡ checked_uses s line (index_uses i)
 index_checks s line (index.Number k) = refl
 index_checks s line index.Processes = refl
 index_checks s line index.Words = refl
@@ -66,12 +58,12 @@ index_checks s line index.Word = refl
 index_checks s line index.Place = refl
 index_checks s line (index.Scalar x) = alone s line (scalar x)
 
-indexes_checks : (s : Source) (line : ℕ) (i j : Index) →
+pub indexes_checks : (s : Source) (line : ℕ) (i j : Index) →
     checked_indexes s line i j ≡ checked_uses s line (index_uses i ++ index_uses j)
 indexes_checks s line i j =
     both s line (index_uses i) (index_uses j) _ _ (index_checks s line i) (index_checks s line j)
 
-place_checks : (s : Source) (line : ℕ) (wanted : Sort) (x : Name) (i : Index) →
+pub place_checks : (s : Source) (line : ℕ) (wanted : Sort) (x : Name) (i : Index) →
     checked_place s line wanted x i ≡ checked_uses s line (Named wanted x ∷ index_uses i)
 place_checks s line wanted x i =
     first_then s line (Named wanted x) (index_uses i) (checked_index s line i) (index_checks s line i)
@@ -86,7 +78,7 @@ term_checks s line (term.Handshake x i j) =
     first_then s line HandshakeUse (words x ∷ (index_uses i ++ index_uses j)) _
     (first_then s line (words x) (index_uses i ++ index_uses j) _ (indexes_checks s line i j))
 
-expr_checks : (s : Source) (line : ℕ) (e : Expr) → checked_expr s line e ≡ checked_uses s line (expr_uses e)
+pub expr_checks : (s : Source) (line : ℕ) (e : Expr) → checked_expr s line e ≡ checked_uses s line (expr_uses e)
 expr_checks s line (expr.Term t) = term_checks s line t
 expr_checks s line (expr.Sum t u) =
     both s line (term_uses t) (term_uses u) _ _ (term_checks s line t) (term_checks s line u)
@@ -97,7 +89,7 @@ comparison_checks : (s : Source) (line : ℕ) (k : Comparison) →
 comparison_checks s line k =
     both s line (term_uses k.left) (term_uses k.right) _ _ (term_checks s line k.left) (term_checks s line k.right)
 
-condition_checks : (s : Source) (line : ℕ) (k : Condition) →
+pub condition_checks : (s : Source) (line : ℕ) (k : Condition) →
     checked_condition s line k ≡ checked_uses s line (condition_uses k)
 condition_checks s line (One k) = comparison_checks s line k
 condition_checks s line (Two j k l) =
@@ -111,12 +103,12 @@ condition_checks s line (Four j k l m o) =
     (both s line (comparison_uses l) (comparison_uses m ++ comparison_uses o) _ _ (comparison_checks s line l)
     (both s line (comparison_uses m) (comparison_uses o) _ _ (comparison_checks s line m) (comparison_checks s line o)))
 
-where_checks : (s : Source) (line : ℕ) (k : Option Condition) →
+pub where_checks : (s : Source) (line : ℕ) (k : Option Condition) →
     checked_where s line k ≡ checked_uses s line (where_uses k)
 where_checks s line None = refl
 where_checks s line (Some k) = condition_checks s line k
 
-tuple_checks : (s : Source) (line : ℕ) (t : Tuple) → checked_tuple s line t ≡ checked_uses s line (tuple_uses t)
+pub tuple_checks : (s : Source) (line : ℕ) (t : Tuple) → checked_tuple s line t ≡ checked_uses s line (tuple_uses t)
 tuple_checks s line (tuple.Seq d q x) =
     first_then s line (TupleUse kind.Seq) (expr_uses d ++ (expr_uses q ++ view x ∷ [])) _
     (both s line (expr_uses d) (expr_uses q ++ view x ∷ []) _ _ (expr_checks s line d)
@@ -131,45 +123,9 @@ tuple_checks s line (tuple.Multi d i t) =
     (both s line (expr_uses d) (expr_uses i ++ expr_uses t) _ _ (expr_checks s line d)
     (both s line (expr_uses i) (expr_uses t) _ _ (expr_checks s line i) (expr_checks s line t)))
 
-put_bit_checks : (s : Source) (line : ℕ) (i j : Index) (e : Expr) →
+pub put_bit_checks : (s : Source) (line : ℕ) (i j : Index) (e : Expr) →
     (checked_indexes s line i j >>= λ (done : Unit {0}). checked_expr s line e)
     ≡ checked_uses s line (index_uses i ++ (index_uses j ++ expr_uses e))
 put_bit_checks s line i j e =
     both s line (index_uses i ++ index_uses j) (expr_uses e) _ _ (indexes_checks s line i j) (expr_checks s line e)
     ∙ ap (λ (us : List Use). checked_uses s line us) (append_assoc (index_uses i) (index_uses j) (expr_uses e))
-
-pub instr_checks : (s : Source) (line : ℕ) (i : Instr) → checked_instr s line i ≡ checked_uses s line (instr_uses i)
-instr_checks s line (Let x e) = first_then s line (scalar x) (expr_uses e) _ (expr_checks s line e)
-instr_checks s line (LetPlace x i e) =
-    both s line (row x ∷ index_uses i) (expr_uses e) _ _ (place_checks s line sort.Row x i) (expr_checks s line e)
-instr_checks s line (Get x i j) =
-    first_then s line (words x) (index_uses i ++ index_uses j) _ (indexes_checks s line i j)
-instr_checks s line (Bit x b i j) =
-    first_then s line (scalar x) (BankUse (bank_of b) ∷ (index_uses i ++ index_uses j)) _
-    (first_then s line (BankUse (bank_of b)) (index_uses i ++ index_uses j) _ (indexes_checks s line i j))
-instr_checks s line (Look x i) =
-    first_then s line (view x) (BankUse bank.V ∷ index_uses i) _
-    (first_then s line (BankUse bank.V) (index_uses i) _ (index_checks s line i))
-instr_checks s line (Put i t) =
-    both s line (index_uses i) (tuple_uses t) _ _ (index_checks s line i) (tuple_checks s line t)
-instr_checks s line (PutBit b i j e) =
-    first_then s line (BankUse (bank_of b))
-    (index_uses i ++ (index_uses j ++ expr_uses e)) _ (put_bit_checks s line i j e)
-instr_checks s line (PutView i x) =
-    first_then s line (BankUse bank.V) (index_uses i ++ view x ∷ []) _
-    (both s line (index_uses i) (view x ∷ []) _ _ (index_checks s line i) (alone s line (view x)))
-instr_checks s line (ViewData x y) = first_then s line (view x) (words y ∷ []) _ (alone s line (words y))
-instr_checks s line (ViewOf x y i) =
-    first_then s line (view x) (ViewUse ∷ words y ∷ index_uses i) _
-    (first_then s line ViewUse (words y ∷ index_uses i) _ (place_checks s line sort.Words y i))
-instr_checks s line (Each g x e k) =
-    first_then s line (row x) (expr_uses e ++ where_uses k) _
-    (both s line (expr_uses e) (where_uses k) _ _ (expr_checks s line e) (where_checks s line k))
-instr_checks s line (First x g k target) = first_then s line (scalar x) (condition_uses k) _ (condition_checks s line k)
-instr_checks s line (Next x g target) = alone s line (scalar x)
-instr_checks s line (If k target) = condition_checks s line k
-instr_checks s line (IfAll g k target) = condition_checks s line k
-instr_checks s line (Goto target) = refl
-instr_checks s line (Call target) = refl
-instr_checks s line (Return x) = alone s line (view x)
-instr_checks s line Finish = refl

@@ -1,19 +1,20 @@
 -- The proofs of snap_listing, by their modules.
 pub mod Written
-pub mod AgainForms
 pub mod AgainHeader
 pub mod AgainHeaderForms
 pub mod AgainTerms
 pub mod Alls
 pub mod Declared
 pub mod DistinctNames
-pub mod HasForms
+pub mod HasTerms
+pub mod FoundForms
+pub mod GivenForms
 pub mod OnlyCommented
 pub mod Printed
 pub mod ReadsAll
 pub mod RightSources
-pub mod SoundForms
-pub mod SpelledForms
+pub mod SoundTerms
+pub mod SoundListing
 pub mod SpelledHeader
 pub mod SpelledLines
 pub mod SpelledTerms

@@ -12,7 +12,7 @@ use Rattle.snap_semantics.specs.Token.{lines_of}
 use Rattle.snap_text.proofs.Laid.{commented_read}
 use Rattle.snap_listing.specs.Laws.{Spells, ReadsAllSpelled, PrintsSpelling, ReadsPrinted}
 use Rattle.snap_listing.proofs.AgainHeader.{bind_by}
-use Rattle.snap_listing.proofs.SoundForms.{listing_sound}
+use Rattle.snap_listing.proofs.SoundListing.{listing_sound}
 
 -- the comments of the header's lines and of the numbered ones
 abbrev all_comments : Commented → List Comment

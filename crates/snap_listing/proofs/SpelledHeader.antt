@@ -22,7 +22,7 @@ use Rattle.snap_semantics.specs.Uses.{is_among}
 use Rattle.snap_text.specs.Lines.{line_tokens}
 use Rattle.snap_text.proofs.Sound.{AreSound}
 use Rattle.snap_listing.proofs.Alls.{all_both}
-use Rattle.snap_listing.proofs.HasForms.{Holds, then_with, Sounds}
+use Rattle.snap_listing.proofs.HasTerms.{Holds, then_with, Sounds}
 use Rattle.snap_listing.proofs.RightSources.{HoldsOk, ok_with}
 use Rattle.snap_listing.proofs.DistinctNames.{distinct_snoc}
 use Rattle.snap_listing.proofs.SpelledTerms.{if_when, KeywordIs, keyword_is, WordIs, word_is, NumberIs}

@@ -24,10 +24,11 @@ use Rattle.snap_text.proofs.Sound.{AreSound, lines_sound}
 use Rattle.snap_listing.specs.Laws.{Spells}
 use Rattle.snap_listing.proofs.AgainTerms.{IsNamed, Names, short_name}
 use Rattle.snap_listing.proofs.Declared.{uses_named}
-use Rattle.snap_listing.proofs.HasForms.{Holds, Sounds, LineFound, line_has}
+use Rattle.snap_listing.proofs.HasTerms.{Holds, Sounds}
+use Rattle.snap_listing.proofs.FoundForms.{LineFound, line_has}
 use Rattle.snap_listing.proofs.RightSources.{HoldsOk, holds_ok, ok_with, ok_same}
 use Rattle.snap_listing.proofs.RightSources.{WhenDone, uses_ok, relined_uses}
-use Rattle.snap_listing.proofs.SpelledForms.{LineIs, line_is}
+use Rattle.snap_listing.proofs.FoundForms.{LineIs, line_is}
 use Rattle.snap_listing.proofs.SpelledTerms.{IsShort, Shorts}
 use Rattle.snap_listing.proofs.SpelledHeader.{ok_when, some_line, spelled_kind}
 use Rattle.snap_listing.proofs.SpelledHeader.{AreSoundTexts, HeaderOk, header_ok}

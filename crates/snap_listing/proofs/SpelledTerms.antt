@@ -33,7 +33,7 @@ use Rattle.snap_semantics.specs.Token.{Token, Identifier, Number, Sign, symbol_b
 use Rattle.snap_semantics.specs.Uses.{Use, Named, BankUse, FieldUse, HandshakeUse, ViewUse, TupleUse, index_uses}
 use Rattle.snap_semantics.specs.Uses.{term_uses, expr_uses, comparison_uses, condition_uses, where_uses}
 use Rattle.snap_listing.proofs.Alls.{all_first, all_rest}
-use Rattle.snap_listing.proofs.HasForms.{Holds, then_with, either, if_so}
+use Rattle.snap_listing.proofs.HasTerms.{Holds, then_with, either, if_so}
 
 abbrev pub IsShort : Use → Type 0
 IsShort (Named wanted x) = length x ≤ 8

@@ -1,5 +1,5 @@
-//! Reads an expression or a condition, and `where`, a range or `goto
-//! N` beside it, at the front of the tokens of a listing's line.
+//! Reads an expression or a condition, and `where`, a range or `goto N` beside it, at the front of
+//! the tokens of a listing's line; and `join_keyword`.
 ghost use Rattle.std.specs.Prelude.{◌≡◌, Some};
 ghost use Rattle.snap_semantics.specs.ListingForms.{not_expr, term_expr, expr_at, relation_at};
 ghost use Rattle.snap_semantics.specs.ListingForms.{comparison_at, join_keyword, joined_at};
@@ -8,10 +8,19 @@ ghost use Rattle.snap_semantics.specs.ListingForms.{condition_at, where_at, rang
 ghost use Rattle.snap_listing.specs.Sums.{plus_term, sum_on};
 ghost use Rattle.snap_text.specs.Tokens.{Finds, view_tokens};
 
-use crate::rules::join_keyword;
 use crate::terms::term_at;
 use snap_semantics::{Comparison, Condition, Expr, Join, Range, Relation, Symbol, Term};
 use snap_text::{Token, keyword_at, number_at, symbol_at};
+
+/// Returns the keyword that joins comparisons.
+pub fn join_keyword(join: Join) -> &'static [u8]
+    ensures { result.now ≡ join_keyword join }
+{
+    match join {
+        Join::And => b"and",
+        Join::Or => b"or",
+    }
+}
 
 /// Reads `not` and a term.
 #[tactic(auto, unfolding(snap_semantics::specs::ListingForms::not_expr))]

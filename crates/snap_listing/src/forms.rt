@@ -1,6 +1,9 @@
-//! Reads the instructions of a listing's lines, with a function for
-//! each form: from after its first keyword to the end of the line.
+//! The rules for numbered lines: the reserved words, the numbers that lines may have, and for each
+//! form of line a function that reads it from after its first keyword to the end of the line.
+ghost use Rattle.std.specs.List.{list_any};
+ghost use Rattle.std.specs.Prelude.{◌≡◌, bytes_eq};
 ghost use Rattle.snap_semantics.specs.Rules.{or_else};
+ghost use Rattle.snap_semantics.specs.ListingForms.{is_line_number, is_reserved};
 ghost use Rattle.snap_semantics.specs.ListingForms.{let_form, let_place_form, get_form};
 ghost use Rattle.snap_semantics.specs.ListingForms.{pair_at, bit_bank_at, bit_form, look_form};
 ghost use Rattle.snap_semantics.specs.ListingForms.{put_form, put_bit_form, put_view_form};
@@ -11,13 +14,44 @@ ghost use Rattle.snap_semantics.specs.ListingForms.{finish_form, form_of_keyword
 ghost use Rattle.snap_text.specs.Tokens.{Finds, view_tokens};
 
 use crate::behind::{every_place, expr_behind, index_behind, name_behind};
-use crate::rules::is_line_number;
 use crate::terms::same_word;
 use crate::tuples::tuple_at;
 use crate::{condition_at, name_at, named_place_at, place_at, range_at, target_at, where_at};
 use snap_semantics::{BitBank, Index, Instr, Line, Symbol};
 use snap_text::{Token, end_at, identifier_at, keyword_at, number_at, symbol_at};
 use snap_words::KindTag;
+
+/// The reserved words, which are no names.
+const RESERVED_WORDS: [&[u8]; 40] = [
+    b"kind", b"seq", b"bit", b"multi", b"scalar", b"row", b"words", b"view", b"scan", b"update",
+    b"let", b"get", b"look", b"put", b"each", b"first", b"next", b"if", b"all", b"goto", b"call",
+    b"return", b"finish", b"where", b"and", b"or", b"not", b"n", b"w", b"me", b"word", b"arg",
+    b"r", b"q", b"p", b"v", b"data", b"hand", b"toggle", b"id",
+];
+
+/// Returns whether `word` is one of `words`.
+fn is_one_of(word: &[u8], words: &[&[u8]]) -> bool
+    ensures { result ≡ list_any (λ w. bytes_eq word.now w.now) words.now }
+{
+    words.iter().any(|w| word == *w)
+}
+
+/// Returns whether `word` is reserved, so that it is no name.
+pub fn is_reserved(word: &[u8]) -> bool
+    ensures { result ≡ is_reserved word.now }
+{
+    is_one_of(word, &RESERVED_WORDS)
+}
+
+/// The largest number of a line.
+const MAX_LINE_NUMBER: u64 = 9_999;
+
+/// Returns whether a line may have this number.
+pub fn is_line_number(number: u64) -> bool
+    ensures { result ≡ is_line_number number }
+{
+    1 <= number && number <= MAX_LINE_NUMBER
+}
 
 /// Reads `let X = E`.
 #[tactic(auto, unfolding(snap_semantics::specs::ListingForms::let_form))]

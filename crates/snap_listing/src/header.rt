@@ -15,7 +15,7 @@ ghost use Rattle.snap_text.specs.Lines.{view_line};
 ghost use Rattle.snap_text.specs.Tokens.{Finds, view_tokens};
 
 use crate::fault::ListingFault;
-use crate::rules::{is_line_number, is_reserved};
+use crate::forms::{is_line_number, is_reserved};
 use crate::uses::is_among;
 use snap_listing_core::Header;
 use snap_semantics::{ListingRefusal, Name};

@@ -1,4 +1,5 @@
-//! Spells the lines of a listing as tokens: tuples, instructions and the header lines.
+//! What is done with each form of line: an instruction is spelled as tokens, with its tuple, and
+//! what it names and needs of the kind is checked; and the header lines are spelled.
 ghost use Rattle.std.specs.Prelude.{◌≡◌, [], ◌∷◌, ◌++◌, map, codes};
 ghost use Rattle.snap_semantics.specs.declared.instr.Instr.TheVariants as instr;
 ghost use Rattle.snap_semantics.specs.declared.instr.Tuple.TheVariants as tuple;
@@ -7,11 +8,21 @@ ghost use Rattle.snap_semantics.specs.Spelling.{spelled_expr, spelled_tuple, ban
 ghost use Rattle.snap_semantics.specs.Spelling.{spelled_instr, spelled_line, kind_keyword};
 ghost use Rattle.snap_semantics.specs.Spelling.{spelled_names, spelled_entry};
 ghost use Rattle.snap_semantics.specs.Token.{Identifier, Sign};
+ghost use Rattle.snap_semantics.specs.Uses.{instr_uses, checked_uses};
+ghost use Rattle.snap_listing_core.specs.Fields.{header_source};
+ghost use Rattle.snap_listing.specs.Checks.{checked_access, checked_assignment, checked_instr};
 ghost use Rattle.snap_listing.specs.Spelled.{Spells};
 
 use crate::spelling::Spelling;
-use snap_semantics::{BitBank, Condition, Expr, Index, Instr, Line, Name, Range, Symbol, Tuple};
-use snap_words::KindTag;
+use crate::uses::{
+    checked_condition, checked_expr, checked_index, checked_indexes, checked_kind, checked_name,
+    checked_place, checked_tuple, checked_where, has_bank, has_view,
+};
+use snap_listing_core::Header;
+use snap_semantics::{
+    BitBank, Condition, Expr, Index, Instr, Line, ListingRefusal, Name, Range, Sort, Symbol, Tuple,
+};
+use snap_words::{Bank, KindTag};
 
 /// Returns the keyword of a bank of bits.
 fn bank_keyword(bank: BitBank) -> &'static [u8]
@@ -374,4 +385,113 @@ impl<'a> Spelling<'a> {
         self.push_identifier(keyword);
         self.push_number(number);
     }
+}
+
+/// Checks an instruction that reads or writes a register, and accepts any other.
+fn checked_access(header: &Header, line: u64, instr: &Instr) -> Result<(), ListingRefusal>
+    ensures { result ≡ checked_access (header_source header.now) line instr.now }
+{
+    match instr {
+        Instr::Get(words, index, register) => {
+            checked_name(header, line, Sort::Words, words)?;
+            checked_indexes(header, line, index, register)
+        }
+        Instr::Bit(scalar, bits, first, second) => {
+            checked_name(header, line, Sort::Scalar, scalar)?;
+            checked_kind(line, has_bank(header.kind, bits.bank()))?;
+            checked_indexes(header, line, first, second)
+        }
+        Instr::Look(view, register) => {
+            checked_name(header, line, Sort::View, view)?;
+            checked_kind(line, has_bank(header.kind, Bank::V))?;
+            checked_index(header, line, register)
+        }
+        Instr::Put(register, tuple) => {
+            checked_index(header, line, register)?;
+            checked_tuple(header, line, tuple)
+        }
+        Instr::PutBit(bits, first, second, value) => {
+            checked_kind(line, has_bank(header.kind, bits.bank()))?;
+            checked_indexes(header, line, first, second)?;
+            checked_expr(header, line, value)
+        }
+        Instr::PutView(register, view) => {
+            checked_kind(line, has_bank(header.kind, Bank::V))?;
+            checked_index(header, line, register)?;
+            checked_name(header, line, Sort::View, view)
+        }
+        _ => Ok(()),
+    }
+}
+
+/// Checks an instruction that sets a local by locals, and accepts any other.
+fn checked_assignment(header: &Header, line: u64, instr: &Instr) -> Result<(), ListingRefusal>
+    ensures { result ≡ checked_assignment (header_source header.now) line instr.now }
+{
+    match instr {
+        Instr::Let(scalar, value) => {
+            checked_name(header, line, Sort::Scalar, scalar)?;
+            checked_expr(header, line, value)
+        }
+        Instr::LetPlace(row, index, value) => {
+            checked_place(header, line, Sort::Row, row, index)?;
+            checked_expr(header, line, value)
+        }
+        Instr::ViewData(view, words) => {
+            checked_name(header, line, Sort::View, view)?;
+            checked_name(header, line, Sort::Words, words)
+        }
+        Instr::ViewOf(view, words, index) => {
+            checked_name(header, line, Sort::View, view)?;
+            checked_kind(line, has_view(header.kind))?;
+            checked_place(header, line, Sort::Words, words, index)
+        }
+        Instr::Each(_, row, value, condition) => {
+            checked_name(header, line, Sort::Row, row)?;
+            checked_expr(header, line, value)?;
+            checked_where(header, line, condition)
+        }
+        _ => Ok(()),
+    }
+}
+
+/// Checks an instruction.
+fn checked_instr(header: &Header, line: u64, instr: &Instr) -> Result<(), ListingRefusal>
+    ensures { result ≡ checked_instr (header_source header.now) line instr.now }
+{
+    match instr {
+        Instr::Get(..)
+        | Instr::Bit(..)
+        | Instr::Look(..)
+        | Instr::Put(..)
+        | Instr::PutBit(..)
+        | Instr::PutView(..) => checked_access(header, line, instr),
+        Instr::Let(..)
+        | Instr::LetPlace(..)
+        | Instr::ViewData(..)
+        | Instr::ViewOf(..)
+        | Instr::Each(..) => checked_assignment(header, line, instr),
+        Instr::First(scalar, _, condition, _) => {
+            checked_name(header, line, Sort::Scalar, scalar)?;
+            checked_condition(header, line, condition)
+        }
+        Instr::Next(scalar, _, _) => checked_name(header, line, Sort::Scalar, scalar),
+        Instr::If(condition, _) => checked_condition(header, line, condition),
+        Instr::IfAll(_, condition, _) => checked_condition(header, line, condition),
+        Instr::Return(view) => checked_name(header, line, Sort::View, view),
+        Instr::Goto(_) | Instr::Call(_) | Instr::Finish => Ok(()),
+    }
+}
+
+/// Checks what an instruction names and needs, from left to right.
+///
+/// # Errors
+///
+/// The refusal of the first part that breaks a rule, with the number `line`: `UnknownName` for a
+/// name that is not declared, `WrongKind` for a name of another sort or for what the kind lacks.
+#[tactic(auto, using(crate::proofs::GivenForms::instr_checks))]
+pub fn checked_uses(header: &Header, line: u64, instr: &Instr) -> Result<(), ListingRefusal>
+    ensures { result ≡ checked_uses (header_source header.now) line (instr_uses instr.now) }
+{
+    checked_instr(header, line, instr)
 }

@@ -13,17 +13,16 @@ mod line_texts;
 mod listing_text;
 mod printer;
 mod reader;
-mod rules;
 mod spelling;
 mod targets;
 mod terms;
 mod tuples;
 mod uses;
 
-pub use conditions::{condition_at, expr_at, range_at, target_at, where_at};
+pub use conditions::{condition_at, expr_at, join_keyword, range_at, target_at, where_at};
 pub use fault::ListingFault;
-pub use forms::line_form;
-pub use instructions::kind_keyword;
+pub use forms::{is_line_number, is_reserved, line_form};
+pub use instructions::{checked_uses, kind_keyword};
 pub use laws::{
     what_is_printed_is_read, what_is_printed_is_spelled, what_is_read_is_spelled,
     what_is_read_with_comments_is_a_listing, what_is_spelled_is_read,
@@ -32,7 +31,6 @@ pub use line_texts::LineTexts;
 pub use listing_text::read_known;
 pub use printer::print;
 pub use reader::{read, read_source};
-pub use rules::{is_line_number, is_reserved, join_keyword};
 pub use snap_listing_core::{CommentedListing as Listing, Header, has_line};
 pub use snap_semantics::{
     BitBank, Comparison, Condition, Condition as Cond, Expr, Fault, Index, Instr, Join, Line,
@@ -41,4 +39,4 @@ pub use snap_semantics::{
 pub use snap_words::{Field, KindTag};
 pub use targets::{checked_target, checked_targets, push_line_copy};
 pub use terms::{index_at, name_at, named_place_at, place_at};
-pub use uses::{checked_uses, has_bank, has_field, has_handshakes, has_view, is_among, same_kind};
+pub use uses::{has_bank, has_field, has_handshakes, has_view, is_among, same_kind};

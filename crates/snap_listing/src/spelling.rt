@@ -12,7 +12,7 @@ ghost use Rattle.snap_semantics.specs.Token.{Identifier, Number, Sign};
 ghost use Rattle.snap_text.specs.Tokens.{view_token, view_tokens};
 ghost use Rattle.snap_listing.specs.Spelled.{Spells};
 
-use crate::rules::join_keyword;
+use crate::conditions::join_keyword;
 use snap_semantics::{
     Comparison, Condition, Expr, Index, Join, Name, Range, Relation, Symbol, Term,
 };

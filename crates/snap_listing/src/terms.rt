@@ -8,7 +8,7 @@ ghost use Rattle.snap_semantics.specs.ListingForms.{row_term, field_of_keyword, 
 ghost use Rattle.snap_semantics.specs.ListingForms.{handshake_term, index_term, term_at};
 ghost use Rattle.snap_text.specs.Tokens.{Finds, view_tokens};
 
-use crate::rules::is_reserved;
+use crate::forms::is_reserved;
 use snap_semantics::{Index, Name, Symbol, Term};
 use snap_text::{Token, identifier_at, keyword_at, number_at, symbol_at};
 use snap_words::Field;

@@ -1,20 +1,16 @@
-//! Checks what an instruction of a listing names and needs: each name is
+//! Checks what an operand, a condition or a tuple names and needs: each name is
 //! declared and of its sort, and the kind has each bank, field and tuple.
 ghost use Rattle.std.specs.Prelude.{◌≡◌};
 ghost use Rattle.snap_words.specs.Kind.{has_bank, has_field, has_handshakes, has_view};
 ghost use Rattle.snap_semantics.specs.Uses.{is_among, sort_of, same_sort, same_kind};
-ghost use Rattle.snap_semantics.specs.Uses.{instr_uses, checked_uses};
 ghost use Rattle.snap_listing.specs.Checks.{checked_name, checked_kind, checked_index};
 ghost use Rattle.snap_listing.specs.Checks.{checked_indexes, checked_place, checked_term};
 ghost use Rattle.snap_listing.specs.Checks.{checked_expr, checked_comparison};
 ghost use Rattle.snap_listing.specs.Checks.{checked_condition, checked_where, checked_tuple};
-ghost use Rattle.snap_listing.specs.Checks.{checked_access, checked_assignment, checked_instr};
 ghost use Rattle.snap_listing_core.specs.Fields.{header_source};
 
 use snap_listing_core::Header;
-use snap_semantics::{
-    Comparison, Condition, Expr, Index, Instr, ListingRefusal, Name, Sort, Term, Tuple,
-};
+use snap_semantics::{Comparison, Condition, Expr, Index, ListingRefusal, Name, Sort, Term, Tuple};
 use snap_words::{Bank, Bits, Field, Kind, KindTag, Multi, Seq};
 
 /// Returns whether one of `names` has these letters.
@@ -50,7 +46,12 @@ fn same_sort(one: Sort, other: Sort) -> bool
 }
 
 /// Checks that `name` is declared and of the sort `wanted`.
-fn checked_name(header: &Header, line: u64, wanted: Sort, name: &Name) -> Result<(), ListingRefusal>
+pub(crate) fn checked_name(
+    header: &Header,
+    line: u64,
+    wanted: Sort,
+    name: &Name,
+) -> Result<(), ListingRefusal>
     ensures { result ≡ checked_name (header_source header.now) line wanted name.now }
 {
     match sort_of(header, name) {
@@ -105,7 +106,7 @@ pub fn has_view(kind: KindTag) -> bool
 }
 
 /// Checks that the kind has what the line needs.
-fn checked_kind(line: u64, has: bool) -> Result<(), ListingRefusal>
+pub(crate) fn checked_kind(line: u64, has: bool) -> Result<(), ListingRefusal>
     ensures { result ≡ checked_kind line has }
 {
     if has {
@@ -116,7 +117,7 @@ fn checked_kind(line: u64, has: bool) -> Result<(), ListingRefusal>
 }
 
 /// Checks an index.
-fn checked_index(header: &Header, line: u64, index: &Index) -> Result<(), ListingRefusal>
+pub(crate) fn checked_index(header: &Header, line: u64, index: &Index) -> Result<(), ListingRefusal>
     ensures { result ≡ checked_index (header_source header.now) line index.now }
 {
     match index {
@@ -126,7 +127,7 @@ fn checked_index(header: &Header, line: u64, index: &Index) -> Result<(), Listin
 }
 
 /// Checks two indexes, the first one first.
-fn checked_indexes(
+pub(crate) fn checked_indexes(
     header: &Header,
     line: u64,
     first: &Index,
@@ -139,7 +140,7 @@ fn checked_indexes(
 }
 
 /// Checks a local of the sort `wanted`, and the index of a place in it.
-fn checked_place(
+pub(crate) fn checked_place(
     header: &Header,
     line: u64,
     wanted: Sort,
@@ -173,7 +174,7 @@ fn checked_term(header: &Header, line: u64, term: &Term) -> Result<(), ListingRe
 }
 
 /// Checks an expression.
-fn checked_expr(header: &Header, line: u64, expr: &Expr) -> Result<(), ListingRefusal>
+pub(crate) fn checked_expr(header: &Header, line: u64, expr: &Expr) -> Result<(), ListingRefusal>
     ensures { result ≡ checked_expr (header_source header.now) line expr.now }
 {
     match expr {
@@ -199,7 +200,7 @@ fn checked_comparison(
 }
 
 /// Checks a condition.
-fn checked_condition(
+pub(crate) fn checked_condition(
     header: &Header,
     line: u64,
     condition: &Condition,
@@ -227,7 +228,7 @@ fn checked_condition(
 }
 
 /// Checks a condition that may be left out.
-fn checked_where(
+pub(crate) fn checked_where(
     header: &Header,
     line: u64,
     condition: &Option<Condition>,
@@ -241,7 +242,7 @@ fn checked_where(
 }
 
 /// Checks a tuple.
-fn checked_tuple(header: &Header, line: u64, tuple: &Tuple) -> Result<(), ListingRefusal>
+pub(crate) fn checked_tuple(header: &Header, line: u64, tuple: &Tuple) -> Result<(), ListingRefusal>
     ensures { result ≡ checked_tuple (header_source header.now) line tuple.now }
 {
     match tuple {
@@ -265,113 +266,4 @@ fn checked_tuple(header: &Header, line: u64, tuple: &Tuple) -> Result<(), Listin
             checked_expr(header, line, toggle)
         }
     }
-}
-
-/// Checks an instruction that reads or writes a register, and accepts any other.
-fn checked_access(header: &Header, line: u64, instr: &Instr) -> Result<(), ListingRefusal>
-    ensures { result ≡ checked_access (header_source header.now) line instr.now }
-{
-    match instr {
-        Instr::Get(words, index, register) => {
-            checked_name(header, line, Sort::Words, words)?;
-            checked_indexes(header, line, index, register)
-        }
-        Instr::Bit(scalar, bits, first, second) => {
-            checked_name(header, line, Sort::Scalar, scalar)?;
-            checked_kind(line, has_bank(header.kind, bits.bank()))?;
-            checked_indexes(header, line, first, second)
-        }
-        Instr::Look(view, register) => {
-            checked_name(header, line, Sort::View, view)?;
-            checked_kind(line, has_bank(header.kind, Bank::V))?;
-            checked_index(header, line, register)
-        }
-        Instr::Put(register, tuple) => {
-            checked_index(header, line, register)?;
-            checked_tuple(header, line, tuple)
-        }
-        Instr::PutBit(bits, first, second, value) => {
-            checked_kind(line, has_bank(header.kind, bits.bank()))?;
-            checked_indexes(header, line, first, second)?;
-            checked_expr(header, line, value)
-        }
-        Instr::PutView(register, view) => {
-            checked_kind(line, has_bank(header.kind, Bank::V))?;
-            checked_index(header, line, register)?;
-            checked_name(header, line, Sort::View, view)
-        }
-        _ => Ok(()),
-    }
-}
-
-/// Checks an instruction that sets a local by locals, and accepts any other.
-fn checked_assignment(header: &Header, line: u64, instr: &Instr) -> Result<(), ListingRefusal>
-    ensures { result ≡ checked_assignment (header_source header.now) line instr.now }
-{
-    match instr {
-        Instr::Let(scalar, value) => {
-            checked_name(header, line, Sort::Scalar, scalar)?;
-            checked_expr(header, line, value)
-        }
-        Instr::LetPlace(row, index, value) => {
-            checked_place(header, line, Sort::Row, row, index)?;
-            checked_expr(header, line, value)
-        }
-        Instr::ViewData(view, words) => {
-            checked_name(header, line, Sort::View, view)?;
-            checked_name(header, line, Sort::Words, words)
-        }
-        Instr::ViewOf(view, words, index) => {
-            checked_name(header, line, Sort::View, view)?;
-            checked_kind(line, has_view(header.kind))?;
-            checked_place(header, line, Sort::Words, words, index)
-        }
-        Instr::Each(_, row, value, condition) => {
-            checked_name(header, line, Sort::Row, row)?;
-            checked_expr(header, line, value)?;
-            checked_where(header, line, condition)
-        }
-        _ => Ok(()),
-    }
-}
-
-/// Checks an instruction.
-fn checked_instr(header: &Header, line: u64, instr: &Instr) -> Result<(), ListingRefusal>
-    ensures { result ≡ checked_instr (header_source header.now) line instr.now }
-{
-    match instr {
-        Instr::Get(..)
-        | Instr::Bit(..)
-        | Instr::Look(..)
-        | Instr::Put(..)
-        | Instr::PutBit(..)
-        | Instr::PutView(..) => checked_access(header, line, instr),
-        Instr::Let(..)
-        | Instr::LetPlace(..)
-        | Instr::ViewData(..)
-        | Instr::ViewOf(..)
-        | Instr::Each(..) => checked_assignment(header, line, instr),
-        Instr::First(scalar, _, condition, _) => {
-            checked_name(header, line, Sort::Scalar, scalar)?;
-            checked_condition(header, line, condition)
-        }
-        Instr::Next(scalar, _, _) => checked_name(header, line, Sort::Scalar, scalar),
-        Instr::If(condition, _) => checked_condition(header, line, condition),
-        Instr::IfAll(_, condition, _) => checked_condition(header, line, condition),
-        Instr::Return(view) => checked_name(header, line, Sort::View, view),
-        Instr::Goto(_) | Instr::Call(_) | Instr::Finish => Ok(()),
-    }
-}
-
-/// Checks what an instruction names and needs, from left to right.
-///
-/// # Errors
-///
-/// The refusal of the first part that breaks a rule, with the number `line`: `UnknownName` for a
-/// name that is not declared, `WrongKind` for a name of another sort or for what the kind lacks.
-#[tactic(auto, using(crate::proofs::Checks::instr_checks))]
-pub fn checked_uses(header: &Header, line: u64, instr: &Instr) -> Result<(), ListingRefusal>
-    ensures { result ≡ checked_uses (header_source header.now) line (instr_uses instr.now) }
-{
-    checked_instr(header, line, instr)
 }

@@ -1,15 +1,14 @@
 -- A line that has the form of a debugger command is not lost (`lost_in` finds no place).
-use Rattle.std.proofs.Common.{◌≡◌, ℕ, List, [], ◌∷◌, Option, Some, None, codes, refl, sym, subst}
+use Rattle.std.proofs.Common.{◌≡◌, ℕ, List, [], ◌∷◌, None, codes, refl, sym, subst}
 use Rattle.snap_words.specs.declared.address.Address.{Address}
-use Rattle.snap_words.specs.declared.address.Bank.{Bank}
-use Rattle.snap_semantics.specs.Rules.{◌>>=◌, or_else, number_at, keyword_at, end_at}
+use Rattle.snap_semantics.specs.Rules.{number_at, keyword_at, end_at}
 use Rattle.snap_semantics.specs.Token.{Token, Identifier, Number}
 use Rattle.snap_debug_commands.specs.CommandForms.{keyword_form, number_form, numbers_form, place_form, bit_form}
 use Rattle.snap_debug_commands.specs.CommandForms.{address_form, breakpoint_form, register_form, moving_form}
 use Rattle.snap_debug_commands.specs.CommandForms.{marking_form, showing_form, command_form}
 use Rattle.snap_debug_commands.specs.declared.command.Breakpoint.{Breakpoint}
 use Rattle.snap_debug_commands.specs.declared.command.Command.{Command}
-use Rattle.snap_listing.proofs.HasForms.{Holds, then_with, either}
+use Rattle.snap_listing.proofs.HasTerms.{Holds, then_with, either}
 use Rattle.snap_listing.proofs.SpelledTerms.{NumberIs, number_is, KeywordIs, keyword_is, EndIs, end_is, on_cons}
 use Rattle.snap_explanation.specs.declared.line_sorts.LineSort.TheVariants as line
 use Rattle.snap_explanation.specs.Grammar.{singles, values, written, instructions, commands, class_forms, fronts}

@@ -13,8 +13,8 @@ use Rattle.snap_semantics.specs.Source.{Source}
 use Rattle.snap_semantics.specs.Token.{Token}
 use Rattle.snap_semantics.specs.Uses.{Use, Named, BankUse, FieldUse, HandshakeUse, ViewUse, TupleUse, instr_uses}
 use Rattle.snap_semantics.specs.Uses.{kind_has, sort_of, same_sort, use_of_sort, checked_use, checked_uses}
-use Rattle.snap_listing.proofs.HasForms.{Holds}
-use Rattle.snap_listing.proofs.SpelledForms.{LineIs, line_is}
+use Rattle.snap_listing.proofs.HasTerms.{Holds}
+use Rattle.snap_listing.proofs.FoundForms.{LineIs, line_is}
 use Rattle.snap_listing.proofs.SpelledTerms.{Shorts}
 use Rattle.snap_explanation.specs.Pieces.{PlacedToken}
 use Rattle.snap_reading_laws.specs.RefusedForToken.{check_of}
@@ -25,7 +25,8 @@ use Rattle.snap_explanation.specs.Sorts.{is_sort}
 use Rattle.snap_explanation.specs.TokenUses.{use_at, slot_after, with_use, token_uses}
 use Rattle.snap_explanation.specs.declared.token_uses.Slot.{Slot}
 use Rattle.snap_explanation.specs.declared.token_uses.Slot.TheVariants as slot
-use Rattle.snap_reading_laws.proofs.SpokenTokens.{Spoken, instr_reads}
+use Rattle.snap_reading_laws.proofs.Lines.{instr_reads}
+use Rattle.snap_reading_laws.proofs.SpokenTokens.{Spoken}
 
 abbrev Done : Type 0
 Done = Result (Unit {0}) ListingRefusal

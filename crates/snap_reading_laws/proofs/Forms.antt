@@ -1,13 +1,13 @@
 -- A line that has the form of a shape, an item, a header line or a line of scripts is not lost (`lost_in` finds no
 -- place).
 use Rattle.std.proofs.Common.{◌≡◌, ℕ, ◌+◌, Bool, true, false, ◌&&◌, List, [], ◌∷◌, Option, Some, None, option_map}
-use Rattle.std.proofs.Common.{nat_lt, bytes_eq, codes, if◌then◌else◌, refl, sym, ap, ◌∙◌, subst}
+use Rattle.std.proofs.Common.{nat_lt, bytes_eq, codes, if◌then◌else◌, refl, ap, ◌∙◌}
 use Rattle.std.specs.Prelude.{is_some}
 use Rattle.std.proofs.lemmas.Bool.{and_parts}
 use Rattle.snap_semantics.specs.declared.text.Symbol.TheVariants as symbol
 use Rattle.snap_semantics.specs.HeaderForms.{kind_of_keyword, kind_form, words_form, names_form, entry_form}
 use Rattle.snap_semantics.specs.ListingForms.{is_line_number}
-use Rattle.snap_semantics.specs.Rules.{◌>>=◌, or_else, number_at, identifier_at, keyword_at, symbol_at, end_at}
+use Rattle.snap_semantics.specs.Rules.{number_at, identifier_at, keyword_at, symbol_at, end_at}
 use Rattle.snap_semantics.specs.ScheduleForms.{ItemForm, Steps, Calls, Crashes, spelled_call, is_count, shape_form}
 use Rattle.snap_semantics.specs.ScheduleForms.{step_form, steps_form, scan_form, update_form, crash_form, item_form}
 use Rattle.snap_semantics.specs.Token.{Token, Identifier, Number, Sign}
@@ -18,7 +18,7 @@ use Rattle.snap_sched.specs.Spelling.{IsSpelling}
 use Rattle.snap_sched.proofs.Found.{item_found}
 use Rattle.snap_words.specs.Shape.{Counts}
 use Rattle.snap_words.specs.declared.kind.KindTag.{KindTag}
-use Rattle.snap_listing.proofs.HasForms.{Holds, then_with, either}
+use Rattle.snap_listing.proofs.HasTerms.{Holds, then_with, either}
 use Rattle.snap_listing.proofs.SpelledTerms.{if_when, WordIs, word_is, NumberIs, number_is, KeywordIs}
 use Rattle.snap_listing.proofs.SpelledTerms.{same_word, keyword_is, SymbolIs, symbol_is, EndIs, end_is, on_cons}
 use Rattle.snap_explanation.specs.declared.parts.Part.{Part}

@@ -4,3 +4,4 @@ pub mod Commands
 pub mod NotLost
 pub mod SpokenTokens
 pub mod FirstWrong
+pub mod Lines

@@ -1,11 +1,10 @@
 -- The tokens of a line speak of what its instruction speaks of, one by one.
 use Rattle.std.proofs.Common.{◌≡◌, ℕ, ◌≤◌, ◌++◌, length, take, take_all, refl, sym, ap, ◌∙◌, append_assoc, append-nil}
 use Rattle.std.proofs.Common.{arith, Bool, true, false, List, [], ◌∷◌, Option, Some}
-use Rattle.std.proofs.Common.{None, nat_eq, nat_lt, codes, if◌then◌else◌}
+use Rattle.std.proofs.Common.{None, nat_eq, nat_lt, if◌then◌else◌}
 use Rattle.std.proofs.lemmas.Bool.{ltb-false, or_parts}
 use Rattle.std.proofs.lemmas.List.{length-append}
 use Rattle.std.specs.List.{AllByRecursion}
-use Rattle.snap_words.specs.declared.address.Bank.TheVariants as bank
 use Rattle.snap_words.specs.declared.kind.Field.{Field}
 use Rattle.snap_words.specs.declared.kind.Field.TheVariants as field
 use Rattle.snap_words.specs.declared.kind.KindTag.TheVariants as kind
@@ -19,9 +18,7 @@ use Rattle.snap_semantics.specs.declared.instr.Expr.TheVariants as expr
 use Rattle.snap_semantics.specs.declared.instr.Index.{Index}
 use Rattle.snap_semantics.specs.declared.instr.Index.TheVariants as index
 use Rattle.snap_semantics.specs.declared.instr.Instr.{Instr}
-use Rattle.snap_semantics.specs.declared.instr.Instr.TheVariants.{Let, LetPlace, Get, Bit, Look, Put, PutBit, PutView}
-use Rattle.snap_semantics.specs.declared.instr.Instr.TheVariants.{ViewData, ViewOf, Each, First, Next, If, IfAll}
-use Rattle.snap_semantics.specs.declared.instr.Instr.TheVariants.{Goto, Call, Return, Finish}
+use Rattle.snap_semantics.specs.declared.instr.Instr.TheVariants.{Put}
 use Rattle.snap_semantics.specs.declared.instr.Join.{Join}
 use Rattle.snap_semantics.specs.declared.instr.Join.TheVariants.{And, Or}
 use Rattle.snap_semantics.specs.declared.instr.Range.{Range}
@@ -44,10 +41,10 @@ use Rattle.snap_semantics.specs.Spelling.{spelled_condition, spelled_where, spel
 use Rattle.snap_semantics.specs.Spelling.{spelled_tuple, bank_keyword, spelled_pair, spelled_instr}
 use Rattle.snap_semantics.specs.Table.{bank_of}
 use Rattle.snap_semantics.specs.Token.{Token, Identifier, Sign}
-use Rattle.snap_semantics.specs.Uses.{Use, Named, BankUse, FieldUse, HandshakeUse, ViewUse, TupleUse, view}
+use Rattle.snap_semantics.specs.Uses.{Use, Named, BankUse, FieldUse, HandshakeUse, TupleUse, view}
 use Rattle.snap_semantics.specs.Uses.{index_uses, term_uses, expr_uses, comparison_uses}
-use Rattle.snap_semantics.specs.Uses.{condition_uses, where_uses, tuple_uses, instr_uses}
-use Rattle.snap_listing.proofs.Alls.{all_first, all_rest, all_both}
+use Rattle.snap_semantics.specs.Uses.{condition_uses, where_uses, tuple_uses}
+use Rattle.snap_listing.proofs.Alls.{all_first, all_rest}
 use Rattle.snap_reading_laws.specs.RefusedForToken.{SpeaksName}
 use Rattle.snap_explanation.specs.TokenUses.{opens_with, ends_with_view, lone_sort, sort_at, field_use, word_use}
 use Rattle.snap_explanation.specs.TokenUses.{slot_of_word, with_use, token_uses}
@@ -57,16 +54,16 @@ use Rattle.snap_explanation.specs.declared.token_uses.Slot.TheVariants as slot
 abbrev pub Spoken : List Use → Type 0
 Spoken us = AllByRecursion SpeaksName us
 
-first_of_both : (us vs : List Use) → Spoken (us ++ vs) → Spoken us
+pub first_of_both : (us vs : List Use) → Spoken (us ++ vs) → Spoken us
 first_of_both us vs h = all_first SpeaksName us vs h
 
-second_of_both : (us vs : List Use) → Spoken (us ++ vs) → Spoken vs
+pub second_of_both : (us vs : List Use) → Spoken (us ++ vs) → Spoken vs
 second_of_both us vs h = all_rest SpeaksName us vs h
 
 abbrev comma : Token
 comma = Sign symbol.Comma
 
-abbrev close : List Token
+abbrev pub close : List Token
 close = Sign symbol.CloseParenthesis ∷ []
 
 abbrev bracket : List Token
@@ -81,7 +78,7 @@ if_true true x y e = refl
 if_true false x y e = absurd cc
 
 -- no view ends the instruction behind a name, where these tokens are behind it
-abbrev NoView : Instr → List Token → Type 0
+abbrev pub NoView : Instr → List Token → Type 0
 NoView i ts = (us : List Token) → ends_with_view i (length (us ++ ts)) ≡ false
 
 deeper : (i : Instr) (vs ts : List Token) → NoView i ts → NoView i (vs ++ ts)
@@ -91,7 +88,7 @@ deeper i vs ts h us = ap (λ (xs : List Token). ends_with_view i (length xs)) (s
 lone : (i : Instr) (ts : List Token) → NoView i ts → lone_sort i (length ts) ≡ sort.Scalar
 lone i ts h = if_false (ends_with_view i (length ts)) sort.View sort.Scalar (h [])
 
-lone_value : (i : Instr) (ts : List Token) → opens_with symbol.OpenBracket ts ≡ false → NoView i ts →
+pub lone_value : (i : Instr) (ts : List Token) → opens_with symbol.OpenBracket ts ≡ false → NoView i ts →
     sort_at i slot.Value ts ≡ sort.Scalar
 lone_value i ts o h = if_false (opens_with symbol.OpenBracket ts) sort.Row (lone_sort i (length ts)) o ∙ lone i ts h
 
@@ -108,13 +105,13 @@ name_is i s x ts h =
     ∙ ap (λ (y : Name). let us : List Use = Named (sort_at i s ts) y ∷ token_uses i slot.Value ts in us)
     (take_all 9 x few)
 
-name_as : (i : Instr) (s : Slot) (x : Name) (ts : List Token) (k : Sort) → IsName x → sort_at i s ts ≡ k →
+pub name_as : (i : Instr) (s : Slot) (x : Name) (ts : List Token) (k : Sort) → IsName x → sort_at i s ts ≡ k →
     token_uses i s (Identifier x ∷ ts) ≡ Named k x ∷ token_uses i slot.Value ts
 name_as i s x ts k h e = name_is i s x ts h
     ∙ ap (λ (wanted : Sort). let us : List Use = Named wanted x ∷ token_uses i slot.Value ts in us) e
 
 -- What tokens speak of in front of others, behind which a scalar or a row is next.
-abbrev Reads : Instr → Slot → List Token → List Use → List Token → Type 0
+abbrev pub Reads : Instr → Slot → List Token → List Use → List Token → Type 0
 Reads i s ps us ts = token_uses i s (ps ++ ts) ≡ us ++ token_uses i slot.Value ts
 
 -- two parts with a token between them that speaks of nothing
@@ -128,7 +125,7 @@ parted i s now ps t qs us vs ts g e h =
     ∙ ap (λ (xs : List Use). us ++ xs) (e ∙ h) ∙ sym (append_assoc us vs (token_uses i slot.Value ts))
 
 -- all tokens
-whole : (i : Instr) (s : Slot) (ps : List Token) (us : List Use) → Reads i s ps us [] → token_uses i s ps ≡ us
+pub whole : (i : Instr) (s : Slot) (ps : List Token) (us : List Use) → Reads i s ps us [] → token_uses i s ps ≡ us
 whole i s ps us h = ap (λ (xs : List Token). token_uses i s xs) (sym (append-nil ps)) ∙ h ∙ append-nil us
 
 index_reads : (i : Instr) (s : Slot) (x : Index) (ts : List Token) → Spoken (index_uses x) →
@@ -141,14 +138,14 @@ index_reads i s index.Word ts n e = refl
 index_reads i s index.Place ts n e = refl
 index_reads i s (index.Scalar x) ts n e = name_as i s x ts sort.Scalar n.0 e
 
-bracket_reads : (i : Instr) (s : Slot) (x : Index) (ts : List Token) → Spoken (index_uses x) → NoView i ts →
+pub bracket_reads : (i : Instr) (s : Slot) (x : Index) (ts : List Token) → Spoken (index_uses x) → NoView i ts →
     Reads i s (in_brackets (spelled_index x)) (index_uses x) ts
 bracket_reads i s x ts n v =
     ap (λ (xs : List Token). token_uses i slot.Value xs) (append_assoc (spelled_index x) bracket ts)
     ∙ index_reads i slot.Value x (Sign symbol.CloseBracket ∷ ts) n
     (lone_value i (Sign symbol.CloseBracket ∷ ts) refl (deeper i bracket ts v))
 
-place_reads : (i : Instr) (s : Slot) (x : Name) (j : Index) (ts : List Token) (k : Sort) → IsName x →
+pub place_reads : (i : Instr) (s : Slot) (x : Name) (j : Index) (ts : List Token) (k : Sort) → IsName x →
     Spoken (index_uses j) → NoView i ts →
     sort_at i s (in_brackets (spelled_index j) ++ ts) ≡ k → Reads i s (spelled_place x j) (Named k x ∷ index_uses j) ts
 place_reads i s x j ts k h n v e =
@@ -156,7 +153,7 @@ place_reads i s x j ts k h n v e =
     ∙ ap (λ (us : List Use). let vs : List Use = Named k x ∷ us in vs) (bracket_reads i slot.Value j ts n v)
 
 -- `(W[I])`, behind the bracket
-inside_reads : (i : Instr) (x : Name) (j : Index) (ts : List Token) → IsName x → Spoken (index_uses j) → NoView i ts →
+pub inside_reads : (i : Instr) (x : Name) (j : Index) (ts : List Token) → IsName x → Spoken (index_uses j) → NoView i ts →
     token_uses i slot.Words ((spelled_place x j ++ close) ++ ts) ≡ (Named sort.Words x ∷ index_uses j)
     ++ token_uses i slot.Value ts
 inside_reads i x j ts h n v =
@@ -164,7 +161,7 @@ inside_reads i x j ts h n v =
     ∙ place_reads i slot.Words x j (Sign symbol.CloseParenthesis ∷ ts) sort.Words h n (deeper i close ts v) refl
 
 -- each field of one number is spoken of
-abbrev Fields : Instr → Type 0
+abbrev pub Fields : Instr → Type 0
 Fields i = (f : Field) → field_use (Some f) i ≡ Some (FieldUse f)
 
 field_token : (i : Instr) (s : Slot) (f : Field) (ts : List Token) →
@@ -199,11 +196,11 @@ handshake_reads i s x j k ts h m n v =
     (append_assoc (spelled_place x j ++ comma ∷ spelled_index k) close ts) ∙ both)
 
 -- a slot in which `[` makes a row of a name, and `+` leaves it alone
-record IsOpen (i : Instr) (s : Slot) : Type 0 where
+pub record IsOpen (i : Instr) (s : Slot) : Type 0 where
   row : (ts : List Token) → sort_at i s (Sign symbol.OpenBracket ∷ ts) ≡ sort.Row
   plus : (ts : List Token) → sort_at i s (Sign symbol.Plus ∷ ts) ≡ lone_sort i (length (Sign symbol.Plus ∷ ts))
 
-value_open : (i : Instr) → IsOpen i slot.Value
+pub value_open : (i : Instr) → IsOpen i slot.Value
 value_open i = record { row = λ ts. refl; plus = λ ts. refl }
 
 part_open : (i : Instr) → IsOpen i slot.Part
@@ -221,7 +218,7 @@ term_reads i s (term.Handshake x j k) ts n o e v w =
     handshake_reads i s x j k ts n.1.0 (first_of_both (index_uses j) (index_uses k) n.1.1)
     (second_of_both (index_uses j) (index_uses k) n.1.1) v
 
-expr_reads : (i : Instr) (s : Slot) (e : Expr) (ts : List Token) → Spoken (expr_uses e) → IsOpen i s →
+pub expr_reads : (i : Instr) (s : Slot) (e : Expr) (ts : List Token) → Spoken (expr_uses e) → IsOpen i s →
     sort_at i s ts ≡ sort.Scalar →
     opens_with symbol.OpenBracket ts ≡ false → NoView i ts → Fields i → Reads i s (spelled_expr e) (expr_uses e) ts
 expr_reads i s (expr.Term t) ts n o e b v w = term_reads i s t ts n o e v w
@@ -311,18 +308,18 @@ condition_reads i (Four j k l m o) ts n b v w =
     joined_reads i j k (spelled_condition (Three j l m o)) later ts (first_of_both (comparison_uses k) later n) v w
     (three_read i j l m o ts (second_of_both (comparison_uses k) later n) b v w)
 
-where_open : (k : Option Condition) → opens_with symbol.OpenBracket (spelled_where k) ≡ false
+pub where_open : (k : Option Condition) → opens_with symbol.OpenBracket (spelled_where k) ≡ false
 where_open None = refl
 where_open (Some k) = refl
 
-where_reads : (i : Instr) (k : Option Condition) → Spoken (where_uses k) → NoView i [] → Fields i →
+pub where_reads : (i : Instr) (k : Option Condition) → Spoken (where_uses k) → NoView i [] → Fields i →
     token_uses i slot.Value (spelled_where k) ≡ where_uses k
 where_reads i None n v w = refl
 where_reads i (Some k) n v w =
     whole i slot.Value (spelled_condition k) (condition_uses k) (condition_reads i k [] n refl v w)
 
 -- `[I,J]`
-pair_reads : (i : Instr) (s : Slot) (x y : Index) (ts : List Token) → Spoken (index_uses x ++ index_uses y) →
+pub pair_reads : (i : Instr) (s : Slot) (x y : Index) (ts : List Token) → Spoken (index_uses x ++ index_uses y) →
     NoView i ts →
     Reads i s (spelled_pair x y) (index_uses x ++ index_uses y) ts
 pair_reads i s x y ts n v =
@@ -345,20 +342,20 @@ long us t qs c vs = grind (arith, length-append us (t ∷ (qs ++ c ∷ vs)), len
 longer : (t : Token) (qs : List Token) (c d e : Token) → nat_lt 3 (length (t ∷ (qs ++ c ∷ d ∷ e ∷ []))) ≡ true
 longer t qs c d e = grind (arith, length-append qs (c ∷ d ∷ e ∷ []))
 
-some_behind : (us : List Token) (t : Token) (ts : List Token) → nat_eq (length (us ++ t ∷ ts)) 0 ≡ false
+pub some_behind : (us : List Token) (t : Token) (ts : List Token) → nat_eq (length (us ++ t ∷ ts)) 0 ≡ false
 some_behind us t ts = grind (arith, length-append us (t ∷ ts))
 
-bank_reads : (i : Instr) (s : Slot) (b : BitBank) (ts : List Token) →
+pub bank_reads : (i : Instr) (s : Slot) (b : BitBank) (ts : List Token) →
     token_uses i s (Identifier (bank_keyword b) ∷ ts) ≡ BankUse (bank_of b) ∷ token_uses i slot.Value ts
 bank_reads i s bits.Q ts = refl
 bank_reads i s bits.P ts = refl
 
-range_reads : (i : Instr) (g : Range) (ts : List Token) →
+pub range_reads : (i : Instr) (g : Range) (ts : List Token) →
     token_uses i slot.Value (spelled_range g ∷ ts) ≡ token_uses i slot.Value ts
 range_reads i range.Processes ts = refl
 range_reads i range.Words ts = refl
 
-range_open : (g : Range) (ts : List Token) → opens_with symbol.OpenBracket (spelled_range g ∷ ts) ≡ false
+pub range_open : (g : Range) (ts : List Token) → opens_with symbol.OpenBracket (spelled_range g ∷ ts) ≡ false
 range_open range.Processes ts = refl
 range_open range.Words ts = refl
 
@@ -451,7 +448,7 @@ tuple_far i (tuple.Bits d h t x) us =
     (spelled_expr d ++ comma ∷ Identifier h ∷ comma ∷ (spelled_expr t ++ comma ∷ Identifier x ∷ []))) shut []
 tuple_far i (tuple.Multi d e t) us = refl
 
-put_reads : (i : Index) (t : Tuple) → Spoken (index_uses i ++ tuple_uses t) →
+pub put_reads : (i : Index) (t : Tuple) → Spoken (index_uses i ++ tuple_uses t) →
     token_uses (Put i t) slot.Value (spelled_instr (Put i t)) ≡ index_uses i ++ tuple_uses t
 put_reads i t n =
     bracket_reads (Put i t) slot.Value i (Sign symbol.Equal ∷ spelled_tuple t)
@@ -459,148 +456,19 @@ put_reads i t n =
     ∙ ap (λ (us : List Use). index_uses i ++ us) (tuple_reads i t (second_of_both (index_uses i) (tuple_uses t) n))
 
 -- an expression to the end of a line, in an instruction that has no view at its end
-last_expr : (i : Instr) (e : Expr) → Spoken (expr_uses e) → NoView i [] → Fields i →
+pub last_expr : (i : Instr) (e : Expr) → Spoken (expr_uses e) → NoView i [] → Fields i →
     token_uses i slot.Value (spelled_expr e) ≡ expr_uses e
 last_expr i e n v w =
     whole i slot.Value (spelled_expr e) (expr_uses e)
     (expr_reads i slot.Value e [] n (value_open i) (lone_value i [] refl v) refl v w)
 
-last_bracket : (i : Instr) (x : Index) → Spoken (index_uses x) → NoView i [] →
+pub last_bracket : (i : Instr) (x : Index) → Spoken (index_uses x) → NoView i [] →
     token_uses i slot.Value (in_brackets (spelled_index x)) ≡ index_uses x
 last_bracket i x n v =
     whole i slot.Value (in_brackets (spelled_index x)) (index_uses x) (bracket_reads i slot.Value x [] n v)
 
 -- a condition and a target to the end of a line
-tested : (i : Instr) (k : Condition) (target : ℕ) → Spoken (condition_uses k) → NoView i (spelled_target target) →
+pub tested : (i : Instr) (k : Condition) (target : ℕ) → Spoken (condition_uses k) → NoView i (spelled_target target) →
     Fields i →
     token_uses i slot.Value (spelled_condition k ++ spelled_target target) ≡ condition_uses k
 tested i k target n v w = condition_reads i k (spelled_target target) n refl v w ∙ append-nil (condition_uses k)
-
-let_place_reads : (x : Name) (j : Index) (e : Expr) → Spoken (instr_uses (LetPlace x j e)) →
-    token_uses (LetPlace x j e) slot.Value (spelled_instr (LetPlace x j e)) ≡ instr_uses (LetPlace x j e)
-let_place_reads x j e n =
-    let p = LetPlace x j e in
-    place_reads p slot.Value x j (Sign symbol.Equal ∷ spelled_expr e) sort.Row n.0
-    (first_of_both (index_uses j) (expr_uses e) n.1) (λ us. refl) refl
-    ∙ ap (λ (us : List Use). let vs : List Use = Named sort.Row x ∷ (index_uses j ++ us) in vs)
-    (last_expr p e (second_of_both (index_uses j) (expr_uses e) n.1) (λ us. refl) (λ f. refl))
-
-get_reads : (x : Name) (j k : Index) → Spoken (instr_uses (Get x j k)) →
-    token_uses (Get x j k) slot.Value (spelled_instr (Get x j k)) ≡ instr_uses (Get x j k)
-get_reads x j k n =
-    let p = Get x j k in
-    place_reads p slot.Words x j
-    (Sign symbol.Equal ∷ Identifier (codes "r") ∷ in_brackets (spelled_index k)) sort.Words n.0
-    (first_of_both (index_uses j) (index_uses k) n.1) (λ us. refl) refl
-    ∙ ap (λ (us : List Use). let vs : List Use = Named sort.Words x ∷ (index_uses j ++ us) in vs)
-    (last_bracket p k (second_of_both (index_uses j) (index_uses k) n.1) (λ us. refl))
-
-bit_reads : (x : Name) (b : BitBank) (j k : Index) → Spoken (instr_uses (Bit x b j k)) →
-    token_uses (Bit x b j k) slot.Value (spelled_instr (Bit x b j k)) ≡ instr_uses (Bit x b j k)
-bit_reads x b j k n =
-    let p = Bit x b j k in
-    let pair = spelled_pair j k in let both = index_uses j ++ index_uses k in
-    name_as p slot.Value x (Sign symbol.Equal ∷ Identifier (bank_keyword b) ∷ pair) sort.Scalar n.0 refl
-    ∙ ap (λ (us : List Use). let vs : List Use = Named sort.Scalar x ∷ us in vs)
-    (bank_reads p slot.Value b pair ∙ ap (λ (us : List Use). let vs : List Use = BankUse (bank_of b) ∷ us in vs)
-    (whole p slot.Value pair both (pair_reads p slot.Value j k [] n.1.1 (λ us. refl))))
-
-put_bit_reads : (b : BitBank) (j k : Index) (e : Expr) → Spoken (instr_uses (PutBit b j k e)) →
-    token_uses (PutBit b j k e) slot.Value (spelled_instr (PutBit b j k e)) ≡ instr_uses (PutBit b j k e)
-put_bit_reads b j k e n =
-    let p = PutBit b j k e in
-    let uj = index_uses j in let uk = index_uses k in let ue = expr_uses e in
-    let later = second_of_both uj (uk ++ ue) n.1 in
-    let both = all_both SpeaksName uj uk (first_of_both uj (uk ++ ue) n.1) (first_of_both uk ue later) in
-    bank_reads p slot.Value b (spelled_pair j k ++ Sign symbol.Equal ∷ spelled_expr e)
-    ∙ ap (λ (us : List Use). let vs : List Use = BankUse (bank_of b) ∷ us in vs)
-    (pair_reads p slot.Value j k (Sign symbol.Equal ∷ spelled_expr e) both (λ us. refl)
-    ∙ ap (λ (us : List Use). (uj ++ uk) ++ us) (last_expr p e (second_of_both uk ue later) (λ us. refl) (λ f. refl))
-    ∙ append_assoc uj uk ue)
-
-put_view_reads : (j : Index) (x : Name) → Spoken (instr_uses (PutView j x)) →
-    token_uses (PutView j x) slot.Value (spelled_instr (PutView j x)) ≡ instr_uses (PutView j x)
-put_view_reads j x n =
-    let p = PutView j x in
-    let ux : List Use = view x ∷ [] in let last : List Token = Identifier x ∷ [] in
-    ap (λ (us : List Use). let vs : List Use = BankUse bank.V ∷ us in vs)
-    (bracket_reads p slot.Value j (Sign symbol.Equal ∷ last) (first_of_both (index_uses j) ux n.1)
-    (λ us. some_behind us (Sign symbol.Equal) last)
-    ∙ ap (λ (us : List Use). index_uses j ++ us)
-    (name_as p slot.Value x [] sort.View (second_of_both (index_uses j) ux n.1).0 refl))
-
-each_reads : (g : Range) (x : Name) (e : Expr) (k : Option Condition) → Spoken (instr_uses (Each g x e k)) →
-    token_uses (Each g x e k) slot.Value (spelled_instr (Each g x e k)) ≡ instr_uses (Each g x e k)
-each_reads g x e k n =
-    let p = Each g x e k in
-    let ue = expr_uses e in let uk = where_uses k in let rest = spelled_expr e ++ spelled_where k in
-    let place = Sign symbol.OpenBracket ∷ Sign symbol.At ∷ Sign symbol.CloseBracket ∷ Sign symbol.Equal ∷ rest in
-    range_reads p g (Sign symbol.Colon ∷ Identifier x ∷ place) ∙ name_as p slot.Value x place sort.Row n.0 refl
-    ∙ ap (λ (us : List Use). let vs : List Use = Named sort.Row x ∷ us in vs)
-    (expr_reads p slot.Value e (spelled_where k) (first_of_both ue uk n.1) (value_open p)
-    (lone_value p (spelled_where k) (where_open k) (λ us. refl)) (where_open k) (λ us. refl) (λ f. refl)
-    ∙ ap (λ (us : List Use). ue ++ us) (where_reads p k (second_of_both ue uk n.1) (λ us. refl) (λ f. refl)))
-
-first_reads : (x : Name) (g : Range) (k : Condition) (target : ℕ) → Spoken (instr_uses (First x g k target)) →
-    token_uses (First x g k target) slot.Value (spelled_instr (First x g k target)) ≡ instr_uses (First x g k target)
-first_reads x g k target n =
-    let p = First x g k target in
-    let rest = Sign symbol.Colon ∷ (spelled_condition k ++ spelled_target target) in
-    name_as p slot.Value x (spelled_range g ∷ rest) sort.Scalar n.0
-    (lone_value p (spelled_range g ∷ rest) (range_open g rest) (λ us. refl))
-    ∙ ap (λ (us : List Use). let vs : List Use = Named sort.Scalar x ∷ us in vs)
-    (range_reads p g rest ∙ tested p k target n.1 (λ us. refl) (λ f. refl))
-
-next_reads : (x : Name) (g : Range) (target : ℕ) → Spoken (instr_uses (Next x g target)) →
-    token_uses (Next x g target) slot.Value (spelled_instr (Next x g target)) ≡ instr_uses (Next x g target)
-next_reads x g target n =
-    let p = Next x g target in
-    let rest = spelled_target target in
-    name_as p slot.Value x (spelled_range g ∷ rest) sort.Scalar n.0
-    (lone_value p (spelled_range g ∷ rest) (range_open g rest) (λ us. refl))
-    ∙ ap (λ (us : List Use). let vs : List Use = Named sort.Scalar x ∷ us in vs) (range_reads p g rest)
-
-view_of_reads : (x y : Name) (j : Index) → Spoken (instr_uses (ViewOf x y j)) →
-    token_uses (ViewOf x y j) slot.Value (spelled_instr (ViewOf x y j)) ≡ instr_uses (ViewOf x y j)
-view_of_reads x y j n =
-    let p = ViewOf x y j in
-    let inside = spelled_place y j ++ close in
-    name_as p slot.View x
-    (Sign symbol.Equal ∷ Identifier (codes "view") ∷ Sign symbol.OpenParenthesis ∷ inside) sort.View n.0 refl
-    ∙ ap (λ (us : List Use). let vs : List Use = view x ∷ ViewUse ∷ us in vs)
-    (whole p slot.Words inside (Named sort.Words y ∷ index_uses j) (inside_reads p y j [] n.1.1.0 n.1.1.1 (λ us. refl)))
-
--- the tokens of an instruction speak of what it speaks of
-pub instr_reads : (i : Instr) → Spoken (instr_uses i) → token_uses i slot.Value (spelled_instr i) ≡ instr_uses i
-instr_reads (Let x e) n =
-    name_as (Let x e) slot.Value x (Sign symbol.Equal ∷ spelled_expr e) sort.Scalar n.0 refl
-    ∙ ap (λ (us : List Use). let vs : List Use = Named sort.Scalar x ∷ us in vs)
-    (last_expr (Let x e) e n.1 (λ us. refl) (λ f. refl))
-instr_reads (LetPlace x j e) n = let_place_reads x j e n
-instr_reads (Get x j k) n = get_reads x j k n
-instr_reads (Bit x b j k) n = bit_reads x b j k n
-instr_reads (Look x j) n =
-    name_as (Look x j) slot.View x
-    (Sign symbol.Equal ∷ Identifier (codes "v") ∷ in_brackets (spelled_index j)) sort.View n.0 refl
-    ∙ ap (λ (us : List Use). let vs : List Use = view x ∷ BankUse bank.V ∷ us in vs)
-    (last_bracket (Look x j) j n.1.1 (λ us. refl))
-instr_reads (Put j t) n = put_reads j t n
-instr_reads (PutBit b j k e) n = put_bit_reads b j k e n
-instr_reads (PutView j x) n = put_view_reads j x n
-instr_reads (ViewData x y) n =
-    name_as (ViewData x y) slot.View x
-    (Sign symbol.Equal ∷ Identifier (codes "data") ∷ in_parentheses (Identifier y ∷ [])) sort.View n.0 refl
-    ∙ ap (λ (us : List Use). let vs : List Use = view x ∷ us in vs)
-    (name_as (ViewData x y) slot.Words y close sort.Words n.1.0 refl)
-instr_reads (ViewOf x y j) n = view_of_reads x y j n
-instr_reads (Each g x e k) n = each_reads g x e k n
-instr_reads (First x g k target) n = first_reads x g k target n
-instr_reads (Next x g target) n = next_reads x g target n
-instr_reads (If k target) n = tested (If k target) k target n (λ us. refl) (λ f. refl)
-instr_reads (IfAll g k target) n =
-    range_reads (IfAll g k target) g (Sign symbol.Colon ∷ (spelled_condition k ++ spelled_target target))
-    ∙ tested (IfAll g k target) k target n (λ us. refl) (λ f. refl)
-instr_reads (Goto target) n = refl
-instr_reads (Call target) n = refl
-instr_reads (Return x) n = name_as (Return x) slot.View x [] sort.View n.0 refl
-instr_reads Finish n = refl

@@ -1,6 +1,6 @@
 -- `NotLostWithForm`, `NoneGoesOn`: a line that has a form of its sort is not lost, and no line with a form goes on
 -- where one is lost. Nothing is said of the numbered lines of a listing.
-use Rattle.std.specs.Prelude.{◌≡◌, ℕ, Bool, true, false, List, ◌∷◌, ◌++◌, length, Option, Some, None, codes, is_some}
+use Rattle.std.specs.Prelude.{◌≡◌, Bool, true, false, List, ◌∷◌, ◌++◌, length, Some, None, codes, is_some}
 use Rattle.snap_semantics.specs.HeaderForms.{kind_form, names_form, entry_form}
 use Rattle.snap_semantics.specs.ScheduleForms.{shape_form, item_form}
 use Rattle.snap_semantics.specs.Token.{Token}

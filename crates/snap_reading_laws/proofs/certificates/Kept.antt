@@ -1,5 +1,5 @@
 -- Runs that keep the promises of their listing are certified.
-use Rattle.std.specs.Prelude.{◌≡◌, ℕ, List, None, refl}
+use Rattle.std.specs.Prelude.{◌≡◌, None, refl}
 use Rattle.snap_words.specs.Shape.{Counts}
 use Rattle.snap_words.specs.declared.kind.KindTag.{KindTag}
 use Rattle.snap_words.specs.declared.kind.KindTag.TheVariants as kind

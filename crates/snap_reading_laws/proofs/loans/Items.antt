@@ -28,7 +28,7 @@ use Rattle.snap_acts.specs.Trace.{act_of, context_of, intent_in, intent_of, inte
 use Rattle.snap_acts.specs.Trace.{steps_of, trace_of}
 use Rattle.snap_acts.specs.declared.act.Act.{Act}
 use Rattle.snap_acts.specs.declared.act.Act.TheVariants as act
-use Rattle.snap_reading_laws.proofs.loans.Lines.{Leaves, leaves}
+use Rattle.snap_reading_laws.proofs.Lines.{Leaves, leaves}
 use Rattle.snap_reading_laws.proofs.loans.Turns.{Turn, done_turn}
 use Rattle.snap_reading_laws.proofs.loans.Went.{Went, kept}
 

@@ -1,175 +1,40 @@
 -- `Turn`: what an item does to the link of its process. The scan of an update begins at a line `call N`, which leaves a
 -- link, and ends at a line `return S`; in between the link stays, or the process stops for good.
-use Rattle.std.proofs.Common.{◌≡◌, ◌⊎◌, inl, inr, ℕ, ◌-◌, ◌<◌, Bool, true, false, nat_lt, List, [], Option, Some, None}
-use Rattle.std.proofs.Common.{Result, Ok, Err, if◌then◌else◌, length, slice_set, refl, sym, subst, ap, ◌∙◌, arith}
+use Rattle.std.proofs.Common.{◌≡◌, ℕ, false, Option, Some, ◌∙◌, ◌⊎◌, true, List, None, Err, inl, inr, ◌-◌, ◌<◌, Result}
+use Rattle.std.proofs.Common.{Ok, length, slice_set, refl, sym, subst, ap, arith, []}
 use Rattle.std.proofs.lemmas.List.{get_or-set_same}
-use Rattle.snap_words.specs.Shape.{Counts, IsOneOf, places}
-use Rattle.snap_words.specs.declared.address.Bank.TheVariants as bank
-use Rattle.snap_semantics.specs.Answers.{◌>>=◌}
-use Rattle.snap_semantics.specs.Source.{Name, Source, following, instr_at}
-use Rattle.snap_semantics.specs.State.{Locals, Memory, Process, State, nobody, process_at, value_at}
-use Rattle.snap_semantics.specs.Table.{Effect, Goes, Answers, Finishes, all_true, bank_of, bit_value, call, call_goes}
-use Rattle.snap_semantics.specs.Table.{call_skip, called, conditions, crash, done, each_value, effect, effect_at}
-use Rattle.snap_semantics.specs.Table.{finish_goes, first_goes, first_true, leave, on, owned, places_to, range_end}
-use Rattle.snap_semantics.specs.Table.{return_goes, step, tuple_word, who, with_bits}
-use Rattle.snap_semantics.specs.Value.{Context, at_place, condition_holds, each_of, expr_value, index_value, place_in}
+use Rattle.snap_words.specs.Shape.{Counts, IsOneOf}
+use Rattle.snap_semantics.specs.declared.process.Status.{Status}
+use Rattle.snap_semantics.specs.declared.process.Status.TheVariants.{Trapped, Crashed, Idle, Busy}
 use Rattle.snap_semantics.specs.declared.instr.Instr.{Instr}
-use Rattle.snap_semantics.specs.declared.instr.Instr.TheVariants.{Let, LetPlace, Get, Bit, Look, Put, PutBit, PutView}
-use Rattle.snap_semantics.specs.declared.instr.Instr.TheVariants.{ViewData, ViewOf, Each, First, Next, If, IfAll}
-use Rattle.snap_semantics.specs.declared.instr.Instr.TheVariants.{Goto, Call, Return, Finish}
-use Rattle.snap_semantics.specs.declared.process.Activity.{Activity}
-use Rattle.snap_semantics.specs.declared.process.Cause.{Cause}
-use Rattle.snap_semantics.specs.declared.process.Cause.TheVariants as cause
 use Rattle.snap_semantics.specs.declared.process.Item.{Item}
 use Rattle.snap_semantics.specs.declared.process.Item.TheVariants as item
-use Rattle.snap_semantics.specs.declared.process.Op.{Op}
-use Rattle.snap_semantics.specs.declared.process.Op.TheVariants as op
 use Rattle.snap_semantics.specs.declared.process.Outcome.{Outcome}
 use Rattle.snap_semantics.specs.declared.process.Outcome.TheVariants as outcome
+use Rattle.snap_semantics.specs.declared.instr.Instr.TheVariants.{Return}
+use Rattle.snap_semantics.specs.declared.process.Cause.{Cause}
+use Rattle.snap_semantics.specs.declared.process.Op.{Op}
+use Rattle.snap_semantics.specs.declared.process.Activity.{Activity}
+use Rattle.snap_semantics.specs.declared.process.Cause.TheVariants as cause
 use Rattle.snap_semantics.specs.declared.process.Reason.{Reason}
-use Rattle.snap_semantics.specs.declared.process.Status.{Status}
-use Rattle.snap_semantics.specs.declared.process.Status.TheVariants.{Idle, Busy, Trapped, Crashed}
-use Rattle.snap_runs.specs.Scan.{IsCallLine, line_in, link_in}
+use Rattle.snap_semantics.specs.Source.{Source, Name, instr_at}
+use Rattle.snap_semantics.specs.State.{Locals, Memory, Process, State, nobody, process_at, value_at}
+use Rattle.snap_semantics.specs.Table.{return_goes, Effect, Goes, Answers, Finishes, call, call_skip, called, crash}
+use Rattle.snap_semantics.specs.Table.{effect, effect_at, leave, step, done, who}
+use Rattle.snap_semantics.specs.Value.{Context}
 use Rattle.snap_acts.specs.Searches.{is_leave}
-use Rattle.snap_acts.specs.Trace.{act_of, context_of, intent_in, intent_of}
-use Rattle.snap_acts.specs.Trace.{intent_of_instr, intent_of_line, returned, step_of}
-use Rattle.snap_acts.specs.Trace.{stepped}
 use Rattle.snap_acts.specs.declared.act.Act.{Act}
 use Rattle.snap_acts.specs.declared.act.Act.TheVariants as act
+use Rattle.snap_reading_laws.proofs.Lines.{IsLinked, Links, links}
+use Rattle.snap_runs.specs.Scan.{IsCallLine, line_in, link_in}
+use Rattle.snap_acts.specs.Trace.{act_of, context_of, intent_in, intent_of, intent_of_instr, intent_of_line, returned}
+use Rattle.snap_acts.specs.Trace.{stepped, step_of}
 
 -- a process that goes on nowhere
 abbrev pub IsStuck : Status → Type 0
 IsStuck (Trapped c a) = Unit {0}
 IsStuck (Crashed was) = Unit {0}
 IsStuck _ = ⊥
-
--- the links before and after an instruction
-abbrev pub IsLinked : Instr → Act → Option ℕ → Option ℕ → Type 0
-IsLinked i act.Enter b a = IsCallLine (Some i) × (b ≡ None) × (k : ℕ) × (a ≡ Some k)
-IsLinked i (act.Leave x) b a = (i ≡ Return x) × (k : ℕ) × (b ≡ Some k)
-IsLinked i _ b a = a ≡ b
-
-module _ (i : Instr) (t : Act) (b : Option ℕ) where
-  abbrev pub Links : Result Effect Cause → Type 0
-  Links (Ok (Goes m l link line)) = IsLinked i t b link
-  Links (Ok (Answers v)) = b ≡ None
-  Links (Ok Finishes) = b ≡ None
-  Links (Err c) = Unit {0}
-
-  bound : {A : Type 0} (r : Result A Cause) (f : A → Result Effect Cause) → ((x : A) → Links (f x)) → Links (r >>= f)
-  bound (Ok x) f h = h x
-  bound (Err c) f h = tt
-
-  onward : (o : Option ℕ) (m : Memory) (l : Locals) (link : Option ℕ) → IsLinked i t b link →
-      Links (on o (Goes m l link))
-  onward None m l link h = tt
-  onward (Some line) m l link h = h
-
-  choice : (c : Bool) (x y : Result Effect Cause) → Links x → Links y → Links (if c then x else y)
-  choice true x y h k = h
-  choice false x y h k = k
-
-first_links : (i : Instr) (s : Source) (a : Activity) (m : Memory) (l : Locals) (x : Name) (target : ℕ) (o : Option ℕ) →
-    Links i act.Other a.link (first_goes s a m l x target o)
-first_links i s a m l x target None = onward i act.Other a.link (following s.lines a.line) m l a.link refl
-first_links i s a m l x target (Some p) = refl
-
-call_on : (i : Instr) (o : Option ℕ) (m : Memory) (l : Locals) (target : ℕ) → IsCallLine (Some i) →
-    Links i act.Enter None (on o (λ k. Goes m l (Some k) target))
-call_on i None m l target is = tt
-call_on i (Some line) m l target is = (is, refl, line, refl)
-
-call_links : (i : Instr) (s : Source) (a : Activity) (m : Memory) (l : Locals) (target : ℕ) (link : Option ℕ) →
-    IsCallLine (Some i) → Links i act.Enter link (call_goes s a m l target link)
-call_links i s a m l target (Some line) is = tt
-call_links i s a m l target None is = call_on i (following s.lines a.line) m l target is
-
-return_links : (x : Name) (m : Memory) (l : Locals) (o : Op) (link : Option ℕ) →
-    Links (Return x) (act.Leave x) link (return_goes m l (value_at x l.views []) o link)
-return_links x m l o (Some line) = (refl, line, refl)
-return_links x m l op.Scan None = refl
-return_links x m l (op.Update word value) None = tt
-
-finish_links : (i : Instr) (o : Op) (link : Option ℕ) → Links i act.Other link (finish_goes o link)
-finish_links i (op.Update word value) None = refl
-finish_links i (op.Update word value) (Some line) = tt
-finish_links i op.Scan link = tt
-
--- each form of a line
-links : (s : Source) (S : State) (c : Context) (m : Memory) (a : Activity) (i : Instr) →
-    Links i (stepped (intent_of_line c i) S c.me) a.link (effect s c m a i)
-links s S c m a (Let x e) =
-    bound (Let x e) act.Other a.link (expr_value c e) _
-    (λ v. onward (Let x e) act.Other a.link (following s.lines a.line) m _ a.link refl)
-links s S c m a (LetPlace x i e) =
-    let j = LetPlace x i e in
-    bound j act.Other a.link (place_in (places c.shape) (index_value c i)) _ (λ k.
-    bound j act.Other a.link (expr_value c e) _
-    (λ v. onward j act.Other a.link (following s.lines a.line) m _ a.link refl))
-links s S c m a (Get x i k) =
-    let j = Get x i k in
-    let t : Act = stepped (intent_of_line c j) S c.me in
-    bound j t a.link (place_in (places c.shape) (index_value c i)) _ (λ p.
-    bound j t a.link (place_in c.shape.w (index_value c k)) _
-    (λ r. onward j t a.link (following s.lines a.line) m _ a.link refl))
-links s S c m a (Bit x b i k) =
-    let j = Bit x b i k in
-    bound j act.Other a.link (place_in c.shape.n (index_value c i)) _ (λ p.
-    bound j act.Other a.link (place_in c.shape.n (index_value c k)) _
-    (λ r. onward j act.Other a.link (following s.lines a.line) m _ a.link refl))
-links s S c m a (Look x i) =
-    let j = Look x i in
-    let t : Act = stepped (intent_of_line c j) S c.me in
-    bound j t a.link (place_in c.shape.n (index_value c i)) _
-    (λ p. onward j t a.link (following s.lines a.line) m _ a.link refl)
-links s S c m a (Put i u) =
-    let j = Put i u in
-    let t : Act = stepped (intent_of_line c j) S c.me in
-    bound j t a.link (place_in c.shape.w (index_value c i)) _ (λ r. bound j t a.link (tuple_word c u) _ (λ parts.
-    bound j t a.link (with_bits parts) _ (λ word. bound j t a.link (owned s.kind c bank.R (index_value c i) word) _
-    (λ x. onward j t a.link (following s.lines a.line) _ c.locals a.link refl))))
-links s S c m a (PutBit b i k e) =
-    let j = PutBit b i k e in
-    bound j act.Other a.link (place_in c.shape.n (index_value c i)) _ (λ p.
-    bound j act.Other a.link (place_in c.shape.n (index_value c k)) _ (λ q.
-    bound j act.Other a.link (expr_value c e) _ (λ v. bound j act.Other a.link (bit_value v) _ (λ bit.
-    bound j act.Other a.link (owned s.kind c (bank_of b) (index_value c i) bit) _
-    (λ x. onward j act.Other a.link (following s.lines a.line) _ c.locals a.link refl)))))
-links s S c m a (PutView i x) =
-    let j = PutView i x in
-    let t : Act = stepped (intent_of_line c j) S c.me in
-    bound j t a.link (place_in c.shape.n (index_value c i)) _ (λ p.
-    bound j t a.link (owned s.kind c bank.V (index_value c i) (value_at x c.locals.views [])) _
-    (λ v. onward j t a.link (following s.lines a.line) _ c.locals a.link refl))
-links s S c m a (ViewData x y) =
-    onward (ViewData x y) (act.Collect x) a.link (following s.lines a.line) m _ a.link refl
-links s S c m a (ViewOf x y i) =
-    let j = ViewOf x y i in
-    let t : Act = stepped (intent_of_line c j) S c.me in
-    bound j t a.link (place_in (places c.shape) (index_value c i)) _
-    (λ p. onward j t a.link (following s.lines a.line) m _ a.link refl)
-links s S c m a (Each g x e k) =
-    let j = Each g x e k in
-    bound j act.Other a.link (each_of (λ p. each_value (at_place c p) x e k) (places_to (range_end c.shape g))) _
-    (λ vs. onward j act.Other a.link (following s.lines a.line) m _ a.link refl)
-links s S c m a (First x g k target) =
-    bound (First x g k target) act.Other a.link (conditions c (range_end c.shape g) k) _
-    (λ bs. first_links (First x g k target) s a m c.locals x target (first_true 1 bs))
-links s S c m a (Next x g target) =
-    choice (Next x g target) act.Other a.link (nat_lt (value_at x c.locals.scalars 0) (range_end c.shape g)) _ _ refl
-    (onward (Next x g target) act.Other a.link (following s.lines a.line) m _ a.link refl)
-links s S c m a (If k target) =
-    bound (If k target) act.Other a.link (condition_holds c k) _ (λ b. choice (If k target) act.Other a.link b _ _ refl
-    (onward (If k target) act.Other a.link (following s.lines a.line) m c.locals a.link refl))
-links s S c m a (IfAll g k target) =
-    let j = IfAll g k target in
-    let t : Act = stepped (intent_of_line c j) S c.me in
-    bound j t a.link (conditions c (range_end c.shape g) k) _ (λ bs. choice j t a.link (all_true bs) _ _ refl
-    (onward j t a.link (following s.lines a.line) m c.locals a.link refl))
-links s S c m a (Goto target) = refl
-links s S c m a (Call target) = call_links (Call target) s a m c.locals target a.link tt
-links s S c m a (Return x) = return_links x m c.locals a.op a.link
-links s S c m a Finish = finish_links Finish a.op a.link
 
 -- the link of a process stays where it does not leave
 stays_of : (i : Instr) (k : ℕ) (b a : Option ℕ) (t : Act) → IsLinked i t b a → is_leave t ≡ false → b ≡ Some k →

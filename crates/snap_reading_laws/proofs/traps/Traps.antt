@@ -22,7 +22,7 @@ use Rattle.snap_why.specs.declared.trouble.Trouble.{Trouble}
 use Rattle.snap_why.specs.Trap.{trouble_of}
 use Rattle.snap_reading_laws.specs.traps.Operands.{IsFirstFault, operands_at, operands_of}
 use Rattle.snap_reading_laws.specs.traps.Told.{IsCauseOf, IsTold, effect_there, operands_there, standing, trouble_there}
-use Rattle.snap_reading_laws.proofs.traps.Effects.{line_told}
+use Rattle.snap_reading_laws.proofs.Lines.{line_told}
 use Rattle.snap_reading_laws.proofs.traps.FirstFaults.{is_first, line_first}
 use Rattle.snap_reading_laws.proofs.traps.OneSort.{one_sort}
 use Rattle.snap_reading_laws.proofs.traps.Values.{HaveOneSort}

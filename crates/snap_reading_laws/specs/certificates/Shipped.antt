@@ -1,5 +1,5 @@
 -- The listings that come with the program have only certified runs.
-use Rattle.std.specs.Prelude.{◌≡◌, ℕ, List, true, IsOk}
+use Rattle.std.specs.Prelude.{◌≡◌, List, true, IsOk}
 use Rattle.snap_words.specs.Kind.{fits}
 use Rattle.snap_words.specs.Shape.{Counts, IsShape}
 use Rattle.snap_words.specs.declared.kind.KindTag.{KindTag}

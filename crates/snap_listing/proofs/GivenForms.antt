@@ -1,52 +1,68 @@
--- The rule for numbered lines reads each spelled line again, where its names are names.
-use Rattle.std.proofs.Common.{◌≡◌, ℕ, ◌++◌, sym, ◌∙◌, ap, append_assoc, Bool, true, false}
-use Rattle.std.proofs.Common.{List, [], ◌∷◌, Option, Some, None, codes, refl}
+-- Of a given line, form by form: the rule for numbered lines reads its spelling again, where its names are names; its
+-- tokens can stand in a text; and its checks, part by part, are those of its uses.
+use Rattle.std.proofs.Common.{◌≡◌, List, ◌∷◌, Some, refl, ℕ, sym, ◌∙◌, ap, Bool, false, None, ◌++◌, codes, append_assoc}
+use Rattle.std.proofs.Common.{Option, true, arith, []}
 use Rattle.std.proofs.lemmas.List.{append-nil}
 use Rattle.std.specs.List.{AllByRecursion}
 use Rattle.snap_words.specs.declared.kind.Field.TheVariants as field
 use Rattle.snap_words.specs.declared.kind.KindTag.{KindTag}
 use Rattle.snap_words.specs.declared.kind.KindTag.TheVariants as kind
-use Rattle.snap_semantics.specs.declared.instr.BitBank.{BitBank}
-use Rattle.snap_semantics.specs.declared.instr.BitBank.TheVariants as bits
-use Rattle.snap_semantics.specs.declared.instr.Condition.{Condition}
-use Rattle.snap_semantics.specs.declared.instr.Expr.{Expr}
-use Rattle.snap_semantics.specs.declared.instr.Expr.TheVariants as expr
-use Rattle.snap_semantics.specs.declared.instr.Index.{Index}
-use Rattle.snap_semantics.specs.declared.instr.Index.TheVariants as index
-use Rattle.snap_semantics.specs.declared.instr.Instr.{Instr}
-use Rattle.snap_semantics.specs.declared.instr.Instr.TheVariants as instr
-use Rattle.snap_semantics.specs.declared.instr.Line.{Line}
+use Rattle.snap_words.specs.declared.address.Bank.TheVariants as bank
 use Rattle.snap_semantics.specs.declared.instr.Range.{Range}
 use Rattle.snap_semantics.specs.declared.instr.Range.TheVariants as range
+use Rattle.snap_semantics.specs.declared.instr.Expr.{Expr}
+use Rattle.snap_semantics.specs.declared.instr.Index.{Index}
+use Rattle.snap_semantics.specs.declared.instr.Instr.TheVariants as instr
+use Rattle.snap_semantics.specs.declared.text.Symbol.TheVariants as symbol
+use Rattle.snap_semantics.specs.declared.instr.BitBank.{BitBank}
+use Rattle.snap_semantics.specs.declared.instr.BitBank.TheVariants as bits
+use Rattle.snap_semantics.specs.declared.instr.Tuple.TheVariants as tuple
+use Rattle.snap_semantics.specs.declared.instr.Index.TheVariants as index
 use Rattle.snap_semantics.specs.declared.instr.Term.{Term}
 use Rattle.snap_semantics.specs.declared.instr.Term.TheVariants as term
+use Rattle.snap_semantics.specs.declared.instr.Expr.TheVariants as expr
 use Rattle.snap_semantics.specs.declared.instr.Tuple.{Tuple}
-use Rattle.snap_semantics.specs.declared.instr.Tuple.TheVariants as tuple
-use Rattle.snap_semantics.specs.declared.text.Symbol.TheVariants as symbol
-use Rattle.snap_semantics.specs.Rules.{◌>>=◌, identifier_at, symbol_at}
-use Rattle.snap_semantics.specs.IsListing.{IsName, HasIndex, HasExpr, HasCondition, HasWhere, HasTuple, HasForm}
-use Rattle.snap_semantics.specs.ListingForms.{name_at, number_index, place_index, identifier_index, index_at}
-use Rattle.snap_semantics.specs.ListingForms.{place_at, named_place_at, arg_term, row_term, field_term}
-use Rattle.snap_semantics.specs.ListingForms.{handshake_term, index_term, term_at, expr_at, comparison_at}
-use Rattle.snap_semantics.specs.ListingForms.{condition_at, where_at, range_at, target_at, let_form, let_place_form}
-use Rattle.snap_semantics.specs.ListingForms.{get_form, pair_at, bit_bank_at, bit_form, look_form, seq_tuple_at}
-use Rattle.snap_semantics.specs.ListingForms.{bits_tuple_at, multi_tuple_at, triple_at, tuple_at, put_form}
-use Rattle.snap_semantics.specs.ListingForms.{put_bit_form, put_view_form, view_data_form, view_of_form, each_form}
-use Rattle.snap_semantics.specs.ListingForms.{first_form, next_form, if_form, if_all_form, goto_form, call_form}
-use Rattle.snap_semantics.specs.ListingForms.{return_form, finish_form, form_of_keyword, is_line_number, line_form}
-use Rattle.snap_semantics.specs.RightUses.{IsRight, HasRightUses}
+use Rattle.snap_semantics.specs.declared.instr.Condition.{Condition}
+use Rattle.snap_semantics.specs.declared.instr.Instr.{Instr}
+use Rattle.snap_semantics.specs.declared.instr.Line.{Line}
+use Rattle.snap_semantics.specs.declared.instr.Instr.TheVariants.{Let, LetPlace, Get, Bit, Look, Put, PutBit, PutView}
+use Rattle.snap_semantics.specs.declared.instr.Instr.TheVariants.{ViewData, ViewOf, Each, First, Next, If, IfAll, Goto}
+use Rattle.snap_semantics.specs.declared.instr.Instr.TheVariants.{Call, Return, Finish}
+use Rattle.snap_semantics.specs.declared.text.Sort.TheVariants as sort
+use Rattle.snap_semantics.specs.ListingForms.{range_at, target_at, expr_at, place_at, name_at, let_form, named_place_at}
+use Rattle.snap_semantics.specs.ListingForms.{let_place_form, get_form, bit_bank_at, index_at, pair_at, bit_form}
+use Rattle.snap_semantics.specs.ListingForms.{look_form, seq_tuple_at, bits_tuple_at, multi_tuple_at, triple_at}
+use Rattle.snap_semantics.specs.ListingForms.{tuple_at, put_form, put_bit_form, put_view_form, view_data_form}
+use Rattle.snap_semantics.specs.ListingForms.{view_of_form, condition_at, where_at, each_form, first_form, next_form}
+use Rattle.snap_semantics.specs.ListingForms.{if_form, number_index, place_index, identifier_index, arg_term, row_term}
+use Rattle.snap_semantics.specs.ListingForms.{field_term, handshake_term, index_term, term_at, comparison_at}
+use Rattle.snap_semantics.specs.ListingForms.{if_all_form, return_form, goto_form, call_form, finish_form}
+use Rattle.snap_semantics.specs.ListingForms.{form_of_keyword, is_line_number, line_form}
+use Rattle.snap_semantics.specs.Spelling.{spelled_range, spelled_target, spelled_expr, in_brackets, spelled_index}
+use Rattle.snap_semantics.specs.Spelling.{spelled_place, bank_keyword, spelled_pair, spelled_tuple, spelled_term}
+use Rattle.snap_semantics.specs.Spelling.{in_parentheses, spelled_condition, spelled_where, spelled_instr, spelled_line}
+use Rattle.snap_semantics.specs.Token.{Token, Identifier, Sign, Number}
+use Rattle.snap_semantics.specs.IsListing.{HasExpr, HasIndex, IsName, HasTuple, HasCondition, HasWhere, HasForm}
+use Rattle.snap_semantics.specs.Uses.{expr_uses, index_uses, term_uses, same_kind, Use, row, view, tuple_uses}
+use Rattle.snap_semantics.specs.Uses.{condition_uses, where_uses, instr_uses, BankUse, ViewUse, scalar, words}
+use Rattle.snap_semantics.specs.Uses.{checked_uses}
 use Rattle.snap_semantics.specs.Source.{Name, Source}
-use Rattle.snap_semantics.specs.Spelling.{in_parentheses, in_brackets, spelled_index, spelled_place, spelled_term}
-use Rattle.snap_semantics.specs.Spelling.{spelled_expr, spelled_condition, spelled_where, spelled_range}
-use Rattle.snap_semantics.specs.Spelling.{spelled_target, spelled_tuple, bank_keyword}
-use Rattle.snap_semantics.specs.Spelling.{spelled_pair, spelled_instr, spelled_line}
-use Rattle.snap_semantics.specs.Token.{Token, Identifier, Number, Sign}
-use Rattle.snap_semantics.specs.Uses.{Use, row, view, same_kind, index_uses, term_uses, expr_uses, condition_uses}
-use Rattle.snap_semantics.specs.Uses.{where_uses, tuple_uses, instr_uses}
-use Rattle.snap_listing.proofs.Alls.{all_rest}
-use Rattle.snap_listing.proofs.AgainTerms.{Names, names_first, names_rest, then_is, then_none, or_first}
-use Rattle.snap_listing.proofs.AgainTerms.{or_second, if_yes, name_read, index_again, bracket_again}
-use Rattle.snap_listing.proofs.AgainTerms.{place_again, pair_tokens, expr_again, condition_again}
+use Rattle.snap_semantics.specs.Rules.{symbol_at, ◌>>=◌, identifier_at}
+use Rattle.snap_semantics.specs.RightUses.{IsRight, HasRightUses}
+use Rattle.snap_semantics.specs.Listing.{instr_targets}
+use Rattle.snap_semantics.specs.Table.{bank_of}
+use Rattle.snap_listing.specs.Checks.{checked_instr}
+use Rattle.snap_listing.proofs.AgainTerms.{Names, expr_again, bracket_again, then_is, name_read, place_again}
+use Rattle.snap_listing.proofs.AgainTerms.{index_again, pair_tokens, names_first, then_none, or_first, names_rest}
+use Rattle.snap_listing.proofs.AgainTerms.{or_second, condition_again, if_yes}
+use Rattle.snap_listing.proofs.Alls.{all_rest, all_both}
+use Rattle.snap_listing.proofs.HasTerms.{Sounds}
+use Rattle.snap_listing.proofs.SoundTerms.{equal, between_sound, parentheses_sound, bracket_sound, place_sound}
+use Rattle.snap_listing.proofs.SoundTerms.{expr_sound, where_sound, range_sound, bank_sound, tuple_sound, pair_sound}
+use Rattle.snap_listing.proofs.SoundTerms.{IsLong, target_sound, condition_target_sound}
+use Rattle.snap_listing.proofs.Checks.{both, first_then, alone, index_checks, indexes_checks, place_checks, expr_checks}
+use Rattle.snap_listing.proofs.Checks.{condition_checks, where_checks, tuple_checks, put_bit_checks}
+use Rattle.snap_text.specs.Tokens.{IsSound}
 
 range_again : (g : Range) (rest : List Token) → range_at (spelled_range g ∷ rest) ≡ Some (g, rest)
 unfolding range_at
@@ -599,3 +615,108 @@ line_again s line number form right names =
     then_both (identifier_at (spelled_instr line.instr))
     (λ (w : List ℕ × List Token). form_of_keyword s.kind w.0 w.1) _ line.instr _
     (instr_again s line.instr form right names) (if_yes (is_line_number line.number) _ _ _ number refl)
+
+pub instr_sound : (i : Instr) → HasForm i → Names (instr_uses i) →
+    AllByRecursion IsLong (instr_targets i) → Sounds (spelled_instr i)
+instr_sound (Let x e) h names fit = ((omega arith, refl), (names.0.0, (tt, expr_sound false e h names.1)))
+instr_sound (LetPlace x i e) h names fit =
+    let ui = index_uses i in let ue = expr_uses e in
+    let place = place_sound false x i names.0 h.0 (names_first ui ue names.1) in
+    let value = expr_sound false e h.1 (names_rest ui ue names.1) in
+    ((omega arith, refl), between_sound (spelled_place x i) equal (spelled_expr e) place tt value)
+instr_sound (Get x i j) h names fit =
+    let ui = index_uses i in let uj = index_uses j in
+    let place = place_sound false x i names.0 h.0 (names_first ui uj names.1) in
+    let register = bracket_sound false j h.1 (names_rest ui uj names.1) in
+    let both =
+    between_sound (spelled_place x i) equal (Identifier (codes "r") ∷ in_brackets (spelled_index j)) place tt
+    ((omega arith, refl), register) in
+    ((omega arith, refl), both)
+instr_sound (Bit x b i j) h names fit =
+    let ui = index_uses i in let uj = index_uses j in
+    let pair = pair_sound i j h.0 h.1 (names_first ui uj names.1.1) (names_rest ui uj names.1.1) in
+    ((omega arith, refl), (names.0.0, (tt, (bank_sound b, pair))))
+instr_sound (Look x i) h names fit =
+    let register = bracket_sound false i h names.1.1 in
+    ((omega arith, refl), (names.0.0, (tt, ((omega arith, refl), register))))
+instr_sound (Put i t) h names fit =
+    let ui = index_uses i in let ut = tuple_uses t in
+    let register = bracket_sound false i h.0 (names_first ui ut names) in
+    let value = tuple_sound t h.1 (names_rest ui ut names) in
+    let both = between_sound (in_brackets (spelled_index i)) equal (spelled_tuple t) register tt value in
+    ((omega arith, refl), ((omega arith, refl), both))
+instr_sound (PutBit b i j e) h names fit =
+    let ui = index_uses i in
+    let uj = index_uses j in
+    let ue = expr_uses e in
+    let rest = names_rest ui (uj ++ ue) names.1 in
+    let pair = pair_sound i j h.0 h.1 (names_first ui (uj ++ ue) names.1) (names_first uj ue rest) in
+    let value = expr_sound false e h.2 (names_rest uj ue rest) in
+    ((omega arith, refl), (bank_sound b, between_sound (spelled_pair i j) equal (spelled_expr e) pair tt value))
+instr_sound (PutView i x) h names fit =
+    let ui = index_uses i in
+    let register = bracket_sound false i h (names_first ui (view x ∷ []) names.1) in
+    let value = (names_rest ui (view x ∷ []) names.1).0.0 in
+    let both = between_sound (in_brackets (spelled_index i)) equal (Identifier x ∷ []) register tt (value, tt) in
+    ((omega arith, refl), ((omega arith, refl), both))
+instr_sound (ViewData x y) h names fit =
+    let inner = parentheses_sound (Identifier y ∷ []) (names.1.0.0, tt) in
+    ((omega arith, refl), (names.0.0, (tt, ((omega arith, refl), inner))))
+instr_sound (ViewOf x y i) h names fit =
+    let place = parentheses_sound (spelled_place y i) (place_sound false y i names.1.1.0 h names.1.1.1) in
+    ((omega arith, refl), (names.0.0, (tt, ((omega arith, refl), place))))
+instr_sound (Each g x e k) h names fit =
+    let ue = expr_uses e in let uk = where_uses k in
+    let value = expr_sound true e h.0 (names_first ue uk names.1) in
+    let rest =
+    all_both IsSound (spelled_expr e) (spelled_where k) value (where_sound k h.1 (names_rest ue uk names.1)) in
+    ((omega arith, refl), (range_sound g, (tt, (names.0.0, (tt, (tt, (tt, (tt, rest))))))))
+instr_sound (First x g k target) h names fit =
+    ((omega arith, refl), (names.0.0, (range_sound g, (tt, condition_target_sound true k target h names.1 fit.0))))
+instr_sound (Next x g target) h names fit =
+    ((omega arith, refl), (names.0.0, (range_sound g, target_sound target fit.0)))
+instr_sound (If k target) h names fit = ((omega arith, refl), condition_target_sound false k target h names fit.0)
+instr_sound (IfAll g k target) h names fit = (
+  (omega arith, refl),
+  ((omega arith, refl), (range_sound g, (tt, condition_target_sound true k target h names fit.0))),
+)
+instr_sound (Goto target) h names fit = ((omega arith, refl), (fit.0, tt))
+instr_sound (Call target) h names fit = ((omega arith, refl), (fit.0, tt))
+instr_sound (Return x) h names fit = ((omega arith, refl), (names.0.0, tt))
+instr_sound Finish h names fit = ((omega arith, refl), tt)
+
+pub instr_checks : (s : Source) (line : ℕ) (i : Instr) → checked_instr s line i ≡ checked_uses s line (instr_uses i)
+instr_checks s line (Let x e) = first_then s line (scalar x) (expr_uses e) _ (expr_checks s line e)
+instr_checks s line (LetPlace x i e) =
+    both s line (row x ∷ index_uses i) (expr_uses e) _ _ (place_checks s line sort.Row x i) (expr_checks s line e)
+instr_checks s line (Get x i j) =
+    first_then s line (words x) (index_uses i ++ index_uses j) _ (indexes_checks s line i j)
+instr_checks s line (Bit x b i j) =
+    first_then s line (scalar x) (BankUse (bank_of b) ∷ (index_uses i ++ index_uses j)) _
+    (first_then s line (BankUse (bank_of b)) (index_uses i ++ index_uses j) _ (indexes_checks s line i j))
+instr_checks s line (Look x i) =
+    first_then s line (view x) (BankUse bank.V ∷ index_uses i) _
+    (first_then s line (BankUse bank.V) (index_uses i) _ (index_checks s line i))
+instr_checks s line (Put i t) =
+    both s line (index_uses i) (tuple_uses t) _ _ (index_checks s line i) (tuple_checks s line t)
+instr_checks s line (PutBit b i j e) =
+    first_then s line (BankUse (bank_of b))
+    (index_uses i ++ (index_uses j ++ expr_uses e)) _ (put_bit_checks s line i j e)
+instr_checks s line (PutView i x) =
+    first_then s line (BankUse bank.V) (index_uses i ++ view x ∷ []) _
+    (both s line (index_uses i) (view x ∷ []) _ _ (index_checks s line i) (alone s line (view x)))
+instr_checks s line (ViewData x y) = first_then s line (view x) (words y ∷ []) _ (alone s line (words y))
+instr_checks s line (ViewOf x y i) =
+    first_then s line (view x) (ViewUse ∷ words y ∷ index_uses i) _
+    (first_then s line ViewUse (words y ∷ index_uses i) _ (place_checks s line sort.Words y i))
+instr_checks s line (Each g x e k) =
+    first_then s line (row x) (expr_uses e ++ where_uses k) _
+    (both s line (expr_uses e) (where_uses k) _ _ (expr_checks s line e) (where_checks s line k))
+instr_checks s line (First x g k target) = first_then s line (scalar x) (condition_uses k) _ (condition_checks s line k)
+instr_checks s line (Next x g target) = alone s line (scalar x)
+instr_checks s line (If k target) = condition_checks s line k
+instr_checks s line (IfAll g k target) = condition_checks s line k
+instr_checks s line (Goto target) = refl
+instr_checks s line (Call target) = refl
+instr_checks s line (Return x) = alone s line (view x)
+instr_checks s line Finish = refl

@@ -1,42 +1,48 @@
--- What the rules for lines find is spelled as they found it, where its names have at most eight letters.
-use Rattle.std.proofs.Common.{◌≡◌, ℕ, ◌++◌, sym, ◌∙◌, ap, Bool, true, false, List, [], ◌∷◌, Option, Some, None}
-use Rattle.std.proofs.Common.{bytes_eq, codes, if◌then◌else◌, refl}
+-- What the rules for lines find, form by form: it is spelled as they found it, where its names have at most eight
+-- letters; and it has a form that listings allow, where its tokens can stand in a text.
+use Rattle.std.proofs.Common.{◌≡◌, ℕ, List, ◌∷◌, Option, Bool, false, Some, ◌++◌, ◌∙◌, ap, codes, true, sym, refl, None}
+use Rattle.std.proofs.Common.{bytes_eq, if◌then◌else◌, []}
+use Rattle.std.proofs.lemmas.List.{append-nil}
 use Rattle.snap_words.specs.declared.kind.KindTag.{KindTag}
 use Rattle.snap_words.specs.declared.kind.KindTag.TheVariants as kind
-use Rattle.snap_semantics.specs.declared.instr.BitBank.{BitBank}
-use Rattle.snap_semantics.specs.declared.instr.Condition.{Condition}
+use Rattle.snap_semantics.specs.declared.instr.Instr.{Instr}
+use Rattle.snap_semantics.specs.declared.text.Symbol.{Symbol}
 use Rattle.snap_semantics.specs.declared.instr.Expr.{Expr}
 use Rattle.snap_semantics.specs.declared.instr.Index.{Index}
-use Rattle.snap_semantics.specs.declared.instr.Instr.{Instr}
+use Rattle.snap_semantics.specs.declared.instr.Condition.{Condition}
+use Rattle.snap_semantics.specs.declared.instr.Range.{Range}
+use Rattle.snap_semantics.specs.declared.text.Symbol.TheVariants as symbol
+use Rattle.snap_semantics.specs.declared.instr.Tuple.{Tuple}
+use Rattle.snap_semantics.specs.declared.instr.BitBank.{BitBank}
 use Rattle.snap_semantics.specs.declared.instr.Instr.TheVariants.{Goto, Call, Finish}
 use Rattle.snap_semantics.specs.declared.instr.Line.{Line}
-use Rattle.snap_semantics.specs.declared.instr.Tuple.{Tuple}
-use Rattle.snap_semantics.specs.declared.text.Symbol.TheVariants as symbol
-use Rattle.snap_semantics.specs.Rules.{◌>>=◌, number_at, identifier_at, keyword_at, symbol_at, end_at}
-use Rattle.std.proofs.lemmas.List.{append-nil}
-use Rattle.snap_semantics.specs.declared.instr.Range.{Range}
-use Rattle.snap_semantics.specs.declared.text.Symbol.{Symbol}
-use Rattle.snap_semantics.specs.ListingForms.{name_at, index_at, place_at, named_place_at, expr_at, condition_at}
-use Rattle.snap_semantics.specs.ListingForms.{where_at, range_at, target_at, let_form, let_place_form, get_form}
-use Rattle.snap_semantics.specs.ListingForms.{pair_at, bit_bank_at, bit_form, look_form, seq_tuple_at, bits_tuple_at}
-use Rattle.snap_semantics.specs.ListingForms.{multi_tuple_at, triple_at, tuple_at, put_form, put_bit_form}
-use Rattle.snap_semantics.specs.ListingForms.{put_view_form, view_data_form, view_of_form, each_form, first_form}
-use Rattle.snap_semantics.specs.ListingForms.{next_form, if_form, if_all_form, goto_form, call_form, return_form}
-use Rattle.snap_semantics.specs.ListingForms.{finish_form, form_of_keyword, is_line_number, line_form}
+use Rattle.snap_semantics.specs.Spelling.{spelled_instr, spelled_expr, spelled_place, in_brackets, spelled_index}
+use Rattle.snap_semantics.specs.Spelling.{spelled_tuple, spelled_pair, bank_keyword, in_parentheses, spelled_where}
+use Rattle.snap_semantics.specs.Spelling.{spelled_range, spelled_condition, spelled_target, spelled_line}
+use Rattle.snap_semantics.specs.Token.{Token, Identifier, Sign, Number}
+use Rattle.snap_semantics.specs.Uses.{instr_uses, index_uses, expr_uses, tuple_uses, view, row, where_uses}
+use Rattle.snap_semantics.specs.Rules.{◌>>=◌, symbol_at, keyword_at, end_at, number_at, identifier_at}
+use Rattle.snap_semantics.specs.ListingForms.{name_at, expr_at, place_at, named_place_at, condition_at, range_at}
+use Rattle.snap_semantics.specs.ListingForms.{target_at, let_form, let_place_form, get_form, seq_tuple_at}
+use Rattle.snap_semantics.specs.ListingForms.{bits_tuple_at, multi_tuple_at, triple_at, tuple_at, index_at, pair_at}
+use Rattle.snap_semantics.specs.ListingForms.{bit_bank_at, bit_form, look_form, put_form, put_bit_form, put_view_form}
+use Rattle.snap_semantics.specs.ListingForms.{view_data_form, view_of_form, where_at, each_form, first_form, next_form}
+use Rattle.snap_semantics.specs.ListingForms.{if_form, if_all_form, goto_form, call_form, return_form, finish_form}
+use Rattle.snap_semantics.specs.ListingForms.{form_of_keyword, is_line_number, line_form}
 use Rattle.snap_semantics.specs.Source.{Name}
-use Rattle.snap_semantics.specs.Spelling.{in_parentheses, in_brackets, spelled_index, spelled_place, spelled_expr}
-use Rattle.snap_semantics.specs.Spelling.{spelled_condition, spelled_where, spelled_range, spelled_target}
-use Rattle.snap_semantics.specs.Spelling.{spelled_tuple, bank_keyword, spelled_pair, spelled_instr, spelled_line}
-use Rattle.snap_semantics.specs.Token.{Token, Identifier, Number, Sign}
-use Rattle.snap_semantics.specs.Uses.{row, view, index_uses, expr_uses, where_uses, tuple_uses, instr_uses}
-use Rattle.snap_listing.proofs.HasForms.{Holds, then_with, either}
-use Rattle.snap_listing.proofs.SpelledTerms.{Shorts, shorts_first, shorts_rest, if_when, on_cons, on_append}
-use Rattle.snap_listing.proofs.SpelledTerms.{WordIs, word_is, NumberIs, number_is, KeywordIs, same_word}
-use Rattle.snap_listing.proofs.SpelledTerms.{keyword_is, SymbolIs, symbol_is, EndIs, end_is, NameIs, name_is}
-use Rattle.snap_listing.proofs.SpelledTerms.{IndexIs, index_is, bracketed, parenthesized, BracketIs}
-use Rattle.snap_listing.proofs.SpelledTerms.{bracket_is, PlaceIs, place_is, between, ExprIs, expr_is}
-use Rattle.snap_listing.proofs.SpelledTerms.{ConditionIs, condition_is, WhereIs, where_is}
-use Rattle.snap_listing.proofs.SpelledTerms.{RangeIs, range_is, TargetIs, target_is}
+use Rattle.snap_semantics.specs.IsListing.{HasForm, HasIndex}
+use Rattle.snap_listing.proofs.SpelledTerms.{Shorts, SymbolIs, symbol_is, KeywordIs, keyword_is, NameIs, name_is}
+use Rattle.snap_listing.proofs.SpelledTerms.{ExprIs, expr_is, BracketIs, bracket_is, PlaceIs, place_is, ConditionIs}
+use Rattle.snap_listing.proofs.SpelledTerms.{condition_is, RangeIs, range_is, TargetIs, target_is, EndIs, end_is}
+use Rattle.snap_listing.proofs.SpelledTerms.{on_append, on_cons, shorts_first, shorts_rest, parenthesized, between}
+use Rattle.snap_listing.proofs.SpelledTerms.{IndexIs, index_is, bracketed, WhereIs, where_is, NumberIs, number_is}
+use Rattle.snap_listing.proofs.SpelledTerms.{same_word, if_when, WordIs, word_is}
+use Rattle.snap_listing.proofs.HasTerms.{Holds, then_with, either, Sounds, then_any, ExprFound, expr_has, parts_sound}
+use Rattle.snap_listing.proofs.HasTerms.{PlaceFound, place_has, BracketFound, bracket_has, in_brackets_sound}
+use Rattle.snap_listing.proofs.HasTerms.{IndexFound, index_has, TupleFound, tuple_has, in_parentheses_sound, WhereFound}
+use Rattle.snap_listing.proofs.HasTerms.{where_has, ConditionFound, condition_has, if_so}
+use Rattle.snap_listing.proofs.Alls.{all_first, all_rest}
+use Rattle.snap_text.specs.Tokens.{IsSound}
 
 -- the rules in a row
 abbrev FormIs : List ℕ → List Token → Instr → Type 0
@@ -434,3 +440,213 @@ line_is g ts =
     then_with (FormIs w.0 w.1) L (form_of_keyword g w.0 w.1) _ (form_is g w.0 w.1) (λ i h.
     line_by k.0 i ts (is_line_number k.0)
     (λ short. on_cons (Number k.0) ts k.1 _ e (on_cons (Sign symbol.Colon) k.1 a _ p (r ∙ h short)))))))
+
+abbrev InstrFound : Instr → Type 0
+InstrFound i = Sounds (spelled_instr i) → HasForm i
+
+let_has : (ts : List Token) → Holds InstrFound (let_form ts)
+unfolding let_form
+let_has ts =
+    then_any InstrFound (name_at ts) _ (λ x. then_any InstrFound (symbol_at symbol.Equal x.1) _ (λ a.
+    then_with (ExprFound false) InstrFound (expr_at false a) _ (expr_has false a)
+    (λ e h. then_any InstrFound (end_at e.1) _ (λ end sound. h sound.1.1.1))))
+
+let_place_has : (ts : List Token) → Holds InstrFound (let_place_form ts)
+unfolding let_place_form
+let_place_has ts =
+    then_with (PlaceFound false) InstrFound (named_place_at false ts) _ (place_has false ts) (λ x g.
+    then_any InstrFound (symbol_at symbol.Equal x.1) _ (λ a.
+    then_with (ExprFound false) InstrFound (expr_at false a) _ (expr_has false a) (λ e h.
+    then_any InstrFound (end_at e.1) _ (λ end sound.
+    let parts = parts_sound (spelled_place x.0.0 x.0.1) (Sign symbol.Equal) (spelled_expr e.0) sound.1 in
+    (g parts.0, h parts.1)))))
+
+get_has : (ts : List Token) → Holds InstrFound (get_form ts)
+unfolding get_form
+get_has ts =
+    then_with (PlaceFound false) InstrFound (named_place_at false ts) _ (place_has false ts) (λ x g.
+    then_any InstrFound (symbol_at symbol.Equal x.1) _ (λ a.
+    then_any InstrFound (keyword_at (codes "r") a) _ (λ b.
+    then_with (BracketFound false) InstrFound (place_at false b) _ (bracket_has false b) (λ j h.
+    then_any InstrFound (end_at j.1) _ (λ end sound.
+    let parts = parts_sound (spelled_place x.0.0 x.0.1) (Sign symbol.Equal)
+    (Identifier (codes "r") ∷ in_brackets (spelled_index j.0)) sound.1 in (g parts.0, h parts.1.1))))))
+
+abbrev PairFound : ((Index × Index) × List Token) → Type 0
+PairFound x = Sounds (spelled_pair x.0.0 x.0.1) → HasIndex false x.0.0 × HasIndex false x.0.1
+
+pair_has : (ts : List Token) → Holds PairFound (pair_at ts)
+unfolding pair_at
+pair_has ts =
+    let P = PairFound in
+    then_any P (symbol_at symbol.OpenBracket ts) _ (λ a.
+    then_with (IndexFound false) P (index_at false a) _ (index_has false a) (λ i g.
+    then_any P (symbol_at symbol.Comma i.1) _ (λ b.
+    then_with (IndexFound false) P (index_at false b) _ (index_has false b) (λ j h.
+    then_any P (symbol_at symbol.CloseBracket j.1) _ (λ c sound.
+    let first = spelled_index i.0 in let second = spelled_index j.0 in
+    let parts = parts_sound first (Sign symbol.Comma) second
+    (in_brackets_sound (first ++ Sign symbol.Comma ∷ second) sound) in (g parts.0, h parts.1))))))
+
+bit_has : (ts : List Token) → Holds InstrFound (bit_form ts)
+unfolding bit_form
+bit_has ts =
+    then_any InstrFound (name_at ts) _ (λ x.
+    then_any InstrFound (symbol_at symbol.Equal x.1) _ (λ a. then_any InstrFound (bit_bank_at a) _ (λ b.
+    then_with PairFound InstrFound (pair_at b.1) _ (pair_has b.1)
+    (λ i h. then_any InstrFound (end_at i.1) _ (λ end sound. h sound.1.1.1.1)))))
+
+look_has : (ts : List Token) → Holds InstrFound (look_form ts)
+unfolding look_form
+look_has ts =
+    then_any InstrFound (name_at ts) _ (λ x.
+    then_any InstrFound (symbol_at symbol.Equal x.1) _ (λ a. then_any InstrFound (keyword_at (codes "v") a) _ (λ b.
+    then_with (BracketFound false) InstrFound (place_at false b) _ (bracket_has false b)
+    (λ i h. then_any InstrFound (end_at i.1) _ (λ end sound. h sound.1.1.1.1)))))
+
+put_has : (k : KindTag) (ts : List Token) → Holds InstrFound (put_form k ts)
+unfolding put_form
+put_has k ts =
+    then_any InstrFound (keyword_at (codes "r") ts) _ (λ a.
+    then_with (BracketFound false) InstrFound (place_at false a) _ (bracket_has false a) (λ i g.
+    then_any InstrFound (symbol_at symbol.Equal i.1) _ (λ b.
+    then_with TupleFound InstrFound (tuple_at k b) _ (tuple_has k b) (λ t h.
+    then_any InstrFound (end_at t.1) _ (λ end sound.
+    let parts = parts_sound (in_brackets (spelled_index i.0)) (Sign symbol.Equal) (spelled_tuple t.0) sound.1.1 in
+    (g parts.0, h parts.1))))))
+
+put_bit_has : (ts : List Token) → Holds InstrFound (put_bit_form ts)
+unfolding put_bit_form
+put_bit_has ts =
+    then_any InstrFound (bit_bank_at ts) _ (λ b. then_with PairFound InstrFound (pair_at b.1) _ (pair_has b.1) (λ i g.
+    then_any InstrFound (symbol_at symbol.Equal i.1) _ (λ a.
+    then_with (ExprFound false) InstrFound (expr_at false a) _ (expr_has false a) (λ e h.
+    then_any InstrFound (end_at e.1) _ (λ end sound.
+    let parts = parts_sound (spelled_pair i.0.0 i.0.1) (Sign symbol.Equal) (spelled_expr e.0) sound.1.1 in let k =
+    g parts.0 in (k.0, k.1, h parts.1))))))
+
+put_view_has : (ts : List Token) → Holds InstrFound (put_view_form ts)
+unfolding put_view_form
+put_view_has ts =
+    then_any InstrFound (keyword_at (codes "v") ts) _ (λ a.
+    then_with (BracketFound false) InstrFound (place_at false a) _ (bracket_has false a) (λ i g.
+    then_any InstrFound (symbol_at symbol.Equal i.1) _ (λ b.
+    then_any InstrFound (name_at b) _ (λ x. then_any InstrFound (end_at x.1) _ (λ end sound.
+    g (parts_sound (in_brackets (spelled_index i.0)) (Sign symbol.Equal) (Identifier x.0 ∷ []) sound.1.1).0)))))
+
+view_data_has : (ts : List Token) → Holds InstrFound (view_data_form ts)
+unfolding view_data_form
+view_data_has ts =
+    then_any InstrFound (name_at ts) _ (λ x.
+    then_any InstrFound (symbol_at symbol.Equal x.1) _ (λ a. then_any InstrFound (keyword_at (codes "data") a) _ (λ b.
+    then_any InstrFound (symbol_at symbol.OpenParenthesis b) _ (λ c.
+    then_any InstrFound (name_at c) _ (λ y. then_any InstrFound (symbol_at symbol.CloseParenthesis y.1) _ (λ d.
+    then_any InstrFound (end_at d) _ (λ end sound. tt)))))))
+
+view_of_has : (ts : List Token) → Holds InstrFound (view_of_form ts)
+unfolding view_of_form
+view_of_has ts =
+    then_any InstrFound (name_at ts) _ (λ x.
+    then_any InstrFound (symbol_at symbol.Equal x.1) _ (λ a. then_any InstrFound (keyword_at (codes "view") a) _ (λ b.
+    then_any InstrFound (symbol_at symbol.OpenParenthesis b) _ (λ c.
+    then_with (PlaceFound false) InstrFound (named_place_at false c) _ (place_has false c) (λ y h.
+    then_any InstrFound (symbol_at symbol.CloseParenthesis y.1) _ (λ d. then_any InstrFound (end_at d) _
+    (λ end sound. h (in_parentheses_sound (spelled_place y.0.0 y.0.1) sound.1.1.1.1))))))))
+
+each_has : (ts : List Token) → Holds InstrFound (each_form ts)
+unfolding each_form
+each_has ts =
+    then_any InstrFound (range_at ts) _ (λ g.
+    then_any InstrFound (symbol_at symbol.Colon g.1) _ (λ a. then_any InstrFound (name_at a) _ (λ x.
+    then_any InstrFound (symbol_at symbol.OpenBracket x.1) _ (λ b.
+    then_any InstrFound (symbol_at symbol.At b) _ (λ c. then_any InstrFound (symbol_at symbol.CloseBracket c) _ (λ d.
+    then_any InstrFound (symbol_at symbol.Equal d) _ (λ f.
+    then_with (ExprFound true) InstrFound (expr_at true f) _ (expr_has true f) (λ e h.
+    then_with WhereFound InstrFound (where_at e.1) _ (where_has e.1) (λ k j.
+    then_any InstrFound (end_at k.1) _ (λ end sound.
+    let rest = sound.1.1.1.1.1.1.1.1 in let es = spelled_expr e.0 in let ws = spelled_where k.0 in
+    (h (all_first IsSound es ws rest), j (all_rest IsSound es ws rest))))))))))))
+
+first_form_has : (ts : List Token) → Holds InstrFound (first_form ts)
+unfolding first_form
+first_form_has ts =
+    then_any InstrFound (name_at ts) _ (λ x.
+    then_any InstrFound (range_at x.1) _ (λ g. then_any InstrFound (symbol_at symbol.Colon g.1) _ (λ a.
+    then_with (ConditionFound true) InstrFound (condition_at true a) _ (condition_has true a) (λ k h.
+    then_any InstrFound (target_at k.1) _ (λ t. then_any InstrFound (end_at t.1) _ (λ end sound.
+    h (all_first IsSound (spelled_condition k.0) (spelled_target t.0) sound.1.1.1.1)))))))
+
+next_has : (ts : List Token) → Holds InstrFound (next_form ts)
+unfolding next_form
+next_has ts =
+    then_any InstrFound (name_at ts) _ (λ x.
+    then_any InstrFound (range_at x.1) _ (λ g. then_any InstrFound (target_at g.1) _ (λ t.
+    then_any InstrFound (end_at t.1) _ (λ end sound. tt))))
+
+if_has : (ts : List Token) → Holds InstrFound (if_form ts)
+unfolding if_form
+if_has ts =
+    then_with (ConditionFound false) InstrFound (condition_at false ts) _ (condition_has false ts) (λ k h.
+    then_any InstrFound (target_at k.1) _ (λ t. then_any InstrFound (end_at t.1) _ (λ end sound.
+    h (all_first IsSound (spelled_condition k.0) (spelled_target t.0) sound.1))))
+
+if_all_has : (ts : List Token) → Holds InstrFound (if_all_form ts)
+unfolding if_all_form
+if_all_has ts =
+    then_any InstrFound (keyword_at (codes "all") ts) _ (λ a.
+    then_any InstrFound (range_at a) _ (λ g. then_any InstrFound (symbol_at symbol.Colon g.1) _ (λ b.
+    then_with (ConditionFound true) InstrFound (condition_at true b) _ (condition_has true b) (λ k h.
+    then_any InstrFound (target_at k.1) _ (λ t. then_any InstrFound (end_at t.1) _ (λ end sound.
+    h (all_first IsSound (spelled_condition k.0) (spelled_target t.0) sound.1.1.1.1)))))))
+
+goto_has : (ts : List Token) → Holds InstrFound (goto_form ts)
+unfolding goto_form
+goto_has ts = then_any InstrFound (number_at ts) _ (λ t. then_any InstrFound (end_at t.1) _ (λ end sound. tt))
+
+call_has : (ts : List Token) → Holds InstrFound (call_form ts)
+unfolding call_form
+call_has ts = then_any InstrFound (number_at ts) _ (λ t. then_any InstrFound (end_at t.1) _ (λ end sound. tt))
+
+return_has : (ts : List Token) → Holds InstrFound (return_form ts)
+unfolding return_form
+return_has ts = then_any InstrFound (name_at ts) _ (λ x. then_any InstrFound (end_at x.1) _ (λ end sound. tt))
+
+finish_has : (ts : List Token) → Holds InstrFound (finish_form ts)
+unfolding finish_form
+finish_has ts = then_any InstrFound (end_at ts) _ (λ end sound. tt)
+
+form_has : (k : KindTag) (w : List ℕ) (ts : List Token) → Holds InstrFound (form_of_keyword k w ts)
+unfolding form_of_keyword
+form_has k w ts =
+    let F = InstrFound in
+    if_so F (bytes_eq w (codes "let")) _ _ (either F _ _ (let_has ts) (let_place_has ts))
+    (if_so F (bytes_eq w (codes "get")) _ _ (get_has ts)
+    (if_so F (bytes_eq w (codes "bit")) _ _ (bit_has ts)
+    (if_so F (bytes_eq w (codes "look")) _ _ (look_has ts)
+    (if_so F (bytes_eq w (codes "put")) _ _
+    (either F _ _ (put_has k ts) (either F _ _ (put_bit_has ts) (put_view_has ts)))
+    (if_so F (bytes_eq w (codes "view")) _ _ (either F _ _ (view_data_has ts) (view_of_has ts))
+    (if_so F (bytes_eq w (codes "each")) _ _ (each_has ts)
+    (if_so F (bytes_eq w (codes "first")) _ _ (first_form_has ts)
+    (if_so F (bytes_eq w (codes "next")) _ _ (next_has ts)
+    (if_so F (bytes_eq w (codes "if")) _ _ (either F _ _ (if_has ts) (if_all_has ts))
+    (if_so F (bytes_eq w (codes "goto")) _ _ (goto_has ts)
+    (if_so F (bytes_eq w (codes "call")) _ _ (call_has ts)
+    (if_so F (bytes_eq w (codes "return")) _ _ (return_has ts)
+    (if_so F (bytes_eq w (codes "finish")) _ _ (finish_has ts) tt)))))))))))))
+
+abbrev pub LineFound : Line → Type 0
+LineFound line = (is_line_number line.number ≡ true) × InstrFound line.instr
+
+line_found_by : (k : ℕ) (i : Instr) (b : Bool) → is_line_number k ≡ b → InstrFound i →
+    Holds LineFound (if b then Some (record { number = k; instr = i }) else None)
+line_found_by k i true e h = (e, h)
+line_found_by k i false e h = tt
+
+pub line_has : (g : KindTag) (ts : List Token) → Holds LineFound (line_form g ts)
+unfolding line_form
+line_has g ts =
+    then_any LineFound (number_at ts) _ (λ k.
+    then_any LineFound (symbol_at symbol.Colon k.1) _ (λ a. then_any LineFound (identifier_at a) _ (λ w.
+    then_with InstrFound LineFound (form_of_keyword g w.0 w.1) _ (form_has g w.0 w.1)
+    (λ i h. line_found_by k.0 i (is_line_number k.0) refl h))))

@@ -2,7 +2,7 @@
 -- verdicts up to then.
 use Rattle.std.proofs.Common.{◌≡◌, ℕ, suc, ◌+◌, ◌-◌, ◌<◌, ◌≤◌, Bool, true, false, List, [], ◌∷◌, ◌++◌, length, map}
 use Rattle.std.proofs.Common.{drop, get_or, nat_eq, replicate, slice_index, slice_set, refl, sym, ap, subst, ◌∙◌}
-use Rattle.std.proofs.Common.{append_assoc, append-nil, arith}
+use Rattle.std.proofs.Common.{append_assoc, arith}
 use Rattle.std.proofs.lemmas.Bool.{eqb-true, eqb-false}
 use Rattle.std.proofs.lemmas.Grind.{get_or-set_at}
 use Rattle.std.proofs.lemmas.List.{get_or-map, get_or-set_other, length-set}
@@ -11,7 +11,7 @@ use Rattle.std.specs.List.{AllByRecursion}
 use Rattle.snap_words.specs.Shape.{IsOneOf}
 use Rattle.snap_semantics.specs.declared.event.Event.{Event}
 use Rattle.snap_semantics.specs.declared.event.Happening.{Happening}
-use Rattle.snap_semantics.specs.declared.event.Happening.TheVariants.{Call, Answer, Done}
+use Rattle.snap_semantics.specs.declared.event.Happening.TheVariants.{Call, Answer}
 use Rattle.snap_semantics.specs.declared.process.Op.{Op}
 use Rattle.snap_runs.specs.Audit.{audit, least_point, verdict_of}
 use Rattle.snap_runs.specs.Run.{Run, IsValidRun, events_of}
@@ -106,16 +106,6 @@ module _ (r : Run) (xs : List Change) (cs : List Caller) (found : List Verdict) 
       ap (λ y. found ++ (verdicts_at r e.process (slice_index (calls_of cs) (e.process - 1)) e.item y
       ++ by_events r (calls_after (calls_of cs) e.process e.item y) left)) (sym is)
       ∙ h.goes_on
-
-  -- the end of an update
-  pub done_swept : e.what ≡ Done → Sweeps r xs cs found left
-  done_swept is = record {
-    goes_on = remaining Done is;
-    count = h.count;
-    each = λ i one d. passed i (get_or cs (i - 1) d) (h.each i one d);
-    within = h.within.1;
-    rises = h.rises.1;
-  }
 
   -- the item of the last call
   call_there : (d : Caller) → slice_index (calls_of cs) (e.process - 1) ≡ (get_or cs (e.process - 1) d).call
@@ -213,9 +203,3 @@ module _ (r : Run) (xs : List Change) (cs : List Caller) (found : List Verdict) 
         within = h.within.1;
         rises = h.rises.1;
       }
-
--- at the end all verdicts are found
-pub swept : (r : Run) (xs : List Change) (cs : List Caller) (found : List Verdict) (left : List Event) → left ≡ [] →
-    Sweeps r xs cs found left → found ≡ audit r
-swept r xs cs found left none h =
-    sym (append-nil found) ∙ ap (λ (l : List Event). found ++ by_events r (calls_of cs) l) (sym none) ∙ h.goes_on

@@ -35,7 +35,7 @@ use Rattle.snap_record.specs.declared.roles.LineRole.TheVariants as role
 use Rattle.snap_record.proofs.Recording.{none_changed, recorded, stay_when}
 use Rattle.snap_walk.specs.Walk.{Passes, PassesOver, Tells, TellsNone, Way, further, is_quiet, is_untold, line_told, look}
 use Rattle.snap_walk.specs.Walk.{look_ahead, look_at_step}
-use Rattle.snap_walk.specs.declared.glance.Glance.TheVariants as glance
+use Rattle.snap_walk.specs.Glance as glance
 use Rattle.snap_walk.specs.declared.passed.Passed.{Passed}
 use Rattle.snap_walk.proofs.Over.{Keeps, kept_over, looks_ahead, untold_cases}
 use Rattle.snap_walk.proofs.Ways.{all_items, items_more, passed_state, skipped_nothing}

@@ -24,16 +24,6 @@ use Rattle.snap_record.proofs.Longer.{after_append, events_append}
 use Rattle.snap_batch.specs.Courses.{DoesNothing, Takes}
 use Rattle.snap_batch.specs.declared.course.Course.{Course}
 
--- no items
-pub takes_none : {K W : Type 0} (c : Course K W) (k : ℕ) (x : Item) → k ≡ 0 → Takes c (replicate k x) c
-takes_none c k x none = rw none (record {
-  source = refl;
-  shape = refl;
-  state = refl;
-  events = sym (append-nil c.events.items);
-  number = omega arith;
-})
-
 -- some items, and some more
 pub takes_more : {K W : Type 0} (c d e : Course K W) (xs ys : List Item) → Takes c xs d →
     Takes d ys e → Takes c (xs ++ ys) e

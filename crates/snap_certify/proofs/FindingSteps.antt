@@ -10,7 +10,6 @@ use Rattle.snap_semantics.specs.State.{values}
 use Rattle.snap_semantics.specs.Table.{who}
 use Rattle.snap_semantics.specs.declared.process.Activity.{Activity}
 use Rattle.snap_semantics.specs.declared.process.Outcome.{Outcome}
-use Rattle.snap_semantics.specs.declared.process.Outcome.TheVariants as outcome
 use Rattle.snap_runs.specs.Audit.{is_called}
 use Rattle.snap_runs.specs.Run.{Run, IsValidRun, item as item_at, state}
 use Rattle.snap_runs.proofs.Calls.{item_one}
@@ -86,24 +85,6 @@ module _ (t : ℕ) (x : SeenItem) (f g : Finder) (d : Progress) (still : changes
     (other : at_line f.line (executed x) ≡ false) (line : g.line ≡ f.line) (roles : g.roles ≡ f.roles) where
   abbrev past : Progress
   past = get_or f.progress.items (x.process - 1) d
-
-  -- a call
-  pub noted_call : x.outcome ≡ outcome.Called →
-      g.progress.items ≡ slice_set f.progress.items (x.process - 1) (record { call = t; wrote = false }) →
-      g.missing ≡ f.missing → g.writes ≡ f.writes → Notes t x (get_or f.progress.items (x.process - 1) d) f g
-  noted_call is set same_missing same_writes = record {
-    line = line;
-    roles = roles;
-    progress =
-        set ∙ ap (λ o. slice_set f.progress.items (x.process - 1) (let q : Progress =
-        if is_called o then record { call = t; wrote = false }
-        else record { call = past.call; wrote = past.wrote || at_line f.line (executed x) } in q)) (sym is);
-    found =
-        ap (λ m. so_far m g.writes.items) same_missing ∙ ap (λ ws. so_far f.missing ws.items) same_writes
-        ∙ sym (with_nothing (so_far f.missing f.writes.items))
-        ∙ ap (with_found (so_far f.missing f.writes.items))
-        (sym (found_end f.line t x past still other outcome.Called is));
-  }
 
   -- an item that calls nothing
   pub noted_other : (o : Outcome) → x.outcome ≡ o → is_called o ≡ false → g.progress ≡ f.progress →

@@ -18,7 +18,7 @@ use Rattle.snap_runs.specs.StepRoles.{is_write, step_role_of}
 use Rattle.snap_record.specs.Roles.{AreRoles}
 use Rattle.snap_record.specs.declared.roles.LineRole.{LineRole}
 use Rattle.snap_walk.specs.Walk.{Passes, PassesOver, Way, further, is_quiet, line_told, look, look_ahead, look_at_step}
-use Rattle.snap_walk.specs.declared.glance.Glance.TheVariants as glance
+use Rattle.snap_walk.specs.Glance as glance
 use Rattle.snap_walk.specs.declared.passed.Passed.{Passed}
 use Rattle.snap_certify.specs.Certification.{at_line, changes, changing_line, ended, executed, seen_item, stepping}
 use Rattle.snap_certify.specs.declared.found.Progress.{Progress}
@@ -220,17 +220,6 @@ pub are_roles : (r : Run) (w : Way) (vs : List ℕ) (ms roles : List LineRole) �
 are_roles r w vs ms roles h same are =
     subst (λ (q : Run). AreRoles q.source ms) (sym h.run) (subst (AreRoles r.source) (sym same) are)
 
--- before the first one
-pub seeks_first : (r : Run) (w : Way) (vs : List ℕ) → w ≡ record { run = r; at = 0 } →
-    vs ≡ values (state w.run w.at) → Seeks r w vs
-seeks_first r w vs is zeros = record {
-  run = ap (λ (v : Way). v.run) is;
-  values = zeros;
-  still =
-      ap (λ (v : Way). changing_line v.run v.at (length v.run.items - v.at)) is
-      ∙ (let whole : length r.items - 0 ≡ length r.items = omega arith in ap (changing_line r 0) whole);
-}
-
 module _ (r : Run) (w w' : Way) (p : Passed) (vs : List ℕ) (h : Seeks r w vs) (d : Passes w p w') where
   one_less : length w.run.items - w.at ≡ suc (length w.run.items - suc w.at)
   one_less = let below = d.left in omega (arith, below)
@@ -270,13 +259,6 @@ module _ (r : Run) (w w' : Way) (p : Passed) (vs : List ℕ) (h : Seeks r w vs) 
             values = h.values ∙ sym (still_values (seen_item w.run (suc w.at)) still);
             still = changing_next false still;
           } in on)
-
--- where all are passed, none changes the values
-pub none_sought : (r : Run) (w : Way) (vs : List ℕ) → Seeks r w vs → w.at ≡ length w.run.items →
-    None ≡ changing_line r 0 (length r.items)
-none_sought r w vs h over =
-    let gone : length w.run.items - w.at ≡ 0 = omega (arith, over) in
-    sym (ap (changing_line w.run w.at) gone) ∙ h.still
 
 -- the items that are left grow fewer
 pub less_left : (w w' : Way) (p : Passed) → Passes w p w' →

@@ -1,5 +1,5 @@
 -- What a certification is made of, and what it is worth.
-use Rattle.std.specs.Prelude.{◌≡◌, List, length, Option, Some, None, Result, Ok, Err, IfOk, IsOk, OnOk}
+use Rattle.std.specs.Prelude.{◌≡◌, List, length, Option, None, Result, Ok, Err, IfOk, IsOk, OnOk}
 use Rattle.std.specs.Prelude.{ℕ}
 use Rattle.std.proofs.Common.{sym, ◌∙◌, ap}
 use Rattle.snap_semantics.specs.Answers.{◌>>=◌}
@@ -20,10 +20,6 @@ module _ (r : Run) (line : ℕ) (missing : Option Missing) (ws : List UpdateWrit
   found_there : writes r (write_line r) (length r.items) ≡ so_far missing ws
   found_there = ap (λ k. writes r k (length r.items)) (sym at) ∙ found
 
-  pub lacking : (m : Missing) → missing ≡ Some m → (let e : Result Evidence Missing = Err m in e) ≡ certification_of r
-  lacking m is =
-      sym (ap (λ res. res >>= λ vs. pointed r (write_line r) vs) (found_there ∙ ap (λ o. so_far o ws) is))
-
   pub lacks_nothing : missing ≡ None → pointed r line ws ≡ certification_of r
   lacks_nothing is =
       ap (λ k. pointed r k ws) at
@@ -40,10 +36,6 @@ same_run r l s source shape items =
 pub ok_then : {X E : Type 0} (res : Result X E) (P Q : X → Type 0) → ((x : X) → P x → Q x) → IfOk res P → IfOk res Q
 ok_then (Ok x) P Q f h = f x h
 ok_then (Err e) P Q f h = tt
-
-pub on_then : {X E P Q : Type 0} (res : Result X E) → (P → Q) → OnOk res P → OnOk res Q
-on_then (Ok x) f h = f h
-on_then (Err e) f h = tt
 
 pub on_both : {X E P Q R : Type 0} (res : Result X E) → (P → Q → R) → OnOk res P → OnOk res Q → OnOk res R
 on_both (Ok x) f p q = f p q

@@ -1,7 +1,7 @@
 -- The first items of a run that a debugger's `Recording` has: their states and events are those of the whole run.
 use Rattle.std.proofs.Common.{◌≡◌, ℕ, zero, suc, ◌+◌, ◌-◌, ◌<◌, ◌≤◌, List, [], ◌∷◌, ◌++◌, length, take, drop, Some}
 use Rattle.std.proofs.Common.{None, nat_le, if◌then◌else◌, get_or, refl, sym, ap, subst}
-use Rattle.std.proofs.Common.{◌∙◌, append_assoc, length-append, arith}
+use Rattle.std.proofs.Common.{◌∙◌, length-append, arith}
 use Rattle.std.specs.List.{AllByRecursion, slice_get}
 use Rattle.std.proofs.lemmas.Bool.{le-leb, lt-leb, lt-ltb}
 use Rattle.std.proofs.lemmas.List.{take-append-le, take_all, get_or_append_left}
@@ -22,7 +22,6 @@ use Rattle.snap_semantics.specs.declared.event.Happening.TheVariants as what
 use Rattle.snap_machine.specs.Configuration.{Configuration}
 use Rattle.snap_runs.specs.Run.{Run, state, item, outcome, events_of}
 use Rattle.snap_runs.proofs.Embedding.{all_index, next_state}
-use Rattle.snap_record.specs.Longer.{with_item}
 use Rattle.snap_record.proofs.Later.{events_after}
 use Rattle.snap_debug.specs.Recording.{ContinuesWith, IsRecorded, IsCheckpoint, configuration}
 use Rattle.snap_debug.specs.declared.checkpoint.Checkpoint.{Checkpoint}
@@ -30,10 +29,6 @@ use Rattle.snap_debug.specs.declared.checkpoint.Checkpoint.{Checkpoint}
 -- how many items there are
 pub size_is : (r p : Run) (xs : List Item) → ContinuesWith r p xs → length r.items ≡ length p.items + length xs
 size_is r p xs h = ap length h.items ∙ length-append p.items xs
-
--- there are no fewer than are recorded
-pub size_within : (r p : Run) (xs : List Item) → ContinuesWith r p xs → length p.items ≤ length r.items
-size_within r p xs h = (let size = size_is r p xs h in omega (arith, size))
 
 -- the states so far
 pub state_begun : (r p : Run) (xs : List Item) (t : ℕ) → ContinuesWith r p xs →
@@ -59,19 +54,6 @@ recorded_stands r p xs s h at is = record {
       ∙ ap (λ (x : State). let m : Configuration = record { source = r.source; shape = r.shape; state = x } in m)
       (state_begun r p xs (length p.items) h (omega arith))
       ∙ ap (configuration r) (sym at);
-}
-
--- one item more
-pub follows_next : (r p q : Run) (x : Item) (xs ys : List Item) → ContinuesWith r p ys → ys ≡ x ∷ xs →
-    q ≡ with_item p x → ContinuesWith r q xs
-follows_next r p q x xs ys h more is = record {
-  fits = h.fits;
-  few = h.few;
-  source = ap (λ (y : Run). y.source) is ∙ h.source;
-  shape = ap (λ (y : Run). y.shape) is ∙ h.shape;
-  items =
-      h.items ∙ ap (λ (zs : List Item). p.items ++ zs) more ∙ sym (append_assoc p.items (x ∷ []) xs)
-      ∙ ap (λ (y : Run). y.items ++ xs) (sym is);
 }
 
 -- what holds of all holds of those behind
@@ -217,16 +199,6 @@ first_events r p es all =
     ∙ ap (λ k. until k (events r.source r.shape (initial r.source r.shape) 1 r.items)) (sym e)
     ∙ events_until r.source r.shape (initial r.source r.shape) 0 p r.items
 
--- the events of the items that are recorded
-pub events_begun : (r p : Run) (xs : List Item) (t : ℕ) → ContinuesWith r p xs →
-    t ≤ length p.items → events_of p t ≡ events_of r t
-events_begun r p xs t h le =
-    let firsts : take t p.items ≡ take t r.items =
-    sym (take-append-le t p.items xs le) ∙ ap (λ (ys : List Item). take t ys) (sym h.items) in
-    ap (λ (s : Source). events s p.shape (initial s p.shape) 1 (take t p.items)) h.source
-    ∙ ap (λ (n : Counts). events r.source n (initial r.source n) 1 (take t p.items)) h.shape
-    ∙ ap (events r.source r.shape (initial r.source r.shape) 1) firsts
-
 -- the next of the items to come
 pub drop_next : (xs ys : List Item) (x : Item) (k : ℕ) → drop k xs ≡ x ∷ ys → drop (k + 1) xs ≡ ys
 drop_next xs ys x k h = (let e : suc k ≡ k + 1 = omega arith in ap (λ n. drop n xs) (sym e) ∙ by_place xs k h)
@@ -236,18 +208,6 @@ drop_next xs ys x k h = (let e : suc k ≡ k + 1 = omega arith in ap (λ n. drop
     by_place [] (suc k) h = absurd cc
     by_place (z ∷ zs) zero h = cc
     by_place (z ∷ zs) (suc k) h = by_place zs k h
-
--- an event up to there, and those behind it
-pub until_next : (p k : ℕ) (es : List Event) (e : Event) → until p es ≡ take k es ++ until p (drop k es) →
-    k < length es → e ≡ get_or es k e → e.item ≤ p → until p es ≡ take (k + 1) es ++ until p (drop (k + 1) es)
-until_next p k es e h lt is le =
-    (let n : suc k ≡ k + 1 = omega arith in h ∙ by_place es k lt is ∙ ap (λ m. take m es ++ until p (drop m es)) n)
-  where
-    by_place : (es : List Event) (k : ℕ) → k < length es → e ≡ get_or es k e →
-        take k es ++ until p (drop k es) ≡ take (suc k) es ++ until p (drop (suc k) es)
-    by_place [] k lt is = absurd (omega (arith, lt))
-    by_place (f ∷ fs) zero lt is = one_until p f fs (subst (λ (x : Event). x.item ≤ p) is le)
-    by_place (f ∷ fs) (suc k) lt is = ap (λ (xs : List Event). f ∷ xs) (by_place fs k (omega (arith, lt)) is)
 
 -- a later one, and none behind it
 pub until_here : (p k : ℕ) (es : List Event) (e : Event) → until p es ≡ take k es ++ until p (drop k es) →

@@ -103,17 +103,6 @@ leads_on r p q d h stands at is came fits back =
     }
     )
 
--- a checkpoint with no way back
-pub leads_nowhere : {K W : Type 0} (r : Run) (p : ReversibleMachine K W) → IsCheckpoint r p.current →
-    p.done.items ≡ [] → IsReversible r p
-leads_nowhere r p stands none =
-    let size = ap length none in
-    record {
-      stands = stands;
-      within = omega (arith, size);
-      undone = subst (AllUndo r (start p)) (sym none) tt;
-    }
-
 -- the item at a place of a way
 undone_at : {K W : Type 0} (r : Run) (t : ℕ) (ds : List (DoneItem K W)) (k : ℕ) (d : DoneItem K W) → AllUndo r t ds →
     k < length ds → Undoes r (t + k) (slice_index_or ds k d)

@@ -1,7 +1,7 @@
 -- Machines that walk along a run find the debugger's stops: how `next_stop` and `last_stop` go on by one item, and
 -- that the test between two machines, `stops_between`, is `is_stop`.
 use Rattle.std.proofs.Common.{◌≡◌, ℕ, zero, suc, ◌+◌, ◌-◌, ◌<◌, ◌≤◌, Bool, true, false, not, ◌||◌, List, [], ◌∷◌}
-use Rattle.std.proofs.Common.{length, Option, Some, if◌then◌else◌, refl, sym, ap, subst, ◌∙◌, arith}
+use Rattle.std.proofs.Common.{length, Option, if◌then◌else◌, refl, sym, ap, subst, ◌∙◌, arith}
 use Rattle.std.specs.List.{list_any}
 use Rattle.snap_words.specs.declared.address.Address.{Address}
 use Rattle.snap_semantics.specs.Readers.{Contents}
@@ -11,7 +11,7 @@ use Rattle.snap_machine.specs.Configuration.{Configuration}
 use Rattle.snap_runs.specs.Run.{Run, state, item}
 use Rattle.snap_debug.specs.Marks.{Marks, mark_count, reaches, changes, contents_at}
 use Rattle.snap_debug.specs.Marks.{is_stop, next_stop, last_stop, same_contents}
-use Rattle.snap_debug.specs.Stops.{differs, or_before, stands_at, stops_between}
+use Rattle.snap_debug.specs.Stops.{differs, stands_at, stops_between}
 use Rattle.snap_debug.proofs.Contents.{contents_are, contents_same}
 use Rattle.snap_debug.specs.Recording.{IsCheckpoint}
 use Rattle.snap_debug.specs.declared.checkpoint.Checkpoint.{Checkpoint}
@@ -98,29 +98,6 @@ next_end r m t e le = ap (next_stop r m t) (let none : e - t ≡ 0 = omega arith
 either : (b : Bool) (n : ℕ) → (if b then n else n) ≡ n
 either true n = refl
 either false n = refl
-
--- before the first item there is no stop
-pub last_first : (r : Run) (m : Marks) → last_stop r m 1 ≡ 0
-last_first r m = either (is_stop r m 0) 0
-
--- a first item or none
-pub last_none : (r : Run) (m : Marks) (t : ℕ) → t ≤ 1 → last_stop r m t ≡ 0
-last_none r m zero le = refl
-last_none r m (suc zero) le = last_first r m
-last_none r m (suc (suc t)) le = absurd (omega (arith, le))
-
--- one item more is looked at
-pub last_more : (r : Run) (m : Marks) (u before : ℕ) (last found : Option ℕ) (stop : Bool) →
-    last_stop r m u ≡ or_before last before → stop ≡ is_stop r m u →
-    found ≡ (if stop then Some u else last) → last_stop r m (u + 1) ≡ or_before found before
-last_more r m u before last found stop so_far is now =
-    let e : u + 1 ≡ suc u = omega arith in
-    ap (last_stop r m) e ∙ ap (λ b. if b then u else last_stop r m u) (sym is) ∙ by_stop stop
-    ∙ ap (λ o. or_before o before) (sym now)
-  where
-    by_stop : (b : Bool) → (if b then u else last_stop r m u) ≡ or_before (if b then Some u else last) before
-    by_stop true = refl
-    by_stop false = so_far
 
 -- a state has the contents of itself
 pub none_differs : (S : State) (ws : List Address) → list_any (differs S S) ws ≡ false

@@ -1,5 +1,5 @@
 -- What one seat of a desk knows once other seats are joined into it: all that each of them had seen, and their turns.
-use Rattle.std.proofs.Common.{◌≡◌, ℕ, zero, suc, ◌+◌, ◌<◌, ◌≤◌, arith, drop, List, [], ◌∷◌, ◌++◌, length, sym, ap}
+use Rattle.std.proofs.Common.{◌≡◌, ℕ, zero, suc, ◌+◌, ◌<◌, ◌≤◌, arith, List, [], ◌∷◌, ◌++◌, length, sym, ap}
 use Rattle.std.proofs.Common.{◌∙◌, subst, ⊎_elim, inl, inr, get_or}
 use Rattle.std.specs.Prelude.{All}
 use Rattle.std.proofs.lemmas.List.Elements.{All-push}
@@ -20,16 +20,6 @@ turns_left : (p : ℕ) (ts : List OwnTurn) (xs ys : List Own) → HasTurns p ts 
 turns_left p ts [] ys h = absurd h
 turns_left p ts (x ∷ xs) ys h =
     ⊎_elim (λ (a : (p ≡ x.process) × (ts ≡ x.turns)). inl a) (λ (a : HasTurns p ts xs). inr (turns_left p ts xs ys a)) h
-
--- a turn stays in what was gathered when one more is taken in
-pub stays_in : (seen seen' : List Item) (xs ys : List Own) (s : SeatView) → IsPrefix seen seen' →
-    IsIn seen xs s → IsIn seen' (xs ++ ys) s
-stays_in seen seen' xs ys s p h = (prefix_chain s.seen seen seen' h.0 p, turns_left s.process s.own xs ys h.1)
-
-pub all_stay_in : (seen seen' : List Item) (xs ys : List Own) (ss : List SeatView) (s : SeatView) →
-    IsPrefix seen seen' → All (IsIn seen xs) ss → IsIn seen' (xs ++ ys) s → All (IsIn seen' (xs ++ ys)) (ss ++ s ∷ [])
-all_stay_in seen seen' xs ys ss s p all one =
-    All-push (IsIn seen' (xs ++ ys)) ss s (λ k d lt. stays_in seen seen' xs ys (get_or ss k d) p (all k d lt)) one
 
 -- each turns that it has are those of their process in the record
 turns_found : (base : Setting) (items : List Item) (p : ℕ) (ts : List OwnTurn) (os : List Own) → HasTurns p ts os →
@@ -70,20 +60,6 @@ has_at p (suc k) (s ∷ ss) d lt e = inr (has_at p k ss d (omega arith) e)
 
 next : (k : ℕ) → suc (k + 1) ≡ suc k + 1
 next k = omega arith
-
--- who isn't the first is in the rest
-pub has_later : (p k : ℕ) (ss : List SeatView) (d : SeatView) → k < length ss → ((get_or ss k d).process ≡ p → ⊥) →
-    HasSeat p (drop k ss) → HasSeat p (drop (k + 1) ss)
-has_later p k [] d lt ne h = absurd (omega arith)
-has_later p zero (s ∷ ss) d lt ne h = ⊎_elim (λ (e : p ≡ s.process). absurd (ne (sym e))) (λ (m : HasSeat p ss). m) h
-has_later p (suc k) (s ∷ ss) d lt ne h =
-    subst (λ (n : ℕ). HasSeat p (drop n (s ∷ ss))) (next k) (has_later p k ss d (omega arith) ne h)
-
-pub has_none : (p k : ℕ) (ss : List SeatView) → length ss ≤ k → HasSeat p (drop k ss) → ⊥
-has_none p zero [] le h = h
-has_none p zero (s ∷ ss) le h = absurd (omega arith)
-has_none p (suc k) [] le h = h
-has_none p (suc k) (s ∷ ss) le h = has_none p k ss (omega arith) h
 
 pub up_to : (n : ℕ) (P : ℕ → Type 0) → ((p : ℕ) → 1 ≤ p → p ≤ n → P p) → P (n + 1) → (p : ℕ) → 1 ≤ p → p ≤ n + 1 → P p
 up_to n P below here p one le =

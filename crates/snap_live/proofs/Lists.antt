@@ -79,13 +79,6 @@ total_le f g k (x ∷ xs) each =
     let here : f x ≤ k * g x = each 0 x refl in
     let more : total f xs ≤ k * total g xs = total_le f g k xs (λ i v at. each (suc i) v at) in omega arith
 
--- one view is no more than the total
-pub one_le_total : (f : SeatState → ℕ) (views : List SeatState) (i : ℕ) (v : SeatState) →
-    At views i v → f v ≤ total f views
-one_le_total f [] i v e = absurd (some-ne-none v (sym e))
-one_le_total f (x ∷ xs) zero v e = omega (arith, ap f (some-injective x v e))
-one_le_total f (x ∷ xs) (suc i) v e = omega (arith, one_le_total f xs i v e)
-
 pub at_self : (views : List SeatState) (id : ℕ) (v w : SeatState) → At views id v → At (set views id w) id w
 at_self [] id v w e = absurd (some-ne-none v (sym e))
 at_self (x ∷ xs) zero v w e = refl

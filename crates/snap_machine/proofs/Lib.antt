@@ -1,7 +1,5 @@
 -- The proofs of snap_machine, by their modules.
-pub mod Fitting
 pub mod Owners
-pub mod PutBack
 pub mod States
 pub mod Values
 pub use Rattle.snap_machine.proofs.Sizes
@@ -12,7 +10,7 @@ pub mod Sizes
 pub mod Found
 pub mod Numbered
 pub mod There
-pub mod Kept
+pub mod LineLaws
 pub mod Replicas
 pub mod Passed
 pub mod Configurations

@@ -34,18 +34,17 @@ use std::alloc::{AllocError, Global};
 
 /// Returns the scalar of a slot.
 fn scalar_before<K: Kind>(
-    program: &Program,
-    context: &StepContext,
+    context: &StepContext<'_>,
     process: &SlotProcess<K>,
     slot: usize,
 ) -> SlotPlace<K>
     ensures { seen_place K.as_word result
-        ≡ scalar_before program.now (seen_context K.as_word program.now context.now process.now)
+        ≡ scalar_before context.now.program.now (seen_context K.as_word context.now process.now)
         slot }
 {
     SlotPlace::Scalar(
         slot,
-        scalar(program.scalars(), process.scalars.as_slice(), slot),
+        scalar(context.program.scalars(), process.scalars.as_slice(), slot),
     )
 }
 
@@ -78,18 +77,16 @@ fn number_before<K: Kind>(
 
 /// Returns the row of a slot.
 fn row_before<K: Kind>(
-    alloc: Global,
-    program: &Program,
-    context: &StepContext,
+    context: &StepContext<'_>,
     process: &SlotProcess<K>,
     slot: usize,
 ) -> Result<SlotPlace<K>, AllocError>
     ensures { IfOk result (λ p. seen_place K.as_word p
-        ≡ row_before program.now (seen_context K.as_word program.now context.now process.now)
+        ≡ row_before context.now.program.now (seen_context K.as_word context.now process.now)
         slot) }
 {
-    let row = row(program.rows(), process.rows.as_slice(), slot);
-    Ok(SlotPlace::Row(slot, Vec::from_slice(alloc, row)?))
+    let row = row(context.program.rows(), process.rows.as_slice(), slot);
+    Ok(SlotPlace::Row(slot, Vec::from_slice(context.alloc, row)?))
 }
 
 /// Returns the word at a place of a `words` local, if the local has this place.
@@ -131,18 +128,16 @@ fn local_word_before<K: Kind>(
 
 /// Returns the view of a slot.
 fn local_view_before<K: Kind>(
-    alloc: Global,
-    program: &Program,
-    context: &StepContext,
+    context: &StepContext<'_>,
     process: &SlotProcess<K>,
     slot: usize,
 ) -> Result<SlotPlace<K>, AllocError>
     ensures { IfOk result (λ p. seen_place K.as_word p
-        ≡ local_view_before program.now (seen_context K.as_word program.now context.now process.now)
+        ≡ local_view_before context.now.program.now (seen_context K.as_word context.now process.now)
         slot) }
 {
-    let view = view(program.views(), process.views.as_slice(), slot);
-    Ok(SlotPlace::LocalView(slot, copy_of(alloc, view)?))
+    let view = view(context.program.views(), process.views.as_slice(), slot);
+    Ok(SlotPlace::LocalView(slot, copy_of(context.alloc, view)?))
 }
 
 /// Returns word `k` of the registers, if there is one.
@@ -188,32 +183,30 @@ fn view_before<K: Kind>(
 
 /// Returns the contents of the place that a line writes in a register.
 fn register_before<K: Kind>(
-    alloc: Global,
-    program: &Program,
-    context: &StepContext,
+    context: &StepContext<'_>,
     registers: &Registers<K>,
     process: &SlotProcess<K>,
     instr: &SlotInstr,
 ) -> Result<SlotPlace<K>, AllocError>
-    requires kind { program.now.kind ≡ K.TAG }
+    requires kind { context.now.program.now.kind ≡ K.TAG }
     requires shape { registers.now.shape ≡ context.now.shape }
     requires local { writes_local instr.now ≡ false }
     ensures { IfOk result (λ p. seen_place K.as_word p
-        ≡ written program.now (seen_context K.as_word program.now context.now process.now)
+        ≡ written context.now.program.now (seen_context K.as_word context.now process.now)
         registers.now.memory instr.now) }
 {
     match instr {
         SlotInstr::Put(at, _) => {
-            word_before(alloc, registers, index_value(program, context, process, at))
+            word_before(context.alloc, registers, index_value(context, process, at))
         }
         SlotInstr::PutBit(bits, row, column, _) => Ok(bit_before(
             registers,
             *bits,
-            index_value(program, context, process, row),
-            index_value(program, context, process, column),
+            index_value(context, process, row),
+            index_value(context, process, column),
         )),
         SlotInstr::PutView(at, _) => {
-            view_before(alloc, registers, index_value(program, context, process, at))
+            view_before(context.alloc, registers, index_value(context, process, at))
         }
         _ => Ok(SlotPlace::Nowhere),
     }
@@ -221,36 +214,34 @@ fn register_before<K: Kind>(
 
 /// Returns the contents of the place that a line writes.
 pub(crate) fn place_before<K: Kind>(
-    alloc: Global,
-    program: &Program,
-    context: &StepContext,
+    context: &StepContext<'_>,
     registers: &Registers<K>,
     process: &SlotProcess<K>,
     instr: &SlotInstr,
 ) -> Result<SlotPlace<K>, AllocError>
-    requires kind { program.now.kind ≡ K.TAG }
+    requires kind { context.now.program.now.kind ≡ K.TAG }
     requires shape { registers.now.shape ≡ context.now.shape }
     ensures { IfOk result (λ p. seen_place K.as_word p
-        ≡ written program.now (seen_context K.as_word program.now context.now process.now)
+        ≡ written context.now.program.now (seen_context K.as_word context.now process.now)
         registers.now.memory instr.now) }
 {
     match instr {
         SlotInstr::Let(slot, _)
         | SlotInstr::Bit(slot, _, _, _)
         | SlotInstr::First(slot, _, _, _)
-        | SlotInstr::Next(slot, _, _) => Ok(scalar_before(program, context, process, *slot)),
+        | SlotInstr::Next(slot, _, _) => Ok(scalar_before(context, process, *slot)),
         SlotInstr::LetPlace(slot, at, _) => {
-            let place = local_place(program, context, process, at);
-            Ok(number_before(program, process, *slot, place))
+            let place = local_place(context, process, at);
+            Ok(number_before(context.program, process, *slot, place))
         }
         SlotInstr::Get(slot, to, _) => {
-            let place = local_place(program, context, process, to);
-            local_word_before(alloc, program, process, *slot, place)
+            let place = local_place(context, process, to);
+            local_word_before(context.alloc, context.program, process, *slot, place)
         }
         SlotInstr::Look(slot, _) | SlotInstr::ViewData(slot, _) | SlotInstr::ViewOf(slot, _, _) => {
-            local_view_before(alloc, program, context, process, *slot)
+            local_view_before(context, process, *slot)
         }
-        SlotInstr::Each(_, slot, _, _) => row_before(alloc, program, context, process, *slot),
-        _ => register_before(alloc, program, context, registers, process, instr),
+        SlotInstr::Each(_, slot, _, _) => row_before(context, process, *slot),
+        _ => register_before(context, registers, process, instr),
     }
 }

@@ -6,7 +6,6 @@ ghost use Rattle.snap_machine.specs.Lines.{cause_of, next_line};
 ghost use Rattle.snap_machine.specs.declared.lines.Halt.TheVariants.{Trap, NoMemory};
 
 use crate::step_context::StepContext;
-use snap_asm_program::Program;
 use snap_regs::RegisterFault;
 use snap_semantics::Cause;
 use snap_words::View;
@@ -57,19 +56,19 @@ impl From<RegisterFault> for Halt {
 
 /// Returns the line behind that of the process.
 #[inline(always)]
-pub(crate) fn next_line(program: &Program, context: &StepContext) -> Result<Continuation, Cause>
-    ensures { result ≡ next_line context.now.activity
-        (following program.now.lines context.now.activity.line) }
+pub(crate) fn next_line(context: &StepContext<'_>) -> Result<Continuation, Cause>
+    ensures { result ≡ next_line context.now.activity.now
+        (following context.now.program.now.lines context.now.activity.now.line) }
 {
-    match program.following(context.activity.line) {
+    match context.program.following(context.activity.line) {
         Some(line) => Ok(goto(context, line)),
         None => Err(Cause::OffEnd),
     }
 }
 
 /// Returns a line, with the same link.
-pub fn goto(context: &StepContext, line: u64) -> Continuation
-    ensures { result ≡ Continuation.Line line context.now.activity.link }
+pub fn goto(context: &StepContext<'_>, line: u64) -> Continuation
+    ensures { result ≡ Continuation.Line line context.now.activity.now.link }
 {
     Continuation::Line {
         line,

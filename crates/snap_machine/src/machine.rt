@@ -25,6 +25,8 @@ ghost use Rattle.snap_semantics.specs.Readers.{
 };
 ghost use Rattle.snap_semantics.specs.State.{initial, process_at, values};
 ghost use Rattle.snap_semantics.specs.Table.{done, who};
+ghost use Rattle.snap_semantics.specs.declared.process.Item.TheVariants as item;
+ghost use Rattle.snap_semantics.specs.declared.process.Status.TheVariants.{Busy};
 ghost use Rattle.snap_regs.specs.Store.{IsOfShape};
 ghost use Rattle.snap_regs.specs.declared.fault.RegisterFault.TheVariants.{Index};
 ghost use Rattle.snap_machine.specs.Configuration.{HasLocals};
@@ -45,7 +47,7 @@ use crate::fresh::new_processes;
 use crate::overwrites::overwritten;
 use crate::reversal::revert;
 use crate::slot_process::SlotProcess;
-use crate::step::step;
+use crate::step::{step, step_at};
 use crate::undo::Undo;
 use snap_asm_program::Program;
 use snap_regs::{RegisterFault, Registers};
@@ -136,20 +138,69 @@ impl<K: Kind> Machine<K> {
                 self.processes.as_mut_slice(),
                 i,
             ),
-            Item::Call(i, op) => Ok(call(
-                self.program.listing(),
-                &self.registers,
-                self.processes.as_mut_slice(),
-                i,
-                op,
-            )),
-            Item::Crash(i) => Ok(crash(
-                self.program.listing(),
-                &self.registers,
-                self.processes.as_mut_slice(),
-                i,
-            )),
+            Item::Call(i, op) => Ok(self.call(i, op)),
+            Item::Crash(i) => Ok(self.crash(i)),
         }
+    }
+
+    /// Does a step of process `i`, which is at `activity`, and returns its outcome.
+    ///
+    /// # Errors
+    ///
+    /// `AllocError` where memory runs out; the machine is as before then.
+    #[inline(always)]
+    pub fn step_at(&mut self, i: u32, activity: &Activity) -> Result<Outcome, AllocError>
+        requires process { IsOneOf self.old.shape.n i }
+        requires at { (process_at self.old.state i).status ≡ Busy activity.now }
+        ensures done { IfOk result (λ o.
+            done self.old.source self.old.shape self.old.state (item.Step i) ≡ (self.new.state, o)) }
+        ensures source { self.new.source ≡ self.old.source }
+        ensures shape { self.new.shape ≡ self.old.shape }
+        ensures err { OnErr result (self.new ≡ self.old) }
+        ensures grows { OnErr result
+            (IsTrue (may_grow self.old.source self.old.shape self.old.state (item.Step i))) }
+    {
+        step_at(
+            self.alloc,
+            &self.program,
+            &mut self.registers,
+            self.processes.as_mut_slice(),
+            i,
+            activity,
+        )
+    }
+
+    /// Calls `op` at process `i`, which begins it or skips the call, and returns the outcome.
+    pub fn call(&mut self, i: u32, op: Op) -> Outcome
+        requires { IsOneOf self.old.shape.n i }
+        ensures done { done self.old.source self.old.shape self.old.state (item.Call i op)
+            ≡ (self.new.state, result) }
+        ensures source { self.new.source ≡ self.old.source }
+        ensures shape { self.new.shape ≡ self.old.shape }
+    {
+        call(
+            self.program.listing(),
+            &self.registers,
+            self.processes.as_mut_slice(),
+            i,
+            op,
+        )
+    }
+
+    /// Crashes process `i`, and returns the outcome.
+    pub fn crash(&mut self, i: u32) -> Outcome
+        requires { IsOneOf self.old.shape.n i }
+        ensures done { done self.old.source self.old.shape self.old.state (item.Crash i)
+            ≡ (self.new.state, result) }
+        ensures source { self.new.source ≡ self.old.source }
+        ensures shape { self.new.shape ≡ self.old.shape }
+    {
+        crash(
+            self.program.listing(),
+            &self.registers,
+            self.processes.as_mut_slice(),
+            i,
+        )
     }
 
     /// Returns what `item` would overwrite in this state: once that is put back after the item,

@@ -21,24 +21,22 @@ use std::alloc::{AllocError, Global};
 
 /// Returns the contents of the place that the line of a process writes.
 fn current_place<K: Kind>(
-    alloc: Global,
-    program: &Program,
-    context: &StepContext,
+    context: &StepContext<'_>,
     registers: &Registers<K>,
     process: &SlotProcess<K>,
 ) -> Result<SlotPlace<K>, AllocError>
-    requires { IsReady K.TAG program.now context.now.shape registers.now
-        (seen_locals K.as_word program.now process.now) }
+    requires { IsReady K.TAG context.now.program.now context.now.shape registers.now
+        (seen_locals K.as_word context.now.program.now process.now) }
     ensures back { IfOk result
-        (λ p. PutsBack program.now (seen_context K.as_word program.now context.now process.now)
+        (λ p. PutsBack context.now.program.now (seen_context K.as_word context.now process.now)
         registers.now.memory (seen_place K.as_word p)
-        (current_effect K.as_word program.now context.now process.now registers.now.memory)) }
-    ensures fits { IfOk result (λ p. FitsPlace program.now context.now.shape
+        (current_effect K.as_word context.now process.now registers.now.memory)) }
+    ensures fits { IfOk result (λ p. FitsPlace context.now.program.now context.now.shape
         (seen_place K.as_word p)) }
 {
-    match program.line(context.activity.line) {
+    match context.program.line(context.activity.line) {
         None => Ok(SlotPlace::Nowhere),
-        Some(line) => place_before(alloc, program, context, registers, process, &line.instr),
+        Some(line) => place_before(context, registers, process, &line.instr),
     }
 }
 
@@ -61,12 +59,14 @@ fn step_place<K: Kind>(
     match process.status {
         Status::Busy(activity) => {
             let context = StepContext {
+                alloc,
+                program,
                 shape: registers.shape(),
                 me: i,
-                activity,
+                activity: &activity,
                 place: 0,
             };
-            current_place(alloc, program, &context, registers, process)
+            current_place(&context, registers, process)
         }
         Status::Idle => Ok(SlotPlace::Nowhere),
         Status::Trapped(_, _) => Ok(SlotPlace::Nowhere),

@@ -15,7 +15,7 @@ use crate::locals::{copy_of, row, view};
 use crate::slot_process::SlotProcess;
 use crate::step_context::StepContext;
 use crate::value::expr_value;
-use snap_asm_program::{Program, SlotTuple};
+use snap_asm_program::SlotTuple;
 use snap_semantics::Cause;
 use snap_words::{AnyWord, Kind, Shape, View};
 use std::alloc::Global;
@@ -37,40 +37,39 @@ pub struct TupleValues<'a> {
 ///
 /// The cause of the trap, where a part of the tuple has no value.
 pub fn given_of<'a, K: Kind>(
-    program: &Program,
-    context: &StepContext,
+    context: &StepContext<'_>,
     process: &'a SlotProcess<K>,
     tuple: &SlotTuple,
 ) -> Result<TupleValues<'a>, Cause>
     ensures { given_in result
-        ≡ tuple_word (seen_context K.as_word program.now context.now process.now)
-        (named_tuple program.now tuple.now) }
+        ≡ tuple_word (seen_context K.as_word context.now process.now)
+        (named_tuple context.now.program.now tuple.now) }
 {
     match tuple {
         SlotTuple::Seq(datum, seq, slot) => Ok(TupleValues {
-            datum: expr_value(program, context, process, datum)?,
-            seq: expr_value(program, context, process, seq)?,
+            datum: expr_value(context, process, datum)?,
+            seq: expr_value(context, process, seq)?,
             id: 0,
             toggle: 0,
             handshakes: &[],
-            view: view(program.views(), process.views.as_slice(), *slot),
+            view: view(context.program.views(), process.views.as_slice(), *slot),
         }),
         SlotTuple::Bits(datum, handshakes, toggle, slot) => {
-            let handshakes = row(program.rows(), process.rows.as_slice(), *handshakes);
+            let handshakes = row(context.program.rows(), process.rows.as_slice(), *handshakes);
             Ok(TupleValues {
-                datum: expr_value(program, context, process, datum)?,
+                datum: expr_value(context, process, datum)?,
                 seq: 0,
                 id: 0,
-                toggle: expr_value(program, context, process, toggle)?,
+                toggle: expr_value(context, process, toggle)?,
                 handshakes: first_numbers(handshakes, context.shape.n()),
-                view: view(program.views(), process.views.as_slice(), *slot),
+                view: view(context.program.views(), process.views.as_slice(), *slot),
             })
         }
         SlotTuple::Multi(datum, id, toggle) => Ok(TupleValues {
-            datum: expr_value(program, context, process, datum)?,
+            datum: expr_value(context, process, datum)?,
             seq: 0,
-            id: expr_value(program, context, process, id)?,
-            toggle: expr_value(program, context, process, toggle)?,
+            id: expr_value(context, process, id)?,
+            toggle: expr_value(context, process, toggle)?,
             handshakes: &[],
             view: None,
         }),

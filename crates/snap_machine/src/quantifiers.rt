@@ -12,7 +12,7 @@ use crate::locals::row;
 use crate::slot_process::SlotProcess;
 use crate::step_context::StepContext;
 use crate::value::{condition_holds, expr_value, joined, number_at};
-use snap_asm_program::{Program, SlotCondition, SlotExpr};
+use snap_asm_program::{SlotCondition, SlotExpr};
 use snap_semantics::{Cause, Join, Range};
 use snap_words::{Kind, Shape};
 
@@ -33,20 +33,22 @@ pub fn range_end(shape: Shape, range: Range) -> u64
 ///
 /// The cause of the trap, where an operand of a place has no value.
 pub fn first_place<K: Kind>(
-    program: &Program,
-    context: &StepContext,
+    context: &StepContext<'_>,
     process: &SlotProcess<K>,
     count: u64,
     condition: &SlotCondition,
 ) -> Result<Option<u64>, Cause>
-    ensures { result ≡ first_place (seen_context K.as_word program.now context.now process.now)
-        count (named_condition program.now condition.now) }
+    ensures { result ≡ first_place (seen_context K.as_word context.now process.now)
+        count (named_condition context.now.program.now condition.now) }
 {
     let mut found = None;
-    let mut there = *context;
+    let mut there = StepContext {
+        place: 1,
+        ..*context
+    };
     for passed in 0..count {
         there.place = passed + 1;
-        let holds = condition_holds(program, &there, process, condition)?;
+        let holds = condition_holds(&there, process, condition)?;
         found = first_of(found, holds, passed + 1);
     }
     Ok(found)
@@ -68,20 +70,22 @@ fn first_of(found: Option<u64>, holds: bool, place: u64) -> Option<u64>
 ///
 /// The cause of the trap, where an operand of a place has no value.
 pub fn holds_at_all<K: Kind>(
-    program: &Program,
-    context: &StepContext,
+    context: &StepContext<'_>,
     process: &SlotProcess<K>,
     count: u64,
     condition: &SlotCondition,
 ) -> Result<bool, Cause>
-    ensures { result ≡ holds_at_all (seen_context K.as_word program.now context.now process.now)
-        count (named_condition program.now condition.now) }
+    ensures { result ≡ holds_at_all (seen_context K.as_word context.now process.now)
+        count (named_condition context.now.program.now condition.now) }
 {
     let mut all = true;
-    let mut there = *context;
+    let mut there = StepContext {
+        place: 1,
+        ..*context
+    };
     for passed in 0..count {
         there.place = passed + 1;
-        let holds = condition_holds(program, &there, process, condition)?;
+        let holds = condition_holds(&there, process, condition)?;
         all = joined(Join::And, all, holds);
     }
     Ok(all)
@@ -95,26 +99,25 @@ pub fn holds_at_all<K: Kind>(
 /// The cause of the trap, where an operand has no value.
 #[inline(always)]
 pub fn row_value<K: Kind>(
-    program: &Program,
-    context: &StepContext,
+    context: &StepContext<'_>,
     process: &SlotProcess<K>,
     slot: usize,
     expr: &SlotExpr,
     condition: &Option<SlotCondition>,
 ) -> Result<u64, Cause>
-    ensures { result ≡ each_value (seen_context K.as_word program.now context.now process.now)
-        (name_at program.now.rows slot) (named_expr program.now expr.now)
-        (named_where program.now condition.now) }
+    ensures { result ≡ each_value (seen_context K.as_word context.now process.now)
+        (name_at context.now.program.now.rows slot) (named_expr context.now.program.now expr.now)
+        (named_where context.now.program.now condition.now) }
 {
     match condition {
-        None => expr_value(program, context, process, expr),
+        None => expr_value(context, process, expr),
         Some(condition) => {
-            let value = expr_value(program, context, process, expr)?;
-            let holds = condition_holds(program, context, process, condition)?;
+            let value = expr_value(context, process, expr)?;
+            let holds = condition_holds(context, process, condition)?;
             if holds {
                 Ok(value)
             } else {
-                let row = row(program.rows(), process.rows.as_slice(), slot);
+                let row = row(context.program.rows(), process.rows.as_slice(), slot);
                 Ok(number_at(row, context.place.saturating_sub(1) as usize))
             }
         }
@@ -127,22 +130,25 @@ pub fn row_value<K: Kind>(
 ///
 /// The cause of the trap of the first place that has none.
 pub fn check_values<K: Kind>(
-    program: &Program,
-    context: &StepContext,
+    context: &StepContext<'_>,
     process: &SlotProcess<K>,
     count: u64,
     slot: usize,
     expr: &SlotExpr,
     condition: &Option<SlotCondition>,
 ) -> Result<(), Cause>
-    ensures { result ≡ checked_values (seen_context K.as_word program.now context.now process.now)
-        count (name_at program.now.rows slot) (named_expr program.now expr.now)
-        (named_where program.now condition.now) }
+    ensures { result ≡ checked_values (seen_context K.as_word context.now process.now)
+        count (name_at context.now.program.now.rows slot)
+        (named_expr context.now.program.now expr.now)
+        (named_where context.now.program.now condition.now) }
 {
-    let mut there = *context;
+    let mut there = StepContext {
+        place: 1,
+        ..*context
+    };
     for passed in 0..count {
         there.place = passed + 1;
-        row_value(program, &there, process, slot, expr, condition)?;
+        row_value(&there, process, slot, expr, condition)?;
     }
     Ok(())
 }

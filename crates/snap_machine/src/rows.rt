@@ -11,7 +11,7 @@ use crate::locals::row;
 use crate::quantifiers::row_value;
 use crate::slot_process::SlotProcess;
 use crate::step_context::StepContext;
-use snap_asm_program::{Program, SlotCondition, SlotExpr};
+use snap_asm_program::{SlotCondition, SlotExpr};
 use snap_words::Kind;
 use std::alloc::{AllocError, Global};
 
@@ -22,9 +22,7 @@ use std::alloc::{AllocError, Global};
 ///
 /// `Trap` with the cause of the first place that traps; `NoMemory` where memory runs out.
 pub fn new_row<K: Kind>(
-    alloc: Global,
-    program: &Program,
-    context: &StepContext,
+    context: &StepContext<'_>,
     process: &SlotProcess<K>,
     count: u64,
     slot: usize,
@@ -32,16 +30,20 @@ pub fn new_row<K: Kind>(
     condition: &Option<SlotCondition>,
 ) -> Result<Vec<u64>, Halt>
     ensures { IfAnswered result (λ r.
-        items_of r ≡ new_row (seen_context K.as_word program.now context.now process.now)
-        count (name_at program.now.rows slot) (named_expr program.now expr.now)
-        (named_where program.now condition.now)) }
+        items_of r ≡ new_row (seen_context K.as_word context.now process.now)
+        count (name_at context.now.program.now.rows slot)
+        (named_expr context.now.program.now expr.now)
+        (named_where context.now.program.now condition.now)) }
 {
-    let old = row(program.rows(), process.rows.as_slice(), slot);
-    let mut values = room(alloc, old.len())?;
-    let mut there = *context;
+    let old = row(context.program.rows(), process.rows.as_slice(), slot);
+    let mut values = room(context.alloc, old.len())?;
+    let mut there = StepContext {
+        place: 1,
+        ..*context
+    };
     for passed in 0..count {
         there.place = passed + 1;
-        let value = row_value(program, &there, process, slot, expr, condition)?;
+        let value = row_value(&there, process, slot, expr, condition)?;
         push(&mut values, value)?;
     }
     push_rest(&mut values, old, count)?;

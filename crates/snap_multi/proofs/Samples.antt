@@ -1,12 +1,10 @@
 -- The definitions at work on runs of M by one and by two processes, by computing.
-use Rattle.std.proofs.Common.{◌≡◌, ℕ, List, [], ◌∷◌, ◌++◌, Some, None, replicate, true, refl, arith, inl, inr}
-use Rattle.snap_runs.proofs.Common.{Item, Step, Call, Scan, Update, Finished, values, process_at, state, before}
+use Rattle.std.proofs.Common.{◌≡◌, ℕ, List, [], ◌∷◌, ◌++◌, Some, None, replicate, true, refl, arith}
+use Rattle.snap_runs.proofs.Common.{Item, Step, Call, Scan, Update, Finished, values, state}
 use Rattle.snap_runs.proofs.Common.{outcome}
-use Rattle.snap_runs.specs.Scan.{Starts, Ends, HasPoint, double_collects, own_steps}
+use Rattle.snap_runs.specs.Scan.{Starts, Ends, HasPoint, double_collects}
 use Rattle.snap_runs.specs.Update.{executes}
-use Rattle.snap_runs.specs.Promises.{row_place}
-use Rattle.snap_runs_of_m.specs.ListingM as m
-use Rattle.snap_runs_of_m.specs.Promises.{run_of, IsEvent}
+use Rattle.snap_runs_of_m.specs.Promises.{run_of}
 
 -- a number of steps of a process
 abbrev pub times : ℕ → ℕ → List Item
@@ -30,20 +28,6 @@ update_writes = (refl, refl, refl)
 update_done : outcome (run_of 2 1 update_then_scan) 41 ≡ Finished
 update_done = refl
 
-scan_ends : Starts (run_of 2 1 update_then_scan) 1 42 None × Ends (run_of 2 1 update_then_scan) 1 70 None (5 ∷ [])
-scan_ends = ((refl, refl), (refl, refl))
-
-scan_counts : (double_collects (run_of 2 1 update_then_scan) 1 42 70 ≡ 1)
-    × (own_steps (run_of 2 1 update_then_scan) 1 42 70 ≡ 28)
-scan_counts = (refl, refl)
-
--- One process and two words.
-abbrev pub second_word : List Item
-second_word = Call 1 (Update 2 7) ∷ times 40 1
-
-second_word_is : values (state (run_of 1 2 second_word) 41) ≡ 0 ∷ 7 ∷ []
-second_word_is = refl
-
 -- Process 2 updates three times while process 1 scans, each time between its two collects: three double collects
 -- fail, and the scan borrows the view that process 2 put with the third update, which is what the second one wrote.
 abbrev pub scan_borrows : List Item
@@ -60,13 +44,3 @@ borrows_counts = refl
 
 borrows_point : HasPoint (run_of 2 1 scan_borrows) 1 212 (6 ∷ [])
 borrows_point = (123, omega arith, omega arith, refl)
-
-borrows_moved : (row_place (process_at (before (run_of 2 1 scan_borrows) 71) 1).locals m.moved 2 ≡ 0)
-    × (row_place (process_at (state (run_of 2 1 scan_borrows) 71) 1).locals m.moved 2 ≡ 1)
-borrows_moved = (refl, refl)
-
-borrows_event : IsEvent (run_of 2 1 scan_borrows) 1 2 54
-borrows_event = inl refl
-
-borrows_answer : IsEvent (run_of 2 1 scan_borrows) 1 2 18
-borrows_answer = inr (refl, refl)

@@ -20,7 +20,7 @@ use Rattle.snap_runs.specs.Run.{Run, IsValidRun, state, item, outcome, events_of
 use Rattle.snap_runs.specs.Scan.{double_collects, ends_double_collect}
 use Rattle.snap_record.specs.Record.{answers, collects_from, collects_of, is_answer, scan_called, scan_end}
 use Rattle.snap_record.specs.History.{IsWithin, collects_at}
-use Rattle.snap_record.specs.Searches.{collects_until, found_collects, is_answer_of, scan_collects, scans}
+use Rattle.snap_record.specs.Searches.{collects_until, found_collects, scan_collects, scans}
 use Rattle.snap_record.proofs.Counts.{count_split}
 use Rattle.snap_record.proofs.Later.{events_after}
 use Rattle.snap_record.proofs.Events.{next_left, events_from, next_events}
@@ -217,33 +217,11 @@ module _ (r : Run) where
 
   -- the search, place by place
   module _ (es : List Event) (k : ℕ) (e : Event) (lt : k < length es) (is : e ≡ get_or es k e) where
-    pub goes_on_until : (i : ℕ) → is_answer_of i e ≡ false →
-        collects_until r i (drop (k + 1) es) ≡ collects_until r i (drop k es)
-    goes_on_until i no_answer =
-        sym (ap (collects_until r i) (next_left es k e lt is)
-        ∙ ap (λ b. if b then collects_at r e else collects_until r i (drop (k + 1) es)) no_answer)
-
-    pub stops_at : (i : ℕ) → is_answer_of i e ≡ true → collects_at r e ≡ collects_until r i (drop k es)
-    stops_at i answer =
-        sym (ap (collects_until r i) (next_left es k e lt is)
-        ∙ ap (λ b. if b then collects_at r e else collects_until r i (drop (k + 1) es)) answer)
-
-    pub other_item : (c : ℕ) → nat_eq e.item c ≡ false →
-        found_collects r c (drop (k + 1) es) ≡ found_collects r c (drop k es)
-    other_item c differ =
-        sym (ap (found_collects r c) (next_left es k e lt is)
-        ∙ ap (λ b. if b then scan_collects r e (drop (k + 1) es) else found_collects r c (drop (k + 1) es)) differ)
-
     pub that_item : (c : ℕ) → nat_eq e.item c ≡ true →
         scan_collects r e (drop (k + 1) es) ≡ found_collects r c (drop k es)
     that_item c same =
         sym (ap (found_collects r c) (next_left es k e lt is)
         ∙ ap (λ b. if b then scan_collects r e (drop (k + 1) es) else found_collects r c (drop (k + 1) es)) same)
-
-  -- where no event is left
-  pub until_all : (i : ℕ) (es : List Event) (k : ℕ) → length es ≤ k →
-      double_collects r i 0 (length r.items) ≡ collects_until r i (drop k es)
-  until_all i es k le = sym (ap (collects_until r i) (drop_all k es le))
 
   -- nothing is found
   pub none_there : (c : ℕ) (es : List Event) (k : ℕ) → length es ≤ k → None ≡ found_collects r c (drop k es)

@@ -44,7 +44,7 @@ use Rattle.snap_machine.specs.Sizes.{AllSized, AreSized}
 use Rattle.snap_machine.proofs.Sizes.{AreSized-initial}
 use Rattle.snap_machine.proofs.Sizes.{place_below}
 use Rattle.snap_machine.proofs.Sizes as sizes
-use Rattle.snap_machine.proofs.Kept.{kept_sizes}
+use Rattle.snap_machine.proofs.LineLaws.{kept_sizes}
 use Rattle.snap_machine.proofs.Tuples.{word_suits}
 
 -- The registers have the sizes that the shape wants.

@@ -1,10 +1,9 @@
 -- Laws of items that are passed over on a way (`PassesOver`): what each of them keeps is kept by all.
-use Rattle.std.proofs.Common.{◌≡◌, ℕ, zero, suc, ◌+◌, ◌-◌, ◌<◌, ◌≤◌, Bool, true, false, not, List, [], ◌⊎◌, inl, inr, length, Option, Some, None}
+use Rattle.std.proofs.Common.{◌≡◌, ℕ, zero, suc, ◌+◌, ◌-◌, ◌<◌, Bool, true, false, not, List, [], ◌⊎◌, inl, inr, length, Option, Some, None}
 use Rattle.std.proofs.Common.{Result, Ok, Err, IfOk, IfSome, MatchOption}
 use Rattle.std.proofs.Common.{refl, sym, ap, subst, ◌∙◌, arith}
 use Rattle.std.proofs.lemmas.Bool.{cases_lt}
 use Rattle.snap_words.specs.Shape.{IsOneOf}
-use Rattle.snap_semantics.specs.declared.process.Activity.{Activity}
 use Rattle.snap_semantics.specs.declared.process.Item.{Item}
 use Rattle.snap_semantics.specs.declared.process.Item.TheVariants.{Step, Call, Crash}
 use Rattle.snap_semantics.specs.declared.process.Outcome.{Outcome}
@@ -15,10 +14,10 @@ use Rattle.snap_semantics.specs.declared.process.Status.TheVariants.{Idle, Busy,
 use Rattle.snap_semantics.specs.State.{State, process_at}
 use Rattle.snap_semantics.specs.Table.{who}
 use Rattle.snap_runs.specs.Run.{Run, item, outcome, state}
-use Rattle.snap_walk.specs.Walk.{IsUntold, Passes, PassesOver, Tells, TellsNone, Way, further, is_quiet, is_untold, line_told, look, look_ahead}
+use Rattle.snap_walk.specs.Walk.{IsUntold, Passes, PassesOver, Tells, TellsNone, Way, further, is_skip, is_untold, line_told, look, look_ahead}
 use Rattle.snap_walk.specs.Walk.{look_at_step, way}
-use Rattle.snap_walk.specs.declared.glance.Glance.{Glance}
-use Rattle.snap_walk.specs.declared.glance.Glance.TheVariants as glance
+use Rattle.snap_walk.specs.Glance.{Glance}
+use Rattle.snap_walk.specs.Glance as glance
 use Rattle.snap_walk.specs.declared.passed.Passed.{Passed}
 
 module _ (quiet : List Bool) (skips : Bool) where
@@ -180,6 +179,17 @@ untold_made quiet skips w x S g o left is one here seen came untold = record {
       ∙ ap (λ (y : Item). look quiet y (process_at (state w.run w.at) (who y)).status) is))
       ∙ ap (λ (y : Outcome). is_untold g y skips) (sym came) ∙ untold;
 }
+
+-- an item that is skipped is passed over, where skipped items are
+pub skip_untold : (g : Glance) (o : Outcome) (skips : Bool) → skips ≡ false → is_skip o ≡ true →
+    is_untold g o skips ≡ true
+skip_untold g (outcomes.Skipped reason) skips over is = ap not over
+skip_untold g outcomes.Stepped skips over is = absurd cc
+skip_untold g outcomes.Called skips over is = absurd cc
+skip_untold g (outcomes.Answered view) skips over is = absurd cc
+skip_untold g outcomes.Finished skips over is = absurd cc
+skip_untold g (outcomes.Trapped cause) skips over is = absurd cc
+skip_untold g outcomes.Crashed skips over is = absurd cc
 
 -- Where each item is told, the next one is passed, or there is none.
 pub passed_next : {E : Type 0} (w w' : Way) (r : Result (Option Passed) E) →

@@ -1,10 +1,11 @@
 -- A `Walk` keeps what it keeps (`IsWalking`), from the first item to the last.
 use Rattle.std.proofs.Common.{◌≡◌, ℕ, zero, suc, ◌+◌, ◌-◌, ◌<◌, ◌≤◌, Bool, true, false, List, [], ◌∷◌, ◌++◌, length, drop}
-use Rattle.std.proofs.Common.{replicate, Option, Some, None, MatchOption, if◌then◌else◌, refl, sym, ap, subst, ◌∙◌, arith}
+use Rattle.std.proofs.Common.{replicate, Result, Ok, Err, Option, Some, MatchOption, if◌then◌else◌, refl, sym, ap, subst, ◌∙◌, arith}
 use Rattle.std.specs.Prelude.{slice_get}
-use Rattle.std.proofs.lemmas.Option.{get_or_from_slice_get, slice_get-get_or, slice_get_within}
+use Rattle.std.proofs.lemmas.Option.{get_or_from_slice_get, slice_get_within}
 use Rattle.snap_words.specs.Shape.{Counts, IsOneOf}
 use Rattle.snap_semantics.specs.declared.process.Activity.{Activity}
+use Rattle.snap_semantics.specs.declared.process.Cause.{Cause}
 use Rattle.snap_semantics.specs.declared.process.Item.{Item}
 use Rattle.snap_semantics.specs.declared.process.Item.TheVariants.{Step, Call, Crash}
 use Rattle.snap_semantics.specs.declared.process.Outcome.{Outcome}
@@ -15,9 +16,9 @@ use Rattle.snap_semantics.specs.declared.process.Status.{Status}
 use Rattle.snap_semantics.specs.declared.process.Status.TheVariants.{Idle, Busy, Trapped, Crashed}
 use Rattle.snap_semantics.specs.Schedule.{Schedule}
 use Rattle.snap_semantics.specs.ScheduleText.{IsSchedule}
-use Rattle.snap_semantics.specs.Source.{Source}
-use Rattle.snap_semantics.specs.State.{State, initial, process_at}
-use Rattle.snap_semantics.specs.Table.{done, step, who}
+use Rattle.snap_semantics.specs.Source.{Source, instr_at}
+use Rattle.snap_semantics.specs.State.{Locals, State, initial, process_at}
+use Rattle.snap_semantics.specs.Table.{Answers, Effect, Finishes, Goes, done, effect_at, leave, step, who}
 use Rattle.snap_runs.specs.Run.{Run, item, outcome, run_over, state}
 use Rattle.snap_runs.specs.Scan.{count}
 use Rattle.snap_runs.proofs.Counting.{count_next}
@@ -25,9 +26,9 @@ use Rattle.snap_runs.proofs.Embedding.{all_index, next_state}
 use Rattle.snap_machine.specs.Configuration.{Configuration}
 use Rattle.snap_walk.specs.Walk.{IsUntold, PassesOver, Way, is_quiet, is_skip, is_skipped, is_untold, look, look_ahead}
 use Rattle.snap_walk.specs.Walk.{look_at_step, way}
-use Rattle.snap_walk.specs.Walking.{IsWalking, skips_by}
-use Rattle.snap_walk.specs.declared.glance.Glance.{Glance}
-use Rattle.snap_walk.specs.declared.glance.Glance.TheVariants as glance
+use Rattle.snap_walk.specs.Walking.{IsWalking, is_busy, skip_reason, skips_by}
+use Rattle.snap_walk.specs.Glance.{Glance}
+use Rattle.snap_walk.specs.Glance as glance
 
 -- the next of the items that are left, and those behind it
 behind_some : (xs : List Item) (k : ℕ) (x : Item) (ys : List Item) → drop k xs ≡ x ∷ ys →
@@ -155,7 +156,40 @@ module _ (m : Configuration) (s : Schedule) (k j : ℕ) (ahead : List Item) (h :
         left = sym b.1;
       })
 
+-- Steps of a busy process.
+
+left_done : (S : State) (i : ℕ) (a : Activity) (l : Locals) (e : Result Effect Cause) → is_skip (leave S i a l e).1 ≡ false
+left_done S i a l (Ok (Goes m l' link line)) = refl
+left_done S i a l (Ok (Answers v)) = refl
+left_done S i a l (Ok Finishes) = refl
+left_done S i a l (Err c) = refl
+
+busy_done : (s : Source) (n : Counts) (S : State) (i : ℕ) (a : Activity) → (process_at S i).status ≡ Busy a →
+    is_skip (done s n S (Step i)).1 ≡ false
+busy_done s n S i a busy =
+    ap (λ (t : Status). is_skip (step s n S i (process_at S i) t).1) busy
+    ∙ left_done S i a (process_at S i).locals (effect_at s
+    (record { shape = n; me = i; op = a.op; locals = (process_at S i).locals; place = 0 }) S.memory a
+    (instr_at s.lines a.line))
+
+-- such a step is not skipped
+pub not_skipped : (s : Source) (n : Counts) (S S' : State) (i : ℕ) (a : Activity) (o : Outcome) →
+    (process_at S i).status ≡ Busy a → done s n S (Step i) ≡ (S', o) → is_skip o ≡ false
+not_skipped s n S S' i a o busy did =
+    ap (λ (d : State × Outcome). is_skip d.1) (sym did) ∙ busy_done s n S i a busy
+
+pub none_more : (j : ℕ) (o : Outcome) → is_skip o ≡ false → j ≡ j + skips_by o
+none_more j o is = (let none : j ≡ j + 0 = omega arith in none ∙ ap (λ (b : Bool). j + (if b then 1 else 0)) (sym is))
+
 -- Steps of a process that is not busy.
+
+-- such a step is skipped for the reason that its process gives
+pub step_idle : (s : Source) (n : Counts) (S : State) (i : ℕ) (t : Status) → (process_at S i).status ≡ t →
+    is_busy t ≡ false → done s n S (Step i) ≡ (S, Skipped (skip_reason t))
+step_idle s n S i Idle at is = ap (step s n S i (process_at S i)) at
+step_idle s n S i (Busy a) at is = absurd cc
+step_idle s n S i (Trapped cause a) at is = ap (step s n S i (process_at S i)) at
+step_idle s n S i (Crashed was) at is = ap (step s n S i (process_at S i)) at
 
 -- an item that is skipped leaves the state
 abbrev pub Skips : Source → Counts → State → Item → Type 0

@@ -13,8 +13,8 @@ use Rattle.snap_semantics.specs.declared.process.Outcome.TheVariants as outcome
 use Rattle.snap_semantics.specs.declared.process.Status.{Status}
 use Rattle.snap_semantics.specs.declared.process.Status.TheVariants.{Idle, Busy, Trapped, Crashed}
 use Rattle.snap_runs.specs.Run.{Run, item, outcome as outcome_at, state}
-use Rattle.snap_walk.specs.declared.glance.Glance.{Glance}
-use Rattle.snap_walk.specs.declared.glance.Glance.TheVariants as looks
+use Rattle.snap_walk.specs.Glance.{Glance}
+use Rattle.snap_walk.specs.Glance as looks
 use Rattle.snap_walk.specs.declared.passed.Passed.{Passed}
 
 -- a machine on its way through a run: the run, and how many of its items it has done

@@ -2,10 +2,9 @@
 #![tactic(auto)]
 
 mod ahead;
-mod glance;
 mod passed;
+mod told;
 mod walk;
 
-pub use glance::Glance;
 pub use passed::Passed;
 pub use walk::Walk;

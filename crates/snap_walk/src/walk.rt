@@ -4,20 +4,22 @@ ghost use Rattle.std.specs.Prelude.{[], false, IfSome};
 ghost use Rattle.snap_words.specs.Shape.{IsOneOf, max_items};
 ghost use Rattle.snap_semantics.specs.Memory.{may_grow};
 ghost use Rattle.snap_semantics.specs.State.{process_at};
-ghost use Rattle.snap_semantics.specs.Table.{who};
+ghost use Rattle.snap_semantics.specs.Table.{done, who};
+ghost use Rattle.snap_semantics.specs.declared.process.Item.TheVariants as item;
+ghost use Rattle.snap_semantics.specs.declared.process.Status.TheVariants.{Busy};
 ghost use Rattle.snap_runs.specs.Run.{item as item_at, outcome as outcome_at, run_over, state};
 ghost use Rattle.snap_runs.specs.Scan.{count};
-ghost use Rattle.snap_walk.specs.Walk.{Passes, PassesOver, Tells, TellsNone, further, is_skipped, line_told, look_ahead};
-ghost use Rattle.snap_walk.specs.Walking.{skips_by};
-ghost use Rattle.snap_walk.specs.declared.glance.Glance.TheVariants as looks;
+ghost use Rattle.snap_walk.specs.Walk.{Passes, PassesOver, Tells, TellsNone, further, is_skip, is_skipped, line_told, look_ahead};
+ghost use Rattle.snap_walk.specs.Walking.{runs_line, skips_by};
+ghost use Rattle.snap_walk.specs.Glance as looks;
 
 use crate::ahead::Ahead;
-use crate::glance::{Glance, is_idle, is_untold, line_told, look};
 use crate::passed::Passed;
+use crate::told::{has_stepped, is_quiet, is_skip, is_step, skip_reason, told};
 use snap_asm_program::Program;
 use snap_machine::{Machine, OwnCode};
 use snap_sched::Schedule;
-use snap_semantics::{Item, Outcome, who};
+use snap_semantics::{Activity, Item, Outcome, Status, who};
 use snap_words::Kind;
 use std::alloc::{AllocError, Global};
 use std::marker::Model;
@@ -67,13 +69,25 @@ impl<'a, K: Kind> Model for Walk<'a, K> {
 }
 
 /// Returns how many items are skipped by one of this outcome.
-#[inline(always)]
 fn skip_count(outcome: &Outcome) -> u64
     ensures { result ≡ skips_by outcome.now }
 {
-    match outcome {
-        Outcome::Skipped(_) => 1,
-        _ => 0,
+    if is_skip(outcome) { 1 } else { 0 }
+}
+
+/// Does an item that is no step of a busy process, and returns its outcome.
+fn apply_idle<K: Kind>(machine: &mut Machine<K>, item: Item) -> Outcome
+    requires process { IsOneOf machine.old.shape.n (who item) }
+    requires idle { runs_line item (process_at machine.old.state (who item)).status ≡ false }
+    ensures done { done machine.old.source machine.old.shape machine.old.state item
+        ≡ (machine.new.state, result) }
+    ensures source { machine.new.source ≡ machine.old.source }
+    ensures shape { machine.new.shape ≡ machine.old.shape }
+{
+    match item {
+        Item::Step(i) => Outcome::Skipped(skip_reason(machine.status(i))),
+        Item::Call(i, op) => machine.call(i, op),
+        Item::Crash(i) => machine.crash(i),
     }
 }
 
@@ -136,22 +150,44 @@ impl<'a, K: Kind> Walk<'a, K> {
         self.ahead.first()
     }
 
-    /// Does the next item, which is `item`.
+    /// Does the next item, which is a step of process `i`, which is at `activity`.
     #[inline(always)]
-    fn take(&mut self, item: Item) -> Result<Outcome, AllocError>
+    fn step_at(&mut self, i: u32, activity: &Activity) -> Result<Outcome, AllocError>
         requires left { self.old.at < length self.old.run.items }
-        requires next { item ≡ item_at self.old.run (suc self.old.at) }
+        requires next { item.Step i ≡ item_at self.old.run (suc self.old.at) }
+        requires at { (process_at (state self.old.run self.old.at) i).status ≡ Busy activity.now }
         ensures outcome { IfOk result (λ o. o ≡ outcome_at self.old.run (suc self.old.at)) }
+        ensures done { IfOk result (λ o. is_skip o ≡ false) }
         ensures further { OnOk result (self.new ≡ further self.old) }
         ensures unchanged { OnErr result (self.new ≡ self.old) }
         ensures grows { OnErr result (IsTrue (may_grow self.old.run.source self.old.run.shape
             (state self.old.run self.old.at) (item_at self.old.run (suc self.old.at)))) }
     {
-        let outcome = self.machine.apply(item)?;
+        let outcome = self.machine.step_at(i, activity)?;
+        self.done += 1;
+        self.ahead.pass();
+        Ok(outcome)
+    }
+
+    /// Does the next item, which is no step of a busy process, and returns it with its outcome.
+    #[inline(never)]
+    fn take(&mut self) -> (Item, Outcome)
+        requires left { self.old.at < length self.old.run.items }
+        requires idle { runs_line (item_at self.old.run (suc self.old.at))
+            (process_at (state self.old.run self.old.at)
+            (who (item_at self.old.run (suc self.old.at)))).status ≡ false }
+        ensures item { result.0 ≡ item_at self.old.run (suc self.old.at) }
+        ensures outcome { result.1 ≡ outcome_at self.old.run (suc self.old.at) }
+        ensures further { self.new ≡ further self.old }
+    {
+        let Some(item) = self.upcoming() else {
+            unreachable!()
+        };
+        let outcome = apply_idle(&mut self.machine, item);
         self.done += 1;
         self.ahead.pass();
         self.skipped += skip_count(&outcome);
-        Ok(outcome)
+        (item, outcome)
     }
 
     /// Passes over the items that come next and are alike, which are steps of a process that is not
@@ -181,13 +217,20 @@ impl<'a, K: Kind> Walk<'a, K> {
             (item_at self.new.run (suc self.new.at)))) }
     {
         while let Some(item) = self.upcoming() {
-            let glance = look(self.machine(), item, quiet);
-            if is_idle(glance) && !tells_skips {
+            if let Item::Step(i) = item
+                && let Status::Busy(activity) = self.machine().status(i)
+            {
+                let is_quiet = is_quiet(quiet, activity.line);
+                let outcome = self.step_at(i, &activity)?;
+                if !is_quiet || !has_stepped(&outcome) {
+                    return Ok(Some(self.passed(Item::Step(i), told(is_quiet, activity), outcome)));
+                }
+            } else if is_step(item) && !tells_skips {
                 self.pass_idle(quiet);
             } else {
-                let outcome = self.take(item)?;
-                if !is_untold(glance, &outcome, tells_skips) {
-                    return Ok(Some(self.passed(item, glance, outcome)));
+                let (item, outcome) = self.take();
+                if tells_skips || !is_skip(&outcome) {
+                    return Ok(Some(self.passed(item, None, outcome)));
                 }
             }
         }
@@ -196,18 +239,18 @@ impl<'a, K: Kind> Walk<'a, K> {
 
     /// Returns the item that was done last, as it is told.
     #[inline(always)]
-    fn passed(&self, item: Item, glance: Glance, outcome: Outcome) -> Passed
+    fn passed(&self, item: Item, activity: Option<Activity>, outcome: Outcome) -> Passed
         ensures { result ≡ record {
           number = self.now.at;
           item = item;
-          activity = line_told glance;
+          activity = activity;
           outcome = outcome;
         } }
     {
         Passed {
             number: self.done,
             item,
-            activity: line_told(glance),
+            activity,
             outcome,
         }
     }

@@ -12,6 +12,7 @@ use Rattle.snap_semantics.specs.declared.refusal.Refusal.TheVariants as refusal
 use Rattle.snap_tasks.specs.declared.task.Task.TheVariants as task
 use Rattle.snap_image.proofs.ImageSamples.{first_image, small_image}
 use Rattle.snap_semantics.proofs.OnLiterals.{listings_on_literals}
+use Rattle.snap_image.proofs.InstrLaws.{instrs_on_literals}
 use Rattle.snap_image.proofs.OnLiterals.{images_on_literals}
 
 abbrev small_text : List ℕ
@@ -26,4 +27,5 @@ outputs :
     × (output_of [] task.List (take 4 small_image) ≡ Err (refusal.Image Truncated))
     × (output_of [] task.Check (codes "") ≡ Err (refusal.Listing (BadHeader 1)))
 unfolding digits output_of check_of assembled listed upgraded commented_of listings_on_literals images_on_literals
+    instrs_on_literals
 outputs = (refl, refl, refl, refl, refl, refl)

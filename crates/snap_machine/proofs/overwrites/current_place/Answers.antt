@@ -9,18 +9,17 @@ use Rattle.snap_regs.specs.Store.{IsOfShape}
 use Rattle.snap_machine.specs.Undo.{FitsPlace, Place}
 use Rattle.snap_machine.specs.Written.{PutsBack, written}
 use Rattle.snap_machine.specs.SeenProcesses.{seen_context}
-use Rattle.snap_machine.proofs.Fitting.{written_fits}
-use Rattle.snap_machine.proofs.PutBack.{puts_back}
+use Rattle.snap_machine.proofs.LineLaws.{written_fits, puts_back}
 use Rattle.snap_machine.proofs.Values.{when_ok}
 use Rattle.snap_machine.proofs.overwrites.current_place.Goals as goal
 
 pub returns-in-Some-clause-back : goal.returns-in-Some-clause-back
 returns-in-Some-clause-back g c =
     let as_word = g.K.Kind.as_word in
-    let s = c.args.program.now in
+    let s = c.args.context.now.program.now in
     let m = c.args.registers.now.memory in
-    let a = c.args.context.now.activity in
-    let here = seen_context as_word s c.args.context.now c.args.process.now in
+    let a = c.args.context.now.activity.now in
+    let here = seen_context as_word c.args.context.now c.args.process.now in
     let instr = c.in-Some.line.now.instr in
     let run =
     subst (λ (o : Option Instr). PutsBack s here m (written s here m instr) (effect_at s here m a o))
@@ -32,9 +31,9 @@ returns-in-Some-clause-back g c =
 pub returns-in-Some-clause-fits : goal.returns-in-Some-clause-fits
 returns-in-Some-clause-fits g c =
     let as_word = g.K.Kind.as_word in
-    let s = c.args.program.now in
+    let s = c.args.context.now.program.now in
     let m = c.args.registers.now.memory in
-    let here = seen_context as_word s c.args.context.now c.args.process.now in
+    let here = seen_context as_word c.args.context.now c.args.process.now in
     let instr = c.in-Some.line.now.instr in
     let of = subst (λ (k : KindTag). IsOfShape k c.args.context.now.shape m) (sym c.requires.kind) c.requires.memory in
     let fits = written_fits s here m instr c.in-Some.ensures.right c.requires.locals of in

@@ -15,15 +15,17 @@ nothing vs = tt
 
 pub returns-in_err-row_value : goal.returns-in_err-row_value
 returns-in_err-row_value g c =
-    let s = c.args.program.now in
+    let s = c.args.context.now.program.now in
     let p = c.args.process.now in
     let x = name_at s.rows c.args.slot in
     let v = named_expr s c.args.expr.now in
     let k = named_where s c.args.condition.now in
     let passed = c.loop-passed.passed in
-    let context : Context = seen_context g.K.Kind.as_word s c.args.context.now p in
+    let context : Context = seen_context g.K.Kind.as_word c.args.context.now p in
     let is : each_value (at_place context (passed + 1)) x v k ≡ Err c.in_err-row_value.field-0.0 =
-    ap (λ (t : StepContext). each_value (seen_context g.K.Kind.as_word s (record t { place = passed + 1 }) p) x v k)
+    ap (λ (t : StepContext). each_value (seen_context g.K.Kind.as_word (record t { place = passed + 1 }) p)
+    (name_at t.program.now.rows c.args.slot) (named_expr t.program.now c.args.expr.now)
+    (named_where t.program.now c.args.condition.now))
     (sym c.loop-passed.invariant.1) ∙ sym c.row_value.ensures ∙ c.in_err-row_value.was in
     let e = err_from_is_err_and c.from_residual.result c.from_residual.ensures.1 in
     rw (e.1, e.2) (sym (trap_place (λ q. each_value (at_place context q) x v k) nothing passed c.args.count
@@ -31,15 +33,17 @@ returns-in_err-row_value g c =
 
 pub loop-passed-preserved : goal.loop-passed-preserved
 loop-passed-preserved g c =
-    let s = c.args.program.now in
+    let s = c.args.context.now.program.now in
     let p = c.args.process.now in
     let x = name_at s.rows c.args.slot in
     let v = named_expr s c.args.expr.now in
     let k = named_where s c.args.condition.now in
     let passed = c.loop-passed.passed in
-    let context : Context = seen_context g.K.Kind.as_word s c.args.context.now p in
+    let context : Context = seen_context g.K.Kind.as_word c.args.context.now p in
     let is : each_value (at_place context (passed + 1)) x v k ≡ Ok c.in_ok-row_value.field-0 =
-    ap (λ (t : StepContext). each_value (seen_context g.K.Kind.as_word s (record t { place = passed + 1 }) p) x v k)
+    ap (λ (t : StepContext). each_value (seen_context g.K.Kind.as_word (record t { place = passed + 1 }) p)
+    (name_at t.program.now.rows c.args.slot) (named_expr t.program.now c.args.expr.now)
+    (named_where t.program.now c.args.condition.now))
     (sym c.loop-passed.invariant.1) ∙ sym c.row_value.ensures ∙ c.in_ok-row_value.was in (
       sym (next_place (λ q. each_value (at_place context q) x v k) nothing nothing passed c.args.count
           c.in_ok-row_value.field-0 (omega arith) is (λ vs. refl))

@@ -12,9 +12,11 @@ use Rattle.snap_machine.proofs.quantifiers.check_values.Given as goal
 
 abbrev pub invariant-loop-passed : goal.invariant-loop-passed
 invariant-loop-passed g l =
-    ((left_of (λ p. each_value (at_place (seen_context g.K.Kind.as_word l.program l.context l.process) p)
-    (name_at l.program.rows l.slot) (named_expr l.program l.expr) (named_where l.program l.condition))
+    ((left_of (λ p. each_value (at_place (seen_context g.K.Kind.as_word l.context l.process) p)
+    (name_at l.context.program.now.rows l.slot) (named_expr l.context.program.now l.expr)
+    (named_where l.context.program.now l.condition))
     l.passed l.count >>= λ vs. Ok tt)
-    ≡ checked_values (seen_context g.K.Kind.as_word l.program l.context l.process) l.count
-    (name_at l.program.rows l.slot) (named_expr l.program l.expr) (named_where l.program l.condition))
+    ≡ checked_values (seen_context g.K.Kind.as_word l.context l.process) l.count
+    (name_at l.context.program.now.rows l.slot) (named_expr l.context.program.now l.expr)
+    (named_where l.context.program.now l.condition))
     × (record l.there { place = 0 } ≡ record l.context { place = 0 })

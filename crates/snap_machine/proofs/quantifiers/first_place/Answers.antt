@@ -13,13 +13,14 @@ use Rattle.snap_machine.proofs.quantifiers.first_place.Goals as goal
 
 pub returns-in_err-holds : goal.returns-in_err-holds
 returns-in_err-holds g c =
-    let s = c.args.program.now in
+    let s = c.args.context.now.program.now in
     let p = c.args.process.now in
     let k = named_condition s c.args.condition.now in
     let passed = c.loop-passed.passed in
-    let context : Context = seen_context g.K.Kind.as_word s c.args.context.now p in
+    let context : Context = seen_context g.K.Kind.as_word c.args.context.now p in
     let is : condition_holds (at_place context (passed + 1)) k ≡ Err c.in_err-holds.field-0.0 =
-    ap (λ (t : StepContext). condition_holds (seen_context g.K.Kind.as_word s (record t { place = passed + 1 }) p) k)
+    ap (λ (t : StepContext). condition_holds (seen_context g.K.Kind.as_word (record t { place = passed + 1 }) p)
+    (named_condition t.program.now c.args.condition.now))
     (sym c.loop-passed.invariant.1) ∙ sym c.condition_holds.ensures ∙ c.in_err-holds.was in
     let left : List Bool → Option ℕ = λ bs. or_else c.loop-passed.found (first_true (passed + 1) bs) in
     let e = err_from_is_err_and c.from_residual.result c.from_residual.ensures.1 in
@@ -28,13 +29,14 @@ returns-in_err-holds g c =
 
 pub loop-passed-preserved : goal.loop-passed-preserved
 loop-passed-preserved g c =
-    let s = c.args.program.now in
+    let s = c.args.context.now.program.now in
     let p = c.args.process.now in
     let k = named_condition s c.args.condition.now in
     let passed = c.loop-passed.passed in
-    let context : Context = seen_context g.K.Kind.as_word s c.args.context.now p in
+    let context : Context = seen_context g.K.Kind.as_word c.args.context.now p in
     let is : condition_holds (at_place context (passed + 1)) k ≡ Ok c.in_ok-holds.holds =
-    ap (λ (t : StepContext). condition_holds (seen_context g.K.Kind.as_word s (record t { place = passed + 1 }) p) k)
+    ap (λ (t : StepContext). condition_holds (seen_context g.K.Kind.as_word (record t { place = passed + 1 }) p)
+    (named_condition t.program.now c.args.condition.now))
     (sym c.loop-passed.invariant.1) ∙ sym c.condition_holds.ensures ∙ c.in_ok-holds.was in
     let found : Option ℕ = c.first_of-found.result in
     let left : List Bool → Option ℕ = λ bs. or_else c.loop-passed.found (first_true (passed + 1) bs) in

@@ -13,9 +13,9 @@ use Rattle.snap_machine.proofs.quantifiers.first_place.Given as goal
 
 abbrev pub invariant-loop-passed : goal.invariant-loop-passed
 invariant-loop-passed g l =
-    ((left_of (λ p. condition_holds (at_place (seen_context g.K.Kind.as_word l.program l.context l.process) p)
-    (named_condition l.program l.condition)) l.passed l.count
+    ((left_of (λ p. condition_holds (at_place (seen_context g.K.Kind.as_word l.context l.process) p)
+    (named_condition l.context.program.now l.condition)) l.passed l.count
     >>= λ bs. Ok (or_else l.found (first_true (l.passed + 1) bs)))
-    ≡ first_place (seen_context g.K.Kind.as_word l.program l.context l.process) l.count
-    (named_condition l.program l.condition))
+    ≡ first_place (seen_context g.K.Kind.as_word l.context l.process) l.count
+    (named_condition l.context.program.now l.condition))
     × (record l.there { place = 0 } ≡ record l.context { place = 0 })

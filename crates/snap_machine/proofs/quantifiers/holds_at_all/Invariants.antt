@@ -12,8 +12,8 @@ use Rattle.snap_machine.proofs.quantifiers.holds_at_all.Given as goal
 
 abbrev pub invariant-loop-passed : goal.invariant-loop-passed
 invariant-loop-passed g l =
-    ((left_of (λ p. condition_holds (at_place (seen_context g.K.Kind.as_word l.program l.context l.process) p)
-    (named_condition l.program l.condition)) l.passed l.count >>= λ bs. Ok (l.all && all_true bs))
-    ≡ holds_at_all (seen_context g.K.Kind.as_word l.program l.context l.process) l.count
-    (named_condition l.program l.condition))
+    ((left_of (λ p. condition_holds (at_place (seen_context g.K.Kind.as_word l.context l.process) p)
+    (named_condition l.context.program.now l.condition)) l.passed l.count >>= λ bs. Ok (l.all && all_true bs))
+    ≡ holds_at_all (seen_context g.K.Kind.as_word l.context l.process) l.count
+    (named_condition l.context.program.now l.condition))
     × (record l.there { place = 0 } ≡ record l.context { place = 0 })

@@ -11,33 +11,33 @@ use Rattle.snap_machine.proofs.register_lines.line_put.Goals as goal
 
 pub built-requires-clause-sized : goal.built-requires-clause-sized
 built-requires-clause-sized g c κs lives =
-    let context : Context = seen_context g.K.Kind.as_word c.args.program.now c.args.context.now c.args.process.now in
-    let is : tuple_word context (named_tuple c.args.program.now c.args.tuple.now)
+    let context : Context = seen_context g.K.Kind.as_word c.args.context.now c.args.process.now in
+    let is : tuple_word context (named_tuple c.args.context.now.program.now c.args.tuple.now)
     ≡ Ok (given_word c.in_ok-given.given) = sym c.in_ok-given.ensures in
     (subst (λ (k : KindTag). Suits k context.shape (given_word c.in_ok-given.given)) c.requires.ready.kind
-    (word_suits c.args.program.now context (named_index c.args.program.now c.args.index.now)
-    (named_tuple c.args.program.now c.args.tuple.now)
+    (word_suits c.args.context.now.program.now context (named_index c.args.context.now.program.now c.args.index.now)
+    (named_tuple c.args.context.now.program.now c.args.tuple.now)
     (given_word c.in_ok-given.given) c.requires.ready.locals c.requires.right is)).0
 
 pub built-requires-clause-kept : goal.built-requires-clause-kept
 built-requires-clause-kept g c κs lives =
-    let context : Context = seen_context g.K.Kind.as_word c.args.program.now c.args.context.now c.args.process.now in
-    let is : tuple_word context (named_tuple c.args.program.now c.args.tuple.now)
+    let context : Context = seen_context g.K.Kind.as_word c.args.context.now c.args.process.now in
+    let is : tuple_word context (named_tuple c.args.context.now.program.now c.args.tuple.now)
     ≡ Ok (given_word c.in_ok-given.given) = sym c.in_ok-given.ensures in
     (subst (λ (k : KindTag). Suits k context.shape (given_word c.in_ok-given.given)) c.requires.ready.kind
-    (word_suits c.args.program.now context (named_index c.args.program.now c.args.index.now)
-    (named_tuple c.args.program.now c.args.tuple.now)
+    (word_suits c.args.context.now.program.now context (named_index c.args.context.now.program.now c.args.index.now)
+    (named_tuple c.args.context.now.program.now c.args.tuple.now)
     (given_word c.in_ok-given.given) c.requires.ready.locals c.requires.right is)).1
 
 pub put_word-requires-after_bounds : goal.put_word-requires-after_bounds
 put_word-requires-after_bounds g c κs lives =
-    let context : Context = seen_context g.K.Kind.as_word c.args.program.now c.args.context.now c.args.process.now in
-    let is : tuple_word context (named_tuple c.args.program.now c.args.tuple.now)
+    let context : Context = seen_context g.K.Kind.as_word c.args.context.now c.args.process.now in
+    let is : tuple_word context (named_tuple c.args.context.now.program.now c.args.tuple.now)
     ≡ Ok (given_word c.in_ok-given.given) = sym c.in_ok-given.ensures in
     let sized =
     (subst (λ (k : KindTag). Suits k context.shape (given_word c.in_ok-given.given)) c.requires.ready.kind
-    (word_suits c.args.program.now context (named_index c.args.program.now c.args.index.now)
-    (named_tuple c.args.program.now c.args.tuple.now)
+    (word_suits c.args.context.now.program.now context (named_index c.args.context.now.program.now c.args.index.now)
+    (named_tuple c.args.context.now.program.now c.args.tuple.now)
     (given_word c.in_ok-given.given) c.requires.ready.locals c.requires.right is)).0 in
     let word_is : g.K.Kind.as_word c.in_ok-word.word ≡ given_word c.in_ok-given.given =
     ap word_in c.in_ok-word.ensures in

@@ -5,7 +5,7 @@ use Rattle.std.proofs.lemmas.List.{get_or_default}
 use Rattle.snap_machine.specs.Sizes.{AreSized}
 use Rattle.snap_machine.specs.SeenPlaces.{seen_place}
 use Rattle.snap_machine.specs.Undo.{CanPut, Overwritten}
-use Rattle.snap_machine.proofs.Fitting.{sized_back}
+use Rattle.snap_machine.proofs.LineLaws.{sized_back}
 use Rattle.snap_machine.proofs.States.{reverted, sized_at, sized_set}
 use Rattle.snap_machine.specs.SeenProcesses.{seen_locals}
 use Rattle.snap_machine.proofs.reversal.revert.Goals as goal

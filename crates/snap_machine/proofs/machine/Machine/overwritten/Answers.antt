@@ -1,6 +1,6 @@
 -- `Machine::overwritten` of snap_machine (src/machine.rt): the proof of what its contract says. Returns what `item`
 -- would overwrite in this state: once that is put back after the item, everything is as before.
-use Rattle.std.proofs.Common.{ℕ, ◌-◌, ◌<◌, length, ap, arith, subst}
+use Rattle.std.proofs.Common.{◌-◌, ◌<◌, length, ap, arith, subst}
 use Rattle.snap_semantics.specs.State.{process_at}
 use Rattle.snap_semantics.specs.Table.{who}
 use Rattle.snap_machine.specs.Configuration.{Configuration, HasLocals}

@@ -1,5 +1,6 @@
--- `Walk::take` of snap_walk (src/walk.rt): the proof of what its contract says. Does the next item, which is `item`.
-use Rattle.std.proofs.Common.{◌≡◌, suc, sym, ap, subst, ◌+◌, ◌∙◌, arith}
+-- `Walk::take` of snap_walk (src/walk.rt): the proof of what its contract says. Does the next item, which is no step of
+-- a busy process, and returns its outcome.
+use Rattle.std.proofs.Common.{◌≡◌, suc, sym, ap, subst, ◌+◌, arith}
 use Rattle.snap_runs.specs.Run.{item, run_over}
 use Rattle.snap_walk.specs.Walk.{Way}
 use Rattle.snap_walk.proofs.Walks.{few_skips, more, skips_few}
@@ -13,14 +14,14 @@ overflow_add-self-2 g c =
     let within = h.within in
     let most = h.schedule.few in
     let one = c.skip_count.ensures in
-    let at_most = skips_few c.in_ok-outcome.outcome in
+    let at_most = skips_few c.apply_idle-outcome.result in
     omega (arith, few, skips, within, most, one, at_most)
 
-pub invariant_of-self-2 : goal.invariant_of-self-2
-invariant_of-self-2 g c =
+pub invariant_of-self : goal.invariant_of-self
+invariant_of-self g c =
     let w = c.self.inside in
-    more w.machine w.schedule.now w.done w.skipped w.ahead c.self.invariant c.apply.new.self
-    c.in_ok-outcome.outcome c.args.item c.pass.ensures.0 c.pass.new.self (w.skipped + c.skip_count.result)
-    (subst (λ (v : Way). c.args.item ≡ item v.run (suc v.at)) (sym c.self.view_is) c.requires.next)
-    c.pass.ensures.1 c.in_ok-outcome.ensures.source c.in_ok-outcome.ensures.shape c.in_ok-outcome.ensures.done
-    (ap (λ n. w.skipped + n) c.skip_count.ensures)
+    more w.machine w.schedule.now w.done w.skipped w.ahead c.self.invariant c.apply_idle-outcome.new.machine
+    c.apply_idle-outcome.result c.in-Some.item c.pass.ensures.0 c.pass.new.self (w.skipped + c.skip_count.result)
+    (subst (λ (v : Way). c.in-Some.item ≡ item v.run (suc v.at)) (sym c.self.view_is) c.in-Some.ensures.1)
+    c.pass.ensures.1 c.apply_idle-outcome.ensures.source c.apply_idle-outcome.ensures.shape
+    c.apply_idle-outcome.ensures.done (ap (λ n. w.skipped + n) c.skip_count.ensures)

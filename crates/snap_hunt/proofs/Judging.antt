@@ -1,33 +1,16 @@
 -- What is found where a run is judged, or where it is not; and verdicts that nobody asks for.
-use Rattle.std.proofs.Common.{◌≡◌, ℕ, inl, inr, Bool, true, false, List, Vec, Option, Some, None, is_some, length}
-use Rattle.std.proofs.Common.{if◌then◌else◌, map, refl, sym, ap, ◌∙◌}
-use Rattle.std.specs.Global.{Global}
+use Rattle.std.proofs.Common.{◌≡◌, ℕ, Bool, true, false, List, Option, Some, None, is_some, length}
+use Rattle.std.proofs.Common.{if◌then◌else◌, refl, sym, ap, ◌∙◌}
 use Rattle.snap_words.specs.Shape.{IsOneOf}
 use Rattle.snap_runs.specs.Run.{Run}
 use Rattle.snap_runs.specs.declared.verdict.Verdict.{Verdict}
-use Rattle.snap_judge.specs.Kept.{operation_of}
 use Rattle.snap_judge.specs.declared.judgements.Judgement.TheVariants as judgement
-use Rattle.snap_judge.specs.declared.operation.Operation.{Operation}
 use Rattle.snap_run_judge.specs.RunHistory.{history_of}
 use Rattle.snap_run_judge.specs.RunJudgement.{IsRunJudgement}
 use Rattle.snap_hunt.specs.declared.failures.Failure.{Failure}
 use Rattle.snap_hunt.specs.declared.failures.Wanted.{Wanted}
 use Rattle.snap_hunt.specs.Failing.{first_seen, many_of, no_point, of_collects, of_points}
-use Rattle.snap_hunt.specs.Finding.{Finds, IsJudged, IsJudgedIf, failure_at}
-
--- an order explains the history
-pub linearizable_so : (r : Run) (order : Vec Operation Global) →
-    IsRunJudgement 1000000 r (judgement.Linearizable order) → IsJudged r None
-linearizable_so r order h = inl (map operation_of order.items, h)
-
--- a judgement that is undecided finds no failure
-pub undecided_so : (r : Run) (k : ℕ) → IsRunJudgement 1000000 r (judgement.Undecided k) → IsJudged r None
-undecided_so r k h = inr (k, h)
-
--- a judgement that fails at an event finds the failure
-pub fails_so : (r : Run) (k : ℕ) (f : Failure) → IsRunJudgement 1000000 r (judgement.NotLinearizable k) →
-    f ≡ failure_at r k → IsJudged r (Some f)
-fails_so r k f h is = (k, h, is)
+use Rattle.snap_hunt.specs.Finding.{Finds, IsJudgedIf}
 
 pub is_event : (r : Run) (k : ℕ) → IsRunJudgement 1000000 r (judgement.NotLinearizable k) →
     IsOneOf (length (history_of r).events) k

@@ -144,13 +144,3 @@ alone l p w seed k None h = λ j le lt.
     let same : k ≡ j = omega (arith, le, lt) in
     subst (λ (i : ℕ). Finds w (run_of l p seed i) None) same h
 alone l p w seed k (Some f) h = (omega arith, omega arith, λ j le lt. absurd (omega (arith, le, lt)), h)
-
--- none so far, and none at the next place
-pub none_further : (found : List (Option Failure)) (k : ℕ) → ((j : ℕ) → j < k → slice_index_or found j None ≡ None)
-    → slice_index_or found k None ≡ None → (j : ℕ) → j < suc k → slice_index_or found j None ≡ None
-none_further found k before here j lt = decide (below_or_not j k) where
-  decide : (j < k) ⊎ (k ≤ j) → slice_index_or found j None ≡ None
-  decide (inl below) = before j below
-  decide (inr after) =
-      let same : k ≡ j = omega (arith, lt, after) in
-      subst (λ (i : ℕ). slice_index_or found i None ≡ None) same here

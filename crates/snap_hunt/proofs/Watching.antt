@@ -3,11 +3,11 @@
 use Rattle.std.proofs.Common.{◌≡◌, ℕ, zero, suc, ◌+◌, ◌-◌, ◌^◌, ◌<◌, ◌≤◌, Bool, true, false, ◌&&◌, List, []}
 use Rattle.std.proofs.Common.{length, get_or, inl, inr, Option, Some, None, if◌then◌else◌, nat_eq}
 use Rattle.std.proofs.Common.{nat_lt, refl, sym, ap, subst, ◌∙◌, arith}
-use Rattle.std.specs.Prelude.{replicate, slice_set}
+use Rattle.std.specs.Prelude.{slice_set}
 use Rattle.std.proofs.lemmas.Bool.{eqb-true, eqb-false}
 use Rattle.std.proofs.lemmas.Grind.{get_or-set_at}
-use Rattle.std.proofs.lemmas.List.{get_or-replicate, get_or-set_other}
-use Rattle.std.proofs.lemmas.List.{length-replicate, length-set, set-get_or}
+use Rattle.std.proofs.lemmas.List.{get_or-set_other}
+use Rattle.std.proofs.lemmas.List.{length-set, set-get_or}
 use Rattle.snap_words.specs.Shape.{IsOneOf}
 use Rattle.snap_semantics.specs.Rules.{or_else}
 use Rattle.snap_semantics.specs.State.{process_at}
@@ -181,18 +181,6 @@ watches_next r most t owns owns' found later one set over h =
         get_or-set_other owns (k - 1) (i - 1) _ d (λ same. differ (omega (arith, same, low, first)))
         ∙ h.each i his d
         ∙ sym (beside r i t e)
-
--- before the first item
-pub watches_none : (r : Run) (most : ℕ) (owns : List OwnSteps) →
-    owns ≡ replicate r.shape.n none_taken → CountsSteps r most 0 owns None
-watches_none r most owns is = record {
-  count = ap length is ∙ length-replicate r.shape.n none_taken;
-  each = λ i one d.
-      let low = one.0 in
-      let high = one.1 in
-      ap (λ xs. get_or xs (i - 1) d) is ∙ get_or-replicate r.shape.n (i - 1) none_taken d (omega (arith, low, high));
-  found_is = refl;
-}
 
 -- a process has room to count one step more
 pub few_steps : (r : Run) (most t i : ℕ) (owns : List OwnSteps) (found : Option Failure) →

@@ -4,7 +4,6 @@ use Rattle.std.specs.Prelude.{◌≡◌, ◌⊎◌, ℕ, Bool, List, [], Option,
 use Rattle.std.specs.Prelude.{string_bytes}
 use Rattle.std.specs.declared.io.ErrorKind.{ErrorKind}
 use Rattle.snap_streams.specs.Event.{Shows}
-use Rattle.snap_streams.specs.Folder.{Kept}
 use Rattle.snap_streams.specs.declared.dialog_fault.DialogFault.{DialogFault}
 use Rattle.snap_faults.specs.Names.{of_program}
 use Rattle.snap_faults.specs.Told.{SaysWhy, Tells, exit_status, no_memory_line, no_text_line, success}
@@ -14,11 +13,10 @@ use Rattle.snap_named_files.specs.Explained.{explanation_in}
 use Rattle.snap_named_files.specs.Named.{names_of, view_named}
 use Rattle.snap_named_files.specs.Texts.{AreTexts, Read}
 use Rattle.snap_named_files.specs.declared.texts.Texts.{Texts}
-use Rattle.snap_prompt.specs.declared.shows.Shows as beside
 use Rattle.snap_semantics.specs.declared.refusal.Refusal.TheVariants.{InputTooLong}
 use Rattle.snap_streams.specs.Sent.{Says}
 use Rattle.snap_streams.specs.State.{SinkState}
-use Rattle.snapdb.specs.Talk.{TalksRead}
+use Rattle.snapdb.specs.Talk.{Devices, IsSilent, TalksRead}
 use Rattle.snapdb.specs.declared.arguments.Session.{Session}
 use Rattle.snapdb.specs.declared.command_line.CommandLine.{CommandLine}
 use Rattle.snapdb.specs.declared.command_line.CommandLine.TheVariants.{Asks, Help, Wrong, NoText}
@@ -36,16 +34,14 @@ why texts _ = []
 abbrev pub explained : (explains : Bool) → Option Read → ProgramFault → List ℕ
 explained explains texts f = if explains then why texts f else []
 
--- What the program does about a session: also what its folder, which had kept this before, has kept then. Where a text is
--- refused, it is the one that is explained.
-abbrev pub AnswersSession : (files : List ℕ → Option (Result (List ℕ) ErrorKind)) → Session → (shows : beside.Shows) →
-    (status : ℕ) → (left shown shown_after : Option (List ℕ)) → (kept kept_after : Option (List Kept)) →
-    (failure : Option DialogFault) →
+-- What the program does about a session: what it shows and keeps at these devices, what it says, and its status. Where a
+-- text is refused, it is the one that is explained.
+abbrev pub AnswersSession : (files : List ℕ → Option (Result (List ℕ) ErrorKind)) → Session → (status : ℕ) → Devices →
     (errors errors_after : SinkState) → Type 0
-AnswersSession files session shows status left shown shown_after kept kept_after failure errors errors_after =
+AnswersSession files session status d errors errors_after =
     (done : Result (Unit {0}) ProgramFault) × (read : Result Texts ProgramFault) × (texts : Option Read)
     × (status ≡ exit_status success done) × AreTexts files (view_named session.named) read
-    × TalksRead read texts shows done left shown shown_after kept kept_after failure
+    × TalksRead read texts done d
     × SaysWhy (names_of called (view_named session.named)) (explained session.explains texts) done errors errors_after
 
 -- Help is shown, and 0 is its status; or the console failed, which is said, and it is 3.
@@ -57,19 +53,17 @@ Shown text status shown shown_after errors errors_after =
     ⊎ ((f : DialogFault) × (status ≡ 3) × Shows (Err f) shown shown_after text
     × Tells (of_program called) fault.Show errors errors_after)
 
--- What the program does about a command line, or where there was no memory to read it: what it shows where these bytes
--- are left to be typed, what it says, its status, and what is kept in files then.
+-- What the program does about a command line, or where there was no memory to read it: what it shows and keeps, what it
+-- says, and its status.
 abbrev pub AnswersLine : {E : Type 0} → (files : List ℕ → Option (Result (List ℕ) ErrorKind)) → Result CommandLine E →
-    (shows : beside.Shows) → (status : ℕ) → (left shown shown_after : Option (List ℕ)) →
-    (kept kept_after : Option (List Kept)) → (failure : Option DialogFault) →
-    (errors errors_after : SinkState) → Type 0
-AnswersLine files (Ok (Asks session)) shows status left shown shown_after kept kept_after failure errors errors_after =
-    AnswersSession files session shows status left shown shown_after kept kept_after failure errors errors_after
-AnswersLine files (Ok (Help text)) shows status left shown shown_after kept kept_after failure errors errors_after =
-    Shown (string_bytes text) status shown shown_after errors errors_after × (kept_after ≡ kept)
-AnswersLine files (Ok (Wrong text)) shows status left shown shown_after kept kept_after failure errors errors_after =
-    (status ≡ 2) × (shown ≡ shown_after) × (kept_after ≡ kept) × Says (string_bytes text) errors errors_after
-AnswersLine files (Ok NoText) shows status left shown shown_after kept kept_after failure errors errors_after =
-    (status ≡ 2) × (shown ≡ shown_after) × (kept_after ≡ kept) × Says no_text_line errors errors_after
-AnswersLine files (Err e) shows status left shown shown_after kept kept_after failure errors errors_after =
-    (status ≡ 1) × (shown ≡ shown_after) × (kept_after ≡ kept) × Says no_memory_line errors errors_after
+    (status : ℕ) → Devices → (errors errors_after : SinkState) → Type 0
+AnswersLine files (Ok (Asks session)) status d errors errors_after =
+    AnswersSession files session status d errors errors_after
+AnswersLine files (Ok (Help text)) status d errors errors_after =
+    Shown (string_bytes text) status d.shown d.shown_after errors errors_after × (d.kept_after ≡ d.kept)
+AnswersLine files (Ok (Wrong text)) status d errors errors_after =
+    (status ≡ 2) × IsSilent d × Says (string_bytes text) errors errors_after
+AnswersLine files (Ok NoText) status d errors errors_after =
+    (status ≡ 2) × IsSilent d × Says no_text_line errors errors_after
+AnswersLine files (Err e) status d errors errors_after =
+    (status ≡ 1) × IsSilent d × Says no_memory_line errors errors_after

@@ -33,9 +33,15 @@ fn talk_over<C: Console, S: Folder + Copy>(
     folder: &mut S,
 ) -> Result<(), ProgramFault>
     requires { C.failure console.old ≡ None }
-    ensures { TalksIn (OfFiles listing.now schedule.now) shows result (C.left console.old)
-        (C.shown console.old) (C.shown console.new) (S.kept folder.old) (S.kept folder.new)
-        (C.failure console.new) }
+    ensures { TalksIn (OfFiles listing.now schedule.now) result (record {
+      shows = shows;
+      left = C.left console.old;
+      shown = C.shown console.old;
+      shown_after = C.shown console.new;
+      kept = S.kept folder.old;
+      kept_after = S.kept folder.new;
+      failed = C.failure console.new;
+    }) }
 {
     match program_of(alloc, listing) {
         Ok(program) => talk_about(alloc, &program, schedule, shows, console, folder),
@@ -53,9 +59,15 @@ fn talk_over_shipped<C: Console, S: Folder + Copy>(
     folder: &mut S,
 ) -> Result<(), ProgramFault>
     requires { C.failure console.old ≡ None }
-    ensures { TalksIn (OfShipped kind schedule.now) shows result (C.left console.old)
-        (C.shown console.old) (C.shown console.new) (S.kept folder.old) (S.kept folder.new)
-        (C.failure console.new) }
+    ensures { TalksIn (OfShipped kind schedule.now) result (record {
+      shows = shows;
+      left = C.left console.old;
+      shown = C.shown console.old;
+      shown_after = C.shown console.new;
+      kept = S.kept folder.old;
+      kept_after = S.kept folder.new;
+      failed = C.failure console.new;
+    }) }
 {
     match shipped(alloc, kind) {
         Ok(program) => talk_about(alloc, &program, schedule, shows, console, folder),
@@ -72,9 +84,15 @@ fn talk<C: Console, S: Folder + Copy>(
     folder: &mut S,
 ) -> Result<(), ProgramFault>
     requires { C.failure console.old ≡ None }
-    ensures { TalksIn (view_texts texts.now) shows result (C.left console.old)
-        (C.shown console.old) (C.shown console.new) (S.kept folder.old) (S.kept folder.new)
-        (C.failure console.new) }
+    ensures { TalksIn (view_texts texts.now) result (record {
+      shows = shows;
+      left = C.left console.old;
+      shown = C.shown console.old;
+      shown_after = C.shown console.new;
+      kept = S.kept folder.old;
+      kept_after = S.kept folder.new;
+      failed = C.failure console.new;
+    }) }
 {
     match texts {
         Texts::Files(listing, schedule) => talk_over(
@@ -166,9 +184,15 @@ fn open<F: FileSource + Folder + Copy, C: Console, E: ByteSink>(
 ) -> u8
     requires console { C.failure console.old ≡ None }
     requires errors { (E.state errors.old).failed ≡ false }
-    ensures { AnswersSession (F.found files.old) session.now shows result (C.left console.old)
-        (C.shown console.old) (C.shown console.new) (F.kept files.old) (F.kept files.new)
-        (C.failure console.new) (E.state errors.old) (E.state errors.new) }
+    ensures { AnswersSession (F.found files.old) session.now result (record {
+      shows = shows;
+      left = C.left console.old;
+      shown = C.shown console.old;
+      shown_after = C.shown console.new;
+      kept = F.kept files.old;
+      kept_after = F.kept files.new;
+      failed = C.failure console.new;
+    }) (E.state errors.old) (E.state errors.new) }
 {
     match read_texts(alloc, &*files, &session.named) {
         Ok(texts) => {
@@ -212,9 +236,15 @@ pub(crate) fn answer<F: FileSource + Folder + Copy, C: Console, E: ByteSink>(
 ) -> u8
     requires console { C.failure console.old ≡ None }
     requires errors { (E.state errors.old).failed ≡ false }
-    ensures { AnswersLine (F.found files.old) line.now shows result (C.left console.old)
-        (C.shown console.old) (C.shown console.new) (F.kept files.old) (F.kept files.new)
-        (C.failure console.new) (E.state errors.old) (E.state errors.new) }
+    ensures { AnswersLine (F.found files.old) line.now result (record {
+      shows = shows;
+      left = C.left console.old;
+      shown = C.shown console.old;
+      shown_after = C.shown console.new;
+      kept = F.kept files.old;
+      kept_after = F.kept files.new;
+      failed = C.failure console.new;
+    }) (E.state errors.old) (E.state errors.new) }
 {
     match line {
         Ok(CommandLine::Asks(session)) => open(alloc, session, shows, files, console, errors),

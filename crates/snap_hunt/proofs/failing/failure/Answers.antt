@@ -1,15 +1,13 @@
 -- `failure` of snap_hunt (src/failing.rt): the proof of what its contract says. Returns the first wanted failure of
 -- a run, behind its last item: that it is not linearizable, or what is seen in it.
-use Rattle.std.proofs.Common.{◌≡◌, List, Option, ap, length, refl, subst, sym, ◌∙◌}
+use Rattle.std.proofs.Common.{◌≡◌, ap, length, refl, subst, sym, ◌∙◌}
 use Rattle.snap_words.specs.Shape.{Counts}
-use Rattle.snap_semantics.specs.Rules.{or_else}
 use Rattle.snap_semantics.specs.State.{State}
 use Rattle.snap_runs.specs.Audit.{audit}
 use Rattle.snap_runs.specs.Run.{IsValidRun, Run, events_of, state}
 use Rattle.snap_run_judge.proofs.Shown.{is_history}
 use Rattle.snap_audit.proofs.Watches.{whole_way}
-use Rattle.snap_hunt.specs.Failing.{first_seen, of_collects, of_points, of_steps, of_traps}
-use Rattle.snap_hunt.specs.declared.failures.Failure.{Failure}
+use Rattle.snap_hunt.specs.Failing.{of_collects, of_points, of_traps}
 use Rattle.snap_hunt.proofs.Judging.{found_judged, found_seen}
 use Rattle.snap_hunt.proofs.failing.failure.Goals as goal
 

@@ -1,6 +1,6 @@
 -- `failure_of_run` of snap_hunt (src/over.rt): the proof of what its contract says. Returns what fails in the run of
 -- a program of a kind, with no bound on steps.
-use Rattle.std.proofs.Common.{IfOk, None, false, ap, sym, subst, ◌∙◌}
+use Rattle.std.proofs.Common.{IfOk, false, ap, sym, subst, ◌∙◌}
 use Rattle.snap_runs.specs.Run.{Run}
 use Rattle.snap_audit.proofs.Watches.{fewer_left, same_run, silent_here, watched_all}
 use Rattle.snap_hunt.specs.Failing.{long_of}

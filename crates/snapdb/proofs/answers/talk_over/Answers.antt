@@ -1,27 +1,30 @@
 -- `talk_over` of snapdb (src/answers.rt): the proof of what its contract says. Talks about the listing of one text,
 -- under the schedule of another.
-use Rattle.std.proofs.Common.{inl, inr, ap, sym, ◌∙◌}
-use Rattle.snapdb.specs.Talk.{listing_in}
+use Rattle.std.proofs.Common.{inl, inr, ap, refl, sym, ◌∙◌}
+use Rattle.snapdb.specs.Talk.{Devices, listing_in}
 use Rattle.snapdb.proofs.Talked.{talked, unlisted}
 use Rattle.snapdb.proofs.answers.talk_over.Goals as goal
 
 pub returns-in-Ok : goal.returns-in-Ok
 returns-in-Ok g c =
     let told = c.talk_about.ensures in
-    let old = c.args.console.now in
-    let new = c.talk_about.new.console in
-    let kept = g.S.Folder.kept c.args.folder.now in
-    let kept_after = g.S.Folder.kept c.talk_about.new.folder in
+    let d : Devices = record {
+      shows = c.args.shows;
+      left = g.C.Console.left c.args.console.now;
+      shown = g.C.Console.shown c.args.console.now;
+      shown_after = g.C.Console.shown c.talk_about.new.console;
+      kept = g.S.Folder.kept c.args.folder.now;
+      kept_after = g.S.Folder.kept c.talk_about.new.folder;
+      failed = g.C.Console.failure c.talk_about.new.console;
+    } in
     inr (
       c.in-Ok.program,
       c.in-Ok.ensures,
-      talked c.in-Ok.program c.args.schedule.now c.args.shows c.talk_about.result (g.C.Console.left old)
-          (g.C.Console.shown old) (g.C.Console.shown new) kept kept_after (g.C.Console.failure new) told.shown
+      talked c.in-Ok.program c.args.schedule.now c.talk_about.result d told.shown
           (λ r is.
           let h = told.refused r is in (
             h.0,
-            ap (λ x. g.C.Console.shown x) (sym h.1),
-            ap (λ x. g.S.Folder.kept x) h.2,
+            (ap (λ x. g.C.Console.shown x) (sym h.1), ap (λ x. g.S.Folder.kept x) h.2),
             ap (λ x. g.C.Console.failure x) h.1 ∙ c.requires,
           ))
           told.well told.fails told.shown_part,
@@ -29,6 +32,14 @@ returns-in-Ok g c =
 
 pub returns-in-Err : goal.returns-in-Err
 returns-in-Err g c =
+    let d : Devices = record {
+      shows = c.args.shows;
+      left = g.C.Console.left c.args.console.now;
+      shown = g.C.Console.shown c.args.console.now;
+      shown_after = g.C.Console.shown c.args.console.now;
+      kept = g.S.Folder.kept c.args.folder.now;
+      kept_after = g.S.Folder.kept c.args.folder.now;
+      failed = g.C.Console.failure c.args.console.now;
+    } in
     rw c.from.ensures
-    (inl (unlisted c.in-Err.fault (listing_in c.args.listing.now) (g.C.Console.shown c.args.console.now)
-    (g.S.Folder.kept c.args.folder.now) c.in-Err.ensures))
+    (inl (unlisted c.in-Err.fault (listing_in c.args.listing.now) d (refl, refl) c.in-Err.ensures))

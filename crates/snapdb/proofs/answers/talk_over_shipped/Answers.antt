@@ -2,33 +2,32 @@
 -- shipped for a kind, under the schedule of a text.
 use Rattle.std.proofs.Common.{inl, inr, ap, refl, subst, sym, ◌∙◌}
 use Rattle.snap_semantics.specs.Source.{Source}
-use Rattle.snapdb.specs.Talk.{Talks}
+use Rattle.snapdb.specs.Talk.{Devices, Talks}
 use Rattle.snapdb.proofs.Talked.{talked}
 use Rattle.snapdb.proofs.answers.talk_over_shipped.Goals as goal
 
 pub returns-in-Ok : goal.returns-in-Ok
 returns-in-Ok g c =
     let told = c.talk_about.ensures in
-    let old = c.args.console.now in
-    let new = c.talk_about.new.console in
-    let kept = g.S.Folder.kept c.args.folder.now in
-    let kept_after = g.S.Folder.kept c.talk_about.new.folder in
+    let d : Devices = record {
+      shows = c.args.shows;
+      left = g.C.Console.left c.args.console.now;
+      shown = g.C.Console.shown c.args.console.now;
+      shown_after = g.C.Console.shown c.talk_about.new.console;
+      kept = g.S.Folder.kept c.args.folder.now;
+      kept_after = g.S.Folder.kept c.talk_about.new.folder;
+      failed = g.C.Console.failure c.talk_about.new.console;
+    } in
     inr
-    (subst
-    (λ (l : Source).
-    Talks l c.args.schedule.now c.args.shows c.talk_about.result (g.C.Console.left old) (g.C.Console.shown old)
-    (g.C.Console.shown new) kept kept_after (g.C.Console.failure new))
-    c.in-Ok.ensures
-    (talked c.in-Ok.program c.args.schedule.now c.args.shows c.talk_about.result (g.C.Console.left old)
-    (g.C.Console.shown old) (g.C.Console.shown new) kept kept_after (g.C.Console.failure new) told.shown
+    (subst (λ (l : Source). Talks l c.args.schedule.now c.talk_about.result d) c.in-Ok.ensures
+    (talked c.in-Ok.program c.args.schedule.now c.talk_about.result d told.shown
     (λ r is.
     let h = told.refused r is in (
       h.0,
-      ap (λ x. g.C.Console.shown x) (sym h.1),
-      ap (λ x. g.S.Folder.kept x) h.2,
+      (ap (λ x. g.C.Console.shown x) (sym h.1), ap (λ x. g.S.Folder.kept x) h.2),
       ap (λ x. g.C.Console.failure x) h.1 ∙ c.requires,
     ))
     told.well told.fails told.shown_part))
 
 pub returns-in-Err : goal.returns-in-Err
-returns-in-Err g c = inl (inr refl, refl, refl)
+returns-in-Err g c = inl (inr refl, (refl, refl))

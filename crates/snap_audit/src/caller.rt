@@ -8,6 +8,7 @@ ghost use Rattle.snap_runs.specs.declared.verdict.Verdict.{Verdict};
 
 use snap_record::{Change, Row, advance};
 use snap_runs::Verdict;
+use snap_semantics::Event;
 use std::alloc::{AllocError, Global};
 
 /// The last call of a process, with the values then, the next change, and how many double collects
@@ -87,35 +88,35 @@ impl Caller {
         self.collects = collects;
     }
 
-    /// Returns the verdict on the last scan that the process called, once it is answered.
+    /// Returns the verdict on the last scan that the process called, once `event` has answered it
+    /// with `view`.
     pub(crate) fn verdict(
         &self,
         alloc: Global,
         changes: &[Change],
-        process: u32,
-        answer: u64,
+        event: &Event,
         view: &[u64],
         collects: u64,
     ) -> Result<Verdict, AllocError>
-        requires order { self.now.call ≤ answer }
-        requires few { answer + 1 < 2 ^ 64 }
+        requires order { self.now.call ≤ event.now.item }
+        requires few { event.now.item + 1 < 2 ^ 64 }
         requires collects { self.now.collects ≤ collects }
         ensures { IfOk result (λ v. v ≡ record {
-          process = process;
+          process = event.now.process;
           call = self.now.call;
-          answer = answer;
+          answer = event.now.item;
           point = least_by self.now.values (drop self.now.next changes.now) view.now self.now.call
-              (suc (answer - self.now.call));
+              (suc (event.now.item - self.now.call));
           collects = collects - self.now.collects;
         }) }
     {
         let mut values = self.values.copy(alloc)?;
-        let count = answer - self.call + 1;
+        let count = event.item - self.call + 1;
         let point = find_point(&mut values, changes, self.next, view, self.call, count);
         Ok(Verdict {
-            process,
+            process: event.process,
             call: self.call,
-            answer,
+            answer: event.item,
             point,
             collects: collects - self.collects,
         })

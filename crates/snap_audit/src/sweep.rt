@@ -59,14 +59,7 @@ fn note_event(
         }
         Happening::Answer(view) => {
             let caller = &callers[k];
-            let verdict = caller.verdict(
-                alloc,
-                changes,
-                event.process,
-                event.item,
-                view.as_slice(),
-                collects,
-            )?;
+            let verdict = caller.verdict(alloc, changes, event, view.as_slice(), collects)?;
             verdicts.push(verdict)?;
             Ok(())
         }

@@ -14,7 +14,7 @@ use snap_words::Kind;
 use std::alloc::{AllocError, Global};
 
 /// Appends a point, or that there is none.
-fn point_text(out: &mut Draft, point: Option<u64>)
+fn push_point(out: &mut Draft, point: Option<u64>)
     ensures { Adds out.old out.new (point_text point) }
 {
     match point {
@@ -23,7 +23,7 @@ fn point_text(out: &mut Draft, point: Option<u64>)
     }
 }
 
-/// Appends the line `scan I call C answer E point P collects N`.
+/// Appends the line of a verdict, `scan I call C answer E point P collects N`.
 pub fn push_verdict_line(out: &mut Draft, verdict: &Verdict)
     ensures { Adds out.old out.new (verdict_line verdict.now) }
 {
@@ -34,7 +34,7 @@ pub fn push_verdict_line(out: &mut Draft, verdict: &Verdict)
     out.push(b" answer ");
     out.push_number(verdict.answer);
     out.push(b" point ");
-    point_text(out, verdict.point);
+    push_point(out, verdict.point);
     out.push(b" collects ");
     out.push_number(verdict.collects);
     out.push(b"\n");
@@ -54,7 +54,7 @@ pub fn verdict_line(alloc: Global, verdict: &Verdict) -> Result<Vec<u8>, AllocEr
 }
 
 /// Appends the lines of verdicts.
-fn verdict_lines(out: &mut Draft, verdicts: &[Verdict])
+fn push_verdict_lines(out: &mut Draft, verdicts: &[Verdict])
     ensures { Adds out.old out.new (verdict_lines verdicts.now) }
 {
     for verdict in verdicts {
@@ -67,7 +67,7 @@ fn text_of(alloc: Global, verdicts: &[Verdict]) -> Result<Vec<u8>, AllocError>
     ensures { IfOk result (λ out. out.items ≡ verdict_lines verdicts.now) }
 {
     let mut out = Draft::new(alloc);
-    verdict_lines(&mut out, verdicts);
+    push_verdict_lines(&mut out, verdicts);
     out.finish()
 }
 

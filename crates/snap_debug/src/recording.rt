@@ -315,10 +315,11 @@ impl<K: Kind> Recording<K> {
         Ok(())
     }
 
-    /// Returns the last checkpoint that is not behind a position.
+    /// Returns a checkpoint at `position` or before it. The later it is, the fewer items have to be
+    /// done again; no clause says how late it is.
     pub fn checkpoint(&self, position: u64) -> &Checkpoint<K>
         ensures stands { IsCheckpoint self.now.run result.now }
-        ensures before { result.now.position ≤ position }
+        ensures not_after { result.now.position ≤ position }
     {
         let k = (position / self.spacing()).min(self.later.len() as u64);
         if k > 0 {

@@ -108,19 +108,28 @@ fn four(
     Ok(Condition::Four(join, first, second, third, fourth))
 }
 
-/// Reads `count` comparisons, whose count stands behind `at` bytes, before the join.
+/// What stands before the comparisons of a condition.
+#[derive(Clone, Copy)]
+struct Opening {
+    /// How many comparisons there are, 1 to 4.
+    count: u8,
+    /// How many bytes stand before the join.
+    at: u64,
+    join: Join,
+}
+
+/// Reads the comparisons of a condition behind its opening.
 fn comparisons(
     header: &Header,
     line: u64,
     in_quantifier: bool,
-    at: u64,
-    count: u8,
-    join: Join,
+    opening: Opening,
     cursor: &mut Cursor<'_>,
 ) -> Result<Condition, ImageRefusal>
     ensures { Reads result cursor.new (comparisons_in (header_source header.now) line in_quantifier
-        at count join cursor.old) }
+        opening.at opening.count opening.join cursor.old) }
 {
+    let Opening { count, at, join } = opening;
     if count == 1 {
         one(header, line, in_quantifier, at, join, cursor)
     } else if count == 2 {
@@ -150,7 +159,13 @@ pub fn condition(
     let count = cursor.count()?;
     let at = cursor.passed();
     let join = cursor.code::<Join>()?;
-    comparisons(header, line, in_quantifier, at, count, join, cursor)
+    comparisons(
+        header,
+        line,
+        in_quantifier,
+        Opening { count, at, join },
+        cursor,
+    )
 }
 
 /// Reads the condition if `flag` says that there is one.

@@ -73,21 +73,29 @@ fn line_at(
     Ok(Line { number, instr })
 }
 
-/// Reads line `line`, counted from 1, with its comment, appends both, and returns the line's
-/// number.
+/// Which line comes next.
+#[derive(Clone, Copy)]
+struct NextLine {
+    /// Its place among the lines, counted from 1.
+    line: u64,
+    /// The line number before it; 0 where it is the first.
+    last: u64,
+}
+
+/// Reads the next line with its comment, appends both, and returns the line's number.
 fn add_line(
     alloc: Global,
     header: &Header,
     version: ImageVersion,
-    line: u64,
-    last: u64,
+    next: NextLine,
     read: &mut CommentedLines,
     cursor: &mut Cursor<'_>,
 ) -> Result<u64, ImageFault>
     ensures { Answers (λ number. (number, listed read.new, cursor.new)) result
-        (added_line (header_source header.now) version line last (listed read.old) cursor.old) }
+        (added_line (header_source header.now) version next.line next.last (listed read.old)
+        cursor.old) }
 {
-    match line_at(header, version, line, last, cursor) {
+    match line_at(header, version, next.line, next.last, cursor) {
         Ok(found) => {
             push_line_copy(&mut read.lines, &found)?;
             read.comments.push(behind_line(alloc, version, cursor)?)?;
@@ -119,7 +127,11 @@ pub fn lines(
     };
     let mut last = 0;
     for place in 0..count {
-        last = add_line(alloc, header, version, place + 1, last, &mut read, cursor)?;
+        let next = NextLine {
+            line: place + 1,
+            last,
+        };
+        last = add_line(alloc, header, version, next, &mut read, cursor)?;
     }
     Ok(read)
 }

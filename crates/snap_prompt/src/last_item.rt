@@ -135,7 +135,7 @@ fn push_item_line(
 }
 
 /// Appends the text on the last item, if there is one.
-#[tactic(auto, using(crate::proofs::LastItems::is_one), unfolding(crate::specs::Changed::item_text))]
+#[tactic(auto, using(crate::proofs::LastItems::last_process_is_one), unfolding(crate::specs::Changed::item_text))]
 pub(crate) fn push_item<K: Kind>(
     out: &mut Draft,
     texts: &LineTexts,

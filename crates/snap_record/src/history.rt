@@ -257,6 +257,15 @@ fn is_unseen(outcome: &Outcome) -> bool
     }
 }
 
+/// What an item of a record did.
+#[derive(Clone, Copy)]
+pub struct Done<'o> {
+    /// The item's place in the record, counted from 1.
+    pub number: u64,
+    pub item: Item,
+    pub outcome: &'o Outcome,
+}
+
 /// Notes what callers see of an item, and how many double collects its process has made. The view
 /// of an answer is the one that was to be answered.
 #[inline(always)]
@@ -264,21 +273,25 @@ pub fn note_outcome(
     events: &mut Vec<Event>,
     at_events: &mut Vec<u64>,
     collects: &[u64],
-    number: u64,
-    item: Item,
-    outcome: &Outcome,
+    done: Done<'_>,
     step_role: StepRole,
 )
-    requires process { IsOneOf (length collects.now) (who item) }
-    requires answer { (v : List ℕ) → outcome.now ≡ outcomes.Answered v → seen_step_role step_role
-        ≡ Answer v }
+    requires process { IsOneOf (length collects.now) (who done.item) }
+    requires answer { (v : List ℕ) → done.outcome.now ≡ outcomes.Answered v →
+        seen_step_role step_role ≡ Answer v }
     requires events { vec_len events.old < vec_capacity events.old }
     requires at_events { vec_len at_events.old < vec_capacity at_events.old }
-    ensures events { events.new.items ≡ events.old.items ++ event_of number item outcome.now }
+    ensures events { events.new.items ≡ events.old.items
+        ++ event_of done.number done.item done.outcome.now }
     ensures at_events { at_events.new.items ≡ at_events.old.items
-        ++ map (λ (e : Event). slice_index collects.now (who item - 1))
-        (event_of number item outcome.now) }
+        ++ map (λ (e : Event). slice_index collects.now (who done.item - 1))
+        (event_of done.number done.item done.outcome.now) }
 {
+    let Done {
+        number,
+        item,
+        outcome,
+    } = done;
     if is_unseen(outcome) {
         return;
     }

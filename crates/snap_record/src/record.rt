@@ -15,7 +15,7 @@ ghost use Rattle.snap_record.specs.History.{LeadsAlong, collects_at};
 ghost use Rattle.snap_record.specs.declared.fault.RecordFault.TheVariants.{Full};
 
 use crate::fault::RecordFault;
-use crate::history::{Change, note_collect, note_item, note_outcome, reserve_changes};
+use crate::history::{Change, Done, note_collect, note_item, note_outcome, reserve_changes};
 use crate::items::History;
 use crate::roles::{LineRole, new_roles};
 use crate::row::Row;
@@ -141,13 +141,16 @@ impl<K: Kind> Record<K> {
             &self.machine,
         );
         note_collect(&mut self.collects, who(item), &step_role, &outcome);
+        let done = Done {
+            number,
+            item,
+            outcome: &outcome,
+        };
         note_outcome(
             &mut self.events,
             &mut self.at_events,
             self.collects.as_slice(),
-            number,
-            item,
-            &outcome,
+            done,
             step_role,
         );
         Ok(outcome)

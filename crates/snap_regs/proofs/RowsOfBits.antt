@@ -42,14 +42,14 @@ row_columns rows columns i bits h =
     ∙ length-map (take columns (drop (i * columns) bits)) bit_number ∙ length-take columns (drop (i * columns) bits) in
     omega (arith, e)
 
--- where a bit stands there is one
+-- the place of bit j of row i is within the list
 place_within : (rows columns i j : ℕ) → i < rows → j < columns → i * columns + j < rows * columns
 place_within rows columns i j h k =
     let below : suc i ≤ rows = omega arith in
     let all : suc i * columns ≤ rows * columns = mul-le-mul_right columns below in
     omega (arith, suc-mul i columns)
 
--- the place of a bit: its row and its column are there, and so is the place
+-- Row i and column j exist, and the place of their bit is within the list and below 2^64.
 pub record IsPlace (rows columns i j : ℕ) (bits : List Bool) : Type 0 where
   pub row : i < rows
   pub column : j < columns
@@ -92,6 +92,7 @@ number_of_bit zero h = refl
 number_of_bit (suc zero) h = refl
 number_of_bit (suc (suc x)) h = absurd (omega arith)
 
+-- one bit changed to a number that is 0 or 1, as `with_bit_at` says it
 pub rows_of-put : (rows columns i j place x : ℕ) (bits : List Bool) (now : List (List ℕ)) →
     IsPlace rows columns i j bits → rows_of rows columns bits ≡ now → place ≡ i * columns + j → x ≤ 1 →
     rows_of rows columns (set bits place (nat_eq x 1)) ≡ with_bit_at now i j x
@@ -101,7 +102,7 @@ rows_of-put rows columns i j place x bits now is e at h =
     ∙ ap (λ (y : ℕ). with_bit_at (rows_of rows columns bits) i j y) (number_of_bit x h)
     ∙ ap (λ (rs : List (List ℕ)). with_bit_at rs i j x) e
 
--- the bit that is read there
+-- what is read at the place of a bit is bit j of row i
 pub bit_read : (rows columns i j place : ℕ) (bits : List Bool) (b : Bool) (now : List (List ℕ)) →
     IsPlace rows columns i j bits → rows_of rows columns bits ≡ now → place ≡ i * columns + j →
     b ≡ get_or bits place b → bit_number b ≡ bit_at now i j

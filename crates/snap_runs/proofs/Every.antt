@@ -94,23 +94,23 @@ module _ {V P M : Type 0} {a : Algorithm V P M} {lines : Lines V P M} {line : �
     operations_have_places = placed_by_points line r linearization_points
 
     -- the steps of an update
-    update_steps : of_calm.OfCalm r (of_calm.UpdatesAtMost r (frame.its.total + frame.steps))
+    update_steps : of_calm.OfCalm r (of_calm.UpdatesAtMost r (frame.update_steps.total + frame.steps))
     update_steps steady i word value c e up =
         let k = kept steady in
-        updates.update_steps a lines (execution frame calmed k) frame.its frame.steps i up.process
+        updates.update_steps a lines (execution frame calmed k) frame.update_steps frame.steps i up.process
         (λ t word value l lt there. k.nearer t i word value l lt up.process there)
         (λ word value m p l is. frame.resumes i word value m p l is)
         (λ t d l le there inside. (k.within t i d l le up.process there inside).1)
         frame.begins word value c e up
 
-    pub wait_free : (most : ℕ) → (0 < a.shape.n → frame.its.total + frame.steps ≤ most) → IsWaitFree frame.steps most r
+    pub wait_free : (most : ℕ) → (0 < a.shape.n → frame.update_steps.total + frame.steps ≤ most) → IsWaitFree frame.steps most r
     wait_free most more =
         wait_freedom.wait_free frame.steps most r never_traps few_steps
         (λ fits i word value c e up.
-        let few : own_steps r i c e ≤ frame.its.total + frame.steps =
-        of_calm.updates_at_most r (frame.its.total + frame.steps) update_steps fits i word value c e up in
+        let few : own_steps r i c e ≤ frame.update_steps.total + frame.steps =
+        of_calm.updates_at_most r (frame.update_steps.total + frame.steps) update_steps fits i word value c e up in
         let one = up.process in
-        let le : frame.its.total + frame.steps ≤ most = more (omega arith) in omega arith)
+        let le : frame.update_steps.total + frame.steps ≤ most = more (omega arith) in omega arith)
 
     -- all that a snapshot promises
     pub snapshot : (most : ℕ) → frame.collects ≤ most →

@@ -30,11 +30,11 @@ pub record Frame {V P M : Type 0} (a : Algorithm V P M) (lines : Lines V P M) (l
   pub collects : ℕ
   pub steps : ℕ
   -- the steps that an update has ahead outside its scan
-  pub its : ahead.Ahead a lines
+  pub update_steps : ahead.Ahead a lines
   pub resumes : (me word value : ℕ) (m : M) (p : V) (k : P) → lines.IsReturn k →
-      ahead.Resumes a lines its (a.move me (Embedded word value) m p k)
+      ahead.Resumes a lines update_steps (a.move me (Embedded word value) m p k)
   pub begins : (p : V) (word value : ℕ) →
-      (its.ahead p (a.counter (Update word value)) ≤ its.total) × (its.scanned (a.counter (Update word value)) ≡ false)
+      (update_steps.ahead p (a.counter (Update word value)) ≤ update_steps.total) × (update_steps.scanned (a.counter (Update word value)) ≡ false)
 
 module _ {V P M : Type 0} {a : Algorithm V P M} {lines : Lines V P M} {line : ℕ} (frame : Frame a lines line)
     (items : List Item) where
@@ -65,7 +65,7 @@ module _ {V P M : Type 0} {a : Algorithm V P M} {lines : Lines V P M} {line : �
     -- a line of an update leaves one step fewer ahead
     pub nearer : (t i word value : ℕ) (k : P) → t < length items → IsOneOf a.shape.n i →
         (at t i).control ≡ At (Updating word value) k →
-        ahead.Nearer a lines frame.its (at t i).variables k
+        ahead.Nearer a lines frame.update_steps (at t i).variables k
         (a.move i (Updating word value) (typed_state a items t).memory (at t i).variables k)
 
   abbrev pub execution : Kept → scans.Execution a lines

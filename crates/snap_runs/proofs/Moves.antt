@@ -1,4 +1,5 @@
--- The moves that a scan of any algorithm sees: each tells of an event since the scan's previous double collect.
+-- The moves that a scan of any algorithm sees: each tells of a step since the scan's start that the scanner can see,
+-- with at most one double collect of the scan ended since.
 use Rattle.std.specs.Prelude.{◌≡◌, ℕ, zero, suc, ◌+◌, ◌<◌, ◌≤◌, ◌⊎◌, true, List, length, Option, Some}
 use Rattle.std.proofs.Common.{◌∙◌, ap, subst, arith, inl, inr}
 use Rattle.std.proofs.Math.Nat.{eq-or-lt_of_le}

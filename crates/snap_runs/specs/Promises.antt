@@ -77,7 +77,8 @@ pub record RecentWrite (r : Run) (line : ℕ) (i j c t : ℕ) : Type 0 where
   pub executed : executes r j line item ≡ true
   pub recent : double_collects r i item t ≤ 1
 
--- A move that a scan sees is a write since its previous double collect, or since its start where there is none.
+-- A move that a scan sees is a write since the scan's start, and at most one double collect of the scan has ended
+-- since: the one that failed.
 abbrev pub MovesAreWrites : ℕ → Name → ℕ → Run → Type 0
 MovesAreWrites raises row writes r =
     IsValidRun r → (i j : ℕ) (link : Option ℕ) (c t : ℕ) → PendingScan r i link c t → c < t →
@@ -114,7 +115,7 @@ pub record CleanReads (r : Run) (lines : CollectLines) (writes i c t middle k : 
   pub second : ℕ
   pub reads_first : ExecutesFor r i lines.first lines.scalar k first
   pub reads_second : ExecutesFor r i lines.second lines.scalar k second
-  -- from the scan's start on, and since its previous double collect
+  -- from the scan's start on, with at most one double collect of the scan ended since: the one that ends at item t
   pub after_start : c < first
   pub recent : double_collects r i first t ≤ 1
   pub before_middle : first ≤ middle

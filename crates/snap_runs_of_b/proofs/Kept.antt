@@ -1,4 +1,5 @@
--- What the frame of the proofs asks of B: of its lines, and of its runs without crashes.
+-- `frame` and `kept`: what `Frame` and `Kept` of snap_runs (proofs/ListingFrame.antt) ask of a listing, shown of B.
+-- The promises of B follow from it.
 use Rattle.std.specs.Prelude.{◌≡◌, ℕ, ◌+◌, ◌-◌, ◌*◌, ◌<◌, ◌≤◌, Bool, true, false, List, length, nat_lt, refl}
 use Rattle.std.proofs.Common.{sym, subst, arith, inl, inr}
 use Rattle.snap_runs.proofs.Common.{IsOneOf, Item}
@@ -28,11 +29,12 @@ return_held n i history t since round words p L26 is h = h
 return_held n i history t since round words p L28 is h = h.0
 return_held n i history t since round words p k is h = absurd is
 
--- the steps of a scan
+-- the most steps that a scan of B takes
 abbrev pub most_steps : ℕ → ℕ
 most_steps n = 8 * (n * n) + 12 * n + 7
 
--- the bounds at each line
+-- at each line of a scan: at most so many double collects, counting the one under way, and at most `most_steps`
+-- steps, counting the next
 pub within : (n : ℕ) (items : List Item) → Steady (run_of n items) → (t i : ℕ) (d : Mode) (k : ProgramCounter) →
     t ≤ length items → IsOneOf n i → (process_after n items t i).control ≡ At d k → IsInScan d →
     ((process_after n items t i).auxiliary.collects + tests k ≤ n)
@@ -72,17 +74,17 @@ scanned L43 = false
 scanned L44 = false
 scanned _ = true
 
-abbrev its : (n : ℕ) → Ahead (algorithm n) lines
-its n = record { ahead = ahead n; scanned = scanned; rest = 3; total = 8 + 3 * (n - 1) }
+abbrev update_steps : (n : ℕ) → Ahead (algorithm n) lines
+update_steps n = record { ahead = ahead n; scanned = scanned; rest = 3; total = 8 + 3 * (n - 1) }
 
 pub nearer : (n me word value : ℕ) (m : Registers) (p : Variables) (k : ProgramCounter) →
     IsLineOf me (Updating word value) k →
-    Nearer (algorithm n) lines (its n) p k (move n me (Updating word value) m p k)
+    Nearer (algorithm n) lines (update_steps n) p k (move n me (Updating word value) m p k)
 nearer n me word value m p L40 s = (omega arith, refl)
 nearer n me word value m p L41 s = (omega arith, refl)
 nearer n me word value m p L42 s = (omega arith, refl)
 nearer n me word value m p L43 s =
-    either (Nearer (algorithm n) lines (its n) p L43) (nat_lt p.j n) _ _
+    either (Nearer (algorithm n) lines (update_steps n) p L43) (nat_lt p.j n) _ _
     (λ is. let lt : p.j < n = lt_from p.j n is in (omega arith, refl)) (λ is. (omega arith, refl))
 nearer n me word value m p L44 s = (omega arith, refl)
 nearer n me word value m p L45 s = (omega arith, refl)
@@ -91,7 +93,7 @@ nearer n me word value m p L47 s = omega arith
 nearer n me word value m p k s = absurd s
 
 pub resumes : (n me word value : ℕ) (m : Registers) (p : Variables) (k : ProgramCounter) → lines.IsReturn k →
-    Resumes (algorithm n) lines (its n) (move n me (Embedded word value) m p k)
+    Resumes (algorithm n) lines (update_steps n) (move n me (Embedded word value) m p k)
 resumes n me word value m p L26 is = (omega arith, refl)
 resumes n me word value m p L28 is = (omega arith, refl)
 resumes n me word value m p k is = absurd is
@@ -105,7 +107,7 @@ frame n = record {
   writer_is = refl;
   collects = n;
   steps = most_steps n;
-  its = its n;
+  update_steps = update_steps n;
   resumes = resumes n;
   begins = λ p word value. (omega arith, refl);
 }

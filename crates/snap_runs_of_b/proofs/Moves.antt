@@ -1,4 +1,4 @@
--- The moves that a scan of B sees are writes since its previous double collect.
+-- The moves that a scan of B sees are writes since its start, with at most one double collect ended since.
 use Rattle.std.proofs.Common.{◌≡◌, ℕ, ◌+◌, ◌<◌, ◌≤◌, not, List, length, refl, subst, arith}
 use Rattle.snap_runs.proofs.Common.{IsOneOf, Item}
 use Rattle.snap_runs.proofs.Algorithm.{Mode, At}

@@ -54,8 +54,8 @@ FewSteps = (n : ℕ) (items : List Item) → promises.StepsAtMost (8 * (n * n) +
 abbrev pub SharpCollects : Type 0
 SharpCollects = (n : ℕ) (items : List Item) → promises.CollectsAtMost n (run_of n items)
 
--- A move that a scan sees at line 21 is a write since its previous double collect, or since
--- its start where there is none.
+-- A move that a scan sees at line 21 is a write since the scan's start, and at most one double collect of the scan
+-- has ended since: the one that failed.
 abbrev pub MovesAreWrites : Type 0
 MovesAreWrites = (n : ℕ) (items : List Item) → promises.MovesAreWrites 21 moved 46 (run_of n items)
 

@@ -1,4 +1,5 @@
--- What the frame of the proofs asks of M: of its lines, and of its runs without crashes.
+-- `frame` and `kept`: what `Frame` and `Kept` of snap_runs (proofs/ListingFrame.antt) ask of a listing, shown of M.
+-- The promises of M follow from it.
 use Rattle.std.specs.Prelude.{◌≡◌, ℕ, ◌+◌, ◌-◌, ◌*◌, ◌<◌, ◌≤◌, Bool, true, false, List, length, nat_lt, refl}
 use Rattle.std.proofs.Common.{sym, subst, arith, inl, inr}
 use Rattle.snap_runs.proofs.Common.{IsOneOf, Item}
@@ -29,11 +30,12 @@ return_held n w i history t since round p L35 is h = h
 return_held n w i history t since round p L37 is h = h.0
 return_held n w i history t since round p k is h = absurd is
 
--- the steps of a scan
+-- the most steps that a scan of M takes
 abbrev pub most_steps : ℕ → ℕ → ℕ
 most_steps n w = 14 * (n * n) + 16 * (n * w) + 19 * n + 8 * w + 10
 
--- the bounds at each line
+-- at each line of a scan: at most so many double collects, counting the one under way, and at most `most_steps`
+-- steps, counting the next
 pub within : (n w : ℕ) (items : List Item) → 0 < w → Steady (run_of n w items) →
     (t i : ℕ) (d : Mode) (k : ProgramCounter) → t ≤ length items → IsOneOf n i →
     (typed_at (algorithm n w) (state_at n w items t) i).control ≡ At d k → IsInScan d →
@@ -79,17 +81,17 @@ scanned L53 = false
 scanned L54 = false
 scanned _ = true
 
-abbrev its : (n w : ℕ) → Ahead (algorithm n w) lines
-its n w = record { ahead = ahead n; scanned = scanned; rest = 4; total = 9 + 3 * (n - 1) }
+abbrev update_steps : (n w : ℕ) → Ahead (algorithm n w) lines
+update_steps n w = record { ahead = ahead n; scanned = scanned; rest = 4; total = 9 + 3 * (n - 1) }
 
 pub nearer : (n w me word value : ℕ) (m : Registers) (p : Variables) (k : ProgramCounter) →
     IsLineOf w (Updating word value) k →
-    Nearer (algorithm n w) lines (its n w) p k (move n w me (Updating word value) m p k)
+    Nearer (algorithm n w) lines (update_steps n w) p k (move n w me (Updating word value) m p k)
 nearer n w me word value m p L50 s = (omega arith, refl)
 nearer n w me word value m p L51 s = (omega arith, refl)
 nearer n w me word value m p L52 s = (omega arith, refl)
 nearer n w me word value m p L53 s =
-    either (Nearer (algorithm n w) lines (its n w) p L53) (nat_lt p.j n) _ _
+    either (Nearer (algorithm n w) lines (update_steps n w) p L53) (nat_lt p.j n) _ _
     (λ is. let lt : p.j < n = lt_from p.j n is in (omega arith, refl)) (λ is. (omega arith, refl))
 nearer n w me word value m p L54 s = (omega arith, refl)
 nearer n w me word value m p L55 s = (omega arith, refl)
@@ -99,7 +101,7 @@ nearer n w me word value m p L58 s = omega arith
 nearer n w me word value m p k s = absurd s
 
 pub resumes : (n w me word value : ℕ) (m : Registers) (p : Variables) (k : ProgramCounter) → lines.IsReturn k →
-    Resumes (algorithm n w) lines (its n w) (move n w me (Embedded word value) m p k)
+    Resumes (algorithm n w) lines (update_steps n w) (move n w me (Embedded word value) m p k)
 resumes n w me word value m p L35 is = (omega arith, refl)
 resumes n w me word value m p L37 is = (omega arith, refl)
 resumes n w me word value m p k is = absurd is
@@ -113,7 +115,7 @@ frame n w = record {
   writer_is = refl;
   collects = 2 * n - 1;
   steps = most_steps n w;
-  its = its n w;
+  update_steps = update_steps n w;
   resumes = resumes n w;
   begins = λ p word value. (omega arith, refl);
 }

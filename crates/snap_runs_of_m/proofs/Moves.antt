@@ -1,4 +1,4 @@
--- The moves that a scan of M sees are events since its previous double collect.
+-- The moves that a scan of M sees are visible steps since its start, with at most one double collect ended since.
 use Rattle.snap_runs.proofs.Computing.{same_from, raised_only}
 use Rattle.snap_runs.proofs.Places.{for_each_at}
 use Rattle.std.specs.Prelude.{◌≡◌, ℕ, zero, suc, ◌+◌, ◌<◌, ◌≤◌, ◌⊎◌, true, List, length, Option, nat_eq, refl}
@@ -16,7 +16,7 @@ use Rattle.snap_runs.proofs.Executing as executing
 use Rattle.snap_runs.proofs.Moves as moves
 use Rattle.snap_runs.proofs.Scans.{Execution}
 use Rattle.snap_runs_of_m.specs.ListingM as names
-use Rattle.snap_runs_of_m.specs.Promises.{run_of, IsEvent, RecentEvent, MovesAreEvents}
+use Rattle.snap_runs_of_m.specs.Promises.{run_of, IsVisibleStep, RecentVisibleStep, MovesAreVisibleSteps}
 use Rattle.snap_runs_of_m.proofs.Algorithm.{Registers, Process, L31, L32, L52, L55, L57, place, move, counted}
 use Rattle.snap_runs_of_m.proofs.Algorithm.{after_52, lines, algorithm}
 use Rattle.snap_runs_of_m.proofs.Collect.{events}
@@ -40,7 +40,7 @@ module _ (n w : ℕ) (items : List Item) (some : 0 < w) (fits : Steady (run_of n
 
   -- what process a does at line 52 or 57 is an event of process j that process i can see, or leaves j's events
   line_57 : (v a i j : ℕ) (d : Mode) → v < length items → item_at items v ≡ Step a → (at v a).control ≡ At d L57 →
-      IsEvent (run_of n w items) i j (suc v)
+      IsVisibleStep (run_of n w items) i j (suc v)
       ⊎ (events (registers_at n w items (suc v)) j i ≡ events (registers_at n w items v) j i)
   line_57 v a i j d h is there =
       elim (cases_eq j a) [
@@ -55,7 +55,7 @@ module _ (n w : ℕ) (items : List Item) (some : 0 < w) (fits : Steady (run_of n
       ]
 
   line_52 : (v a i j : ℕ) (d : Mode) → v < length items → item_at items v ≡ Step a → (at v a).control ≡ At d L52 →
-      IsEvent (run_of n w items) i j (suc v)
+      IsVisibleStep (run_of n w items) i j (suc v)
       ⊎ (events (registers_at n w items (suc v)) j i ≡ events (registers_at n w items v) j i)
   line_52 v a i j d h is there =
       let m = registers_at n w items v in
@@ -85,7 +85,7 @@ module _ (n w : ℕ) (items : List Item) (some : 0 < w) (fits : Steady (run_of n
       ]
 
   item_does : (v i j : ℕ) → v < length items →
-      IsEvent (run_of n w items) i j (suc v)
+      IsVisibleStep (run_of n w items) i j (suc v)
       ⊎ (events (registers_at n w items (suc v)) j i ≡ events (registers_at n w items v) j i)
   item_does v i j h =
       elim (item_counters n w (suc v) (state_at n w items v) (item_at items v)) [
@@ -105,7 +105,7 @@ module _ (n w : ℕ) (items : List Item) (some : 0 < w) (fits : Steady (run_of n
 
   pub move_is_event : (i j : ℕ) (link : Option ℕ) (c t : ℕ) → PendingScan (run_of n w items) i link c (suc t) → c ≤ t →
       ObservedMove (run_of n w items) 31 names.moved i j (suc t) →
-      RecentEvent (run_of n w items) i j c (suc t)
+      RecentVisibleStep (run_of n w items) i j c (suc t)
   move_is_event i j link c t scan le move =
       let r = run_of n w items in
       let one = scan.process in
@@ -124,7 +124,7 @@ module _ (n w : ℕ) (items : List Item) (some : 0 < w) (fits : Steady (run_of n
       let counts : Count n w p q.auxiliary.own q.auxiliary.collects q.auxiliary.tested L31 =
       counts_of n w items some fits t i seen.mode L31 (omega arith) one seen.control in
       let event =
-      moves.recent (algorithm n w) lines (listed n w) run (IsEvent (run_of n w items) i j)
+      moves.recent (algorithm n w) lines (listed n w) run (IsVisibleStep (run_of n w items) i j)
       (λ y. events (registers_at n w items y) j i) (λ v h. item_does v i j h) i link c t seen.mode L31 scan le
       seen.control refl counts.3 (row.moved j move.process marked) in
       record {
@@ -136,30 +136,30 @@ module _ (n w : ℕ) (items : List Item) (some : 0 < w) (fits : Steady (run_of n
       }
 
 -- a move that a scan sees is an event, stated of a run
-abbrev MoveIsEvent : Run → Type 0
-MoveIsEvent r =
+abbrev MoveIsVisibleStep : Run → Type 0
+MoveIsVisibleStep r =
     IsValidRun r → (i j : ℕ) (link : Option ℕ) (c t : ℕ) → PendingScan r i link c t → c < t →
-    ObservedMove r 31 names.moved i j t → RecentEvent r i j c t
+    ObservedMove r 31 names.moved i j t → RecentVisibleStep r i j c t
 
-steady_moves_are_events : (n w : ℕ) (items : List Item) → Steady (run_of n w items) → 0 < w →
-    MoveIsEvent (run_of n w items)
-steady_moves_are_events n w items fits some whole i j link c zero scan lt move = absurd (omega arith)
-steady_moves_are_events n w items fits some whole i j link c (suc t) scan lt move =
+steady_moves_are_visible : (n w : ℕ) (items : List Item) → Steady (run_of n w items) → 0 < w →
+    MoveIsVisibleStep (run_of n w items)
+steady_moves_are_visible n w items fits some whole i j link c zero scan lt move = absurd (omega arith)
+steady_moves_are_visible n w items fits some whole i j link c (suc t) scan lt move =
     move_is_event n w items some fits i j link c t scan (omega arith) move
 
 event_from : (r : Run) → IsValidRun r → (i j t : ℕ) → 0 < t → t ≤ length r.items →
-    IsEvent (calm_run r) i j t → IsEvent r i j t
+    IsVisibleStep (calm_run r) i j t → IsVisibleStep r i j t
 event_from r fits i j t pos h (inl wrote) = inl (sym (at_executes r fits j 57 t pos h) ∙ wrote)
 event_from r fits i j t pos h (inr answered) = inr (
   sym (at_executes r fits j 52 t pos h) ∙ answered.0,
   sym (ap (λ (l : Locals). value_at names.j l.scalars 0) (locals_before r t j)) ∙ answered.1,
 )
 
-pub moves_are_events_lem : MovesAreEvents
-moves_are_events_lem n w items some fits i j link c t scan lt move =
+pub moves_are_visible_steps_lem : MovesAreVisibleSteps
+moves_are_visible_steps_lem n w items some fits i j link c t scan lt move =
     let r = run_of n w items in
     let last : t ≤ length items = scan.last in
-    let e = steady_moves_are_events n w (calm_list r) (steady_of r fits) some
+    let e = steady_moves_are_visible n w (calm_list r) (steady_of r fits) some
     (fits_of (calm_run r) (steady_of r fits)) i j link c t
     (scan_to r fits i link c t scan) lt (calm.observed_to r fits 31 names.moved i j t (omega arith) last move) in
     let after_start : c < e.item = e.after_start in

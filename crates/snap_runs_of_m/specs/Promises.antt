@@ -58,26 +58,26 @@ FewSteps = (n w : ℕ) (items : List Item) → 0 < w →
 abbrev pub SharpCollects : Type 0
 SharpCollects = (n w : ℕ) (items : List Item) → 0 < w → promises.CollectsAtMost (2 * n - 1) (run_of n w items)
 
--- An event of process j that process i can see: j writes a word, or answers the handshake in the bit that i reads.
-abbrev pub IsEvent : Run → ℕ → ℕ → ℕ → Type 0
-IsEvent r i j t =
+-- A step of process j that process i can see: j writes a word, or answers the handshake in the bit that i reads.
+abbrev pub IsVisibleStep : Run → ℕ → ℕ → ℕ → Type 0
+IsVisibleStep r i j t =
     (executes r j 57 t ≡ true)
     ⊎ ((executes r j 52 t ≡ true) × (value_at counter (process_at (before r t) j).locals.scalars 0 ≡ i))
 
--- Between items c and t process j has such an event, and process i has at most one double collect from there to item t.
-pub record RecentEvent (r : Run) (i j c t : ℕ) : Type 0 where
+-- Between items c and t process j makes such a step, and process i has at most one double collect from there to item t.
+pub record RecentVisibleStep (r : Run) (i j c t : ℕ) : Type 0 where
   pub item : ℕ
   pub after_start : c < item
   pub before_move : item < t
-  pub event : IsEvent r i j item
+  pub event : IsVisibleStep r i j item
   pub recent : double_collects r i item t ≤ 1
 
--- A move that a scan sees at line 31 is an event since its previous double collect, or since
--- its start where there is none.
-abbrev pub MovesAreEvents : Type 0
-MovesAreEvents = (n w : ℕ) (items : List Item) → 0 < w → IsValidRun (run_of n w items) →
+-- Where a scan sees a move at line 31, the process has made such a step since the scan's start, and at most one double
+-- collect of the scan has ended since: the one that failed.
+abbrev pub MovesAreVisibleSteps : Type 0
+MovesAreVisibleSteps = (n w : ℕ) (items : List Item) → 0 < w → IsValidRun (run_of n w items) →
     (i j : ℕ) (link : Option ℕ) (c t : ℕ) → PendingScan (run_of n w items) i link c t → c < t →
-    ObservedMove (run_of n w items) 31 moved i j t → RecentEvent (run_of n w items) i j c t
+    ObservedMove (run_of n w items) 31 moved i j t → RecentVisibleStep (run_of n w items) i j c t
 
 -- line 17 reads word k into a, and line 19 into b; line 30 looks for marks, and goes to line 34 where there are none
 abbrev pub double_collect : CollectLines

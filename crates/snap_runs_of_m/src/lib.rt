@@ -3,7 +3,7 @@
 
 ghost use Rattle.snap_runs_of_m.specs.Promises.{NeverTraps, ChangesOnlyAt57, WritesItsUpdate};
 ghost use Rattle.snap_runs_of_m.specs.Promises.{WritesOnce, HavePoints, FewCollects, FewSteps};
-ghost use Rattle.snap_runs_of_m.specs.Promises.{SharpCollects, MovesAreEvents, PassedTestsAreClean};
+ghost use Rattle.snap_runs_of_m.specs.Promises.{SharpCollects, MovesAreVisibleSteps, PassedTestsAreClean};
 ghost use Rattle.snap_runs_of_m.specs.Promises.{Linearizable, OperationsHavePlaces};
 ghost use Rattle.snap_runs_of_m.specs.Promises.{WriteStronglyLinearizable, WaitFree};
 ghost use Rattle.snap_runs_of_m.specs.Promises.{BorrowedViewsAreLent, RunsAreSnapshots};
@@ -57,11 +57,11 @@ pub fn sharp_collects()
     ensures { SharpCollects }
 {}
 
-/// Where a scan sees a process move, that process has written a word or answered the scanner's
-/// handshake since the scan's previous double collect, or since the scan's start where there is
-/// none.
-pub fn moves_are_events()
-    ensures { MovesAreEvents }
+/// Where a scan sees a process move, that process has written a word, or answered the handshake in
+/// the bit that the scanner reads, since the scan's start; and at most one double collect of the
+/// scan has ended since, the one that failed.
+pub fn moves_are_visible_steps()
+    ensures { MovesAreVisibleSteps }
 {}
 
 /// Where a scan's test passes, there is a state between its two collects, and no word was written
@@ -78,9 +78,9 @@ pub fn linearizable()
     ensures { Linearizable }
 {}
 
-/// Each operation of a run has its place, an item between its call and its end: an update that at
-/// which it executes line 57, and a scan one after which the values are its view; and in the order
-/// of their places they are a linearization.
+/// Each operation of a run has its place, an item between its call and its end: the place of an
+/// update is an item at which it executes line 57, and that of a scan one after which the values
+/// are its view; and in the order of their places they are a linearization.
 #[tactic(auto, using(crate::proofs::Every::operations_have_places_lem))]
 pub fn operations_have_places()
     ensures { OperationsHavePlaces }
@@ -93,8 +93,9 @@ pub fn write_strongly_linearizable()
     ensures { WriteStronglyLinearizable }
 {}
 
-/// Every call is over after so many turns of its process, whatever the others do or stop doing: at
-/// most 14 n n + 16 n w + 22 n + 8 w + 16.
+/// Every call is over after so many turns of its process, whatever the others do or stop doing: a
+/// scan after at most 14 n n + 16 n w + 19 n + 8 w + 10, and an update after at most 14 n n + 16 n
+/// w + 22 n + 8 w + 16.
 #[tactic(auto, using(crate::proofs::Every::wait_free_lem))]
 pub fn wait_free()
     ensures { WaitFree }

@@ -1,4 +1,5 @@
--- What the frame of the proofs asks of U: of its lines, and of its runs without crashes.
+-- `frame` and `kept`: what `Frame` and `Kept` of snap_runs (proofs/ListingFrame.antt) ask of a listing, shown of U.
+-- The promises of U follow from it.
 use Rattle.std.specs.Prelude.{◌≡◌, ℕ, ◌+◌, ◌*◌, ◌<◌, ◌≤◌, Bool, true, false, List, length, refl}
 use Rattle.std.proofs.Common.{sym, subst, arith, inl, inr}
 use Rattle.snap_runs.proofs.Common.{IsOneOf, Item}
@@ -27,11 +28,12 @@ return_held n history t since round m p L22 is h = h
 return_held n history t since round m p L24 is h = h.0
 return_held n history t since round m p k is h = absurd is
 
--- the steps of a scan
+-- the most steps that a scan of U takes
 abbrev pub most_steps : ℕ → ℕ
 most_steps n = 4 * (n * n) + 8 * n + 7
 
--- the bounds at each line
+-- at each line of a scan: at most so many double collects, counting the one under way, and at most `most_steps`
+-- steps, counting the next
 pub within : (n : ℕ) (items : List Item) → Ready n items → (t i : ℕ) (d : Mode) (k : ProgramCounter) →
     t ≤ length items → IsOneOf n i → (process_after n items t i).control ≡ At d k → IsInScan d →
     ((process_after n items t i).auxiliary.collects + tests k ≤ n)
@@ -63,12 +65,12 @@ abbrev scanned : ProgramCounter → Bool
 scanned L30 = false
 scanned _ = true
 
-abbrev its : (n : ℕ) → Ahead (algorithm n) lines
-its n = record { ahead = λ p k. ahead k; scanned = scanned; rest = 3; total = 4 }
+abbrev update_steps : (n : ℕ) → Ahead (algorithm n) lines
+update_steps n = record { ahead = λ p k. ahead k; scanned = scanned; rest = 3; total = 4 }
 
 pub nearer : (n me word value : ℕ) (m : Words) (p : Variables) (k : ProgramCounter) →
     IsLineOf me (Updating word value) k →
-    Nearer (algorithm n) lines (its n) p k (move n me (Updating word value) m p k)
+    Nearer (algorithm n) lines (update_steps n) p k (move n me (Updating word value) m p k)
 nearer n me word value m p L30 s = (omega arith, refl)
 nearer n me word value m p L31 s = (omega arith, refl)
 nearer n me word value m p L32 s = (omega arith, refl)
@@ -76,7 +78,7 @@ nearer n me word value m p L33 s = omega arith
 nearer n me word value m p k s = absurd s
 
 pub resumes : (n me word value : ℕ) (m : Words) (p : Variables) (k : ProgramCounter) → lines.IsReturn k →
-    Resumes (algorithm n) lines (its n) (move n me (Embedded word value) m p k)
+    Resumes (algorithm n) lines (update_steps n) (move n me (Embedded word value) m p k)
 resumes n me word value m p L22 is = (omega arith, refl)
 resumes n me word value m p L24 is = (omega arith, refl)
 resumes n me word value m p k is = absurd is
@@ -90,7 +92,7 @@ frame n = record {
   writer_is = refl;
   collects = n;
   steps = most_steps n;
-  its = its n;
+  update_steps = update_steps n;
   resumes = resumes n;
   begins = λ p word value. (omega arith, refl);
 }

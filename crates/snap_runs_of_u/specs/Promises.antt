@@ -59,8 +59,8 @@ FewSteps =
     (n : ℕ) (items : List Item) → SequenceNumbersSuffice items →
     promises.StepsAtMost (4 * (n * n) + 8 * n + 7) (run_of n items)
 
--- A move that a scan sees at line 17 is a write since its previous double collect, or since
--- its start where there is none.
+-- A move that a scan sees at line 17 is a write since the scan's start, and at most one double collect of the scan
+-- has ended since: the one that failed.
 abbrev pub MovesAreWrites : Type 0
 MovesAreWrites =
     (n : ℕ) (items : List Item) → SequenceNumbersSuffice items → promises.MovesAreWrites 17 moved 32 (run_of n items)

@@ -53,8 +53,8 @@ pub fn few_steps()
     ensures { FewSteps }
 {}
 
-/// Where a scan sees a process move, that process has written since the scan's previous double
-/// collect, or since the scan's start where there is none.
+/// Where a scan sees a process move, that process has written since the scan's start; and at most
+/// one double collect of the scan has ended since, the one that failed.
 #[tactic(auto, using(crate::proofs::Moves::moves_are_writes_lem))]
 pub fn moves_are_writes()
     ensures { MovesAreWrites }
@@ -92,9 +92,9 @@ pub fn linearizable()
     ensures { Linearizable }
 {}
 
-/// Each operation of a run has its place, an item between its call and its end: an update that at
-/// which it executes line 32, and a scan one after which the values are its view; and in the order
-/// of their places they are a linearization.
+/// Each operation of a run has its place, an item between its call and its end: the place of an
+/// update is an item at which it executes line 32, and that of a scan one after which the values
+/// are its view; and in the order of their places they are a linearization.
 #[tactic(auto, using(crate::proofs::Every::operations_have_places_lem))]
 pub fn operations_have_places()
     ensures { OperationsHavePlaces }
@@ -107,8 +107,8 @@ pub fn write_strongly_linearizable()
     ensures { WriteStronglyLinearizable }
 {}
 
-/// Every call is over after so many turns of its process, whatever the others do or stop doing: at
-/// most 4 n n + 8 n + 11.
+/// Every call is over after so many turns of its process, whatever the others do or stop doing: a
+/// scan after at most 4 n n + 8 n + 7, and an update after at most 4 n n + 8 n + 11.
 #[tactic(auto, using(crate::proofs::Every::wait_free_lem))]
 pub fn wait_free()
     ensures { WaitFree }

@@ -63,7 +63,7 @@ of_b snapshots places turns clean moves lent own s items shape fit suffice =
       own_updates = of_square (OwnUpdatesShow kind.Bits) listing_b s.n s.w items same (own s.n items);
     }
 
-pub of_m : m.RunsAreSnapshots → m.OperationsHavePlaces → m.WaitFree → m.PassedTestsAreClean → m.MovesAreEvents →
+pub of_m : m.RunsAreSnapshots → m.OperationsHavePlaces → m.WaitFree → m.PassedTestsAreClean → m.MovesAreVisibleSteps →
     m.BorrowedViewsAreLent → RunsKeepPromises kind.Multi
 of_m snapshots places turns clean moves lent s items shape fit suffice =
     let first = shape.1.0 in let some : 0 < s.w = omega (arith, first) in record {

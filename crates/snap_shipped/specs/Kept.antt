@@ -38,14 +38,14 @@ update_turns kind.Seq s = 4 * (s.n * s.n) + 8 * s.n + 11
 update_turns kind.Bits s = 8 * (s.n * s.n) + 15 * s.n + 12
 update_turns kind.Multi s = 14 * (s.n * s.n) + 16 * (s.n * s.w) + 22 * s.n + 8 * s.w + 16
 
--- Where a scan sees a process move, that process has done something since the scan's previous double collect, or
--- since the scan's start where there is none: in U and B a write of its word; in M a write, or an answer to the
--- scanner's handshake.
+-- Where a scan sees a process move, that process has done something since the scan's start, and at most one double
+-- collect of the scan has ended since: in U and B a write of its word; in M a write, or an answer to the handshake in
+-- the bit that the scanner reads.
 abbrev pub MovesAreReal : KindTag → Run → Type 0
 MovesAreReal kind.Seq r = MovesAreWrites 17 listing_u.moved 32 r
 MovesAreReal kind.Bits r = MovesAreWrites 21 listing_b.moved 46 r
 MovesAreReal kind.Multi r = IsValidRun r → (i j : ℕ) (link : Option ℕ) (c t : ℕ) → PendingScan r i link c t → c < t →
-    ObservedMove r 31 listing_m.moved i j t → m.RecentEvent r i j c t
+    ObservedMove r 31 listing_m.moved i j t → m.RecentVisibleStep r i j c t
 
 -- A scan shows the value of its process's last update. Nothing is said of M, where other
 -- processes write to the same word.

@@ -68,7 +68,7 @@ fn runs_of_m_keep_promises()
     snap_runs_of_m::operations_have_places();
     snap_runs_of_m::wait_free();
     snap_runs_of_m::passed_tests_are_clean();
-    snap_runs_of_m::moves_are_events();
+    snap_runs_of_m::moves_are_visible_steps();
     snap_runs_of_m::borrowed_views_are_lent();
 }
 

@@ -1,5 +1,4 @@
--- `batch` of snap_batch (src/lib.rt): the proof of what its contract says. Returns the report of the end of each of
--- `schedules`, in their order, whichever thread made it and when.
+-- `batch` of snap_batch (src/lib.rt): the proof of what its contract says.
 use Rattle.std.proofs.Common.{◌∙◌, ap}
 use Rattle.rayon.specs.Lists.{min_len_base}
 use Rattle.snap_batch.specs.End.{end_report}

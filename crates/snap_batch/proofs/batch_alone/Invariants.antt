@@ -1,5 +1,4 @@
--- `batch_alone` of snap_batch (src/lib.rt): what holds at the head of each of its loops. Returns the report of the end
--- of each of `schedules`, in their order, made in one thread.
+-- `batch_alone` of snap_batch (src/lib.rt): what holds at the head of each of its loops.
 use Rattle.std.proofs.Common.{◌≡◌, ◌++◌, drop, map}
 use Rattle.snap_batch.specs.End.{end_report}
 use Rattle.snap_batch.proofs.batch_alone.Given as goal

@@ -1,5 +1,4 @@
--- `histories_are_explained` of snap_judge (src/lib.rt): the proof of what its contract says. The moves that explain a
--- history make a linearization of it, and each linearization is made by such moves.
+-- `histories_are_explained` of snap_judge (src/lib.rt): the proof of what its contract says.
 use Rattle.snap_judge.proofs.ExplainedHistories.{histories_are_explained}
 use Rattle.snap_judge.proofs.histories_are_explained.Goals as goal
 

@@ -1,5 +1,4 @@
--- `linearizable_from_the_beginning` of snap_judge (src/lib.rt): the proof of what its contract says. What is
--- linearizable was so from its beginning on.
+-- `linearizable_from_the_beginning` of snap_judge (src/lib.rt): the proof of what its contract says.
 use Rattle.snap_judge.proofs.ExplainedBeginnings.{linearizable_from_the_beginning}
 use Rattle.snap_judge.proofs.linearizable_from_the_beginning.Goals as goal
 

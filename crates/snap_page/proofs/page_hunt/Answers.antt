@@ -1,6 +1,4 @@
--- `page_hunt` of snap_page (src/lib.rt): the proof of what its contract says. Hands a page the input of the first run
--- of a seed in which a listing fails, shrunk, or no text if none of the runs fails; or the line that says why there is
--- no hunt.
+-- `page_hunt` of snap_page (src/lib.rt): the proof of what its contract says.
 use Rattle.snap_page.specs.Hunt.{hunt_asked}
 use Rattle.snap_page.proofs.Answered.{hunted}
 use Rattle.snap_page.proofs.page_hunt.Goals as goal

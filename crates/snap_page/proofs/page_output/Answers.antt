@@ -1,5 +1,4 @@
--- `page_output` of snap_page (src/lib.rt): the proof of what its contract says. Hands a page the output for an input,
--- or the line that says why there is none.
+-- `page_output` of snap_page (src/lib.rt): the proof of what its contract says.
 use Rattle.std.proofs.Common.{◌≡◌, [], ◌∷◌, Ok, Err, Some, arith, length, subst, sym, take}
 use Rattle.snap_semantics.specs.declared.refusal.Refusal.TheVariants.{InputTooLong}
 use Rattle.snap_page.specs.Answer.{AnswersAsked, found_at_once}

@@ -1,6 +1,4 @@
--- `page_picture` of snap_page (src/lib.rt): the proof of what its contract says. Hands a page the picture of a
--- listing's run under a schedule, from one item to another, as the program that draws makes it, or the line that says
--- why there is none.
+-- `page_picture` of snap_page (src/lib.rt): the proof of what its contract says.
 use Rattle.std.proofs.Common.{◌≡◌, [], ◌∷◌, Ok, Err, arith, length, take}
 use Rattle.snap_picture.specs.declared.refusal.PictureRefusal.TheVariants.{NoSuchItems}
 use Rattle.snap_page.specs.Picture.{drawn_code, drawn_text}

@@ -1,5 +1,4 @@
--- `page_why` of snap_page (src/lib.rt): the proof of what its contract says. Hands a page why an item of a listing's run
--- under a schedule came out as it did.
+-- `page_why` of snap_page (src/lib.rt): the proof of what its contract says.
 use Rattle.std.proofs.Common.{◌≡◌, [], ◌∷◌, Ok, Err, arith, length, take}
 use Rattle.snap_semantics.specs.declared.refusal.Refusal.TheVariants.{InputTooLong}
 use Rattle.snap_page.specs.Page.{answer_code, answer_text}

@@ -1,5 +1,4 @@
--- `keeps_promises` of snap_promised (src/lib.rt): the proof of what its contract says. The run of a shipped listing over
--- a schedule keeps what is promised of it.
+-- `keeps_promises` of snap_promised (src/lib.rt): the proof of what its contract says.
 use Rattle.snap_record.proofs.Within.{run_fits}
 use Rattle.snap_shipped.specs.Shipped.{shipped}
 use Rattle.snap_promised.proofs.Shipped.{fits_shipped, suffice}

@@ -1,5 +1,4 @@
 -- `own_updates_are_seen` of snap_runs_of_b (src/lib.rt): the proof of what its contract says.
--- A scan that a process calls after an update of its own shows that update's value.
 use Rattle.snap_runs_of_b.proofs.Every.{own_updates_are_seen_lem}
 use Rattle.snap_runs_of_b.proofs.own_updates_are_seen.Goals as goal
 

@@ -1,5 +1,4 @@
 -- `runs_are_snapshots` of snap_runs_of_m (src/lib.rt): the proof of what its contract says.
--- All that a snapshot promises, of every run of M.
 use Rattle.snap_runs_of_m.proofs.Every.{runs_are_snapshots_lem}
 use Rattle.snap_runs_of_m.proofs.runs_are_snapshots.Goals as goal
 

@@ -1,5 +1,4 @@
 -- `writes_once` of snap_runs_of_m (src/lib.rt): the proof of what its contract says.
--- An update executes line 57 at most once, and exactly once if it is done.
 use Rattle.snap_runs_of_m.proofs.Every.{writes_once_lem}
 use Rattle.snap_runs_of_m.proofs.writes_once.Goals as goal
 

@@ -1,6 +1,4 @@
 -- `counts_writes` of snap_runs_of_u (src/lib.rt): the proof of what its contract says.
--- The sequence numbers count writes: an item leaves them as they are, or it executes line 32 and raises that of its
--- process's word by one.
 use Rattle.snap_runs_of_u.proofs.Bounded.{counts_writes_lem}
 use Rattle.snap_runs_of_u.proofs.counts_writes.Goals as goal
 

@@ -1,5 +1,4 @@
 -- `runs_are_snapshots` of snap_runs_of_u (src/lib.rt): the proof of what its contract says.
--- All that a snapshot promises, of every run of U.
 use Rattle.snap_runs_of_u.proofs.Every.{runs_are_snapshots_lem}
 use Rattle.snap_runs_of_u.proofs.runs_are_snapshots.Goals as goal
 

@@ -1,5 +1,4 @@
 -- `a_scan_alone_makes_one` of snap_runs_sharp (src/lib.rt): the proof of what its contract says.
--- A scan of U alone makes one double collect, and not two.
 use Rattle.snap_runs_sharp.proofs.NoMore.{scan_alone_makes_one_lem}
 use Rattle.snap_runs_sharp.proofs.a_scan_alone_makes_one.Goals as goal
 

@@ -1,5 +1,4 @@
--- `no_more_is_reached` of snap_runs_sharp (src/lib.rt): the proof of what its contract says. No finished scan makes
--- more double collects than the schedules reach: n are the most of U and of B, and 2 n - 1 those of M.
+-- `no_more_is_reached` of snap_runs_sharp (src/lib.rt): the proof of what its contract says.
 use Rattle.snap_runs_sharp.proofs.NoMore.{no_more_is_reached_lem}
 use Rattle.snap_runs_sharp.proofs.no_more_is_reached.Goals as goal
 

@@ -1,5 +1,4 @@
--- `sharp_collects_are_reached_by_m` of snap_runs_sharp (src/lib.rt): the proof of what its contract says. Some scan of
--- M, by one of n processes, makes 2 n - 1 double collects: no bound on them is less than 2 n - 1.
+-- `sharp_collects_are_reached_by_m` of snap_runs_sharp (src/lib.rt): the proof of what its contract says.
 use Rattle.snap_runs_sharp.proofs.ReachedByM.{is_reached_by_m_lem}
 use Rattle.snap_runs_sharp.proofs.sharp_collects_are_reached_by_m.Goals as goal
 

@@ -1,5 +1,4 @@
 -- `runs_of_b_keep_promises` of snap_shipped (src/lib.rt): the proof of what its contract says.
--- Every run of B keeps all promises.
 use Rattle.snap_shipped.proofs.Kept.{of_b}
 use Rattle.snap_shipped.proofs.runs_of_b_keep_promises.Goals as goal
 

@@ -1,5 +1,4 @@
 -- `runs_of_m_keep_promises` of snap_shipped (src/lib.rt): the proof of what its contract says.
--- Every run of M keeps all promises.
 use Rattle.snap_shipped.proofs.Kept.{of_m}
 use Rattle.snap_shipped.proofs.runs_of_m_keep_promises.Goals as goal
 
@@ -7,4 +6,4 @@ pub returns : goal.returns
 returns c =
     of_m c.runs_are_snapshots.ensures c.operations_have_places.ensures c.wait_free.ensures
     c.passed_tests_are_clean.ensures
-    c.moves_are_events.ensures c.borrowed_views_are_lent.ensures
+    c.moves_are_visible_steps.ensures c.borrowed_views_are_lent.ensures

@@ -1,5 +1,4 @@
 -- `runs_of_u_keep_promises` of snap_shipped (src/lib.rt): the proof of what its contract says.
--- Every run of U keeps all promises, as long as its sequence numbers suffice.
 use Rattle.snap_shipped.proofs.Kept.{of_u}
 use Rattle.snap_shipped.proofs.runs_of_u_keep_promises.Goals as goal
 

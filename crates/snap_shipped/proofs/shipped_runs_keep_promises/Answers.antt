@@ -1,7 +1,4 @@
 -- `shipped_runs_keep_promises` of snap_shipped (src/lib.rt): the proof of what its contract says.
--- Every run of U, B and M keeps all that is promised of its listing: it is a run of a snapshot, its operations have
--- their places, it is wait-free, its passed tests are clean, the moves that scans see have taken place, borrowed
--- views are lent, and in U and B a scan shows its process's last update.
 use Rattle.snap_shipped.proofs.Kept.{of_each}
 use Rattle.snap_shipped.proofs.shipped_runs_keep_promises.Goals as goal
 

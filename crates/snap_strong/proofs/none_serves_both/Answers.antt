@@ -1,5 +1,4 @@
--- `none_serves_both` of snap_strong (src/lib.rt): the proof of what its contract says. No linearization of the run with
--- two futures is the beginning of linearizations of both.
+-- `none_serves_both` of snap_strong (src/lib.rt): the proof of what its contract says.
 use Rattle.snap_strong.proofs.Apart.{none_serves_both_lem}
 use Rattle.snap_strong.proofs.none_serves_both.Goals as goal
 

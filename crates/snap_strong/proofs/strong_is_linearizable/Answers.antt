@@ -1,5 +1,4 @@
--- `strong_is_linearizable` of snap_strong (src/lib.rt): the proof of what its contract says. A strongly linearizable
--- listing is linearizable, in the runs below its limit.
+-- `strong_is_linearizable` of snap_strong (src/lib.rt): the proof of what its contract says.
 use Rattle.snap_strong.proofs.Completed.{strong_is_linearizable_lem}
 use Rattle.snap_strong.proofs.strong_is_linearizable.Goals as goal
 

@@ -1,5 +1,4 @@
--- `first_from` of snap_acts (src/searches.rt): what holds at the head of each of its loops. Returns the first step from
--- a place on that is as wanted.
+-- `first_from` of snap_acts (src/searches.rt): what holds at the head of each of its loops.
 use Rattle.std.proofs.Common.{◌≡◌, ◌-◌, drop, length}
 use Rattle.snap_acts.specs.Searches.{first_meeting}
 use Rattle.snap_acts.proofs.searches.first_from.Given as goal

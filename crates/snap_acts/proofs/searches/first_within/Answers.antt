@@ -1,5 +1,4 @@
--- `first_within` of snap_acts (src/searches.rt): the proof of what its contract says. Returns the first of `count`
--- places from `from` on at which a step is as wanted.
+-- `first_within` of snap_acts (src/searches.rt): the proof of what its contract says.
 use Rattle.std.proofs.Common.{◌<◌, ◌∙◌, length, sym, ap, arith}
 use Rattle.std.proofs.lemmas.List.{get_or_read}
 use Rattle.snap_acts.specs.declared.act.TraceStep.{TraceStep}

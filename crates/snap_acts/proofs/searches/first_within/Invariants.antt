@@ -1,5 +1,4 @@
--- `first_within` of snap_acts (src/searches.rt): what holds at the head of each of its loops. Returns the first of
--- `count` places from `from` on at which a step is as wanted.
+-- `first_within` of snap_acts (src/searches.rt): what holds at the head of each of its loops.
 use Rattle.std.proofs.Common.{◌≡◌, ◌+◌}
 use Rattle.snap_acts.specs.Searches.{first_within}
 use Rattle.snap_acts.proofs.searches.first_within.Given as goal

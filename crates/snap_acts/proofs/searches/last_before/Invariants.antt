@@ -1,5 +1,4 @@
--- `last_before` of snap_acts (src/searches.rt): what holds at the head of each of its loops. Returns the last of the
--- first places at which a step is as wanted.
+-- `last_before` of snap_acts (src/searches.rt): what holds at the head of each of its loops.
 use Rattle.std.proofs.Common.{◌≡◌, ◌≤◌}
 use Rattle.snap_acts.specs.Searches.{last_before}
 use Rattle.snap_acts.proofs.searches.last_before.Given as goal

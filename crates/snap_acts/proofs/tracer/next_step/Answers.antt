@@ -1,5 +1,4 @@
--- `next_step` of snap_acts (src/tracer.rt): the proof of what its contract says. Does the next item of a run, if there
--- is one, and returns what it did.
+-- `next_step` of snap_acts (src/tracer.rt): the proof of what its contract says.
 use Rattle.std.proofs.Common.{◌≡◌, length, MatchOption, ap, subst, ◌∙◌}
 use Rattle.snap_walk.specs.Walk.{Passes}
 use Rattle.snap_acts.specs.Trace.{line_number}

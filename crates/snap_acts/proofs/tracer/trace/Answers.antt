@@ -1,5 +1,4 @@
--- `trace` of snap_acts (src/tracer.rt): the proof of what its contract says. Returns what each item of a program's run
--- over a schedule did.
+-- `trace` of snap_acts (src/tracer.rt): the proof of what its contract says.
 use Rattle.std.proofs.Common.{◌≡◌, length, MatchOption, subst}
 use Rattle.snap_runs.specs.Run.{run_over}
 use Rattle.snap_acts.specs.Tells.{Tells}

@@ -1,5 +1,4 @@
--- `trace` of snap_acts (src/tracer.rt): what holds at the head of each of its loops. Returns what each item of a
--- program's run over a schedule did.
+-- `trace` of snap_acts (src/tracer.rt): what holds at the head of each of its loops.
 use Rattle.std.proofs.Common.{◌≡◌, ◌≤◌, ◌-◌, length}
 use Rattle.snap_runs.specs.Run.{run_over}
 use Rattle.snap_acts.proofs.Traces.{steps_to}

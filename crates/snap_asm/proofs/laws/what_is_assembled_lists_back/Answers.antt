@@ -1,5 +1,4 @@
 -- `what_is_assembled_lists_back` of snap_asm (src/laws.rt): the proof of what its contract says.
--- What is assembled lists back as the canonical text of its listing, loads as that listing, and is upgraded to itself.
 use Rattle.snap_asm.proofs.Back.{lists_back}
 use Rattle.snap_asm.proofs.laws.what_is_assembled_lists_back.Goals as goal
 

@@ -1,5 +1,4 @@
 -- `what_is_canonical_is_kept` of snap_asm (src/laws.rt): the proof of what its contract says.
--- A canonical text that is within the size of a text lists back as itself.
 use Rattle.snap_asm.proofs.Back.{keeps_canonical}
 use Rattle.snap_asm.proofs.laws.what_is_canonical_is_kept.Goals as goal
 

@@ -1,5 +1,4 @@
 -- `what_is_encoded_is_upgraded` of snap_asm (src/laws.rt): the proof of what its contract says.
--- An image of either version is upgraded to that of the second.
 use Rattle.snap_asm.proofs.Back.{upgrades}
 use Rattle.snap_asm.proofs.laws.what_is_encoded_is_upgraded.Goals as goal
 

@@ -1,5 +1,4 @@
--- `find_point` of snap_audit (src/caller.rt): the proof of what its contract says. Returns the least of `count` items
--- from `item` on after which the values are `view`.
+-- `find_point` of snap_audit (src/caller.rt): the proof of what its contract says.
 use Rattle.std.proofs.Common.{rules, ◌≡◌, ℕ, ◌≤◌, ◌<◌, ◌+◌, ◌-◌, false, drop, ap, sym, ◌∙◌, arith}
 use Rattle.std.specs.Prelude.{bytes_eq}
 use Rattle.snap_record.specs.History.{values_by}

@@ -1,5 +1,4 @@
--- `find_point` of snap_audit (src/caller.rt): what holds at the head of each of its loops. Returns the least of `count`
--- items from `item` on after which the values are `view`.
+-- `find_point` of snap_audit (src/caller.rt): what holds at the head of each of its loops.
 use Rattle.std.proofs.Common.{◌≡◌, ℕ, ◌≤◌, ◌+◌, ◌-◌, drop}
 use Rattle.snap_record.specs.History.{values_by}
 use Rattle.snap_audit.specs.Sweep.{least_by}

@@ -1,5 +1,4 @@
--- `audit_over` of snap_audit (src/sweep.rt): the proof of what its contract says. Returns the verdicts of `audit` on
--- the run of `program` over the whole of `schedule`, of which no record is kept.
+-- `audit_over` of snap_audit (src/sweep.rt): the proof of what its contract says.
 use Rattle.std.proofs.Common.{◌≡◌, IfOk, Vec, false, subst, ◌∙◌}
 use Rattle.std.proofs.lemmas.Result.{IfOk-weaker}
 use Rattle.std.specs.Global.{Global}

@@ -1,5 +1,4 @@
--- `audit_over` of snap_audit (src/sweep.rt): what holds at the head of each of its loops. Returns the verdicts of
--- `audit` on the run of `program` over the whole of `schedule`, of which no record is kept.
+-- `audit_over` of snap_audit (src/sweep.rt): what holds at the head of each of its loops.
 use Rattle.std.proofs.Common.{◌≡◌, ◌-◌, length}
 use Rattle.snap_runs.specs.Run.{run_over}
 use Rattle.snap_audit.specs.Watch.{Watches}

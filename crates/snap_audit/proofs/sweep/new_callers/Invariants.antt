@@ -1,5 +1,4 @@
--- `new_callers` of snap_audit (src/sweep.rt): what holds at the head of each of its loops. Returns what is kept of each
--- process before its first call.
+-- `new_callers` of snap_audit (src/sweep.rt): what holds at the head of each of its loops.
 use Rattle.std.proofs.Common.{◌≡◌, replicate}
 use Rattle.snap_audit.specs.Sweep.{fresh}
 use Rattle.snap_audit.proofs.sweep.new_callers.Given as goal

@@ -1,5 +1,4 @@
--- `note_event` of snap_audit (src/sweep.rt): the proof of what its contract says. Notes an event: keeps a call, and for
--- an answer finds out whether the scan has a point.
+-- `note_event` of snap_audit (src/sweep.rt): the proof of what its contract says.
 use Rattle.std.proofs.Common.{◌≡◌, ℕ, List, ◌-◌, suc, drop, get_or, sym, ap, subst, ◌∙◌}
 use Rattle.snap_record.specs.History.{values_by}
 use Rattle.snap_runs.specs.declared.verdict.Verdict.{Verdict}

@@ -1,5 +1,4 @@
--- `sweep` of snap_audit (src/sweep.rt): the proof of what its contract says. Returns the verdicts on the answered scans
--- of a run, by its changes and its events.
+-- `sweep` of snap_audit (src/sweep.rt): the proof of what its contract says.
 use Rattle.std.proofs.Common.{◌+◌, List, drop, replicate, get_or, sym, ap, subst, ◌∙◌, arith}
 use Rattle.snap_words.specs.Shape.{Counts}
 use Rattle.snap_semantics.specs.declared.event.Event.{Event}

@@ -1,5 +1,4 @@
--- `sweep` of snap_audit (src/sweep.rt): what holds at the head of each of its loops. Returns the verdicts on the
--- answered scans of a run, by its changes and its events.
+-- `sweep` of snap_audit (src/sweep.rt): what holds at the head of each of its loops.
 use Rattle.std.proofs.Common.{length, drop, ◌-◌}
 use Rattle.snap_runs.specs.Run.{Run}
 use Rattle.snap_audit.specs.Sweep.{IsToldBy, Sweeps}

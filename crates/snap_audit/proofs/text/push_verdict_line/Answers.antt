@@ -1,4 +1,5 @@
--- `push_verdict_line` of snap_audit (src/text.rt): the proof of what its contract says, piece after piece.
+-- `push_verdict_line` of snap_audit (src/text.rt): the proof of what its contract says. The text is read back from its
+-- last piece to its first.
 use Rattle.std.proofs.Common.{append_assoc}
 use Rattle.snap_audit.proofs.text.push_verdict_line.Goals as goal
 

@@ -1,5 +1,4 @@
--- `note_changes` of snap_audit (src/watch.rt): the proof of what its contract says. Notes the values after item number
--- `number`, which leaves `machine`.
+-- `note_changes` of snap_audit (src/watch.rt): the proof of what its contract says.
 use Rattle.std.proofs.Common.{append-nil, sym, ◌∙◌, ap, ◌++◌}
 use Rattle.snap_record.specs.History.{changes_to}
 use Rattle.snap_record.proofs.Recording.{none_changed}

@@ -1,5 +1,4 @@
--- `silent_lines` of snap_audit (src/watch.rt): what holds at the head of each of its loops. Returns for each line, by
--- its number, whether there is nothing to note of it.
+-- `silent_lines` of snap_audit (src/watch.rt): what holds at the head of each of its loops.
 use Rattle.std.proofs.Common.{◌≡◌, map, take}
 use Rattle.snap_audit.specs.Watch.{is_silent}
 use Rattle.snap_audit.proofs.watch.silent_lines.Given as goal

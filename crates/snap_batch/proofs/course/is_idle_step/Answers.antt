@@ -1,5 +1,4 @@
--- `is_idle_step` of snap_batch (src/course.rt): the proof of what its contract says. Returns whether an item is a step
--- of a process that is not busy, which does nothing, however often it comes.
+-- `is_idle_step` of snap_batch (src/course.rt): the proof of what its contract says.
 use Rattle.std.proofs.Common.{sym, ◌∙◌}
 use Rattle.snap_batch.proofs.Courses.{idle_does_nothing, trapped_does_nothing, crashed_does_nothing}
 use Rattle.snap_batch.proofs.course.is_idle_step.Goals as goal

@@ -1,5 +1,4 @@
--- `run_to_end` of snap_batch (src/course.rt): the proof of what its contract says. Runs `program` over the whole of
--- `schedule`, and returns its course.
+-- `run_to_end` of snap_batch (src/course.rt): the proof of what its contract says.
 use Rattle.snap_batch.proofs.Courses.{next_fits, some_more}
 use Rattle.snap_batch.proofs.course.run_to_end.Goals as goal
 

@@ -1,5 +1,4 @@
--- `run_to_end` of snap_batch (src/course.rt): what holds at the head of each of its loops. Runs `program` over the
--- whole of `schedule`, and returns its course.
+-- `run_to_end` of snap_batch (src/course.rt): what holds at the head of each of its loops.
 use Rattle.std.specs.List.{flat_map}
 use Rattle.snap_sched.specs.Segments.{segment_items}
 use Rattle.snap_batch.proofs.Courses.{Going}

@@ -1,5 +1,4 @@
--- `certified_exactly` of snap_certify (src/certificates.rt): the proof of what its contract says. A run is certified
--- exactly if it has a certificate in which updates write at the line that is chosen.
+-- `certified_exactly` of snap_certify (src/certificates.rt): the proof of what its contract says.
 use Rattle.std.specs.Prelude.{◌≡◌, Ok, Err, IsOk, Result, refl}
 use Rattle.snap_runs.specs.Run.{Run, IsValidRun}
 use Rattle.snap_certify.specs.Certificate.{Certificate, IsCertificate}

@@ -1,5 +1,4 @@
--- `certified_has_certificate` of snap_certify (src/certificates.rt): the proof of what its contract says. What a certified
--- run is certified by is a certificate of that run: a certified run is linearizable.
+-- `certified_has_certificate` of snap_certify (src/certificates.rt): the proof of what its contract says.
 use Rattle.snap_certify.specs.Certification.{certificate_of, write_line}
 use Rattle.snap_certify.proofs.Sound.{certificate_is}
 use Rattle.snap_certify.proofs.certificates.certified_has_certificate.Goals as goal

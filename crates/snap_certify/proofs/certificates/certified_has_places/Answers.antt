@@ -1,5 +1,4 @@
--- `certified_has_places` of snap_certify (src/certificates.rt): the proof of what its contract says. In a run that has a
--- certificate each operation has its place.
+-- `certified_has_places` of snap_certify (src/certificates.rt): the proof of what its contract says.
 use Rattle.snap_certify.proofs.Certifying.{has_places}
 use Rattle.snap_certify.proofs.certificates.certified_has_places.Goals as goal
 

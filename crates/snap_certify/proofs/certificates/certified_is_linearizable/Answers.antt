@@ -1,5 +1,4 @@
 -- `certified_is_linearizable` of snap_certify (src/certificates.rt): the proof of what its contract says.
--- A run that has a certificate is linearizable.
 use Rattle.snap_certify.proofs.Certifying.{is_linearizable}
 use Rattle.snap_certify.proofs.certificates.certified_is_linearizable.Goals as goal
 

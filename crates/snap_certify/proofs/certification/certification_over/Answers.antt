@@ -1,5 +1,4 @@
--- `certification_over` of snap_certify (src/certification.rt): the proof of what its contract says. Returns the
--- certification of the run of a program over a schedule.
+-- `certification_over` of snap_certify (src/certification.rt): the proof of what its contract says.
 use Rattle.std.proofs.Common.{ap, length, refl, sym, ◌∙◌}
 use Rattle.snap_runs.specs.Audit.{audit}
 use Rattle.snap_runs.specs.Run.{run_over}

@@ -1,6 +1,4 @@
--- `certify` of snap_certify (src/certification.rt): the proof of what its contract says. Returns what a record is
--- certified by, or the first thing that is missing: of the writes, in the order of the items, and then of the points,
--- in the order of the answers.
+-- `certify` of snap_certify (src/certification.rt): the proof of what its contract says.
 use Rattle.std.proofs.Common.{◌≡◌}
 use Rattle.std.specs.Prelude.{IsOk, Ok}
 use Rattle.snap_runs.specs.Linearization.{IsLinearizable}

@@ -1,5 +1,4 @@
--- `conclude` of snap_certify (src/certification.rt): the proof of what its contract says. Returns the certification of
--- a record.
+-- `conclude` of snap_certify (src/certification.rt): the proof of what its contract says.
 use Rattle.std.proofs.Common.{IfOk, ap, subst, ◌≡◌, ◌∙◌}
 use Rattle.snap_runs.specs.Run.{Run}
 use Rattle.snap_machine.specs.Configuration.{Configuration}

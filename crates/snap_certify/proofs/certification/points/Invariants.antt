@@ -1,5 +1,4 @@
--- `points` of snap_certify (src/certification.rt): what holds at the head of each of its loops. Checks that each scan
--- has its point.
+-- `points` of snap_certify (src/certification.rt): what holds at the head of each of its loops.
 use Rattle.std.proofs.Common.{◌≡◌, drop}
 use Rattle.snap_certify.specs.Certification.{points}
 use Rattle.snap_certify.proofs.certification.points.Given as goal

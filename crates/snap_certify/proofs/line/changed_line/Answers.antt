@@ -1,5 +1,4 @@
--- `changed_line` of snap_certify (src/line.rt): the proof of what its contract says. Returns the line that the last
--- passed item executes, if it changes the values, which were `past` before it.
+-- `changed_line` of snap_certify (src/line.rt): the proof of what its contract says.
 use Rattle.std.proofs.Common.{[], suc}
 use Rattle.snap_certify.specs.Certification.{seen_item}
 use Rattle.snap_certify.proofs.Passing.{passed_still, told_dry, unchanged}

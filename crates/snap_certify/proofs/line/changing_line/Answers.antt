@@ -1,5 +1,4 @@
--- `changing_line` of snap_certify (src/line.rt): the proof of what its contract says. Returns the line of the first
--- item that changes the values, found by a walk up to that item.
+-- `changing_line` of snap_certify (src/line.rt): the proof of what its contract says.
 use Rattle.std.proofs.Common.{sym, ◌∙◌}
 use Rattle.snap_runs.specs.Run.{run_over}
 use Rattle.snap_certify.proofs.Passing.{are_roles, seeks_on, sought}

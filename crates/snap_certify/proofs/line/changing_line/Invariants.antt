@@ -1,5 +1,4 @@
--- `changing_line` of snap_certify (src/line.rt): what holds at the head of each of its loops. Returns the line of the
--- first item that changes the values, found by a walk up to that item.
+-- `changing_line` of snap_certify (src/line.rt): what holds at the head of each of its loops.
 use Rattle.std.proofs.Common.{◌-◌, length}
 use Rattle.snap_runs.specs.Run.{run_over}
 use Rattle.snap_certify.proofs.Passing.{Seeks}

@@ -1,5 +1,4 @@
--- `putting_line` of snap_certify (src/line.rt): what holds at the head of each of its loops. Returns the number of the
--- first line that writes a word, and 0 where none does.
+-- `putting_line` of snap_certify (src/line.rt): what holds at the head of each of its loops.
 use Rattle.std.proofs.Common.{◌≡◌, drop}
 use Rattle.snap_certify.specs.Certification.{putting_line}
 use Rattle.snap_certify.proofs.line.putting_line.Given as goal

@@ -1,6 +1,4 @@
--- `write_line` of snap_certify (src/line.rt): the proof of what its contract says. Returns the line at which updates
--- write in the run of a program over a schedule: that of the first item that changes the values, and if none does, the
--- first line that writes a word.
+-- `write_line` of snap_certify (src/line.rt): the proof of what its contract says.
 use Rattle.snap_runs.specs.Run.{run_over}
 use Rattle.snap_certify.proofs.Lines.{chosen_writes}
 use Rattle.snap_certify.proofs.line.write_line.Goals as goal

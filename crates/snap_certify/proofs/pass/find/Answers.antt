@@ -1,5 +1,4 @@
--- `find` of snap_certify (src/pass.rt): the proof of what its contract says. Returns what is found of the items of the
--- run of `program` over `schedule`, where updates write at `line`; and what an audit has to know of them.
+-- `find` of snap_certify (src/pass.rt): the proof of what its contract says.
 use Rattle.std.proofs.Common.{false, ◌∙◌}
 use Rattle.snap_runs.specs.Run.{run_over}
 use Rattle.snap_audit.proofs.Watches.{fewer_left, same_run, silent_here, watched_all}

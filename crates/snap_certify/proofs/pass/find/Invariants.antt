@@ -1,5 +1,4 @@
--- `find` of snap_certify (src/pass.rt): what holds at the head of each of its loops. Returns what is found of the items
--- of the run of `program` over `schedule`, where updates write at `line`; and what an audit has to know of them.
+-- `find` of snap_certify (src/pass.rt): what holds at the head of each of its loops.
 use Rattle.std.proofs.Common.{◌≡◌, ◌-◌, length}
 use Rattle.snap_runs.specs.Run.{run_over}
 use Rattle.snap_audit.specs.Watch.{Watches}

@@ -1,5 +1,4 @@
 -- `notice` of snap_certify (src/pass.rt): the proof of what its contract says.
--- Notes the item that was told last on the way, for the finder.
 use Rattle.std.proofs.Common.{◌≡◌, List, ap, false, refl, subst}
 use Rattle.snap_semantics.specs.State.{values}
 use Rattle.snap_record.specs.declared.roles.LineRole.{LineRole}

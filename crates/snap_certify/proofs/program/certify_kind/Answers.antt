@@ -1,5 +1,4 @@
--- `certify_kind` of snap_certify (src/program.rt): the proof of what its contract says. Returns what the run of a
--- program of a kind is certified by.
+-- `certify_kind` of snap_certify (src/program.rt): the proof of what its contract says.
 use Rattle.snap_certify.proofs.Judging.{over_schedule}
 use Rattle.snap_certify.proofs.program.certify_kind.Goals as goal
 

@@ -1,5 +1,4 @@
--- `certify_run` of snap_certify (src/program.rt): the proof of what its contract says. Returns what the run of a
--- program under a schedule is certified by.
+-- `certify_run` of snap_certify (src/program.rt): the proof of what its contract says.
 use Rattle.std.proofs.Common.{subst, ◌≡◌, ◌++◌}
 use Rattle.snap_judge.specs.declared.judgements.Judgement.{Judgement}
 use Rattle.snap_runs.specs.Run.{Run, run_over}

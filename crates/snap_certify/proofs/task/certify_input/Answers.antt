@@ -1,5 +1,4 @@
--- `certify_input` of snap_certify (src/task.rt): the proof of what its contract says. Returns the certification of a
--- listing under a schedule.
+-- `certify_input` of snap_certify (src/task.rt): the proof of what its contract says.
 use Rattle.std.proofs.Common.{map, sym}
 use Rattle.snap_input.specs.Parts.{parts_of}
 use Rattle.snap_certify.proofs.Judging.{of_input}

@@ -1,6 +1,4 @@
--- `certification_text` of snap_certify (src/text.rt): the proof of what its contract says. Returns what a record is
--- certified by, a line for each operation in the order of places; or what is missing, in one line, and then whether the
--- run is linearizable all the same.
+-- `certification_text` of snap_certify (src/text.rt): the proof of what its contract says.
 use Rattle.std.proofs.Common.{◌≡◌, ◌++◌}
 use Rattle.snap_judge.specs.declared.judgements.Judgement.{Judgement}
 use Rattle.snap_run_judge.specs.RunHistory.{history_of}

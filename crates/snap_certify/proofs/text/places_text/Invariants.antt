@@ -1,5 +1,4 @@
--- `places_text` of snap_certify (src/text.rt): what holds at the head of each of its loops. Appends the lines of writes
--- and scans, in the order of their places.
+-- `places_text` of snap_certify (src/text.rt): what holds at the head of each of its loops.
 use Rattle.std.proofs.Common.{◌≡◌, ◌++◌, drop, false}
 use Rattle.snap_certify.specs.CertificationText.{places_text}
 use Rattle.snap_certify.proofs.text.places_text.Given as goal

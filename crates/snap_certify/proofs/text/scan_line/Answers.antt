@@ -1,4 +1,5 @@
--- `scan_line` of snap_certify (src/text.rt): the proof of what its contract says, piece after piece.
+-- `scan_line` of snap_certify (src/text.rt): the proof of what its contract says. The text is read back from its last
+-- piece to its first.
 use Rattle.std.proofs.Common.{append_assoc}
 use Rattle.snap_certify.proofs.text.scan_line.Goals as goal
 

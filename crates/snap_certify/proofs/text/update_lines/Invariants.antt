@@ -1,5 +1,4 @@
--- `update_lines` of snap_certify (src/text.rt): what holds at the head of each of its loops. Appends the lines of the
--- writes from a place on.
+-- `update_lines` of snap_certify (src/text.rt): what holds at the head of each of its loops.
 use Rattle.std.proofs.Common.{◌≡◌, ◌++◌, ◌-◌, drop, false, length}
 use Rattle.snap_certify.specs.CertificationText.{update_lines}
 use Rattle.snap_certify.proofs.text.update_lines.Given as goal

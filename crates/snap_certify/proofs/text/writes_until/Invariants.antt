@@ -1,5 +1,4 @@
--- `writes_until` of snap_certify (src/text.rt): what holds at the head of each of its loops. Returns the lines of the
--- next writes up to an item, and which write comes then.
+-- `writes_until` of snap_certify (src/text.rt): what holds at the head of each of its loops.
 use Rattle.std.proofs.Common.{◌≡◌, ◌++◌, ◌-◌, drop, false, length}
 use Rattle.snap_certify.specs.CertificationText.{update_lines, writes_after, writes_until}
 use Rattle.snap_certify.proofs.text.writes_until.Given as goal

@@ -1,5 +1,4 @@
--- `moves_of` of snap_chance (src/moves.rt): the proof of what its contract says. Returns the turns of a plan, one after
--- another, by an order and the turns at which it changes.
+-- `moves_of` of snap_chance (src/moves.rt): the proof of what its contract says.
 use Rattle.std.proofs.Common.{◌≡◌, ◌+◌, ◌*◌, ◌<◌, ◌≤◌, length, sym, ap, ◌∙◌, arith}
 use Rattle.snap_chance.specs.Priorities.{lowered_at, move_items, passed}
 use Rattle.snap_chance.proofs.Turning.{longer, still_there}

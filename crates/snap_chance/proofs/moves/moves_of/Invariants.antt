@@ -1,5 +1,4 @@
--- `moves_of` of snap_chance (src/moves.rt): what holds at the head of each of its loops. Returns the turns of a plan,
--- one after another, by an order and the turns at which it changes.
+-- `moves_of` of snap_chance (src/moves.rt): what holds at the head of each of its loops.
 use Rattle.std.proofs.Common.{◌≡◌, ◌+◌, ◌-◌, ◌*◌, ◌≤◌, ◌++◌, length}
 use Rattle.std.specs.List.{AllByRecursion}
 use Rattle.snap_words.specs.Shape.{IsOneOf}

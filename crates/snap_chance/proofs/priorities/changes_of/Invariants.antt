@@ -1,5 +1,4 @@
--- `changes_of` of snap_chance (src/priorities.rt): what holds at the head of each of its loops. Returns `count` random
--- turns, at which the process that moves is lowered.
+-- `changes_of` of snap_chance (src/priorities.rt): what holds at the head of each of its loops.
 use Rattle.std.proofs.Common.{◌≡◌}
 use Rattle.snap_chance.specs.Priorities.{changes_of}
 use Rattle.snap_chance.proofs.priorities.changes_of.Given as goal

@@ -1,5 +1,4 @@
--- `order_of` of snap_chance (src/priorities.rt): what holds at the head of each of its loops. Returns the processes in
--- a random order, the one that moves first before the others.
+-- `order_of` of snap_chance (src/priorities.rt): what holds at the head of each of its loops.
 use Rattle.std.proofs.Common.{◌≡◌, length}
 use Rattle.snap_chance.specs.Priorities.{order_of}
 use Rattle.snap_chance.proofs.Moving.{AreThere}

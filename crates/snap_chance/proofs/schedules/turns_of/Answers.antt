@@ -1,5 +1,4 @@
--- `turns_of` of snap_chance (src/schedules.rt): the proof of what its contract says. Returns the turns of a plan, one
--- after another.
+-- `turns_of` of snap_chance (src/schedules.rt): the proof of what its contract says.
 use Rattle.std.proofs.Common.{◌+◌, ◌*◌, ◌<◌, ◌≤◌, length, arith}
 use Rattle.snap_chance.proofs.Turning.{are_turn, longer, still_there, one_more}
 use Rattle.snap_chance.specs.Paces.{turn_items}

@@ -1,5 +1,4 @@
--- `breaks_without` of snap_debug (src/marks.rt): what holds at the head of each of its loops. Returns a copy of
--- `breaks` without `b`.
+-- `breaks_without` of snap_debug (src/marks.rt): what holds at the head of each of its loops.
 use Rattle.std.proofs.Common.{◌≡◌, not, take}
 use Rattle.std.specs.List.{filter}
 use Rattle.snap_debug.specs.Marks.{same_breakpoint}

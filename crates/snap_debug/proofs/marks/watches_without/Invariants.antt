@@ -1,5 +1,4 @@
--- `watches_without` of snap_debug (src/marks.rt): what holds at the head of each of its loops. Returns a copy of
--- `watches` without `a`.
+-- `watches_without` of snap_debug (src/marks.rt): what holds at the head of each of its loops.
 use Rattle.std.proofs.Common.{◌≡◌, not, take}
 use Rattle.std.specs.List.{filter}
 use Rattle.snap_debug.specs.Marks.{same_address}

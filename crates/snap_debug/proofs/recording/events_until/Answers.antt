@@ -1,5 +1,4 @@
--- `events_until` of snap_debug (src/recording.rt): the proof of what its contract says. Returns the events
--- of the first `position` items.
+-- `events_until` of snap_debug (src/recording.rt): the proof of what its contract says.
 use Rattle.std.proofs.Common.{◌<◌, subst, sym, ◌∙◌}
 use Rattle.snap_semantics.specs.declared.event.Event.{Event}
 use Rattle.snap_debug.proofs.Recordings.{first_events, until_end, until_here}

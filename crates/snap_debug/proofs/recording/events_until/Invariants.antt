@@ -1,5 +1,4 @@
--- `events_until` of snap_debug (src/recording.rt): what holds at the head of each of its loops. Returns the
--- events of the first `position` items.
+-- `events_until` of snap_debug (src/recording.rt): what holds at the head of each of its loops.
 use Rattle.std.proofs.Common.{◌≡◌, ◌-◌, ◌++◌, drop, length, take}
 use Rattle.snap_debug.proofs.Recordings.{until}
 use Rattle.snap_debug.proofs.recording.events_until.Given as goal

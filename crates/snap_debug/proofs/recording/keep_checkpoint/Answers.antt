@@ -1,5 +1,4 @@
--- `keep_checkpoint` of snap_debug (src/recording.rt): the proof of what its contract says. Keeps a copy of
--- the machine, if a checkpoint is due.
+-- `keep_checkpoint` of snap_debug (src/recording.rt): the proof of what its contract says.
 use Rattle.std.proofs.Common.{length, ap, ◌∙◌}
 use Rattle.snap_record.proofs.Longer.{join_all}
 use Rattle.snap_debug.specs.Recording.{IsCheckpoint}

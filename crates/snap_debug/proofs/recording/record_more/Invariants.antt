@@ -1,5 +1,4 @@
--- `record_more` of snap_debug (src/recording.rt): what holds at the head of each of its loops. Records
--- `count` items more, with the checkpoints on the way.
+-- `record_more` of snap_debug (src/recording.rt): what holds at the head of each of its loops.
 use Rattle.std.proofs.Common.{◌≡◌, ◌+◌, length}
 use Rattle.std.specs.List.{AllByRecursion}
 use Rattle.snap_runs.specs.Run.{Run}

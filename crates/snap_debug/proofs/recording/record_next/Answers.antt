@@ -1,5 +1,4 @@
 -- `record_next` of snap_debug (src/recording.rt): the proof of what its contract says.
--- Records the next of the items to come.
 use Rattle.snap_debug.proofs.Recordings.{next_one}
 use Rattle.snap_debug.proofs.recording.record_next.Goals as goal
 

@@ -1,4 +1,4 @@
--- `skip` of snap_debug (src/recording.rt): the proof of what its contract says. Skips `count` items.
+-- `skip` of snap_debug (src/recording.rt): the proof of what its contract says.
 use Rattle.std.proofs.Common.{sym, ◌∙◌}
 use Rattle.snap_debug.proofs.Recordings.{drop_next}
 use Rattle.snap_debug.proofs.recording.skip.Goals as goal

@@ -1,5 +1,4 @@
--- `skip` of snap_debug (src/recording.rt): what holds at the head of each of its loops. Skips `count`
--- items.
+-- `skip` of snap_debug (src/recording.rt): what holds at the head of each of its loops.
 use Rattle.std.proofs.Common.{◌≡◌, drop}
 use Rattle.snap_debug.proofs.recording.skip.Given as goal
 

@@ -1,5 +1,4 @@
--- `any_differs` of snap_debug (src/stops.rt): what holds at the head of each of its loops. Returns whether one of
--- `watches` differs between two machines.
+-- `any_differs` of snap_debug (src/stops.rt): what holds at the head of each of its loops.
 use Rattle.std.proofs.Common.{◌≡◌, drop}
 use Rattle.std.specs.List.{list_any}
 use Rattle.snap_debug.specs.Stops.{differs}

@@ -1,5 +1,4 @@
--- `any_stands_at` of snap_debug (src/stops.rt): what holds at the head of each of its loops. Returns whether process
--- `i`, of this status, is at the line of one of `breaks`.
+-- `any_stands_at` of snap_debug (src/stops.rt): what holds at the head of each of its loops.
 use Rattle.std.proofs.Common.{◌≡◌, drop}
 use Rattle.std.specs.List.{list_any}
 use Rattle.snap_debug.specs.Stops.{stands_at}

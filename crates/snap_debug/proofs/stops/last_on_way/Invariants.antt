@@ -1,5 +1,4 @@
--- `last_on_way` of snap_debug (src/stops.rt): what holds at the head of each of its loops. Returns the last stop on the
--- way of two machines to a position, if there is one.
+-- `last_on_way` of snap_debug (src/stops.rt): what holds at the head of each of its loops.
 use Rattle.std.proofs.Common.{◌≡◌, ◌<◌, ◌+◌, ◌-◌}
 use Rattle.snap_debug.specs.Marks.{last_stop}
 use Rattle.snap_debug.specs.Stops.{AreAt, or_before}

@@ -1,5 +1,4 @@
--- `last_stop` of snap_debug (src/stops.rt): the proof of what its contract says. Returns the last stop before a
--- position, and 0 if there is none, sought from checkpoint to checkpoint, the last first.
+-- `last_stop` of snap_debug (src/stops.rt): the proof of what its contract says.
 use Rattle.std.proofs.Common.{◌∙◌, sym}
 use Rattle.snap_debug.proofs.Walks.{no_last}
 use Rattle.snap_debug.proofs.stops.last_stop.Goals as goal

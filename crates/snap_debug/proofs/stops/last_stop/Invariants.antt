@@ -1,5 +1,4 @@
--- `last_stop` of snap_debug (src/stops.rt): what holds at the head of each of its loops. Returns the last stop before a
--- position, and 0 if there is none, sought from checkpoint to checkpoint, the last first.
+-- `last_stop` of snap_debug (src/stops.rt): what holds at the head of each of its loops.
 use Rattle.std.proofs.Common.{◌≡◌, ◌≤◌}
 use Rattle.snap_debug.specs.Marks.{last_stop}
 use Rattle.snap_debug.proofs.stops.last_stop.Given as goal

@@ -1,5 +1,4 @@
--- `next_stop` of snap_debug (src/stops.rt): the proof of what its contract says. Returns the first stop after a
--- position, and the end if there is none.
+-- `next_stop` of snap_debug (src/stops.rt): the proof of what its contract says.
 use Rattle.std.proofs.Common.{◌≡◌, ◌≤◌, ◌<◌, ◌+◌, ◌-◌, length, refl, ap, subst, sym, ◌∙◌, arith}
 use Rattle.std.specs.List.{list_any}
 use Rattle.snap_debug.specs.Marks.{next_stop}

@@ -1,5 +1,4 @@
--- `next_stop` of snap_debug (src/stops.rt): what holds at the head of each of its loops. Returns the first stop after a
--- position, and the end if there is none.
+-- `next_stop` of snap_debug (src/stops.rt): what holds at the head of each of its loops.
 use Rattle.std.proofs.Common.{◌≡◌, ◌≤◌, ◌-◌, false, length}
 use Rattle.std.specs.List.{list_any}
 use Rattle.snap_debug.specs.Marks.{next_stop}

@@ -1,5 +1,4 @@
--- `commands_are_spelled` of snap_debug_commands (src/command_laws.rt): the proof of what its contract says. A text is
--- read as commands exactly if it spells them, one a line.
+-- `commands_are_spelled` of snap_debug_commands (src/command_laws.rt): the proof of what its contract says.
 use Rattle.snap_debug_commands.proofs.CommandsAgain.{spelled_is_read}
 use Rattle.snap_debug_commands.proofs.CommandsFound.{read_is_spelled}
 use Rattle.snap_debug_commands.proofs.command_laws.commands_are_spelled.Goals as goal

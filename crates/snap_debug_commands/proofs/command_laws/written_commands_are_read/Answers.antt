@@ -1,5 +1,4 @@
 -- `written_commands_are_read` of snap_debug_commands (src/command_laws.rt): the proof of what its contract says.
--- What is written of commands is read as those commands.
 use Rattle.snap_debug_commands.proofs.CommandsAgain.{written_is_read}
 use Rattle.snap_debug_commands.proofs.command_laws.written_commands_are_read.Goals as goal
 

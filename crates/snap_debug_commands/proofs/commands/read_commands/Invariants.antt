@@ -1,5 +1,4 @@
--- `read_commands` of snap_debug_commands (src/commands.rt): what holds at the head of each of its loops. Reads the
--- commands that `text` spells.
+-- `read_commands` of snap_debug_commands (src/commands.rt): what holds at the head of each of its loops.
 use Rattle.std.proofs.Common.{◌≡◌, List, ◌++◌, length, Result, Ok}
 use Rattle.snap_semantics.specs.Answers.{◌>>=◌}
 use Rattle.snap_debug_commands.specs.Commands.{commands_of_lines}

@@ -1,5 +1,4 @@
--- `firm` of snap_explanation (src/advice.rt): what holds at the head of each of its loops. Returns the first part that
--- has to stand there, if one has to.
+-- `firm` of snap_explanation (src/advice.rt): what holds at the head of each of its loops.
 use Rattle.std.proofs.Common.{◌≡◌, length}
 use Rattle.snap_explanation.specs.Advice.{firm}
 use Rattle.snap_explanation.proofs.advice.firm.Given as goal

@@ -1,5 +1,4 @@
--- `header_at` of snap_explanation (src/explain.rt): what holds at the head of each of its loops. Returns which header
--- line is expected at this line.
+-- `header_at` of snap_explanation (src/explain.rt): what holds at the head of each of its loops.
 use Rattle.std.proofs.Common.{◌≡◌, length}
 use Rattle.snap_explanation.specs.Explanation.{header_at}
 use Rattle.snap_explanation.specs.declared.line_sorts.Header.TheVariants.{Kind}

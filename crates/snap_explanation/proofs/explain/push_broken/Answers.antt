@@ -1,5 +1,4 @@
--- `push_broken` of snap_explanation (src/explain.rt): the proof of what its contract says. Appends which rule the
--- listing in an image breaks.
+-- `push_broken` of snap_explanation (src/explain.rt): the proof of what its contract says.
 use Rattle.std.proofs.Common.{List, ℕ, ◌++◌, ap, ◌∙◌, append_assoc}
 use Rattle.snap_explanation.specs.declared.wording.TheConstants.{IMAGE_RULE}
 use Rattle.snap_explanation.proofs.explain.push_broken.Goals as goal

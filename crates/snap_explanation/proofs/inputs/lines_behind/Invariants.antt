@@ -1,5 +1,4 @@
--- `lines_behind` of snap_explanation (src/inputs.rt): what holds at the head of each of its loops. Returns the lines
--- behind parts.
+-- `lines_behind` of snap_explanation (src/inputs.rt): what holds at the head of each of its loops.
 use Rattle.std.proofs.Common.{◌≡◌, ◌++◌, map, drop}
 use Rattle.snap_explanation.specs.Inputs.{lines_behind}
 use Rattle.snap_explanation.proofs.inputs.lines_behind.Given as goal

@@ -1,5 +1,4 @@
--- `near_separator` of snap_explanation (src/inputs.rt): what holds at the head of each of its loops. Returns the number
--- of the first line that begins with `%` and has more; 0 if there is none.
+-- `near_separator` of snap_explanation (src/inputs.rt): what holds at the head of each of its loops.
 use Rattle.std.proofs.Common.{◌≡◌, ◌≤◌, ◌+◌, length}
 use Rattle.snap_semantics.specs.Token.{lines_of}
 use Rattle.snap_explanation.specs.Inputs.{near_separator}

@@ -1,5 +1,4 @@
--- `what_is_lost_stays_lost` of snap_explanation (src/laws.rt): the proof of what its contract says. A line that is lost
--- at a token is lost whatever follows that token.
+-- `what_is_lost_stays_lost` of snap_explanation (src/laws.rt): the proof of what its contract says.
 use Rattle.std.proofs.Common.{false, arith}
 use Rattle.snap_explanation.specs.Lost.{parts_of_line}
 use Rattle.snap_explanation.proofs.Stays.{stays}

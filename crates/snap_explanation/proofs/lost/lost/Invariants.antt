@@ -1,5 +1,4 @@
--- `lost` of snap_explanation (src/lost.rt): what holds at the head of each of its loops. Returns where tokens are lost
--- of which `wanted` are wanted in a row.
+-- `lost` of snap_explanation (src/lost.rt): what holds at the head of each of its loops.
 use Rattle.std.proofs.Common.{◌≡◌, ◌≤◌, ◌-◌, length, drop}
 use Rattle.snap_explanation.specs.Lost.{lost}
 use Rattle.snap_explanation.specs.Steps.{placed_tokens, view_wanted}

@@ -1,5 +1,4 @@
--- `may_end` of snap_explanation (src/lost.rt): what holds at the head of each of its loops. Returns whether a line may
--- end where `parts` are wanted in a row.
+-- `may_end` of snap_explanation (src/lost.rt): what holds at the head of each of its loops.
 use Rattle.std.proofs.Common.{◌≡◌, length}
 use Rattle.snap_explanation.specs.Lost.{may_end}
 use Rattle.snap_explanation.proofs.lost.may_end.Given as goal

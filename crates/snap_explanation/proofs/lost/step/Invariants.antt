@@ -1,5 +1,4 @@
--- `step` of snap_explanation (src/lost.rt): what holds at the head of each of its loops. Returns what is wanted behind
--- `token`, where these are wanted in a row; `None` if the line does not go on with it.
+-- `step` of snap_explanation (src/lost.rt): what holds at the head of each of its loops.
 use Rattle.std.proofs.Common.{◌≡◌, length}
 use Rattle.snap_text.specs.Tokens.{view_token}
 use Rattle.snap_explanation.specs.Lost.{step}

@@ -1,5 +1,4 @@
--- `first_wrong` of snap_explanation (src/misuse.rt): what holds at the head of each of its loops. Returns the first
--- token of a line with this instruction that is not right.
+-- `first_wrong` of snap_explanation (src/misuse.rt): what holds at the head of each of its loops.
 use Rattle.std.proofs.Common.{◌≡◌, map, length}
 use Rattle.snap_explanation.specs.Steps.{view_placed_token}
 use Rattle.snap_explanation.specs.Misuse.{first_wrong}

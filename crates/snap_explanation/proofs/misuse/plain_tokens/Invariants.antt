@@ -1,5 +1,4 @@
--- `plain_tokens` of snap_explanation (src/misuse.rt): what holds at the head of each of its loops. Returns the tokens
--- without their columns.
+-- `plain_tokens` of snap_explanation (src/misuse.rt): what holds at the head of each of its loops.
 use Rattle.std.proofs.Common.{◌≡◌, ◌++◌, map, drop}
 use Rattle.snap_text.specs.Tokens.{view_token}
 use Rattle.snap_explanation.specs.Steps.{view_placed_token}

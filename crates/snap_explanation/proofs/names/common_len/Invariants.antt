@@ -1,5 +1,4 @@
--- `common_len` of snap_explanation (src/names.rt): what holds at the head of each of its loops. Returns how many
--- letters at the front of two words are the same.
+-- `common_len` of snap_explanation (src/names.rt): what holds at the head of each of its loops.
 use Rattle.std.proofs.Common.{◌≡◌, ◌+◌, length}
 use Rattle.snap_explanation.specs.Names.{common_len}
 use Rattle.snap_explanation.proofs.names.common_len.Given as goal

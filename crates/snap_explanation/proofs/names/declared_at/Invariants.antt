@@ -1,5 +1,4 @@
--- `declared_at` of snap_explanation (src/names.rt): what holds at the head of each of its loops. Returns the first line
--- of a text that has a name behind another word.
+-- `declared_at` of snap_explanation (src/names.rt): what holds at the head of each of its loops.
 use Rattle.std.proofs.Common.{◌≡◌, length}
 use Rattle.snap_semantics.specs.Token.{text_lines}
 use Rattle.snap_explanation.specs.Names.{declared_at}

@@ -1,5 +1,4 @@
--- `first_again` of snap_explanation (src/names.rt): what holds at the head of each of its loops. Returns the first name
--- of a header line that is one of `known`, or stands before in the line.
+-- `first_again` of snap_explanation (src/names.rt): what holds at the head of each of its loops.
 use Rattle.std.proofs.Common.{◌≡◌, map, length}
 use Rattle.snap_explanation.specs.Names.{first_again}
 use Rattle.snap_explanation.specs.Steps.{view_placed_token}

@@ -1,5 +1,4 @@
--- `first_bad` of snap_explanation (src/names.rt): what holds at the head of each of its loops. Returns the first token
--- that may not be declared as a name.
+-- `first_bad` of snap_explanation (src/names.rt): what holds at the head of each of its loops.
 use Rattle.std.proofs.Common.{◌≡◌, map, length}
 use Rattle.snap_explanation.specs.Names.{first_such, is_bad}
 use Rattle.snap_explanation.specs.Steps.{view_placed_token}

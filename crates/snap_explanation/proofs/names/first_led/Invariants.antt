@@ -1,5 +1,4 @@
--- `first_led` of snap_explanation (src/names.rt): what holds at the head of each of its loops. Returns the number of a
--- line to which the word before it leads, if it is `number`.
+-- `first_led` of snap_explanation (src/names.rt): what holds at the head of each of its loops.
 use Rattle.std.proofs.Common.{◌≡◌, map, length}
 use Rattle.snap_explanation.specs.Names.{first_led}
 use Rattle.snap_explanation.specs.Steps.{view_placed_token}

@@ -1,5 +1,4 @@
--- `is_among` of snap_explanation (src/names.rt): what holds at the head of each of its loops. Returns whether a word is
--- one of `words`.
+-- `is_among` of snap_explanation (src/names.rt): what holds at the head of each of its loops.
 use Rattle.std.proofs.Common.{◌≡◌, map, length}
 use Rattle.snap_explanation.specs.Names.{is_among}
 use Rattle.snap_explanation.proofs.names.is_among.Given as goal

@@ -1,5 +1,4 @@
--- `last_before` of snap_explanation (src/names.rt): what holds at the head of each of its loops. Returns the last
--- numbered line of a text before line `line`, and the number at its front.
+-- `last_before` of snap_explanation (src/names.rt): what holds at the head of each of its loops.
 use Rattle.std.proofs.Common.{◌≡◌, length}
 use Rattle.snap_semantics.specs.Token.{text_lines}
 use Rattle.snap_explanation.specs.Names.{last_before}

@@ -1,5 +1,4 @@
--- `leading_line` of snap_explanation (src/names.rt): what holds at the head of each of its loops. Returns the number of
--- the first text line that leads to line `number`; 0 if there is none.
+-- `leading_line` of snap_explanation (src/names.rt): what holds at the head of each of its loops.
 use Rattle.std.proofs.Common.{◌≡◌, length}
 use Rattle.snap_explanation.specs.Names.{leading_line}
 use Rattle.snap_semantics.specs.Token.{text_lines}

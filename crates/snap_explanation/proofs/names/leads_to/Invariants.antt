@@ -1,5 +1,4 @@
--- `leads_to` of snap_explanation (src/names.rt): what holds at the head of each of its loops. Returns whether tokens
--- lead to this line.
+-- `leads_to` of snap_explanation (src/names.rt): what holds at the head of each of its loops.
 use Rattle.std.proofs.Common.{◌≡◌, length}
 use Rattle.snap_explanation.specs.Names.{leads_to}
 use Rattle.snap_text.specs.Tokens.{view_tokens}

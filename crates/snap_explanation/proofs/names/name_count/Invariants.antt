@@ -1,5 +1,4 @@
--- `name_count` of snap_explanation (src/names.rt): what holds at the head of each of its loops. Returns how many of the
--- words of header lines are names.
+-- `name_count` of snap_explanation (src/names.rt): what holds at the head of each of its loops.
 use Rattle.std.proofs.Common.{◌≡◌, ◌≤◌, ◌+◌, map, length}
 use Rattle.snap_explanation.specs.Names.{name_count}
 use Rattle.snap_explanation.proofs.names.name_count.Given as goal

@@ -1,5 +1,4 @@
--- `nth_token` of snap_explanation (src/names.rt): what holds at the head of each of its loops. Returns token `index`,
--- counted from 0; `None` where there are fewer.
+-- `nth_token` of snap_explanation (src/names.rt): what holds at the head of each of its loops.
 use Rattle.std.proofs.Common.{◌≡◌, map, length}
 use Rattle.snap_explanation.specs.Names.{nth_token}
 use Rattle.snap_explanation.specs.Steps.{view_placed_token}

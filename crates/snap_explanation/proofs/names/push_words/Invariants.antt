@@ -1,5 +1,4 @@
--- `push_words` of snap_explanation (src/names.rt): what holds at the head of each of its loops. Appends the identifiers
--- among tokens.
+-- `push_words` of snap_explanation (src/names.rt): what holds at the head of each of its loops.
 use Rattle.std.proofs.Common.{◌≡◌, ◌++◌, map, length}
 use Rattle.snap_explanation.specs.Names.{words_of}
 use Rattle.snap_text.specs.Tokens.{view_tokens}

@@ -1,5 +1,4 @@
--- `words_before` of snap_explanation (src/names.rt): the proof of what its contract says. Returns the identifiers of
--- the header lines of a listing's text before this line.
+-- `words_before` of snap_explanation (src/names.rt): the proof of what its contract says.
 use Rattle.std.proofs.Common.{arith}
 use Rattle.snap_explanation.proofs.Counts.{exhausted}
 use Rattle.snap_explanation.proofs.names.words_before.Goals as goal

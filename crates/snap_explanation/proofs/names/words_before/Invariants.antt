@@ -1,5 +1,4 @@
--- `words_before` of snap_explanation (src/names.rt): what holds at the head of each of its loops. Returns the
--- identifiers of the header lines of a listing's text before this line.
+-- `words_before` of snap_explanation (src/names.rt): what holds at the head of each of its loops.
 use Rattle.std.proofs.Common.{◌≡◌, ◌++◌, map}
 use Rattle.snap_explanation.specs.Names.{words_before}
 use Rattle.snap_semantics.specs.Token.{text_lines}

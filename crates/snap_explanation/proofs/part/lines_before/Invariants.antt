@@ -1,5 +1,4 @@
--- `lines_before` of snap_explanation (src/part.rt): what holds at the head of each of its loops. Returns how many lines
--- stand before part `index`.
+-- `lines_before` of snap_explanation (src/part.rt): what holds at the head of each of its loops.
 use Rattle.std.proofs.Common.{◌≡◌, map, drop}
 use Rattle.snap_explanation.specs.Part.{lines_before}
 use Rattle.snap_explanation.proofs.part.lines_before.Given as goal

@@ -1,5 +1,4 @@
--- `refused_schedule` of snap_explanation (src/part.rt): what holds at the head of each of its loops. Returns the number
--- of the first schedule that is refused, from 0.
+-- `refused_schedule` of snap_explanation (src/part.rt): what holds at the head of each of its loops.
 use Rattle.std.proofs.Common.{◌≡◌, map, drop}
 use Rattle.snap_explanation.specs.Part.{refused_schedule}
 use Rattle.snap_explanation.proofs.part.refused_schedule.Given as goal

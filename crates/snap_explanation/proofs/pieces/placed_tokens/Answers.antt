@@ -1,5 +1,4 @@
--- `placed_tokens` of snap_explanation (src/pieces.rt): the proof of what its contract says. Returns the tokens of
--- `line` with their columns.
+-- `placed_tokens` of snap_explanation (src/pieces.rt): the proof of what its contract says.
 use Rattle.std.proofs.Common.{◌≡◌, ◌<◌, List, Option, Some, None, length, map}
 use Rattle.std.proofs.Common.{get_or, nat_eq, false, sym, ap, ◌∙◌, arith}
 use Rattle.std.proofs.lemmas.Bool.{ne_eqb}

@@ -1,5 +1,4 @@
--- `placed_tokens` of snap_explanation (src/pieces.rt): what holds at the head of each of its loops. Returns the tokens
--- of `line` with their columns.
+-- `placed_tokens` of snap_explanation (src/pieces.rt): what holds at the head of each of its loops.
 use Rattle.std.proofs.Common.{◌≡◌, ◌+◌, length, map}
 use Rattle.snap_explanation.specs.Pieces.{placed_from, placed_of, pieces_of}
 use Rattle.snap_explanation.specs.Steps.{view_placed_token}

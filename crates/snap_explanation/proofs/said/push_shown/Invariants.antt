@@ -1,5 +1,4 @@
--- `push_shown` of snap_explanation (src/said.rt): what holds at the head of each of its loops. Appends bytes as they
--- are shown.
+-- `push_shown` of snap_explanation (src/said.rt): what holds at the head of each of its loops.
 use Rattle.std.proofs.Common.{drop}
 use Rattle.snap_explanation.specs.Said.{shown}
 use Rattle.snap_explanation.proofs.Grown.{AddsBut}

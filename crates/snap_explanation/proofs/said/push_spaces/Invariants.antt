@@ -1,4 +1,4 @@
--- `push_spaces` of snap_explanation (src/said.rt): what holds at the head of each of its loops. Appends spaces.
+-- `push_spaces` of snap_explanation (src/said.rt): what holds at the head of each of its loops.
 use Rattle.std.proofs.Common.{replicate}
 use Rattle.snap_explanation.proofs.Grown.{AddsBut}
 use Rattle.snap_explanation.proofs.said.push_spaces.Given as goal

@@ -1,5 +1,4 @@
--- `comment_start` of snap_explanation (src/spot.rt): what holds at the head of each of its loops. Returns how many
--- bytes of a line stand before its comment.
+-- `comment_start` of snap_explanation (src/spot.rt): what holds at the head of each of its loops.
 use Rattle.std.proofs.Common.{◌≡◌, ◌≤◌, ◌-◌, ◌+◌, drop, length}
 use Rattle.snap_explanation.specs.Spot.{comment_start}
 use Rattle.snap_explanation.proofs.spot.comment_start.Given as goal

@@ -1,5 +1,4 @@
--- `line_of` of snap_explanation (src/spot.rt): what holds at the head of each of its loops. Returns line number
--- `number`, counted from 1; an empty line if there is none.
+-- `line_of` of snap_explanation (src/spot.rt): what holds at the head of each of its loops.
 use Rattle.std.proofs.Common.{◌≡◌, length}
 use Rattle.snap_explanation.specs.Spot.{nth_line}
 use Rattle.snap_semantics.specs.Token.{lines_of}

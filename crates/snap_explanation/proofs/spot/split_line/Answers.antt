@@ -1,5 +1,4 @@
--- `split_line` of snap_explanation (src/spot.rt): the proof of what its contract says. Returns the first line, without
--- its line feed, and the lines behind it.
+-- `split_line` of snap_explanation (src/spot.rt): the proof of what its contract says.
 use Rattle.std.proofs.Common.{◌<◌, length, arith}
 use Rattle.snap_text.proofs.Splits.{ends_at, goes_on_at, whole_at}
 use Rattle.snap_explanation.proofs.spot.split_line.Goals as goal

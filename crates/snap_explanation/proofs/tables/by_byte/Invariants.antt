@@ -1,5 +1,4 @@
--- `by_byte` of snap_explanation (src/tables.rt): what holds at the head of each of its loops. Returns the text in the
--- first range with a byte.
+-- `by_byte` of snap_explanation (src/tables.rt): what holds at the head of each of its loops.
 use Rattle.std.proofs.Common.{◌≡◌, drop, map}
 use Rattle.snap_explanation.specs.Said.{view_range, by_byte}
 use Rattle.snap_explanation.proofs.tables.by_byte.Given as goal

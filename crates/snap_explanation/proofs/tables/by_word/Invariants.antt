@@ -1,5 +1,4 @@
--- `by_word` of snap_explanation (src/tables.rt): what holds at the head of each of its loops. Returns the text in the
--- first row of a piece, or else this.
+-- `by_word` of snap_explanation (src/tables.rt): what holds at the head of each of its loops.
 use Rattle.std.proofs.Common.{◌≡◌, drop, map}
 use Rattle.snap_explanation.specs.Said.{view_row, by_word}
 use Rattle.snap_explanation.proofs.tables.by_word.Given as goal

@@ -1,5 +1,4 @@
--- `push_expected` of snap_explanation (src/texts.rt): what holds at the head of each of its loops. Appends all that may
--- stand next.
+-- `push_expected` of snap_explanation (src/texts.rt): what holds at the head of each of its loops.
 use Rattle.std.proofs.Common.{length}
 use Rattle.snap_explanation.specs.Texts.{expected_words}
 use Rattle.snap_explanation.proofs.Grown.{AddsBut}

@@ -1,5 +1,4 @@
--- `events_tell_operations` of snap_history_laws (src/events.rt): the proof of what its contract says. The events of a
--- run of any listing are the calls and the ends of its operations, and nothing that did not happen.
+-- `events_tell_operations` of snap_history_laws (src/events.rt): the proof of what its contract says.
 use Rattle.snap_history_laws.proofs.events.Telling.{tells_operations}
 use Rattle.snap_history_laws.proofs.events.events_tell_operations.Goals as goal
 

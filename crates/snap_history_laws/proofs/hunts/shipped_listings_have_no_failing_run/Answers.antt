@@ -1,6 +1,4 @@
 -- `shipped_listings_have_no_failing_run` of snap_history_laws (src/hunts.rt): the proof of what its contract says.
--- Every run of U, B and M is linearizable, each of its scans has a point, and it has no trap, and no operation of more
--- steps than are promised.
 use Rattle.snap_history_laws.proofs.hunts.Nothing.{finds_nothing, hunts_find_none}
 use Rattle.snap_history_laws.proofs.hunts.shipped_listings_have_no_failing_run.Goals as goal
 

@@ -1,6 +1,4 @@
 -- `closed_desks_are_seen_linearizable` of snap_history_laws (src/judgements.rt): the proof of what its contract says.
--- The history of what is kept at a desk of U, B or M is linearizable, and no judgement of it says otherwise, whatever
--- the threads did.
 use Rattle.snap_history_laws.proofs.judgements.Shipped.{closed_desks}
 use Rattle.snap_history_laws.proofs.judgements.closed_desks_are_seen_linearizable.Goals as goal
 

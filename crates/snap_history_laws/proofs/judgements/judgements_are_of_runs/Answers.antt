@@ -1,6 +1,4 @@
--- `judgements_are_of_runs` of snap_history_laws (src/judgements.rt): the proof of what its contract says. What is
--- judged of the history of a run holds of the run: an order of its operations is a linearization of the run, and the
--- item of an event at which the history fails is one at which the run fails.
+-- `judgements_are_of_runs` of snap_history_laws (src/judgements.rt): the proof of what its contract says.
 use Rattle.snap_history_laws.proofs.judgements.Judged.{judgements_are_of_runs}
 use Rattle.snap_history_laws.proofs.judgements.judgements_are_of_runs.Goals as goal
 

@@ -1,6 +1,4 @@
--- `live_runs_are_seen_linearizable` of snap_history_laws (src/judgements.rt): the proof of what its contract says. The
--- history of a live run of U, B or M is linearizable, and no judgement of it says otherwise, whatever its gate
--- answered.
+-- `live_runs_are_seen_linearizable` of snap_history_laws (src/judgements.rt): the proof of what its contract says.
 use Rattle.snap_history_laws.proofs.judgements.Shipped.{live_runs}
 use Rattle.snap_history_laws.proofs.judgements.live_runs_are_seen_linearizable.Goals as goal
 

@@ -1,5 +1,4 @@
--- `runs_are_told_by_their_histories` of snap_history_laws (src/judgements.rt): the proof of what its contract says. The
--- history of a run of any listing has its operations and no others, and therefore the same linearizations.
+-- `runs_are_told_by_their_histories` of snap_history_laws (src/judgements.rt): the proof of what its contract says.
 use Rattle.snap_history_laws.proofs.judgements.Linear.{runs_are_told}
 use Rattle.snap_history_laws.proofs.judgements.runs_are_told_by_their_histories.Goals as goal
 

@@ -1,5 +1,4 @@
--- `runs_tell_each_once` of snap_history_laws (src/judgements.rt): the proof of what its contract says. The events of a
--- run of any listing have each call and each end once.
+-- `runs_tell_each_once` of snap_history_laws (src/judgements.rt): the proof of what its contract says.
 use Rattle.snap_history_laws.proofs.judgements.Once.{tell_each_once}
 use Rattle.snap_history_laws.proofs.judgements.runs_tell_each_once.Goals as goal
 

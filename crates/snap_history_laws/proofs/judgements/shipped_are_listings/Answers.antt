@@ -1,5 +1,4 @@
--- `shipped_are_listings` of snap_history_laws (src/judgements.rt): the proof of what its contract says. U, B and M are
--- listings.
+-- `shipped_are_listings` of snap_history_laws (src/judgements.rt): the proof of what its contract says.
 use Rattle.snap_history_laws.proofs.judgements.Shipped.{are_listings}
 use Rattle.snap_history_laws.proofs.judgements.shipped_are_listings.Goals as goal
 

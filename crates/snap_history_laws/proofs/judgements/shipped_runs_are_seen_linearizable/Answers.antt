@@ -1,6 +1,4 @@
 -- `shipped_runs_are_seen_linearizable` of snap_history_laws (src/judgements.rt): the proof of what its contract says.
--- The history of each run of U, B and M is linearizable, and no judgement of it says otherwise; of U as long as its
--- sequence numbers suffice.
 use Rattle.snap_history_laws.proofs.judgements.Shipped.{shipped_runs}
 use Rattle.snap_history_laws.proofs.judgements.shipped_runs_are_seen_linearizable.Goals as goal
 

@@ -1,5 +1,4 @@
--- `threads_are_told_the_history` of snap_history_laws (src/judgements.rt): the proof of what its contract says. What
--- the threads of a run hear, each of its own process, has the same operations as the history of the run.
+-- `threads_are_told_the_history` of snap_history_laws (src/judgements.rt): the proof of what its contract says.
 use Rattle.snap_history_laws.proofs.judgements.Threads.{threads_are_told}
 use Rattle.snap_history_laws.proofs.judgements.threads_are_told_the_history.Goals as goal
 

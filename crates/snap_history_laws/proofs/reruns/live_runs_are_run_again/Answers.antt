@@ -1,6 +1,4 @@
 -- `live_runs_are_run_again` of snap_history_laws (src/reruns.rt): the proof of what its contract says.
--- What is printed of a live run before its report, run over the same listing, prints the report of the live run, byte
--- for byte.
 use Rattle.snap_history_laws.proofs.reruns.Rerun.{run_again}
 use Rattle.snap_history_laws.proofs.reruns.live_runs_are_run_again.Goals as goal
 

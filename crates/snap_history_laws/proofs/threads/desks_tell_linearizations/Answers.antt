@@ -1,5 +1,4 @@
 -- `desks_tell_linearizations` of snap_history_laws (src/threads.rt): the proof of what its contract says.
--- What the seats of a closed desk were told is linearizable where its record is.
 use Rattle.snap_history_laws.proofs.threads.Shipped.{desks_tell}
 use Rattle.snap_history_laws.proofs.threads.desks_tell_linearizations.Goals as goal
 

@@ -1,5 +1,4 @@
 -- `live_runs_are_linearizable` of snap_history_laws (src/threads.rt): the proof of what its contract says.
--- What the threads of a live run of U, B or M were told is linearizable, whatever its gate answered.
 use Rattle.snap_history_laws.proofs.threads.Shipped.{live_runs}
 use Rattle.snap_history_laws.proofs.threads.live_runs_are_linearizable.Goals as goal
 

@@ -1,5 +1,4 @@
 -- `notes_order_operations` of snap_history_laws (src/threads.rt): the proof of what its contract says.
--- What a seat had ended when it made a note stands before whatever is called once the note is met.
 use Rattle.snap_history_laws.proofs.threads.Noting.{notes_order}
 use Rattle.snap_history_laws.proofs.threads.notes_order_operations.Goals as goal
 

@@ -1,5 +1,4 @@
--- `free_callers` of snap_history_text (src/callers.rt): what holds at the head of each of its loops. Returns what each
--- of `n` processes is at before the first event.
+-- `free_callers` of snap_history_text (src/callers.rt): what holds at the head of each of its loops.
 use Rattle.std.proofs.Common.{◌≡◌, replicate}
 use Rattle.snap_judge.specs.History.{Free}
 use Rattle.snap_history_text.specs.ReaderSteps.{view_callers}

@@ -1,5 +1,4 @@
 -- `note_event` of snap_history_text (src/callers.rt): the proof of what its contract says.
--- Notes what the process of an event is at behind it.
 use Rattle.snap_history_text.proofs.Noted.{noted}
 use Rattle.snap_history_text.proofs.callers.note_event.Goals as goal
 

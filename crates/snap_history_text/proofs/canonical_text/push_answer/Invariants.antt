@@ -1,5 +1,4 @@
--- `push_answer` of snap_history_text (src/canonical_text.rt): what holds at the head of each of its loops. Appends the
--- line of an answer.
+-- `push_answer` of snap_history_text (src/canonical_text.rt): what holds at the head of each of its loops.
 use Rattle.std.proofs.Common.{◌≡◌, [], ◌∷◌, ◌++◌, codes, drop, map}
 use Rattle.snap_semantics.specs.Token.{Identifier, Number}
 use Rattle.snap_text.specs.Tokens.{view_tokens}

@@ -1,5 +1,4 @@
--- `push_events` of snap_history_text (src/canonical_text.rt): what holds at the head of each of its loops. Appends the
--- lines of events.
+-- `push_events` of snap_history_text (src/canonical_text.rt): what holds at the head of each of its loops.
 use Rattle.std.proofs.Common.{◌≡◌, ◌++◌, drop, map}
 use Rattle.snap_semantics.specs.Layout.{lines_text}
 use Rattle.snap_history_text.specs.HistoryForms.{spelled_event}

@@ -1,5 +1,4 @@
--- `values_of` of snap_history_text (src/form.rt): what holds at the head of each of its loops. Reads numbers to the end
--- of the tokens; `None` where one of them is no number.
+-- `values_of` of snap_history_text (src/form.rt): what holds at the head of each of its loops.
 use Rattle.std.proofs.Common.{◌≡◌, drop}
 use Rattle.snap_text.specs.Tokens.{view_tokens}
 use Rattle.snap_history_text.specs.HistoryForms.{values_of}

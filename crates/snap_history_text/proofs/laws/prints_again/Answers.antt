@@ -1,5 +1,4 @@
 -- `prints_again` of snap_history_text (src/laws.rt): the proof of what its contract says.
--- What is printed of a history is read as that history.
 use Rattle.snap_history_text.proofs.Round.{printed_again}
 use Rattle.snap_history_text.proofs.laws.prints_again.Goals as goal
 

@@ -1,5 +1,4 @@
 -- `reads_histories` of snap_history_text (src/laws.rt): the proof of what its contract says.
--- What is read is a history.
 use Rattle.snap_history_text.proofs.Follows.{what_is_read}
 use Rattle.snap_history_text.proofs.laws.reads_histories.Goals as goal
 

@@ -1,5 +1,4 @@
--- `push_operations` of snap_history_text (src/operations.rt): what holds at the head of each of its loops. Appends the
--- lines of operations.
+-- `push_operations` of snap_history_text (src/operations.rt): what holds at the head of each of its loops.
 use Rattle.std.proofs.Common.{◌≡◌, ◌++◌, drop, false}
 use Rattle.snap_history_text.specs.JudgementText.{operation_lines}
 use Rattle.snap_history_text.proofs.operations.push_operations.Given as goal

@@ -1,5 +1,4 @@
--- `events_of` of snap_history_text (src/reader.rt): what holds at the head of each of its loops. Reads the events of
--- the lines.
+-- `events_of` of snap_history_text (src/reader.rt): what holds at the head of each of its loops.
 use Rattle.std.proofs.Common.{◌≡◌, length, replicate}
 use Rattle.snap_judge.specs.History.{Free}
 use Rattle.snap_history_text.specs.HistoryText.{events_of}

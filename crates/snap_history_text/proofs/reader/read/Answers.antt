@@ -1,5 +1,4 @@
--- `read` of snap_history_text (src/reader.rt): the proof of what its contract says. Reads the history that `text`
--- spells.
+-- `read` of snap_history_text (src/reader.rt): the proof of what its contract says.
 use Rattle.snap_history_text.proofs.Follows.{whole_history}
 use Rattle.snap_history_text.proofs.reader.read.Goals as goal
 

@@ -1,5 +1,4 @@
--- `first_failing_alone` of snap_hunt (src/alone.rt): the proof of what its contract says. Returns the first run that
--- fails, of the first `runs` that `seed` gives, and what fails in it; `None` where no failure is found in any of them.
+-- `first_failing_alone` of snap_hunt (src/alone.rt): the proof of what its contract says.
 use Rattle.std.proofs.Common.{◌+◌, ◌≤◌, sym, ◌∙◌, arith}
 use Rattle.snap_hunt.proofs.Sides.{found_first, none_more}
 use Rattle.snap_hunt.proofs.alone.first_failing_alone.Goals as goal

@@ -1,6 +1,4 @@
--- `first_failing_alone` of snap_hunt (src/alone.rt): what holds at the head of each of its loops. Returns the first run
--- that fails, of the first `runs` that `seed` gives, and what fails in it; `None` where no failure is found in any of
--- them.
+-- `first_failing_alone` of snap_hunt (src/alone.rt): what holds at the head of each of its loops.
 use Rattle.std.proofs.Common.{◌≤◌, ◌-◌}
 use Rattle.snap_hunt.specs.Hunt.{NothingBefore}
 use Rattle.snap_hunt.proofs.alone.first_failing_alone.Given as goal

@@ -1,5 +1,4 @@
--- `find_each` of snap_hunt (src/blocks.rt): the proof of what its contract says. Returns what fails in the runs of
--- these numbers, whichever thread made each and when.
+-- `find_each` of snap_hunt (src/blocks.rt): the proof of what its contract says.
 use Rattle.std.proofs.Common.{◌∙◌, ap, ℕ}
 use Rattle.rayon.specs.Lists.{min_len_base}
 use Rattle.snap_runs.specs.Run.{Run}

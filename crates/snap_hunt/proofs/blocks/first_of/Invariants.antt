@@ -1,5 +1,4 @@
--- `first_of` of snap_hunt (src/blocks.rt): what holds at the head of each of its loops. Returns the first failure of
--- `found`, the failures of the runs from `from` on, with the number of its run.
+-- `first_of` of snap_hunt (src/blocks.rt): what holds at the head of each of its loops.
 use Rattle.std.proofs.Common.{◌≡◌, ◌<◌, ℕ, None, slice_index_or}
 use Rattle.snap_hunt.proofs.blocks.first_of.Given as goal
 

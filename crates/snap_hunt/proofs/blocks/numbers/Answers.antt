@@ -1,5 +1,4 @@
--- `numbers` of snap_hunt (src/blocks.rt): the proof of what its contract says. Returns `count` numbers, the first of
--- which is `from`.
+-- `numbers` of snap_hunt (src/blocks.rt): the proof of what its contract says.
 use Rattle.snap_hunt.proofs.Numbers.{one_more}
 use Rattle.snap_hunt.proofs.blocks.numbers.Goals as goal
 

@@ -1,5 +1,4 @@
--- `numbers` of snap_hunt (src/blocks.rt): what holds at the head of each of its loops. Returns `count` numbers, the
--- first of which is `from`.
+-- `numbers` of snap_hunt (src/blocks.rt): what holds at the head of each of its loops.
 use Rattle.std.proofs.Common.{◌≡◌}
 use Rattle.std.specs.List.{range_with_len}
 use Rattle.snap_hunt.proofs.blocks.numbers.Given as goal

@@ -1,5 +1,4 @@
--- `may_have_all` of snap_hunt (src/candidate.rt): what holds at the head of each of its loops. Returns whether a
--- schedule of `shape` may have each of `items`.
+-- `may_have_all` of snap_hunt (src/candidate.rt): what holds at the head of each of its loops.
 use Rattle.std.proofs.Common.{take}
 use Rattle.std.specs.List.{AllByRecursion}
 use Rattle.snap_words.specs.Shape.{IsOneOf}

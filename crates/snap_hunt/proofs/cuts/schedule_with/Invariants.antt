@@ -1,5 +1,4 @@
--- `schedule_with` of snap_hunt (src/cuts.rt): what holds at the head of each of its loops. Returns the schedule of
--- these items.
+-- `schedule_with` of snap_hunt (src/cuts.rt): what holds at the head of each of its loops.
 use Rattle.std.proofs.Common.{◌≡◌, length, take}
 use Rattle.snap_hunt.proofs.cuts.schedule_with.Given as goal
 

@@ -1,5 +1,4 @@
--- `failure` of snap_hunt (src/failing.rt): the proof of what its contract says. Returns the first wanted failure of
--- a run, behind its last item: that it is not linearizable, or what is seen in it.
+-- `failure` of snap_hunt (src/failing.rt): the proof of what its contract says.
 use Rattle.std.proofs.Common.{◌≡◌, ap, length, refl, subst, sym, ◌∙◌}
 use Rattle.snap_words.specs.Shape.{Counts}
 use Rattle.snap_semantics.specs.State.{State}

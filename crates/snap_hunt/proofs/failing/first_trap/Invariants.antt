@@ -1,5 +1,4 @@
--- `first_trap` of snap_hunt (src/failing.rt): what holds at the head of each of its loops. Returns the least process
--- that has trapped.
+-- `first_trap` of snap_hunt (src/failing.rt): what holds at the head of each of its loops.
 use Rattle.std.proofs.Common.{◌≡◌, ◌+◌, ◌-◌}
 use Rattle.snap_hunt.specs.Failing.{first_trap}
 use Rattle.snap_hunt.proofs.failing.first_trap.Given as goal

@@ -1,5 +1,4 @@
--- `many_collects` of snap_hunt (src/failing.rt): what holds at the head of each of its loops. Returns the first scan
--- that made more than `most` double collects.
+-- `many_collects` of snap_hunt (src/failing.rt): what holds at the head of each of its loops.
 use Rattle.std.proofs.Common.{◌≡◌, drop}
 use Rattle.snap_hunt.specs.Failing.{many_collects}
 use Rattle.snap_hunt.proofs.failing.many_collects.Given as goal

@@ -1,5 +1,4 @@
--- `no_point` of snap_hunt (src/failing.rt): what holds at the head of each of its loops. Returns the first scan that
--- has no point.
+-- `no_point` of snap_hunt (src/failing.rt): what holds at the head of each of its loops.
 use Rattle.std.proofs.Common.{◌≡◌, drop}
 use Rattle.snap_hunt.specs.Failing.{no_point}
 use Rattle.snap_hunt.proofs.failing.no_point.Given as goal

@@ -1,2 +1,1 @@
--- `verdicts_for` of snap_hunt (src/failing.rt): the proof of what its contract says. Returns the verdicts on a run,
--- if the first scan without a point, or with too many double collects, is wanted.
+-- `verdicts_for` of snap_hunt (src/failing.rt): the proof of what its contract says.

@@ -1,5 +1,4 @@
--- `first_in_blocks` of snap_hunt (src/hunt.rt): the proof of what its contract says. Returns the first run that fails,
--- block by block.
+-- `first_in_blocks` of snap_hunt (src/hunt.rt): the proof of what its contract says.
 use Rattle.std.proofs.Common.{◌+◌, ◌≤◌, sym, ◌∙◌, arith}
 use Rattle.snap_hunt.proofs.Sides.{found_first, none_more}
 use Rattle.snap_hunt.proofs.hunt.first_in_blocks.Goals as goal

@@ -1,5 +1,4 @@
--- `first_in_blocks` of snap_hunt (src/hunt.rt): what holds at the head of each of its loops. Returns the first run that
--- fails, block by block.
+-- `first_in_blocks` of snap_hunt (src/hunt.rt): what holds at the head of each of its loops.
 use Rattle.std.proofs.Common.{◌≤◌, ◌-◌}
 use Rattle.snap_hunt.specs.Hunt.{NothingBefore}
 use Rattle.snap_hunt.proofs.hunt.first_in_blocks.Given as goal

@@ -1,5 +1,4 @@
--- `in_block` of snap_hunt (src/hunt.rt): the proof of what its contract says. Returns the first of `count` runs, from
--- `from` on, that fails.
+-- `in_block` of snap_hunt (src/hunt.rt): the proof of what its contract says.
 use Rattle.std.proofs.Common.{List, Option, subst, sym, ◌∙◌}
 use Rattle.std.specs.List.{AllZip}
 use Rattle.snap_hunt.specs.Finding.{Finds}

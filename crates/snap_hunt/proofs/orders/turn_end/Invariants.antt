@@ -1,5 +1,4 @@
--- `turn_end` of snap_hunt (src/orders.rt): what holds at the head of each of its loops. Returns where the items of one
--- process that stand at a place end.
+-- `turn_end` of snap_hunt (src/orders.rt): what holds at the head of each of its loops.
 use Rattle.std.proofs.Common.{◌≤◌, ◌-◌, length}
 use Rattle.snap_hunt.proofs.orders.turn_end.Given as goal
 

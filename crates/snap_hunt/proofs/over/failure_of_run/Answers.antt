@@ -1,5 +1,4 @@
--- `failure_of_run` of snap_hunt (src/over.rt): the proof of what its contract says. Returns what fails in the run of
--- a program of a kind, with no bound on steps.
+-- `failure_of_run` of snap_hunt (src/over.rt): the proof of what its contract says.
 use Rattle.std.proofs.Common.{IfOk, false, ap, sym, subst, ◌∙◌}
 use Rattle.snap_runs.specs.Run.{Run}
 use Rattle.snap_audit.proofs.Watches.{fewer_left, same_run, silent_here, watched_all}

@@ -1,5 +1,4 @@
--- `failure_of_run` of snap_hunt (src/over.rt): what holds at the head of each of its loops. Returns what fails in
--- the run of a program of a kind, with no bound on steps.
+-- `failure_of_run` of snap_hunt (src/over.rt): what holds at the head of each of its loops.
 use Rattle.std.proofs.Common.{◌≡◌, ◌-◌, length}
 use Rattle.snap_runs.specs.Run.{run_over}
 use Rattle.snap_audit.specs.Watch.{Watches}

@@ -1,5 +1,4 @@
--- `failure_of_steps` of snap_hunt (src/over.rt): the proof of what its contract says. Returns what fails in the run
--- of a program of a kind, with this bound on steps.
+-- `failure_of_steps` of snap_hunt (src/over.rt): the proof of what its contract says.
 use Rattle.std.proofs.Common.{◌≡◌, IfOk, [], false, ap, sym, subst, ◌∙◌}
 use Rattle.snap_words.specs.Shape.{Counts}
 use Rattle.snap_words.specs.declared.kind.KindTag.{KindTag}

@@ -1,5 +1,4 @@
--- `push_turns` of snap_hunt (src/parts.rt): what holds at the head of each of its loops. Appends the segments of `size`
--- items of a process, which has `turns` items.
+-- `push_turns` of snap_hunt (src/parts.rt): what holds at the head of each of its loops.
 use Rattle.std.proofs.Common.{◌-◌}
 use Rattle.snap_hunt.proofs.parts.push_turns.Given as goal
 

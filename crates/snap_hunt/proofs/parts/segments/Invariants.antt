@@ -1,5 +1,4 @@
--- `segments` of snap_hunt (src/parts.rt): what holds at the head of each of its loops. Returns the segments of `size`
--- items, one behind another.
+-- `segments` of snap_hunt (src/parts.rt): what holds at the head of each of its loops.
 use Rattle.std.proofs.Common.{◌-◌, length}
 use Rattle.snap_hunt.proofs.parts.segments.Given as goal
 

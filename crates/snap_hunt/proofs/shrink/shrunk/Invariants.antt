@@ -1,5 +1,4 @@
--- `shrunk` of snap_hunt (src/shrink.rt): what holds at the head of each of its loops. Returns a schedule whose run
--- fails too, of no more processes, words and items than `schedule`.
+-- `shrunk` of snap_hunt (src/shrink.rt): what holds at the head of each of its loops.
 use Rattle.std.proofs.Common.{◌+◌}
 use Rattle.snap_hunt.specs.Shrinking.{IsShrunk, drawn}
 use Rattle.snap_hunt.proofs.shrink.shrunk.Given as goal

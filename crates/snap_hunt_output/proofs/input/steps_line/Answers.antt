@@ -1,4 +1,5 @@
--- `steps_line` of snap_hunt_output (src/input.rt): the proof of what its contract says, piece after piece.
+-- `steps_line` of snap_hunt_output (src/input.rt): the proof of what its contract says. The text is read back from its
+-- last piece to its first.
 use Rattle.std.proofs.Common.{append_assoc}
 use Rattle.snap_hunt_output.proofs.input.steps_line.Goals as goal
 

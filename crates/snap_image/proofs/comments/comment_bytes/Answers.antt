@@ -1,5 +1,4 @@
--- `comment_bytes` of snap_image (src/comments.rt): the proof of what its contract says. Reads `count` bytes of a
--- comment.
+-- `comment_bytes` of snap_image (src/comments.rt): the proof of what its contract says.
 use Rattle.std.proofs.Common.{◌≡◌, ◌-◌, ◌+◌, List, ℕ, Err, ap, sym, ◌∙◌, arith}
 use Rattle.std.proofs.lemmas.Grind.{common_steps}
 use Rattle.snap_image.specs.ImageListing.{comment_bytes_in}

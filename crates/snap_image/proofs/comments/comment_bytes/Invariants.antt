@@ -1,5 +1,4 @@
--- `comment_bytes` of snap_image (src/comments.rt): what holds at the head of each of its loops. Reads `count` bytes of
--- a comment.
+-- `comment_bytes` of snap_image (src/comments.rt): what holds at the head of each of its loops.
 use Rattle.std.proofs.Common.{◌≡◌, ◌-◌}
 use Rattle.snap_image.specs.ImageListing.{comment_bytes_in}
 use Rattle.snap_image.specs.DecoderSteps.{onto}

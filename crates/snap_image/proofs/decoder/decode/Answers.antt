@@ -1,5 +1,4 @@
--- `decode` of snap_image (src/decoder.rt): the proof of what its contract says. Decodes `image`, and returns the
--- listing whose image it is, with its comments.
+-- `decode` of snap_image (src/decoder.rt): the proof of what its contract says.
 use Rattle.snap_semantics.specs.declared.refusal.ImageRefusal.TheVariants.{NotAnImage, Version}
 use Rattle.snap_image.proofs.Exact.{only_images, every_image}
 use Rattle.snap_image.proofs.Opened.{unsigned, of_another_version}

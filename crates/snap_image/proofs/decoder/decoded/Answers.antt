@@ -1,5 +1,4 @@
--- `decoded` of snap_image (src/decoder.rt): the proof of what its contract says. Decodes `image`, or returns the first
--- reason why it is no image of a listing.
+-- `decoded` of snap_image (src/decoder.rt): the proof of what its contract says.
 use Rattle.std.proofs.Common.{sym, map, subst}
 use Rattle.snap_semantics.specs.Comments.{IsCommented}
 use Rattle.snap_semantics.specs.Source.{Source}

@@ -1,5 +1,4 @@
--- `push_head` of snap_image (src/encoder.rt): the proof of what its contract says. Appends what stands before
--- the lines.
+-- `push_head` of snap_image (src/encoder.rt): the proof of what its contract says.
 use Rattle.std.proofs.Common.{◌∙◌}
 use Rattle.snap_image.proofs.Heads.{head_pushed}
 use Rattle.snap_image.proofs.encoder.push_head.Goals as goal

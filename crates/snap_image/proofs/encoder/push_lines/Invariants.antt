@@ -1,5 +1,4 @@
--- `push_lines` of snap_image (src/encoder.rt): what holds at the head of each of its loops. Appends lines, each
--- with its comment behind it.
+-- `push_lines` of snap_image (src/encoder.rt): what holds at the head of each of its loops.
 use Rattle.std.proofs.Common.{◌≡◌, ◌++◌, drop, length, map}
 use Rattle.std.specs.List.{AllByRecursion}
 use Rattle.std.specs.Prelude.{false}

@@ -1,5 +1,4 @@
--- `push_names` of snap_image (src/encoder.rt): what holds at the head of each of its loops. Appends names, each
--- behind its length.
+-- `push_names` of snap_image (src/encoder.rt): what holds at the head of each of its loops.
 use Rattle.std.proofs.Common.{◌≡◌, ◌++◌, drop}
 use Rattle.std.specs.List.{AllByRecursion}
 use Rattle.std.specs.Prelude.{false}

@@ -1,4 +1,4 @@
--- `letters` of snap_image (src/head.rt): the proof of what its contract says. Reads a name of `count` letters.
+-- `letters` of snap_image (src/head.rt): the proof of what its contract says.
 use Rattle.std.proofs.Common.{◌≡◌, ◌-◌, ◌+◌, ◌<◌, length, take, Ok, Err, sym, ap, ◌∙◌, ℕ, List, arith}
 use Rattle.std.proofs.lemmas.Grind.{common_steps}
 use Rattle.std.proofs.lemmas.List.{take_more_set}

@@ -1,4 +1,4 @@
--- `letters` of snap_image (src/head.rt): what holds at the head of each of its loops. Reads a name of `count` letters.
+-- `letters` of snap_image (src/head.rt): what holds at the head of each of its loops.
 use Rattle.std.proofs.Common.{◌≡◌, ◌-◌, length, take}
 use Rattle.snap_image.specs.ImageListing.{letters_in}
 use Rattle.snap_image.specs.DecoderSteps.{onto}

@@ -1,4 +1,4 @@
--- `names` of snap_image (src/head.rt): the proof of what its contract says. Reads `count` names.
+-- `names` of snap_image (src/head.rt): the proof of what its contract says.
 use Rattle.std.proofs.Common.{◌≡◌, ◌≤◌, ◌<◌, ◌-◌, ◌++◌, length, Err, sym, ap, ◌∙◌, List, arith}
 use Rattle.std.proofs.lemmas.Grind.{common_steps}
 use Rattle.snap_image.specs.ImageListing.{names_in}

@@ -1,4 +1,4 @@
--- `names` of snap_image (src/head.rt): what holds at the head of each of its loops. Reads `count` names.
+-- `names` of snap_image (src/head.rt): what holds at the head of each of its loops.
 use Rattle.std.proofs.Common.{◌≡◌, ◌-◌, ◌++◌, length}
 use Rattle.snap_image.specs.ImageListing.{names_in}
 use Rattle.snap_image.specs.Head.{known_names}

@@ -1,5 +1,4 @@
--- `find` of snap_image (src/image.rt): what holds at the head of each of its loops. Returns the first of these
--- values with this code.
+-- `find` of snap_image (src/image.rt): what holds at the head of each of its loops.
 use Rattle.std.proofs.Common.{◌≡◌, drop}
 use Rattle.snap_image.specs.ImageCodes.{coded}
 use Rattle.snap_image.proofs.image.find.Given as goal

@@ -1,5 +1,4 @@
--- `more_than_an_image_is_refused` of snap_image (src/laws.rt): the proof of what its contract says. No image is
--- the beginning of another one.
+-- `more_than_an_image_is_refused` of snap_image (src/laws.rt): the proof of what its contract says.
 use Rattle.snap_image.proofs.AgainListing.{refuses_more}
 use Rattle.snap_image.proofs.laws.more_than_an_image_is_refused.Goals as goal
 

@@ -1,5 +1,4 @@
 -- `what_is_decoded_is_an_image` of snap_image (src/laws.rt): the proof of what its contract says.
--- What is decoded is a listing with comments, and the bytes are its image in some version.
 use Rattle.snap_image.proofs.SaidListing.{decodes_only}
 use Rattle.snap_image.proofs.laws.what_is_decoded_is_an_image.Goals as goal
 

@@ -1,4 +1,4 @@
--- `lines` of snap_image (src/lines.rt): the proof of what its contract says. Reads `count` lines, with their comments.
+-- `lines` of snap_image (src/lines.rt): the proof of what its contract says.
 use Rattle.std.proofs.Common.{sym, ◌∙◌, arith}
 use Rattle.std.proofs.lemmas.Grind.{common_steps}
 use Rattle.snap_semantics.specs.Answers.{IsRefusal}

@@ -1,5 +1,4 @@
--- `lines` of snap_image (src/lines.rt): what holds at the head of each of its loops. Reads `count` lines, with their
--- comments.
+-- `lines` of snap_image (src/lines.rt): what holds at the head of each of its loops.
 use Rattle.std.proofs.Common.{◌≡◌, ◌+◌, ◌-◌}
 use Rattle.snap_image.specs.ImageListing.{lines_in}
 use Rattle.snap_listing_core.specs.Fields.{header_source}

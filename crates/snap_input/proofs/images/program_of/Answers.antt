@@ -1,6 +1,4 @@
--- `program_of` of snap_input (src/images.rt): the proof of what its contract says. Returns the program of the listing
--- that `text` spells, loaded from its image, which is never refused: what is read is a listing, and the image of every
--- listing is decoded as that listing.
+-- `program_of` of snap_input (src/images.rt): the proof of what its contract says.
 use Rattle.std.proofs.Common.{Ok, sym, ◌∙◌, ap, arith}
 use Rattle.std.proofs.lemmas.Grind.{common_steps}
 use Rattle.snap_semantics.specs.Answers.{IsRefusal, refused_as}

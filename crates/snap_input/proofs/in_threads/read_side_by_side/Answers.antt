@@ -1,5 +1,4 @@
--- `read_side_by_side` of snap_input (src/in_threads.rt): the proof of what its contract says. Reads schedules whose
--- shapes fit `program`, side by side.
+-- `read_side_by_side` of snap_input (src/in_threads.rt): the proof of what its contract says.
 use Rattle.std.proofs.Common.{◌∙◌, ap}
 use Rattle.rayon.specs.Lists.{min_len_base}
 use Rattle.snap_input.proofs.SideBySide.{side_by_side}

@@ -1,5 +1,4 @@
--- `read_schedules` of snap_input (src/in_turn.rt): what holds at the head of each of its loops. Reads schedules whose
--- shapes fit `program`, one after another.
+-- `read_schedules` of snap_input (src/in_turn.rt): what holds at the head of each of its loops.
 use Rattle.std.proofs.Common.{◌≡◌, List, ◌++◌, drop, map, Result, Ok}
 use Rattle.snap_semantics.specs.Answers.{◌>>=◌}
 use Rattle.snap_semantics.specs.Schedule.{Schedule}

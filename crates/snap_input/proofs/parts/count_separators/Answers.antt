@@ -1,5 +1,4 @@
--- `count_separators` of snap_input (src/parts.rt): the proof of what its contract says. Returns how many lines of
--- `input` end a part, one less than the number of parts.
+-- `count_separators` of snap_input (src/parts.rt): the proof of what its contract says.
 use Rattle.std.proofs.Common.{[], ◌∷◌, length, take, sym, ◌∙◌, ap, arith}
 use Rattle.snap_input.specs.Parts.{ends_part, onto_part, parts_of}
 use Rattle.snap_input.proofs.Splits.{some_left, one_part_more, no_part_more}

@@ -1,5 +1,4 @@
--- `count_separators` of snap_input (src/parts.rt): what holds at the head of each of its loops. Returns how many lines
--- of `input` end a part, one less than the number of parts.
+-- `count_separators` of snap_input (src/parts.rt): what holds at the head of each of its loops.
 use Rattle.std.proofs.Common.{length, ◌≡◌, ◌≤◌, ◌+◌}
 use Rattle.snap_input.specs.Parts.{parts_of}
 use Rattle.snap_input.proofs.parts.count_separators.Given as goal

@@ -1,5 +1,4 @@
--- `first_line_len` of snap_input (src/parts.rt): what holds at the head of each of its loops. Returns the length of the
--- first line, with its line feed.
+-- `first_line_len` of snap_input (src/parts.rt): what holds at the head of each of its loops.
 use Rattle.std.proofs.Common.{length, ◌-◌, ◌≡◌, ◌≤◌, take, drop, ◌++◌}
 use Rattle.std.specs.Io.BufRead.{take_through, drop_through}
 use Rattle.snap_input.proofs.parts.first_line_len.Given as goal

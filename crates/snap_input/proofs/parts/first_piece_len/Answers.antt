@@ -1,5 +1,4 @@
--- `first_piece_len` of snap_input (src/parts.rt): the proof of what its contract says. Returns the length of the first
--- piece: of the lines before the first `%`, or of the line that has it.
+-- `first_piece_len` of snap_input (src/parts.rt): the proof of what its contract says.
 use Rattle.std.proofs.Common.{take, drop}
 use Rattle.snap_input.proofs.Splits.{first_ends, first_goes_on}
 use Rattle.snap_input.proofs.parts.first_piece_len.Goals as goal

@@ -1,5 +1,4 @@
--- `plain_len` of snap_input (src/parts.rt): the proof of what its contract says. Returns the length of the whole lines
--- at the front before the first `%`, or of all bytes if there is none: none of these lines ends a part.
+-- `plain_len` of snap_input (src/parts.rt): the proof of what its contract says.
 use Rattle.std.proofs.Common.{◌≡◌, ◌+◌, suc, take, subst, arith}
 use Rattle.memchr.specs.Find.{IsFirstByte, IsLastByte, is_byte}
 use Rattle.snap_input.proofs.Without.{IsPlain, all_are_plain, lines_are_plain}

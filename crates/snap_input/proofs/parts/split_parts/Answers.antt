@@ -1,4 +1,4 @@
--- `split_parts` of snap_input (src/parts.rt): the proof of what its contract says. Returns the parts of an input.
+-- `split_parts` of snap_input (src/parts.rt): the proof of what its contract says.
 use Rattle.std.proofs.Common.{map, length, take, [], ◌∷◌, ◌++◌, refl, sym, ◌∙◌, ap, arith}
 use Rattle.std.proofs.lemmas.List.{map-append}
 use Rattle.snap_input.specs.Parts.{ends_part, parts_of, onto_part, full_lines}

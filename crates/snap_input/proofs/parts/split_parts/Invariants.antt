@@ -1,5 +1,4 @@
--- `split_parts` of snap_input (src/parts.rt): what holds at the head of each of its loops. Returns the parts of an
--- input.
+-- `split_parts` of snap_input (src/parts.rt): what holds at the head of each of its loops.
 use Rattle.std.proofs.Common.{length, ◌≡◌, ◌≤◌, map, take, drop, ◌++◌}
 use Rattle.snap_input.specs.Parts.{onto_part, parts_of}
 use Rattle.snap_input.proofs.parts.split_parts.Given as goal

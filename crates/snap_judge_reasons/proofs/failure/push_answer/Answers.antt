@@ -1,4 +1,5 @@
--- `push_answer` of snap_judge_reasons (src/failure.rt): the proof of what its contract says, piece after piece.
+-- `push_answer` of snap_judge_reasons (src/failure.rt): the proof of what its contract says. The text is read back from
+-- its last piece to its first.
 use Rattle.std.proofs.Common.{append_assoc}
 use Rattle.snap_judge_reasons.proofs.failure.push_answer.Goals as goal
 

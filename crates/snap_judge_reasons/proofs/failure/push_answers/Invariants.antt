@@ -1,5 +1,4 @@
--- `push_answers` of snap_judge_reasons (src/failure.rt): what holds at the head of each of its loops. Appends the lines
--- of answers.
+-- `push_answers` of snap_judge_reasons (src/failure.rt): what holds at the head of each of its loops.
 use Rattle.std.proofs.Common.{◌≡◌, ◌++◌, drop, false}
 use Rattle.snap_judge_reasons.specs.FailureText.{answer_lines}
 use Rattle.snap_judge_reasons.proofs.failure.push_answers.Given as goal

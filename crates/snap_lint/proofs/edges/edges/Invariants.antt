@@ -1,5 +1,4 @@
--- `edges` of snap_lint (src/edges.rt): what holds at the head of each of its loops. Returns the edges from each line to
--- those that may come next, on this way.
+-- `edges` of snap_lint (src/edges.rt): what holds at the head of each of its loops.
 use Rattle.std.proofs.Common.{◌≡◌, ◌++◌, drop}
 use Rattle.std.specs.List.{flat_map}
 use Rattle.snap_lint.specs.Flow.{edges, line_edges}

@@ -1,5 +1,4 @@
--- `turned` of snap_lint (src/edges.rt): what holds at the head of each of its loops. Returns the edges, each the other
--- way round.
+-- `turned` of snap_lint (src/edges.rt): what holds at the head of each of its loops.
 use Rattle.std.proofs.Common.{◌≡◌, take}
 use Rattle.snap_lint.specs.Flow.{turned}
 use Rattle.snap_lint.proofs.edges.turned.Given as goal

@@ -1,5 +1,4 @@
--- `unwritten_edges` of snap_lint (src/edges.rt): what holds at the head of each of its loops. Returns the edges of an
--- update that has written no word, where calls to the lines `silent` may come back without a write.
+-- `unwritten_edges` of snap_lint (src/edges.rt): what holds at the head of each of its loops.
 use Rattle.std.proofs.Common.{◌≡◌, ◌++◌, drop}
 use Rattle.std.specs.List.{flat_map}
 use Rattle.snap_lint.specs.Flow.{unwritten_edges, unwritten_line_edges}

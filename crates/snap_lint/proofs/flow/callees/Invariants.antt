@@ -1,5 +1,4 @@
--- `callees` of snap_lint (src/flow.rt): what holds at the head of each of its loops. Returns the lines to which the
--- marked lines call.
+-- `callees` of snap_lint (src/flow.rt): what holds at the head of each of its loops.
 use Rattle.std.proofs.Common.{◌≡◌, ◌++◌, drop}
 use Rattle.snap_lint.specs.Flow.{callees}
 use Rattle.snap_lint.proofs.flow.callees.Given as goal

@@ -1,5 +1,4 @@
--- `ends` of snap_lint (src/flow.rt): what holds at the head of each of its loops. Returns the lines at which an
--- operation or a call may end.
+-- `ends` of snap_lint (src/flow.rt): what holds at the head of each of its loops.
 use Rattle.std.proofs.Common.{◌≡◌, ◌++◌, drop}
 use Rattle.snap_lint.specs.Flow.{is_end}
 use Rattle.snap_lint.specs.Marks.{numbers_where}

@@ -1,5 +1,4 @@
--- `return_lines` of snap_lint (src/flow.rt): what holds at the head of each of its loops. Returns the lines at which a
--- call may return.
+-- `return_lines` of snap_lint (src/flow.rt): what holds at the head of each of its loops.
 use Rattle.std.proofs.Common.{◌≡◌, ◌++◌, drop}
 use Rattle.snap_lint.specs.Flow.{is_return}
 use Rattle.snap_lint.specs.Marks.{numbers_where}

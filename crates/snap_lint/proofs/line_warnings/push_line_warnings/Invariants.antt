@@ -1,5 +1,4 @@
--- `push_line_warnings` of snap_lint (src/line_warnings.rt): what holds at the head of each of its loops. Appends the
--- warnings of a line, of those of `concerns`.
+-- `push_line_warnings` of snap_lint (src/line_warnings.rt): what holds at the head of each of its loops.
 use Rattle.std.proofs.Common.{◌≡◌, ◌++◌, drop}
 use Rattle.std.specs.List.{flat_map}
 use Rattle.snap_lint.specs.Warnings.{warning_of}

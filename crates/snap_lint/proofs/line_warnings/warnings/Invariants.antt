@@ -1,5 +1,4 @@
--- `warnings` of snap_lint (src/line_warnings.rt): what holds at the head of each of its loops. Returns the warnings of
--- a listing, in the order of its lines.
+-- `warnings` of snap_lint (src/line_warnings.rt): what holds at the head of each of its loops.
 use Rattle.std.proofs.Common.{◌≡◌, ◌++◌, drop}
 use Rattle.std.specs.List.{flat_map}
 use Rattle.snap_lint.specs.Flow.{reach_of}

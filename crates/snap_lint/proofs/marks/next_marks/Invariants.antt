@@ -1,5 +1,4 @@
--- `next_marks` of snap_lint (src/marks.rt): what holds at the head of each of its loops. Returns the marks of the next
--- round.
+-- `next_marks` of snap_lint (src/marks.rt): what holds at the head of each of its loops.
 use Rattle.std.proofs.Common.{◌≡◌, ◌++◌, drop}
 use Rattle.snap_lint.specs.Marks.{next_marks}
 use Rattle.snap_lint.proofs.marks.next_marks.Given as goal

@@ -1,5 +1,4 @@
--- `reached` of snap_lint (src/marks.rt): what holds at the head of each of its loops. Returns the lines that are
--- reached from `starts` along `edges`.
+-- `reached` of snap_lint (src/marks.rt): what holds at the head of each of its loops.
 use Rattle.std.proofs.Common.{◌≡◌}
 use Rattle.snap_lint.specs.Marks.{marks_after}
 use Rattle.snap_lint.proofs.marks.reached.Given as goal

@@ -1,5 +1,4 @@
--- `warnings_text` of snap_lint (src/text.rt): what holds at the head of each of its loops. Returns the lines of
--- warnings.
+-- `warnings_text` of snap_lint (src/text.rt): what holds at the head of each of its loops.
 use Rattle.std.proofs.Common.{◌≡◌, ◌++◌, drop, false}
 use Rattle.snap_lint.specs.Lint.{warnings_text}
 use Rattle.snap_lint.proofs.text.warnings_text.Given as goal

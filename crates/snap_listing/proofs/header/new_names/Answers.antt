@@ -1,5 +1,4 @@
--- `new_names` of snap_listing (src/header.rt): the proof of what its contract says. Returns the names that the
--- identifiers of a header line declare, and adds them to the names that are declared already.
+-- `new_names` of snap_listing (src/header.rt): the proof of what its contract says.
 use Rattle.std.proofs.Common.{◌≡◌, ◌<◌, length, map, Err, sym, ◌∙◌, arith}
 use Rattle.std.proofs.lemmas.Grind.{common_steps}
 use Rattle.snap_semantics.specs.Listing.{new_names}

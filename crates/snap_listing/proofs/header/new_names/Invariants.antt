@@ -1,5 +1,4 @@
--- `new_names` of snap_listing (src/header.rt): what holds at the head of each of its loops. Returns the names that the
--- identifiers of a header line declare, and adds them to the names that are declared already.
+-- `new_names` of snap_listing (src/header.rt): what holds at the head of each of its loops.
 use Rattle.std.proofs.Common.{◌≡◌, ◌++◌, map, drop}
 use Rattle.snap_semantics.specs.Listing.{new_names}
 use Rattle.snap_listing.specs.ReaderSteps.{letters_of, onto}

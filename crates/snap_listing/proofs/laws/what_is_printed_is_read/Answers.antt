@@ -1,5 +1,4 @@
 -- `what_is_printed_is_read` of snap_listing (src/laws.rt): the proof of what its contract says.
--- What is printed of a listing is read as that listing with its comments.
 use Rattle.snap_listing.proofs.GivenForms.{line_again}
 use Rattle.snap_listing.proofs.Printed.{printed_read}
 use Rattle.snap_listing.proofs.ReadsAll.{reads_all_spelled_by}

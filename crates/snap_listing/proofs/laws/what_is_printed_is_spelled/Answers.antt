@@ -1,5 +1,4 @@
 -- `what_is_printed_is_spelled` of snap_listing (src/laws.rt): the proof of what its contract says.
--- What is printed of a listing spells it.
 use Rattle.snap_listing.proofs.Printed.{printed_spells}
 use Rattle.snap_listing.proofs.laws.what_is_printed_is_spelled.Goals as goal
 

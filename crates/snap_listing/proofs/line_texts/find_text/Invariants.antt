@@ -1,5 +1,4 @@
--- `find_text` of snap_listing (src/line_texts.rt): what holds at the head of each of its loops. Returns the
--- text of the line with this number.
+-- `find_text` of snap_listing (src/line_texts.rt): what holds at the head of each of its loops.
 use Rattle.std.proofs.Common.{◌≡◌, ◌-◌, drop, length, map}
 use Rattle.snap_listing.specs.LineTexts.{seen_line, text_with}
 use Rattle.snap_listing.proofs.line_texts.find_text.Given as goal

@@ -1,5 +1,4 @@
--- `numbered_texts` of snap_listing (src/line_texts.rt): what holds at the head of each of its loops. Returns
--- the numbers of `lines`, each with its line of the text.
+-- `numbered_texts` of snap_listing (src/line_texts.rt): what holds at the head of each of its loops.
 use Rattle.std.proofs.Common.{◌≡◌, ◌++◌, drop, map}
 use Rattle.snap_listing.specs.LineTexts.{seen_line, texts_from}
 use Rattle.snap_listing.proofs.line_texts.numbered_texts.Given as goal

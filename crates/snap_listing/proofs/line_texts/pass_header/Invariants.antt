@@ -1,5 +1,4 @@
 -- `pass_header` of snap_listing (src/line_texts.rt): what holds at the head of each of its loops.
--- Passes over the lines before the numbered ones.
 use Rattle.std.proofs.Common.{◌≡◌, drop}
 use Rattle.snap_listing.proofs.line_texts.pass_header.Given as goal
 

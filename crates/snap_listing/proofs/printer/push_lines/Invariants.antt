@@ -1,5 +1,4 @@
--- `push_lines` of snap_listing (src/printer.rt): what holds at the head of each of its loops. Appends the
--- numbered lines, each with its comment.
+-- `push_lines` of snap_listing (src/printer.rt): what holds at the head of each of its loops.
 use Rattle.std.proofs.Common.{◌≡◌, ◌++◌, map, drop, length}
 use Rattle.snap_semantics.specs.CanonicalText.{commented_text}
 use Rattle.snap_semantics.specs.Spelling.{spelled_line}

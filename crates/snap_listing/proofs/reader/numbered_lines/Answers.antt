@@ -1,5 +1,4 @@
--- `numbered_lines` of snap_listing (src/reader.rt): the proof of what its contract says. Reads the numbered lines
--- behind the header.
+-- `numbered_lines` of snap_listing (src/reader.rt): the proof of what its contract says.
 use Rattle.std.proofs.Common.{arith}
 use Rattle.std.proofs.lemmas.Grind.{common_steps}
 use Rattle.snap_semantics.specs.Answers.{IsRefusal}

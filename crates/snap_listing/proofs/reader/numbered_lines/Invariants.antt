@@ -1,5 +1,4 @@
--- `numbered_lines` of snap_listing (src/reader.rt): what holds at the head of each of its loops. Reads the numbered
--- lines behind the header.
+-- `numbered_lines` of snap_listing (src/reader.rt): what holds at the head of each of its loops.
 use Rattle.std.proofs.Common.{◌≡◌, length}
 use Rattle.snap_semantics.specs.Listing.{numbered_lines}
 use Rattle.snap_listing_core.specs.Fields.{header_source}

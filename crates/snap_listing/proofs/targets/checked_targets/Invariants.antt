@@ -1,5 +1,4 @@
--- `checked_targets` of snap_listing (src/targets.rt): what holds at the head of each of its loops. Checks that
--- each line to which an instruction may lead is one of `lines`.
+-- `checked_targets` of snap_listing (src/targets.rt): what holds at the head of each of its loops.
 use Rattle.std.proofs.Common.{◌≡◌, drop}
 use Rattle.snap_semantics.specs.Listing.{checked_targets, line_targets}
 use Rattle.snap_listing.proofs.targets.checked_targets.Given as goal

@@ -1,5 +1,4 @@
--- `copy_comments` of snap_listing_core (src/commented.rt): what holds at the head of each of its loops. Returns copies
--- of `comments`.
+-- `copy_comments` of snap_listing_core (src/commented.rt): what holds at the head of each of its loops.
 use Rattle.std.proofs.Common.{◌≡◌, ◌++◌, drop, map}
 use Rattle.snap_listing_core.specs.Fields.{seen_comment}
 use Rattle.snap_listing_core.proofs.commented.copy_comments.Given as goal

@@ -1,5 +1,4 @@
--- `no_comments` of snap_listing_core (src/commented.rt): what holds at the head of each of its loops. Returns as many
--- comments as `lines`, all of them `None`.
+-- `no_comments` of snap_listing_core (src/commented.rt): what holds at the head of each of its loops.
 use Rattle.std.proofs.Common.{◌≡◌, ◌++◌, drop, map}
 use Rattle.snap_semantics.specs.Comments.{no_comment}
 use Rattle.snap_listing_core.specs.Fields.{seen_comment}

@@ -1,5 +1,4 @@
--- `find_instr` of snap_listing_core (src/listing.rt): what holds at the head of each of its loops. Returns the
--- instruction of the line of `lines` with this number.
+-- `find_instr` of snap_listing_core (src/listing.rt): what holds at the head of each of its loops.
 use Rattle.std.proofs.Common.{◌≡◌, ◌-◌, drop, length}
 use Rattle.snap_semantics.specs.Source.{instr_at}
 use Rattle.snap_listing_core.proofs.listing.find_instr.Given as goal

@@ -1,5 +1,4 @@
--- `close` of snap_live (src/closed_desk.rt): the proof of what its contract says. Closes the desk, and returns the
--- record of all turns.
+-- `close` of snap_live (src/closed_desk.rt): the proof of what its contract says.
 use Rattle.std.proofs.Common.{◌≡◌, ℕ, ◌≤◌, List, sym, ap, ◌∙◌, subst}
 use Rattle.snap_live.specs.declared.seat_state.Setting.{Setting}
 use Rattle.snap_live.specs.Rule.{OwnTurns}

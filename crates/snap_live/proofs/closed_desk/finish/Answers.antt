@@ -1,4 +1,4 @@
--- `finish` of snap_live (src/closed_desk.rt): the proof of what its contract says. Returns the record, at the end.
+-- `finish` of snap_live (src/closed_desk.rt): the proof of what its contract says.
 use Rattle.std.proofs.Common.{subst, sym, refl, ap, ◌∙◌, Option, Some}
 use Rattle.std.specs.Prelude.{IsSome}
 use Rattle.snap_runs.specs.Run.{Run}

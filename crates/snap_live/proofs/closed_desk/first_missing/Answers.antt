@@ -1,5 +1,4 @@
--- `first_missing` of snap_live (src/closed_desk.rt): the proof of what its contract says. Returns the least
--- process that has no seat.
+-- `first_missing` of snap_live (src/closed_desk.rt): the proof of what its contract says.
 use Rattle.std.proofs.Common.{ℕ, arith}
 use Rattle.snap_live.specs.Closed.{HasSeat}
 use Rattle.snap_live.proofs.Gathered.{up_to}

@@ -1,5 +1,4 @@
--- `first_missing` of snap_live (src/closed_desk.rt): what holds at the head of each of its loops. Returns the
--- least process that has no seat.
+-- `first_missing` of snap_live (src/closed_desk.rt): what holds at the head of each of its loops.
 use Rattle.std.proofs.Common.{ℕ, ◌≤◌}
 use Rattle.snap_live.specs.Closed.{HasSeat}
 use Rattle.snap_live.proofs.closed_desk.first_missing.Given as goal

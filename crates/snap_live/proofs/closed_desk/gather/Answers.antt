@@ -1,5 +1,4 @@
--- `gather` of snap_live (src/closed_desk.rt): the proof of what its contract says. Returns one seat of the table
--- that knows what all of `seats` know.
+-- `gather` of snap_live (src/closed_desk.rt): the proof of what its contract says.
 use Rattle.std.proofs.Common.{◌+◌, ◌∙◌, List, rules, subst, get_or, sym}
 use Rattle.std.specs.Prelude.{All}
 use Rattle.std.proofs.lemmas.List.{map-id}

@@ -1,5 +1,4 @@
--- `gather` of snap_live (src/closed_desk.rt): what holds at the head of each of its loops. Returns one seat of the
--- table that knows what all of `seats` know.
+-- `gather` of snap_live (src/closed_desk.rt): what holds at the head of each of its loops.
 use Rattle.std.proofs.Common.{◌≡◌}
 use Rattle.std.specs.Prelude.{All}
 use Rattle.std.specs.Vec.Iter.{into_iter_items}

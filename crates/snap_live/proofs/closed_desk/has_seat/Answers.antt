@@ -1,5 +1,4 @@
--- `has_seat` of snap_live (src/closed_desk.rt): the proof of what its contract says. Returns whether one of the
--- seats is of this process.
+-- `has_seat` of snap_live (src/closed_desk.rt): the proof of what its contract says.
 use Rattle.std.proofs.Common.{ap, sym, ◌∙◌}
 use Rattle.snap_live.specs.Shown.{SeatView}
 use Rattle.snap_live.proofs.Gathered.{has_at}

@@ -1,5 +1,4 @@
--- `has_seat` of snap_live (src/closed_desk.rt): what holds at the head of each of its loops. Returns whether one
--- of the seats is of this process.
+-- `has_seat` of snap_live (src/closed_desk.rt): what holds at the head of each of its loops.
 use Rattle.std.proofs.Common.{drop}
 use Rattle.snap_live.specs.Closed.{HasSeat}
 use Rattle.snap_live.proofs.closed_desk.has_seat.Given as goal

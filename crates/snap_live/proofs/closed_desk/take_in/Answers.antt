@@ -1,5 +1,4 @@
--- `take_in` of snap_live (src/closed_desk.rt): the proof of what its contract says. Joins a seat into the table's
--- seat, which knows what both knew then.
+-- `take_in` of snap_live (src/closed_desk.rt): the proof of what its contract says.
 use Rattle.std.proofs.Common.{ap}
 use Rattle.snap_live.specs.Rule.{Mine}
 use Rattle.snap_live.proofs.Gathered.{in_left, in_right}

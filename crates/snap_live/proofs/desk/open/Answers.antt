@@ -1,5 +1,4 @@
--- `open` of snap_live (src/desk.rt): the proof of what its contract says. Returns a desk before the first item of
--- a program over a shape, with a seat for each process.
+-- `open` of snap_live (src/desk.rt): the proof of what its contract says.
 use Rattle.std.proofs.Common.{rules, ◌≡◌, ℕ, ◌+◌, ◌++◌, ◌∷◌, [], ap, sym, ◌∙◌, add-one, suc}
 use Rattle.std.proofs.Common.{Option, Some, List, subst, ◌≤◌, ◌^◌, arith}
 use Rattle.atomic_table.specs.Table.{opening}

@@ -1,5 +1,4 @@
--- `open` of snap_live (src/desk.rt): what holds at the head of each of its loops. Returns a desk before the first
--- item of a program over a shape, with a seat for each process.
+-- `open` of snap_live (src/desk.rt): what holds at the head of each of its loops.
 use Rattle.std.proofs.Common.{◌≡◌, ◌≤◌, [], vec_len}
 use Rattle.std.specs.Prelude.{vec_capacity}
 use Rattle.snap_live.specs.declared.seat_state.Setting.{Setting}

@@ -1,5 +1,4 @@
 -- `joined` of snap_live (src/live_run.rt): the proof of what its contract says.
--- Joins all workers, for which there is room.
 use Rattle.std.proofs.Common.{◌≡◌, ℕ, ◌+◌, length, get_or, arith, rules, subst, vec_len}
 use Rattle.std.specs.Vec.Iter.{into_iter_items}
 use Rattle.snap_live.specs.Worker.{IsWorked, WorkedView}

@@ -1,5 +1,4 @@
 -- `joined` of snap_live (src/live_run.rt): what holds at the head of each of its loops.
--- Joins all workers, for which there is room.
 use Rattle.std.proofs.Common.{◌≡◌, ℕ, ◌+◌, ◌<◌, ◌≤◌, length, get_or}
 use Rattle.std.specs.Prelude.{vec_capacity}
 use Rattle.std.specs.Vec.Iter.{into_iter_items, into_iter_len}

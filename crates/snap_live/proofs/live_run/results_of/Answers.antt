@@ -1,5 +1,4 @@
--- `results_of` of snap_live (src/live_run.rt): the proof of what its contract says. Puts what the workers hand back
--- together.
+-- `results_of` of snap_live (src/live_run.rt): the proof of what its contract says.
 use Rattle.std.proofs.Common.{◌∙◌, ap, sym, rules}
 use Rattle.snap_live.specs.Worker.{WorkedView}
 use Rattle.snap_live.specs.LiveRun.{then_first}

@@ -1,5 +1,4 @@
--- `results_of` of snap_live (src/live_run.rt): what holds at the head of each of its loops. Puts what the workers hand
--- back together.
+-- `results_of` of snap_live (src/live_run.rt): what holds at the head of each of its loops.
 use Rattle.std.proofs.Common.{◌≡◌, ◌+◌, ◌≤◌, map}
 use Rattle.std.specs.Prelude.{vec_capacity, vec_len}
 use Rattle.std.specs.Vec.Iter.{into_iter_len}

@@ -1,5 +1,4 @@
--- `run_live` of snap_live (src/live_run.rt): the proof of what its contract says. Plays all scripts at once at a new
--- desk, with a worker in a thread for each process.
+-- `run_live` of snap_live (src/live_run.rt): the proof of what its contract says.
 use Rattle.std.proofs.Common.{◌≡◌, ◌∙◌, List, ap, sym, subst}
 use Rattle.std.specs.Prelude.{All}
 use Rattle.snap_words.specs.Shape.{Counts}

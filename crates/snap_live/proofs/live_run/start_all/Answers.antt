@@ -1,5 +1,4 @@
 -- `start_all` of snap_live (src/live_run.rt): the proof of what its contract says.
--- Starts all workers.
 use Rattle.std.proofs.Common.{◌≡◌, ◌+◌, ◌-◌, ◌∙◌, ap, length, rules}
 use Rattle.snap_words.specs.Shape.{IsOneOf}
 use Rattle.snap_live.specs.Shown.{SeatView, seat_of}

@@ -1,5 +1,4 @@
 -- `start_all` of snap_live (src/live_run.rt): what holds at the head of each of its loops.
--- Starts all workers.
 use Rattle.std.proofs.Common.{◌≡◌, ◌-◌, length, map}
 use Rattle.std.specs.Prelude.{All}
 use Rattle.std.specs.Vec.Iter.{into_iter_items}

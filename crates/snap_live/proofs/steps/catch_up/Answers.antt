@@ -1,5 +1,4 @@
--- `catch_up` of snap_live (src/steps.rt): the proof of what its contract says. Adds nothing, and lets the seat see
--- the history.
+-- `catch_up` of snap_live (src/steps.rt): the proof of what its contract says.
 use Rattle.std.proofs.Common.{rules}
 use Rattle.snap_live.proofs.Moves.{catches}
 use Rattle.snap_live.proofs.steps.catch_up.Goals as goal

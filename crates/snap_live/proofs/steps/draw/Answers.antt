@@ -1,5 +1,4 @@
--- `draw` of snap_live (src/steps.rt): the proof of what its contract says. Draws a ticket for a seat, and returns
--- it.
+-- `draw` of snap_live (src/steps.rt): the proof of what its contract says.
 use Rattle.std.proofs.Common.{rules}
 use Rattle.snap_live.proofs.Moves.{draws_as}
 use Rattle.snap_live.proofs.steps.draw.Goals as goal

@@ -1,5 +1,4 @@
--- `join` of snap_live (src/steps.rt): the proof of what its contract says. Joins `other` into `seat`, with what it
--- has seen and its turns.
+-- `join` of snap_live (src/steps.rt): the proof of what its contract says.
 use Rattle.std.proofs.Common.{rules, ap, ◌∙◌}
 use Rattle.snap_live.specs.Rule.{Mine}
 use Rattle.snap_live.proofs.Moves.{tells_it}

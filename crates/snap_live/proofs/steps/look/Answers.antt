@@ -1,5 +1,4 @@
--- `look` of snap_live (src/steps.rt): the proof of what its contract says. Returns whether the ticket is served;
--- the seat has the record then.
+-- `look` of snap_live (src/steps.rt): the proof of what its contract says.
 use Rattle.std.proofs.Common.{rules}
 use mathlib.Core.Option.{none}
 use Rattle.atomic_table.specs.Table.{step}

@@ -1,5 +1,4 @@
--- `name` of snap_live (src/steps.rt): the proof of what its contract says. Takes the next process for the seat
--- that may name a process.
+-- `name` of snap_live (src/steps.rt): the proof of what its contract says.
 use Rattle.std.proofs.Common.{rules}
 use Rattle.snap_live.proofs.Moves.{names_as}
 use Rattle.snap_live.proofs.steps.name.Goals as goal

@@ -1,5 +1,4 @@
--- `publish_as` of snap_live (src/steps.rt): the proof of what its contract says. Adds the item, which the entry
--- names, to the history.
+-- `publish_as` of snap_live (src/steps.rt): the proof of what its contract says.
 use Rattle.std.proofs.Common.{rules}
 use Rattle.snap_live.proofs.Moves.{publishes_as}
 use Rattle.snap_live.proofs.steps.publish_as.Goals as goal

@@ -1,5 +1,4 @@
--- `serve` of snap_live (src/steps.rt): the proof of what its contract says. Brings the slot home, so that the next
--- ticket is served.
+-- `serve` of snap_live (src/steps.rt): the proof of what its contract says.
 use Rattle.std.proofs.Common.{rules}
 use Rattle.snap_live.proofs.Moves.{serves_all}
 use Rattle.snap_live.proofs.steps.serve.Goals as goal

@@ -1,5 +1,4 @@
--- `split` of snap_live (src/steps.rt): the proof of what its contract says. Returns a new seat, which has seen as
--- much, and may name a process if the old one might.
+-- `split` of snap_live (src/steps.rt): the proof of what its contract says.
 use Rattle.std.proofs.Common.{rules}
 use Rattle.snap_live.proofs.Moves.{splits}
 use Rattle.snap_live.proofs.steps.split.Goals as goal

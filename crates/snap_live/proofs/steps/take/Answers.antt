@@ -1,5 +1,4 @@
--- `take` of snap_live (src/steps.rt): the proof of what its contract says. Takes the record, which leaves the slot
--- empty.
+-- `take` of snap_live (src/steps.rt): the proof of what its contract says.
 use Rattle.std.proofs.Common.{rules}
 use Rattle.snap_live.proofs.Held.{front}
 use Rattle.snap_live.proofs.steps.take.Goals as goal

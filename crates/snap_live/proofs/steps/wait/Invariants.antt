@@ -1,5 +1,4 @@
 -- `wait` of snap_live (src/steps.rt): what holds at the head of each of its loops.
--- Looks until the ticket is served.
 use Rattle.std.proofs.Common.{◌≡◌}
 use Rattle.snap_live.proofs.steps.wait.Given as goal
 

@@ -1,4 +1,4 @@
--- `play` of snap_live (src/worker.rt): what holds at the head of each of its loops. Plays the whole script.
+-- `play` of snap_live (src/worker.rt): what holds at the head of each of its loops.
 use Rattle.std.proofs.Common.{◌≡◌, length, drop}
 use Rattle.snap_live.specs.Play.{Leaves, rest}
 use Rattle.snap_live.specs.Worker.{Kept}

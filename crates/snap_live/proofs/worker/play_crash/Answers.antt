@@ -1,4 +1,4 @@
--- `play_crash` of snap_live (src/worker.rt): the proof of what its contract says. Plays the crash, at its turn.
+-- `play_crash` of snap_live (src/worker.rt): the proof of what its contract says.
 use Rattle.snap_live.proofs.Plays.{crash_on}
 use Rattle.snap_live.proofs.worker.play_crash.Goals as goal
 

@@ -1,5 +1,4 @@
--- `play_operation` of snap_live (src/worker.rt): the proof of what its contract says. Plays the operation at place `at`
--- of the script, and returns true if nothing follows it.
+-- `play_operation` of snap_live (src/worker.rt): the proof of what its contract says.
 use Rattle.std.proofs.Common.{◌≡◌, arith, inl, true, false, rules}
 use Rattle.snap_live.specs.Script.{crashes_behind}
 use Rattle.snap_live.proofs.Plays.{calls_at, call_goes, call_passes, begun_left}

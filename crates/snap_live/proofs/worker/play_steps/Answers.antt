@@ -1,5 +1,4 @@
--- `play_steps` of snap_live (src/worker.rt): the proof of what its contract says. Plays steps up to the end of the last
--- operation that was called, and returns true if nothing follows it.
+-- `play_steps` of snap_live (src/worker.rt): the proof of what its contract says.
 use Rattle.std.proofs.Common.{◌≡◌, ◌+◌, ◌∙◌, length, drop, sym, ap, false, rules}
 use Rattle.snap_live.specs.Play.{Leaves, busy}
 use Rattle.snap_live.specs.Script.{crashes_behind}

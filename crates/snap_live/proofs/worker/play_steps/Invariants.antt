@@ -1,5 +1,4 @@
--- `play_steps` of snap_live (src/worker.rt): what holds at the head of each of its loops. Plays steps up to the end of
--- the last operation that was called, and returns true if nothing follows it.
+-- `play_steps` of snap_live (src/worker.rt): what holds at the head of each of its loops.
 use Rattle.std.proofs.Common.{◌≡◌, ◌+◌, length, drop}
 use Rattle.snap_semantics.specs.declared.process.Item.TheVariants.{Step}
 use Rattle.snap_live.specs.Play.{Leaves, busy}

@@ -1,5 +1,4 @@
--- `play_kind` of snap_live_output (src/played_text.rt): the proof of what its contract says. Plays scripts over
--- registers of a kind, and returns the history as text, with the text on the calls that were skipped.
+-- `play_kind` of snap_live_output (src/played_text.rt): the proof of what its contract says.
 use Rattle.std.proofs.Common.{◌∙◌, ap}
 use Rattle.snap_live_output.specs.Uncalled.{uncalled_calls, uncalled_text}
 use Rattle.snap_live_output.proofs.Lives.{live_output}

@@ -1,5 +1,4 @@
 -- `by_process` of snap_live_output (src/uncalled.rt): what holds at the head of each of its loops.
--- Calls process by process, of as many processes as there are scripts.
 use Rattle.std.proofs.Common.{◌≡◌, ◌++◌, ◌+◌, drop}
 use Rattle.snap_live_output.specs.Uncalled.{by_process}
 use Rattle.snap_live_output.proofs.uncalled.by_process.Given as goal

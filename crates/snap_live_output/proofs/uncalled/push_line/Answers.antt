@@ -1,4 +1,5 @@
--- `push_line` of snap_live_output (src/uncalled.rt): the proof of what its contract says, piece after piece.
+-- `push_line` of snap_live_output (src/uncalled.rt): the proof of what its contract says. The text is read back from
+-- its last piece to its first.
 use Rattle.std.proofs.Common.{append_assoc}
 use Rattle.snap_live_output.specs.Uncalled.{uncalled_line}
 use Rattle.snap_live_output.proofs.uncalled.push_line.Goals as goal

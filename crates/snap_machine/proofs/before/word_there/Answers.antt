@@ -1,5 +1,4 @@
--- `word_there` of snap_machine (src/before.rt): the proof of what its contract says. Returns the word at a place of a
--- `words` local, if the local has this place.
+-- `word_there` of snap_machine (src/before.rt): the proof of what its contract says.
 use Rattle.std.proofs.Common.{◌≡◌, ℕ, true, false, nat_lt, List, length, get_or, map, slice_get, option_map}
 use Rattle.std.proofs.Common.{refl, sym, ap, ◌∙◌}
 use Rattle.std.proofs.lemmas.Bool.{ltb-false, ltb-true}

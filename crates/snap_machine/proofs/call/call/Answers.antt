@@ -1,5 +1,4 @@
--- `call` of snap_machine (src/call.rt): the proof of what its contract says. Calls `op` at process `i`, which begins it
--- or skips the call, and returns the outcome.
+-- `call` of snap_machine (src/call.rt): the proof of what its contract says.
 use Rattle.std.proofs.Common.{◌≡◌, arith, slice_index_or, ◌-◌, None}
 use Rattle.std.proofs.lemmas.List.{get_or_default}
 use Rattle.snap_semantics.specs.Table.{call_skip}

@@ -1,5 +1,4 @@
--- `crash` of snap_machine (src/call.rt): the proof of what its contract says. Crashes process `i`, and returns the
--- outcome.
+-- `crash` of snap_machine (src/call.rt): the proof of what its contract says.
 use Rattle.std.proofs.Common.{arith, slice_index_or, ◌-◌, Some, None, refl}
 use Rattle.std.proofs.lemmas.List.{get_or_default}
 use Rattle.snap_semantics.specs.declared.process.Status.TheVariants.{Idle, Busy}

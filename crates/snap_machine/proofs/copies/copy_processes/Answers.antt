@@ -1,5 +1,4 @@
--- `copy_processes` of snap_machine (src/copies.rt): the proof of what its contract says. Returns copies of the
--- processes.
+-- `copy_processes` of snap_machine (src/copies.rt): the proof of what its contract says.
 use Rattle.std.proofs.Common.{map, ap, ◌∙◌}
 use Rattle.snap_machine.specs.SeenProcesses.{seen_process}
 use Rattle.snap_machine.proofs.Passed.{one_copied, all_passed}

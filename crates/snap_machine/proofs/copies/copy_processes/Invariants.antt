@@ -1,5 +1,4 @@
--- `copy_processes` of snap_machine (src/copies.rt): what holds at the head of each of its loops. Returns copies of the
--- processes.
+-- `copy_processes` of snap_machine (src/copies.rt): what holds at the head of each of its loops.
 use Rattle.std.proofs.Common.{◌≡◌, map, take}
 use Rattle.snap_semantics.specs.Source.{Source}
 use Rattle.snap_machine.specs.SeenProcesses.{seen_process}

@@ -1,4 +1,4 @@
--- `copy_rows` of snap_machine (src/copies.rt): what holds at the head of each of its loops. Returns copies of the rows.
+-- `copy_rows` of snap_machine (src/copies.rt): what holds at the head of each of its loops.
 use Rattle.std.proofs.Common.{◌≡◌, map, take, vec_items}
 use Rattle.snap_machine.proofs.copies.copy_rows.Given as goal
 

@@ -1,5 +1,4 @@
--- `copy_word_rows` of snap_machine (src/copies.rt): what holds at the head of each of its loops. Returns copies of the
--- `words` locals.
+-- `copy_word_rows` of snap_machine (src/copies.rt): what holds at the head of each of its loops.
 use Rattle.std.proofs.Common.{◌≡◌, map, take}
 use Rattle.snap_machine.proofs.copies.copy_word_rows.Given as goal
 

@@ -1,5 +1,4 @@
--- `new_process` of snap_machine (src/fresh.rt): the proof of what its contract says. Returns a process in its initial
--- state.
+-- `new_process` of snap_machine (src/fresh.rt): the proof of what its contract says.
 use Rattle.std.proofs.Common.{List, length, replicate, refl, sym, ap, ◌∙◌}
 use Rattle.snap_words.specs.Kind.{initial_word}
 use Rattle.snap_words.specs.Shape.{places}

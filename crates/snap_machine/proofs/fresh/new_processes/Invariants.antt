@@ -1,5 +1,4 @@
--- `new_processes` of snap_machine (src/fresh.rt): what holds at the head of each of its loops. Returns the processes of
--- `shape` in their initial states.
+-- `new_processes` of snap_machine (src/fresh.rt): what holds at the head of each of its loops.
 use Rattle.std.proofs.Common.{◌≡◌, map, replicate}
 use Rattle.snap_semantics.specs.State.{initial_process}
 use Rattle.snap_machine.specs.SeenProcesses.{seen_process}

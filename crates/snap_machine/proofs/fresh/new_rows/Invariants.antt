@@ -1,5 +1,4 @@
--- `new_rows` of snap_machine (src/fresh.rt): what holds at the head of each of its loops. Returns `count` rows of
--- zeros.
+-- `new_rows` of snap_machine (src/fresh.rt): what holds at the head of each of its loops.
 use Rattle.std.proofs.Common.{◌≡◌, map, replicate, vec_items}
 use Rattle.snap_words.specs.Shape.{places}
 use Rattle.snap_machine.proofs.fresh.new_rows.Given as goal

@@ -1,5 +1,4 @@
--- `new_views` of snap_machine (src/fresh.rt): what holds at the head of each of its loops. Returns `count` views of
--- zeros.
+-- `new_views` of snap_machine (src/fresh.rt): what holds at the head of each of its loops.
 use Rattle.std.proofs.Common.{◌≡◌, replicate}
 use Rattle.snap_machine.proofs.fresh.new_views.Given as goal
 

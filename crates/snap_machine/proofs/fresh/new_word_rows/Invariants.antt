@@ -1,5 +1,4 @@
--- `new_word_rows` of snap_machine (src/fresh.rt): what holds at the head of each of its loops. Returns `count` `words`
--- locals in their initial state.
+-- `new_word_rows` of snap_machine (src/fresh.rt): what holds at the head of each of its loops.
 use Rattle.std.proofs.Common.{◌≡◌, map, replicate}
 use Rattle.snap_words.specs.Kind.{initial_word}
 use Rattle.snap_words.specs.Shape.{places}

@@ -1,5 +1,4 @@
--- `new_words` of snap_machine (src/fresh.rt): what holds at the head of each of its loops. Returns `count` words that
--- nobody has written.
+-- `new_words` of snap_machine (src/fresh.rt): what holds at the head of each of its loops.
 use Rattle.std.proofs.Common.{map, ◌≡◌, replicate}
 use Rattle.snap_words.specs.Kind.{initial_word}
 use Rattle.snap_machine.proofs.fresh.new_words.Given as goal

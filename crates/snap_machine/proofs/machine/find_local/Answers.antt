@@ -1,5 +1,4 @@
--- `find_local` of snap_machine (src/machine.rt): the proof of what its contract says. Returns the value of a local of a
--- process, if there is one of this name.
+-- `find_local` of snap_machine (src/machine.rt): the proof of what its contract says.
 use Rattle.std.proofs.Common.{◌∙◌}
 use Rattle.snap_machine.proofs.Found.{value_found, value_missing}
 use Rattle.snap_machine.proofs.machine.find_local.Goals as goal

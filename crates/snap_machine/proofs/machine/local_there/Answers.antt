@@ -1,5 +1,4 @@
--- `local_there` of snap_machine (src/machine.rt): the proof of what its contract says. Returns the value of local `k`
--- of a sort.
+-- `local_there` of snap_machine (src/machine.rt): the proof of what its contract says.
 use Rattle.std.proofs.Common.{map}
 use Rattle.snap_semantics.specs.Readers.{NumberValue, RowValue, WordsValue}
 use Rattle.snap_machine.proofs.There.{none_there, one_there}

@@ -1,5 +1,4 @@
--- `named_local` of snap_machine (src/machine.rt): the proof of what its contract says. Returns the name and the value
--- of local `k` of a sort.
+-- `named_local` of snap_machine (src/machine.rt): the proof of what its contract says.
 use Rattle.snap_asm_program.specs.Slot.{names_of}
 use Rattle.snap_machine.specs.SeenContents.{seen_local}
 use Rattle.snap_machine.proofs.Numbered.{few, numbered_there, numbered_without_name, numbered_without_value}

@@ -1,5 +1,4 @@
--- `current_place` of snap_machine (src/overwrites.rt): the proof of what its contract says. Returns the contents of the
--- place that the line of a process writes.
+-- `current_place` of snap_machine (src/overwrites.rt): the proof of what its contract says.
 use Rattle.std.proofs.Common.{Option, sym, subst}
 use Rattle.snap_words.specs.declared.kind.KindTag.{KindTag}
 use Rattle.snap_semantics.specs.declared.instr.Instr.{Instr}

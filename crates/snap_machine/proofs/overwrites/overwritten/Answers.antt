@@ -1,5 +1,4 @@
--- `overwritten` of snap_machine (src/overwrites.rt): the proof of what its contract says. Returns what `item`
--- overwrites: once that is put back after the item, everything is as it was.
+-- `overwritten` of snap_machine (src/overwrites.rt): the proof of what its contract says.
 use Rattle.std.proofs.Common.{arith, refl}
 use Rattle.snap_machine.specs.SeenPlaces.{seen_place}
 use Rattle.snap_machine.proofs.States.{sized_at, undone}

@@ -1,5 +1,4 @@
--- `check_values` of snap_machine (src/quantifiers.rt): the proof of what its contract says. Checks that each place from
--- 1 to `count` has a new value.
+-- `check_values` of snap_machine (src/quantifiers.rt): the proof of what its contract says.
 use Rattle.std.proofs.Common.{◌≡◌, ℕ, ◌+◌, List, Ok, Err, refl, sym, ap, ◌∙◌, arith}
 use Rattle.std.proofs.lemmas.Result.{err_from_is_err_and}
 use Rattle.snap_asm_program.specs.NamedLines.{name_at, named_expr, named_where}

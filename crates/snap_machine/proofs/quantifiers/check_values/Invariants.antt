@@ -1,5 +1,4 @@
--- `check_values` of snap_machine (src/quantifiers.rt): what holds at the head of each of its loops. Checks that each
--- place from 1 to `count` has a new value.
+-- `check_values` of snap_machine (src/quantifiers.rt): what holds at the head of each of its loops.
 use Rattle.std.proofs.Common.{◌≡◌, Ok}
 use Rattle.snap_asm_program.specs.NamedLines.{name_at, named_expr, named_where}
 use Rattle.snap_semantics.specs.Answers.{◌>>=◌}

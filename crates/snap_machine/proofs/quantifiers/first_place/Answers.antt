@@ -1,5 +1,4 @@
--- `first_place` of snap_machine (src/quantifiers.rt): the proof of what its contract says. Returns the least place,
--- from 1 to `count`, at which a condition holds; `None` where it holds at none.
+-- `first_place` of snap_machine (src/quantifiers.rt): the proof of what its contract says.
 use Rattle.std.proofs.Common.{◌≡◌, ℕ, ◌+◌, Bool, List, Option, Ok, Err, sym, ap, ◌∙◌, arith}
 use Rattle.snap_asm_program.specs.NamedLines.{named_condition}
 use Rattle.snap_semantics.specs.Rules.{or_else}

@@ -1,5 +1,4 @@
--- `first_place` of snap_machine (src/quantifiers.rt): what holds at the head of each of its loops. Returns the least
--- place, from 1 to `count`, at which a condition holds; `None` where it holds at none.
+-- `first_place` of snap_machine (src/quantifiers.rt): what holds at the head of each of its loops.
 use Rattle.std.proofs.Common.{◌≡◌, ◌+◌, Ok}
 use Rattle.snap_asm_program.specs.NamedLines.{named_condition}
 use Rattle.snap_semantics.specs.Answers.{◌>>=◌}

@@ -1,5 +1,4 @@
--- `holds_at_all` of snap_machine (src/quantifiers.rt): the proof of what its contract says. Returns whether a condition
--- holds at every place from 1 to `count`.
+-- `holds_at_all` of snap_machine (src/quantifiers.rt): the proof of what its contract says.
 use Rattle.std.proofs.Common.{◌≡◌, ◌+◌, Bool, List, ◌&&◌, Ok, Err, sym, ap, ◌∙◌, arith}
 use Rattle.snap_asm_program.specs.NamedLines.{named_condition}
 use Rattle.snap_semantics.specs.Table.{all_true}

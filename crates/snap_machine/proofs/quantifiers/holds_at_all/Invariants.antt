@@ -1,5 +1,4 @@
--- `holds_at_all` of snap_machine (src/quantifiers.rt): what holds at the head of each of its loops. Returns whether a
--- condition holds at every place from 1 to `count`.
+-- `holds_at_all` of snap_machine (src/quantifiers.rt): what holds at the head of each of its loops.
 use Rattle.std.proofs.Common.{◌≡◌, ◌&&◌, Ok}
 use Rattle.snap_asm_program.specs.NamedLines.{named_condition}
 use Rattle.snap_semantics.specs.Answers.{◌>>=◌}

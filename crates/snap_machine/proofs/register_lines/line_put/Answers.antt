@@ -1,4 +1,4 @@
--- `line_put` of snap_machine (src/register_lines.rt): the proof of what its contract says. Runs `put r[I] = (..)`.
+-- `line_put` of snap_machine (src/register_lines.rt): the proof of what its contract says.
 use Rattle.std.proofs.Common.{◌≡◌, ap, sym, subst, Ok}
 use Rattle.snap_words.specs.declared.kind.KindTag.{KindTag}
 use Rattle.snap_semantics.specs.Table.{tuple_word}

@@ -1,5 +1,4 @@
 -- `put_back` of snap_machine (src/reversal.rt): the proof of what its contract says.
--- Puts a place back.
 use Rattle.std.proofs.Common.{◌≡◌, List, Vec, Global, length, sym, ap, ◌∙◌}
 use Rattle.std.proofs.lemmas.List.{with_items_is}
 use Rattle.std.specs.Vec.{with_items}

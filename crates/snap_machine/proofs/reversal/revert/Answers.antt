@@ -1,5 +1,4 @@
 -- `revert` of snap_machine (src/reversal.rt): the proof of what its contract says.
--- Puts back all that an item overwrote.
 use Rattle.std.proofs.Common.{◌-◌, ◌<◌, arith, length, slice_index_or, sym, subst}
 use Rattle.std.proofs.lemmas.List.{get_or_default}
 use Rattle.snap_machine.specs.Sizes.{AreSized}

@@ -1,5 +1,4 @@
--- `new_row` of snap_machine (src/rows.rt): the proof of what its contract says. Returns a row with the new values
--- of `count` places, and the old values of the places behind them.
+-- `new_row` of snap_machine (src/rows.rt): the proof of what its contract says.
 use Rattle.std.proofs.Common.{◌≡◌, refl, ℕ, ◌+◌, List, [], ◌∷◌, ◌++◌, drop, Ok, Err, sym, ap, ◌∙◌, arith, append_assoc}
 use Rattle.std.proofs.lemmas.Result.{err_from_is_err_and}
 use Rattle.snap_asm_program.specs.NamedLines.{name_at, named_expr, named_where}

@@ -1,5 +1,4 @@
--- `new_row` of snap_machine (src/rows.rt): what holds at the head of each of its loops. Returns a row with the new
--- values of `count` places, and the old values of the places behind them.
+-- `new_row` of snap_machine (src/rows.rt): what holds at the head of each of its loops.
 use Rattle.std.proofs.Common.{◌≡◌, Ok, ◌++◌, drop}
 use Rattle.snap_asm_program.specs.NamedLines.{name_at, named_expr, named_where}
 use Rattle.snap_semantics.specs.Answers.{◌>>=◌}

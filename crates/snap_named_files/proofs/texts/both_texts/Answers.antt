@@ -1,5 +1,4 @@
--- `both_texts` of snap_named_files (src/texts.rt): the proof of what its contract says. Returns the texts of a listing
--- and of a schedule in files of these names.
+-- `both_texts` of snap_named_files (src/texts.rt): the proof of what its contract says.
 use Rattle.snap_named_files.specs.Named.{Files}
 use Rattle.snap_named_files.specs.Texts.{AreTexts}
 use Rattle.snap_named_files.proofs.Read.{both_read, no_listing, no_schedule, passed}

@@ -1,5 +1,4 @@
--- `one_text` of snap_named_files (src/texts.rt): the proof of what its contract says. Returns the text of a schedule
--- for a shipped listing, in the file of this name.
+-- `one_text` of snap_named_files (src/texts.rt): the proof of what its contract says.
 use Rattle.snap_named_files.specs.Named.{Shipped}
 use Rattle.snap_named_files.specs.Texts.{AreTexts}
 use Rattle.snap_named_files.proofs.Read.{items_read, no_items, passed}

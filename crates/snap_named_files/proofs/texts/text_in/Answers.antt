@@ -1,5 +1,4 @@
--- `text_in` of snap_named_files (src/texts.rt): the proof of what its contract says. Returns the bytes of the file of
--- this name.
+-- `text_in` of snap_named_files (src/texts.rt): the proof of what its contract says.
 use Rattle.std.proofs.Common.{Ok, Err}
 use Rattle.snap_named_files.proofs.Read.{has_text}
 use Rattle.snap_named_files.proofs.texts.text_in.Goals as goal

@@ -1,5 +1,4 @@
--- `is_given` of snap_options (src/options.rt): the proof of what its contract says. Returns whether the flag `name` was
--- given.
+-- `is_given` of snap_options (src/options.rt): the proof of what its contract says.
 use Rattle.snap_options.proofs.Read.{flag_read}
 use Rattle.snap_options.proofs.options.is_given.Goals as goal
 

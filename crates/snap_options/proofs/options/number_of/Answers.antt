@@ -1,5 +1,4 @@
--- `number_of` of snap_options (src/options.rt): the proof of what its contract says. Returns the number that the option
--- `name` gives; `None` where the option was not given, or its text is no number.
+-- `number_of` of snap_options (src/options.rt): the proof of what its contract says.
 use Rattle.std.proofs.Common.{ℕ, List, Result}
 use Rattle.std.specs.Str.Parse.{ExplainsUnsignedError, HasUnsignedDigitsIfOk, ParsesUnsigned}
 use Rattle.std.specs.declared.num.ParseIntError.{ParseIntError}

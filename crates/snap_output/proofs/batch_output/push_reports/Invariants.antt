@@ -1,5 +1,4 @@
--- `push_reports` of snap_output (src/batch_output.rt): what holds at the head of each of its loops. Appends
--- reports, each behind the line of its number.
+-- `push_reports` of snap_output (src/batch_output.rt): what holds at the head of each of its loops.
 use Rattle.std.proofs.Common.{◌≡◌, ◌++◌, ◌+◌, drop, false}
 use Rattle.snap_batch.specs.Reports.{reports_text}
 use Rattle.snap_output.proofs.batch_output.push_reports.Given as goal

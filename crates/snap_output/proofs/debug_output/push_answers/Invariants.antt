@@ -1,5 +1,4 @@
--- `push_answers` of snap_output (src/debug_output.rt): what holds at the head of each of its loops. Appends commands,
--- each with the reply of a session.
+-- `push_answers` of snap_output (src/debug_output.rt): what holds at the head of each of its loops.
 use Rattle.std.proofs.Common.{◌≡◌, ◌++◌, drop, false}
 use Rattle.snap_debug.specs.Session.{after_commands, replies_text}
 use Rattle.snap_output.proofs.debug_output.push_answers.Given as goal

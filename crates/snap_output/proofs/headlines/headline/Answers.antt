@@ -1,8 +1,4 @@
 -- `headline` of snap_output (src/headlines.rt): the proof of what its contract says.
--- For every listing, schedule and debugger commands, what is printed is what the table of lines gives; what is
--- assembled lists back as its source; and what is written with a shipped listing is of a run in which every finished
--- scan's view is the memory's values at one step between its call and its answer, within the bounds on double
--- collects.
 use Rattle.snap_output.proofs.Refusing.{refuses_batches, refuses_inputs, refuses_texts, runs_batches}
 use Rattle.snap_output.proofs.Shipping.{gives_itself_back, lists_back, prints_the_run, runs_what_is_asked}
 use Rattle.snap_output.proofs.Shipping.{snapshots, writes_the_run}

@@ -1,5 +1,4 @@
 -- `traces_are_refused_as_runs` of snap_output (src/headlines.rt): the proof of what its contract says.
--- A trace is refused exactly where a run is, and for the same reason.
 use Rattle.snap_output.proofs.Alike.{traces_as_runs}
 use Rattle.snap_output.proofs.headlines.traces_are_refused_as_runs.Goals as goal
 

@@ -1,5 +1,4 @@
--- `push_item` of snap_output (src/item.rt): the proof of what its contract says. Does item number `number`, and
--- appends what it did and what it changed.
+-- `push_item` of snap_output (src/item.rt): the proof of what its contract says.
 use Rattle.std.proofs.Common.{◌≡◌, ℕ, ◌-◌, ◌<◌, List, [], ◌++◌, arith, ap, get_or, length, slice_set, subst, sym, ◌∙◌}
 use Rattle.snap_words.specs.Shape.{Counts}
 use Rattle.snap_semantics.specs.declared.process.Outcome.{Outcome}

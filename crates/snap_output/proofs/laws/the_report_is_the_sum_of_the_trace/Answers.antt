@@ -1,5 +1,4 @@
 -- `the_report_is_the_sum_of_the_trace` of snap_output (src/laws.rt): the proof of what its contract says.
--- The changes of all items, put one after another into the lines of the beginning, make the lines of the end.
 use Rattle.snap_output.proofs.Sums.{summed}
 use Rattle.snap_output.proofs.laws.the_report_is_the_sum_of_the_trace.Goals as goal
 

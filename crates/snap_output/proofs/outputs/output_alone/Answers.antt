@@ -1,5 +1,4 @@
--- `output_alone` of snap_output (src/outputs.rt): the proof of what its contract says. Returns the whole output for
--- `input`, made in one thread.
+-- `output_alone` of snap_output (src/outputs.rt): the proof of what its contract says.
 use Rattle.std.proofs.Common.{rules, ◌≤◌, length, refl}
 use Rattle.snap_input.specs.Parts.{max_input}
 use Rattle.snap_tasks.specs.declared.task.Task.TheVariants as task

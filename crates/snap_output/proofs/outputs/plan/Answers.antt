@@ -1,5 +1,4 @@
--- `plan` of snap_output (src/outputs.rt): the proof of what its contract says. Returns the program of a listing and the
--- schedule of a text.
+-- `plan` of snap_output (src/outputs.rt): the proof of what its contract says.
 use Rattle.std.proofs.Common.{ℕ, List, Result, subst}
 use Rattle.snap_semantics.specs.Answers.{Answers}
 use Rattle.snap_semantics.specs.declared.refusal.Refusal.{Refusal}

@@ -1,5 +1,4 @@
--- `run` of snap_output (src/outputs.rt): the proof of what its contract says. Returns the output of a listing under a
--- schedule, to its end: the reply of a session to the one command `run`.
+-- `run` of snap_output (src/outputs.rt): the proof of what its contract says.
 use Rattle.std.proofs.Common.{ℕ, List, Result, subst}
 use Rattle.snap_semantics.specs.Answers.{Answers}
 use Rattle.snap_semantics.specs.declared.refusal.Refusal.{Refusal}

@@ -1,5 +1,4 @@
--- `trace` of snap_output (src/run_trace.rt): the proof of what its contract says. Returns what each item of the run
--- of `program` over `schedule` did, and what it changed.
+-- `trace` of snap_output (src/run_trace.rt): the proof of what its contract says.
 use Rattle.std.proofs.Common.{◌≡◌, ◌+◌, ◌++◌, List, Result, Ok, Err, ap, arith, map, sym, ◌∙◌, ℕ}
 use Rattle.std.specs.Prelude.{IfOk}
 use Rattle.snap_semantics.specs.Source.{Source}

@@ -1,5 +1,4 @@
--- `trace` of snap_output (src/run_trace.rt): what holds at the head of each of its loops. Returns what each item of
--- the run of `program` over `schedule` did, and what it changed.
+-- `trace` of snap_output (src/run_trace.rt): what holds at the head of each of its loops.
 use Rattle.std.proofs.Common.{◌≡◌, map}
 use Rattle.snap_runs.specs.Run.{run_over}
 use Rattle.snap_listing.specs.LineTexts.{seen_line}

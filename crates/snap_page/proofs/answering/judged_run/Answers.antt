@@ -1,5 +1,4 @@
--- `judged_run` of snap_page (src/answering.rt): the proof of what its contract says. Returns the judgement of the run
--- of an input.
+-- `judged_run` of snap_page (src/answering.rt): the proof of what its contract says.
 use Rattle.std.proofs.Common.{◌≡◌, Some, subst, sym}
 use Rattle.snap_judge_task.specs.Judged as judging
 use Rattle.snap_faults.specs.declared.fault.ProgramFault.TheVariants as judge

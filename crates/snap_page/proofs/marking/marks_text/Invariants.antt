@@ -1,5 +1,4 @@
--- `marks_text` of snap_page (src/marking.rt): what holds at the head of each of its loops. Returns the lines of the
--- marks that commands leave.
+-- `marks_text` of snap_page (src/marking.rt): what holds at the head of each of its loops.
 use Rattle.std.proofs.Common.{◌≡◌, ◌++◌, length, false}
 use Rattle.snap_page.specs.Marks.{marks_text}
 use Rattle.snap_page.proofs.marking.marks_text.Given as goal

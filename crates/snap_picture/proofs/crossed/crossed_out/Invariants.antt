@@ -1,5 +1,4 @@
--- `crossed_out` of snap_picture (src/crossed.rt): what holds at the head of each of its loops. Returns the operation
--- that ended with this event, among what is drawn.
+-- `crossed_out` of snap_picture (src/crossed.rt): what holds at the head of each of its loops.
 use Rattle.std.proofs.Common.{◌≡◌, ◌++◌, drop}
 use Rattle.snap_picture.specs.Crossed.{crossed_out}
 use Rattle.snap_picture.proofs.crossed.crossed_out.Given as goal

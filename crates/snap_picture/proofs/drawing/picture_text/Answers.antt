@@ -1,5 +1,4 @@
--- `picture_text` of snap_picture (src/drawing.rt): the proof of what its contract says. Returns the picture of a
--- program's run over a schedule.
+-- `picture_text` of snap_picture (src/drawing.rt): the proof of what its contract says.
 use Rattle.std.proofs.Common.{◌∙◌, option_map, Bor, ℕ, List, refl}
 use Rattle.snap_runs.specs.Run.{run_over}
 use Rattle.snap_semantics.specs.declared.event.Event.{Event}

@@ -1,5 +1,4 @@
--- `push_escaped` of snap_picture (src/escape.rt): what holds at the head of each of its loops. Appends what stands for
--- a text.
+-- `push_escaped` of snap_picture (src/escape.rt): what holds at the head of each of its loops.
 use Rattle.std.proofs.Common.{take}
 use Rattle.snap_text.specs.Drafted.{Adds}
 use Rattle.snap_picture.specs.Escape.{escaped}

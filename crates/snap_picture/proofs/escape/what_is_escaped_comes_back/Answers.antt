@@ -1,5 +1,4 @@
 -- `what_is_escaped_comes_back` of snap_picture (src/escape.rt): the proof of what its contract says.
--- What is escaped comes back.
 use Rattle.snap_picture.proofs.Escapes.{comes_back}
 use Rattle.snap_picture.proofs.escape.what_is_escaped_comes_back.Goals as goal
 

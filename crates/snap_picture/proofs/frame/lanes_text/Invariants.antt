@@ -1,5 +1,4 @@
--- `lanes_text` of snap_picture (src/frame.rt): what holds at the head of each of its loops. Appends the lanes of
--- `count` processes.
+-- `lanes_text` of snap_picture (src/frame.rt): what holds at the head of each of its loops.
 use Rattle.snap_text.specs.Drafted.{Adds}
 use Rattle.snap_picture.specs.FrameText.{lanes_text}
 use Rattle.snap_picture.proofs.frame.lanes_text.Given as goal

@@ -1,5 +1,4 @@
--- `ticks_text` of snap_picture (src/frame.rt): what holds at the head of each of its loops. Appends `count` numbers, a
--- step apart, from the first one on.
+-- `ticks_text` of snap_picture (src/frame.rt): what holds at the head of each of its loops.
 use Rattle.std.proofs.Common.{◌≡◌, ◌+◌, ◌-◌, ◌*◌, ◌≤◌}
 use Rattle.snap_text.specs.Drafted.{Adds}
 use Rattle.snap_picture.specs.FrameText.{ticks_text}

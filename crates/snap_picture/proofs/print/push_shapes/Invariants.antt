@@ -1,5 +1,4 @@
--- `push_shapes` of snap_picture (src/print.rt): what holds at the head of each of its loops. Appends the shapes that
--- are drawn, one after another: a later one lies above.
+-- `push_shapes` of snap_picture (src/print.rt): what holds at the head of each of its loops.
 use Rattle.std.proofs.Common.{◌≡◌, ◌++◌, drop}
 use Rattle.std.specs.Prelude.{false}
 use Rattle.snap_picture.specs.ShapeText.{shapes_text}

@@ -1,5 +1,4 @@
 -- `push_shape_lines` of snap_picture (src/shape_lines.rt): what holds at the head of each of its loops.
--- Adds the lines of the shapes that are drawn, one after another: a later one lies above.
 use Rattle.std.proofs.Common.{◌≡◌, ◌++◌, drop}
 use Rattle.std.specs.Prelude.{false}
 use Rattle.snap_picture.specs.ShapeLines.{shape_lines}

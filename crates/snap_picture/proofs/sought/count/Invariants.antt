@@ -1,5 +1,4 @@
--- `count` of snap_picture (src/sought.rt): what holds at the head of each of its loops. Returns how many shapes are
--- ones that are counted.
+-- `count` of snap_picture (src/sought.rt): what holds at the head of each of its loops.
 use Rattle.std.proofs.Common.{◌≡◌, ◌+◌, ◌≤◌, drop}
 use Rattle.snap_picture.specs.Picture.{counted}
 use Rattle.snap_picture.proofs.sought.count.Given as goal

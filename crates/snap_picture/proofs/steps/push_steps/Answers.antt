@@ -1,4 +1,4 @@
--- `push_steps` of snap_picture (src/steps.rt): the proof of what its contract says. Appends what is drawn of all steps.
+-- `push_steps` of snap_picture (src/steps.rt): the proof of what its contract says.
 use Rattle.std.proofs.Common.{◌≡◌, suc, ◌+◌, ◌<◌, ◌++◌, length, sym, ap, ◌∙◌, append_assoc, append-nil, arith}
 use Rattle.std.proofs.lemmas.List.{get_or_read}
 use Rattle.snap_acts.specs.Searches.{no_step}

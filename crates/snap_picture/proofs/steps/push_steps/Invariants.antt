@@ -1,5 +1,4 @@
--- `push_steps` of snap_picture (src/steps.rt): what holds at the head of each of its loops. Appends what is drawn of
--- all steps.
+-- `push_steps` of snap_picture (src/steps.rt): what holds at the head of each of its loops.
 use Rattle.std.proofs.Common.{◌≡◌, ◌++◌}
 use Rattle.snap_picture.specs.LastPlaces.{AreLast}
 use Rattle.snap_picture.specs.Shapes.{shapes_to}

@@ -1,5 +1,4 @@
--- `push_verdicts` of snap_picture (src/verdicts.rt): what holds at the head of each of its loops. Appends what is drawn
--- of verdicts.
+-- `push_verdicts` of snap_picture (src/verdicts.rt): what holds at the head of each of its loops.
 use Rattle.std.proofs.Common.{◌≡◌, ◌++◌, drop}
 use Rattle.snap_picture.specs.Shapes.{verdict_shapes}
 use Rattle.snap_picture.proofs.verdicts.push_verdicts.Given as goal

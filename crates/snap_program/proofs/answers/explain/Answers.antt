@@ -1,5 +1,4 @@
--- `explain` of snap_program (src/answers.rt): the proof of what its contract says. Says why nothing, or not all, was
--- written, explains it if that is wanted and there is memory for it, and returns the status.
+-- `explain` of snap_program (src/answers.rt): the proof of what its contract says.
 use Rattle.std.proofs.Common.{ℕ, List, ◌∙◌, subst}
 use Rattle.snap_faults.specs.Names.{Names, view_names}
 use Rattle.snap_faults.specs.Told.{TellsMore}

@@ -1,5 +1,4 @@
--- `request_by` of snap_program (src/arguments.rt): the proof of what its contract says. Returns the request of the
--- arguments of a subcommand.
+-- `request_by` of snap_program (src/arguments.rt): the proof of what its contract says.
 use Rattle.std.proofs.Common.{sym}
 use Rattle.clap.specs.Matches.{found_of}
 use Rattle.snap_program.proofs.OfSubcommand.{asked_by_subcommand}

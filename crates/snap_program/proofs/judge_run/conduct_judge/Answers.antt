@@ -1,5 +1,4 @@
--- `conduct_judge` of snap_program (src/judge_run.rt): the proof of what its contract says. Reads the input from
--- `source`, judges it, writes the judgement to `sink` and nothing else, and returns the word for it.
+-- `conduct_judge` of snap_program (src/judge_run.rt): the proof of what its contract says.
 use Rattle.std.specs.Prelude.{Ok}
 use Rattle.snap_program.specs.WholeRun.{IsJudgeOf, RefusesJudge, done_of}
 use Rattle.snap_program.proofs.Runs.{is_kept, not_read, passed_on, refused, sends, some_word, stops, why_judge}

@@ -1,6 +1,4 @@
--- `conduct_live` of snap_program (src/live_run.rt): the proof of what its contract says. Reads the input from `source`,
--- plays its scripts live, each process with at most `limit` turns before each of which `gate` is asked, and then writes
--- the history of that run to `sink` and nothing else.
+-- `conduct_live` of snap_program (src/live_run.rt): the proof of what its contract says.
 use Rattle.std.specs.Prelude.{Ok, Err}
 use Rattle.snap_live_output.specs.LiveOutput.{MayWrite}
 use Rattle.snap_program.specs.WholeRun.{IsLiveOf, RefusesLive}

@@ -1,6 +1,4 @@
--- `conduct_model` of snap_program (src/model_run.rt): the proof of what its contract says. Reads the input from
--- `source`, and writes the model of its listing and scripts to `sink`, in which at most `crashes` processes crash at
--- any time.
+-- `conduct_model` of snap_program (src/model_run.rt): the proof of what its contract says.
 use Rattle.snap_program.specs.ModelOutput.{MayModel, RefusesModel}
 use Rattle.snap_program.proofs.Runs.{is_kept, not_read, refused, sends, why_model}
 use Rattle.snap_program.proofs.model_run.conduct_model.Goals as goal

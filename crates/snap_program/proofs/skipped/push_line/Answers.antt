@@ -1,5 +1,5 @@
--- `push_line` of snap_program (src/skipped.rt): the proof of what its contract says, piece after piece. Appends a line
--- for a call that was skipped.
+-- `push_line` of snap_program (src/skipped.rt): the proof of what its contract says. The text is read back from its
+-- last piece to its first. Appends a line for a call that was skipped.
 use Rattle.std.proofs.Common.{append_assoc}
 use Rattle.snap_program.specs.Skipped.{skipped_line}
 use Rattle.snap_program.proofs.skipped.push_line.Goals as goal

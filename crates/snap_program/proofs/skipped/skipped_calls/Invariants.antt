@@ -1,5 +1,4 @@
--- `skipped_calls` of snap_program (src/skipped.rt): what holds at the head of each of its loops. Returns the calls that
--- the items of a run over registers of a kind skipped, in order.
+-- `skipped_calls` of snap_program (src/skipped.rt): what holds at the head of each of its loops.
 use Rattle.std.proofs.Common.{◌≡◌, ◌-◌, length}
 use Rattle.snap_runs.specs.Run.{run_over}
 use Rattle.snap_program.specs.Skipped.{skipped_calls}

@@ -1,6 +1,4 @@
--- `conduct_telling` of snap_program (src/told_run.rt): the proof of what its contract says. Reads the input from
--- `source`, writes the output of its run to `sink` and nothing else, and returns the text on the calls that the run
--- skipped.
+-- `conduct_telling` of snap_program (src/told_run.rt): the proof of what its contract says.
 use Rattle.std.specs.Prelude.{◌≡◌, [], Ok, Err}
 use Rattle.std.proofs.Common.{ap, refl}
 use Rattle.snap_faults.specs.Faults.{of_input_fault}

@@ -1,5 +1,4 @@
--- `conduct` of snap_program (src/whole_run.rt): the proof of what its contract says. Reads the input from `source`, and
--- then writes its whole output to `sink` and nothing else.
+-- `conduct` of snap_program (src/whole_run.rt): the proof of what its contract says.
 use Rattle.std.specs.Prelude.{Ok, Err}
 use Rattle.snap_program.specs.TaskRun.{IsOutcomeOf, IsOutputOf, RefusesTask}
 use Rattle.snap_program.proofs.Runs.{also, passed_whole}

@@ -1,6 +1,4 @@
--- `conduct_keeping` of snap_program (src/whole_run.rt): the proof of what its contract says. Does what `conduct` does,
--- and returns whether all runs that are surveyed are clean, as those of any other task are. The input is kept in
--- `kept`, even if it is refused.
+-- `conduct_keeping` of snap_program (src/whole_run.rt): the proof of what its contract says.
 use Rattle.std.specs.Prelude.{◌≡◌, Ok, Err}
 use Rattle.std.proofs.Common.{ap, refl}
 use Rattle.snap_faults.specs.Faults.{of_input_fault}

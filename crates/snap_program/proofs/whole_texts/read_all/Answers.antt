@@ -1,5 +1,4 @@
--- `read_all` of snap_program (src/whole_texts.rt): the proof of what its contract says. Reads `source` to its end, or
--- one byte more than is allowed.
+-- `read_all` of snap_program (src/whole_texts.rt): the proof of what its contract says.
 use Rattle.std.proofs.Common.{◌++◌, length-append, take, arith}
 use Rattle.std.proofs.KnownBytes.{Consumes-trans}
 use Rattle.std.proofs.lemmas.List.{length-take}

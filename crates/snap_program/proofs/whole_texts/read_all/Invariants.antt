@@ -1,5 +1,4 @@
--- `read_all` of snap_program (src/whole_texts.rt): what holds at the head of each of its loops. Reads `source` to its
--- end, or one byte more than is allowed.
+-- `read_all` of snap_program (src/whole_texts.rt): what holds at the head of each of its loops.
 use Rattle.std.proofs.Common.{◌-◌, ◌≡◌, ◌≤◌, false, vec_len}
 use Rattle.std.specs.Io.KnownBytes.{Consumes}
 use Rattle.snap_program.proofs.whole_texts.read_all.Given as goal

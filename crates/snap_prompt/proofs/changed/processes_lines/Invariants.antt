@@ -1,5 +1,4 @@
--- `processes_lines` of snap_prompt (src/changed.rt): what holds at the head of each of its loops. Appends the lines of
--- the processes, from process 1 on.
+-- `processes_lines` of snap_prompt (src/changed.rt): what holds at the head of each of its loops.
 use Rattle.std.proofs.Common.{◌≡◌, ◌++◌, ◌+◌, drop, false}
 use Rattle.snap_semantics.specs.Report.{processes_lines}
 use Rattle.snap_prompt.proofs.changed.processes_lines.Given as goal

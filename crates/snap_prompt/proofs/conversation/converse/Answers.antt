@@ -1,6 +1,4 @@
--- `converse` of snap_prompt (src/conversation.rt): the proof of what its contract says. Talks at `console` about
--- `program` under `schedule`, from the position before its first item, to `quit` or the end of the input: each line is
--- answered before the next prompt, and what is shown is a transcript of the lines.
+-- `converse` of snap_prompt (src/conversation.rt): the proof of what its contract says.
 use Rattle.std.proofs.Common.{ℕ, List, Option, IfSome}
 use Rattle.snap_streams.specs.Dialog.{IsBrokenOff, ShowsTranscriptPart}
 use Rattle.snap_streams.specs.Event.{Event}

@@ -1,5 +1,4 @@
--- `edited` of snap_prompt (src/edits.rt): the proof of what its contract says. Returns the first `count` items of
--- `schedule`, and those of `addition` behind them.
+-- `edited` of snap_prompt (src/edits.rt): the proof of what its contract says.
 use Rattle.std.proofs.Common.{List, ◌++◌, take, ap, ◌∙◌}
 use Rattle.snap_semantics.specs.Schedule.{form_items}
 use Rattle.snap_semantics.specs.declared.process.Item.{Item}

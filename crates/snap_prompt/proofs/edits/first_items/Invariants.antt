@@ -1,5 +1,4 @@
--- `first_items` of snap_prompt (src/edits.rt): what holds at the head of each of its loops. Returns the first
--- `count` of `items`.
+-- `first_items` of snap_prompt (src/edits.rt): what holds at the head of each of its loops.
 use Rattle.std.proofs.Common.{◌≡◌, ◌≤◌, ◌-◌, ◌++◌, length}
 use Rattle.snap_prompt.proofs.edits.first_items.Given as goal
 

@@ -1,5 +1,4 @@
--- `last_number` of snap_prompt (src/hints.rt): what holds at the head of each of its loops. Returns the number of the
--- last of `lines`, and 0 if there is none.
+-- `last_number` of snap_prompt (src/hints.rt): what holds at the head of each of its loops.
 use Rattle.std.proofs.Common.{◌≡◌, drop}
 use Rattle.snap_prompt.specs.Hints.{last_number}
 use Rattle.snap_prompt.proofs.hints.last_number.Given as goal

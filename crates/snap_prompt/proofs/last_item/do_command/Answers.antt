@@ -1,5 +1,4 @@
 -- `do_command` of snap_prompt (src/last_item.rt): the proof of what its contract says.
--- Does a command; the run stays the same.
 use Rattle.std.proofs.Common.{ℕ, List}
 use Rattle.snap_prompt.proofs.KeepsRun.{keeps_run}
 use Rattle.snap_prompt.proofs.last_item.do_command.Goals as goal

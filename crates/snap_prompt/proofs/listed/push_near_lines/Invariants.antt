@@ -1,5 +1,4 @@
--- `push_near_lines` of snap_prompt (src/listed.rt): what holds at the head of each of its loops. Appends the lines that
--- are near.
+-- `push_near_lines` of snap_prompt (src/listed.rt): what holds at the head of each of its loops.
 use Rattle.std.proofs.Common.{◌≡◌, ◌++◌, drop, false}
 use Rattle.snap_prompt.specs.Listed.{near_lines}
 use Rattle.snap_prompt.proofs.listed.push_near_lines.Given as goal

@@ -1,5 +1,4 @@
--- `count_steps` of snap_prompt (src/steps.rt): the proof of what its contract says. Lets a process step to a goal, and
--- returns how many steps it took, at most `most`.
+-- `count_steps` of snap_prompt (src/steps.rt): the proof of what its contract says.
 use Rattle.std.proofs.Common.{◌∙◌, true, false, arith}
 use Rattle.snap_semantics.specs.State.{process_at}
 use Rattle.snap_prompt.specs.Reach.{steps_from}

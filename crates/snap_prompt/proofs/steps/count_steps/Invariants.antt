@@ -1,5 +1,4 @@
--- `count_steps` of snap_prompt (src/steps.rt): what holds at the head of each of its loops. Lets a process step to a
--- goal, and returns how many steps it took, at most `most`.
+-- `count_steps` of snap_prompt (src/steps.rt): what holds at the head of each of its loops.
 use Rattle.std.proofs.Common.{◌≡◌, ◌-◌}
 use Rattle.snap_prompt.specs.Reach.{steps_from}
 use Rattle.snap_prompt.proofs.steps.count_steps.Given as goal

@@ -1,5 +1,4 @@
--- `steps_to` of snap_prompt (src/steps.rt): the proof of what its contract says. Returns how many steps process
--- `process` takes to `goal` from where `session` stands, or why it takes none.
+-- `steps_to` of snap_prompt (src/steps.rt): the proof of what its contract says.
 use Rattle.std.proofs.Common.{rules, ◌≡◌, sym, subst}
 use Rattle.snap_prompt.specs.Reach.{IsRightOf, steps_to}
 use Rattle.snap_prompt.proofs.Fewest.{right}

@@ -1,5 +1,4 @@
--- `behind_line` of snap_prompt (src/typed.rt): what holds at the head of each of its loops. Returns what stands behind
--- the first line of a text.
+-- `behind_line` of snap_prompt (src/typed.rt): what holds at the head of each of its loops.
 use Rattle.std.proofs.Common.{◌≡◌, length}
 use Rattle.snap_prompt.specs.Typed.{behind_line}
 use Rattle.snap_prompt.proofs.typed.behind_line.Given as goal

@@ -1,5 +1,4 @@
--- `form_in` of snap_prompt (src/typed.rt): what holds at the head of each of its loops. Returns the text in the first
--- row of a word, and an empty text if there is none.
+-- `form_in` of snap_prompt (src/typed.rt): what holds at the head of each of its loops.
 use Rattle.std.proofs.Common.{◌≡◌, [], drop, map}
 use Rattle.snap_explanation.specs.Said.{view_row, by_word}
 use Rattle.snap_prompt.proofs.typed.form_in.Given as goal

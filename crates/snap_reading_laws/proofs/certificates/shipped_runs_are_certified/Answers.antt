@@ -1,6 +1,4 @@
 -- `shipped_runs_are_certified` of snap_reading_laws (src/certificates.rt): the proof of what its contract says.
--- Every run of U, B and M is certified, by the line at which the updates of its listing write; of U as long as its
--- sequence numbers suffice.
 use Rattle.snap_reading_laws.proofs.certificates.Kept.{of_promises}
 use Rattle.snap_reading_laws.proofs.certificates.shipped_runs_are_certified.Goals as goal
 

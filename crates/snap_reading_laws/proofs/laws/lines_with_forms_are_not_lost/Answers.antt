@@ -1,5 +1,4 @@
 -- `lines_with_forms_are_not_lost` of snap_reading_laws (src/laws.rt): the proof of what its contract says.
--- A line that has a form of its sort is not lost: a header line, a shape, an item, a line of scripts or a command.
 use Rattle.snap_reading_laws.proofs.NotLost.{not_lost}
 use Rattle.snap_reading_laws.proofs.laws.lines_with_forms_are_not_lost.Goals as goal
 

@@ -1,5 +1,4 @@
 -- `b_is_silent` of snap_reading_laws (src/warnings.rt): the proof of what its contract says.
--- Nothing is warned of in listing B.
 use Rattle.std.proofs.Common.{refl}
 use Rattle.snap_lint.specs.Marks.{reached}
 use Rattle.snap_lint.specs.Warnings.{warnings}

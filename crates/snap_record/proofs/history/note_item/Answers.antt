@@ -1,5 +1,4 @@
--- `note_item` of snap_record (src/history.rt): the proof of what its contract says. Notes the values after an item,
--- which leaves `machine`.
+-- `note_item` of snap_record (src/history.rt): the proof of what its contract says.
 use Rattle.std.proofs.Common.{append-nil, sym, ◌∙◌, ap, ◌++◌}
 use Rattle.snap_record.specs.History.{changes_to}
 use Rattle.snap_record.proofs.Recording.{none_changed}

@@ -1,5 +1,4 @@
 -- `note_values` of snap_record (src/history.rt): the proof of what its contract says.
--- Notes the changes of values to those of a machine.
 use Rattle.std.proofs.Common.{◌≡◌, length, refl, sym, ap, ◌∙◌, arith}
 use Rattle.std.proofs.lemmas.List.{length-map}
 use Rattle.snap_words.specs.Shape.{Counts}

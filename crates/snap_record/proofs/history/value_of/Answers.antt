@@ -1,5 +1,4 @@
--- `value_of` of snap_record (src/history.rt): the proof of what its contract says. Returns the value at place `k`,
--- counted from 0.
+-- `value_of` of snap_record (src/history.rt): the proof of what its contract says.
 use Rattle.std.proofs.Common.{◌+◌, Some, refl, ap, ◌∙◌}
 use Rattle.snap_machine.specs.SeenContents.{seen_contents}
 use Rattle.snap_machine.specs.declared.contents.Contents.{Contents}

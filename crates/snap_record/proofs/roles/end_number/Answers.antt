@@ -1,5 +1,4 @@
--- `end_number` of snap_record (src/roles.rt): the proof of what its contract says. Returns the number after that of the
--- last line.
+-- `end_number` of snap_record (src/roles.rt): the proof of what its contract says.
 use Rattle.std.proofs.Common.{List, ◌∙◌, ◌+◌, ◌-◌, ap, length, slice_get, subst}
 use Rattle.snap_semantics.specs.declared.instr.Line.{Line}
 use Rattle.snap_semantics.specs.Source.{Source}

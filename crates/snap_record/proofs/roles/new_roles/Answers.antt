@@ -1,5 +1,4 @@
--- `new_roles` of snap_record (src/roles.rt): the proof of what its contract says. Returns the roles of the lines of
--- `program`, by their numbers.
+-- `new_roles` of snap_record (src/roles.rt): the proof of what its contract says.
 use Rattle.std.proofs.Common.{[], ◌∷◌, ◌∙◌, length, ap, arith}
 use Rattle.std.proofs.lemmas.List.{length-append}
 use Rattle.snap_semantics.specs.Source.{Source, instr_at}

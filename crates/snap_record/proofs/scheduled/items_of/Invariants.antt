@@ -1,5 +1,4 @@
 -- `items_of` of snap_record (src/scheduled.rt): what holds at the head of each of its loops.
--- Returns the items of a history, as a schedule keeps them.
 use Rattle.std.proofs.Common.{◌≡◌, take}
 use Rattle.snap_record.proofs.scheduled.items_of.Given as goal
 

@@ -1,5 +1,4 @@
--- `push_next` of snap_record (src/scheduled.rt): the proof of what its contract says. Appends the item of a history
--- behind its first `t` items.
+-- `push_next` of snap_record (src/scheduled.rt): the proof of what its contract says.
 use Rattle.std.proofs.Common.{List, [], ◌∷◌, ◌++◌, ◌∙◌, ap, sym}
 use Rattle.snap_semantics.specs.declared.process.Item.{Item}
 use Rattle.snap_record.proofs.FirstItems.{one_more}

@@ -1,6 +1,4 @@
--- `collects_until` of snap_record (src/search.rt): what holds at the head of each of its loops. Returns how many double
--- collects process `i` had made at its first answer among the events from place `from` on; `all` where it has none
--- there.
+-- `collects_until` of snap_record (src/search.rt): what holds at the head of each of its loops.
 use Rattle.std.proofs.Common.{◌≡◌, ◌-◌, drop, length}
 use Rattle.snap_runs.specs.Run.{Run}
 use Rattle.snap_record.specs.Searches.{collects_until}

@@ -1,5 +1,4 @@
 -- `make_change` of snap_record (src/walk.rt): the proof of what its contract says.
--- Makes a change.
 use Rattle.std.proofs.Common.{length, ap, arith}
 use Rattle.snap_record.proofs.Walks.{set_past}
 use Rattle.snap_record.proofs.walk.make_change.Goals as goal

@@ -1,5 +1,4 @@
--- `what_is_put_is_there` of snap_regs (src/laws.rt): the proof of what its contract says. A value that is put into a
--- register is read there, and the registers of all other addresses are as they were.
+-- `what_is_put_is_there` of snap_regs (src/laws.rt): the proof of what its contract says.
 use Rattle.snap_regs.proofs.Contents.{put_is_there, others_stay}
 use Rattle.snap_regs.proofs.laws.what_is_put_is_there.Goals as goal
 

@@ -1,5 +1,4 @@
--- `initial_words` of snap_regs (src/registers.rt): what holds at the head of each of its loops. Returns a word for each
--- place of the shape, none of them written.
+-- `initial_words` of snap_regs (src/registers.rt): what holds at the head of each of its loops.
 use Rattle.std.proofs.Common.{◌≡◌, replicate}
 use Rattle.std.specs.Prelude.{map}
 use Rattle.snap_words.specs.Kind.{initial_word}

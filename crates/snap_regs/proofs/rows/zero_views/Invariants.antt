@@ -1,5 +1,4 @@
--- `zero_views` of snap_regs (src/rows.rt): what holds at the head of each of its loops. Returns `count` views of
--- `places` zeros.
+-- `zero_views` of snap_regs (src/rows.rt): what holds at the head of each of its loops.
 use Rattle.std.proofs.Common.{◌≡◌, replicate}
 use Rattle.snap_regs.proofs.rows.zero_views.Given as goal
 

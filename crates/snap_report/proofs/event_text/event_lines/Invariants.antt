@@ -1,5 +1,4 @@
--- `event_lines` of snap_report (src/event_text.rt): what holds at the head of each of its loops. Appends the lines of
--- events.
+-- `event_lines` of snap_report (src/event_text.rt): what holds at the head of each of its loops.
 use Rattle.std.proofs.Common.{◌≡◌, ◌++◌, drop, false}
 use Rattle.snap_semantics.specs.Report.{event_lines}
 use Rattle.snap_report.proofs.event_text.event_lines.Given as goal

@@ -1,5 +1,4 @@
--- `head_lines` of snap_report (src/outcomes.rt): what holds at the head of each of its loops. Appends the status of
--- each process, from process 1 on.
+-- `head_lines` of snap_report (src/outcomes.rt): what holds at the head of each of its loops.
 use Rattle.std.proofs.Common.{◌≡◌, ◌++◌, ◌+◌, drop, false}
 use Rattle.snap_report.specs.OutcomeText.{head_lines}
 use Rattle.snap_report.proofs.outcomes.head_lines.Given as goal

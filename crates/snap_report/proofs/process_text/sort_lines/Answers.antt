@@ -1,5 +1,4 @@
--- `sort_lines` of snap_report (src/process_text.rt): the proof of what its contract says. Appends the lines of the
--- locals of a sort of process i.
+-- `sort_lines` of snap_report (src/process_text.rt): the proof of what its contract says.
 use Rattle.std.proofs.Common.{◌++◌, ◌∙◌, ap}
 use Rattle.snap_words.specs.declared.kind.KindTag.{KindTag}
 use Rattle.snap_semantics.specs.Source.{Source}

@@ -1,5 +1,4 @@
--- `sort_lines` of snap_report (src/process_text.rt): what holds at the head of each of its loops. Appends the lines of
--- the locals of a sort of process i.
+-- `sort_lines` of snap_report (src/process_text.rt): what holds at the head of each of its loops.
 use Rattle.std.proofs.Common.{◌≡◌, ◌++◌, ◌-◌, false}
 use Rattle.snap_semantics.specs.State.{process_at}
 use Rattle.snap_report.specs.ReportLines.{sort_lines}

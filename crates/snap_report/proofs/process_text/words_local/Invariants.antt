@@ -1,5 +1,4 @@
--- `words_local` of snap_report (src/process_text.rt): what holds at the head of each of its loops. Appends the places
--- of a `words` local.
+-- `words_local` of snap_report (src/process_text.rt): what holds at the head of each of its loops.
 use Rattle.std.proofs.Common.{◌≡◌, ◌++◌, ◌+◌, ◌-◌, drop, length, map, false}
 use Rattle.snap_semantics.specs.Report.{words_local}
 use Rattle.snap_report.proofs.process_text.words_local.Given as goal

@@ -1,5 +1,4 @@
--- `bank_lines` of snap_report (src/register_text.rt): what holds at the head of each of its loops. Appends the lines of
--- a bank of bits, row by row.
+-- `bank_lines` of snap_report (src/register_text.rt): what holds at the head of each of its loops.
 use Rattle.std.proofs.Common.{◌≡◌, ◌++◌, ◌+◌, drop, false}
 use Rattle.snap_semantics.specs.Report.{bank_lines}
 use Rattle.snap_report.specs.ReportLines.{bank_text, rows_of}

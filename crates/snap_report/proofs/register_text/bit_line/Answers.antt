@@ -1,4 +1,5 @@
--- `bit_line` of snap_report (src/register_text.rt): the proof of what its contract says, piece after piece.
+-- `bit_line` of snap_report (src/register_text.rt): the proof of what its contract says. The text is read back from its
+-- last piece to its first.
 use Rattle.std.proofs.Common.{append_assoc}
 use Rattle.snap_report.proofs.register_text.bit_line.Goals as goal
 

@@ -1,5 +1,4 @@
--- `row_lines` of snap_report (src/register_text.rt): the proof of what its contract says. Appends the lines of the bits
--- of row i of a bank, from place 1 on.
+-- `row_lines` of snap_report (src/register_text.rt): the proof of what its contract says.
 use Rattle.std.proofs.Common.{◌≤◌, ◌∙◌, length, refl, ap, arith}
 use Rattle.snap_words.specs.Shape.{Counts}
 use Rattle.snap_semantics.specs.Report.{bit_line, row_lines}

@@ -1,5 +1,4 @@
--- `row_lines` of snap_report (src/register_text.rt): what holds at the head of each of its loops. Appends the lines of
--- the bits of row i of a bank, from place 1 on.
+-- `row_lines` of snap_report (src/register_text.rt): what holds at the head of each of its loops.
 use Rattle.std.proofs.Common.{◌≡◌, ◌++◌, ◌+◌, drop, false}
 use Rattle.snap_semantics.specs.Report.{row_lines}
 use Rattle.snap_report.specs.ReportLines.{bank_text, row_at}

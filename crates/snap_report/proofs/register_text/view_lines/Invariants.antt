@@ -1,5 +1,4 @@
--- `view_lines` of snap_report (src/register_text.rt): what holds at the head of each of its loops. Appends the lines of
--- the views, from v[1] on.
+-- `view_lines` of snap_report (src/register_text.rt): what holds at the head of each of its loops.
 use Rattle.std.proofs.Common.{◌≡◌, ◌++◌, ◌+◌, drop, false}
 use Rattle.snap_semantics.specs.Report.{view_lines}
 use Rattle.snap_report.proofs.register_text.view_lines.Given as goal

@@ -1,5 +1,4 @@
--- `word_lines` of snap_report (src/register_text.rt): the proof of what its contract says. Appends the lines of the
--- words, from r[1] on.
+-- `word_lines` of snap_report (src/register_text.rt): the proof of what its contract says.
 use Rattle.std.proofs.Common.{◌≤◌, ◌∙◌, length, refl, ap, arith}
 use Rattle.snap_words.specs.Shape.{Counts}
 use Rattle.snap_semantics.specs.Report.{word_line, word_lines}

@@ -1,5 +1,4 @@
--- `word_lines` of snap_report (src/register_text.rt): what holds at the head of each of its loops. Appends the lines of
--- the words, from r[1] on.
+-- `word_lines` of snap_report (src/register_text.rt): what holds at the head of each of its loops.
 use Rattle.std.proofs.Common.{◌≡◌, ◌++◌, ◌+◌, drop, false}
 use Rattle.snap_semantics.specs.Report.{word_lines}
 use Rattle.snap_report.proofs.register_text.word_lines.Given as goal

@@ -1,4 +1,5 @@
--- `report` of snap_report (src/reports.rt): the proof of what its contract says, piece after piece.
+-- `report` of snap_report (src/reports.rt): the proof of what its contract says. The text is read back from its last
+-- piece to its first.
 use Rattle.std.proofs.Common.{◌≡◌, ◌++◌, ℕ, List, append_assoc}
 use Rattle.snap_report.specs.ReportLines.{first_line}
 use Rattle.snap_report.proofs.reports.report.Goals as goal

@@ -1,5 +1,4 @@
--- `push_handshakes` of snap_report (src/word_text.rt): what holds at the head of each of its loops. Appends each
--- handshake bit behind a space.
+-- `push_handshakes` of snap_report (src/word_text.rt): what holds at the head of each of its loops.
 use Rattle.std.proofs.Common.{◌≡◌, ◌++◌, drop, false}
 use Rattle.snap_semantics.specs.Report.{numbers_text}
 use Rattle.snap_report.proofs.word_text.push_handshakes.Given as goal

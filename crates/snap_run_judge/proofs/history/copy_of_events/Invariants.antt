@@ -1,5 +1,4 @@
 -- `copy_of_events` of snap_run_judge (src/history.rt): what holds at the head of each of its loops.
--- Returns a copy of the events.
 use Rattle.std.proofs.Common.{◌≡◌, ◌++◌, drop}
 use Rattle.snap_run_judge.proofs.history.copy_of_events.Given as goal
 

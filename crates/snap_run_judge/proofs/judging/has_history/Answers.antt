@@ -1,5 +1,4 @@
 -- `has_history` of snap_run_judge (src/judging.rt): the proof of what its contract says.
--- The events of the run of a record are a history.
 use Rattle.std.proofs.Common.{◌∙◌, ap, subst}
 use Rattle.snap_semantics.specs.IsListing.{IsListing}
 use Rattle.snap_machine.specs.Configuration.{Configuration}

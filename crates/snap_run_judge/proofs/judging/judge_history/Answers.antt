@@ -1,5 +1,4 @@
--- `judge_history` of snap_run_judge (src/judging.rt): the proof of what its contract says. Judges whether the run of
--- `program` that has the history `history` is linearizable, and if it is not, at which event it fails.
+-- `judge_history` of snap_run_judge (src/judging.rt): the proof of what its contract says.
 use Rattle.std.proofs.Common.{ℕ, ◌∙◌, subst, sym}
 use Rattle.snap_semantics.specs.IsListing.{IsListing}
 use Rattle.snap_judge.specs.History.{History, IsHistory}

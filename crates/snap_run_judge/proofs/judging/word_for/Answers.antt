@@ -1,5 +1,4 @@
 -- `word_for` of snap_run_judge (src/judging.rt): the proof of what its contract says.
--- Returns the word for a judgement of the run of a record, which says what is so of the run.
 use Rattle.std.proofs.Common.{subst, sym}
 use Rattle.snap_run_judge.specs.RunJudgement.{IsLinearizabilityOf}
 use Rattle.snap_run_judge.proofs.Words.{word_is}

@@ -1,5 +1,4 @@
--- `push_segments` of snap_sched (src/canonical_text.rt): what holds at the head of each of its loops. Appends the lines
--- of segments.
+-- `push_segments` of snap_sched (src/canonical_text.rt): what holds at the head of each of its loops.
 use Rattle.std.proofs.Common.{◌≡◌, ◌++◌, map}
 use Rattle.snap_semantics.specs.ScheduleText.{forms_text}
 use Rattle.snap_sched.specs.Segments.{segment_form}

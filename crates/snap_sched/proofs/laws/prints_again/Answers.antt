@@ -1,5 +1,4 @@
 -- `prints_again` of snap_sched (src/laws.rt): the proof of what its contract says.
--- What is printed of a schedule is read as that schedule.
 use Rattle.snap_sched.proofs.Round.{printed_again}
 use Rattle.snap_sched.proofs.laws.prints_again.Goals as goal
 

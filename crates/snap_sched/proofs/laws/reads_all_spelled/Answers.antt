@@ -1,5 +1,4 @@
 -- `reads_all_spelled` of snap_sched (src/laws.rt): the proof of what its contract says.
--- Every schedule is read from every text that spells it, however its steps are split into lines.
 use Rattle.snap_sched.proofs.Again.{spelled_is_read}
 use Rattle.snap_sched.proofs.laws.reads_all_spelled.Goals as goal
 

@@ -1,5 +1,4 @@
--- `reads_only_spelled` of snap_sched (src/laws.rt): the proof of what its contract says. Whatever is read is a
--- schedule, and its text spells it.
+-- `reads_only_spelled` of snap_sched (src/laws.rt): the proof of what its contract says.
 use Rattle.snap_sched.proofs.Fitting.{read_is_spelled_and_fits}
 use Rattle.snap_sched.proofs.laws.reads_only_spelled.Goals as goal
 

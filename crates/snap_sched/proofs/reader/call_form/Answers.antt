@@ -1,4 +1,4 @@
--- `call_form` of snap_sched (src/reader.rt): the proof of what its contract says. Returns the form of a call.
+-- `call_form` of snap_sched (src/reader.rt): the proof of what its contract says.
 use Rattle.snap_sched.proofs.Again.{call_again}
 use Rattle.snap_sched.proofs.reader.call_form.Goals as goal
 

@@ -1,4 +1,4 @@
--- `items_of` of snap_sched (src/reader.rt): the proof of what its contract says. Reads the items of the lines.
+-- `items_of` of snap_sched (src/reader.rt): the proof of what its contract says.
 use Rattle.std.proofs.Common.{ap, sym, ◌∙◌, Err}
 use Rattle.snap_words.specs.Shape.{max_items}
 use Rattle.snap_semantics.specs.Schedule.{items_of}

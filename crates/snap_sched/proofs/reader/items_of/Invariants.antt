@@ -1,4 +1,4 @@
--- `items_of` of snap_sched (src/reader.rt): what holds at the head of each of its loops. Reads the items of the lines.
+-- `items_of` of snap_sched (src/reader.rt): what holds at the head of each of its loops.
 use Rattle.std.proofs.Common.{◌≡◌, ◌≤◌, length}
 use Rattle.std.specs.List.{AllByRecursion}
 use Rattle.snap_words.specs.Shape.{IsOneOf}

@@ -1,5 +1,4 @@
--- `numbers_form` of snap_sched (src/reader.rt): the proof of what its contract says. Returns the form of a line of one
--- or two numbers.
+-- `numbers_form` of snap_sched (src/reader.rt): the proof of what its contract says.
 use Rattle.std.proofs.Common.{◌≡◌, ap, ◌∙◌, Some}
 use Rattle.snap_semantics.specs.ScheduleForms.{item_form}
 use Rattle.snap_text.specs.Numbers.{number_tokens}

@@ -1,5 +1,4 @@
--- `push_step_lines` of snap_sched (src/reader.rt): the proof of what its contract says. Appends the items of the next
--- lines, as long as each is `I` or `I*K` with no space or comment, as most lines are.
+-- `push_step_lines` of snap_sched (src/reader.rt): the proof of what its contract says.
 use Rattle.std.proofs.Common.{◌≡◌, ◌-◌, length, ap, sym, ◌∙◌, Ok, arith}
 use Rattle.snap_text.specs.Numbers.{view_numbers}
 use Rattle.snap_sched.specs.ReaderSteps.{view_form, line_form}

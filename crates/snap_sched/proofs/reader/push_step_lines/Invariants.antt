@@ -1,5 +1,4 @@
--- `push_step_lines` of snap_sched (src/reader.rt): what holds at the head of each of its loops. Appends the items of
--- the next lines, as long as each is `I` or `I*K` with no space or comment, as most lines are.
+-- `push_step_lines` of snap_sched (src/reader.rt): what holds at the head of each of its loops.
 use Rattle.std.proofs.Common.{◌≡◌, ◌≤◌, length}
 use Rattle.std.specs.List.{AllByRecursion}
 use Rattle.snap_words.specs.Shape.{IsOneOf}

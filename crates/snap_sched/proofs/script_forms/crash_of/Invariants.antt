@@ -1,5 +1,4 @@
--- `crash_of` of snap_sched (src/script_forms.rt): what holds at the head of each of its loops. Returns the turn at
--- which `process` crashes, if it does.
+-- `crash_of` of snap_sched (src/script_forms.rt): what holds at the head of each of its loops.
 use Rattle.std.proofs.Common.{◌≡◌, drop}
 use Rattle.snap_sched.specs.ScriptForms.{crash_of}
 use Rattle.snap_sched.proofs.script_forms.crash_of.Given as goal

@@ -1,5 +1,4 @@
--- `ops_of` of snap_sched (src/script_forms.rt): what holds at the head of each of its loops. Returns the operations
--- that `process` calls, in order.
+-- `ops_of` of snap_sched (src/script_forms.rt): what holds at the head of each of its loops.
 use Rattle.std.proofs.Common.{◌≡◌, ◌++◌, drop}
 use Rattle.snap_sched.specs.ScriptForms.{ops_of}
 use Rattle.snap_sched.proofs.script_forms.ops_of.Given as goal

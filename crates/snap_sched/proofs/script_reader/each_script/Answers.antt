@@ -1,5 +1,4 @@
--- `each_script` of snap_sched (src/script_reader.rt): the proof of what its contract says. Returns the scripts of `n`
--- processes.
+-- `each_script` of snap_sched (src/script_reader.rt): the proof of what its contract says.
 use Rattle.std.proofs.Common.{◌<◌, ◌∙◌, arith}
 use Rattle.snap_sched.proofs.Told.{script_told, one_longer}
 use Rattle.snap_sched.proofs.script_reader.each_script.Goals as goal

@@ -1,5 +1,4 @@
--- `each_script` of snap_sched (src/script_reader.rt): what holds at the head of each of its loops. Returns the scripts
--- of `n` processes.
+-- `each_script` of snap_sched (src/script_reader.rt): what holds at the head of each of its loops.
 use Rattle.std.proofs.Common.{◌≡◌, ◌≤◌, ◌+◌, ◌-◌, ◌++◌, length}
 use Rattle.snap_sched.specs.ScriptText.{scripts_from}
 use Rattle.snap_sched.proofs.script_reader.each_script.Given as goal

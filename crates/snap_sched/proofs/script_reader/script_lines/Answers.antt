@@ -1,5 +1,4 @@
--- `script_lines` of snap_sched (src/script_reader.rt): the proof of what its contract says. Reads the forms of the
--- lines.
+-- `script_lines` of snap_sched (src/script_reader.rt): the proof of what its contract says.
 use Rattle.std.proofs.Common.{◌≡◌, ap, sym, ◌∙◌, Ok}
 use Rattle.snap_text.specs.Lines.{view_line}
 use Rattle.snap_sched.specs.ScriptText.{script_line}

@@ -1,5 +1,4 @@
--- `script_lines` of snap_sched (src/script_reader.rt): what holds at the head of each of its loops. Reads the forms of
--- the lines.
+-- `script_lines` of snap_sched (src/script_reader.rt): what holds at the head of each of its loops.
 use Rattle.std.proofs.Common.{◌≡◌, [], length}
 use Rattle.snap_sched.specs.ScriptText.{script_lines}
 use Rattle.snap_sched.proofs.script_reader.script_lines.Given as goal

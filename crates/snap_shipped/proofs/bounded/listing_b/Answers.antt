@@ -1,4 +1,4 @@
--- `listing_b` of snap_shipped (src/bounded.rt): the proof of what its contract says. Reads listing B from its text.
+-- `listing_b` of snap_shipped (src/bounded.rt): the proof of what its contract says.
 use Rattle.snap_listing.proofs.KnownListings.{is_listing_text, if_read}
 use Rattle.snap_runs_of_b.specs.ListingB.{listing_b}
 use Rattle.snap_shipped.proofs.TextOfB.{text, text_is_b}

@@ -1,4 +1,4 @@
--- `text_b` of snap_shipped (src/bounded.rt): the proof of what its contract says. Returns the text of listing B.
+-- `text_b` of snap_shipped (src/bounded.rt): the proof of what its contract says.
 use Rattle.snap_shipped.proofs.TextOfB.{text_is_b}
 use Rattle.snap_shipped.proofs.bounded.text_b.Goals as goal
 

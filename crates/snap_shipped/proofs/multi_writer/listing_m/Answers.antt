@@ -1,5 +1,4 @@
--- `listing_m` of snap_shipped (src/multi_writer.rt): the proof of what its contract says. Reads listing M from its
--- text.
+-- `listing_m` of snap_shipped (src/multi_writer.rt): the proof of what its contract says.
 use Rattle.snap_listing.proofs.KnownListings.{is_listing_text, if_read}
 use Rattle.snap_runs_of_m.specs.ListingM.{listing_m}
 use Rattle.snap_shipped.proofs.TextOfM.{text, text_is_m}

@@ -1,4 +1,4 @@
--- `listing_u` of snap_shipped (src/unbounded.rt): the proof of what its contract says. Reads listing U from its text.
+-- `listing_u` of snap_shipped (src/unbounded.rt): the proof of what its contract says.
 use Rattle.snap_listing.proofs.KnownListings.{is_listing_text, if_read}
 use Rattle.snap_runs_of_u.specs.ListingU.{listing_u}
 use Rattle.snap_shipped.proofs.TextOfU.{text, text_is_u}

@@ -1,5 +1,4 @@
--- `read_below` of snap_streams (src/read.rt): the proof of what its contract says. Reads `reader` to its end, and
--- returns its bytes if they are fewer than `most`; `None` otherwise.
+-- `read_below` of snap_streams (src/read.rt): the proof of what its contract says.
 use Rattle.std.proofs.Common.{◌≡◌, ℕ, ◌<◌, List, [], ◌++◌, length, take, Option, Some}
 use Rattle.std.proofs.Common.{None, IfSome, ap, ◌∙◌, subst, arith}
 use Rattle.std.proofs.lemmas.Grind.{common_steps}

@@ -1,4 +1,4 @@
--- `write_all` of snap_streams (src/sending.rt): the proof of what its contract says. Writes all of `text` to `sink`.
+-- `write_all` of snap_streams (src/sending.rt): the proof of what its contract says.
 use Rattle.std.proofs.Common.{◌≡◌, ◌≢◌, ◌==◌, ◌∙◌, ℕ, false, take, drop, arith}
 use Rattle.std.proofs.lemmas.Grind.{common_steps}
 use Rattle.std.proofs.lemmas.List.{length-drop, take_rest}

@@ -1,5 +1,4 @@
--- `write_all` of snap_streams (src/sending.rt): what holds at the head of each of its loops. Writes all of `text` to
--- `sink`.
+-- `write_all` of snap_streams (src/sending.rt): what holds at the head of each of its loops.
 use Rattle.std.proofs.Common.{length, ◌-◌, ◌≡◌, ◌≤◌, false, take}
 use Rattle.std.specs.Io.KnownBytes.{Appends}
 use Rattle.snap_streams.proofs.sending.write_all.Given as goal

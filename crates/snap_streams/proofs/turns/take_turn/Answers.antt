@@ -1,5 +1,4 @@
--- `take_turn` of snap_streams (src/turns.rt): the proof of what its contract says. Takes one turn: shows the prompt,
--- reads a line, and shows its answer, in that order; and returns whether another turn follows.
+-- `take_turn` of snap_streams (src/turns.rt): the proof of what its contract says.
 use Rattle.std.proofs.Common.{◌∙◌, refl}
 use Rattle.snap_streams.proofs.Dialogs.{of_copy, turn_passed, turn_shown}
 use Rattle.snap_streams.proofs.Parts.{answer_left, into_empty, none_passed, on_err, prompt_alone}

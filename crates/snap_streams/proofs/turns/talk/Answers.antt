@@ -1,5 +1,4 @@
--- `talk` of snap_streams (src/turns.rt): the proof of what its contract says. Talks with `partner` at `console` until
--- the dialog ends.
+-- `talk` of snap_streams (src/turns.rt): the proof of what its contract says.
 use Rattle.snap_streams.proofs.Dialogs.{passed_all, passed_more, shown_all, shown_more}
 use Rattle.snap_streams.proofs.Parts.{between_turns, on_err, shown_between, shown_within, turn_taken, within_turn}
 use Rattle.snap_streams.proofs.turns.talk.Goals as goal

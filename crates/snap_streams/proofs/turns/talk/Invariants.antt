@@ -1,5 +1,4 @@
--- `talk` of snap_streams (src/turns.rt): what holds at the head of each of its loops. Talks with `partner` at `console`
--- until the dialog ends.
+-- `talk` of snap_streams (src/turns.rt): what holds at the head of each of its loops.
 use Rattle.std.specs.Prelude.{◌≡◌, None}
 use Rattle.snap_streams.specs.Talks.{HasPassed, HasShown, HasTaken}
 use Rattle.snap_streams.proofs.turns.talk.Given as goal

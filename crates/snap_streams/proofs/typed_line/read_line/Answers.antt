@@ -1,5 +1,4 @@
--- `read_line` of snap_streams (src/typed_line.rt): the proof of what its contract says. Reads a line up to and with its
--- line feed, or to the end of the input.
+-- `read_line` of snap_streams (src/typed_line.rt): the proof of what its contract says.
 use Rattle.std.proofs.Common.{subst}
 use Rattle.snap_streams.specs.TypedLines.{GivesNext}
 use Rattle.snap_streams.proofs.Lines.{kept_on, line_at_end}

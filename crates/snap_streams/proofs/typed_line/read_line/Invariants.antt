@@ -1,5 +1,4 @@
--- `read_line` of snap_streams (src/typed_line.rt): what holds at the head of each of its loops. Reads a line up to and
--- with its line feed, or to the end of the input.
+-- `read_line` of snap_streams (src/typed_line.rt): what holds at the head of each of its loops.
 use Rattle.std.specs.Prelude.{◌≡◌, false}
 use Rattle.snap_streams.specs.Talks.{HasKept, HasTaken}
 use Rattle.snap_streams.proofs.typed_line.read_line.Given as goal

@@ -1,5 +1,4 @@
--- `survey_in_threads` of snap_survey (src/in_threads.rt): the proof of what its contract says. Returns what the runs of
--- a listing under many schedules came to, and whether each of them is clean.
+-- `survey_in_threads` of snap_survey (src/in_threads.rt): the proof of what its contract says.
 use Rattle.std.proofs.Common.{map, sym}
 use Rattle.snap_input.specs.Parts.{parts_of}
 use Rattle.snap_survey.proofs.Judging.{of_input}

@@ -1,5 +1,4 @@
--- `most_collects` of snap_survey (src/scans.rt): what holds at the head of each of its loops. Returns the most double
--- collects of a scan, and 0 where there is no scan.
+-- `most_collects` of snap_survey (src/scans.rt): what holds at the head of each of its loops.
 use Rattle.std.proofs.Common.{◌≡◌, max, drop}
 use Rattle.snap_survey.specs.Survey.{most_collects}
 use Rattle.snap_survey.proofs.scans.most_collects.Given as goal

@@ -1,5 +1,4 @@
--- `without_point` of snap_survey (src/scans.rt): what holds at the head of each of its loops. Returns how many scans
--- have no point.
+-- `without_point` of snap_survey (src/scans.rt): what holds at the head of each of its loops.
 use Rattle.std.proofs.Common.{◌≡◌, ◌+◌, ◌≤◌, drop}
 use Rattle.snap_survey.specs.Survey.{without_point}
 use Rattle.snap_survey.proofs.scans.without_point.Given as goal

@@ -1,5 +1,4 @@
--- `summary_of` of snap_survey (src/summary.rt): what holds at the head of each of its loops. Returns what the runs of
--- `surveys` came to together.
+-- `summary_of` of snap_survey (src/summary.rt): what holds at the head of each of its loops.
 use Rattle.std.proofs.Common.{drop}
 use Rattle.snap_survey.proofs.Summaries.{Counting}
 use Rattle.snap_survey.proofs.summary.summary_of.Given as goal

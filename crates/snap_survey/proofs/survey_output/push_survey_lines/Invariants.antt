@@ -1,5 +1,4 @@
--- `push_survey_lines` of snap_survey (src/survey_output.rt): what holds at the head of each of its loops. Appends the
--- lines of surveys, each with the number of its schedule.
+-- `push_survey_lines` of snap_survey (src/survey_output.rt): what holds at the head of each of its loops.
 use Rattle.std.proofs.Common.{◌≡◌, ◌++◌, ◌+◌, drop, false}
 use Rattle.snap_survey.specs.SurveyText.{survey_lines}
 use Rattle.snap_survey.proofs.survey_output.push_survey_lines.Given as goal

@@ -1,6 +1,4 @@
--- `survey_runs` of snap_survey (src/survey_output.rt): the proof of what its contract says. Returns what the run of
--- `program` over each of `texts` came to, a line for each, and one for all of them; and whether each of the runs is
--- clean.
+-- `survey_runs` of snap_survey (src/survey_output.rt): the proof of what its contract says.
 use Rattle.std.proofs.Common.{◌∙◌, ap, map, sym}
 use Rattle.std.specs.List.{list_all}
 use Rattle.snap_survey.specs.SurveyText.{surveys_text}

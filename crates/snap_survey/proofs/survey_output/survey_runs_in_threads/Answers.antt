@@ -1,5 +1,4 @@
--- `survey_runs_in_threads` of snap_survey (src/survey_output.rt): the proof of what its contract says. Returns what
--- `survey_runs` returns, with the schedules read and run side by side.
+-- `survey_runs_in_threads` of snap_survey (src/survey_output.rt): the proof of what its contract says.
 use Rattle.std.proofs.Common.{◌∙◌, ap, map, sym}
 use Rattle.std.specs.List.{list_all}
 use Rattle.snap_survey.specs.SurveyText.{surveys_text}

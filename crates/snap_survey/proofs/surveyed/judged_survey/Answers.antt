@@ -1,5 +1,4 @@
--- `judged_survey` of snap_survey (src/surveyed.rt): the proof of what its contract says. Returns what the run came to,
--- and whether it is linearizable.
+-- `judged_survey` of snap_survey (src/surveyed.rt): the proof of what its contract says.
 use Rattle.std.proofs.Common.{ap, refl, subst, ◌∙◌}
 use Rattle.snap_runs.specs.Run.{IsValidRun, events_of}
 use Rattle.snap_run_judge.proofs.Shown.{is_history}

@@ -1,5 +1,4 @@
--- `note` of snap_survey (src/surveyed.rt): the proof of what its contract says. Notes the item that was told last in a
--- tally.
+-- `note` of snap_survey (src/surveyed.rt): the proof of what its contract says.
 use Rattle.std.proofs.Common.{ap, ◌∙◌}
 use Rattle.snap_semantics.specs.State.{State, process_at}
 use Rattle.snap_semantics.specs.Table.{who}

@@ -1,5 +1,4 @@
--- `open_operations` of snap_survey (src/surveyed.rt): what holds at the head of each of its loops. Returns how many
--- processes are at an operation, or were at one when they trapped or crashed.
+-- `open_operations` of snap_survey (src/surveyed.rt): what holds at the head of each of its loops.
 use Rattle.std.proofs.Common.{◌≡◌, ◌≤◌}
 use Rattle.snap_runs.specs.Scan.{count}
 use Rattle.snap_survey.specs.Tally.{is_open_in}

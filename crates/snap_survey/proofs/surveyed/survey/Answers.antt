@@ -1,5 +1,4 @@
--- `survey` of snap_survey (src/surveyed.rt): the proof of what its contract says. Returns what the run of `program`
--- over `schedule` came to, and whether it is linearizable.
+-- `survey` of snap_survey (src/surveyed.rt): the proof of what its contract says.
 use Rattle.std.proofs.Common.{IfOk, subst, ◌∙◌}
 use Rattle.snap_runs.specs.Run.{Run}
 use Rattle.snap_walk.specs.Walk.{PassesOver, Tells}

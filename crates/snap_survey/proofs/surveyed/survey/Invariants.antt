@@ -1,5 +1,4 @@
--- `survey` of snap_survey (src/surveyed.rt): what holds at the head of each of its loops. Returns what the run of
--- `program` over `schedule` came to, and whether it is linearizable.
+-- `survey` of snap_survey (src/surveyed.rt): what holds at the head of each of its loops.
 use Rattle.std.proofs.Common.{◌≡◌, ◌-◌, length}
 use Rattle.snap_runs.specs.Run.{run_over}
 use Rattle.snap_audit.specs.Watch.{Watches}

@@ -1,5 +1,4 @@
--- `survey_of` of snap_survey (src/surveyed.rt): the proof of what its contract says. Returns what a run came to, behind
--- its last item.
+-- `survey_of` of snap_survey (src/surveyed.rt): the proof of what its contract says.
 use Rattle.std.proofs.Common.{rules, ◌≡◌, ap, length, vec_len, subst, ◌∙◌}
 use Rattle.snap_semantics.specs.State.{State}
 use Rattle.snap_runs.specs.Audit.{audit}

@@ -1,5 +1,4 @@
--- `surveys_alone` of snap_survey (src/surveys.rt): the proof of what its contract says. Returns what the run over each
--- of `schedules` came to, in their order.
+-- `surveys_alone` of snap_survey (src/surveys.rt): the proof of what its contract says.
 use Rattle.std.proofs.Common.{List, ◌+◌, arith, subst, sym, take}
 use Rattle.std.proofs.lemmas.List.{take_all}
 use Rattle.snap_semantics.specs.Schedule.{Schedule}

@@ -1,5 +1,4 @@
--- `surveys_alone` of snap_survey (src/surveys.rt): what holds at the head of each of its loops. Returns what the run
--- over each of `schedules` came to, in their order.
+-- `surveys_alone` of snap_survey (src/surveys.rt): what holds at the head of each of its loops.
 use Rattle.std.proofs.Common.{take}
 use Rattle.snap_survey.specs.Surveys.{AreSurveysOf}
 use Rattle.snap_survey.proofs.surveys.surveys_alone.Given as goal

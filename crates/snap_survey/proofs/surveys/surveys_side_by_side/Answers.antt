@@ -1,5 +1,4 @@
--- `surveys_side_by_side` of snap_survey (src/surveys.rt): the proof of what its contract says. Returns what the run
--- over each of `schedules` came to, in their order, whichever thread made it and when.
+-- `surveys_side_by_side` of snap_survey (src/surveys.rt): the proof of what its contract says.
 use Rattle.std.proofs.Common.{◌∙◌, ap}
 use Rattle.rayon.specs.Lists.{min_len_base}
 use Rattle.snap_survey.proofs.Sides.{side_by_side}

@@ -1,4 +1,5 @@
--- `summary_words` of snap_survey (src/text.rt): the proof of what its contract says, piece after piece.
+-- `summary_words` of snap_survey (src/text.rt): the proof of what its contract says. The text is read back from its
+-- last piece to its first.
 use Rattle.std.proofs.Common.{append_assoc}
 use Rattle.snap_survey.specs.SurveyText.{summary_words}
 use Rattle.snap_survey.proofs.text.summary_words.Goals as goal

@@ -1,5 +1,4 @@
--- `call_front` of snap_text (src/calls.rt): the proof of what its contract says. Reads the first line, if it is a call
--- with its line feed: its process, its operation, and the lines behind it.
+-- `call_front` of snap_text (src/calls.rt): the proof of what its contract says.
 use Rattle.snap_text.proofs.CallLines.{call_begins}
 use Rattle.snap_text.proofs.calls.call_front.Goals as goal
 

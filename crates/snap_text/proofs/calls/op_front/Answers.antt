@@ -1,5 +1,4 @@
--- `op_front` of snap_text (src/calls.rt): the proof of what its contract says. Reads the operation of a call, which
--- stands behind its process, and returns what stands behind it too.
+-- `op_front` of snap_text (src/calls.rt): the proof of what its contract says.
 use Rattle.snap_text.proofs.CallLines.{scan_begins, update_begins}
 use Rattle.snap_text.proofs.calls.op_front.Goals as goal
 

@@ -1,5 +1,4 @@
--- `changes_make_the_new_text` of snap_text (src/change_laws.rt): the proof of what its contract says. Put into the old
--- lines, the changes make the new ones; and each change says what stood there before, and what stands there after.
+-- `changes_make_the_new_text` of snap_text (src/change_laws.rt): the proof of what its contract says.
 use Rattle.std.proofs.Common.{refl, []}
 use Rattle.snap_text.proofs.Putting.{put_from, real_from}
 use Rattle.snap_text.proofs.change_laws.changes_make_the_new_text.Goals as goal

@@ -1,5 +1,4 @@
--- `push_changes` of snap_text (src/changed.rt): what holds at the head of each of its loops. Appends the changes from
--- one text to another: each line that was removed behind `- `, and each that was added behind `+ `.
+-- `push_changes` of snap_text (src/changed.rt): what holds at the head of each of its loops.
 use Rattle.std.proofs.Common.{length, ◌+◌, ◌++◌, ◌≡◌, false}
 use Rattle.snap_semantics.specs.Token.{lines_of}
 use Rattle.snap_text.specs.Changes.{text_between}

@@ -1,5 +1,4 @@
--- `push_first` of snap_text (src/changed.rt): the proof of what its contract says. Appends what changed in the first
--- lines of `before` and `after`, and returns the lines behind them.
+-- `push_first` of snap_text (src/changed.rt): the proof of what its contract says.
 use Rattle.std.proofs.Common.{◌≡◌, ℕ, List, [], ◌∷◌, length, refl, sym, ap, ◌∙◌, arith}
 use Rattle.std.proofs.lemmas.Bool.Decides.{Decides-eqb}
 use Rattle.std.specs.Prelude.{codes, true, ◌==◌}

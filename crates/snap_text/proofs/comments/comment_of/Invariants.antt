@@ -1,5 +1,4 @@
--- `comment_of` of snap_text (src/comments.rt): what holds at the head of each of its loops. Returns what stands behind
--- the first `#` of a line.
+-- `comment_of` of snap_text (src/comments.rt): what holds at the head of each of its loops.
 use Rattle.std.proofs.Common.{◌≡◌, length}
 use Rattle.snap_semantics.specs.Comments.{comment_of}
 use Rattle.snap_text.proofs.comments.comment_of.Given as goal

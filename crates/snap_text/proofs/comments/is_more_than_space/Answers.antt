@@ -1,5 +1,4 @@
--- `is_more_than_space` of snap_text (src/comments.rt): the proof of what its contract says. Returns whether a line is
--- more than space and a comment, which its first byte behind the space tells.
+-- `is_more_than_space` of snap_text (src/comments.rt): the proof of what its contract says.
 use Rattle.std.proofs.Common.{sym, ap, ◌∙◌, arith}
 use Rattle.snap_text.specs.Tokens.{has_tokens}
 use Rattle.snap_text.proofs.Space.{not_space, space_more}

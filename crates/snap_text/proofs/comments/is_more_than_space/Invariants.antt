@@ -1,5 +1,4 @@
--- `is_more_than_space` of snap_text (src/comments.rt): what holds at the head of each of its loops. Returns whether a
--- line is more than space and a comment, which its first byte behind the space tells.
+-- `is_more_than_space` of snap_text (src/comments.rt): what holds at the head of each of its loops.
 use Rattle.std.proofs.Common.{◌≡◌, drop}
 use Rattle.snap_semantics.specs.Token.{tokens_of}
 use Rattle.snap_text.specs.Tokens.{has_tokens}

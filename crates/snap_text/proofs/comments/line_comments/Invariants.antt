@@ -1,5 +1,4 @@
--- `line_comments` of snap_text (src/comments.rt): what holds at the head of each of its loops. Returns the comments of
--- the lines of `text` that have tokens: for each such line the bytes behind its first `#`, if it has one.
+-- `line_comments` of snap_text (src/comments.rt): what holds at the head of each of its loops.
 use Rattle.std.proofs.Common.{◌≡◌, ◌++◌, length, map, option_map, vec_items}
 use Rattle.snap_semantics.specs.Comments.{line_comments}
 use Rattle.snap_semantics.specs.Token.{lines_of}

@@ -1,5 +1,4 @@
--- `what_is_laid_out_is_read` of snap_text (src/laws.rt): the proof of what its contract says. A text that lays out
--- tokens in lines is read as these tokens, line by line.
+-- `what_is_laid_out_is_read` of snap_text (src/laws.rt): the proof of what its contract says.
 use Rattle.snap_text.proofs.Laid.{laid_read}
 use Rattle.snap_text.proofs.laws.what_is_laid_out_is_read.Goals as goal
 

@@ -1,5 +1,4 @@
--- `push_behind` of snap_text (src/layout.rt): what holds at the head of each of its loops. Appends `tokens`, which
--- stand behind `first`.
+-- `push_behind` of snap_text (src/layout.rt): what holds at the head of each of its loops.
 use Rattle.std.proofs.Common.{◌≡◌, ◌≤◌, [], ◌++◌, drop}
 use Rattle.snap_semantics.specs.Layout.{layout}
 use Rattle.snap_text.specs.Tokens.{view_token, view_tokens}

@@ -1,5 +1,4 @@
--- `push_laid_out` of snap_text (src/layout.rt): the proof of what its contract says. Appends a line of tokens, laid
--- out, with its line feed.
+-- `push_laid_out` of snap_text (src/layout.rt): the proof of what its contract says.
 use Rattle.std.proofs.Common.{codes}
 use Rattle.snap_text.specs.Tokens.{view_tokens}
 use Rattle.snap_text.proofs.Ends.{line_pushed}

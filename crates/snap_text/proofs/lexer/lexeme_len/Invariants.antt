@@ -1,5 +1,4 @@
--- `lexeme_len` of snap_text (src/lexer.rt): what holds at the head of each of its loops. Returns how many letters and
--- digits stand at the front.
+-- `lexeme_len` of snap_text (src/lexer.rt): what holds at the head of each of its loops.
 use Rattle.std.proofs.Common.{◌≡◌, ◌≤◌, ◌-◌, ◌+◌, drop, length}
 use Rattle.snap_text.specs.Tokens.{lexeme_len}
 use Rattle.snap_text.proofs.lexer.lexeme_len.Given as goal

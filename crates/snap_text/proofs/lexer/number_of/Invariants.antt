@@ -1,5 +1,4 @@
--- `number_of` of snap_text (src/lexer.rt): what holds at the head of each of its loops. Returns the number that
--- `digits` spell; `None` above 2^64 - 1.
+-- `number_of` of snap_text (src/lexer.rt): what holds at the head of each of its loops.
 use Rattle.std.proofs.Common.{◌≡◌, ◌-◌, drop, length}
 use Rattle.snap_semantics.specs.Token.{number_of}
 use Rattle.snap_text.proofs.lexer.number_of.Given as goal

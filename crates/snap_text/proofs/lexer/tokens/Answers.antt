@@ -1,5 +1,4 @@
--- `tokens` of snap_text (src/lexer.rt): the proof of what its contract says. Reads the tokens of `line`; `None` where a
--- byte begins no token.
+-- `tokens` of snap_text (src/lexer.rt): the proof of what its contract says.
 use Rattle.std.proofs.Common.{◌<◌, length, sym, ◌∙◌, arith}
 use Rattle.std.proofs.lemmas.Grind.{common_steps}
 use Rattle.snap_text.proofs.Lexemes.{turn, stop, lexeme_first, lexeme_stops, space_turn, sign_is_first}

@@ -1,5 +1,4 @@
--- `tokens` of snap_text (src/lexer.rt): what holds at the head of each of its loops. Reads the tokens of `line`; `None`
--- where a byte begins no token.
+-- `tokens` of snap_text (src/lexer.rt): what holds at the head of each of its loops.
 use Rattle.std.proofs.Common.{◌≡◌, length}
 use Rattle.snap_semantics.specs.Token.{tokens_of}
 use Rattle.snap_text.specs.Tokens.{view_tokens}

@@ -1,5 +1,4 @@
--- `line_count` of snap_text (src/lines.rt): what holds at the head of each of its loops. Returns how many lines `text`
--- has; a last one without line feed counts.
+-- `line_count` of snap_text (src/lines.rt): what holds at the head of each of its loops.
 use Rattle.std.proofs.Common.{length, ◌+◌, ◌≡◌, ◌≤◌}
 use Rattle.snap_semantics.specs.Token.{lines_of}
 use Rattle.snap_text.proofs.lines.line_count.Given as goal

@@ -1,5 +1,4 @@
--- `split_line` of snap_text (src/lines.rt): what holds at the head of each of its loops. Returns the first line,
--- without its line feed, and the lines behind it.
+-- `split_line` of snap_text (src/lines.rt): what holds at the head of each of its loops.
 use Rattle.std.proofs.Common.{length, take, drop, ◌-◌, ◌≡◌, ◌≤◌}
 use Rattle.snap_semantics.specs.Token.{lines_of}
 use Rattle.snap_text.proofs.Splits.{onto_text}

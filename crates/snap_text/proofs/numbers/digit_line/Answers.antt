@@ -1,5 +1,4 @@
--- `digit_line` of snap_text (src/numbers.rt): the proof of what its contract says. Reads the first line if it is one
--- digit and its line feed, and returns the lines behind it too.
+-- `digit_line` of snap_text (src/numbers.rt): the proof of what its contract says.
 use Rattle.std.proofs.Common.{sym, ◌∙◌}
 use Rattle.snap_text.proofs.Digits.{digit_alone}
 use Rattle.snap_text.proofs.numbers.digit_line.Goals as goal

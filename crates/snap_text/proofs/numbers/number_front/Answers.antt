@@ -1,6 +1,4 @@
--- `number_front` of snap_text (src/numbers.rt): the proof of what its contract says. Reads the number that the digits
--- at the front spell, and returns what stands behind them too; `None` where there are no digits or more than nine, or
--- zero before others.
+-- `number_front` of snap_text (src/numbers.rt): the proof of what its contract says.
 use Rattle.std.proofs.Common.{◌<◌, ◌≤◌, length, sym, ◌∙◌, arith}
 use Rattle.std.proofs.lemmas.Grind.{common_steps}
 use Rattle.snap_text.proofs.Digits.{first_digit, one_more}

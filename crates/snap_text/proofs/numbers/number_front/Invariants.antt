@@ -1,6 +1,4 @@
--- `number_front` of snap_text (src/numbers.rt): what holds at the head of each of its loops. Reads the number that the
--- digits at the front spell, and returns what stands behind them too; `None` where there are no digits or more than
--- nine, or zero before others.
+-- `number_front` of snap_text (src/numbers.rt): what holds at the head of each of its loops.
 use Rattle.std.proofs.Common.{◌-◌, length}
 use Rattle.snap_text.proofs.Digits.{AreDigits}
 use Rattle.snap_text.proofs.numbers.number_front.Given as goal

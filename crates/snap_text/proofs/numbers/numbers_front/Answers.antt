@@ -1,5 +1,4 @@
--- `numbers_front` of snap_text (src/numbers.rt): the proof of what its contract says. Reads the first line if it is `I`
--- or `I*K` and its line feed, and returns its numbers and the lines behind it.
+-- `numbers_front` of snap_text (src/numbers.rt): the proof of what its contract says.
 use Rattle.std.proofs.Common.{◌∷◌, ap, ◌∙◌}
 use Rattle.snap_text.proofs.Digits.{number_alone, number_starred}
 use Rattle.snap_text.proofs.numbers.numbers_front.Goals as goal

@@ -1,5 +1,4 @@
--- `starred_digits_line` of snap_text (src/numbers.rt): the proof of what its contract says. Reads the first line if it
--- is a digit, `*`, a digit and its line feed, and returns the lines behind it too.
+-- `starred_digits_line` of snap_text (src/numbers.rt): the proof of what its contract says.
 use Rattle.std.proofs.Common.{sym, ◌∙◌}
 use Rattle.snap_text.proofs.Digits.{starred_alone}
 use Rattle.snap_text.proofs.numbers.starred_digits_line.Goals as goal

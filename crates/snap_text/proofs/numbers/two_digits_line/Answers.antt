@@ -1,5 +1,4 @@
--- `two_digits_line` of snap_text (src/numbers.rt): the proof of what its contract says. Reads the first line if it is
--- two digits, the first of which is not zero, and its line feed, and returns the lines behind it too.
+-- `two_digits_line` of snap_text (src/numbers.rt): the proof of what its contract says.
 use Rattle.std.proofs.Common.{◌≡◌, ◌<◌, ◌+◌, ◌-◌, ◌*◌, true, ap, sym, ◌∙◌, arith}
 use Rattle.std.proofs.lemmas.Grind.{common_steps}
 use Rattle.snap_semantics.specs.Token.{is_digit}

@@ -1,5 +1,4 @@
--- `push_owned_lines` of snap_text (src/owned.rt): what holds at the head of each of its loops. Appends the lines of
--- `text`, each indented one with its owner: the first two words of the nearest line above that is not indented.
+-- `push_owned_lines` of snap_text (src/owned.rt): what holds at the head of each of its loops.
 use Rattle.std.proofs.Common.{◌≡◌, ◌++◌, [], false, length}
 use Rattle.snap_semantics.specs.Token.{lines_of}
 use Rattle.snap_text.specs.Owned.{owned_text}

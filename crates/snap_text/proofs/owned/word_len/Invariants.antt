@@ -1,5 +1,4 @@
--- `word_len` of snap_text (src/owned.rt): what holds at the head of each of its loops. Returns how many bytes stand
--- before the first space.
+-- `word_len` of snap_text (src/owned.rt): what holds at the head of each of its loops.
 use Rattle.std.proofs.Common.{◌≡◌, ◌≤◌, ◌-◌, ◌+◌, drop, length}
 use Rattle.snap_text.specs.Owned.{word_len}
 use Rattle.snap_text.proofs.owned.word_len.Given as goal

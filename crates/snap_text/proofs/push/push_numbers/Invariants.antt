@@ -1,5 +1,4 @@
--- `push_numbers` of snap_text (src/push.rt): what holds at the head of each of its loops. Appends each of `numbers`
--- behind a space.
+-- `push_numbers` of snap_text (src/push.rt): what holds at the head of each of its loops.
 use Rattle.std.proofs.Common.{◌≡◌, ◌++◌, drop}
 use Rattle.snap_semantics.specs.Report.{numbers_text}
 use Rattle.snap_text.proofs.push.push_numbers.Given as goal

@@ -1,5 +1,4 @@
--- `apply_idle` of snap_walk (src/walk.rt): the proof of what its contract says. Does an item that is no step of a busy
--- process, and returns its outcome.
+-- `apply_idle` of snap_walk (src/walk.rt): the proof of what its contract says.
 use Rattle.std.proofs.Common.{◌≡◌, false, sym, ap, subst, ◌∙◌}
 use Rattle.snap_semantics.specs.State.{State, process_at}
 use Rattle.snap_semantics.specs.Table.{done, who}

@@ -1,4 +1,5 @@
--- `push_call` of snap_why (src/answer.rt): the proof of what its contract says, piece after piece.
+-- `push_call` of snap_why (src/answer.rt): the proof of what its contract says. The text is read back from its last
+-- piece to its first.
 use Rattle.std.proofs.Common.{append_assoc}
 use Rattle.snap_why.specs.Answer.{call_lines}
 use Rattle.snap_why.proofs.answer.push_call.Goals as goal

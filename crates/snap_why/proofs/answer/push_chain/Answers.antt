@@ -1,5 +1,4 @@
--- `push_chain` of snap_why (src/answer.rt): the proof of what its contract says. Appends the views that a scan, its
--- lender's scan, and so on took.
+-- `push_chain` of snap_why (src/answer.rt): the proof of what its contract says.
 use Rattle.std.proofs.Common.{arith}
 use Rattle.snap_why.proofs.Chains.{ends, goes_on, lender_within}
 use Rattle.snap_why.proofs.answer.push_chain.Goals as goal

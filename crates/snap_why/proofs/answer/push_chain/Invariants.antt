@@ -1,5 +1,4 @@
--- `push_chain` of snap_why (src/answer.rt): what holds at the head of each of its loops. Appends the views that a scan,
--- its lender's scan, and so on took.
+-- `push_chain` of snap_why (src/answer.rt): what holds at the head of each of its loops.
 use Rattle.std.proofs.Common.{◌≡◌, ◌++◌, ◌≤◌, IfSome, Some, length, false}
 use Rattle.snap_acts.specs.declared.loans.ScanPlaces.{ScanPlaces}
 use Rattle.snap_why.specs.Answer.{chain_lines}

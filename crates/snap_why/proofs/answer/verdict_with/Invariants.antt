@@ -1,5 +1,4 @@
--- `verdict_with` of snap_why (src/answer.rt): what holds at the head of each of its loops. Returns the verdict of the
--- scan that an item answers.
+-- `verdict_with` of snap_why (src/answer.rt): what holds at the head of each of its loops.
 use Rattle.std.proofs.Common.{◌≡◌, drop}
 use Rattle.snap_why.specs.Answer.{verdict_with}
 use Rattle.snap_why.proofs.answer.verdict_with.Given as goal

@@ -1,5 +1,4 @@
--- `conditions_trouble` of snap_why (src/conditions.rt): what holds at the head of each of its loops. Returns the
--- trouble at the first of `count` places at which a condition traps.
+-- `conditions_trouble` of snap_why (src/conditions.rt): what holds at the head of each of its loops.
 use Rattle.std.proofs.Common.{◌≡◌, ◌+◌}
 use Rattle.snap_why.specs.Troubles.{conditions_trouble}
 use Rattle.snap_why.proofs.conditions.conditions_trouble.Given as goal

@@ -1,5 +1,4 @@
--- `values_trouble` of snap_why (src/conditions.rt): the proof of what its contract says. Returns the trouble at the
--- first of `count` places whose new value traps.
+-- `values_trouble` of snap_why (src/conditions.rt): the proof of what its contract says.
 use Rattle.std.proofs.Common.{◌∙◌, arith}
 use Rattle.snap_why.proofs.Places.{value_found}
 use Rattle.snap_why.proofs.conditions.values_trouble.Goals as goal

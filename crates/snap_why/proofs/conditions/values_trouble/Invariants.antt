@@ -1,5 +1,4 @@
--- `values_trouble` of snap_why (src/conditions.rt): what holds at the head of each of its loops. Returns the trouble at
--- the first of `count` places whose new value traps.
+-- `values_trouble` of snap_why (src/conditions.rt): what holds at the head of each of its loops.
 use Rattle.std.proofs.Common.{◌≡◌, ◌+◌}
 use Rattle.snap_why.specs.Troubles.{values_trouble}
 use Rattle.snap_why.proofs.conditions.values_trouble.Given as goal

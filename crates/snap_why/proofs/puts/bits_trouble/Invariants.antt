@@ -1,5 +1,4 @@
--- `bits_trouble` of snap_why (src/puts.rt): what holds at the head of each of its loops. Returns the first of the
--- numbers that is no bit.
+-- `bits_trouble` of snap_why (src/puts.rt): what holds at the head of each of its loops.
 use Rattle.std.proofs.Common.{◌≡◌, drop}
 use Rattle.snap_why.specs.Troubles.{bits_trouble}
 use Rattle.snap_why.proofs.puts.bits_trouble.Given as goal

@@ -1,4 +1,5 @@
--- `push_large_sum` of snap_why (src/text.rt): the proof of what its contract says, piece after piece.
+-- `push_large_sum` of snap_why (src/text.rt): the proof of what its contract says. The text is read back from its last
+-- piece to its first.
 use Rattle.std.proofs.Common.{append_assoc}
 use Rattle.snap_why.proofs.text.push_large_sum.Goals as goal
 

@@ -1,5 +1,4 @@
--- `push_why` of snap_why (src/why.rt): the proof of what its contract says. Appends why the scan that item `item`
--- answered had this answer, or why the process of the item trapped; or that the item did neither, and which item does.
+-- `push_why` of snap_why (src/why.rt): the proof of what its contract says.
 use Rattle.std.proofs.Common.{◌∙◌, List, ℕ, ap, subst, sym}
 use Rattle.snap_runs.specs.Run.{run_over}
 use Rattle.snap_acts.specs.declared.act.TraceStep.{TraceStep}

@@ -1,5 +1,4 @@
--- `trapped_in` of snap_why (src/why.rt): the proof of what its contract says. Returns the process that traps at an item
--- of `schedule`, which has such an item.
+-- `trapped_in` of snap_why (src/why.rt): the proof of what its contract says.
 use Rattle.snap_why.proofs.Traces.{all_of}
 use Rattle.snap_why.proofs.why.trapped_in.Goals as goal
 

@@ -1,5 +1,4 @@
--- `handshake_of` of snap_words (src/contents.rt): the proof of what its contract says. Returns the handshake bit at
--- `place`, counted from 0; 0 where there is none.
+-- `handshake_of` of snap_words (src/contents.rt): the proof of what its contract says.
 use Rattle.std.proofs.Common.{◌∙◌, ℕ, ap, arith}
 use Rattle.std.specs.Prelude.{Option, unwrap_or}
 use Rattle.snap_words.proofs.HandshakeLists.{handshake_at_place}

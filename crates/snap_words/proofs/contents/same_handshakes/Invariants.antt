@@ -1,5 +1,4 @@
--- `same_handshakes` of snap_words (src/contents.rt): what holds at the head of each of its loops. Returns whether two
--- words have the same handshake bits.
+-- `same_handshakes` of snap_words (src/contents.rt): what holds at the head of each of its loops.
 use Rattle.std.proofs.Common.{◌≡◌, bytes_eq, drop, length}
 use Rattle.snap_words.proofs.contents.same_handshakes.Given as goal
 

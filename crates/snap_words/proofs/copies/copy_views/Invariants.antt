@@ -1,5 +1,4 @@
--- `copy_views` of snap_words (src/copies.rt): what holds at the head of each of its loops. Returns copies of `views`,
--- in their order.
+-- `copy_views` of snap_words (src/copies.rt): what holds at the head of each of its loops.
 use Rattle.std.proofs.Common.{◌≡◌, take}
 use Rattle.snap_words.proofs.copies.copy_views.Given as goal
 

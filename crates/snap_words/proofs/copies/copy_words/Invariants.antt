@@ -1,5 +1,4 @@
--- `copy_words` of snap_words (src/copies.rt): what holds at the head of each of its loops. Returns copies of `words`,
--- in their order.
+-- `copy_words` of snap_words (src/copies.rt): what holds at the head of each of its loops.
 use Rattle.std.proofs.Common.{◌≡◌, take}
 use Rattle.snap_words.proofs.copies.copy_words.Given as goal
 

@@ -1,5 +1,4 @@
--- `mask_of` of snap_words (src/handshakes.rt): the proof of what its contract says. Returns the mask of `bits`, the
--- first of which is the lowest.
+-- `mask_of` of snap_words (src/handshakes.rt): the proof of what its contract says.
 use Rattle.std.proofs.Common.{◌≡◌, suc, ◌-◌, ◌*◌, ◌≤◌, length, arith}
 use Rattle.std.specs.Prelude.{◌^◌}
 use Rattle.std.proofs.Math.Pow.{pow_mono}

@@ -1,5 +1,4 @@
--- `mask_of` of snap_words (src/handshakes.rt): what holds at the head of each of its loops. Returns the mask of `bits`,
--- the first of which is the lowest.
+-- `mask_of` of snap_words (src/handshakes.rt): what holds at the head of each of its loops.
 use Rattle.std.proofs.Common.{◌≡◌, ◌-◌, ◌<◌, drop, length}
 use Rattle.std.specs.Prelude.{◌^◌}
 use Rattle.snap_words.specs.Handshakes.{mask_bits}

@@ -1,5 +1,4 @@
--- `talk_about` of snapdb (src/about.rt): the proof of what its contract says. Talks at `console` about `program` under
--- `schedule`.
+-- `talk_about` of snapdb (src/about.rt): the proof of what its contract says.
 use Rattle.std.proofs.Common.{ℕ, List, Option, Result, Ok, Err, IfSome}
 use Rattle.std.specs.Prelude.{OnErr}
 use Rattle.snap_streams.specs.Dialog.{ShowsTranscriptPart}

@@ -1,5 +1,4 @@
--- `talk_over` of snapdb (src/answers.rt): the proof of what its contract says. Talks about the listing of one text,
--- under the schedule of another.
+-- `talk_over` of snapdb (src/answers.rt): the proof of what its contract says.
 use Rattle.std.proofs.Common.{inl, inr, ap, refl, sym, ◌∙◌}
 use Rattle.snapdb.specs.Talk.{Devices, listing_in}
 use Rattle.snapdb.proofs.Talked.{talked, unlisted}

@@ -1,5 +1,4 @@
--- `talk_over_shipped` of snapdb (src/answers.rt): the proof of what its contract says. Talks about the listing that is
--- shipped for a kind, under the schedule of a text.
+-- `talk_over_shipped` of snapdb (src/answers.rt): the proof of what its contract says.
 use Rattle.std.proofs.Common.{inl, inr, ap, refl, subst, sym, ◌∙◌}
 use Rattle.snap_semantics.specs.Source.{Source}
 use Rattle.snapdb.specs.Talk.{Devices, Talks}

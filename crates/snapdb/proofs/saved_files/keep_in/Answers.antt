@@ -1,5 +1,4 @@
 -- `keep_in` of snapdb (src/saved_files.rt): the proof of what its contract says.
--- Keeps a text under a name.
 use Rattle.std.proofs.Common.{[]}
 use Rattle.snapdb.proofs.saved_files.keep_in.Goals as goal
 

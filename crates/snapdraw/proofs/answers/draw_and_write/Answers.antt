@@ -1,5 +1,4 @@
--- `draw_and_write` of snapdraw (src/answers.rt): the proof of what its contract says. Draws, and writes what is drawn
--- and nothing else.
+-- `draw_and_write` of snapdraw (src/answers.rt): the proof of what its contract says.
 use Rattle.snapdraw.specs.Answer.{Draws}
 use Rattle.snap_named_files.specs.Texts.{view_texts}
 use Rattle.snapdraw.specs.Drawing.{options_of}

@@ -1,5 +1,4 @@
--- `explain` of snapdraw (src/answers.rt): the proof of what its contract says. Says why nothing, or not all, was drawn,
--- explains it if that is wanted and there is memory for it, and returns the status.
+-- `explain` of snapdraw (src/answers.rt): the proof of what its contract says.
 use Rattle.std.proofs.Common.{ℕ, List, inr, ◌∙◌, subst}
 use Rattle.snap_faults.specs.Names.{Names, view_names}
 use Rattle.snap_faults.specs.Told.{Tells, TellsMore}

@@ -1,4 +1,4 @@
--- `write_text` of snapdraw (src/answers.rt): the proof of what its contract says. Writes a text.
+-- `write_text` of snapdraw (src/answers.rt): the proof of what its contract says.
 use Rattle.std.proofs.Common.{refl}
 use Rattle.snapdraw.proofs.answers.write_text.Goals as goal
 

@@ -1,5 +1,4 @@
--- `draw_shipped` of snapdraw (src/drawing.rt): the proof of what its contract says. Returns the picture of the listing
--- that is shipped for a kind, under the schedule of a text.
+-- `draw_shipped` of snapdraw (src/drawing.rt): the proof of what its contract says.
 use Rattle.snap_shipped.specs.Shipped.{shipped}
 use Rattle.snap_named_files.specs.Texts.{OfShipped}
 use Rattle.snapdraw.specs.Drawing.{IsDrawing, bytes_of}

@@ -1,5 +1,4 @@
--- `hunt` of snaphunt (src/answers.rt): the proof of what its contract says. Hunts, says why if nothing, or not all, was
--- printed, and returns the status.
+-- `hunt` of snaphunt (src/answers.rt): the proof of what its contract says.
 use Rattle.std.proofs.Common.{Err, []}
 use Rattle.snaphunt.specs.Search.{view_listed}
 use Rattle.snaphunt.proofs.Searches.{no_text}

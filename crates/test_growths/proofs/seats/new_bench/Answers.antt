@@ -1,5 +1,4 @@
 -- `new_bench` of test_growths (src/seats.rt): the proof of what its contract says.
--- A new desk with one process and one word.
 use Rattle.std.proofs.Common.{◌≡◌, ℕ, zero, suc, List, arith, refl, sym, subst}
 use Rattle.std.specs.Prelude.{All}
 use Rattle.std.proofs.lemmas.List.Elements.{All-push}

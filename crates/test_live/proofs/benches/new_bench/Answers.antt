@@ -1,5 +1,4 @@
 -- `new_bench` of test_live (src/benches.rt): the proof of what its contract says.
--- A new desk with so many processes and words.
 use Rattle.std.proofs.Common.{◌≡◌, ℕ, zero, suc, List, arith, refl, sym, subst}
 use Rattle.std.specs.Prelude.{All}
 use Rattle.std.proofs.lemmas.List.Elements.{All-push}

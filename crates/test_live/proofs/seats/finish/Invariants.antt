@@ -1,5 +1,4 @@
 -- `finish` of test_live (src/seats.rt): what holds at the head of each of its loops.
--- Steps until the operation is finished.
 use Rattle.std.proofs.Common.{◌≡◌}
 use Rattle.test_live.proofs.seats.finish.Given as goal
 

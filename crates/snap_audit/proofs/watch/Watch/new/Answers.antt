@@ -1,5 +1,4 @@
--- `Watch::new` of snap_audit (src/watch.rt): the proof of what its contract says. Returns a watch before the first item
--- of the run of `program` over a schedule.
+-- `Watch::new` of snap_audit (src/watch.rt): the proof of what its contract says.
 use Rattle.std.proofs.Common.{ap, ◌∙◌, [], map, replicate, refl}
 use Rattle.snap_words.specs.Shape.{Counts}
 use Rattle.snap_semantics.specs.State.{initial}

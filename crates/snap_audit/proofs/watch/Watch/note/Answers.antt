@@ -1,5 +1,4 @@
 -- `Watch::note` of snap_audit (src/watch.rt): the proof of what its contract says.
--- Notes the item that was told last on the way.
 use Rattle.std.proofs.Common.{◌++◌, ◌-◌, length, map, refl, sym, ap, subst, ◌∙◌, slice_index}
 use Rattle.snap_words.specs.Shape.{Counts, IsOneOf}
 use Rattle.snap_semantics.specs.Run.{event_of}

@@ -1,5 +1,4 @@
--- `Course::take_times` of snap_batch (src/course.rt): the proof of what its contract says. Does an item `count` times
--- more.
+-- `Course::take_times` of snap_batch (src/course.rt): the proof of what its contract says.
 use Rattle.std.proofs.Common.{rules, ◌≡◌, ◌+◌, ◌-◌, arith, refl}
 use Rattle.snap_batch.proofs.Courses.{takes_idle, takes_once_more}
 use Rattle.snap_batch.proofs.course.Course.take_times.Goals as goal

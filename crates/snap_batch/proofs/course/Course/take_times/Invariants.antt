@@ -1,5 +1,4 @@
--- `Course::take_times` of snap_batch (src/course.rt): what holds at the head of each of its loops. Does an item `count`
--- times more.
+-- `Course::take_times` of snap_batch (src/course.rt): what holds at the head of each of its loops.
 use Rattle.std.proofs.Common.{◌-◌, ◌≤◌, replicate}
 use Rattle.snap_batch.specs.Courses.{Takes}
 use Rattle.snap_batch.proofs.course.Course.take_times.Given as goal

@@ -1,5 +1,4 @@
--- `Finder::new` of snap_certify (src/finder.rt): the proof of what its contract says. Returns a finder before the first
--- item of the run of `program` over `schedule`, where updates write at `line` and the values are `values`.
+-- `Finder::new` of snap_certify (src/finder.rt): the proof of what its contract says.
 use Rattle.std.proofs.Common.{None, ap, refl, replicate, ◌∙◌}
 use Rattle.snap_words.specs.Shape.{Counts}
 use Rattle.snap_runs.specs.Run.{run_over}

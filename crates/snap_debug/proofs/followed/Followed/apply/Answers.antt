@@ -1,5 +1,4 @@
--- `Followed::apply` of snap_debug (src/followed.rt): the proof of what its contract says. Does one item,
--- whose number has 64 bits.
+-- `Followed::apply` of snap_debug (src/followed.rt): the proof of what its contract says.
 use Rattle.std.proofs.Common.{◌≡◌, suc, ◌<◌, ◌∷◌, [], ◌++◌, length, refl, sym, ◌∙◌, ap, subst}
 use Rattle.snap_words.specs.Shape.{IsOneOf, max_items}
 use Rattle.snap_semantics.specs.Table.{who}

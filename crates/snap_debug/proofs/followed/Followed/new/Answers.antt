@@ -1,5 +1,4 @@
--- `Followed::new` of snap_debug (src/followed.rt): the proof of what its contract says. Returns the machine
--- of a program over a shape, with no items done.
+-- `Followed::new` of snap_debug (src/followed.rt): the proof of what its contract says.
 use Rattle.snap_debug.proofs.Following.{started}
 use Rattle.snap_debug.proofs.followed.Followed.new.Goals as goal
 

@@ -1,5 +1,4 @@
--- `Recording::advance` of snap_debug (src/recording.rt): the proof of what its contract says. Does the next
--- item of `current`, and returns its process and its outcome.
+-- `Recording::advance` of snap_debug (src/recording.rt): the proof of what its contract says.
 use Rattle.std.proofs.Common.{◌+◌, refl}
 use Rattle.snap_debug.proofs.Recordings.{checkpoint_next}
 use Rattle.snap_debug.proofs.recording.Recording.advance.Goals as goal

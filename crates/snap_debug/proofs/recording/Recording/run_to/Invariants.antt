@@ -1,5 +1,4 @@
 -- `Recording::run_to` of snap_debug (src/recording.rt): what holds at the head of each of its loops.
--- Does the items up to a position.
 use Rattle.std.proofs.Common.{◌≤◌, ◌-◌}
 use Rattle.snap_debug.specs.Recording.{IsCheckpoint}
 use Rattle.snap_debug.proofs.recording.Recording.run_to.Given as goal

@@ -1,5 +1,4 @@
--- `ReversibleMachine::go_back` of snap_debug (src/reversible_machine.rt): what holds at the head of each of
--- its loops. Goes back to `position`.
+-- `ReversibleMachine::go_back` of snap_debug (src/reversible_machine.rt): what holds at the head of each of its loops.
 use Rattle.std.proofs.Common.{◌≡◌, ◌≤◌, ◌-◌}
 use Rattle.snap_runs.specs.Run.{Run}
 use Rattle.snap_debug.specs.Recording.{IsReversible, start}

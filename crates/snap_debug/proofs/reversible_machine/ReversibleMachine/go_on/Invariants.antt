@@ -1,5 +1,4 @@
--- `ReversibleMachine::go_on` of snap_debug (src/reversible_machine.rt): what holds at the head of each of
--- its loops. Goes on to `position`, or as far as there is memory.
+-- `ReversibleMachine::go_on` of snap_debug (src/reversible_machine.rt): what holds at the head of each of its loops.
 use Rattle.std.proofs.Common.{◌≡◌, ◌≤◌, ◌-◌}
 use Rattle.snap_debug.specs.Recording.{IsReversible, start}
 use Rattle.snap_debug.proofs.reversible_machine.ReversibleMachine.go_on.Given as goal

@@ -1,5 +1,4 @@
 -- `ReversibleMachine::last` of snap_debug (src/reversible_machine.rt): the proof of what its contract says.
--- Returns the outcome of the last item.
 use Rattle.std.proofs.Common.{◌≡◌, subst}
 use Rattle.std.specs.Prelude.{IfOk}
 use Rattle.snap_debug.proofs.ReversibleMachines.{last_came}

@@ -1,5 +1,4 @@
--- `ReversibleMachine::step_back` of snap_debug (src/reversible_machine.rt): the proof of what its contract
--- says. Takes the last item back.
+-- `ReversibleMachine::step_back` of snap_debug (src/reversible_machine.rt): the proof of what its contract says.
 use Rattle.std.proofs.Common.{◌≡◌, ◌+◌, ◌-◌, arith}
 use Rattle.snap_debug.proofs.ReversibleMachines.{can_put, leads_back}
 use Rattle.snap_debug.proofs.reversible_machine.ReversibleMachine.step_back.Goals as goal

@@ -1,5 +1,4 @@
--- `ReversibleMachine::step_on` of snap_debug (src/reversible_machine.rt): the proof of what its contract
--- says. Does the next item.
+-- `ReversibleMachine::step_on` of snap_debug (src/reversible_machine.rt): the proof of what its contract says.
 use Rattle.std.proofs.Common.{◌+◌, refl, sym}
 use Rattle.snap_debug.proofs.ReversibleMachines.{leads_on}
 use Rattle.snap_debug.proofs.Recordings.{checkpoint_next}

@@ -1,5 +1,4 @@
--- `Session::last_stop` of snap_debug (src/session.rt): the proof of what its contract says. Returns the last stop
--- before the position, and 0 if there is none.
+-- `Session::last_stop` of snap_debug (src/session.rt): the proof of what its contract says.
 use Rattle.std.proofs.Common.{◌≤◌, length, subst, sym}
 use Rattle.std.specs.Prelude.{IfOk}
 use Rattle.snap_debug.specs.Session.{Session}

@@ -1,5 +1,4 @@
--- `Walk::step` of snap_debug (src/stops.rt): the proof of what its contract says. Does the next item, and returns
--- whether marks stop at it.
+-- `Walk::step` of snap_debug (src/stops.rt): the proof of what its contract says.
 use Rattle.std.proofs.Common.{◌∙◌}
 use Rattle.snap_debug.proofs.Walks.{stop_between}
 use Rattle.snap_debug.proofs.stops.Walk.step.Goals as goal

@@ -1,5 +1,4 @@
--- `Shrinker::removable` of snap_hunt (src/trials.rt): what holds at the head of each of its loops. Returns the first
--- item without which the run still fails.
+-- `Shrinker::removable` of snap_hunt (src/trials.rt): what holds at the head of each of its loops.
 use Rattle.std.proofs.Common.{ℕ, ◌<◌}
 use Rattle.snap_hunt.specs.Shrinking.{HoldsWith, without}
 use Rattle.snap_hunt.proofs.trials.Shrinker.removable.Given as goal

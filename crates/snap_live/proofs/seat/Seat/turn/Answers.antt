@@ -1,5 +1,4 @@
--- `Seat::turn` of snap_live (src/seat.rt): the proof of what its contract says. Makes a turn with an item of the
--- seat's process.
+-- `Seat::turn` of snap_live (src/seat.rt): the proof of what its contract says.
 use Rattle.std.proofs.Common.{subst, ◌+◌}
 use Rattle.snap_live.specs.Shown.{IsTurn, SeatView}
 use Rattle.snap_live.proofs.Opening.{turns_seat, seat_view}

@@ -1,5 +1,4 @@
--- `Machine::call` of snap_machine (src/machine.rt): the proof of what its contract says. Calls `op` at process `i`, which begins it or
--- skips the call, and returns the outcome.
+-- `Machine::call` of snap_machine (src/machine.rt): the proof of what its contract says.
 use Rattle.std.proofs.Common.{rules, ◌≡◌, length, map, refl, ap, subst, ◌∙◌}
 use Rattle.snap_machine.specs.SeenProcesses.{seen_process}
 use Rattle.snap_machine.specs.Sizes.{AllSized}

@@ -1,4 +1,4 @@
--- `Machine::copy` of snap_machine (src/machine.rt): the proof of what its contract says. Returns a copy of the machine.
+-- `Machine::copy` of snap_machine (src/machine.rt): the proof of what its contract says.
 use Rattle.std.proofs.Common.{map, ap, ◌∙◌}
 use Rattle.snap_regs.specs.Store.{Store}
 use Rattle.snap_machine.specs.SeenProcesses.{seen_process}

@@ -1,4 +1,4 @@
--- `Machine::crash` of snap_machine (src/machine.rt): the proof of what its contract says. Crashes process `i`, and returns the outcome.
+-- `Machine::crash` of snap_machine (src/machine.rt): the proof of what its contract says.
 use Rattle.std.proofs.Common.{rules, ◌≡◌, length, map, refl, ap, subst, ◌∙◌}
 use Rattle.snap_machine.specs.SeenProcesses.{seen_process}
 use Rattle.snap_machine.specs.Sizes.{AllSized}

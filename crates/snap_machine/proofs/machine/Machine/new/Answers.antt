@@ -1,5 +1,4 @@
--- `Machine::new` of snap_machine (src/machine.rt): the proof of what its contract says. Returns a machine in the
--- initial state.
+-- `Machine::new` of snap_machine (src/machine.rt): the proof of what its contract says.
 use Rattle.std.proofs.Common.{◌≡◌, map, replicate, sym, subst}
 use Rattle.std.proofs.lemmas.List.Elements.{All-replicate}
 use Rattle.snap_semantics.specs.State.{Process, initial_process}

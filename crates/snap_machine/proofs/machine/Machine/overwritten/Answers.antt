@@ -1,5 +1,4 @@
--- `Machine::overwritten` of snap_machine (src/machine.rt): the proof of what its contract says. Returns what `item`
--- would overwrite in this state: once that is put back after the item, everything is as before.
+-- `Machine::overwritten` of snap_machine (src/machine.rt): the proof of what its contract says.
 use Rattle.std.proofs.Common.{◌-◌, ◌<◌, length, ap, arith, subst}
 use Rattle.snap_semantics.specs.State.{process_at}
 use Rattle.snap_semantics.specs.Table.{who}

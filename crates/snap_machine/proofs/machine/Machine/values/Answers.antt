@@ -1,5 +1,4 @@
--- `Machine::values` of snap_machine (src/machine.rt): the proof of what its contract says. Returns the values of the
--- words.
+-- `Machine::values` of snap_machine (src/machine.rt): the proof of what its contract says.
 use Rattle.std.proofs.Common.{◌≡◌, ℕ, ◌+◌, ◌-◌, List, length, get_or, arith, sym, ap, ◌∙◌}
 use Rattle.snap_words.specs.Shape.{Counts}
 use Rattle.snap_words.specs.Word.{Word, no_word}

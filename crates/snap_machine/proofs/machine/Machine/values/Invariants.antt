@@ -1,5 +1,4 @@
--- `Machine::values` of snap_machine (src/machine.rt): what holds at the head of each of its loops. Returns the values
--- of the words.
+-- `Machine::values` of snap_machine (src/machine.rt): what holds at the head of each of its loops.
 use Rattle.std.proofs.Common.{◌≡◌, map, take}
 use Rattle.snap_words.specs.Word.{Word}
 use Rattle.snap_machine.proofs.machine.Machine.values.Given as goal

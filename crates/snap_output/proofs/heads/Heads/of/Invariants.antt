@@ -1,5 +1,4 @@
--- `Heads::of` of snap_output (src/heads.rt): what holds at the head of its loop. Returns the first lines of the
--- processes of a machine.
+-- `Heads::of` of snap_output (src/heads.rt): what holds at the head of its loop.
 use Rattle.std.proofs.Common.{◌≡◌, ◌+◌, ◌++◌, drop, map}
 use Rattle.snap_text.specs.Drafted.{Drafted}
 use Rattle.snap_output.specs.Touched.{head_texts}

@@ -1,5 +1,4 @@
--- `Heads::renew` of snap_output (src/heads.rt): the proof of what its contract says. Puts the first line of a process in
--- the place of its last one, and appends the change.
+-- `Heads::renew` of snap_output (src/heads.rt): the proof of what its contract says.
 use Rattle.std.proofs.Common.{◌-◌, ◌++◌, ap, slice_set, ◌∙◌}
 use Rattle.std.proofs.lemmas.List.{map-set}
 use Rattle.snap_semantics.specs.Report.{head_line}

@@ -1,4 +1,4 @@
--- `Prompt::push_agreed` of snap_prompt (src/prompt.rt): the proof of what its contract says. Does what was agreed to.
+-- `Prompt::push_agreed` of snap_prompt (src/prompt.rt): the proof of what its contract says.
 use Rattle.snap_prompt.proofs.GoesOn.{agreeing_goes_on}
 use Rattle.snap_prompt.proofs.prompt.Prompt.push_agreed.Goals as goal
 

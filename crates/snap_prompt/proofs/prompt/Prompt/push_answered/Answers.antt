@@ -1,5 +1,4 @@
--- `Prompt::push_answered` of snap_prompt (src/prompt.rt): the proof of what its contract says. Appends an answer to a
--- line, and returns whether the dialog goes on.
+-- `Prompt::push_answered` of snap_prompt (src/prompt.rt): the proof of what its contract says.
 use Rattle.std.proofs.Common.{◌≡◌, ℕ, List, Err, refl, subst}
 use Rattle.snap_semantics.specs.Answers.{IsRefusal}
 use Rattle.snap_semantics.specs.declared.fault.Fault.{Fault}

@@ -1,5 +1,4 @@
 -- `Prompt::push_meant` of snap_prompt (src/prompt.rt): the proof of what its contract says.
--- Does what is meant by a line, and adds what is answered.
 use Rattle.snap_prompt.proofs.GoesOn.{adding_goes_on, end_goes_on, until_goes_on}
 use Rattle.snap_prompt.proofs.prompt.Prompt.push_meant.Goals as goal
 

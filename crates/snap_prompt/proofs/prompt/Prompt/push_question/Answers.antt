@@ -1,5 +1,4 @@
--- `Prompt::push_question` of snap_prompt (src/prompt.rt): the proof of what its contract says. Appends the question
--- before items are dropped.
+-- `Prompt::push_question` of snap_prompt (src/prompt.rt): the proof of what its contract says.
 use Rattle.std.proofs.Common.{◌≡◌, ◌-◌, ℕ, append_assoc, length, ap, refl}
 use Rattle.snap_debug.specs.Session.{Session, total}
 use Rattle.snap_prompt.specs.Prompt.{Prompt}

@@ -1,5 +1,4 @@
--- `History::push_reserved` of snap_record (src/items.rt): the proof of what its contract says. Appends an item, for
--- which there is room.
+-- `History::push_reserved` of snap_record (src/items.rt): the proof of what its contract says.
 use Rattle.std.proofs.Common.{[], ◌∷◌, ◌++◌, sym, ap, ◌∙◌}
 use Rattle.snap_semantics.specs.declared.process.Item.{Item}
 use Rattle.snap_record.specs.Items.{HistoryView, kept_items}

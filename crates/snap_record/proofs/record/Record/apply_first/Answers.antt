@@ -1,5 +1,4 @@
--- `Record::apply_first` of snap_record (src/record.rt): the proof of what its contract says. Does the first `count` of
--- `items`.
+-- `Record::apply_first` of snap_record (src/record.rt): the proof of what its contract says.
 use Rattle.std.proofs.Common.{◌<◌, arith}
 use Rattle.snap_record.proofs.Doing.{all_done, one_done}
 use Rattle.snap_record.proofs.record.Record.apply_first.Goals as goal

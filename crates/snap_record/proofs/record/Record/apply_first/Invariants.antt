@@ -1,5 +1,4 @@
--- `Record::apply_first` of snap_record (src/record.rt): what holds at the head of each of its loops. Does the first
--- `count` of `items`.
+-- `Record::apply_first` of snap_record (src/record.rt): what holds at the head of each of its loops.
 use Rattle.std.proofs.Common.{◌-◌}
 use Rattle.snap_record.proofs.Doing.{Doing}
 use Rattle.snap_record.proofs.record.Record.apply_first.Given as goal

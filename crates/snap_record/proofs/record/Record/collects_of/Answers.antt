@@ -1,5 +1,4 @@
--- `Record::collects_of` of snap_record (src/record.rt): the proof of what its contract says. Returns how many double
--- collects the scan makes that item `call` calls, up to its answer or to the last item; `None` where it calls none.
+-- `Record::collects_of` of snap_record (src/record.rt): the proof of what its contract says.
 use Rattle.std.proofs.Common.{◌+◌, List, drop, get_or, sym, ap, ◌∙◌, arith}
 use Rattle.std.proofs.lemmas.Bool.{eq-eqb}
 use Rattle.snap_semantics.specs.declared.event.Event.{Event}

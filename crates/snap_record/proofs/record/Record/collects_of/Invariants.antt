@@ -1,6 +1,4 @@
--- `Record::collects_of` of snap_record (src/record.rt): what holds at the head of each of its loops. Returns how many
--- double collects the scan makes that item `call` calls, up to its answer or to the last item; `None` where it calls
--- none.
+-- `Record::collects_of` of snap_record (src/record.rt): what holds at the head of each of its loops.
 use Rattle.std.proofs.Common.{◌≡◌, ◌-◌, drop, length}
 use Rattle.snap_record.specs.Searches.{found_collects}
 use Rattle.snap_record.proofs.record.Record.collects_of.Given as goal

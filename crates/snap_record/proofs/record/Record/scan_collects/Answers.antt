@@ -1,5 +1,4 @@
--- `Record::scan_collects` of snap_record (src/record.rt): the proof of what its contract says. Returns how many double
--- collects the scan makes that event `k` calls; `None` where it calls none.
+-- `Record::scan_collects` of snap_record (src/record.rt): the proof of what its contract says.
 use Rattle.std.proofs.Common.{◌<◌, ◌≤◌, ◌+◌, ◌-◌, List, length, drop, get_or, map, sym, ap, subst, ◌∙◌, arith}
 use Rattle.std.proofs.lemmas.Grind.{get_or_default_zero}
 use Rattle.std.proofs.lemmas.List.{get_or_default}

@@ -1,5 +1,4 @@
--- `Registers::new` of snap_regs (src/registers.rt): the proof of what its contract says. Returns the registers of this
--- shape, none of them written.
+-- `Registers::new` of snap_regs (src/registers.rt): the proof of what its contract says.
 use Rattle.std.proofs.Common.{◌≡◌, ◌∙◌, map, replicate}
 use Rattle.snap_words.specs.declared.address.Bank.TheVariants as bank
 use Rattle.snap_regs.specs.Store.{rows_in}

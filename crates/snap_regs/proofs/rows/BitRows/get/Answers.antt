@@ -1,5 +1,4 @@
--- `BitRows::get` of snap_regs (src/rows.rt): the proof of what its contract says. Returns the bit of a row and a
--- column, counted from 0.
+-- `BitRows::get` of snap_regs (src/rows.rt): the proof of what its contract says.
 use Rattle.std.proofs.Common.{◌∙◌, arith}
 use Rattle.snap_regs.proofs.RowsOfBits.{at_most_one, bit_read, place_there}
 use Rattle.snap_regs.proofs.rows.BitRows.get.Goals as goal

@@ -1,5 +1,4 @@
 -- `BitRows::set` of snap_regs (src/rows.rt): the proof of what its contract says.
--- Sets the bit of a row and a column, counted from 0.
 use Rattle.std.proofs.Common.{arith}
 use Rattle.snap_regs.proofs.RowsOfBits.{rows_of-put, place_there}
 use Rattle.snap_regs.proofs.rows.BitRows.set.Goals as goal

@@ -1,5 +1,4 @@
--- `BitRows::zeros` of snap_regs (src/rows.rt): the proof of what its contract says. Returns `rows` rows of `columns`
--- zeros.
+-- `BitRows::zeros` of snap_regs (src/rows.rt): the proof of what its contract says.
 use Rattle.std.proofs.Common.{◌≡◌, ◌∙◌, ◌*◌, ap, List, Bool, false, replicate, rules}
 use Rattle.snap_regs.specs.Rows.{rows_of}
 use Rattle.snap_regs.proofs.RowsOfBits.{rows_of-zeros}

@@ -1,5 +1,4 @@
--- `Items::item` of snap_sched (src/item_iter.rt): what holds at the head of each of its loops. Returns item `t`,
--- counted from 1; `None` where there are fewer.
+-- `Items::item` of snap_sched (src/item_iter.rt): what holds at the head of each of its loops.
 use Rattle.std.proofs.Common.{◌≡◌, ◌-◌, ◌≤◌, slice_get}
 use Rattle.snap_sched.proofs.items.Items.item.Given as goal
 

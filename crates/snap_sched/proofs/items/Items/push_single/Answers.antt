@@ -1,5 +1,4 @@
--- `Items::push_single` of snap_sched (src/items.rt): the proof of what its contract says. Appends a call or a crash of
--- `process`.
+-- `Items::push_single` of snap_sched (src/items.rt): the proof of what its contract says.
 use Rattle.snap_sched.specs.Kept.{segments_of}
 use Rattle.snap_sched.proofs.Keeping.{single_added}
 use Rattle.snap_sched.proofs.items.Items.push_single.Goals as goal

@@ -1,5 +1,4 @@
--- `Items::push_steps` of snap_sched (src/items.rt): the proof of what its contract says. Appends `count` steps of
--- `process`.
+-- `Items::push_steps` of snap_sched (src/items.rt): the proof of what its contract says.
 use Rattle.std.proofs.Common.{◌<◌, arith}
 use Rattle.snap_sched.specs.Kept.{segments_of}
 use Rattle.snap_sched.proofs.Keeping.{same_process, other_process, steps_added, steps_joined}

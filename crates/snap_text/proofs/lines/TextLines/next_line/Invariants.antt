@@ -1,5 +1,4 @@
--- `TextLines::next_line` of snap_text (src/lines.rt): what holds at the head of each of its loops. Takes the next line
--- that has tokens; `None` where none is left.
+-- `TextLines::next_line` of snap_text (src/lines.rt): what holds at the head of each of its loops.
 use Rattle.std.proofs.Common.{length, ◌+◌, ◌≡◌, ◌<◌, ◌^◌}
 use Rattle.snap_semantics.specs.Token.{lines_of, numbered}
 use Rattle.snap_text.proofs.lines.TextLines.next_line.Given as goal

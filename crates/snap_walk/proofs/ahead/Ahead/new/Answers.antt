@@ -1,4 +1,4 @@
--- `Ahead::new` of snap_walk (src/ahead.rt): the proof of what its contract says. Returns the items in order.
+-- `Ahead::new` of snap_walk (src/ahead.rt): the proof of what its contract says.
 use Rattle.snap_sched.proofs.NextItem.{started}
 use Rattle.snap_walk.proofs.Left.{refilled}
 use Rattle.snap_walk.proofs.ahead.Ahead.new.Goals as goal

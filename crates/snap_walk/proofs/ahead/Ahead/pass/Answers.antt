@@ -1,5 +1,4 @@
--- `Ahead::pass` of snap_walk (src/ahead.rt): the proof of what its contract says. Goes on behind the item that comes
--- next.
+-- `Ahead::pass` of snap_walk (src/ahead.rt): the proof of what its contract says.
 use Rattle.std.proofs.Common.{◌≡◌, ◌<◌, ◌∷◌, List, length, sym, ap, subst, ◌∙◌, arith}
 use Rattle.snap_semantics.specs.declared.process.Item.{Item}
 use Rattle.snap_sched.specs.Segments.{items_of_segments}

@@ -1,5 +1,4 @@
--- `Ahead::pass_alike` of snap_walk (src/ahead.rt): the proof of what its contract says. Goes on behind the items that
--- come next and are alike, and returns how many they are.
+-- `Ahead::pass_alike` of snap_walk (src/ahead.rt): the proof of what its contract says.
 use Rattle.std.proofs.Common.{◌++◌, List, replicate, sym, ap, ◌∙◌}
 use Rattle.snap_semantics.specs.declared.process.Item.{Item}
 use Rattle.snap_walk.proofs.Left.{refilled}

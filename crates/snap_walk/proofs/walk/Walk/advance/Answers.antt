@@ -1,5 +1,4 @@
--- `Walk::advance` of snap_walk (src/walk.rt): the proof of what its contract says. Does items up to the next one that is
--- told, and that one.
+-- `Walk::advance` of snap_walk (src/walk.rt): the proof of what its contract says.
 use Rattle.std.proofs.Common.{◌≡◌, true, refl, sym, subst, ◌∙◌}
 use Rattle.snap_semantics.specs.State.{process_at}
 use Rattle.snap_semantics.specs.Table.{who}

@@ -1,5 +1,4 @@
--- `Walk::advance` of snap_walk (src/walk.rt): what holds at the head of each of its loops. Does items up to the next one
--- that is told, and that one.
+-- `Walk::advance` of snap_walk (src/walk.rt): what holds at the head of each of its loops.
 use Rattle.std.proofs.Common.{◌-◌, length}
 use Rattle.snap_walk.specs.Walk.{PassesOver}
 use Rattle.snap_walk.proofs.walk.Walk.advance.Given as goal

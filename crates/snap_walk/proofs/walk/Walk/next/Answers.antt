@@ -1,4 +1,4 @@
--- `Walk::next` of snap_walk (src/walk.rt): the proof of what its contract says. Does the next item, if there is one.
+-- `Walk::next` of snap_walk (src/walk.rt): the proof of what its contract says.
 use Rattle.snap_walk.proofs.Over.{passed_next, told_activity}
 use Rattle.snap_walk.proofs.walk.Walk.next.Goals as goal
 

@@ -1,5 +1,4 @@
--- `Walk::pass_idle` of snap_walk (src/walk.rt): the proof of what its contract says. Passes over the items that come next
--- and are alike, which are steps of a process that is not busy.
+-- `Walk::pass_idle` of snap_walk (src/walk.rt): the proof of what its contract says.
 use Rattle.std.proofs.Common.{arith}
 use Rattle.snap_walk.proofs.Walks.{few_done, few_skipped, idle_within, passes_idle, walks_idle}
 use Rattle.snap_walk.proofs.walk.Walk.pass_idle.Goals as goal

@@ -1,5 +1,4 @@
--- `Walk::step_at` of snap_walk (src/walk.rt): the proof of what its contract says. Does the next item, which is a step
--- of process `i`, which is at `activity`.
+-- `Walk::step_at` of snap_walk (src/walk.rt): the proof of what its contract says.
 use Rattle.std.proofs.Common.{◌≡◌, suc, sym, ap, subst, ◌∙◌}
 use Rattle.snap_semantics.specs.State.{State, process_at}
 use Rattle.snap_semantics.specs.declared.process.Item.TheVariants.{Step}

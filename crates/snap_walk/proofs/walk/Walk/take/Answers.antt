@@ -1,5 +1,4 @@
--- `Walk::take` of snap_walk (src/walk.rt): the proof of what its contract says. Does the next item, which is no step of
--- a busy process, and returns its outcome.
+-- `Walk::take` of snap_walk (src/walk.rt): the proof of what its contract says.
 use Rattle.std.proofs.Common.{◌≡◌, suc, sym, ap, subst, ◌+◌, arith}
 use Rattle.snap_runs.specs.Run.{item, run_over}
 use Rattle.snap_walk.specs.Walk.{Way}

@@ -1,5 +1,4 @@
--- `Handshakes::count` of snap_words (src/handshakes.rt): the proof of what its contract says. Returns how many
--- handshake bits there are.
+-- `Handshakes::count` of snap_words (src/handshakes.rt): the proof of what its contract says.
 use Rattle.std.proofs.Common.{◌∙◌, ℕ, List, length, ap, sym}
 use Rattle.snap_words.proofs.Masks.{length-mask_bits}
 use Rattle.snap_words.proofs.handshakes.Handshakes.count.Goals as goal

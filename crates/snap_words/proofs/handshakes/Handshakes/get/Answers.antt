@@ -1,5 +1,4 @@
--- `Handshakes::get` of snap_words (src/handshakes.rt): the proof of what its contract says. Returns the handshake bit
--- at `place`, counted from 0; `None` where there is none.
+-- `Handshakes::get` of snap_words (src/handshakes.rt): the proof of what its contract says.
 use Rattle.std.proofs.Common.{◌∙◌, ℕ, List, ap, arith}
 use Rattle.std.specs.List.{slice_get}
 use Rattle.snap_words.proofs.Masks.{bit_in_mask, no_bit_past}

@@ -1,5 +1,4 @@
--- `Handshakes::zeros` of snap_words (src/handshakes.rt): the proof of what its contract says. Returns `count` handshake
--- bits that are 0.
+-- `Handshakes::zeros` of snap_words (src/handshakes.rt): the proof of what its contract says.
 use Rattle.snap_words.proofs.Masks.{mask_bits-zero}
 use Rattle.snap_words.proofs.handshakes.Handshakes.zeros.Goals as goal
 

@@ -136,7 +136,7 @@ fn is_answer_or_trap(act: &Act) -> bool
     }
 }
 
-/// Returns whether a step is as wanted.
+/// Returns whether a step is one that `wanted` describes.
 fn meets(wanted: &StepPattern, step: &TraceStep) -> bool
     ensures { result ≡ meets wanted.now step.now }
 {
@@ -154,7 +154,7 @@ fn meets(wanted: &StepPattern, step: &TraceStep) -> bool
     }
 }
 
-/// Returns the first step from a place on that is as wanted.
+/// Returns the first step from a place on that `wanted` describes.
 pub fn first_from(steps: &[TraceStep], from: usize, wanted: StepPattern) -> Option<&TraceStep>
     ensures { option_map (λ s. s.now) result ≡ first_meeting wanted (drop from steps.now) }
 {
@@ -168,7 +168,7 @@ pub fn first_from(steps: &[TraceStep], from: usize, wanted: StepPattern) -> Opti
     None
 }
 
-/// Returns the last of the first places at which a step is as wanted.
+/// Returns the last of the first `count` places at which stands a step that `wanted` describes.
 pub fn last_before(steps: &[TraceStep], count: usize, wanted: StepPattern) -> Option<usize>
     requires { count ≤ length steps.now }
     ensures place { result ≡ last_before wanted steps.now count }
@@ -184,7 +184,8 @@ pub fn last_before(steps: &[TraceStep], count: usize, wanted: StepPattern) -> Op
     None
 }
 
-/// Returns the first of `count` places from `from` on at which a step is as wanted.
+/// Returns the first of `count` places from `from` on at which stands a step that `wanted`
+/// describes.
 pub fn first_within(
     steps: &[TraceStep],
     from: usize,

@@ -8,19 +8,19 @@ use Rattle.snap_semantics.specs.Listing.{max_text}
 use Rattle.snap_image.specs.Image.{CanSay, image_in, image_of}
 use Rattle.snap_image.specs.ImageListing.{commented_in}
 
--- what is assembled lists back as the canonical text of the text's listing, loads as that
--- listing, and is upgraded to itself
+-- what is assembled lists back as the canonical text of the text's listing, decodes to that listing, and is upgraded to
+-- itself
 abbrev pub ListsBack : Type 0
 ListsBack =
     (text image : List ℕ) (c : Commented) → commented_of text ≡ Ok c → assembled text ≡ Ok image →
     (listed image ≡ Ok (canonical_text c)) × (commented_in image ≡ Ok c) × (upgraded image ≡ Ok image)
 
--- a canonical text that is within the size of a text lists back as itself
+-- a canonical text of at most `max_text` bytes lists back as itself
 abbrev pub KeepsCanonical : Type 0
 KeepsCanonical =
     (c : Commented) → IsCommented c → length (canonical_text c) ≤ max_text →
     (assembled (canonical_text c) ≡ Ok (image_of c)) × (listed (image_of c) ≡ Ok (canonical_text c))
 
--- an image of either version is upgraded to that of the second
+-- an image of either version is upgraded to the image of the same listing in the second version
 abbrev pub Upgrades : Type 0
 Upgrades = (v : ImageVersion) (c : Commented) → IsCommented c → CanSay v c → upgraded (image_in v c) ≡ Ok (image_of c)

@@ -5,8 +5,8 @@ ghost use Rattle.snap_asm.specs.Laws.{KeepsCanonical, ListsBack, Upgrades};
 use snap_image::what_is_encoded_is_decoded;
 use snap_listing::{what_is_printed_is_read, what_is_read_with_comments_is_a_listing};
 
-/// What is assembled lists back as the canonical text of its listing, loads as that listing, and is
-/// upgraded to itself.
+/// What is assembled lists back as the canonical text of its listing, decodes to that listing, and
+/// is upgraded to itself.
 pub fn what_is_assembled_lists_back()
     ensures { ListsBack }
 {
@@ -14,7 +14,7 @@ pub fn what_is_assembled_lists_back()
     what_is_encoded_is_decoded();
 }
 
-/// A canonical text that is within the size of a text lists back as itself.
+/// A canonical text of at most 65,536 bytes lists back as itself.
 pub fn what_is_canonical_is_kept()
     ensures { KeepsCanonical }
 {
@@ -22,7 +22,7 @@ pub fn what_is_canonical_is_kept()
     what_is_encoded_is_decoded();
 }
 
-/// An image of either version is upgraded to that of the second.
+/// An image of either version is upgraded to the image of the same listing in the second version.
 pub fn what_is_encoded_is_upgraded()
     ensures { Upgrades }
 {

@@ -39,7 +39,7 @@ use Rattle.snap_regs.specs.Store.{HasColumns, IsOfShape, rows_in}
 use Rattle.snap_regs.proofs.NewRegisters.{IsOfShape-new}
 use Rattle.snap_regs.proofs.Words.{IsOfShape-set_word}
 use Rattle.snap_runs.proofs.Effects.{Does, goes, Writes, puts_word, puts_bit, puts_view, line_does}
-use Rattle.snap_asm_program.proofs.Declared.{is_view, rest_right}
+use Rattle.snap_asm_program.proofs.Declared.{is_view, rest_is_right}
 use Rattle.snap_machine.specs.Sizes.{AllSized, AreSized}
 use Rattle.snap_machine.proofs.Sizes.{AreSized-initial}
 use Rattle.snap_machine.proofs.Sizes.{place_below}
@@ -109,7 +109,7 @@ registers_sized s c m (puts_bit bits.P j i e k p x there) right h of =
     }
 registers_sized s c m (puts_view j x k) right h of =
     let v : List ℕ = value_at x c.locals.views [] in
-    let named = is_view s x (rest_right s (index_uses j) (view x ∷ []) right.1).0 in record {
+    let named = is_view s x (rest_is_right s (index_uses j) (view x ∷ []) right.1).0 in record {
       word_count = of.word_count;
       words_sized = of.words_sized;
       q_rows = of.q_rows;

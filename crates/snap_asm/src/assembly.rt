@@ -1,16 +1,14 @@
-//! From texts to images, from images to texts and to images of the version that is written, and
-//! from images to programs.
-ghost use Rattle.std.specs.Prelude.{◌≡◌, ◌≢◌, ◌<◌, ◌∷◌, ◌++◌};
-ghost use Rattle.std.specs.Prelude.{ℕ, List, IfOk, None, Ok, Err, length, take};
+//! `assemble`, `list`, `upgrade`, `load` and `program`: a text to its image, an image to its text,
+//! to the image of the second version (the one that is written) or to a program, and a listing to a
+//! program.
+ghost use Rattle.std.specs.Prelude.{◌≡◌, ◌≢◌, ◌<◌, IfOk, Ok, Err, length, take};
 ghost use Rattle.snap_semantics.specs.Answers.{Answers};
 ghost use Rattle.snap_image.specs.Assembly.{assembled, listed, upgraded};
 ghost use Rattle.snap_semantics.specs.CanonicalText.{canonical_text};
 ghost use Rattle.snap_semantics.specs.Comments.{Commented, IsCommented};
-ghost use Rattle.snap_image.specs.Image.{CanSay, image_in, image_of, signature};
-ghost use Rattle.snap_image.specs.ImageCodes.{of_code, versions};
+ghost use Rattle.snap_image.specs.Image.{HasUnknownVersion, IsImageOf, image_of, signature};
 ghost use Rattle.snap_image.specs.ImageListing.{listing_of_image};
 ghost use Rattle.snap_semantics.specs.declared.fault.Fault.TheVariants.{Refused};
-ghost use Rattle.snap_image.specs.declared.image.ImageVersion.{ImageVersion};
 ghost use Rattle.snap_semantics.specs.declared.refusal.ImageRefusal.TheVariants.{NotAnImage};
 ghost use Rattle.snap_semantics.specs.declared.refusal.ImageRefusal.TheVariants.{Version};
 ghost use Rattle.snap_semantics.specs.declared.refusal.ListingRefusal.TheVariants.{TooLong};
@@ -27,10 +25,11 @@ use std::alloc::{AllocError, Global};
 ///
 /// # Errors
 ///
-/// `Refused` with the first reason why `text` is no listing; `Memory` where memory runs out.
+/// `Refused` with the first reason why `text` is no listing; `Memory` where memory runs out. A text
+/// that is too long is refused even where memory runs out.
 #[tactic(auto, unfolding(snap_image::specs::Assembly::assembled))]
 pub fn assemble(alloc: Global, text: &[u8]) -> Result<Vec<u8>, ListingFault>
-    ensures image { Answers (λ image. image.items) result (assembled text.now) }
+    ensures answer { Answers (λ image. image.items) result (assembled text.now) }
     ensures too_long { max_text < length text.now → result ≡ Err (Refused TooLong) }
 {
     let listing = read(alloc, text)?;
@@ -42,17 +41,16 @@ pub fn assemble(alloc: Global, text: &[u8]) -> Result<Vec<u8>, ListingFault>
 ///
 /// # Errors
 ///
-/// `Refused` exactly if no listing has this image, with the first reason; `Memory` where memory
-/// runs out.
+/// `Refused` only if no listing has this image, with the first reason; `Memory` where memory runs
+/// out. A wrong signature or version is refused even then.
 #[tactic(auto, unfolding(snap_image::specs::Assembly::listed))]
 pub fn list(alloc: Global, image: &[u8]) -> Result<Vec<u8>, ImageFault>
     ensures answer { Answers (λ text. text.items) result (listed image.now) }
     ensures image { IfOk result (λ text. HaveOneListing image.now text.items) }
-    ensures every { (v : ImageVersion) (c : Commented) → IsCommented c → CanSay v c →
-        image.now ≡ image_in v c → Answers (λ text. text.items) result (Ok (canonical_text c)) }
+    ensures every { (c : Commented) → IsCommented c → IsImageOf image.now c →
+        Answers (λ text. text.items) result (Ok (canonical_text c)) }
     ensures not_an_image { take 4 image.now ≢ signature → result ≡ Err (Refused NotAnImage) }
-    ensures version { (b : ℕ) (rest : List ℕ) → image.now ≡ signature ++ b ∷ rest →
-        of_code versions b ≡ None → result ≡ Err (Refused Version) }
+    ensures version { HasUnknownVersion image.now → result ≡ Err (Refused Version) }
 {
     let listing = decode(alloc, image)?;
     let text = print(alloc, &listing)?;
@@ -64,16 +62,15 @@ pub fn list(alloc: Global, image: &[u8]) -> Result<Vec<u8>, ImageFault>
 ///
 /// # Errors
 ///
-/// `Refused` exactly if no listing has this image, with the first reason; `Memory` where memory
-/// runs out.
+/// `Refused` only if no listing has this image, with the first reason; `Memory` where memory runs
+/// out. A wrong signature or version is refused even then.
 #[tactic(auto, unfolding(snap_image::specs::Assembly::upgraded))]
 pub fn upgrade(alloc: Global, image: &[u8]) -> Result<Vec<u8>, ImageFault>
-    ensures answer { Answers (λ image. image.items) result (upgraded image.now) }
-    ensures every { (v : ImageVersion) (c : Commented) → IsCommented c → CanSay v c →
-        image.now ≡ image_in v c → Answers (λ image. image.items) result (Ok (image_of c)) }
+    ensures answer { Answers (λ out. out.items) result (upgraded image.now) }
+    ensures every { (c : Commented) → IsCommented c → IsImageOf image.now c →
+        Answers (λ out. out.items) result (Ok (image_of c)) }
     ensures not_an_image { take 4 image.now ≢ signature → result ≡ Err (Refused NotAnImage) }
-    ensures version { (b : ℕ) (rest : List ℕ) → image.now ≡ signature ++ b ∷ rest →
-        of_code versions b ≡ None → result ≡ Err (Refused Version) }
+    ensures version { HasUnknownVersion image.now → result ≡ Err (Refused Version) }
 {
     let listing = decode(alloc, image)?;
     let upgraded = encode(alloc, &listing)?;
@@ -84,17 +81,16 @@ pub fn upgrade(alloc: Global, image: &[u8]) -> Result<Vec<u8>, ImageFault>
 ///
 /// # Errors
 ///
-/// `Refused` exactly if no listing has this image, with the first reason; `Memory` where memory
-/// runs out.
+/// `Refused` only if no listing has this image, with the first reason; `Memory` where memory runs
+/// out. A wrong signature or version is refused even then.
 #[tactic(auto, unfolding(snap_image::specs::ImageListing::listing_of_image))]
 pub fn load(alloc: Global, image: &[u8]) -> Result<Program, ImageFault>
     ensures answer { Answers (λ p. p) result (listing_of_image image.now) }
     ensures image { IfOk result (λ p. HasListing image.now p) }
-    ensures every { (v : ImageVersion) (c : Commented) → IsCommented c → CanSay v c →
-        image.now ≡ image_in v c → Answers (λ p. p) result (Ok c.source) }
+    ensures every { (c : Commented) → IsCommented c → IsImageOf image.now c →
+        Answers (λ p. p) result (Ok c.source) }
     ensures not_an_image { take 4 image.now ≢ signature → result ≡ Err (Refused NotAnImage) }
-    ensures version { (b : ℕ) (rest : List ℕ) → image.now ≡ signature ++ b ∷ rest →
-        of_code versions b ≡ None → result ≡ Err (Refused Version) }
+    ensures version { HasUnknownVersion image.now → result ≡ Err (Refused Version) }
 {
     let listing = decode(alloc, image)?;
     let program = crate::listing_program::load_listing(alloc, listing.into_listing())?;

@@ -6,7 +6,7 @@ use Rattle.snap_semantics.specs.declared.instr.Line.{Line}
 use Rattle.snap_semantics.specs.declared.refusal.ImageRefusal.{ImageRefusal}
 use Rattle.snap_semantics.specs.Answers.{Answers}
 use Rattle.snap_semantics.specs.Comments.{Comment, Commented, IsCommented}
-use Rattle.snap_image.specs.Image.{CanSay, IsImageOf, image_in}
+use Rattle.snap_image.specs.Image.{IsImageOf}
 use Rattle.snap_image.specs.ImageForms.{Rest}
 use Rattle.snap_image.specs.ImageListing.{commented_in, ended, head_in, lines_in}
 use Rattle.snap_semantics.specs.Listing.{checked_targets, line_targets, with_lines}
@@ -22,11 +22,11 @@ only_images bytes fits (Err fault) h = tt
 
 pub every_image : (bytes : List ℕ) (answer : Result Commented (Fault ImageRefusal)) →
     Answers (λ (l : Commented). l) answer (commented_in bytes) →
-    (v : ImageVersion) (c : Commented) → IsCommented c → CanSay v c → bytes ≡ image_in v c →
+    (c : Commented) → IsCommented c → IsImageOf bytes c →
     Answers (λ (l : Commented). l) answer (let r : Result Commented ImageRefusal = Ok c in r)
-every_image bytes answer h v c listing said e =
+every_image bytes answer h c listing image =
     subst (λ (r : Result Commented ImageRefusal). Answers (λ (l : Commented). l) answer r)
-    (ap commented_in e ∙ decodes_all v c listing said) h
+    (ap commented_in image.2 ∙ decodes_all image.0 c listing image.1) h
 
 -- what was read keeps the rules of listings with comments, where the targets were looked for among its lines
 pub read_is_listing : (bytes : List ℕ) → ((i : ℕ) → Fits w8 (slice_index_or bytes i 0)) →

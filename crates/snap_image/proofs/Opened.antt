@@ -5,7 +5,7 @@ use Rattle.std.proofs.lemmas.Slice.Eq.{bytes_eq-Decides}
 use Rattle.snap_image.specs.declared.image.ImageVersion.{ImageVersion}
 use Rattle.snap_semantics.specs.declared.refusal.ImageRefusal.TheVariants.{NotAnImage, Version}
 use Rattle.snap_semantics.specs.Answers.{◌>>=◌}
-use Rattle.snap_image.specs.Image.{signature}
+use Rattle.snap_image.specs.Image.{HasUnknownVersion, signature}
 use Rattle.snap_image.specs.ImageCodes.{of_code, versions}
 use Rattle.snap_image.specs.ImageForms.{Rest}
 use Rattle.snap_image.specs.ImageListing.{known_version, version_in}
@@ -30,6 +30,5 @@ unfolding version_in
 other_by b rest h = ap (λ (v : Option ImageVersion). known_version v (record { passed = 5; bytes = rest })) h
 
 -- the fifth is the code of no version
-pub of_another_version : (bytes : List ℕ) (b : ℕ) (rest : List ℕ) → bytes ≡ signature ++ b ∷ rest →
-    of_code versions b ≡ None → opened bytes ≡ Err Version
-of_another_version bytes b rest e h = ap opened e ∙ other_by b rest h
+pub of_another_version : (bytes : List ℕ) → HasUnknownVersion bytes → opened bytes ≡ Err Version
+of_another_version bytes unknown = ap opened unknown.2 ∙ other_by unknown.0 unknown.1 unknown.3

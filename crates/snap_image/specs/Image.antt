@@ -35,7 +35,7 @@ use Rattle.snap_image.specs.declared.instrs.InstrTag.TheVariants as form
 use Rattle.snap_image.specs.declared.image.ImageVersion.{ImageVersion}
 use Rattle.snap_image.specs.declared.image.ImageVersion.TheVariants as version
 use Rattle.snap_image.specs.ImageCodes.{term_code, expr_code, relation_code, join_code, Codes, range_code, version_code}
-use Rattle.snap_image.specs.ImageCodes.{kind_code}
+use Rattle.snap_image.specs.ImageCodes.{kind_code, of_code, versions}
 
 -- the place of a name, counted from 0; as many as there are for a name that is not among them
 abbrev pub slot : List Name → Name → ℕ
@@ -249,3 +249,8 @@ CanSay version.Second c = Unit {0}
 -- the bytes are an image of this listing
 abbrev pub IsImageOf : List ℕ → Commented → Type 0
 IsImageOf bytes c = (v : ImageVersion) × CanSay v c × (bytes ≡ image_in v c)
+
+-- the bytes begin with the signature of an image, but no version has the byte behind it
+abbrev pub HasUnknownVersion : List ℕ → Type 0
+HasUnknownVersion bytes =
+    (b : ℕ) × (rest : List ℕ) × (bytes ≡ signature ++ b ∷ rest) × (of_code versions b ≡ None)

@@ -1,14 +1,12 @@
 //! `decode`: the listing whose image some bytes are, with its comments, or the first reason why
 //! they are no image.
-ghost use Rattle.std.specs.Prelude.{◌≡◌, ◌≢◌, ℕ, List, ◌∷◌, ◌++◌, IfOk, None, Ok, Err, take};
+ghost use Rattle.std.specs.Prelude.{◌≡◌, ◌≢◌, ◌∷◌, IfOk, Ok, Err, take};
 ghost use Rattle.snap_semantics.specs.Answers.{Answers};
 ghost use Rattle.snap_semantics.specs.Comments.{Commented, IsCommented};
-ghost use Rattle.snap_image.specs.Image.{CanSay, IsImageOf, image_in, signature};
-ghost use Rattle.snap_image.specs.ImageCodes.{of_code, versions};
+ghost use Rattle.snap_image.specs.Image.{HasUnknownVersion, IsImageOf, signature};
 ghost use Rattle.snap_image.specs.ImageListing.{commented_in};
 ghost use Rattle.snap_semantics.specs.Listing.{checked_targets, line_targets};
 ghost use Rattle.snap_semantics.specs.declared.fault.Fault.TheVariants.{Refused};
-ghost use Rattle.snap_image.specs.declared.image.ImageVersion.{ImageVersion};
 ghost use Rattle.snap_semantics.specs.declared.refusal.ImageRefusal.{ImageRefusal};
 ghost use Rattle.snap_semantics.specs.declared.refusal.ImageRefusal.TheVariants.{NotAnImage};
 ghost use Rattle.snap_semantics.specs.declared.refusal.ImageRefusal.TheVariants.{Version};
@@ -55,16 +53,15 @@ fn decoded(alloc: Global, image: &[u8]) -> Result<CommentedListing, ImageFault>
 ///
 /// # Errors
 ///
-/// `Refused` exactly if no listing has this image in either version, with the first reason;
-/// `Memory` where memory runs out.
+/// `Refused` only if no listing has this image in either version, with the first reason; `Memory`
+/// where memory runs out. A wrong signature or version is refused even then.
 pub fn decode(alloc: Global, image: &[u8]) -> Result<CommentedListing, ImageFault>
     ensures answer { Answers (λ l. l) result (commented_in image.now) }
     ensures image { IfOk result (λ l. IsImageOf image.now l) }
-    ensures every { (v : ImageVersion) (c : Commented) → IsCommented c → CanSay v c →
-        image.now ≡ image_in v c → Answers (λ l. l) result (Ok c) }
+    ensures every { (c : Commented) → IsCommented c → IsImageOf image.now c →
+        Answers (λ l. l) result (Ok c) }
     ensures not_an_image { take 4 image.now ≢ signature → result ≡ Err (Refused NotAnImage) }
-    ensures version { (b : ℕ) (rest : List ℕ) → image.now ≡ signature ++ b ∷ rest →
-        of_code versions b ≡ None → result ≡ Err (Refused Version) }
+    ensures version { HasUnknownVersion image.now → result ≡ Err (Refused Version) }
 {
     decoded(alloc, image)
 }

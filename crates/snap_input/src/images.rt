@@ -1,10 +1,9 @@
 //! Images for the program's tasks: `assemble`, `list` and `upgrade`; and `program_of`, the program
 //! of a listing's text.
-ghost use Rattle.std.specs.Prelude.{◌≡◌, ◌≢◌, ◌<◌, ℕ, List, ◌∷◌, ◌++◌, None, Err, length, take};
+ghost use Rattle.std.specs.Prelude.{◌≡◌, ◌≢◌, ◌<◌, Err, length, take};
 ghost use Rattle.snap_semantics.specs.Answers.{Answers, refused_as};
 ghost use Rattle.snap_image.specs.Assembly.{assembled, listed, upgraded};
-ghost use Rattle.snap_image.specs.Image.{signature};
-ghost use Rattle.snap_image.specs.ImageCodes.{of_code, versions};
+ghost use Rattle.snap_image.specs.Image.{HasUnknownVersion, signature};
 ghost use Rattle.snap_semantics.specs.Listing.{listing_of, max_text};
 ghost use Rattle.snap_semantics.specs.declared.fault.Fault.TheVariants.{Refused};
 ghost use Rattle.snap_semantics.specs.declared.refusal.ImageRefusal.TheVariants.{NotAnImage};
@@ -22,7 +21,8 @@ use std::alloc::Global;
 ///
 /// # Errors
 ///
-/// `Refused` with the first reason why `text` is no listing; `Memory` where memory runs out.
+/// `Refused` with the first reason why `text` is no listing; `Memory` where memory runs out. A text
+/// that is too long is refused even where memory runs out.
 pub fn assemble(alloc: Global, text: &[u8]) -> Result<Vec<u8>, Fault<Refusal>>
     ensures image { Answers (λ image. image.items) result
         (refused_as refusal.Listing (assembled text.now)) }
@@ -36,14 +36,14 @@ pub fn assemble(alloc: Global, text: &[u8]) -> Result<Vec<u8>, Fault<Refusal>>
 ///
 /// # Errors
 ///
-/// `Refused` with the first reason why `image` is no image; `Memory` where memory runs out.
+/// `Refused` with the first reason why `image` is no image; `Memory` where memory runs out. A wrong
+/// signature or version is refused even then.
 pub fn list(alloc: Global, image: &[u8]) -> Result<Vec<u8>, Fault<Refusal>>
     ensures text { Answers (λ text. text.items) result
         (refused_as refusal.Image (listed image.now)) }
     ensures not_an_image { take 4 image.now ≢ signature →
         result ≡ Err (Refused (refusal.Image NotAnImage)) }
-    ensures version { (b : ℕ) (rest : List ℕ) → image.now ≡ signature ++ b ∷ rest →
-        of_code versions b ≡ None →
+    ensures version { HasUnknownVersion image.now →
         result ≡ Err (Refused (refusal.Image Version)) }
 {
     Ok(snap_asm::list(alloc, image)?)
@@ -53,14 +53,14 @@ pub fn list(alloc: Global, image: &[u8]) -> Result<Vec<u8>, Fault<Refusal>>
 ///
 /// # Errors
 ///
-/// `Refused` with the first reason why `image` is no image; `Memory` where memory runs out.
+/// `Refused` with the first reason why `image` is no image; `Memory` where memory runs out. A wrong
+/// signature or version is refused even then.
 pub fn upgrade(alloc: Global, image: &[u8]) -> Result<Vec<u8>, Fault<Refusal>>
-    ensures image { Answers (λ image. image.items) result
+    ensures image { Answers (λ out. out.items) result
         (refused_as refusal.Image (upgraded image.now)) }
     ensures not_an_image { take 4 image.now ≢ signature →
         result ≡ Err (Refused (refusal.Image NotAnImage)) }
-    ensures version { (b : ℕ) (rest : List ℕ) → image.now ≡ signature ++ b ∷ rest →
-        of_code versions b ≡ None →
+    ensures version { HasUnknownVersion image.now →
         result ≡ Err (Refused (refusal.Image Version)) }
 {
     Ok(snap_asm::upgrade(alloc, image)?)

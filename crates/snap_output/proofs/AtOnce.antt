@@ -6,7 +6,7 @@ use Rattle.std.specs.Prelude.{Option, Some, None, Result, Ok, Err, option_map, b
 use Rattle.std.proofs.lemmas.Bool.{false≢true, le-ltb, ltb-true}
 use Rattle.std.proofs.lemmas.List.{take-append-drop}
 use Rattle.std.proofs.lemmas.Slice.Eq.{bytes_eq-Decides}
-use Rattle.snap_image.specs.Image.{signature}
+use Rattle.snap_image.specs.Image.{HasUnknownVersion, signature}
 use Rattle.snap_image.specs.ImageCodes.{of_code, versions}
 use Rattle.snap_image.specs.declared.image.ImageVersion.{ImageVersion}
 use Rattle.snap_semantics.specs.declared.fault.Fault.{Fault}
@@ -65,14 +65,17 @@ module _ {X : Type 0} (result : Result X (Fault Refusal)) where
   of_signed false rest h k = of_one (refusal.Image NotAnImage) (h refl)
 
   pub of_head : (bytes : List ℕ) → (take 4 bytes ≢ signature → Refuses (refusal.Image NotAnImage)) →
-      ((b : ℕ) (rest : List ℕ) → bytes ≡ signature ++ b ∷ rest → of_code versions b ≡ None →
-      Refuses (refusal.Image Version)) →
+      (HasUnknownVersion bytes → Refuses (refusal.Image Version)) →
       Answered (option_map refusal.Image (wrong_head bytes))
   of_head bytes h k =
       let same = bytes_eq-Decides (take 4 bytes) signature in
       of_signed (bytes_eq (take 4 bytes) signature) (drop 4 bytes) (λ e. h (λ is. false≢true (sym e ∙ same.1 is)))
-      (λ e. of_rest (drop 4 bytes) (λ b rest is. k b rest
-      (sym (take-append-drop 4 bytes) ∙ ap (λ x. x ++ drop 4 bytes) (same.0 e) ∙ ap (λ x. signature ++ x) is)))
+      (λ e. of_rest (drop 4 bytes) (λ b rest is unknown. k (
+        b,
+        rest,
+        sym (take-append-drop 4 bytes) ∙ ap (λ x. x ++ drop 4 bytes) (same.0 e) ∙ ap (λ x. signature ++ x) is,
+        unknown,
+      )))
 
   -- of an input that is not too long
   pub of_list : (t : Task) (input : List ℕ) → t ≡ task.List → length input ≤ max_input →

@@ -14,4 +14,4 @@ pub returns-clause-not_an_image : goal.returns-clause-not_an_image
 returns-clause-not_an_image c h = c.decoded.ensures.opened NotAnImage (unsigned c.args.image.now h)
 
 pub returns-clause-version : goal.returns-clause-version
-returns-clause-version c v rest e h = c.decoded.ensures.opened Version (of_another_version c.args.image.now v rest e h)
+returns-clause-version c unknown = c.decoded.ensures.opened Version (of_another_version c.args.image.now unknown)

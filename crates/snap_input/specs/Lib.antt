@@ -3,3 +3,4 @@ pub mod Input
 pub mod Parts
 pub mod Schedules
 pub mod ManySchedules
+pub mod RefusesAtOnce

@@ -16,8 +16,7 @@ use std::thread::Threads;
 ///
 /// # Errors
 ///
-/// `Refused` with a reason why one of the texts is refused, which need not be the first; `Memory`
-/// where memory runs out.
+/// `Refused` or `Memory`; no clause says which, or why: call `read_schedules` for the reason.
 pub fn read_side_by_side(
     rt: &(impl Threads + Sync),
     alloc: Global,

@@ -1,11 +1,10 @@
 //! `parts_for`: the parts of an input, once they are counted: the listing, if it is not a shipped
 //! one, and the texts after it.
-ghost use Rattle.std.specs.Prelude.{◌≡◌, ◌≤◌, ◌<◌, ℕ, List, Err, IfOk, length, map};
+ghost use Rattle.std.specs.Prelude.{◌≡◌, ◌≤◌, ◌<◌, ℕ, List, IfOk, length, map};
 ghost use Rattle.snap_semantics.specs.Answers.{Answers};
-ghost use Rattle.snap_semantics.specs.declared.fault.Fault.TheVariants.{Refused};
-ghost use Rattle.snap_semantics.specs.declared.refusal.Refusal.{Refusal};
 ghost use Rattle.snap_input.specs.Input.{checked_parts, counted_parts, texts_for};
 ghost use Rattle.snap_input.specs.Parts.{max_input, parts_of};
+ghost use Rattle.snap_input.specs.RefusesAtOnce.{RefusesAtOnce};
 
 use crate::parts::{count_separators, split_parts};
 use snap_semantics::{Fault, Refusal};
@@ -40,13 +39,12 @@ fn check_parts(subject: Subject, count: usize, input: &[u8]) -> Result<(), Refus
     }
 }
 
-/// Returns the parts of `input`, which has `count` texts behind the listing. The parts are counted
-/// before they are collected.
+/// Returns the parts of `input`, which has `count` texts behind the listing.
 ///
 /// # Errors
 ///
-/// `Refused` with `WrongParts` where there is another number of them; `Memory` where memory runs
-/// out.
+/// `Refused` with `WrongParts` where there is another number of them, even where memory runs out;
+/// `Memory` where it does.
 pub fn parts_for(
     alloc: Global,
     subject: Subject,
@@ -56,8 +54,7 @@ pub fn parts_for(
     requires { length input.now ≤ max_input }
     ensures parts { Answers (λ parts. map (λ part. part.now) parts.items) result
         (counted_parts subject count (parts_of input.now)) }
-    ensures counted { (r : Refusal) → checked_parts subject count (parts_of input.now) ≡ Err r →
-        result ≡ Err (Refused r) }
+    ensures at_once { RefusesAtOnce (checked_parts subject count (parts_of input.now)) result }
     ensures some { IfOk result (λ parts. 0 < length parts.items) }
 {
     check_parts(subject, count, input)?;

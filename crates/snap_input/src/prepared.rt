@@ -1,12 +1,11 @@
 //! `prepare` and `prepare_schedules`: what a task on an input works on, which is the program of a
 //! listing and the texts behind it.
-ghost use Rattle.std.specs.Prelude.{◌≡◌, ◌≤◌, ◌<◌, Err, IfOk, length, map};
+ghost use Rattle.std.specs.Prelude.{◌≡◌, ◌≤◌, ◌<◌, IfOk, length, map};
 ghost use Rattle.snap_semantics.specs.Answers.{Answers};
-ghost use Rattle.snap_semantics.specs.declared.fault.Fault.TheVariants.{Refused};
-ghost use Rattle.snap_semantics.specs.declared.refusal.Refusal.{Refusal};
 ghost use Rattle.snap_input.specs.Input.{checked_parts, prepared, prepared_parts, texts_for};
 ghost use Rattle.snap_input.specs.ManySchedules.{checked_schedules, prepared_schedules};
 ghost use Rattle.snap_input.specs.Parts.{max_input, parts_of};
+ghost use Rattle.snap_input.specs.RefusesAtOnce.{RefusesAtOnce};
 ghost use Rattle.snap_tasks.specs.declared.subject.Subject.TheVariants.{FirstPart};
 
 use crate::counts::check_schedules;
@@ -53,13 +52,13 @@ fn prepare_parts<'a>(
     Ok(Prepared { program, texts })
 }
 
-/// Returns the program that a task runs, and the `count` texts behind its listing. The parts are
-/// counted before they are collected.
+/// Returns the program that a task runs, and the `count` texts behind its listing.
 ///
 /// # Errors
 ///
 /// `Refused` with `WrongParts` where there is another number of texts, or with the reason why the
-/// listing is refused; `Memory` where memory runs out.
+/// listing is refused; `Memory` where memory runs out. A wrong number of texts is refused even
+/// then.
 #[tactic(auto, unfolding(crate::specs::Input::prepared))]
 pub fn prepare<'a>(
     alloc: Global,
@@ -71,21 +70,20 @@ pub fn prepare<'a>(
     ensures prepared { Answers
         (λ p. record { source = p.program; texts = map (λ text. text.now) p.texts.items }) result
         (prepared subject count (parts_of input.now)) }
-    ensures counted { (r : Refusal) → checked_parts subject count (parts_of input.now) ≡ Err r →
-        result ≡ Err (Refused r) }
+    ensures at_once { RefusesAtOnce (checked_parts subject count (parts_of input.now)) result }
     ensures texts { IfOk result (λ p. length p.texts.items ≡ count) }
 {
     let parts = parts_for(alloc, subject, count, input)?;
     prepare_parts(alloc, subject, parts)
 }
 
-/// Returns the program that a task runs, and the 1 to 4,096 texts behind its listing. The parts are
-/// counted before they are collected.
+/// Returns the program that a task runs, and the 1 to 4,096 texts behind its listing.
 ///
 /// # Errors
 ///
 /// `Refused` with `WrongParts` where there is another number of texts, or with the reason why the
-/// listing is refused; `Memory` where memory runs out.
+/// listing is refused; `Memory` where memory runs out. A wrong number of texts is refused even
+/// then.
 #[tactic(auto, unfolding(crate::specs::ManySchedules::prepared_schedules))]
 pub fn prepare_schedules<'a>(
     alloc: Global,
@@ -96,8 +94,7 @@ pub fn prepare_schedules<'a>(
     ensures prepared { Answers
         (λ p. record { source = p.program; texts = map (λ text. text.now) p.texts.items }) result
         (prepared_schedules subject (parts_of input.now)) }
-    ensures counted { (r : Refusal) → checked_schedules subject (parts_of input.now) ≡ Err r →
-        result ≡ Err (Refused r) }
+    ensures at_once { RefusesAtOnce (checked_schedules subject (parts_of input.now)) result }
 {
     check_schedules(subject, input)?;
     prepare_parts(alloc, subject, split_parts(alloc, input)?)

@@ -32,12 +32,16 @@ abbrev pub came_text : List Event → List ℕ
 came_text [] = []
 came_text (e ∷ es) = codes "+ " ++ event_line e ++ came_text es
 
+-- what changed from these lines to those: of the registers, of the first line of process i, and of a local of it
+abbrev pub changes_text : ℕ → (registers registers' head head' local local' : List ℕ) → List ℕ
+changes_text i registers registers' head head' local local' =
+    text_between (lines_of registers) (lines_of registers') ++ changed_line head head' ++ changed_local i local local'
+
 -- What an item of process i changed: the register where it writes, with the values where it is a word; how its process
 -- stands, and the local that it writes; and events that came.
 abbrev pub touched_text : KindTag → ℕ → WritePlace → State → State → List Event → List ℕ
 touched_text g i written S S' new =
-    text_between (lines_of (written_shared g S written)) (lines_of (written_shared g S' written))
-    ++ changed_line (head_line i (process_at S i).status) (head_line i (process_at S' i).status)
-    ++ changed_local i (written_local g (process_at S i).locals written)
-    (written_local g (process_at S' i).locals written)
+    changes_text i (written_shared g S written) (written_shared g S' written)
+    (head_line i (process_at S i).status) (head_line i (process_at S' i).status)
+    (written_local g (process_at S i).locals written) (written_local g (process_at S' i).locals written)
     ++ came_text new

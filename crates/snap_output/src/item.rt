@@ -2,20 +2,18 @@
 //! changed in the report.
 ghost use Rattle.std.specs.Prelude.{◌≡◌, ◌-◌, [], ◌++◌, false, IfOk, IsTrue, OnOk};
 ghost use Rattle.std.specs.Prelude.{get_or, length, slice_set};
-ghost use Rattle.snap_text.specs.Changes.{text_between};
 ghost use Rattle.snap_text.specs.Drafted.{Adds};
 ghost use Rattle.snap_words.specs.Shape.{IsOneOf};
 ghost use Rattle.snap_semantics.specs.Report.{head_line};
 ghost use Rattle.snap_semantics.specs.Run.{event_of};
 ghost use Rattle.snap_semantics.specs.State.{process_at};
 ghost use Rattle.snap_semantics.specs.Table.{done, who};
-ghost use Rattle.snap_semantics.specs.Token.{lines_of};
 ghost use Rattle.snap_semantics.specs.declared.process.Outcome.TheVariants as outcomes;
 ghost use Rattle.snap_semantics.specs.declared.process.Reason.{Reason};
 ghost use Rattle.snap_record.specs.SeenRoles.{of_option};
 ghost use Rattle.snap_report.specs.WrittenLines.{written_local, written_shared};
 ghost use Rattle.snap_output.specs.Step.{done_text, head_text, line_run, number_text, run_text};
-ghost use Rattle.snap_output.specs.Touched.{came_text, changed_line, changed_local};
+ghost use Rattle.snap_output.specs.Touched.{came_text, changed_local, changes_text};
 ghost use Rattle.snap_output.specs.Touched.{head_texts, of_process};
 
 use crate::heads::Heads;
@@ -186,8 +184,8 @@ fn push_did(
 pub(crate) struct Sheet {
     out: Draft,
     heads: Heads,
-    before: PlaceLines,
-    after: PlaceLines,
+    lines_before: PlaceLines,
+    lines_after: PlaceLines,
 }
 
 impl Sheet {
@@ -199,8 +197,8 @@ impl Sheet {
         Ok(Sheet {
             out: Draft::new(alloc),
             heads: Heads::of(alloc, machine)?,
-            before: PlaceLines::new(alloc),
-            after: PlaceLines::new(alloc),
+            lines_before: PlaceLines::new(alloc),
+            lines_after: PlaceLines::new(alloc),
         })
     }
 
@@ -211,8 +209,8 @@ impl Sheet {
         let Sheet {
             out,
             heads: _,
-            before: _,
-            after: _,
+            lines_before: _,
+            lines_after: _,
         } = self;
         out.finish()
     }
@@ -222,26 +220,31 @@ impl Sheet {
     fn push_changed<K: Kind>(&mut self, machine: &Machine<K>, i: u32) -> Result<(), AllocError>
         requires process { IsOneOf machine.now.shape.n i }
         requires count { length self.old.heads ≡ machine.now.shape.n }
-        ensures text { OnOk result (Adds self.old.out self.new.out
-            (text_between (lines_of self.old.before.shared.text) (lines_of self.old.after.shared.text)
-            ++ changed_line (get_or self.old.heads (i - 1) [])
-            (head_line i (process_at machine.now.state i).status)
-            ++ changed_local i self.old.before.local.text self.old.after.local.text)) }
-        ensures well { OnOk result ((self.old.before.shared.failed ≡ false)
-            × (self.old.after.shared.failed ≡ false) × (self.old.before.local.failed ≡ false)
-            × (self.old.after.local.failed ≡ false)) }
+        ensures text { OnOk result (Adds self.old.out self.new.out (changes_text i
+            self.old.lines_before.shared.text self.old.lines_after.shared.text
+            (get_or self.old.heads (i - 1) []) (head_line i (process_at machine.now.state i).status)
+            self.old.lines_before.local.text self.old.lines_after.local.text)) }
+        ensures well { OnOk result ((self.old.lines_before.shared.failed ≡ false)
+            × (self.old.lines_after.shared.failed ≡ false)
+            × (self.old.lines_before.local.failed ≡ false)
+            × (self.old.lines_after.local.failed ≡ false)) }
         ensures heads { OnOk result (self.new.heads ≡ slice_set self.old.heads (i - 1)
             (head_line i (process_at machine.now.state i).status)) }
     {
         let Sheet {
             out,
             heads,
-            before,
-            after,
+            lines_before,
+            lines_after,
         } = self;
-        push_changes(out, before.shared.text()?, after.shared.text()?);
+        push_changes(out, lines_before.shared.text()?, lines_after.shared.text()?);
         heads.renew(out, machine, i)?;
-        push_changed_local(out, i, before.local.text()?, after.local.text()?);
+        push_changed_local(
+            out,
+            i,
+            lines_before.local.text()?,
+            lines_after.local.text()?,
+        );
         Ok(())
     }
 }
@@ -272,14 +275,14 @@ pub(crate) fn push_item<K: Kind>(
     let _shape = machine.shape();
     let _lines = machine.program().listing().lines();
     let place = machine.overwritten(item)?.write_place();
-    sheet.before.renew(machine, i, place);
+    sheet.lines_before.renew(machine, i, place);
     let outcome = machine.apply(item)?;
     push_did(&mut sheet.out, texts, number, i, &outcome, run);
     if is_skipped(&outcome) {
         let _skipped = sheet.out.text()?;
         return Ok(());
     }
-    sheet.after.renew(machine, i, place);
+    sheet.lines_after.renew(machine, i, place);
     sheet.push_changed(machine, i)?;
     push_came(&mut sheet.out, &event_of(number, item, outcome));
     let _well = sheet.out.text()?;

@@ -1,9 +1,8 @@
 //! `certify_input`: what the task `certify` writes for an input.
-ghost use Rattle.std.specs.Prelude.{◌≡◌, ◌≤◌, ◌<◌, Err, length, map};
-ghost use Rattle.snap_semantics.specs.declared.fault.Fault.TheVariants.{Refused};
-ghost use Rattle.snap_semantics.specs.declared.refusal.Refusal.{Refusal};
+ghost use Rattle.std.specs.Prelude.{◌≤◌, ◌<◌, length, map};
 ghost use Rattle.snap_input.specs.Input.{checked_parts, parted};
 ghost use Rattle.snap_input.specs.Parts.{max_input, part, parts_of};
+ghost use Rattle.snap_input.specs.RefusesAtOnce.{RefusesAtOnce};
 ghost use Rattle.snap_run_judge.specs.Judged.{AnswersJudged};
 ghost use Rattle.snap_certify.specs.Output.{WasJudgedIn, WasJudgedOver, certificates_text};
 
@@ -33,7 +32,8 @@ fn certify_texts(
 ///
 /// # Errors
 ///
-/// `Refused` with the reason why `input` is refused; `Memory` where memory runs out.
+/// `Refused` with the reason why `input` is refused; `Memory` where memory runs out. A wrong number
+/// of parts is refused even then.
 #[tactic(auto, unfolding(snap_input::specs::Input::parted, snap_input::specs::Input::prepared))]
 pub fn certify_input(
     alloc: Global,
@@ -43,8 +43,7 @@ pub fn certify_input(
     requires { length input.now ≤ max_input }
     ensures output { AnswersJudged (λ out. out.items) (WasJudgedIn subject (parts_of input.now))
         result (λ judged. parted subject 1 (parts_of input.now) (certificates_text judged)) }
-    ensures counted { (r : Refusal) → checked_parts subject 1 (parts_of input.now) ≡ Err r →
-        result ≡ Err (Refused r) }
+    ensures at_once { RefusesAtOnce (checked_parts subject 1 (parts_of input.now)) result }
 {
     let given = prepare(alloc, subject, 1, input)?;
     certify_texts(alloc, &given.program, given.texts.as_slice())

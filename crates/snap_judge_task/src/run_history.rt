@@ -2,11 +2,11 @@
 ghost use Rattle.std.specs.Prelude.{◌≡◌, ◌≤◌, ◌<◌, Err, IfOk, length, map};
 ghost use Rattle.snap_semantics.specs.Answers.{Answers};
 ghost use Rattle.snap_semantics.specs.declared.fault.Fault.TheVariants.{Refused};
-ghost use Rattle.snap_semantics.specs.declared.refusal.Refusal.{Refusal};
 ghost use Rattle.snap_semantics.specs.declared.refusal.Refusal.TheVariants.{InputTooLong};
 ghost use Rattle.snap_runs.specs.Run.{run_over};
 ghost use Rattle.snap_input.specs.Input.{checked_parts, parted};
 ghost use Rattle.snap_input.specs.Parts.{max_input, parts_of};
+ghost use Rattle.snap_input.specs.RefusesAtOnce.{RefusesAtOnce};
 ghost use Rattle.snap_judge.specs.History.{IsHistory};
 ghost use Rattle.snap_run_judge.specs.RunHistory.{history_of};
 ghost use Rattle.snap_judge_task.specs.Judged.{history_in, history_of_texts, run_history};
@@ -71,8 +71,7 @@ fn history_for(alloc: Global, subject: Subject, input: &[u8]) -> Result<History,
     ensures value { Answers (λ h. h) result
         (parted subject 1 (parts_of input.now) history_of_texts) }
     ensures history { IfOk result (λ h. IsHistory h) }
-    ensures counted { (r : Refusal) → checked_parts subject 1 (parts_of input.now) ≡ Err r →
-        result ≡ Err (Refused r) }
+    ensures at_once { RefusesAtOnce (checked_parts subject 1 (parts_of input.now)) result }
 {
     let given = prepare(alloc, subject, 1, input)?;
     run_history(alloc, &given.program, given.texts[0])
@@ -83,15 +82,15 @@ fn history_for(alloc: Global, subject: Subject, input: &[u8]) -> Result<History,
 ///
 /// # Errors
 ///
-/// `Refused` with the reason why `input` is refused; `Memory` where memory runs out.
+/// `Refused` with the reason why `input` is refused; `Memory` where memory runs out. An input that
+/// is too long or has a wrong number of parts is refused even then.
 #[tactic(auto, unfolding(crate::specs::Judged::history_in))]
 pub fn history_in(alloc: Global, subject: Subject, input: &[u8]) -> Result<History, Fault<Refusal>>
     ensures value { Answers (λ h. h) result (history_in subject input.now) }
     ensures history { IfOk result (λ h. IsHistory h) }
     ensures too_long { max_input < length input.now → result ≡ Err (Refused InputTooLong) }
-    ensures counted { length input.now ≤ max_input → (r : Refusal) →
-        checked_parts subject 1 (parts_of input.now) ≡ Err r →
-        result ≡ Err (Refused r) }
+    ensures at_once { length input.now ≤ max_input →
+        RefusesAtOnce (checked_parts subject 1 (parts_of input.now)) result }
 {
     if input.len() > MAX_INPUT {
         return Err(Fault::Refused(Refusal::InputTooLong));

@@ -31,7 +31,8 @@ pub struct LiveOutput {
 ///
 /// # Errors
 ///
-/// The reason why `input` is refused or the live run fails, or `Memory` where memory runs out.
+/// The reason why `input` is refused or the live run fails, or `Memory` where memory runs out. An
+/// input that is too long or has a wrong number of parts is refused even then.
 pub fn live_output<G: Gate, R: Threads + Wait + Sync>(
     rt: &R,
     alloc: Global,
@@ -44,7 +45,7 @@ pub fn live_output<G: Gate, R: Threads + Wait + Sync>(
     ensures answer { AnswersLive (G.may_answer gate.now) subject limit input.now result }
     ensures too_long { max_input < length input.now →
         result ≡ Err (fault.Refused refusal.InputTooLong) }
-    ensures counted { (r : Refusal) → length input.now ≤ max_input →
+    ensures at_once { (r : Refusal) → length input.now ≤ max_input →
         checked_parts subject 1 (parts_of input.now) ≡ Err r → result ≡ Err (fault.Refused r) }
 {
     let setup = setup_of(alloc, subject, input)?;

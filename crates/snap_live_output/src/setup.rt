@@ -3,12 +3,12 @@
 ghost use Rattle.std.specs.Prelude.{◌≡◌, ◌<◌, ◌≤◌, Err, length, map};
 ghost use Rattle.snap_semantics.specs.Answers.{Answers, refused_as};
 ghost use Rattle.snap_semantics.specs.declared.fault.Fault.TheVariants.{Refused};
-ghost use Rattle.snap_semantics.specs.declared.refusal.Refusal.{Refusal};
 ghost use Rattle.snap_semantics.specs.declared.refusal.Refusal.TheVariants as refusal;
 ghost use Rattle.snap_sched.specs.ScriptText.{AreScripts, scripts_of};
 ghost use Rattle.snap_live_output.specs.LiveOutput.{scripts_for, setup_for, setup_of, setup_text};
 ghost use Rattle.snap_input.specs.Input.{checked_parts};
 ghost use Rattle.snap_input.specs.Parts.{max_input, parts_of};
+ghost use Rattle.snap_input.specs.RefusesAtOnce.{RefusesAtOnce};
 
 use snap_asm_program::Program;
 use snap_input::{MAX_INPUT, Prepared, fits, prepare};
@@ -96,8 +96,7 @@ fn setup_texts(alloc: Global, program: Program, texts: &[&[u8]]) -> Result<Setup
 fn setup_for(alloc: Global, subject: Subject, input: &[u8]) -> Result<Setup, Fault<Refusal>>
     requires { length input.now ≤ max_input }
     ensures setup { Answers (λ s. s) result (setup_for subject (parts_of input.now)) }
-    ensures counted { (r : Refusal) → checked_parts subject 1 (parts_of input.now) ≡ Err r →
-        result ≡ Err (Refused r) }
+    ensures at_once { RefusesAtOnce (checked_parts subject 1 (parts_of input.now)) result }
 {
     let Prepared { program, texts } = prepare(alloc, subject, 1, input)?;
     setup_texts(alloc, program, texts.as_slice())
@@ -107,12 +106,13 @@ fn setup_for(alloc: Global, subject: Subject, input: &[u8]) -> Result<Setup, Fau
 ///
 /// # Errors
 ///
-/// `Refused` with the reason why `input` is refused; `Memory` where memory runs out.
+/// `Refused` with the reason why `input` is refused; `Memory` where memory runs out. An input that
+/// is too long or has a wrong number of parts is refused even then.
 pub fn setup_of(alloc: Global, subject: Subject, input: &[u8]) -> Result<Setup, Fault<Refusal>>
     ensures setup { Answers (λ s. s) result (setup_of subject input.now) }
     ensures too_long { max_input < length input.now → result ≡ Err (Refused refusal.InputTooLong) }
-    ensures counted { (r : Refusal) → length input.now ≤ max_input →
-        checked_parts subject 1 (parts_of input.now) ≡ Err r → result ≡ Err (Refused r) }
+    ensures at_once { length input.now ≤ max_input →
+        RefusesAtOnce (checked_parts subject 1 (parts_of input.now)) result }
 {
     if input.len() > MAX_INPUT {
         return Err(Fault::Refused(Refusal::InputTooLong));

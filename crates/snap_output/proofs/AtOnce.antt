@@ -69,13 +69,10 @@ module _ {X : Type 0} (result : Result X (Fault Refusal)) where
       Answered (option_map refusal.Image (wrong_head bytes))
   of_head bytes h k =
       let same = bytes_eq-Decides (take 4 bytes) signature in
+      let whole = sym (take-append-drop 4 bytes) in
       of_signed (bytes_eq (take 4 bytes) signature) (drop 4 bytes) (λ e. h (λ is. false≢true (sym e ∙ same.1 is)))
-      (λ e. of_rest (drop 4 bytes) (λ b rest is unknown. k (
-        b,
-        rest,
-        sym (take-append-drop 4 bytes) ∙ ap (λ x. x ++ drop 4 bytes) (same.0 e) ∙ ap (λ x. signature ++ x) is,
-        unknown,
-      )))
+      (λ e. of_rest (drop 4 bytes) (λ b rest is unknown.
+      k (b, rest, whole ∙ ap (λ x. x ++ drop 4 bytes) (same.0 e) ∙ ap (λ x. signature ++ x) is, unknown)))
 
   -- of an input that is not too long
   pub of_list : (t : Task) (input : List ℕ) → t ≡ task.List → length input ≤ max_input →

@@ -19,7 +19,7 @@ use Rattle.snap_input.specs.Input.{listing_for, parted}
 use Rattle.snap_input.specs.ManySchedules.{checked_schedules, schedules_for}
 use Rattle.snap_input.specs.Parts.{part, parts_of, max_input}
 use Rattle.snap_input.specs.Schedules.{schedule_for}
-use Rattle.snap_output.specs.ScheduleOutput.{audit_listing, batch_text, batched, verdicts_text}
+use Rattle.snap_output.specs.ScheduleOutput.{audit_listing, batch_text, batched, audit_of_first_text}
 use Rattle.snap_output.specs.Headline.{RunsBatches}
 use Rattle.snap_output.specs.Output.{of_task, output_of, run_text}
 use Rattle.snap_output.specs.Perform.{debug_text, perform_listing, perform_of}
@@ -133,7 +133,7 @@ run_refuses subject input =
 
 audit_refuses : (subject : Subject) (input : List ℕ) → RefusesInputs subject (task.Audit subject) 1 input
 audit_refuses subject input =
-    refuses subject (task.Audit subject) input 1 verdicts_text refl
+    refuses subject (task.Audit subject) input 1 audit_of_first_text refl
     (λ l texts r none. audits_none l (part 0 texts) r none) (λ l s r debugs is none. absurd cc)
 
 debug_refuses : (subject : Subject) (input : List ℕ) → RefusesInputs subject (task.Debug subject) 2 input

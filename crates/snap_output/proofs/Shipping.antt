@@ -35,7 +35,7 @@ use Rattle.snap_output.specs.Stages.{AreSchedulesFor, IsScheduleFor, texts_in}
 use Rattle.snap_shipped.specs.Shipped.{shipped}
 use Rattle.snap_input.specs.Input.{checked_parts, listing_for, parted, texts_for}
 use Rattle.snap_output.specs.Output.{of_task, output_of, run_text}
-use Rattle.snap_output.specs.ScheduleOutput.{audit_listing, batch_text, batched, verdicts_text}
+use Rattle.snap_output.specs.ScheduleOutput.{audit_listing, batch_text, batched, audit_of_first_text}
 use Rattle.snap_input.specs.ManySchedules.{checked_schedules, schedules_for}
 use Rattle.snap_input.specs.Parts.{part, parts_of, max_input}
 use Rattle.snap_output.proofs.ToTheEnd.{is_run}
@@ -160,7 +160,7 @@ writes_the_run s input text = record {
       let found = performed of.0 (part 0 (texts_in s input)) (part 1 (texts_in s input)) text of.2 in
       (of.0, found.0, found.1, record { listing = of.1; schedule = found.2 }, found.3, found.4);
   audits = λ e.
-      let of = of_listing s 1 (parts_of input) verdicts_text text (of_parts (task.Audit s) input text e) in
+      let of = of_listing s 1 (parts_of input) audit_of_first_text text (of_parts (task.Audit s) input text e) in
       let found = audited of.0 (part 0 (texts_in s input)) text of.2 in
       (of.0, found.0, record { listing = of.1; schedule = found.1 }, found.2);
   batches = λ e.
@@ -201,7 +201,7 @@ module _ (subject : Subject) (input : List ℕ) (l : Source) (s : Schedule) (sho
     debugs =
         λ cs two are.
         whole (task.Debug subject) ∙ given 2 debug_text two ∙ performs (part 1 (texts_in subject input)) cs are;
-    audits = λ one. whole (task.Audit subject) ∙ given 1 verdicts_text one ∙ audits;
+    audits = λ one. whole (task.Audit subject) ∙ given 1 audit_of_first_text one ∙ audits;
   }
 
 -- a schedule has fewer items than there are sequence numbers

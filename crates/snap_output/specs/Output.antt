@@ -16,7 +16,7 @@ use Rattle.snap_survey.specs.declared.survey_output.Output.{Output}
 use Rattle.snap_output.specs.Traces.{traces_text}
 use Rattle.snap_input.specs.Input.{parted}
 use Rattle.snap_input.specs.Parts.{part, parts_of, max_input}
-use Rattle.snap_output.specs.ScheduleOutput.{batched, verdicts_text}
+use Rattle.snap_output.specs.ScheduleOutput.{audit_of_first_text, batched}
 use Rattle.snap_output.specs.Perform.{debug_text, perform_listing}
 use Rattle.snap_tasks.specs.declared.subject.Subject.{Subject}
 use Rattle.snap_tasks.specs.declared.task.Task.{Task}
@@ -36,7 +36,7 @@ of_task judged task.Upgrade input = refused_as refusal.Image (upgraded input)
 of_task judged (task.Run s) input = parted s 1 (parts_of input) run_text
 of_task judged (task.Trace s) input = parted s 1 (parts_of input) traces_text
 of_task judged (task.Debug s) input = parted s 2 (parts_of input) debug_text
-of_task judged (task.Audit s) input = parted s 1 (parts_of input) verdicts_text
+of_task judged (task.Audit s) input = parted s 1 (parts_of input) audit_of_first_text
 of_task judged (task.Certify s) input = parted s 1 (parts_of input) (certificates_text judged)
 of_task judged (task.Batch s) input = batched s (parts_of input)
 of_task judged (task.Survey s) input = surveyed judged s (parts_of input)

@@ -19,6 +19,6 @@ run_listing l schedule = do
   s ← schedule_for l schedule
   Ok (end_text l s)
 
--- the first text as that schedule
-abbrev pub ended_text : Source → List (List ℕ) → Result (List ℕ) Refusal
-ended_text l texts = run_listing l (part 0 texts)
+-- what is written for the run of a listing whose schedule is the first of these texts
+abbrev pub run_of_first_text : Source → List (List ℕ) → Result (List ℕ) Refusal
+run_of_first_text l texts = run_listing l (part 0 texts)

@@ -18,9 +18,9 @@ audit_listing l schedule = do
   s ← schedule_for l schedule
   Ok (audit_text (run_over l s))
 
--- the first text as that schedule
-abbrev pub verdicts_text : Source → List (List ℕ) → Result (List ℕ) Refusal
-verdicts_text l texts = audit_listing l (part 0 texts)
+-- what is written for the audit of a listing whose schedule is the first of these texts
+abbrev pub audit_of_first_text : Source → List (List ℕ) → Result (List ℕ) Refusal
+audit_of_first_text l texts = audit_listing l (part 0 texts)
 
 -- schedules: the report of the end of each
 unfoldable pub batch_text : Source → List (List ℕ) → Result (List ℕ) Refusal

@@ -68,8 +68,7 @@ pub fn batch_program(
 ///
 /// # Errors
 ///
-/// `Refused` with the reason why one of the texts is refused, which need not be the first; `Memory`
-/// where memory runs out.
+/// `Refused` or `Memory`; no clause says which, or why: call `batch_program` for the reason.
 #[tactic(auto, unfolding(crate::specs::ScheduleOutput::batch_text))]
 pub fn batch_side_by_side(
     rt: &(impl Threads + Sync),

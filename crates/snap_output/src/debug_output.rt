@@ -1,15 +1,14 @@
 //! `perform`: what is written for a listing, a schedule and debugger commands, each command with
 //! its reply.
-ghost use Rattle.std.specs.Prelude.{◌≡◌, ◌++◌, Err, IfOk, OnOk, Some};
+ghost use Rattle.std.specs.Prelude.{◌≡◌, ◌++◌, IfOk, OnOk};
 ghost use Rattle.snap_text.specs.Drafted.{Adds};
 ghost use Rattle.snap_runs.specs.Run.{run_over};
 ghost use Rattle.snap_semantics.specs.Answers.{Answers, refused_as};
-ghost use Rattle.snap_semantics.specs.declared.fault.Fault.TheVariants.{Refused};
-ghost use Rattle.snap_semantics.specs.declared.refusal.Refusal.{Refusal};
 ghost use Rattle.snap_semantics.specs.declared.refusal.Refusal.TheVariants as refusal;
 ghost use Rattle.snap_debug_commands.specs.Commands.{commands_of};
 ghost use Rattle.snap_debug.specs.Session.{after_commands, answer, performance};
 ghost use Rattle.snap_debug.specs.Session.{replies_text, session_report};
+ghost use Rattle.snap_input.specs.RefusesAtOnce.{IsRefusedAtOnce};
 ghost use Rattle.snap_output.specs.AtOnce.{long_text};
 ghost use Rattle.snap_output.specs.Perform.{perform_listing, perform_of};
 ghost use Rattle.snap_output.specs.Replies.{command_reply};
@@ -168,11 +167,12 @@ fn perform_texts(
 }
 
 /// Returns the replies to commands on `listing` under `schedule`, and the report of the position
-/// that they reach. Too long a listing is refused before any memory is allocated.
+/// that they reach.
 ///
 /// # Errors
 ///
-/// `Refused` with the reason why a text is refused; `Memory` where memory runs out.
+/// `Refused` with the reason why a text is refused; `Memory` where memory runs out. A listing that
+/// is too long is refused even then.
 #[tactic(auto, using(crate::proofs::AtOnce::of_text), unfolding(crate::specs::Perform::perform_of, snap_semantics::specs::Listing::listing_of))]
 pub fn perform(
     alloc: Global,
@@ -182,7 +182,7 @@ pub fn perform(
 ) -> Result<Vec<u8>, Fault<Refusal>>
     ensures output { Answers (λ out. out.items) result
         (perform_of listing.now schedule.now commands.now) }
-    ensures at_once { (r : Refusal) → long_text listing.now ≡ Some r → result ≡ Err (Refused r) }
+    ensures at_once { IsRefusedAtOnce (long_text listing.now) result }
 {
     if listing.len() > MOST_LISTING_BYTES {
         return Err(Fault::Refused(Refusal::Listing(ListingRefusal::TooLong)));

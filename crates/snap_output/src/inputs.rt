@@ -1,14 +1,13 @@
 //! The output of the tasks `run`, `audit` and `batch` for the parts of an input, or why they refuse
 //! it.
-ghost use Rattle.std.specs.Prelude.{◌≡◌, ◌≤◌, ◌<◌, Err, IfOk, Ok, length, map};
+ghost use Rattle.std.specs.Prelude.{◌≡◌, ◌≤◌, ◌<◌, IfOk, Ok, length, map};
 ghost use Rattle.snap_semantics.specs.Answers.{Answers};
-ghost use Rattle.snap_semantics.specs.declared.fault.Fault.TheVariants.{Refused};
-ghost use Rattle.snap_semantics.specs.declared.refusal.Refusal.{Refusal};
 ghost use Rattle.snap_input.specs.Input.{checked_parts, parted};
 ghost use Rattle.snap_input.specs.Parts.{max_input, parts_of};
 ghost use Rattle.snap_input.specs.ManySchedules.{checked_schedules};
-ghost use Rattle.snap_output.specs.RunOutput.{end_text, ended_text};
-ghost use Rattle.snap_output.specs.ScheduleOutput.{batched, verdicts_text};
+ghost use Rattle.snap_input.specs.RefusesAtOnce.{RefusesAtOnce};
+ghost use Rattle.snap_output.specs.RunOutput.{end_text, run_of_first_text};
+ghost use Rattle.snap_output.specs.ScheduleOutput.{audit_of_first_text, batched};
 
 use crate::audit_output::audit_program;
 use crate::batch_output::{batch_program, batch_side_by_side};
@@ -19,11 +18,13 @@ use snap_tasks::Subject;
 use std::alloc::Global;
 use std::thread::Threads;
 
-/// Returns the program and the schedule of `input`, which the run itself does not need.
+/// Returns a program and a schedule of which `run_planned` writes what `run` writes for `input`.
+/// The run needs `input` no more.
 ///
 /// # Errors
 ///
-/// `Refused` with the reason why `input` is refused; `Memory` where memory runs out.
+/// `Refused` with the reason why `input` is refused; `Memory` where memory runs out. A wrong number
+/// of parts is refused even then.
 #[tactic(auto, unfolding(snap_input::specs::Input::parted, snap_input::specs::Input::prepared))]
 pub fn plan_input(
     alloc: Global,
@@ -32,9 +33,8 @@ pub fn plan_input(
 ) -> Result<PlannedRun, Fault<Refusal>>
     requires { length input.now ≤ max_input }
     ensures output { Answers (λ run. end_text run.program run.schedule) result
-        (parted subject 1 (parts_of input.now) ended_text) }
-    ensures counted { (r : Refusal) → checked_parts subject 1 (parts_of input.now) ≡ Err r →
-        result ≡ Err (Refused r) }
+        (parted subject 1 (parts_of input.now) run_of_first_text) }
+    ensures at_once { RefusesAtOnce (checked_parts subject 1 (parts_of input.now)) result }
 {
     let Prepared { program, texts } = prepare(alloc, subject, 1, input)?;
     plan(alloc, program, texts[0])
@@ -44,13 +44,13 @@ pub fn plan_input(
 ///
 /// # Errors
 ///
-/// `Refused` with the reason why `input` is refused; `Memory` where memory runs out.
+/// `Refused` with the reason why `input` is refused; `Memory` where memory runs out. A wrong number
+/// of parts is refused even then.
 pub fn run(alloc: Global, subject: Subject, input: &[u8]) -> Result<Vec<u8>, Fault<Refusal>>
     requires { length input.now ≤ max_input }
     ensures output { Answers (λ out. out.items) result
-        (parted subject 1 (parts_of input.now) ended_text) }
-    ensures counted { (r : Refusal) → checked_parts subject 1 (parts_of input.now) ≡ Err r →
-        result ≡ Err (Refused r) }
+        (parted subject 1 (parts_of input.now) run_of_first_text) }
+    ensures at_once { RefusesAtOnce (checked_parts subject 1 (parts_of input.now)) result }
 {
     let run = plan_input(alloc, subject, input)?;
     Ok(run_planned(alloc, run)?)
@@ -60,31 +60,30 @@ pub fn run(alloc: Global, subject: Subject, input: &[u8]) -> Result<Vec<u8>, Fau
 ///
 /// # Errors
 ///
-/// `Refused` with the reason why `input` is refused; `Memory` where memory runs out.
+/// `Refused` with the reason why `input` is refused; `Memory` where memory runs out. A wrong number
+/// of parts is refused even then.
 #[tactic(auto, unfolding(snap_input::specs::Input::parted, snap_input::specs::Input::prepared))]
 pub fn audit(alloc: Global, subject: Subject, input: &[u8]) -> Result<Vec<u8>, Fault<Refusal>>
     requires { length input.now ≤ max_input }
     ensures output { Answers (λ out. out.items) result
-        (parted subject 1 (parts_of input.now) verdicts_text) }
-    ensures counted { (r : Refusal) → checked_parts subject 1 (parts_of input.now) ≡ Err r →
-        result ≡ Err (Refused r) }
+        (parted subject 1 (parts_of input.now) audit_of_first_text) }
+    ensures at_once { RefusesAtOnce (checked_parts subject 1 (parts_of input.now)) result }
 {
     let given = prepare(alloc, subject, 1, input)?;
     audit_program(alloc, &given.program, given.texts[0])
 }
 
-/// Returns the reports of a listing under many schedules. The parts are counted before they are
-/// collected.
+/// Returns the reports of a listing under many schedules.
 ///
 /// # Errors
 ///
-/// `Refused` with the first reason why `input` is refused; `Memory` where memory runs out.
+/// `Refused` with the first reason why `input` is refused; `Memory` where memory runs out. A wrong
+/// number of parts is refused even then.
 #[tactic(auto, unfolding(crate::specs::ScheduleOutput::batched, snap_input::specs::ManySchedules::prepared_schedules))]
 pub fn batch(alloc: Global, subject: Subject, input: &[u8]) -> Result<Vec<u8>, Fault<Refusal>>
     requires { length input.now ≤ max_input }
     ensures output { Answers (λ out. out.items) result (batched subject (parts_of input.now)) }
-    ensures counted { (r : Refusal) → checked_schedules subject (parts_of input.now) ≡ Err r →
-        result ≡ Err (Refused r) }
+    ensures at_once { RefusesAtOnce (checked_schedules subject (parts_of input.now)) result }
 {
     let given = prepare_schedules(alloc, subject, input)?;
     batch_program(alloc, &given.program, given.texts.as_slice())
@@ -94,8 +93,8 @@ pub fn batch(alloc: Global, subject: Subject, input: &[u8]) -> Result<Vec<u8>, F
 ///
 /// # Errors
 ///
-/// `Refused` with a reason why `input` is refused, which need not be the first; `Memory` where
-/// memory runs out.
+/// `Refused` or `Memory`. No clause says which, or why, except that a wrong number of parts is
+/// refused as such; call `batch` for the reason.
 #[tactic(auto, unfolding(crate::specs::ScheduleOutput::batched, snap_input::specs::ManySchedules::prepared_schedules))]
 pub fn batch_in_threads(
     rt: &(impl Threads + Sync),
@@ -105,8 +104,7 @@ pub fn batch_in_threads(
 ) -> Result<Vec<u8>, Fault<Refusal>>
     requires { length input.now ≤ max_input }
     ensures output { IfOk result (λ out. batched subject (parts_of input.now) ≡ Ok out.items) }
-    ensures counted { (r : Refusal) → checked_schedules subject (parts_of input.now) ≡ Err r →
-        result ≡ Err (Refused r) }
+    ensures at_once { RefusesAtOnce (checked_schedules subject (parts_of input.now)) result }
 {
     let given = prepare_schedules(alloc, subject, input)?;
     batch_side_by_side(rt, alloc, &given.program, given.texts.as_slice())

@@ -1,10 +1,9 @@
 //! `output`: what the program writes for an input, for each task, or why there is no output.
-ghost use Rattle.std.specs.Prelude.{◌≡◌, ◌≤◌, [], Err, Some, length};
+ghost use Rattle.std.specs.Prelude.{◌≤◌, [], length};
 ghost use Rattle.snap_semantics.specs.Answers.{Answers};
-ghost use Rattle.snap_semantics.specs.declared.fault.Fault.TheVariants.{Refused};
-ghost use Rattle.snap_semantics.specs.declared.refusal.Refusal.{Refusal};
 ghost use Rattle.snap_input.specs.Input.{checked_parts, parted};
 ghost use Rattle.snap_input.specs.Parts.{max_input, parts_of};
+ghost use Rattle.snap_input.specs.RefusesAtOnce.{IsRefusedAtOnce, RefusesAtOnce};
 ghost use Rattle.snap_output.specs.RunOutput.{end_text};
 ghost use Rattle.snap_output.specs.AtOnce.{found_at_once};
 ghost use Rattle.snap_run_judge.specs.Judged.{AnswersJudged};
@@ -30,8 +29,7 @@ fn run(alloc: Global, subject: Subject, input: &[u8]) -> Result<Vec<u8>, Fault<R
     requires { length input.now ≤ max_input }
     ensures output { Answers (λ out. out.items) result
         (parted subject 1 (parts_of input.now) run_text) }
-    ensures counted { (r : Refusal) → checked_parts subject 1 (parts_of input.now) ≡ Err r →
-        result ≡ Err (Refused r) }
+    ensures at_once { RefusesAtOnce (checked_parts subject 1 (parts_of input.now)) result }
 {
     crate::inputs::run(alloc, subject, input)
 }
@@ -41,8 +39,7 @@ fn plan(alloc: Global, subject: Subject, input: &[u8]) -> Result<PlannedRun, Fau
     requires { length input.now ≤ max_input }
     ensures output { Answers (λ run. end_text run.program run.schedule) result
         (parted subject 1 (parts_of input.now) run_text) }
-    ensures counted { (r : Refusal) → checked_parts subject 1 (parts_of input.now) ≡ Err r →
-        result ≡ Err (Refused r) }
+    ensures at_once { RefusesAtOnce (checked_parts subject 1 (parts_of input.now)) result }
 {
     crate::inputs::plan_input(alloc, subject, input)
 }
@@ -52,7 +49,8 @@ fn plan(alloc: Global, subject: Subject, input: &[u8]) -> Result<PlannedRun, Fau
 ///
 /// # Errors
 ///
-/// `Refused` with the reason why `input` is refused; `Memory` where memory runs out.
+/// `Refused` with the reason why `input` is refused; `Memory` where memory runs out. An input that
+/// is too long or has a wrong number of parts is refused even then.
 #[tactic(auto, using(crate::proofs::AtOnce::of_why), unfolding(crate::specs::Output::output_of))]
 pub fn planned_run(
     alloc: Global,
@@ -61,8 +59,7 @@ pub fn planned_run(
 ) -> Result<PlannedRun, Fault<Refusal>>
     ensures output { Answers (λ run. end_text run.program run.schedule) result
         (output_of [] (Run subject) input.now) }
-    ensures at_once { (r : Refusal) → found_at_once (Run subject) input.now ≡ Some r →
-        result ≡ Err (Refused r) }
+    ensures at_once { IsRefusedAtOnce (found_at_once (Run subject) input.now) result }
 {
     if input.len() > MAX_INPUT {
         return Err(Fault::Refused(Refusal::InputTooLong));
@@ -74,13 +71,13 @@ pub fn planned_run(
 ///
 /// # Errors
 ///
-/// `Refused` with the reason why `input` is refused; `Memory` where memory runs out.
+/// `Refused` with the reason why `input` is refused; `Memory` where memory runs out. What
+/// `found_at_once` finds is refused even then.
 #[tactic(auto, using(crate::proofs::AtOnce::of_text, crate::proofs::AtOnce::of_why), unfolding(crate::specs::Output::output_of))]
 pub fn output_alone(alloc: Global, task: &Task, input: &[u8]) -> Result<Vec<u8>, Fault<Refusal>>
     ensures output { AnswersJudged (λ out. out.items) (AreJudged task.now input.now) result
         (λ judged. output_of judged task.now input.now) }
-    ensures at_once { (r : Refusal) → found_at_once task.now input.now ≡ Some r →
-        result ≡ Err (Refused r) }
+    ensures at_once { IsRefusedAtOnce (found_at_once task.now input.now) result }
 {
     if input.len() > MAX_INPUT {
         return Err(Fault::Refused(Refusal::InputTooLong));
@@ -111,8 +108,7 @@ fn survey_output(
     input: &[u8],
 ) -> Result<Output, Fault<Refusal>>
     ensures output { AnswersOutput (Survey subject) input.now result }
-    ensures at_once { (r : Refusal) → found_at_once (Survey subject) input.now ≡ Some r →
-        result ≡ Err (Refused r) }
+    ensures at_once { IsRefusedAtOnce (found_at_once (Survey subject) input.now) result }
 {
     if input.len() > MAX_INPUT {
         return Err(Fault::Refused(Refusal::InputTooLong));
@@ -132,8 +128,7 @@ fn text_of(
 ) -> Result<Vec<u8>, Fault<Refusal>>
     ensures output { AnswersJudged (λ out. out.items) (AreJudged task.now input.now) result
         (λ judged. output_of judged task.now input.now) }
-    ensures at_once { (r : Refusal) → found_at_once task.now input.now ≡ Some r →
-        result ≡ Err (Refused r) }
+    ensures at_once { IsRefusedAtOnce (found_at_once task.now input.now) result }
 {
     match *task {
         Task::Batch(subject) if input.len() <= MAX_INPUT => {
@@ -151,7 +146,8 @@ fn text_of(
 ///
 /// # Errors
 ///
-/// `Refused` with the reason why `input` is refused; `Memory` where memory runs out.
+/// `Refused` with the reason why `input` is refused; `Memory` where memory runs out. What
+/// `found_at_once` finds is refused even then.
 #[tactic(auto, unfolding(crate::specs::Output::clean_of))]
 pub fn output(
     rt: &(impl Threads + Sync),
@@ -160,8 +156,7 @@ pub fn output(
     input: &[u8],
 ) -> Result<Output, Fault<Refusal>>
     ensures output { AnswersOutput task.now input.now result }
-    ensures at_once { (r : Refusal) → found_at_once task.now input.now ≡ Some r →
-        result ≡ Err (Refused r) }
+    ensures at_once { IsRefusedAtOnce (found_at_once task.now input.now) result }
 {
     match *task {
         Task::Survey(subject) => survey_output(rt, alloc, subject, input),

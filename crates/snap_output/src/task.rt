@@ -1,10 +1,9 @@
 //! `trace_input`: what the task `trace` writes for an input.
-ghost use Rattle.std.specs.Prelude.{◌≡◌, ◌≤◌, ◌<◌, Err, length, map};
+ghost use Rattle.std.specs.Prelude.{◌≤◌, ◌<◌, length, map};
 ghost use Rattle.snap_semantics.specs.Answers.{Answers};
-ghost use Rattle.snap_semantics.specs.declared.fault.Fault.TheVariants.{Refused};
-ghost use Rattle.snap_semantics.specs.declared.refusal.Refusal.{Refusal};
 ghost use Rattle.snap_input.specs.Input.{checked_parts, parted};
 ghost use Rattle.snap_input.specs.Parts.{max_input, parts_of};
+ghost use Rattle.snap_input.specs.RefusesAtOnce.{RefusesAtOnce};
 ghost use Rattle.snap_output.specs.Traces.{traces_text};
 
 use crate::program::trace_program;
@@ -17,14 +16,14 @@ use std::alloc::Global;
 ///
 /// # Errors
 ///
-/// `Refused` with the reason why `input` is refused; `Memory` where memory runs out.
+/// `Refused` with the reason why `input` is refused; `Memory` where memory runs out. A wrong number
+/// of parts is refused even then.
 #[tactic(auto, unfolding(snap_input::specs::Input::parted, snap_input::specs::Input::prepared))]
 pub fn trace_input(alloc: Global, subject: Subject, input: &[u8]) -> Result<Vec<u8>, Fault<Refusal>>
     requires { length input.now ≤ max_input }
     ensures output { Answers (λ out. out.items) result
         (parted subject 1 (parts_of input.now) traces_text) }
-    ensures counted { (r : Refusal) → checked_parts subject 1 (parts_of input.now) ≡ Err r →
-        result ≡ Err (Refused r) }
+    ensures at_once { RefusesAtOnce (checked_parts subject 1 (parts_of input.now)) result }
 {
     let given = prepare(alloc, subject, 1, input)?;
     trace_program(alloc, &given.program, given.texts[0])

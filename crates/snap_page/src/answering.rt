@@ -1,7 +1,6 @@
 //! `answer_to`: the output for an input that a page in a browser sends, by a task or a judgement.
-ghost use Rattle.std.specs.Prelude.{◌≡◌, Err, Some};
-ghost use Rattle.snap_semantics.specs.declared.fault.Fault.TheVariants.{Refused};
-ghost use Rattle.snap_semantics.specs.declared.refusal.Refusal.{Refusal};
+ghost use Rattle.std.specs.Prelude.{◌≡◌};
+ghost use Rattle.snap_input.specs.RefusesAtOnce.{IsRefusedAtOnce};
 ghost use Rattle.snap_page.specs.Answer.{AnswersAsked, found_at_once, judge_request};
 ghost use Rattle.snap_page.specs.declared.page_request.PageRequest.TheVariants.{Judge};
 
@@ -31,8 +30,7 @@ pub(crate) fn judge_request(subject: Subject) -> JudgeRequest
 #[tactic(auto, using(crate::proofs::Judging::of_run))]
 fn judged_run(alloc: Global, subject: Subject, input: &[u8]) -> Result<Vec<u8>, Fault<Refusal>>
     ensures output { AnswersAsked (Judge subject) input.now result }
-    ensures at_once { (r : Refusal) → found_at_once (Judge subject) input.now ≡ Some r →
-        result ≡ Err (Refused r) }
+    ensures at_once { IsRefusedAtOnce (found_at_once (Judge subject) input.now) result }
 {
     match judge_input(alloc, &judge_request(subject), input) {
         Ok(output) => Ok(output.text),
@@ -46,15 +44,15 @@ fn judged_run(alloc: Global, subject: Subject, input: &[u8]) -> Result<Vec<u8>, 
 ///
 /// # Errors
 ///
-/// `Refused` with the reason why `input` is refused; `Memory` where memory runs out.
+/// `Refused` with the reason why `input` is refused; `Memory` where memory runs out. What
+/// `found_at_once` finds is refused even then.
 pub fn answer_to(
     alloc: Global,
     asked: &PageRequest,
     input: &[u8],
 ) -> Result<Vec<u8>, Fault<Refusal>>
     ensures output { AnswersAsked asked.now input.now result }
-    ensures at_once { (r : Refusal) → found_at_once asked.now input.now ≡ Some r →
-        result ≡ Err (Refused r) }
+    ensures at_once { IsRefusedAtOnce (found_at_once asked.now input.now) result }
 {
     match asked {
         PageRequest::Do(task) => output_alone(alloc, task, input),

@@ -1,10 +1,9 @@
 //! `survey_in_threads`: what the task `survey` writes for an input, whose schedules are read and
 //! run side by side.
-ghost use Rattle.std.specs.Prelude.{◌≡◌, ◌≤◌, Err, length};
-ghost use Rattle.snap_semantics.specs.declared.fault.Fault.TheVariants.{Refused};
-ghost use Rattle.snap_semantics.specs.declared.refusal.Refusal.{Refusal};
+ghost use Rattle.std.specs.Prelude.{◌≤◌, length};
 ghost use Rattle.snap_input.specs.Parts.{max_input, parts_of};
 ghost use Rattle.snap_input.specs.ManySchedules.{checked_schedules};
+ghost use Rattle.snap_input.specs.RefusesAtOnce.{RefusesAtOnce};
 ghost use Rattle.snap_survey.specs.Surveys.{AnswersSurvey, WereJudgedIn, clean_runs, surveyed};
 
 use crate::survey_output::{Output, survey_runs_in_threads};
@@ -19,7 +18,8 @@ use std::thread::Threads;
 ///
 /// # Errors
 ///
-/// `Refused` with the reason why `input` is refused; `Memory` where memory runs out.
+/// `Refused` with the reason why `input` is refused; `Memory` where memory runs out. A wrong number
+/// of parts is refused even then.
 #[tactic(auto, unfolding(crate::specs::Surveys::surveyed, crate::specs::Surveys::clean_runs, snap_input::specs::ManySchedules::prepared_schedules))]
 pub fn survey_in_threads(
     rt: &(impl Threads + Sync),
@@ -31,8 +31,7 @@ pub fn survey_in_threads(
     ensures output { let parts = parts_of input.now in
         AnswersSurvey (WereJudgedIn subject parts) result (λ judged. surveyed judged subject parts)
         (λ judged. clean_runs judged subject parts) }
-    ensures counted { (r : Refusal) → checked_schedules subject (parts_of input.now) ≡ Err r →
-        result ≡ Err (Refused r) }
+    ensures at_once { RefusesAtOnce (checked_schedules subject (parts_of input.now)) result }
 {
     let given = prepare_schedules(alloc, subject, input)?;
     survey_runs_in_threads(rt, alloc, &given.program, given.texts.as_slice())

@@ -21,16 +21,12 @@ opening_of height =
 unfoldable pub opening : Part → List ℕ
 opening p = opening_of (height p)
 
--- a listing of this kind and shape, and which of its items
-unfoldable pub items_words : List ℕ → (processes words first last total : ℕ) → List ℕ
-items_words kind processes words first last total =
-    codes "A listing of kind " ++ kind ++ codes ", shape " ++ decimal processes ++ codes " " ++ decimal words
-    ++ codes ": items " ++ decimal first
-    ++ codes " to " ++ decimal last ++ codes " of " ++ decimal total
-
--- which listing, and which items of its run
+-- the kind and the shape of the listing, and which items of its run
 unfoldable pub title_words : Part → Counts → List ℕ
-title_words p c = items_words (kind_name c.kind) p.processes c.words (p.from + 1) p.to c.items
+title_words p c =
+    codes "A listing of kind " ++ kind_name c.kind
+    ++ codes ", shape " ++ decimal p.processes ++ codes " " ++ decimal c.words
+    ++ codes ": items " ++ decimal (p.from + 1) ++ codes " to " ++ decimal p.to ++ codes " of " ++ decimal c.items
 
 -- what is left out
 abbrev pub thin_words : Part → List ℕ

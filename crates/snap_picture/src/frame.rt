@@ -8,7 +8,6 @@ ghost use Rattle.snap_picture.specs.FrameText.{
   foot_text,
   head_text,
   input_text,
-  items_words,
   kind_name,
   lane_box,
   lane_text,
@@ -74,47 +73,23 @@ fn opening(out: &mut Draft, window: &Window)
     opening_of(out, window.height());
 }
 
-/// Appends a listing of this kind and shape, and which of its items.
-#[tactic(auto, unfolding(crate::specs::FrameText::items_words))]
-fn items_words(
-    out: &mut Draft,
-    kind: &[u8],
-    processes: u64,
-    words: u64,
-    first: u64,
-    last: u64,
-    total: u64,
-)
-    ensures { Adds out.old out.new (items_words kind.now processes words first last total) }
-{
-    out.push(b"A listing of kind ");
-    out.push(kind);
-    out.push(b", shape ");
-    out.push_number(processes);
-    out.push(b" ");
-    out.push_number(words);
-    out.push(b": items ");
-    out.push_number(first);
-    out.push(b" to ");
-    out.push_number(last);
-    out.push(b" of ");
-    out.push_number(total);
-}
-
-/// Appends which listing, and which items of its run.
+/// Appends the kind and the shape of the listing, and which items of its run.
 #[tactic(auto, unfolding(crate::specs::FrameText::title_words))]
 fn title_words(out: &mut Draft, window: &Window, counts: &Counts)
     ensures { Adds out.old out.new (title_words window.now counts.now) }
 {
-    items_words(
-        out,
-        kind_name(counts.kind),
-        window.processes(),
-        counts.words,
-        window.first(),
-        window.to(),
-        counts.items,
-    );
+    out.push(b"A listing of kind ");
+    out.push(kind_name(counts.kind));
+    out.push(b", shape ");
+    out.push_number(window.processes());
+    out.push(b" ");
+    out.push_number(counts.words);
+    out.push(b": items ");
+    out.push_number(window.first());
+    out.push(b" to ");
+    out.push_number(window.to());
+    out.push(b" of ");
+    out.push_number(counts.items);
 }
 
 /// Appends what is left out.

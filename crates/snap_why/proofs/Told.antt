@@ -1,5 +1,5 @@
 -- What is said of an item, from the verdict of the scan that it answers, or from the trap or nothing at it.
-use Rattle.std.proofs.Common.{◌≡◌, ◌∙◌, ℕ, List, length, Option, Some, None, Result, Ok, Err, OnOk, ap, sym, subst}
+use Rattle.std.proofs.Common.{◌≡◌, ◌∙◌, ℕ, List, length, Option, Some, None, ap, sym, subst}
 use Rattle.snap_semantics.specs.State.{process_at}
 use Rattle.snap_text.specs.Drafted.{Adds, Drafted}
 use Rattle.snap_runs.specs.Audit.{audit}
@@ -10,11 +10,6 @@ use Rattle.snap_acts.specs.declared.act.TraceStep.{TraceStep}
 use Rattle.snap_why.specs.Answer.{IsPointText, answer_lines, verdict_with}
 use Rattle.snap_why.specs.Trap.{trap_lines}
 use Rattle.snap_why.specs.Why.{IsToldOf, IsWhy, nothing_lines, trap_or_nothing, trapped_at}
-
--- what follows from what holds where a call did not fail
-pub on_ok : {A E : Type 0} {P Q : Type 0} (r : Result A E) → OnOk r P → (P → Q) → OnOk r Q
-on_ok (Ok x) p f = f p
-on_ok (Err e) p f = tt
 
 -- the verdict that was found among those of the audit
 found_in : (r : Run) (t : ℕ) (vs : List Verdict) (found v : Option Verdict) → vs ≡ audit r →

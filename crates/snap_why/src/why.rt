@@ -4,13 +4,11 @@ ghost use Rattle.std.specs.Prelude.{◌≡◌, ◌≤◌, ◌<◌, ℕ, List};
 ghost use Rattle.std.specs.Prelude.{IfOk, IfSome, OnOk, None, length, map, option_map};
 ghost use Rattle.snap_text.specs.Drafted.{Adds};
 ghost use Rattle.snap_words.specs.Shape.{IsOneOf};
-ghost use Rattle.snap_semantics.specs.State.{process_at};
 ghost use Rattle.snap_runs.specs.Audit.{audit};
 ghost use Rattle.snap_runs.specs.Run.{run_over, state};
 ghost use Rattle.snap_listing.specs.LineTexts.{written};
 ghost use Rattle.snap_acts.specs.Trace.{trace_of};
 ghost use Rattle.snap_why.specs.Answer.{run_until};
-ghost use Rattle.snap_why.specs.Trap.{trap_lines};
 ghost use Rattle.snap_why.specs.Why.{IsWhy, item_of, item_there, nothing_line};
 ghost use Rattle.snap_why.specs.Why.{nothing_lines, trapped_at, trapped_by};
 
@@ -158,29 +156,6 @@ pub(crate) fn record_of_first<K: Kind>(
     Ok(record)
 }
 
-/// Appends why the process of an item trapped.
-fn push_trap_at<K: Kind>(
-    alloc: Global,
-    out: &mut Draft,
-    program: &Program,
-    schedule: &Schedule,
-    texts: &LineTexts,
-    item: u64,
-    process: u32,
-) -> Result<(), AllocError>
-    requires kind { program.now.kind ≡ K.TAG }
-    requires few { item ≤ length schedule.now.items }
-    requires texts { texts.now ≡ map written program.now.lines }
-    requires process { IsOneOf schedule.now.shape.n process }
-    ensures { let s = state (run_over program.now schedule.now) item in OnOk result
-        (Adds out.old out.new
-        (trap_lines program.now schedule.now.shape s process (process_at s process).status)) }
-{
-    let record = record_of_first::<K>(alloc, program, schedule, item)?;
-    push_trap(out, texts, record.machine(), process);
-    Ok(())
-}
-
 /// Appends why the scan that item `item` answered had this answer, or why the process of the item
 /// trapped; or that the item did neither, and which item does. The run is judged only up to an
 /// answer that has no point.
@@ -211,10 +186,11 @@ pub fn push_why<K: Kind>(
         return Ok(());
     }
     match trapped_in(program, schedule, steps.as_slice(), item) {
-        Some(process) => push_trap_at::<K>(alloc, out, program, schedule, texts, item, process),
-        None => {
-            push_nothing_at(out, steps.as_slice(), item);
-            Ok(())
+        Some(process) => {
+            let record = record_of_first::<K>(alloc, program, schedule, item)?;
+            push_trap(out, texts, record.machine(), process);
         }
+        None => push_nothing_at(out, steps.as_slice(), item),
     }
+    Ok(())
 }

@@ -33,6 +33,18 @@ use std::alloc::{AllocError, Global};
 /// The most items that a picture has.
 const MOST_ITEMS: u64 = 20_000;
 
+/// What stands around the shapes of a picture: the items that are drawn, the texts of the run's
+/// input, and how the picture looks.
+#[derive(Clone, Copy)]
+struct Frame<'a> {
+    window: &'a Window,
+    /// The text of the listing, if one is given.
+    listing: Option<&'a [u8]>,
+    /// The text of the schedule.
+    schedule: &'a [u8],
+    look: &'a Look<'a>,
+}
+
 fn given_or(other: u64, given: Option<u64>) -> u64
     ensures { result ≡ given_or other given }
 {
@@ -111,23 +123,22 @@ fn picture_by<K: Kind>(
     alloc: Global,
     history: &Record<K>,
     shapes: &[Shape],
-    window: &Window,
-    listing: Option<&[u8]>,
-    schedule: &[u8],
-    look: &Look<'_>,
+    frame: &Frame<'_>,
     wrong: Option<&Event>,
 ) -> Result<Vec<u8>, AllocError>
-    ensures { IfOk result (λ out. out.items ≡ picture_by history.now shapes.now window.now
-        (option_map (λ t. t.now) listing.entry) schedule.now look.now.style.now
-        look.now.legend.now (option_map (λ e. e.now) wrong.entry)) }
+    ensures { IfOk result (λ out. out.items ≡ picture_by history.now shapes.now
+        frame.now.window.now (option_map (λ t. t.now) frame.now.listing) frame.now.schedule.now
+        frame.now.look.now.style.now frame.now.look.now.legend.now
+        (option_map (λ e. e.now) wrong.entry)) }
 {
     let crossed = crossed_at(alloc, wrong, shapes)?;
+    let counts = counts_of(history, shapes);
     let mut out = Draft::new(alloc);
-    push_head(&mut out, window, &counts_of(history, shapes), look.style);
-    push_input(&mut out, listing, schedule);
-    push_shapes(&mut out, window, shapes);
-    push_shapes(&mut out, window, crossed.as_slice());
-    push_foot(&mut out, window, look.legend);
+    push_head(&mut out, frame.window, &counts, frame.look.style);
+    push_input(&mut out, frame.listing, frame.schedule);
+    push_shapes(&mut out, frame.window, shapes);
+    push_shapes(&mut out, frame.window, crossed.as_slice());
+    push_foot(&mut out, frame.window, frame.look.legend);
     out.finish()
 }
 
@@ -137,17 +148,15 @@ fn picture_text<K: Kind>(
     alloc: Global,
     program: &Program,
     items: &Schedule,
-    window: &Window,
-    listing: Option<&[u8]>,
-    schedule: &[u8],
-    look: &Look<'_>,
+    frame: &Frame<'_>,
     most: usize,
 ) -> Result<Vec<u8>, AllocError>
     requires { program.now.kind ≡ K.TAG }
     ensures { let run = run_over program.now items.now in
         IfOk result (λ out. (wrong : Option Event) × FailsBy most run wrong
-        × (out.items ≡ picture_text run window.now (option_map (λ t. t.now) listing.entry)
-        schedule.now look.now.style.now look.now.legend.now wrong)) }
+        × (out.items ≡ picture_text run frame.now.window.now
+        (option_map (λ t. t.now) frame.now.listing) frame.now.schedule.now
+        frame.now.look.now.style.now frame.now.look.now.legend.now wrong)) }
 {
     let history = record_over::<K>(alloc, program, items)?;
     let steps = trace::<K>(alloc, program, items)?;
@@ -157,10 +166,7 @@ fn picture_text<K: Kind>(
         alloc,
         &history,
         shapes.as_slice(),
-        window,
-        listing,
-        schedule,
-        look,
+        frame,
         wrong_at(&history, &judgement),
     )
 }
@@ -199,16 +205,15 @@ fn picture_of_kind<K: Kind>(
 {
     let items = schedule_of::<K>(alloc, program, schedule)?;
     match window_for(items.items().len(), items.shape(), options) {
-        Ok(window) => Ok(picture_text::<K>(
-            alloc,
-            program,
-            &items,
-            &window,
-            listing,
-            schedule,
-            look,
-            options.most,
-        )?),
+        Ok(window) => {
+            let frame = Frame {
+                window: &window,
+                listing,
+                schedule,
+                look,
+            };
+            Ok(picture_text::<K>(alloc, program, &items, &frame, options.most)?)
+        }
         Err(refusal) => Err(Fault::Refused(refusal)),
     }
 }

@@ -164,26 +164,21 @@ fn push_loan_of(
     push_loan(shapes, steps, step, lender)
 }
 
-/// Appends the write of a word, behind the values that it leaves.
+/// Appends a write, behind the values that it leaves up to the next write from a place on.
 fn push_write(
     alloc: Global,
     shapes: &mut Vec<Shape>,
     steps: &[TraceStep],
     from: usize,
-    step: &TraceStep,
-    word: u64,
-    values: &View,
+    write: Write,
 ) -> Result<(), AllocError>
     ensures { OnOk result (shapes.new.items ≡ shapes.old.items
-        ++ period_of (length steps.now) step.now.item values.now (drop from steps.now)
-        ∷ shape.Write (record { spot = spot_of step.now; word = word; values = values.now }) ∷ []) }
+        ++ period_of (length steps.now) write.spot.item write.values (drop from steps.now)
+        ∷ shape.Write write ∷ []) }
 {
-    shapes.push(period_of(steps, from, step.item, values.copy(alloc)?))?;
-    shapes.push(Shape::Write(Write {
-        spot: spot_of(step),
-        word,
-        values: values.copy(alloc)?,
-    }))?;
+    let values = write.values.copy(alloc)?;
+    shapes.push(period_of(steps, from, write.spot.item, values))?;
+    shapes.push(Shape::Write(write))?;
     Ok(())
 }
 
@@ -247,7 +242,12 @@ fn push_shapes_of(
         Act::Call(op) => push_bar(alloc, shapes, steps, k + 1, step, *op),
         Act::Enter => push(shapes, Shape::Embedded(embedded_of(steps, k + 1, step))),
         Act::Write(word, values, _) => {
-            push_write(alloc, shapes, steps, k + 1, step, *word, values)
+            let write = Write {
+                spot: spot_of(step),
+                word: *word,
+                values: values.copy(alloc)?,
+            };
+            push_write(alloc, shapes, steps, k + 1, write)
         }
         Act::Read(word, _) => push(shapes, read_of(steps, writes, k, step, *word)),
         Act::Test(passed) => push(shapes, Shape::Test(spot_of(step), *passed)),

@@ -10,10 +10,11 @@ pub returns : goal.returns
 unfolding picture_by
 returns g c =
     let wrong = option_map (λ (e : Bor Event). e.now) c.args.wrong in
-    let look = c.args.look.now in
-    let listing = option_map (λ (t : Bor (List ℕ)). t.now) c.args.listing in
+    let frame = c.args.frame.now in
+    let look = frame.look.now in
+    let listing = option_map (λ (t : Bor (List ℕ)). t.now) frame.listing in
     finished c.finish.result c.push_foot.new.out
-    (picture_by c.args.history.now c.args.shapes.now c.args.window.now listing c.args.schedule.now look.style.now
+    (picture_by c.args.history.now c.args.shapes.now frame.window.now listing frame.schedule.now look.style.now
     look.legend.now wrong)
     c.finish.ensures
     (λ well.
@@ -29,9 +30,9 @@ returns g c =
       e2.1,
       e1.1,
       c.new-out.ensures.text,
-      c.counts_of.ensures,
+      c.counts_of-counts.ensures,
       c.as_slice.ensures.value,
       c.in_ok-crossed.ensures,
-      shapes_joined c.args.window.now c.args.shapes.now (crossed_at wrong c.args.shapes.now),
+      shapes_joined frame.window.now c.args.shapes.now (crossed_at wrong c.args.shapes.now),
     )
     (simp append_assoc))

@@ -8,10 +8,11 @@ use Rattle.snap_picture.proofs.drawing.picture_text.Goals as goal
 pub returns : goal.returns
 returns g c =
     let wrong = option_map (λ (e : Bor Event). e.now) c.wrong_at.result in
-    let look = c.args.look.now in
-    let listing = option_map (λ (t : Bor (List ℕ)). t.now) c.args.listing in
+    let frame = c.args.frame.now in
+    let look = frame.look.now in
+    let listing = option_map (λ (t : Bor (List ℕ)). t.now) frame.listing in
     judged c.args.most (run_over c.args.program.now c.args.items.now) c.in_ok-history.history c.in_ok-judgement.judgement
-    c.as_slice-2.result.now wrong c.args.window.now listing c.args.schedule.now look.style.now look.legend.now
+    c.as_slice-2.result.now wrong frame.window.now listing frame.schedule.now look.style.now look.legend.now
     c.picture_by.result c.in_ok-history.ensures c.in_ok-judgement.ensures.judgement
     (c.as_slice-2.ensures.value
     ∙ (c.in_ok-shapes.ensures

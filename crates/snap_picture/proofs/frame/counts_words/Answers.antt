@@ -1,7 +1,7 @@
 -- `counts_words` writes the counts of scans and updates in an SVG picture's text, piece after piece, as its
 -- definition has it.
 use Rattle.std.proofs.Common.{append_assoc}
-use Rattle.snap_picture.specs.FrameText.{counts_words, thin_words}
+use Rattle.snap_picture.specs.FrameText.{counts_words}
 use Rattle.snap_picture.proofs.frame.counts_words.Goals as goal
 
 pub returns : goal.returns

@@ -12,5 +12,5 @@ mod tracer;
 pub use act::{Act, Spot, TraceStep};
 pub use intent::index_value;
 pub use loans::{Borrowed, ScanPlaces, lender_at, source_at, view_taken};
-pub use searches::{StepPattern, first_from, first_within, last_before};
+pub use searches::{StepPattern, first_step_from, first_within, last_before};
 pub use tracer::trace;

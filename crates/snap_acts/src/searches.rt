@@ -1,4 +1,4 @@
-//! `StepPattern`, `first_from`, `first_within` and `last_before`: searches in the trace of a run
+//! `StepPattern`, `first_step_from`, `first_within` and `last_before`: searches in the trace of a run
 //! for a step, such as the end of an operation or a write.
 ghost use Rattle.std.specs.Prelude.{◌≡◌, ◌+◌, ◌≤◌, ◌<◌, IfSome, drop, length, option_map};
 ghost use Rattle.snap_acts.specs.Searches.{
@@ -155,7 +155,7 @@ fn meets(wanted: &StepPattern, step: &TraceStep) -> bool
 }
 
 /// Returns the first step from a place on that `wanted` describes.
-pub fn first_from(steps: &[TraceStep], from: usize, wanted: StepPattern) -> Option<&TraceStep>
+pub fn first_step_from(steps: &[TraceStep], from: usize, wanted: StepPattern) -> Option<&TraceStep>
     ensures { option_map (λ s. s.now) result ≡ first_meeting wanted (drop from steps.now) }
 {
     let mut k = from;

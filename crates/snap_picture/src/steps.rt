@@ -24,7 +24,7 @@ ghost use Rattle.snap_picture.specs.Shapes.{
 
 use crate::last_writes::LastWrites;
 use crate::shape::{Bar, End, Loan, Period, Read, Shape, Span, Spot, Write, Written};
-use snap_acts::{Act, ScanPlaces, StepPattern, TraceStep, first_from, lender_at, source_at};
+use snap_acts::{Act, ScanPlaces, StepPattern, TraceStep, first_step_from, lender_at, source_at};
 use snap_semantics::Op;
 use snap_words::View;
 use std::alloc::{AllocError, Global};
@@ -81,7 +81,7 @@ fn bar_of(
 ) -> Result<Bar, AllocError>
     ensures { IfOk result (λ b. b ≡ bar_of (length steps.now) step.now op (drop from steps.now)) }
 {
-    let found = first_from(steps, from, StepPattern::End(step.process));
+    let found = first_step_from(steps, from, StepPattern::End(step.process));
     let end = end_of(alloc, found)?;
     Ok(Bar {
         process: step.process,
@@ -96,7 +96,7 @@ fn bar_of(
 fn embedded_of(steps: &[TraceStep], from: usize, step: &TraceStep) -> Span
     ensures { result ≡ embedded_of (length steps.now) step.now (drop from steps.now) }
 {
-    let found = first_from(steps, from, StepPattern::Closing(step.process));
+    let found = first_step_from(steps, from, StepPattern::Closing(step.process));
     Span {
         process: step.process,
         from: step.item,
@@ -108,7 +108,7 @@ fn embedded_of(steps: &[TraceStep], from: usize, step: &TraceStep) -> Span
 pub(crate) fn period_of(steps: &[TraceStep], from: usize, item: u64, values: View) -> Shape
     ensures { result ≡ period_of (length steps.now) item values (drop from steps.now) }
 {
-    let found = first_from(steps, from, StepPattern::Write);
+    let found = first_step_from(steps, from, StepPattern::Write);
     Shape::Values(Period {
         from: item,
         to: item_or(steps.len() as u64, found),

@@ -15,7 +15,7 @@ ghost use Rattle.snap_why.specs.Why.{nothing_lines, trapped_at, trapped_by};
 use crate::answer::{item_at, push_answer, push_goto_line, verdict_with};
 use crate::point::point_text;
 use crate::trap::push_trap;
-use snap_acts::{Act, StepPattern, TraceStep, first_from, last_before, trace};
+use snap_acts::{Act, StepPattern, TraceStep, first_step_from, last_before, trace};
 use snap_asm_program::Program;
 use snap_audit::{Verdict, audit};
 use snap_listing::LineTexts;
@@ -130,7 +130,7 @@ fn push_nothing_at(out: &mut Draft, steps: &[TraceStep], item: u64)
     requires { item ≤ length steps.now }
     ensures { Adds out.old out.new (nothing_lines steps.now item) }
 {
-    let next = first_from(steps, item as usize, StepPattern::AnswerOrTrap);
+    let next = first_step_from(steps, item as usize, StepPattern::AnswerOrTrap);
     let last = last_before(steps, item as usize, StepPattern::AnswerOrTrap);
     push_nothing(out, item_of(next), item_there(steps, last));
 }

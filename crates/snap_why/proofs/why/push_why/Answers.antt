@@ -34,7 +34,8 @@ returns g c =
           let record_is = w.in_ok-record-in-Some-trapped_in.ensures in
           let new = w.push_trap.new.out in
           let adds = subst (λ (m : Configuration). Adds c.args.out.now new
-          (trap_lines m.source m.shape m.state i (process_at m.state i).status)) w.machine.ensures w.push_trap.ensures in
+          (trap_lines m.source m.shape m.state i (process_at m.state i).status))
+          w.machine.ensures w.push_trap.ensures in
           rw w.out-is (trap_is_told r c.args.item i c.as_slice-2.result.now c.as_slice.result.now
           c.verdict_with.result c.trapped_in.result c.args.out.now new
           (c.as_slice-2.ensures.value ∙ c.in_ok-steps.ensures) audited c.verdict_with.ensures c.in_default.is
@@ -45,5 +46,6 @@ returns g c =
           c.verdict_with.result c.trapped_in.result c.args.out.now w.push_nothing_at.new.out
           (w.as_slice-in-None.ensures.value ∙ c.in_ok-steps.ensures) audited c.verdict_with.ensures c.in_default.is
           (c.trapped_in.ensures.process ∙ ap (λ (xs : List TraceStep). trapped_at xs c.args.item)
-          (c.as_slice-2.ensures.value ∙ sym w.as_slice-in-None.ensures.value)) w.in-None.is w.push_nothing_at.ensures)
+          (c.as_slice-2.ensures.value ∙ sym w.as_slice-in-None.ensures.value))
+          w.in-None.is w.push_nothing_at.ensures)
     ]

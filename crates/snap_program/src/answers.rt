@@ -16,7 +16,7 @@ ghost use Rattle.snap_program.specs.Answer.{task_status, word_status};
 
 use crate::command_line::{CommandLine, Invocation};
 use crate::judge_run::conduct_judge;
-use crate::live_run::conduct_live_keeping;
+use crate::live_run::{LiveTask, conduct_live_keeping};
 use crate::model_run::conduct_model;
 use crate::told_run::conduct_telling;
 use crate::whole_run::conduct_keeping;
@@ -44,6 +44,15 @@ const UNDECIDED: u8 = 5;
 
 /// What is said where the input is read from a terminal.
 const TERMINAL: &[u8] = b"reading from the terminal; end with Ctrl-D\n";
+
+/// What a request is done with: the leave to start threads and to wait for them, where memory comes
+/// from, and what is asked for.
+#[derive(Clone, Copy)]
+struct Session<'s, T> {
+    rt: &'s T,
+    alloc: Global,
+    asked: &'s Invocation,
+}
 
 /// Returns what the program is called; its command line names no files.
 fn names() -> Names<'static>
@@ -88,22 +97,21 @@ fn explained(
 
 /// Says why nothing, or not all, was written, explains it if that is wanted and there is memory for
 /// it, and returns the status.
-fn explain<E: ByteSink>(
-    alloc: Global,
-    asked: &Invocation,
+fn explain<T, E: ByteSink>(
+    session: &Session<'_, T>,
     input: &[u8],
     fault: &ProgramFault,
     errors: &mut E,
 ) -> u8
     requires { (E.state errors.old).failed ≡ false }
     ensures status { result ≡ fault_status fault.now }
-    ensures says { TellsMore snaplab fault.now (explained asked.now input.now fault.now)
+    ensures says { TellsMore snaplab fault.now (explained session.now.asked.now input.now fault.now)
         (E.state errors.old) (E.state errors.new) }
 {
-    match explained(alloc, asked, input, fault) {
-        Ok(more) => tell(alloc, &names(), fault, more.as_slice(), errors),
+    match explained(session.alloc, session.asked, input, fault) {
+        Ok(more) => tell(session.alloc, &names(), fault, more.as_slice(), errors),
         Err(_) => {
-            complain(alloc, &names(), fault, errors);
+            complain(session.alloc, &names(), fault, errors);
             fault_status(fault)
         }
     }
@@ -119,9 +127,7 @@ fn task_status(strict: bool, clean: bool) -> u8
 /// Does a task, says why if it is not done, and returns the status, which tells of a strict survey
 /// whether all runs are clean.
 fn do_task<R: ByteSource, W: ByteSink, E: ByteSink>(
-    rt: &(impl Threads + Sync),
-    alloc: Global,
-    asked: &Invocation,
+    session: &Session<'_, impl Threads + Sync>,
     task: &Task,
     source: &mut R,
     sink: &mut W,
@@ -131,22 +137,21 @@ fn do_task<R: ByteSource, W: ByteSink, E: ByteSink>(
     requires sink { (W.state sink.old).failed ≡ false }
     requires goes_on { (W.state sink.old).stalled ≡ false }
     requires errors { (E.state errors.old).failed ≡ false }
-    ensures { AnswersTask task.now asked.now result (R.state source.old) (R.state source.new)
-        (W.state sink.old) (W.state sink.new)
+    ensures { AnswersTask task.now session.now.asked.now result (R.state source.old)
+        (R.state source.new) (W.state sink.old) (W.state sink.new)
         (E.state errors.old) (E.state errors.new) }
 {
-    let mut input = Vec::new(alloc);
-    match conduct_keeping(rt, alloc, task, source, sink, &mut input) {
-        Ok(clean) => task_status(asked.strict, clean),
-        Err(fault) => explain(alloc, asked, input.as_slice(), &fault, errors),
+    let mut input = Vec::new(session.alloc);
+    match conduct_keeping(session.rt, session.alloc, task, source, sink, &mut input) {
+        Ok(clean) => task_status(session.asked.strict, clean),
+        Err(fault) => explain(session, input.as_slice(), &fault, errors),
     }
 }
 
-/// Runs a listing under a schedule, says why if that is not done, and which calls were skipped if it
-/// is, and returns the status.
-fn run_telling<R: ByteSource, W: ByteSink, E: ByteSink>(
-    alloc: Global,
-    asked: &Invocation,
+/// Runs a listing under a schedule, says why if that is not done, and which calls were skipped if
+/// it is, and returns the status.
+fn run_telling<T, R: ByteSource, W: ByteSink, E: ByteSink>(
+    session: &Session<'_, T>,
     subject: Subject,
     source: &mut R,
     sink: &mut W,
@@ -156,26 +161,24 @@ fn run_telling<R: ByteSource, W: ByteSink, E: ByteSink>(
     requires sink { (W.state sink.old).failed ≡ false }
     requires goes_on { (W.state sink.old).stalled ≡ false }
     requires errors { (E.state errors.old).failed ≡ false }
-    ensures { AnswersTelling subject asked.now result (R.state source.old) (R.state source.new)
-        (W.state sink.old) (W.state sink.new)
+    ensures { AnswersTelling subject session.now.asked.now result (R.state source.old)
+        (R.state source.new) (W.state sink.old) (W.state sink.new)
         (E.state errors.old) (E.state errors.new) }
 {
-    let mut input = Vec::new(alloc);
-    match conduct_telling(alloc, subject, source, sink, &mut input) {
+    let mut input = Vec::new(session.alloc);
+    match conduct_telling(session.alloc, subject, source, sink, &mut input) {
         Ok(told) => {
             say(told.as_slice(), errors);
             0
         }
-        Err(fault) => explain(alloc, asked, input.as_slice(), &fault, errors),
+        Err(fault) => explain(session, input.as_slice(), &fault, errors),
     }
 }
 
 /// Does a task, and tells of the calls that a run under a schedule skipped if refusals are
 /// explained.
 fn do_told<R: ByteSource, W: ByteSink, E: ByteSink>(
-    rt: &(impl Threads + Sync),
-    alloc: Global,
-    asked: &Invocation,
+    session: &Session<'_, impl Threads + Sync>,
     task: &Task,
     source: &mut R,
     sink: &mut W,
@@ -185,24 +188,22 @@ fn do_told<R: ByteSource, W: ByteSink, E: ByteSink>(
     requires sink { (W.state sink.old).failed ≡ false }
     requires goes_on { (W.state sink.old).stalled ≡ false }
     requires errors { (E.state errors.old).failed ≡ false }
-    ensures { AnswersTold asked.now.explains task.now asked.now result (R.state source.old)
-        (R.state source.new) (W.state sink.old) (W.state sink.new)
+    ensures { AnswersTold session.now.asked.now.explains task.now session.now.asked.now result
+        (R.state source.old) (R.state source.new) (W.state sink.old) (W.state sink.new)
         (E.state errors.old) (E.state errors.new) }
 {
     match *task {
-        Task::Run(subject) if asked.explains => {
-            run_telling(alloc, asked, subject, source, sink, errors)
+        Task::Run(subject) if session.asked.explains => {
+            run_telling(session, subject, source, sink, errors)
         }
-        _ => do_task(rt, alloc, asked, task, source, sink, errors),
+        _ => do_task(session, task, source, sink, errors),
     }
 }
 
 /// Plays live, says why if that is not done, and which operations call nothing if it is, and
 /// returns the status.
 fn play_live<R: ByteSource, W: ByteSink, E: ByteSink>(
-    rt: &(impl Threads + Wait + Sync),
-    alloc: Global,
-    asked: &Invocation,
+    session: &Session<'_, impl Threads + Wait + Sync>,
     subject: Subject,
     limit: u64,
     source: &mut R,
@@ -214,17 +215,22 @@ fn play_live<R: ByteSource, W: ByteSink, E: ByteSink>(
     requires sink { (W.state sink.old).failed ≡ false }
     requires goes_on { (W.state sink.old).stalled ≡ false }
     requires errors { (E.state errors.old).failed ≡ false }
-    ensures { AnswersLively subject limit asked.now result (R.state source.old) (R.state source.new)
-        (W.state sink.old) (W.state sink.new)
+    ensures { AnswersLively subject limit session.now.asked.now result (R.state source.old)
+        (R.state source.new) (W.state sink.old) (W.state sink.new)
         (E.state errors.old) (E.state errors.new) }
 {
-    let mut input = Vec::new(alloc);
-    match conduct_live_keeping(rt, alloc, subject, limit, &NoGate, source, sink, &mut input) {
+    let mut input = Vec::new(session.alloc);
+    let task = LiveTask {
+        subject,
+        limit,
+        gate: &NoGate,
+    };
+    match conduct_live_keeping(session.rt, session.alloc, &task, source, sink, &mut input) {
         Ok(uncalled) => {
             say(uncalled.as_slice(), errors);
             0
         }
-        Err(fault) => explain(alloc, asked, input.as_slice(), &fault, errors),
+        Err(fault) => explain(session, input.as_slice(), &fault, errors),
     }
 }
 
@@ -241,9 +247,8 @@ fn word_status(word: Linearizability) -> u8
 
 /// Judges, says why if it is not done, and returns the status, which tells whether what was judged
 /// is linearizable.
-fn judge_asked<R: ByteSource, W: ByteSink, E: ByteSink>(
-    alloc: Global,
-    asked: &Invocation,
+fn judge_asked<T, R: ByteSource, W: ByteSink, E: ByteSink>(
+    session: &Session<'_, T>,
     request: &JudgeRequest,
     source: &mut R,
     sink: &mut W,
@@ -253,21 +258,20 @@ fn judge_asked<R: ByteSource, W: ByteSink, E: ByteSink>(
     requires sink { (W.state sink.old).failed ≡ false }
     requires goes_on { (W.state sink.old).stalled ≡ false }
     requires errors { (E.state errors.old).failed ≡ false }
-    ensures { AnswersJudge request.now asked.now result (R.state source.old) (R.state source.new)
-        (W.state sink.old) (W.state sink.new)
+    ensures { AnswersJudge request.now session.now.asked.now result (R.state source.old)
+        (R.state source.new) (W.state sink.old) (W.state sink.new)
         (E.state errors.old) (E.state errors.new) }
 {
-    let mut input = Vec::new(alloc);
-    match conduct_judge(alloc, request, source, sink, &mut input) {
+    let mut input = Vec::new(session.alloc);
+    match conduct_judge(session.alloc, request, source, sink, &mut input) {
         Ok(word) => word_status(word),
-        Err(fault) => explain(alloc, asked, input.as_slice(), &fault, errors),
+        Err(fault) => explain(session, input.as_slice(), &fault, errors),
     }
 }
 
 /// Writes a model, says why if that is not done, and returns the status.
-fn write_model<R: ByteSource, W: ByteSink, E: ByteSink>(
-    alloc: Global,
-    asked: &Invocation,
+fn write_model<T, R: ByteSource, W: ByteSink, E: ByteSink>(
+    session: &Session<'_, T>,
     subject: Subject,
     crashes: u64,
     source: &mut R,
@@ -278,43 +282,39 @@ fn write_model<R: ByteSource, W: ByteSink, E: ByteSink>(
     requires sink { (W.state sink.old).failed ≡ false }
     requires goes_on { (W.state sink.old).stalled ≡ false }
     requires errors { (E.state errors.old).failed ≡ false }
-    ensures { AnswersModelled subject asked.now result (R.state source.old) (R.state source.new)
-        (W.state sink.old) (W.state sink.new)
+    ensures { AnswersModelled subject session.now.asked.now result (R.state source.old)
+        (R.state source.new) (W.state sink.old) (W.state sink.new)
         (E.state errors.old) (E.state errors.new) }
 {
-    let mut input = Vec::new(alloc);
-    match conduct_model(alloc, subject, crashes, source, sink, &mut input) {
+    let mut input = Vec::new(session.alloc);
+    match conduct_model(session.alloc, subject, crashes, source, sink, &mut input) {
         Ok(()) => 0,
-        Err(fault) => explain(alloc, asked, input.as_slice(), &fault, errors),
+        Err(fault) => explain(session, input.as_slice(), &fault, errors),
     }
 }
 
 /// Does what the request is for, and returns the status.
 fn do_asked<R: ByteSource, W: ByteSink, E: ByteSink>(
-    rt: &(impl Threads + Wait + Sync),
-    alloc: Global,
-    asked: &Invocation,
+    session: &Session<'_, impl Threads + Wait + Sync>,
     source: &mut R,
     sink: &mut W,
     errors: &mut E,
 ) -> u8
-    requires limit { HasLimit asked.now.request }
+    requires limit { HasLimit session.now.asked.now.request }
     requires source { (R.state source.old).failed ≡ false }
     requires sink { (W.state sink.old).failed ≡ false }
     requires goes_on { (W.state sink.old).stalled ≡ false }
     requires errors { (E.state errors.old).failed ≡ false }
-    ensures { AnswersRequest asked.now.request asked.now result (R.state source.old)
-        (R.state source.new) (W.state sink.old) (W.state sink.new)
+    ensures { AnswersRequest session.now.asked.now.request session.now.asked.now result
+        (R.state source.old) (R.state source.new) (W.state sink.old) (W.state sink.new)
         (E.state errors.old) (E.state errors.new) }
 {
-    match asked.request {
-        Request::Do(task) => do_told(rt, alloc, asked, &task, source, sink, errors),
-        Request::Live(subject, limit) => {
-            play_live(rt, alloc, asked, subject, limit, source, sink, errors)
-        }
-        Request::Judge(request) => judge_asked(alloc, asked, &request, source, sink, errors),
+    match session.asked.request {
+        Request::Do(task) => do_told(session, &task, source, sink, errors),
+        Request::Live(subject, limit) => play_live(session, subject, limit, source, sink, errors),
+        Request::Judge(request) => judge_asked(session, &request, source, sink, errors),
         Request::Model(subject, crashes) => {
-            write_model(alloc, asked, subject, crashes, source, sink, errors)
+            write_model(session, subject, crashes, source, sink, errors)
         }
     }
 }
@@ -350,7 +350,9 @@ pub fn answer<R: ByteSource, W: ByteSink, E: ByteSink>(
         (E.state errors.old) (E.state errors.new) }
 {
     match line {
-        Ok(CommandLine::Asks(asked)) => do_asked(rt, alloc, asked, source, sink, errors),
+        Ok(CommandLine::Asks(asked)) => {
+            do_asked(&Session { rt, alloc, asked }, source, sink, errors)
+        }
         Ok(CommandLine::Help(text)) => help(alloc, &names(), text.as_bytes(), sink, errors),
         Ok(CommandLine::Wrong(text)) => {
             say(text.as_bytes(), errors);

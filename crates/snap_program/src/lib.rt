@@ -18,7 +18,7 @@ mod whole_texts;
 pub use answers::{answer, fault_line, say_terminal};
 pub use command_line::{CommandLine, Invocation, read_arguments};
 pub use judge_run::conduct_judge;
-pub use live_run::{conduct_live, conduct_live_keeping};
+pub use live_run::{LiveTask, conduct_live, conduct_live_keeping};
 pub use model_run::conduct_model;
 pub use output::model_output;
 pub use skipped::SkippedCall;

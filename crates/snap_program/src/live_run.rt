@@ -14,6 +14,15 @@ use std::alloc::Global;
 use std::sync::Wait;
 use std::thread::Threads;
 
+/// What is played live: whose scripts, how many turns each process may make, and the gate that is
+/// asked before each of them.
+#[derive(Clone, Copy)]
+pub struct LiveTask<'g, G> {
+    pub subject: Subject,
+    pub limit: u64,
+    pub gate: &'g G,
+}
+
 /// Reads the input from `source`, plays its scripts live, each process with at most `limit` turns
 /// before each of which `gate` is asked, and then writes the history of that run to `sink` and
 /// nothing else.
@@ -39,7 +48,12 @@ pub fn conduct_live<G: Gate, R: ByteSource, W: ByteSink>(
         (R.state source.new) (W.state sink.old) (W.state sink.new) }
 {
     let mut kept = Vec::new(alloc);
-    conduct_live_keeping(rt, alloc, subject, limit, gate, source, sink, &mut kept)?;
+    let task = LiveTask {
+        subject,
+        limit,
+        gate,
+    };
+    conduct_live_keeping(rt, alloc, &task, source, sink, &mut kept)?;
     Ok(())
 }
 
@@ -53,23 +67,29 @@ pub fn conduct_live<G: Gate, R: ByteSource, W: ByteSink>(
 pub fn conduct_live_keeping<G: Gate, R: ByteSource, W: ByteSink>(
     rt: &(impl Threads + Wait + Sync),
     alloc: Global,
-    subject: Subject,
-    limit: u64,
-    gate: &G,
+    task: &LiveTask<'_, G>,
     source: &mut R,
     sink: &mut W,
     kept: &mut Vec<u8>,
 ) -> Result<Vec<u8>, ProgramFault>
-    requires limit { (1 ≤ limit) × (limit ≤ max_items) }
+    requires limit { (1 ≤ task.now.limit) × (task.now.limit ≤ max_items) }
     requires source { (R.state source.old).failed ≡ false }
     requires sink { (W.state sink.old).failed ≡ false }
     requires goes_on { (W.state sink.old).stalled ≡ false }
-    ensures { ConductsLiveKeeping (G.may_answer gate.now) subject limit kept.new.items result
-        (R.state source.old) (R.state source.new) (W.state sink.old) (W.state sink.new) }
+    ensures { ConductsLiveKeeping (G.may_answer task.now.gate.now) task.now.subject task.now.limit
+        kept.new.items result (R.state source.old) (R.state source.new) (W.state sink.old)
+        (W.state sink.new) }
 {
     let input = read_all(alloc, source)?;
     *kept = input;
-    let found = live_output(rt, alloc, subject, limit, gate, kept.as_slice())?;
+    let found = live_output(
+        rt,
+        alloc,
+        task.subject,
+        task.limit,
+        task.gate,
+        kept.as_slice(),
+    )?;
     write_all(sink, found.text.as_slice())?;
     Ok(found.uncalled)
 }

@@ -23,6 +23,15 @@ use std::thread::Threads;
 /// What the program is called.
 const PROGRAM: &str = "snaphunt";
 
+/// What a hunt is done with: the leave to start threads, where memory comes from, and the files that
+/// are there.
+#[derive(Clone, Copy)]
+pub(crate) struct Resources<'r, T, F> {
+    pub(crate) threads: &'r T,
+    pub(crate) alloc: Global,
+    pub(crate) files: &'r F,
+}
+
 /// Returns what the program is called, and the file of the listing, unless it is shipped.
 fn names_of<'a>(listed: &Listed<'a>) -> Names<'a>
     ensures { view_names result ≡ names_of (view_listed listed.now) }
@@ -154,10 +163,8 @@ fn finish<E: ByteSink>(
 
 /// Hunts, says why if nothing, or not all, was printed, and returns the status.
 fn hunt<F: FileSource, W: Watcher, S: ByteSink, E: ByteSink>(
-    threads: &(impl Threads + Sync),
-    alloc: Global,
+    resources: &Resources<'_, impl Threads + Sync, F>,
     asked: &Invocation<Search<'_>>,
-    files: &F,
     watcher: &mut W,
     sink: &mut S,
     errors: &mut E,
@@ -165,31 +172,29 @@ fn hunt<F: FileSource, W: Watcher, S: ByteSink, E: ByteSink>(
     requires search { IsSearch asked.now.request }
     requires sink { (S.state sink.old).failed ≡ false }
     requires errors { (E.state errors.old).failed ≡ false }
-    ensures { AnswersSearch (F.found files.now) asked.now result (S.state sink.old)
+    ensures { AnswersSearch (F.found resources.now.files.now) asked.now result (S.state sink.old)
         (S.state sink.new) (E.state errors.old) (E.state errors.new) }
 {
-    match text_of(alloc, files, &asked.request.listed) {
+    match text_of(resources.alloc, resources.files, &asked.request.listed) {
         Ok(listing) => {
             let done = hunt_in(
-                threads,
-                alloc,
+                resources.threads,
+                resources.alloc,
                 listing.as_slice(),
                 &asked.request.asked,
                 watcher,
                 sink,
             );
-            finish(alloc, asked, listing.as_slice(), &done, errors)
+            finish(resources.alloc, asked, listing.as_slice(), &done, errors)
         }
-        Err(fault) => finish(alloc, asked, b"", &Err(fault), errors),
+        Err(fault) => finish(resources.alloc, asked, b"", &Err(fault), errors),
     }
 }
 
 /// Does what a command line is for, and returns the status.
 pub(crate) fn answer<F: FileSource, W: Watcher, S: ByteSink, E: ByteSink>(
-    threads: &(impl Threads + Sync),
-    alloc: Global,
+    resources: &Resources<'_, impl Threads + Sync, F>,
     line: &Result<Invocation<Search<'_>>, Unasked>,
-    files: &F,
     watcher: &mut W,
     sink: &mut S,
     errors: &mut E,
@@ -197,11 +202,11 @@ pub(crate) fn answer<F: FileSource, W: Watcher, S: ByteSink, E: ByteSink>(
     requires line { IfOk line.now (λ asked. IsSearch asked.request) }
     requires sink { (S.state sink.old).failed ≡ false }
     requires errors { (E.state errors.old).failed ≡ false }
-    ensures { AnswersLine (F.found files.now) line.now result (S.state sink.old)
+    ensures { AnswersLine (F.found resources.now.files.now) line.now result (S.state sink.old)
         (S.state sink.new) (E.state errors.old) (E.state errors.new) }
 {
     match line {
-        Ok(asked) => hunt(threads, alloc, asked, files, watcher, sink, errors),
-        Err(unasked) => answer_unasked(alloc, PROGRAM, unasked, sink, errors),
+        Ok(asked) => hunt(resources, asked, watcher, sink, errors),
+        Err(unasked) => answer_unasked(resources.alloc, PROGRAM, unasked, sink, errors),
     }
 }

@@ -9,7 +9,7 @@ mod arguments;
 mod progress;
 mod searching;
 
-use crate::answers::answer;
+use crate::answers::{Resources, answer};
 use crate::arguments::{Search, invocation_of};
 use crate::progress::Progress;
 use snap_options::{Invocation, Unasked, Unread, unasked_by, words_of};
@@ -43,14 +43,11 @@ fn main(rt: HostRuntime) -> ExitCode {
     let mut progress = Progress::new(&rt);
     let mut sink = Piped::new(io::writer(&rt));
     let mut errors = Messages::new(rt.alloc());
-    let status = answer(
-        &rt,
-        rt.alloc(),
-        &line,
-        &Disk(&rt),
-        &mut progress,
-        &mut sink,
-        &mut errors,
-    );
+    let resources = Resources {
+        threads: &rt,
+        alloc: rt.alloc(),
+        files: &Disk(&rt),
+    };
+    let status = answer(&resources, &line, &mut progress, &mut sink, &mut errors);
     ExitCode::from(end(status, &sink, &errors, &mut Std::new(rt.stderr())))
 }

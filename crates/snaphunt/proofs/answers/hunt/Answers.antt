@@ -6,11 +6,12 @@ use Rattle.snaphunt.proofs.answers.hunt.Goals as goal
 
 pub returns-in-Err : goal.returns-in-Err
 returns-in-Err g c =
+    let files = g.F.FileSource.found c.args.resources.now.files.now in
     let asked = c.args.asked.now.request in (
       Err c.in-Err.fault,
       [],
       c.finish-in-Err.ensures.status,
-      no_text (g.F.FileSource.found c.args.files.now) (view_listed asked.listed) asked.asked c.in-Err.fault []
+      no_text files (view_listed asked.listed) asked.asked c.in-Err.fault []
           (g.S.ByteSink.state c.args.sink.now) c.in-Err.ensures,
       c.finish-in-Err.ensures.says,
     )

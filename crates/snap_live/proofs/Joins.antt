@@ -195,17 +195,17 @@ module _ (views : List SeatState) (id other : ℕ) (v w : SeatState) (apart : ot
             omega arith;
         few = g.few;
         small = g.small;
-        one_opens =
+        one_may_name =
             pairs_join views id other b nobody apart
-            (λ (i : ℕ) (u : SeatState) (j : ℕ) (x : SeatState). u.opens ≡ true → x.opens ≡ true → i ≡ j)
-            g.one_opens
-            (λ j x nej neo atj mine theirs. g.one_opens id j v x at atj mine theirs)
-            (λ i u nei neo ati theirs mine. g.one_opens i id u v ati at theirs mine)
+            (λ (i : ℕ) (u : SeatState) (j : ℕ) (x : SeatState). u.may_name ≡ true → x.may_name ≡ true → i ≡ j)
+            g.one_may_name
+            (λ j x nej neo atj mine theirs. g.one_may_name id j v x at atj mine theirs)
+            (λ i u nei neo ati theirs mine. g.one_may_name i id u v ati at theirs mine)
             (λ p q. refl)
             (λ j x (nay : false ≡ true) theirs. absurd (cc))
             (λ i u theirs (nay : false ≡ true). absurd (cc));
         knows =
-            each_join views id other b nobody apart (λ (i : ℕ) (u : SeatState). u.opens ≡ true → u.named ≡ count)
+            each_join views id other b nobody apart (λ (i : ℕ) (u : SeatState). u.may_name ≡ true → u.named ≡ count)
             (λ j u nej neo atj. g.knows j u atj)
             (g.knows id v at)
             (λ (nay : false ≡ true). absurd (cc));

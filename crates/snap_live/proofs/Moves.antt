@@ -506,7 +506,7 @@ names_tickets next serving id p v views at empty g fresh idle =
     }
 
 names_processes : (base : Setting) (count id : ℕ) (v : SeatState) (views : List SeatState) → At views id v →
-    v.opens ≡ true → v.owns ≡ [] → v.named < base.shape.n
+    v.may_name ≡ true → v.owns ≡ [] → v.named < base.shape.n
     → Processes base count views → Processes base (count + 1) (set views id (names v (v.named + 1)))
 names_processes base count id v views at opens empty room g =
     let w = names v (v.named + 1) in
@@ -521,16 +521,16 @@ names_processes base count id v views at opens empty room g =
           omega arith;
       few = omega arith;
       small = g.small;
-      one_opens =
+      one_may_name =
           pairs_set
-          (λ (i : ℕ) (u : SeatState) (j : ℕ) (x : SeatState). u.opens ≡ true → x.opens ≡ true → i ≡ j) views id w
-          (λ i j u x nei nej. g.one_opens i j u x)
-          (λ j x ne atj mine theirs. g.one_opens id j v x at atj mine theirs)
-          (λ i u ne ati theirs mine. g.one_opens i id u v ati at theirs mine)
+          (λ (i : ℕ) (u : SeatState) (j : ℕ) (x : SeatState). u.may_name ≡ true → x.may_name ≡ true → i ≡ j) views id w
+          (λ i j u x nei nej. g.one_may_name i j u x)
+          (λ j x ne atj mine theirs. g.one_may_name id j v x at atj mine theirs)
+          (λ i u ne ati theirs mine. g.one_may_name i id u v ati at theirs mine)
           (λ p q. refl);
       knows =
-          each_set (λ (i : ℕ) (u : SeatState). u.opens ≡ true → u.named ≡ count + 1) views id w
-          (λ j u ne atj theirs. absurd (ne (g.one_opens j id u v atj at theirs opens)))
+          each_set (λ (i : ℕ) (u : SeatState). u.may_name ≡ true → u.named ≡ count + 1) views id w
+          (λ j u ne atj theirs. absurd (ne (g.one_may_name j id u v atj at theirs opens)))
           (λ _. omega arith);
       named =
           each_set (λ (i : ℕ) (u : SeatState). (p : ℕ) → HasProcess p u.owns → (1 ≤ p) × (p ≤ count + 1)) views id w
@@ -556,7 +556,7 @@ more_named base count id log views g = record {
 }
 
 names_itself : (base : Setting) (slots id : ℕ) (v : SeatState) → v.stage ≡ Idle → v.draws ≡ 0 → v.owns ≡ [] →
-    v.opens ≡ true → v.alive ≡ true → v.named < v.base.shape.n
+    v.may_name ≡ true → v.alive ≡ true → v.named < v.base.shape.n
     → Allows (TableInvariant base) slots id (v, []) 3 (λ n. (n + 1) % 2 ^ 64)
     (NamedProcess (step slots 3 1 0 none) (v, []))
 names_itself base slots id v idle fresh empty opens alive room s g _ at _ =
@@ -626,9 +626,9 @@ splits_processes : (base : Setting) (count id : ℕ) (v : SeatState) (views : Li
 splits_processes base count id v views at g =
     let l = stays v in let r = comes v in let left = set views id l in
     -- where the seat may name, nobody else in the left list may
-    let quiet : (i : ℕ) (u : SeatState) → At left i u → u.opens ≡ true → v.opens ≡ true → ⊥ =
-    each_set (λ (i : ℕ) (u : SeatState). u.opens ≡ true → v.opens ≡ true → ⊥) views id l
-    (λ j u ne atj theirs mine. ne (g.one_opens j id u v atj at theirs mine)) (λ (nay : false ≡ true) _. absurd (cc)) in
+    let quiet : (i : ℕ) (u : SeatState) → At left i u → u.may_name ≡ true → v.may_name ≡ true → ⊥ =
+    each_set (λ (i : ℕ) (u : SeatState). u.may_name ≡ true → v.may_name ≡ true → ⊥) views id l
+    (λ j u ne atj theirs mine. ne (g.one_may_name j id u v atj at theirs mine)) (λ (nay : false ≡ true) _. absurd (cc)) in
     record {
       counted =
           let s = total_set (λ (u : SeatState). length u.owns) views id v l at in
@@ -637,11 +637,11 @@ splits_processes base count id v views at g =
           omega arith;
       few = g.few;
       small = g.small;
-      one_opens =
-          pairs_end (λ (i : ℕ) (u : SeatState) (j : ℕ) (x : SeatState). u.opens ≡ true → x.opens ≡ true → i ≡ j) left r
+      one_may_name =
+          pairs_end (λ (i : ℕ) (u : SeatState) (j : ℕ) (x : SeatState). u.may_name ≡ true → x.may_name ≡ true → i ≡ j) left r
           (pairs_set
-          (λ (i : ℕ) (u : SeatState) (j : ℕ) (x : SeatState). u.opens ≡ true → x.opens ≡ true → i ≡ j) views id l
-          (λ i j u x nei nej. g.one_opens i j u x)
+          (λ (i : ℕ) (u : SeatState) (j : ℕ) (x : SeatState). u.may_name ≡ true → x.may_name ≡ true → i ≡ j) views id l
+          (λ i j u x nei nej. g.one_may_name i j u x)
           (λ j x ne atj (nay : false ≡ true) theirs. absurd (cc))
           (λ i u ne ati theirs (nay : false ≡ true). absurd (cc))
           (λ p q. refl))
@@ -649,8 +649,8 @@ splits_processes base count id v views at g =
           (λ i u ati theirs mine. absurd (quiet i u ati theirs mine))
           (λ p q. refl);
       knows =
-          each_end (λ (i : ℕ) (u : SeatState). u.opens ≡ true → u.named ≡ count) left r
-          (each_set (λ (i : ℕ) (u : SeatState). u.opens ≡ true → u.named ≡ count) views id l
+          each_end (λ (i : ℕ) (u : SeatState). u.may_name ≡ true → u.named ≡ count) left r
+          (each_set (λ (i : ℕ) (u : SeatState). u.may_name ≡ true → u.named ≡ count) views id l
           (λ j u ne atj. g.knows j u atj) (λ (nay : false ≡ true). absurd (cc)))
           (λ mine. g.knows id v at mine);
       named =
@@ -772,7 +772,7 @@ serves_as base slots id m t grip alive served has =
     (serves_next base slots id m.0 t grip alive served)
 
 pub names_as : (base : Setting) (slots id : ℕ) (m : Mine) → m.1 ≡ [] → m.0.stage ≡ Idle → m.0.draws ≡ 0 →
-    m.0.owns ≡ [] → m.0.opens ≡ true → m.0.alive ≡ true → m.0.named < m.0.base.shape.n
+    m.0.owns ≡ [] → m.0.may_name ≡ true → m.0.alive ≡ true → m.0.named < m.0.base.shape.n
     → Allows (TableInvariant base) slots id m 3 (λ n. (n + 1) % 2 ^ 64) (NamedProcess (step slots 3 1 0 none) m)
 names_as base slots id m bare idle fresh empty opens alive room =
     subst (λ (l : List (ℕ × Option Run)). Allows (TableInvariant base) slots id (m.0, l) 3 (λ n. (n + 1) % 2 ^ 64)

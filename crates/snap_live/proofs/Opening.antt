@@ -88,8 +88,8 @@ opens base small =
         counted = refl;
         few = omega arith;
         small = small;
-        one_opens = λ i j u x ati atj p q. (alone v u i ati).0 ∙ sym (alone v x j atj).0;
-        knows = only (λ i u. u.opens ≡ true → u.named ≡ 0) v (λ _. refl);
+        one_may_name = λ i j u x ati atj p q. (alone v u i ati).0 ∙ sym (alone v x j atj).0;
+        knows = only (λ i u. u.may_name ≡ true → u.named ≡ 0) v (λ _. refl);
         named = only (λ i u. (p : ℕ) → HasProcess p u.owns → (1 ≤ p) × (p ≤ 0)) v (λ p (nay : ⊥). absurd nay);
         differ = λ i j u x ati atj p a b. (alone v u i ati).0 ∙ sym (alone v x j atj).0;
       };

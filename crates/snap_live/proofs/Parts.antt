@@ -65,20 +65,20 @@ same_tickets next serving id v w views at ticket tickets drawn ps ok g = record 
 -- one view changes and stays of the same processes
 pub same_processes : (base : Setting) (count id : ℕ) (v w : SeatState) (views : List SeatState) →
     At views id v → length w.owns ≡ length v.owns → ((p : ℕ) → HasProcess p w.owns → HasProcess p v.owns) →
-    w.opens ≡ v.opens → w.named ≡ v.named
+    w.may_name ≡ v.may_name → w.named ≡ v.named
     → Processes base count views → Processes base count (set views id w)
 same_processes base count id v w views at len sub os ns g = record {
   counted = let s = total_set (λ (u : SeatState). length u.owns) views id v w at in let p = g.counted in omega arith;
   few = g.few;
   small = g.small;
-  one_opens =
-      pairs_set (λ (i : ℕ) (u : SeatState) (j : ℕ) (x : SeatState). u.opens ≡ true → x.opens ≡ true → i ≡ j) views id w
-      (λ i j u x nei nej. g.one_opens i j u x)
-      (λ j x ne atj mine theirs. g.one_opens id j v x at atj (sym os ∙ mine) theirs)
-      (λ i u ne ati theirs mine. g.one_opens i id u v ati at theirs (sym os ∙ mine))
+  one_may_name =
+      pairs_set (λ (i : ℕ) (u : SeatState) (j : ℕ) (x : SeatState). u.may_name ≡ true → x.may_name ≡ true → i ≡ j) views id w
+      (λ i j u x nei nej. g.one_may_name i j u x)
+      (λ j x ne atj mine theirs. g.one_may_name id j v x at atj (sym os ∙ mine) theirs)
+      (λ i u ne ati theirs mine. g.one_may_name i id u v ati at theirs (sym os ∙ mine))
       (λ p q. refl);
   knows =
-      each_set (λ (i : ℕ) (u : SeatState). u.opens ≡ true → u.named ≡ count) views id w
+      each_set (λ (i : ℕ) (u : SeatState). u.may_name ≡ true → u.named ≡ count) views id w
       (λ j u ne atj. g.knows j u atj) (λ o. ns ∙ g.knows id v at (sym os ∙ o));
   named =
       each_set (λ (i : ℕ) (u : SeatState). (p : ℕ) → HasProcess p u.owns → (1 ≤ p) × (p ≤ count)) views id w

@@ -48,7 +48,7 @@ opener base n = record {
   owns = [];
   draws = 0;
   stage = Idle;
-  opens = true;
+  may_name = true;
   named = n;
 }
 
@@ -72,7 +72,7 @@ nobody = record {
   owns = [];
   draws = 0;
   stage = Idle;
-  opens = false;
+  may_name = false;
   named = 0;
 }
 
@@ -90,7 +90,7 @@ names v p = record v { owns = own p [] ∷ []; named = p }
 
 -- the split: what stays loses the right to name, and the new seat has it
 abbrev pub stays : SeatState → SeatState
-stays v = record v { opens = false }
+stays v = record v { may_name = false }
 
 abbrev pub comes : SeatState → SeatState
 comes v = record {
@@ -101,7 +101,7 @@ comes v = record {
   owns = [];
   draws = 0;
   stage = Idle;
-  opens = v.opens;
+  may_name = v.may_name;
   named = v.named;
 }
 

@@ -13,6 +13,7 @@ mod seat;
 mod seat_state;
 mod start_gate;
 mod steps;
+mod table;
 mod worker;
 
 pub use closed_desk::close;

@@ -17,6 +17,7 @@ use crate::gate::Gate;
 use crate::refusal::LiveFault;
 use crate::seat::{Seat, Turn};
 use crate::start_gate::StartGate;
+use crate::table::Table;
 use crate::worker::{Stop, Worked, work};
 use snap_asm_program::Program;
 use snap_record::{MAX_ITEMS, Record};
@@ -93,33 +94,31 @@ impl<K: Kind, G: Gate> Promise<Worked<K>> for WorkerPromise<K, G> {
 /// Starts the worker of a seat, in a thread of its own.
 fn start<'s, E, K: Kind, G: Gate, R: Threads + Wait + Sync>(
     scope: &Scope<'s, E>,
-    rt: &'s R,
+    table: &'s Table<'s, K, G, R>,
     alloc: Global,
-    desk: &'s Desk<K>,
     seat: Seat<K>,
     script: &'s Script,
-    limit: u64,
-    gate: &'s G,
 ) -> Result<PromisedHandle<Worked<K>, WorkerPromise<K, G>>, AllocError>
-    requires { (seat ≡ seat_of desk.now seat.process) × (limit ≤ max_items) }
+    requires { (seat ≡ seat_of table.now.desk.now seat.process) × (table.now.limit ≤ max_items) }
     ensures seat { IfOk result (λ h. h.promise.seat.value ≡ seat) }
     ensures script { IfOk result (λ h. h.promise.script.value ≡ script.now) }
-    ensures gate { IfOk result (λ h. h.promise.gate.value ≡ gate.now) }
-    ensures limit { IfOk result (λ h. h.promise.limit ≡ limit) }
+    ensures gate { IfOk result (λ h. h.promise.gate.value ≡ table.now.gate.now) }
+    ensures limit { IfOk result (λ h. h.promise.limit ≡ table.now.limit) }
 {
     let promise = WorkerPromise {
         seat: Snapshot::of(&seat),
         script: Snapshot::of(script),
-        gate: Snapshot::of(gate),
-        limit,
+        gate: Snapshot::of(table.gate),
+        limit: table.limit,
     };
     let child = scope.spawn_with(
         promise,
         move || -> Worked<K>
-            requires { (seat ≡ seat_of desk.now seat.process) × (limit ≤ max_items) }
-            ensures { IsWorked (G.may_answer gate.entry.now) desk.entry.now seat.process
-                script.entry.now limit result }
-        { work(rt, alloc, desk, seat, script, limit, gate) },
+            requires { (seat ≡ seat_of table.now.desk.now seat.process) ×
+                (table.now.limit ≤ max_items) }
+            ensures { IsWorked (G.may_answer table.entry.now.gate.now) table.entry.now.desk.now
+                seat.process script.entry.now table.entry.now.limit result }
+        { work(table, alloc, seat, script) },
     )?;
     Ok(child)
 }
@@ -135,66 +134,70 @@ fn script_of(scripts: &Scripts, process: u32) -> &Script
 /// Starts all workers.
 fn start_all<'s, E, K: Kind, G: Gate, R: Threads + Wait + Sync>(
     scope: &Scope<'s, E>,
-    rt: &'s R,
+    table: &'s Table<'s, K, G, R>,
     alloc: Global,
-    desk: &'s Desk<K>,
     seats: Vec<Seat<K>>,
     scripts: &'s Scripts,
-    limit: u64,
-    gate: &'s G,
 ) -> Result<Vec<PromisedHandle<Worked<K>, WorkerPromise<K, G>>>, AllocError>
-    requires { All (λ s. (s ≡ seat_of desk.now s.process) ×
-        IsOneOf (length scripts.now.scripts) s.process) seats.items × (limit ≤ max_items) }
+    requires { All (λ s. (s ≡ seat_of table.now.desk.now s.process) ×
+        IsOneOf (length scripts.now.scripts) s.process) seats.items ×
+        (table.now.limit ≤ max_items) }
     ensures seats { IfOk result (λ hs. map (λ h. h.promise.seat.value) hs.items ≡ seats.items) }
     ensures scripts { IfOk result (λ hs. map (λ h. h.promise.script.value) hs.items
         ≡ map (λ s. script_at scripts.now.scripts (s.process - 1)) seats.items) }
-    ensures gate { IfOk result (λ hs. All (λ h. h.promise.gate.value ≡ gate.now) hs.items) }
-    ensures limit { IfOk result (λ hs. All (λ h. h.promise.limit ≡ limit) hs.items) }
+    ensures gate { IfOk result (λ hs.
+        All (λ h. h.promise.gate.value ≡ table.now.gate.now) hs.items) }
+    ensures limit { IfOk result (λ hs. All (λ h. h.promise.limit ≡ table.now.limit) hs.items) }
 {
     let mut handles = Vec::new(alloc);
     for seat in seats {
         let script = script_of(scripts, seat.process());
-        handles.push(start(scope, rt, alloc, desk, seat, script, limit, gate)?)?;
+        handles.push(start(scope, table, alloc, seat, script)?)?;
     }
     Ok(handles)
 }
 
 /// Runs all workers at once, each in a thread of its own, and joins them. There is room for what
 /// they hand back.
-fn run_all<K: Kind, G: Gate, R: Threads + Wait + Sync>(
-    rt: &R,
+fn run_all<'t, K: Kind, G: Gate, R: Threads + Wait + Sync>(
+    table: &'t Table<'t, K, G, R>,
     alloc: Global,
-    desk: &Desk<K>,
     seats: Vec<Seat<K>>,
     worked: Vec<Worked<K>>,
-    scripts: &Scripts,
-    limit: u64,
-    gate: &G,
+    scripts: &'t Scripts,
 ) -> Result<Vec<Worked<K>>, AllocError>
-    requires seats { seats.items ≡ seats_of desk.now (length scripts.now.scripts) }
-    requires limit { limit ≤ max_items }
+    requires seats { seats.items ≡ seats_of table.now.desk.now (length scripts.now.scripts) }
+    requires limit { table.now.limit ≤ max_items }
     requires worked { HasRoom (length scripts.now.scripts) worked }
-    ensures { IfOk result (λ ws.
-        AllWorked (G.may_answer gate.now) desk.now scripts.now.scripts limit ws.items) }
+    ensures { IfOk result (λ ws. AllWorked (G.may_answer table.now.gate.now)
+        table.now.desk.now scripts.now.scripts table.now.limit ws.items) }
 {
-    let start_gate = StartGate::of(gate, scripts.scripts());
-    let start_gate = &start_gate;
+    let start_gate = StartGate::of(table.gate, scripts.scripts());
+    let workers = Table {
+        rt: table.rt,
+        desk: table.desk,
+        limit: table.limit,
+        gate: &start_gate,
+    };
+    let workers = &workers;
     thread::scope(
         thread::scope_env(),
-        rt,
+        table.rt,
         move |scope| -> Result<Vec<Worked<K>>, AllocError>
-            requires seats { seats.items ≡ seats_of desk.now (length scripts.now.scripts) }
-            requires limit { limit ≤ max_items }
+            requires seats { seats.items
+                ≡ seats_of workers.now.desk.now (length scripts.now.scripts) }
+            requires limit { workers.now.limit ≤ max_items }
             requires worked { HasRoom (length scripts.now.scripts) worked }
-            ensures { IfOk result (λ ws. AllWorked (G.may_answer start_gate.entry.now.gate.now)
-                desk.entry.now scripts.entry.now.scripts limit ws.items) }
+            ensures { IfOk result (λ ws. AllWorked (G.may_answer workers.entry.now.gate.now.gate.now)
+                workers.entry.now.desk.now scripts.entry.now.scripts
+                workers.entry.now.limit ws.items) }
         {
-            let started = start_all(scope, rt, alloc, desk, seats, scripts, limit, start_gate);
+            let started = start_all(scope, workers, alloc, seats, scripts);
             if started.is_err() {
-                start_gate.call_off();
+                workers.gate.call_off();
             }
             let handles = started?;
-            let all = joined(rt, handles, worked);
+            let all = joined(workers.rt, handles, worked);
             Ok(all)
         },
     )
@@ -323,7 +326,13 @@ pub fn run_live<K: Kind, G: Gate, R: Threads + Wait + Sync>(
 {
     let (desk, seats) = open::<K>(alloc, program, scripts.shape())?;
     let room = room_for::<K>(alloc, scripts.scripts().len())?;
-    let worked = run_all(rt, alloc, &desk, seats, room.worked, scripts, limit, gate)?;
+    let table = Table {
+        rt,
+        desk: &desk,
+        limit,
+        gate,
+    };
+    let worked = run_all(&table, alloc, seats, room.worked, scripts)?;
     let WorkerResults { seats, turns, stop } = results_of(worked, room.seats, room.turns);
     let Ok(kept) = close(desk, seats) else {
         unreachable!()

@@ -46,7 +46,8 @@ pub struct SeatState {
     /// How many tickets the seat has drawn.
     pub draws: u64,
     pub stage: Stage,
-    /// The seat that may name itself knows how many are named.
-    pub opens: bool,
+    /// Whether this seat may name a process; at most one seat of a desk may.
+    pub may_name: bool,
+    /// How many processes are named, as the seat knows that may name one.
     pub named: u64,
 }

@@ -50,7 +50,7 @@ const COUNT: usize = 3;
 pub(crate) fn name<K: Kind>(shared: &SharedTable<K>, seat: &mut TableSeat<K>)
     requires shared { IsSeatOf shared.now.table_id seat.old.table_id }
     requires fresh { IsIdle seat.old.me × (seat.old.me.0.draws ≡ 0) × (seat.old.me.0.owns ≡ []) }
-    requires may { (seat.old.me.0.opens ≡ true) ×
+    requires may { (seat.old.me.0.may_name ≡ true) ×
         (seat.old.me.0.named < seat.old.me.0.base.shape.n) }
     ensures { IsSame seat.old.table_id seat.new.table_id ×
         (seat.new.me ≡ (names seat.old.me.0 (seat.old.me.0.named + 1), [])) }
@@ -58,7 +58,8 @@ pub(crate) fn name<K: Kind>(shared: &SharedTable<K>, seat: &mut TableSeat<K>)
     shared.fetch_add::<NameProcess>(seat, COUNT, 1);
 }
 
-/// Returns a new seat, which has seen as much, and may name a process if the old one might.
+/// Returns a new seat, which has seen what `seat` has seen. If `seat` might name a process, the new
+/// seat may, and `seat` may not any more.
 pub(crate) fn split<K: Kind>(shared: &SharedTable<K>, seat: &mut TableSeat<K>) -> TableSeat<K>
     requires shared { IsSeatOf shared.now.table_id seat.old.table_id }
     requires idle { IsIdle seat.old.me }

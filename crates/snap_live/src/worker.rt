@@ -13,6 +13,7 @@ use crate::desk::Desk;
 use crate::gate::Gate;
 use crate::refusal::LiveFault;
 use crate::seat::{Seat, Turn};
+use crate::table::Table;
 use snap_record::MAX_ITEMS;
 use snap_sched::Script;
 use snap_semantics::{Fault, Item, Outcome};
@@ -103,28 +104,25 @@ fn take_turn<K: Kind, R: Wait>(
 
 /// Makes a turn, if the gate lets the process on.
 fn play_turn<K: Kind, G: Gate, R: Wait>(
-    rt: &R,
-    desk: &Desk<K>,
+    table: &Table<'_, K, G, R>,
     seat: &mut Seat<K>,
     turns: &mut Vec<Turn>,
     item: Item,
-    limit: u64,
-    gate: &G,
 ) -> Result<Sequel, Stop>
-    requires kept { Kept (G.may_answer gate.now)
-        desk.now seat.old.process limit seat.old turns.old.items }
+    requires kept { Kept (G.may_answer table.now.gate.now)
+        table.now.desk.now seat.old.process table.now.limit seat.old turns.old.items }
     requires mine { who item ≡ seat.old.process }
-    requires room { (seat.old.asked ≡ length seat.old.own) × (seat.old.asked < limit) ×
-        (limit ≤ max_items) }
-    ensures kept { Kept (G.may_answer gate.now)
-        desk.now seat.old.process limit seat.new turns.new.items }
+    requires room { (seat.old.asked ≡ length seat.old.own) × (seat.old.asked < table.now.limit) ×
+        (table.now.limit ≤ max_items) }
+    ensures kept { Kept (G.may_answer table.now.gate.now)
+        table.now.desk.now seat.old.process table.now.limit seat.new turns.new.items }
     ensures made { IfOk result (λ m. Made seat.old seat.new item m) }
     ensures stopped { IfErr result (λ f. (seat.new.own ≡ seat.old.own)
-        × NoFurther (G.may_answer gate.now) limit seat.new f) }
+        × NoFurther (G.may_answer table.now.gate.now) table.now.limit seat.new f) }
 {
     let process = seat.process();
     let turn = seat.asked() + 1;
-    if !gate.enter(process, turn) {
+    if !table.gate.enter(process, turn) {
         return Err(Stop::TurnLimit);
     }
     if turns.reserve(1).is_err() {
@@ -134,7 +132,7 @@ fn play_turn<K: Kind, G: Gate, R: Wait>(
         }
         return Err(Stop::Memory);
     }
-    match take_turn(rt, desk, seat, item) {
+    match take_turn(table.rt, table.desk, seat, item) {
         Ok(turn) => {
             let sequel = sequel_of(&turn.outcome);
             turns.push_reserved(turn);
@@ -147,62 +145,56 @@ fn play_turn<K: Kind, G: Gate, R: Wait>(
 
 /// Plays the crash, at its turn.
 fn play_crash<K: Kind, G: Gate, R: Wait>(
-    rt: &R,
-    desk: &Desk<K>,
+    table: &Table<'_, K, G, R>,
     seat: &mut Seat<K>,
     turns: &mut Vec<Turn>,
     script: &Script,
-    limit: u64,
-    gate: &G,
 ) -> Result<(), Stop>
-    requires kept { Kept (G.may_answer gate.now)
-        desk.now seat.old.process limit seat.old turns.old.items }
+    requires kept { Kept (G.may_answer table.now.gate.now)
+        table.now.desk.now seat.old.process table.now.limit seat.old turns.old.items }
     requires plays { IsBegun script.now seat.old.own ×
         (crashes_behind script.now.crash seat.old.asked ≡ true) }
-    requires room { (seat.old.asked ≡ length seat.old.own) × (seat.old.asked < limit) ×
-        (limit ≤ max_items) }
-    ensures kept { Kept (G.may_answer gate.now)
-        desk.now seat.old.process limit seat.new turns.new.items }
+    requires room { (seat.old.asked ≡ length seat.old.own) × (seat.old.asked < table.now.limit) ×
+        (table.now.limit ≤ max_items) }
+    ensures kept { Kept (G.may_answer table.now.gate.now)
+        table.now.desk.now seat.old.process table.now.limit seat.new turns.new.items }
     ensures played { IfOk result (λ _. (seat.new.asked ≡ length seat.new.own) ×
         Leaves script.now seat.new.own over) }
     ensures stopped { IfErr result (λ f.
-        Stopped (G.may_answer gate.now) script.now limit seat.new f) }
+        Stopped (G.may_answer table.now.gate.now) script.now table.now.limit seat.new f) }
 {
     let crash = Item::Crash(seat.process());
-    play_turn(rt, desk, seat, turns, crash, limit, gate)?;
+    play_turn(table, seat, turns, crash)?;
     Ok(())
 }
 
 /// Plays steps up to the end of the last operation that was called, and returns true if nothing
 /// follows it.
 fn play_steps<K: Kind, G: Gate, R: Wait>(
-    rt: &R,
-    desk: &Desk<K>,
+    table: &Table<'_, K, G, R>,
     seat: &mut Seat<K>,
     turns: &mut Vec<Turn>,
     script: &Script,
     at: usize,
-    limit: u64,
-    gate: &G,
 ) -> Result<bool, Stop>
-    requires kept { Kept (G.may_answer gate.now)
-        desk.now seat.old.process limit seat.old turns.old.items }
+    requires kept { Kept (G.may_answer table.now.gate.now)
+        table.now.desk.now seat.old.process table.now.limit seat.old turns.old.items }
     requires plays { Leaves script.now seat.old.own (busy (drop (at + 1) script.now.operations)) }
-    requires room { (seat.old.asked ≡ length seat.old.own) × (limit ≤ max_items) }
-    ensures kept { Kept (G.may_answer gate.now)
-        desk.now seat.old.process limit seat.new turns.new.items }
+    requires room { (seat.old.asked ≡ length seat.old.own) × (table.now.limit ≤ max_items) }
+    ensures kept { Kept (G.may_answer table.now.gate.now)
+        table.now.desk.now seat.old.process table.now.limit seat.new turns.new.items }
     ensures played { IfOk result (λ t. (seat.new.asked ≡ length seat.new.own) ×
         Leaves script.now seat.new.own (after_operation t (drop (at + 1) script.now.operations))) }
     ensures stopped { IfErr result (λ f.
-        Stopped (G.may_answer gate.now) script.now limit seat.new f) }
+        Stopped (G.may_answer table.now.gate.now) script.now table.now.limit seat.new f) }
 {
     let step = Item::Step(seat.process());
-    for _turn in seat.asked()..limit {
+    for _turn in seat.asked()..table.limit {
         if crashes_now(script, seat) {
-            play_crash(rt, desk, seat, turns, script, limit, gate)?;
+            play_crash(table, seat, turns, script)?;
             return Ok(true);
         }
-        match play_turn(rt, desk, seat, turns, step, limit, gate)? {
+        match play_turn(table, seat, turns, step)? {
             Sequel::Ended => return Ok(false),
             Sequel::Trapped => return Ok(true),
             Sequel::Goes => (),
@@ -214,62 +206,56 @@ fn play_steps<K: Kind, G: Gate, R: Wait>(
 
 /// Plays the operation at place `at` of the script, and returns true if nothing follows it.
 fn play_operation<K: Kind, G: Gate, R: Wait>(
-    rt: &R,
-    desk: &Desk<K>,
+    table: &Table<'_, K, G, R>,
     seat: &mut Seat<K>,
     turns: &mut Vec<Turn>,
     script: &Script,
     at: usize,
-    limit: u64,
-    gate: &G,
 ) -> Result<bool, Stop>
-    requires kept { Kept (G.may_answer gate.now)
-        desk.now seat.old.process limit seat.old turns.old.items }
+    requires kept { Kept (G.may_answer table.now.gate.now)
+        table.now.desk.now seat.old.process table.now.limit seat.old turns.old.items }
     requires plays { (at < length script.now.operations) ×
         Leaves script.now seat.old.own (rest (drop at script.now.operations)) }
-    requires room { (seat.old.asked ≡ length seat.old.own) × (limit ≤ max_items) }
-    ensures kept { Kept (G.may_answer gate.now)
-        desk.now seat.old.process limit seat.new turns.new.items }
+    requires room { (seat.old.asked ≡ length seat.old.own) × (table.now.limit ≤ max_items) }
+    ensures kept { Kept (G.may_answer table.now.gate.now)
+        table.now.desk.now seat.old.process table.now.limit seat.new turns.new.items }
     ensures played { IfOk result (λ t. (seat.new.asked ≡ length seat.new.own) ×
         Leaves script.now seat.new.own (after_operation t (drop (at + 1) script.now.operations))) }
     ensures stopped { IfErr result (λ f.
-        Stopped (G.may_answer gate.now) script.now limit seat.new f) }
+        Stopped (G.may_answer table.now.gate.now) script.now table.now.limit seat.new f) }
 {
-    if seat.asked() >= limit {
+    if seat.asked() >= table.limit {
         return Err(Stop::TurnLimit);
     }
     if crashes_now(script, seat) {
-        play_crash(rt, desk, seat, turns, script, limit, gate)?;
+        play_crash(table, seat, turns, script)?;
         return Ok(true);
     }
     let call = Item::Call(seat.process(), script.operations()[at]);
-    match play_turn(rt, desk, seat, turns, call, limit, gate)? {
+    match play_turn(table, seat, turns, call)? {
         Sequel::Skipped => Ok(false),
-        _ => play_steps(rt, desk, seat, turns, script, at, limit, gate),
+        _ => play_steps(table, seat, turns, script, at),
     }
 }
 
 /// Plays the whole script.
 fn play<K: Kind, G: Gate, R: Wait>(
-    rt: &R,
-    desk: &Desk<K>,
+    table: &Table<'_, K, G, R>,
     seat: &mut Seat<K>,
     turns: &mut Vec<Turn>,
     script: &Script,
-    limit: u64,
-    gate: &G,
 ) -> Result<(), Stop>
-    requires kept { Kept (G.may_answer gate.now)
-        desk.now seat.old.process limit seat.old turns.old.items }
-    requires fresh { (seat.old.own ≡ []) × (seat.old.asked ≡ 0) × (limit ≤ max_items) }
-    ensures kept { Kept (G.may_answer gate.now)
-        desk.now seat.old.process limit seat.new turns.new.items }
+    requires kept { Kept (G.may_answer table.now.gate.now)
+        table.now.desk.now seat.old.process table.now.limit seat.old turns.old.items }
+    requires fresh { (seat.old.own ≡ []) × (seat.old.asked ≡ 0) × (table.now.limit ≤ max_items) }
+    ensures kept { Kept (G.may_answer table.now.gate.now)
+        table.now.desk.now seat.old.process table.now.limit seat.new turns.new.items }
     ensures played { IfOk result (λ _. IsPlay script.now seat.new.own) }
     ensures stopped { IfErr result (λ f.
-        Stopped (G.may_answer gate.now) script.now limit seat.new f) }
+        Stopped (G.may_answer table.now.gate.now) script.now table.now.limit seat.new f) }
 {
     for at in 0..script.operations().len() {
-        if play_operation(rt, desk, seat, turns, script, at, limit, gate)? {
+        if play_operation(table, seat, turns, script, at)? {
             return Ok(());
         }
     }
@@ -278,18 +264,16 @@ fn play<K: Kind, G: Gate, R: Wait>(
 
 /// Plays the script of one seat.
 pub(crate) fn work<K: Kind, G: Gate, R: Wait>(
-    rt: &R,
+    table: &Table<'_, K, G, R>,
     alloc: Global,
-    desk: &Desk<K>,
     mut seat: Seat<K>,
     script: &Script,
-    limit: u64,
-    gate: &G,
 ) -> Worked<K>
-    requires { (seat ≡ seat_of desk.now seat.process) × (limit ≤ max_items) }
-    ensures { IsWorked (G.may_answer gate.now) desk.now seat.process script.now limit result }
+    requires { (seat ≡ seat_of table.now.desk.now seat.process) × (table.now.limit ≤ max_items) }
+    ensures { IsWorked (G.may_answer table.now.gate.now)
+        table.now.desk.now seat.process script.now table.now.limit result }
 {
     let mut turns = Vec::new(alloc);
-    let stop = play(rt, desk, &mut seat, &mut turns, script, limit, gate).err();
+    let stop = play(table, &mut seat, &mut turns, script).err();
     Worked { seat, turns, stop }
 }

@@ -15,7 +15,8 @@ loop-seat-preserved g c =
     let new = c.push.new.self.items in
     let h = c.in_ok-start.field-0 in
     let seat = c.in-Some.seat in
-    let one : (seat ≡ seat_of c.args.desk.now seat.process) × IsOneOf (length c.args.scripts.now.scripts) seat.process =
+    let one : (seat ≡ seat_of c.args.table.now.desk.now seat.process)
+    × IsOneOf (length c.args.scripts.now.scripts) seat.process =
     let r = i.rest 0 seat in grind rules in
     let b = one.1 in
     let same : c.process.result - 1 ≡ seat.process - 1 = ap (λ n. n - 1) c.process.ensures in
@@ -26,7 +27,7 @@ loop-seat-preserved g c =
           maps_more (λ h. h.promise.script.value)
           (λ (v : SeatView). script_at c.args.scripts.now.scripts (v.process - 1)) old new h
           c.loop-seat.yielded seat e i.scripts script;
-      gate = all_more (λ h. h.promise.gate.value ≡ c.args.gate.now) old new h e i.gate s.gate;
-      limit = all_more (λ h. h.promise.limit ≡ c.args.limit) old new h e i.limit s.limit;
+      gate = all_more (λ h. h.promise.gate.value ≡ c.args.table.now.gate.now) old new h e i.gate s.gate;
+      limit = all_more (λ h. h.promise.limit ≡ c.args.table.now.limit) old new h e i.limit s.limit;
       rest = λ k d below. let r = i.rest (k + 1) d in grind rules;
     }

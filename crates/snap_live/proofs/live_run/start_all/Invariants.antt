@@ -12,8 +12,8 @@ invariant-loop-seat g l = record {
   seats : map (λ h. h.promise.seat.value) l.handles.items ≡ l.yielded;
   scripts : map (λ h. h.promise.script.value) l.handles.items
       ≡ map (λ s. script_at l.scripts.scripts (s.process - 1)) l.yielded;
-  gate : All (λ h. h.promise.gate.value ≡ l.gate) l.handles.items;
-  limit : All (λ h. h.promise.limit ≡ l.limit) l.handles.items;
-  rest : All (λ s. (s ≡ seat_of l.desk s.process) × IsOneOf (length l.scripts.scripts) s.process)
+  gate : All (λ h. h.promise.gate.value ≡ l.table.gate.now) l.handles.items;
+  limit : All (λ h. h.promise.limit ≡ l.table.limit) l.handles.items;
+  rest : All (λ s. (s ≡ seat_of l.table.desk.now s.process) × IsOneOf (length l.scripts.scripts) s.process)
       (into_iter_items l.seat-iterator);
 }

@@ -6,7 +6,8 @@ use Rattle.snap_live.proofs.worker.play.Given as goal
 
 abbrev pub invariant-loop-at : goal.invariant-loop-at
 invariant-loop-at g l = record {
-  kept : Kept (g.G.Gate.may_answer l.gate) l.desk l.initial.seat.process l.limit l.seat l.turns.items;
+  kept : Kept (g.G.Gate.may_answer l.table.gate.now) l.table.desk.now l.initial.seat.process l.table.limit
+      l.seat l.turns.items;
   plays : Leaves l.script l.seat.own (rest (drop l.at l.script.operations));
   asked : l.seat.asked ≡ length l.seat.own;
 }

@@ -4,9 +4,9 @@ use Rattle.snap_live.specs.Script.{crashes_behind}
 use Rattle.snap_live.proofs.Plays.{calls_at, call_goes, call_passes, begun_left}
 use Rattle.snap_live.proofs.worker.play_operation.Goals as goal
 
-pub returns-then-asked-limit-clause-stopped : goal.returns-then-asked-limit-clause-stopped
-returns-then-asked-limit-clause-stopped g c =
-    let few = c.requires.kept.few in let r = c.requires.room in let t = c.if-asked-limit.true in
+pub returns-then-asked-table-clause-stopped : goal.returns-then-asked-table-clause-stopped
+returns-then-asked-table-clause-stopped g c =
+    let few = c.requires.kept.few in let r = c.requires.room in let t = c.if-asked-table.true in
     record { begun = begun_left _ _ _ c.requires.plays.0 c.requires.plays.1; why = inl (omega arith) }
 
 pub play_crash-requires-clause-plays : goal.play_crash-requires-clause-plays

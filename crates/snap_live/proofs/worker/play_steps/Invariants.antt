@@ -7,7 +7,8 @@ use Rattle.snap_live.proofs.worker.play_steps.Given as goal
 
 abbrev pub invariant-loop-turn : goal.invariant-loop-turn
 invariant-loop-turn g l = record {
-  kept : Kept (g.G.Gate.may_answer l.gate) l.desk l.initial.seat.process l.limit l.seat l.turns.items;
+  kept : Kept (g.G.Gate.may_answer l.table.gate.now) l.table.desk.now l.initial.seat.process l.table.limit
+      l.seat l.turns.items;
   plays : Leaves l.script l.seat.own (busy (drop (l.at + 1) l.script.operations));
   asked : l.seat.asked ≡ length l.seat.own;
   turn : l._turn ≡ l.seat.asked;

@@ -18,7 +18,7 @@ joined-all-requires-after_bounds g c κs within =
     let many : length w.handles.items ≡ length a.scripts.now.scripts =
     sym (map_length (λ h. h.promise.seat.value) w.handles.items)
     ∙ ap (λ (l : List SeatView). length l) (seats ∙ c.requires.seats)
-    ∙ seats_length a.desk.now (length a.scripts.now.scripts) in
+    ∙ seats_length a.workers.now.desk.now (length a.scripts.now.scripts) in
     let room = c.requires.worked.1 in
     (c.requires.worked.0, omega arith)
 
@@ -28,10 +28,10 @@ returns g c =
     let seats : map (λ h. h.promise.seat.value) w.handles.items ≡ a.seats.items = search rules in
     let scripts : map (λ h. h.promise.script.value) w.handles.items
     ≡ map (λ s. script_at a.scripts.now.scripts (s.process - 1)) a.seats.items = search rules in
-    let gates : All (λ h. h.promise.gate.value ≡ a.start_gate.now) w.handles.items = search rules in
-    let limits : All (λ h. h.promise.limit ≡ a.limit) w.handles.items = search rules in
+    let gates : All (λ h. h.promise.gate.value ≡ a.workers.now.gate.now) w.handles.items = search rules in
+    let limits : All (λ h. h.promise.limit ≡ a.workers.now.limit) w.handles.items = search rules in
     workers_of (λ h. h.promise.seat.value) (λ h. h.promise.script.value)
     (λ h. h.promise.gate.value) (λ h. h.promise.limit)
-    (λ start. g.G.Gate.may_answer start.gate.now) a.desk.now a.scripts.now.scripts a.limit a.start_gate.now
-    a.seats.items w.handles.items j.result.items
+    (λ start. g.G.Gate.may_answer start.gate.now) a.workers.now.desk.now a.scripts.now.scripts
+    a.workers.now.limit a.workers.now.gate.now a.seats.items w.handles.items j.result.items
     c.requires.seats seats scripts gates limits j.ensures.len j.ensures.each

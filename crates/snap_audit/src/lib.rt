@@ -23,8 +23,8 @@ pub fn verdicts_are_of_scans()
     ensures { (r : Run) → VerdictsAreOfScans r }
 {}
 
-/// In a run whose items are all of its processes: if each finished scan has a point, each verdict of
-/// the audit has one.
+/// In a run whose items are all of its processes: if each finished scan has a point, each verdict
+/// of the audit has one.
 #[tactic(auto, using(snap_runs::proofs::Audits::verdicts_have_points))]
 pub fn every_verdict_has_a_point()
     ensures { (r : Run) → HavePoints r → VerdictsHavePoints r }

@@ -628,7 +628,8 @@ splits_processes base count id v views at g =
     -- where the seat may name, nobody else in the left list may
     let quiet : (i : ℕ) (u : SeatState) → At left i u → u.may_name ≡ true → v.may_name ≡ true → ⊥ =
     each_set (λ (i : ℕ) (u : SeatState). u.may_name ≡ true → v.may_name ≡ true → ⊥) views id l
-    (λ j u ne atj theirs mine. ne (g.one_may_name j id u v atj at theirs mine)) (λ (nay : false ≡ true) _. absurd (cc)) in
+    (λ j u ne atj theirs mine. ne (g.one_may_name j id u v atj at theirs mine))
+    (λ (nay : false ≡ true) _. absurd (cc)) in
     record {
       counted =
           let s = total_set (λ (u : SeatState). length u.owns) views id v l at in
@@ -638,7 +639,8 @@ splits_processes base count id v views at g =
       few = g.few;
       small = g.small;
       one_may_name =
-          pairs_end (λ (i : ℕ) (u : SeatState) (j : ℕ) (x : SeatState). u.may_name ≡ true → x.may_name ≡ true → i ≡ j) left r
+          pairs_end
+          (λ (i : ℕ) (u : SeatState) (j : ℕ) (x : SeatState). u.may_name ≡ true → x.may_name ≡ true → i ≡ j) left r
           (pairs_set
           (λ (i : ℕ) (u : SeatState) (j : ℕ) (x : SeatState). u.may_name ≡ true → x.may_name ≡ true → i ≡ j) views id l
           (λ i j u x nei nej. g.one_may_name i j u x)

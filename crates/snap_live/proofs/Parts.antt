@@ -72,7 +72,8 @@ same_processes base count id v w views at len sub os ns g = record {
   few = g.few;
   small = g.small;
   one_may_name =
-      pairs_set (λ (i : ℕ) (u : SeatState) (j : ℕ) (x : SeatState). u.may_name ≡ true → x.may_name ≡ true → i ≡ j) views id w
+      pairs_set (λ (i : ℕ) (u : SeatState) (j : ℕ) (x : SeatState). u.may_name ≡ true → x.may_name ≡ true → i ≡ j)
+      views id w
       (λ i j u x nei nej. g.one_may_name i j u x)
       (λ j x ne atj mine theirs. g.one_may_name id j v x at atj (sym os ∙ mine) theirs)
       (λ i u ne ati theirs mine. g.one_may_name i id u v ati at theirs (sym os ∙ mine))

@@ -45,7 +45,8 @@ pub record Processes (base : Setting) (count : ℕ) (views : List SeatState) : T
   pub counted : total (λ v. length v.owns) views ≡ count
   pub few : count ≤ base.shape.n
   pub small : base.shape.n ≤ 2 ^ 16
-  pub one_may_name : (i j : ℕ) (v w : SeatState) → At views i v → At views j w → v.may_name ≡ true → w.may_name ≡ true → i ≡ j
+  pub one_may_name : (i j : ℕ) (v w : SeatState) → At views i v → At views j w → v.may_name ≡ true →
+      w.may_name ≡ true → i ≡ j
   pub knows : (i : ℕ) (v : SeatState) → At views i v → v.may_name ≡ true → v.named ≡ count
   pub named : (i : ℕ) (v : SeatState) → At views i v → (p : ℕ) → HasProcess p v.owns → (1 ≤ p) × (p ≤ count)
   pub differ : (i j : ℕ) (v w : SeatState) → At views i v → At views j w → (p : ℕ) →

@@ -188,7 +188,8 @@ fn run_all<'t, K: Kind, G: Gate, R: Threads + Wait + Sync>(
                 ≡ seats_of workers.now.desk.now (length scripts.now.scripts) }
             requires limit { workers.now.limit ≤ max_items }
             requires worked { HasRoom (length scripts.now.scripts) worked }
-            ensures { IfOk result (λ ws. AllWorked (G.may_answer workers.entry.now.gate.now.gate.now)
+            ensures { IfOk result (λ ws.
+                AllWorked (G.may_answer workers.entry.now.gate.now.gate.now)
                 workers.entry.now.desk.now scripts.entry.now.scripts
                 workers.entry.now.limit ws.items) }
         {

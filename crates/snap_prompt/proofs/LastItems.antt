@@ -23,7 +23,8 @@ process_of_last None = 0
 process_of_last (Some o) = o.0
 
 -- the process of the last item is one of the run's
-pub last_process_is_one : (r : Run) (t i : ℕ) (o : Outcome) → AllByRecursion (λ (x : Item). IsOneOf r.shape.n (who x)) r.items →
+pub last_process_is_one : (r : Run) (t i : ℕ) (o : Outcome) →
+    AllByRecursion (λ (x : Item). IsOneOf r.shape.n (who x)) r.items →
     t ≤ length r.items → last_of r t ≡ Some (i, o) → (0 < t) × IsOneOf r.shape.n i
 last_process_is_one r zero i o all within e = absurd cc
 last_process_is_one r (suc t) i o all within e =

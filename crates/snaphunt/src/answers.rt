@@ -23,8 +23,8 @@ use std::thread::Threads;
 /// What the program is called.
 const PROGRAM: &str = "snaphunt";
 
-/// What a hunt is done with: the leave to start threads, where memory comes from, and the files that
-/// are there.
+/// What a hunt is done with: the leave to start threads, where memory comes from, and the files
+/// that are there.
 #[derive(Clone, Copy)]
 pub(crate) struct Resources<'r, T, F> {
     pub(crate) threads: &'r T,

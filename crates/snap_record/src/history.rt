@@ -273,25 +273,25 @@ pub fn note_outcome(
     events: &mut Vec<Event>,
     at_events: &mut Vec<u64>,
     collects: &[u64],
-    done: Done<'_>,
+    done: &Done<'_>,
     step_role: StepRole,
 )
-    requires process { IsOneOf (length collects.now) (who done.item) }
-    requires answer { (v : List ℕ) → done.outcome.now ≡ outcomes.Answered v →
+    requires process { IsOneOf (length collects.now) (who done.now.item) }
+    requires answer { (v : List ℕ) → done.now.outcome.now ≡ outcomes.Answered v →
         seen_step_role step_role ≡ Answer v }
     requires events { vec_len events.old < vec_capacity events.old }
     requires at_events { vec_len at_events.old < vec_capacity at_events.old }
     ensures events { events.new.items ≡ events.old.items
-        ++ event_of done.number done.item done.outcome.now }
+        ++ event_of done.now.number done.now.item done.now.outcome.now }
     ensures at_events { at_events.new.items ≡ at_events.old.items
-        ++ map (λ (e : Event). slice_index collects.now (who done.item - 1))
-        (event_of done.number done.item done.outcome.now) }
+        ++ map (λ (e : Event). slice_index collects.now (who done.now.item - 1))
+        (event_of done.now.number done.now.item done.now.outcome.now) }
 {
     let Done {
         number,
         item,
         outcome,
-    } = done;
+    } = *done;
     if is_unseen(outcome) {
         return;
     }

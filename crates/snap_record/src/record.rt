@@ -150,7 +150,7 @@ impl<K: Kind> Record<K> {
             &mut self.events,
             &mut self.at_events,
             self.collects.as_slice(),
-            done,
+            &done,
             step_role,
         );
         Ok(outcome)

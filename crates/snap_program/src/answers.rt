@@ -175,10 +175,10 @@ fn run_telling<T, R: ByteSource, W: ByteSink, E: ByteSink>(
     }
 }
 
-/// Does a task, and tells of the calls that a run under a schedule skipped if refusals are
-/// explained.
+/// Does a task, and if `tells`, tells of the calls that a run under a schedule skipped.
 fn do_told<R: ByteSource, W: ByteSink, E: ByteSink>(
     session: &Session<'_, impl Threads + Sync>,
+    tells: bool,
     task: &Task,
     source: &mut R,
     sink: &mut W,
@@ -188,14 +188,12 @@ fn do_told<R: ByteSource, W: ByteSink, E: ByteSink>(
     requires sink { (W.state sink.old).failed ≡ false }
     requires goes_on { (W.state sink.old).stalled ≡ false }
     requires errors { (E.state errors.old).failed ≡ false }
-    ensures { AnswersTold session.now.asked.now.explains task.now session.now.asked.now result
-        (R.state source.old) (R.state source.new) (W.state sink.old) (W.state sink.new)
+    ensures { AnswersTold tells task.now session.now.asked.now result (R.state source.old)
+        (R.state source.new) (W.state sink.old) (W.state sink.new)
         (E.state errors.old) (E.state errors.new) }
 {
     match *task {
-        Task::Run(subject) if session.asked.explains => {
-            run_telling(session, subject, source, sink, errors)
-        }
+        Task::Run(subject) if tells => run_telling(session, subject, source, sink, errors),
         _ => do_task(session, task, source, sink, errors),
     }
 }
@@ -310,7 +308,9 @@ fn do_asked<R: ByteSource, W: ByteSink, E: ByteSink>(
         (E.state errors.old) (E.state errors.new) }
 {
     match session.asked.request {
-        Request::Do(task) => do_told(session, &task, source, sink, errors),
+        Request::Do(task) => {
+            do_told(session, session.asked.explains, &task, source, sink, errors)
+        }
         Request::Live(subject, limit) => play_live(session, subject, limit, source, sink, errors),
         Request::Judge(request) => judge_asked(session, &request, source, sink, errors),
         Request::Model(subject, crashes) => {

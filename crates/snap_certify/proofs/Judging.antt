@@ -11,7 +11,7 @@ use Rattle.snap_certify.specs.declared.certificate.Certification.{Certification}
 use Rattle.snap_certify.specs.declared.certificate.Certification.TheVariants as certification
 use Rattle.snap_certify.specs.declared.certificate.Certified.{Certified}
 use Rattle.snap_certify.specs.declared.found.Missing.{Missing}
-use Rattle.snap_judge.specs.declared.judgements.Judgement.{Judgement}
+use Rattle.snap_judge.specs.declared.judgements.Failing.{Failing}
 use Rattle.snap_run_judge.specs.Judged.{AnswersJudged}
 use Rattle.snap_run_judge.specs.RunHistory.{history_of}
 use Rattle.snap_run_judge.specs.RunJudgement.{IsRunJudgement, most_configurations}
@@ -36,7 +36,7 @@ certified_text r e text is same = (
 
 -- the text of a run that is not certified, and the verdict that the run was judged to have
 pub judged_text : (r : Run) (m : Missing) (text out : List ℕ) → Err m ≡ certification_of r → text ≡ text_of (Err m) →
-    ((j : Judgement) × IsRunJudgement most_configurations r j × (out ≡ text ++ verdict_text (history_of r) j)) →
+    ((j : Failing) × IsRunJudgement most_configurations r j × (out ≡ text ++ verdict_text (history_of r) j)) →
     IsCertificateText r out
 judged_text r m text out is same h = (
   h.0 ∷ [],
@@ -57,7 +57,7 @@ when_certified r c found text is exact same =
 pub when_missing : (r : Run) (c : Certification) (m : Missing) (text out : List ℕ) →
     c ≡ certification.Missing m → seen_certification c ≡ certification_of r →
     text ≡ text_of (seen_certification c) →
-    ((j : Judgement) × IsRunJudgement most_configurations r j × (out ≡ text ++ verdict_text (history_of r) j)) →
+    ((j : Failing) × IsRunJudgement most_configurations r j × (out ≡ text ++ verdict_text (history_of r) j)) →
     IsCertificateText r out
 when_missing r c m text out is exact same h =
     judged_text r m text out (sym (ap seen_certification is) ∙ exact) (same ∙ ap text_of (ap seen_certification is)) h
@@ -65,7 +65,7 @@ when_missing r c m text out is exact same h =
 -- the certification of the run over the schedule that a text is
 pub over_schedule : (l : Source) (text : List ℕ) (s : Schedule) (out : List ℕ) → schedule_for l text ≡ Ok s →
     IsCertificateText (run_over l s) out →
-    (judged : List Judgement) × WasJudgedOver l text judged × (certify_listing judged l text ≡ Ok out)
+    (judged : List Failing) × WasJudgedOver l text judged × (certify_listing judged l text ≡ Ok out)
 unfolding certify_listing
 over_schedule l text s out read h = (
   h.0,

@@ -17,7 +17,7 @@ ghost use Rattle.snap_certify.specs.CertificationText.{
   writes_after,
   writes_until,
 };
-ghost use Rattle.snap_judge.specs.declared.judgements.Judgement.{Judgement};
+ghost use Rattle.snap_judge.specs.declared.judgements.Failing.{Failing};
 ghost use Rattle.snap_run_judge.specs.RunHistory.{history_of};
 ghost use Rattle.snap_run_judge.specs.RunJudgement.{IsRunJudgement, most_configurations};
 ghost use Rattle.snap_run_judge.specs.VerdictText.{verdict_text};
@@ -182,13 +182,13 @@ pub(crate) fn with_verdict<K: Kind>(
     history: &Record<K>,
     text: Vec<u8>,
 ) -> Result<Vec<u8>, AllocError>
-    ensures { IfOk result (λ out. (j : Judgement)
+    ensures { IfOk result (λ out. (j : Failing)
         × IsRunJudgement most_configurations history.now j
         × (out.items ≡ text.items ++ verdict_text (history_of history.now) j)) }
 {
-    let judgement = judge_record(alloc, history, MOST_CONFIGURATIONS)?;
+    let failing = judge_record(alloc, history, MOST_CONFIGURATIONS)?;
     let mut out = Draft::of(text);
-    push_verdict(&mut out, history, &judgement);
+    push_verdict(&mut out, history, failing);
     out.finish()
 }
 

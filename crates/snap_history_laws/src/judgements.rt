@@ -6,7 +6,6 @@ ghost use Rattle.snap_semantics.specs.IsListing.{IsListing};
 ghost use Rattle.snap_shipped.specs.Shipped.{shipped};
 ghost use Rattle.snap_judge.specs.declared.judgements.Judgement.{Judgement};
 ghost use Rattle.snap_history_laws.specs.judgements.JudgementLaws.{IsSoOf, JudgementsAreOfRuns};
-ghost use Rattle.snap_run_judge.specs.RunJudgement.{IsRunJudgement};
 ghost use Rattle.snap_history_laws.specs.judgements.RunLaws.{RunsAreToldByTheirHistories};
 ghost use Rattle.snap_history_laws.specs.judgements.RunLaws.{RunsTellEachOnce, TellsEachOnce};
 ghost use Rattle.snap_history_laws.specs.judgements.ShippedLaws.{ClosedDesksAreSeenLinearizable};
@@ -55,7 +54,7 @@ pub fn judgements_are_of_runs()
 /// What is judged of the history of a record holds of its run, whose events have each call and each
 /// end once.
 pub fn judgements_are_of_records<K: Kind>(kept: &Record<K>)
-    ensures judged { (most : ℕ) (j : Judgement) → IsRunJudgement most kept.now j →
+    ensures judged { (most : ℕ) (j : Judgement) → IsJudgement most (history_of kept.now) j →
         IsSoOf kept.now j }
     ensures once { TellsEachOnce kept.now }
 {

@@ -4,7 +4,7 @@ use Rattle.std.proofs.Common.{if◌then◌else◌, refl, sym, ap, ◌∙◌}
 use Rattle.snap_words.specs.Shape.{IsOneOf}
 use Rattle.snap_runs.specs.Run.{Run}
 use Rattle.snap_runs.specs.declared.verdict.Verdict.{Verdict}
-use Rattle.snap_judge.specs.declared.judgements.Judgement.TheVariants as judgement
+use Rattle.snap_judge.specs.declared.judgements.Failing.TheVariants as failing
 use Rattle.snap_run_judge.specs.RunHistory.{history_of}
 use Rattle.snap_run_judge.specs.RunJudgement.{IsRunJudgement}
 use Rattle.snap_hunt.specs.declared.failures.Failure.{Failure}
@@ -12,7 +12,7 @@ use Rattle.snap_hunt.specs.declared.failures.Wanted.{Wanted}
 use Rattle.snap_hunt.specs.Failing.{first_seen, many_of, no_point, of_collects, of_points}
 use Rattle.snap_hunt.specs.Finding.{Finds, IsJudgedIf}
 
-pub is_event : (r : Run) (k : ℕ) → IsRunJudgement 1000000 r (judgement.NotLinearizable k) →
+pub is_event : (r : Run) (k : ℕ) → IsRunJudgement 1000000 r (failing.At k) →
     IsOneOf (length (history_of r).events) k
 is_event r k h = h.is_event
 

@@ -7,7 +7,7 @@ use Rattle.snap_semantics.specs.declared.event.Happening.TheVariants as what
 use Rattle.snap_runs.specs.Run.{Run}
 use Rattle.snap_judge.specs.Judgement.{FailsAt}
 use Rattle.snap_judge.specs.Linearizable.{IsLinearizableHistory, event}
-use Rattle.snap_judge.specs.declared.judgements.Judgement.TheVariants as judgement
+use Rattle.snap_judge.specs.declared.judgements.Failing.TheVariants as failing
 use Rattle.snap_run_judge.specs.RunHistory.{history_of}
 use Rattle.snap_run_judge.specs.RunJudgement.{IsRunJudgement}
 use Rattle.snap_hunt.specs.declared.failures.Failure.{Failure}
@@ -26,7 +26,7 @@ failure_at r k = failure.NotLinearizable (event_at r k).process (event_at r k).i
 -- More configurations than a search may meet were met, so that it is not decided whether the history of the run is
 -- linearizable.
 abbrev pub IsUndecided : Run → Type 0
-IsUndecided r = (k : ℕ) × IsRunJudgement 1000000 r (judgement.Undecided k)
+IsUndecided r = (k : ℕ) × IsRunJudgement 1000000 r (failing.Undecided k)
 
 -- What is found of linearizability is so: the history of the run is not linearizable, and fails at this event. Where
 -- nothing is found it is linearizable, or that is not decided.

@@ -7,7 +7,7 @@ ghost use Rattle.snap_hunt.specs.Finding.{IsJudged, IsJudgedIf, failure_at};
 
 use crate::failures::{Failure, Wanted};
 use snap_asm_program::Program;
-use snap_run_judge::{History, Judgement, MOST_CONFIGURATIONS, judge_history};
+use snap_run_judge::{Failing, History, MOST_CONFIGURATIONS, judge_history};
 use std::alloc::{AllocError, Global};
 
 /// Returns that a run fails at this event of its history, counted from 1.
@@ -33,9 +33,9 @@ fn judged(
     ensures { IfOk result (λ f. (r : Run) → IsHistoryOf r program.now history.now → IsJudged r f) }
 {
     match judge_history(alloc, program, history, MOST_CONFIGURATIONS)? {
-        Judgement::NotLinearizable(event) => Ok(Some(failure_at(history, event))),
-        Judgement::Linearizable(_) => Ok(None),
-        Judgement::Undecided(_) => Ok(None),
+        Failing::At(event) => Ok(Some(failure_at(history, event))),
+        Failing::Nowhere => Ok(None),
+        Failing::Undecided(_) => Ok(None),
     }
 }
 

@@ -1,36 +1,39 @@
 -- From what a search has found to what is said of a history.
-use Rattle.std.proofs.Common.{◌≡◌, ℕ, List, map, replicate, sym, subst, ◌∙◌}
+use Rattle.std.proofs.Common.{◌≡◌, ℕ, ◌≤◌, List, Vec, Global, ap, length, map, replicate, sym, subst}
+use Rattle.std.proofs.lemmas.List.{take_all}
+use Rattle.snap_semantics.specs.declared.event.Event.{Event}
 use Rattle.snap_judge.specs.declared.config.Step.{Step as KeptStep}
-use Rattle.snap_judge.specs.declared.operation.Operation.{Operation as KeptOperation}
+use Rattle.snap_judge.specs.declared.judgements.Judgement.{Judgement}
+use Rattle.snap_judge.specs.declared.judgements.Judgement.TheVariants as judgement
 use Rattle.snap_judge.specs.History.{History, IsHistory}
 use Rattle.snap_judge.specs.declared.config.Found.{Found}
+use Rattle.snap_judge.specs.declared.config.Found.TheVariants as found
+use Rattle.snap_judge.specs.Judgement.{HasFound, IsFailing, IsJudgement, failing_of}
 use Rattle.snap_judge.specs.Configurations.{beginning, MeetsMoreThan}
-use Rattle.snap_judge.specs.Kept.{AreNumbered, AreSteps, called_at, first, operation_of, steps_kept}
-use Rattle.snap_judge.specs.Linearizable.{IsLinearizationOf, IsLinearizableHistory}
-use Rattle.snap_judge.specs.Nodes.{IsFound, NothingExplains}
-use Rattle.snap_judge.specs.Steps.{Explains, Free, Move, Step, steps_of, taken}
+use Rattle.snap_judge.specs.Kept.{AreNumbered, AreSteps, called_at, operation_of}
+use Rattle.snap_judge.specs.Linearizable.{IsLinearizationOf, IsLinearizableHistory, up_to}
+use Rattle.snap_judge.specs.Nodes.{IsFound}
+use Rattle.snap_judge.specs.Steps.{Explains, Free, Step}
 use Rattle.snap_judge.proofs.ExplainedHistories.{histories_are_explained}
 use Rattle.snap_judge.proofs.Leading.{made}
 
 -- The operations of an order that explains the steps of a history are a linearization of it.
-pub explained_decides : (h : History) (steps : List KeptStep) (order : List ℕ) (os : List KeptOperation) → IsHistory h →
-    steps_kept steps ≡ steps_of h.events → (moves : List Move) →
-    Explains moves (steps_kept steps) (replicate h.shape.w 0) (replicate h.shape.n Free) →
-    taken moves ≡ map (called_at steps) order → map operation_of os ≡ map (called_at steps) order →
-    IsLinearizationOf h (map operation_of os)
-explained_decides h steps order os is kept moves explains takes same =
-    subst (IsLinearizationOf h) (takes ∙ sym same)
-    ((histories_are_explained h is).sound moves
-    (subst (λ (xs : List Step). Explains moves xs (replicate h.shape.w 0) (replicate h.shape.n Free)) kept explains))
+pub explained_decides : (most : ℕ) (h : History) (steps : List KeptStep) (order : Vec ℕ Global) → IsHistory h →
+    HasFound most h steps (found.Explained order) → IsLinearizationOf h (map (called_at steps) order.items)
+explained_decides most h steps order is f =
+    subst (IsLinearizationOf h) f.found.2
+    ((histories_are_explained h is).sound f.found.0
+    (subst (λ (xs : List Step). Explains f.found.0 xs (replicate h.shape.w 0) (replicate h.shape.n Free)) f.steps
+    f.found.1))
 
 -- A history whose steps nothing explains is not linearizable.
-pub unexplained_decides : (h : History) (steps : List KeptStep) → IsHistory h → steps_kept steps ≡ steps_of h.events →
-    NothingExplains h.shape.n h.shape.w steps → IsLinearizableHistory h → ⊥
-unexplained_decides h steps is kept nothing l =
+pub unexplained_decides : (most : ℕ) (h : History) (steps : List KeptStep) → IsHistory h →
+    HasFound most h steps found.Unexplained → IsLinearizableHistory h → ⊥
+unexplained_decides most h steps is f l =
     let m = (histories_are_explained h is).complete l.0 l.1 in
-    nothing (
+    f.found (
       m.0,
-      subst (λ (xs : List Step). Explains m.0 xs (replicate h.shape.w 0) (replicate h.shape.n Free)) (sym kept) m.1,
+      subst (λ (xs : List Step). Explains m.0 xs (replicate h.shape.w 0) (replicate h.shape.n Free)) (sym f.steps) m.1,
     )
 
 -- What is known of equal steps.
@@ -50,7 +53,19 @@ same_found most n m w v xs ys f g en ew ex ef is =
     (subst (λ (zs : List KeptStep). IsFound most m v zs g) ex (subst (IsFound most m v ys) ef is)))
 
 -- What is met of the steps of a history is met of it.
-pub undecided_decides : (most : ℕ) (h : History) (steps : List KeptStep) → steps_kept steps ≡ steps_of h.events →
-    MeetsMoreThan most (first h.shape.n h.shape.w steps) → MeetsMoreThan most (beginning h)
-undecided_decides most h steps kept meets =
-    subst (λ (xs : List Step). MeetsMoreThan most (made xs (replicate h.shape.w 0) (replicate h.shape.n Free))) kept meets
+pub undecided_decides : (most : ℕ) (h : History) (steps : List KeptStep) → HasFound most h steps found.Undecided →
+    MeetsMoreThan most (beginning h)
+undecided_decides most h steps f =
+    subst (λ (xs : List Step). MeetsMoreThan most (made xs (replicate h.shape.w 0) (replicate h.shape.n Free))) f.steps
+    f.found
+
+-- Where a history fails by a judgement that is so.
+pub fails_so : (most : ℕ) (h : History) (j : Judgement) → IsJudgement most h j → IsFailing most h (failing_of j)
+fails_so most h (judgement.Linearizable order) is = (map operation_of order.items, is)
+fails_so most h (judgement.NotLinearizable k) is = is
+fails_so most h (judgement.Undecided k) is = is
+
+-- The history up to its last event is all of it.
+pub up_to_whole : (k : ℕ) (h : History) → length h.events ≤ k → up_to k h ≡ h
+up_to_whole k h few =
+    ap (λ (es : List Event). record { shape = h.shape; events = es }) (take_all k h.events few)

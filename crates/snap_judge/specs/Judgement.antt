@@ -1,18 +1,29 @@
 -- What is said of a history: that it is linearizable, or up to which event it is not.
-use Rattle.std.specs.Prelude.{ℕ, ◌-◌, length, map}
+use Rattle.std.specs.Prelude.{◌≡◌, ℕ, ◌-◌, List, length, map}
 use Rattle.snap_words.specs.Shape.{IsOneOf}
+use Rattle.snap_judge.specs.declared.config.Found.{Found}
+use Rattle.snap_judge.specs.declared.config.Step.{Step as KeptStep}
 use Rattle.snap_judge.specs.declared.decisions.Decision.{Decision}
 use Rattle.snap_judge.specs.declared.decisions.Decision.TheVariants as decision
+use Rattle.snap_judge.specs.declared.judgements.Failing.{Failing}
+use Rattle.snap_judge.specs.declared.judgements.Failing.TheVariants as failing
 use Rattle.snap_judge.specs.declared.judgements.Judgement.{Judgement}
 use Rattle.snap_judge.specs.declared.judgements.Judgement.TheVariants as judgement
 use Rattle.snap_judge.specs.History.{History}
 use Rattle.snap_judge.specs.Linearizable.{IsLinearizationOf, IsLinearizableHistory, up_to}
 use Rattle.snap_judge.specs.Configurations.{beginning, MeetsMoreThan}
-use Rattle.snap_judge.specs.Kept.{operation_of}
+use Rattle.snap_judge.specs.Kept.{operation_of, steps_kept}
+use Rattle.snap_judge.specs.Nodes.{IsFound}
+use Rattle.snap_judge.specs.Steps.{steps_of}
+
+-- These are the steps of a history, and what a search has found of them is so.
+pub record HasFound (most : ℕ) (h : History) (kept : List KeptStep) (f : Found) : Type 0 where
+  pub steps : steps_kept kept ≡ steps_of h.events
+  pub found : IsFound most h.shape.n h.shape.w kept f
 
 -- What is decided of a history is so; it is left open only where there are more than `most` configurations to choose at.
 abbrev pub IsDecision : (most : ℕ) → History → Decision → Type 0
-IsDecision most h (decision.Linearizable order) = IsLinearizationOf h (map operation_of order.items)
+IsDecision most h decision.Linearizable = IsLinearizableHistory h
 IsDecision most h decision.NotLinearizable = IsLinearizableHistory h → ⊥
 IsDecision most h decision.Undecided = MeetsMoreThan most (beginning h)
 
@@ -29,3 +40,15 @@ IsJudgement most h (judgement.Linearizable order) = IsLinearizationOf h (map ope
 IsJudgement most h (judgement.NotLinearizable k) = FailsAt h k
 IsJudgement most h (judgement.Undecided k) =
     IsOneOf (length h.events) k × MeetsMoreThan most (beginning (up_to k h))
+
+-- where a history fails that is judged so
+abbrev pub failing_of : Judgement → Failing
+failing_of (judgement.Linearizable order) = failing.Nowhere
+failing_of (judgement.NotLinearizable k) = failing.At k
+failing_of (judgement.Undecided k) = failing.Undecided k
+
+-- Where a history is said to fail is so, with no order of its operations.
+abbrev pub IsFailing : (most : ℕ) → History → Failing → Type 0
+IsFailing most h failing.Nowhere = IsLinearizableHistory h
+IsFailing most h (failing.At k) = FailsAt h k
+IsFailing most h (failing.Undecided k) = IsOneOf (length h.events) k × MeetsMoreThan most (beginning (up_to k h))

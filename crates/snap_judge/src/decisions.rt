@@ -3,7 +3,7 @@ ghost use Rattle.std.specs.Prelude.{◌≡◌, ◌≤◌, [], None, IfOk, length
 ghost use Rattle.snap_judge.specs.History.{IsHistory};
 ghost use Rattle.snap_judge.specs.Linearizable.{up_to};
 ghost use Rattle.snap_judge.specs.Kept.{called_at, called_by, operation_of, step_of_kept};
-ghost use Rattle.snap_judge.specs.Judgement.{IsDecision};
+ghost use Rattle.snap_judge.specs.Judgement.{HasFound, IsDecision};
 ghost use Rattle.snap_judge.specs.declared.operation.Action.TheVariants as kept_action;
 
 use crate::config::{Found, Step};
@@ -15,10 +15,9 @@ use snap_words::View;
 use std::alloc::{AllocError, Global};
 
 /// What is decided of the first events of a history.
-#[derive(Drop)]
+#[derive(Clone, Copy)]
 pub enum Decision {
-    /// The operations are linearizable, in this order.
-    Linearizable(Vec<Operation>),
+    Linearizable,
     NotLinearizable,
     Undecided,
 }
@@ -60,7 +59,15 @@ fn operation_at(alloc: Global, steps: &[Step], call: usize) -> Result<Operation,
 }
 
 /// Returns the operations that the steps of `order` call, in this order.
-fn operations(alloc: Global, steps: &[Step], order: &[usize]) -> Result<Vec<Operation>, AllocError>
+///
+/// # Errors
+///
+/// `AllocError` where memory runs out.
+pub fn operations(
+    alloc: Global,
+    steps: &[Step],
+    order: &[usize],
+) -> Result<Vec<Operation>, AllocError>
     ensures { IfOk result (λ os. map operation_of os.items ≡ map (called_at steps.now) order.now) }
 {
     let mut all = Vec::new(alloc);
@@ -69,6 +76,29 @@ fn operations(alloc: Global, steps: &[Step], order: &[usize]) -> Result<Vec<Oper
         all.push(operation)?;
     }
     Ok(all)
+}
+
+/// Searches for an order of the operations that the first `count` events tell of, and returns what
+/// it has found, with the steps of these events.
+///
+/// # Errors
+///
+/// `AllocError` where memory runs out.
+pub fn search_events(
+    alloc: Global,
+    history: &History,
+    count: usize,
+    most: usize,
+) -> Result<(Vec<Step>, Found), AllocError>
+    requires history { IsHistory history.now }
+    requires count { count ≤ length history.now.events }
+    ensures { IfOk result (λ r. HasFound most (up_to count history.now) r.0.items r.1) }
+{
+    let steps = steps_of(alloc, &history.events[..count])?;
+    let processes = history.shape.n() as usize;
+    let words = history.shape.w() as usize;
+    let found = search(alloc, &steps, processes, words, most)?;
+    Ok((steps, found))
 }
 
 /// Decides whether the first `count` events of the history are linearizable.
@@ -86,14 +116,9 @@ pub fn decide(
     requires count { count ≤ length history.now.events }
     ensures { IfOk result (IsDecision most (up_to count history.now)) }
 {
-    let steps = steps_of(alloc, &history.events[..count])?;
-    let processes = history.shape.n() as usize;
-    let words = history.shape.w() as usize;
-    match search(alloc, &steps, processes, words, most)? {
-        Found::Explained(order) => {
-            let all = operations(alloc, &steps, &order)?;
-            Ok(Decision::Linearizable(all))
-        }
+    let (_, found) = search_events(alloc, history, count, most)?;
+    match found {
+        Found::Explained(_) => Ok(Decision::Linearizable),
         Found::Unexplained => Ok(Decision::NotLinearizable),
         Found::Undecided => Ok(Decision::Undecided),
     }

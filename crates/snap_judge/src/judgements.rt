@@ -1,10 +1,11 @@
 //! Whether a history is linearizable, and if not, at which event it fails.
 ghost use Rattle.snap_judge.specs.History.{IsHistory};
 ghost use Rattle.snap_judge.specs.Linearizable.{IsLinearizableHistory};
-ghost use Rattle.snap_judge.specs.Judgement.{IsJudgement};
-ghost use Rattle.std.specs.Prelude.{IfOk};
+ghost use Rattle.snap_judge.specs.Judgement.{IsFailing, IsJudgement, failing_of};
+ghost use Rattle.std.specs.Prelude.{◌≡◌, IfOk};
 
-use crate::decisions::{Decision, decide};
+use crate::config::Found;
+use crate::decisions::{Decision, decide, operations, search_events};
 use crate::history::History;
 use crate::operation::Operation;
 use std::alloc::{AllocError, Global};
@@ -23,6 +24,19 @@ pub enum Judgement {
     Undecided(usize),
 }
 
+/// Where a history fails.
+#[derive(Clone, Copy, Debug, PartialEq, Eq)]
+pub enum Failing {
+    /// The history is linearizable.
+    Nowhere,
+    /// The history is not linearizable up to this event, counted from 1; up to the event before it
+    /// is.
+    At(usize),
+    /// The search has not decided whether the history is linearizable up to this event, counted
+    /// from 1.
+    Undecided(usize),
+}
+
 /// Finds the event at which a history that is not linearizable fails, each time in the middle of
 /// the events between one up to which it is linearizable and one up to which it is not.
 fn failure(alloc: Global, history: &History, most: usize) -> Result<Judgement, AllocError>
@@ -35,12 +49,23 @@ fn failure(alloc: Global, history: &History, most: usize) -> Result<Judgement, A
     while holds + 1 < fails {
         let middle = holds + (fails - holds) / 2;
         match decide(alloc, history, middle, most)? {
-            Decision::Linearizable(_) => holds = middle,
+            Decision::Linearizable => holds = middle,
             Decision::NotLinearizable => fails = middle,
             Decision::Undecided => return Ok(Judgement::Undecided(middle)),
         }
     }
     Ok(Judgement::NotLinearizable(fails))
+}
+
+/// Returns where a history fails that is judged so.
+pub fn failing_of(judgement: &Judgement) -> Failing
+    ensures { result ≡ failing_of judgement.now }
+{
+    match judgement {
+        Judgement::Linearizable(_) => Failing::Nowhere,
+        Judgement::NotLinearizable(event) => Failing::At(*event),
+        Judgement::Undecided(event) => Failing::Undecided(*event),
+    }
 }
 
 /// Judges whether `history` is linearizable, and if it is not, at which event it fails.
@@ -60,9 +85,37 @@ pub fn judge(alloc: Global, history: &History, most: usize) -> Result<Judgement,
     if count == 0 {
         return Ok(Judgement::Linearizable(Vec::new(alloc)));
     }
+    let (steps, found) = search_events(alloc, history, count, most)?;
+    match found {
+        Found::Explained(order) => {
+            let order = operations(alloc, &steps, &order)?;
+            Ok(Judgement::Linearizable(order))
+        }
+        Found::Unexplained => failure(alloc, history, most),
+        Found::Undecided => Ok(Judgement::Undecided(count)),
+    }
+}
+
+/// Returns where `history` fails, as `judge` finds it, without an order of the operations.
+///
+/// # Errors
+///
+/// `AllocError` where memory runs out.
+pub fn judge_without_order(
+    alloc: Global,
+    history: &History,
+    most: usize,
+) -> Result<Failing, AllocError>
+    requires { IsHistory history.now }
+    ensures { IfOk result (IsFailing most history.now) }
+{
+    let count = history.events.len();
+    if count == 0 {
+        return Ok(Failing::Nowhere);
+    }
     match decide(alloc, history, count, most)? {
-        Decision::Linearizable(order) => Ok(Judgement::Linearizable(order)),
-        Decision::NotLinearizable => failure(alloc, history, most),
-        Decision::Undecided => Ok(Judgement::Undecided(count)),
+        Decision::Linearizable => Ok(Failing::Nowhere),
+        Decision::NotLinearizable => Ok(failing_of(&failure(alloc, history, most)?)),
+        Decision::Undecided => Ok(Failing::Undecided(count)),
     }
 }

@@ -18,7 +18,7 @@ mod search;
 mod taking;
 
 pub use history::History;
-pub use judgements::{Judgement, judge};
+pub use judgements::{Failing, Judgement, failing_of, judge, judge_without_order};
 pub use operation::{Action, Operation};
 
 /// The moves that explain a history make a linearization of it, and each linearization is made by

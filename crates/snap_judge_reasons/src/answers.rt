@@ -11,7 +11,7 @@ ghost use Rattle.snap_judge_reasons.specs.RightAnswers.{followed_by, most_answer
 
 use crate::candidates::{Bounds, propose};
 use crate::copies::first_events;
-use snap_judge::{History, Judgement, judge};
+use snap_judge::{Failing, History, judge_without_order};
 use snap_semantics::{Event, Happening};
 use snap_words::View;
 use std::alloc::{AllocError, Global};
@@ -57,12 +57,12 @@ fn is_right(
         process: event.process,
         what: Happening::Answer(view),
     })?;
-    let judgement = judge(alloc, front, most)?;
+    let failing = judge_without_order(alloc, front, most)?;
     front.events.pop();
-    match judgement {
-        Judgement::Linearizable(_) => Ok(true),
-        Judgement::NotLinearizable(_) => Ok(false),
-        Judgement::Undecided(_) => Ok(false),
+    match failing {
+        Failing::Nowhere => Ok(true),
+        Failing::At(_) => Ok(false),
+        Failing::Undecided(_) => Ok(false),
     }
 }
 

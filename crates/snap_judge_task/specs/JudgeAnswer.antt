@@ -1,7 +1,7 @@
 -- What is written for an input that is to be judged, and the word for it; or why nothing is written.
 use Rattle.std.specs.Prelude.{◌≡◌, ℕ, List, Result, Ok, Err, ⊤}
 use Rattle.snap_judge.specs.History.{History}
-use Rattle.snap_judge.specs.Judgement.{IsJudgement}
+use Rattle.snap_judge.specs.Judgement.{IsJudgement, failing_of}
 use Rattle.snap_judge.specs.declared.judgements.Judgement.{Judgement}
 use Rattle.snap_history_text.specs.JudgementText.{judgement_text}
 use Rattle.snap_run_judge.specs.RunJudgement.{word_of}
@@ -28,7 +28,7 @@ pub record TellsOf (most : ℕ) (h : History) (text : List ℕ) (word : Lineariz
   pub judgement : Judgement
   pub is_so : IsJudgement most h judgement
   pub written : IsMore most h judgement (judgement_text h judgement) text
-  pub word_for_it : word ≡ word_of judgement
+  pub word_for_it : word ≡ word_of (failing_of judgement)
 
 -- The text and the word are so of what an input gives to be judged.
 abbrev pub IsJudged : JudgeRequest → (input text : List ℕ) → Linearizability → Type 0

@@ -10,7 +10,7 @@ use crate::failing::with_more;
 use crate::run_history::history_in;
 use snap_faults::ProgramFault;
 use snap_history_text::judgement_text;
-use snap_judge::{History, judge};
+use snap_judge::{History, failing_of, judge};
 use snap_run_judge::{Linearizability, word_of};
 use snap_tasks::{JudgeRequest, JudgeSource};
 use std::alloc::{AllocError, Global};
@@ -31,7 +31,7 @@ fn told(alloc: Global, history: History, most: u64) -> Result<JudgeOutput, Alloc
     let judgement = judge(alloc, &history, most as usize)?;
     let judged = judgement_text(alloc, &history, &judgement)?;
     let text = with_more(alloc, judged, history, &judgement, most)?;
-    let word = word_of(&judgement);
+    let word = word_of(failing_of(&judgement));
     Ok(JudgeOutput { text, word })
 }
 

@@ -6,7 +6,7 @@ use Rattle.snap_semantics.specs.Answers.{Answers, IsRefusal}
 use Rattle.snap_semantics.specs.declared.fault.Fault.{Fault}
 use Rattle.snap_semantics.specs.declared.refusal.Refusal.{Refusal}
 use Rattle.snap_input.specs.Parts.{max_input}
-use Rattle.snap_judge.specs.declared.judgements.Judgement.{Judgement}
+use Rattle.snap_judge.specs.declared.judgements.Failing.{Failing}
 use Rattle.snap_run_judge.specs.Judged.{AnswersJudged}
 use Rattle.snap_output.specs.Output.{AreJudged, of_task, output_of}
 use Rattle.snap_tasks.specs.declared.task.Task.{Task}
@@ -20,7 +20,7 @@ unjudged view t input (Err fault) none e = e
 
 -- of an input that is not too long
 module _ (input : List ℕ) (short : length input ≤ max_input) where
-  whole : (judged : List Judgement) (t : Task) → output_of judged t input ≡ of_task judged t input
+  whole : (judged : List Failing) (t : Task) → output_of judged t input ≡ of_task judged t input
   unfolding output_of
   whole judged t = rw (le-ltb max_input (length input) short) refl
 

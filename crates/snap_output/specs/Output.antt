@@ -7,7 +7,7 @@ use Rattle.snap_semantics.specs.declared.refusal.Refusal.TheVariants as refusal
 use Rattle.snap_semantics.specs.Answers.{refused_as}
 use Rattle.snap_image.specs.Assembly.{assembled, listed, upgraded}
 use Rattle.snap_semantics.specs.Source.{Source}
-use Rattle.snap_judge.specs.declared.judgements.Judgement.{Judgement}
+use Rattle.snap_judge.specs.declared.judgements.Failing.{Failing}
 use Rattle.snap_certify.specs.Output.{WasJudgedIn, certificates_text}
 use Rattle.snap_lint.specs.Check.{check_of}
 use Rattle.snap_lint.specs.Lint.{lint_of}
@@ -27,7 +27,7 @@ abbrev pub run_text : Source → List (List ℕ) → Result (List ℕ) Refusal
 run_text l texts = perform_listing l (part 0 texts) (codes "run\n")
 
 -- what is written for an input, with what was judged for it
-abbrev pub of_task : List Judgement → Task → List ℕ → Result (List ℕ) Refusal
+abbrev pub of_task : List Failing → Task → List ℕ → Result (List ℕ) Refusal
 of_task judged task.Check input = check_of input
 of_task judged task.Lint input = lint_of input
 of_task judged task.Assemble input = refused_as refusal.Listing (assembled input)
@@ -42,19 +42,19 @@ of_task judged (task.Batch s) input = batched s (parts_of input)
 of_task judged (task.Survey s) input = surveyed judged s (parts_of input)
 
 -- what a whole run of the program writes for an input, with what was judged for it, or its refusal
-unfoldable pub output_of : List Judgement → Task → List ℕ → Result (List ℕ) Refusal
+unfoldable pub output_of : List Failing → Task → List ℕ → Result (List ℕ) Refusal
 output_of judged task input =
     if nat_lt max_input (length input) then Err refusal.InputTooLong else of_task judged task input
 
 -- whether all runs that a survey of an input is of are clean, or its refusal; of other tasks no more is told
-unfoldable pub clean_of : List Judgement → Task → List ℕ → Result Bool Refusal
+unfoldable pub clean_of : List Failing → Task → List ℕ → Result Bool Refusal
 clean_of judged (task.Survey s) input =
     if nat_lt max_input (length input) then Err refusal.InputTooLong else clean_runs judged s (parts_of input)
 clean_of judged _ input = Ok true
 
 -- What was judged for a task on an input: the run that is to be certified, each run that is surveyed, and for other
 -- tasks nothing.
-abbrev pub AreJudged : Task → List ℕ → List Judgement → Type 0
+abbrev pub AreJudged : Task → List ℕ → List Failing → Type 0
 AreJudged (task.Certify s) input judged = WasJudgedIn s (parts_of input) judged
 AreJudged (task.Survey s) input judged = WereJudgedIn s (parts_of input) judged
 AreJudged _ input judged = judged ≡ []
@@ -67,5 +67,5 @@ AnswersOutput t input result =
 
 -- What is answered for a task on an input: its output, of judgements that say what is so, or its refusal.
 abbrev pub IsAnswerTo : Task → List ℕ → Result (List ℕ) Refusal → Type 0
-IsAnswerTo t input (Ok text) = (judged : List Judgement) × AreJudged t input judged × (output_of judged t input ≡ Ok text)
+IsAnswerTo t input (Ok text) = (judged : List Failing) × AreJudged t input judged × (output_of judged t input ≡ Ok text)
 IsAnswerTo t input (Err r) = output_of [] t input ≡ Err r

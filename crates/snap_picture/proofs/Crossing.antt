@@ -6,7 +6,7 @@ use Rattle.std.specs.Global.{Global}
 use Rattle.snap_semantics.specs.declared.event.Event.{Event}
 use Rattle.snap_runs.specs.Run.{Run}
 use Rattle.snap_text.specs.Drafted.{Drafted}
-use Rattle.snap_judge.specs.declared.judgements.Judgement.{Judgement}
+use Rattle.snap_judge.specs.declared.judgements.Failing.{Failing}
 use Rattle.snap_run_judge.specs.RunJudgement.{IsRunJudgement}
 use Rattle.snap_picture.specs.Shapes.{shapes}
 use Rattle.snap_picture.specs.ShapeText.{shapes_text}
@@ -28,7 +28,7 @@ finished (Ok out) draft whole h is = h.1 ∙ is h.0
 finished (Err e) draft whole h is = tt
 
 -- the picture of a run that was judged
-pub judged : {E : Type 0} (most : ℕ) (r history : Run) (j : Judgement) (ss : List Shape) (wrong : Option Event) (p : Part)
+pub judged : {E : Type 0} (most : ℕ) (r history : Run) (j : Failing) (ss : List Shape) (wrong : Option Event) (p : Part)
     (listing : Option (List ℕ)) (schedule style legend : List ℕ) (result : Result (Vec ℕ Global) E) → history ≡ r →
     IsRunJudgement most history j → ss ≡ shapes r → wrong ≡ wrong_at history j →
     IfOk result (λ out. out.items ≡ picture_by history ss p listing schedule style legend wrong) →

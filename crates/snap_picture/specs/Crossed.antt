@@ -3,8 +3,8 @@
 use Rattle.std.specs.Prelude.{◌≡◌, ℕ, ◌&&◌, List, [], ◌∷◌, ◌++◌, Option, Some, None, nat_eq, if◌then◌else◌}
 use Rattle.snap_semantics.specs.declared.event.Event.{Event}
 use Rattle.snap_runs.specs.Run.{Run}
-use Rattle.snap_judge.specs.declared.judgements.Judgement.{Judgement}
-use Rattle.snap_judge.specs.declared.judgements.Judgement.TheVariants as judgement
+use Rattle.snap_judge.specs.declared.judgements.Failing.{Failing}
+use Rattle.snap_judge.specs.declared.judgements.Failing.TheVariants as failing
 use Rattle.snap_history_text.specs.JudgementText.{last_of}
 use Rattle.snap_run_judge.specs.RunHistory.{history_of}
 use Rattle.snap_run_judge.specs.RunJudgement.{IsRunJudgement}
@@ -14,15 +14,15 @@ use Rattle.snap_picture.specs.declared.shape.Shape.{Shape}
 use Rattle.snap_picture.specs.declared.shape.Shape.TheVariants as shape
 
 -- the event at which a run fails by this judgement
-abbrev pub wrong_at : Run → Judgement → Option Event
-wrong_at r (judgement.NotLinearizable k) = Some (last_of k (history_of r))
-wrong_at r (judgement.Linearizable order) = None
-wrong_at r (judgement.Undecided k) = None
+abbrev pub wrong_at : Run → Failing → Option Event
+wrong_at r (failing.At k) = Some (last_of k (history_of r))
+wrong_at r failing.Nowhere = None
+wrong_at r (failing.Undecided k) = None
 
 -- The run fails at this event, or at none, by a judgement of it that is so, and that meets at most so many
 -- configurations.
 abbrev pub FailsBy : (most : ℕ) → Run → Option Event → Type 0
-FailsBy most r wrong = (j : Judgement) × IsRunJudgement most r j × (wrong ≡ wrong_at r j)
+FailsBy most r wrong = (j : Failing) × IsRunJudgement most r j × (wrong ≡ wrong_at r j)
 
 -- an operation, where it is this process's and ended with this item
 abbrev pub crossed_bar : (process item : ℕ) → Bar → List Shape

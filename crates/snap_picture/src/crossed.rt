@@ -1,31 +1,28 @@
 //! What a picture crosses out: the operation whose end is the first event up to which no order of
 //! the operations explains what the callers saw.
 ghost use Rattle.std.specs.Prelude.{◌≡◌, ◌++◌, IfOk, OnOk, option_map};
-ghost use Rattle.snap_history_text.specs.JudgementText.{NamesEvent};
 ghost use Rattle.snap_run_judge.specs.RunHistory.{history_of};
+ghost use Rattle.snap_run_judge.specs.RunJudgement.{NamesEvent};
 ghost use Rattle.snap_picture.specs.ShapeText.{bar_span};
 ghost use Rattle.snap_picture.specs.Crossed.{crossed_at, crossed_bar, crossed_out, crossed_shape};
 ghost use Rattle.snap_picture.specs.Crossed.{wrong_at};
 
 use crate::shape::{Bar, Shape, Span};
 use snap_record::Record;
-use snap_run_judge::Judgement;
+use snap_run_judge::Failing;
 use snap_semantics::Event;
 use snap_words::Kind;
 use std::alloc::{AllocError, Global};
 
 /// Returns the event at which a run fails by a judgement of it.
-pub(crate) fn wrong_at<'a, K: Kind>(
-    history: &'a Record<K>,
-    judgement: &Judgement,
-) -> Option<&'a Event>
-    requires { NamesEvent (history_of history.now) judgement.now }
-    ensures { option_map (λ e. e.now) result ≡ wrong_at history.now judgement.now }
+pub(crate) fn wrong_at<K: Kind>(history: &Record<K>, failing: Failing) -> Option<&Event>
+    requires { NamesEvent (history_of history.now) failing }
+    ensures { option_map (λ e. e.now) result ≡ wrong_at history.now failing }
 {
-    match judgement {
-        Judgement::NotLinearizable(count) => Some(&history.events()[*count - 1]),
-        Judgement::Linearizable(_) => None,
-        Judgement::Undecided(_) => None,
+    match failing {
+        Failing::At(count) => Some(&history.events()[count - 1]),
+        Failing::Nowhere => None,
+        Failing::Undecided(_) => None,
     }
 }
 

@@ -161,13 +161,13 @@ fn picture_text<K: Kind>(
     let history = record_over::<K>(alloc, program, items)?;
     let steps = trace::<K>(alloc, program, items)?;
     let shapes = shapes(alloc, &history, steps.as_slice())?;
-    let judgement = judge_record(alloc, &history, most)?;
+    let failing = judge_record(alloc, &history, most)?;
     picture_by(
         alloc,
         &history,
         shapes.as_slice(),
         frame,
-        wrong_at(&history, &judgement),
+        wrong_at(&history, failing),
     )
 }
 

@@ -5,7 +5,7 @@ use Rattle.snap_streams.specs.State.{SourceState, SinkState}
 use Rattle.snap_program.specs.WholeRun.{ConductsBy, ConductsKeeping, done_of}
 use Rattle.snap_faults.specs.declared.fault.ProgramFault.{ProgramFault}
 use Rattle.snap_faults.specs.declared.fault.ProgramFault.TheVariants as fault
-use Rattle.snap_judge.specs.declared.judgements.Judgement.{Judgement}
+use Rattle.snap_judge.specs.declared.judgements.Failing.{Failing}
 use Rattle.snap_output.specs.Output.{AreJudged, IsAnswerTo, clean_of, output_of}
 use Rattle.snap_program.specs.Skipped.{run_in, told_in}
 use Rattle.snap_tasks.specs.declared.subject.Subject.{Subject}
@@ -31,7 +31,7 @@ Conducts answer task source source_after sink sink_after =
 -- judgements
 abbrev pub IsOutcomeOf : Result Bool ProgramFault → Task → (input text : List ℕ) → Type 0
 IsOutcomeOf answer task input text =
-    (judged : List Judgement) × AreJudged task input judged × (output_of judged task input ≡ Ok text)
+    (judged : List Failing) × AreJudged task input judged × (output_of judged task input ≡ Ok text)
     × IfOk answer (λ clean. clean_of judged task input ≡ Ok clean)
 
 -- A whole run of a task that keeps its input, and answers whether all runs that are surveyed are clean.

@@ -1,10 +1,12 @@
 -- What is said of a run: whether its history is linearizable.
-use Rattle.std.specs.Prelude.{ℕ}
+use Rattle.std.specs.Prelude.{ℕ, length}
+use Rattle.snap_words.specs.Shape.{IsOneOf}
 use Rattle.snap_runs.specs.Run.{Run}
-use Rattle.snap_judge.specs.Judgement.{IsJudgement}
+use Rattle.snap_judge.specs.History.{History}
+use Rattle.snap_judge.specs.Judgement.{IsFailing}
 use Rattle.snap_judge.specs.Linearizable.{IsLinearizableHistory}
-use Rattle.snap_judge.specs.declared.judgements.Judgement.{Judgement}
-use Rattle.snap_judge.specs.declared.judgements.Judgement.TheVariants as judgement
+use Rattle.snap_judge.specs.declared.judgements.Failing.{Failing}
+use Rattle.snap_judge.specs.declared.judgements.Failing.TheVariants as failing
 use Rattle.snap_run_judge.specs.RunHistory.{history_of}
 use Rattle.snap_run_judge.specs.declared.linearizability.Linearizability.{Linearizability}
 use Rattle.snap_run_judge.specs.declared.linearizability.Linearizability.TheVariants as word
@@ -15,17 +17,23 @@ most_configurations = 1000000
 
 -- what is said of the history of a run is so, and nothing is left undecided but where more than `most`
 -- configurations were met
-abbrev pub IsRunJudgement : (most : ℕ) → Run → Judgement → Type 0
-IsRunJudgement most r j = IsJudgement most (history_of r) j
+abbrev pub IsRunJudgement : (most : ℕ) → Run → Failing → Type 0
+IsRunJudgement most r f = IsFailing most (history_of r) f
 
--- the word for a judgement
-abbrev pub word_of : Judgement → Linearizability
-word_of (judgement.Linearizable order) = word.Linearizable
-word_of (judgement.NotLinearizable k) = word.NotLinearizable
-word_of (judgement.Undecided k) = word.Undecided
+-- The event that is named, if one is, is one of the history.
+abbrev pub NamesEvent : History → Failing → Type 0
+NamesEvent h failing.Nowhere = Unit {0}
+NamesEvent h (failing.At k) = IsOneOf (length h.events) k
+NamesEvent h (failing.Undecided k) = IsOneOf (length h.events) k
+
+-- the word for a run whose history fails there
+abbrev pub word_of : Failing → Linearizability
+word_of failing.Nowhere = word.Linearizable
+word_of (failing.At k) = word.NotLinearizable
+word_of (failing.Undecided k) = word.Undecided
 
 -- A run is linearizable, or it is not; or there is an event up to which this is not decided.
 abbrev pub IsLinearizabilityOf : (most : ℕ) → Run → Linearizability → Type 0
 IsLinearizabilityOf most r word.Linearizable = IsLinearizableHistory (history_of r)
 IsLinearizabilityOf most r word.NotLinearizable = IsLinearizableHistory (history_of r) → ⊥
-IsLinearizabilityOf most r word.Undecided = (k : ℕ) × IsRunJudgement most r (judgement.Undecided k)
+IsLinearizabilityOf most r word.Undecided = (k : ℕ) × IsRunJudgement most r (failing.Undecided k)

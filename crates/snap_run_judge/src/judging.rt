@@ -1,16 +1,15 @@
 //! Whether the run of a record is linearizable.
 ghost use Rattle.std.specs.Prelude.{◌≡◌, IfOk};
 ghost use Rattle.snap_judge.specs.History.{IsHistory};
-ghost use Rattle.snap_history_text.specs.JudgementText.{NamesEvent};
 ghost use Rattle.snap_runs.specs.Run.{Run};
 ghost use Rattle.snap_run_judge.specs.RunHistory.{IsHistoryOf, history_of};
-ghost use Rattle.snap_run_judge.specs.RunJudgement.{IsLinearizabilityOf, IsRunJudgement, word_of};
+ghost use Rattle.snap_run_judge.specs.RunJudgement.{IsLinearizabilityOf, IsRunJudgement, NamesEvent, word_of};
 
 use crate::history::history_of;
 use crate::linearizability::Linearizability;
 use crate::runs_have_histories;
 use snap_asm_program::Program;
-use snap_judge::{History, Judgement, judge, linearizable_from_the_beginning};
+use snap_judge::{Failing, History, judge_without_order, linearizable_from_the_beginning};
 use snap_record::Record;
 use snap_words::Kind;
 use std::alloc::{AllocError, Global};
@@ -28,7 +27,8 @@ pub fn has_history<K: Kind>(history: &Record<K>)
     runs_have_histories();
 }
 
-/// Judges whether the run of `history` is linearizable, and if it is not, at which event it fails.
+/// Judges whether the run of `history` is linearizable, and returns at which event it fails if it is
+/// not.
 ///
 /// # Errors
 ///
@@ -38,59 +38,57 @@ pub fn judge_record<K: Kind>(
     alloc: Global,
     history: &Record<K>,
     most: usize,
-) -> Result<Judgement, AllocError>
+) -> Result<Failing, AllocError>
     ensures judgement { IfOk result (IsRunJudgement most history.now) }
     ensures names { IfOk result (NamesEvent (history_of history.now)) }
 {
     has_history(history);
     let events = history_of(alloc, history)?;
-    judge(alloc, &events, most)
+    judge_without_order(alloc, &events, most)
 }
 
-/// Judges whether the run of `program` that has the history `history` is linearizable, and if it is
-/// not, at which event it fails.
+/// Judges whether the run of `program` that has the history `history` is linearizable, and returns
+/// at which event it fails if it is not.
 ///
 /// # Errors
 ///
 /// `AllocError` where memory runs out.
-#[tactic(auto, using(crate::proofs::Words::event_named))]
 pub fn judge_history(
     alloc: Global,
     program: &Program,
     history: &History,
     most: usize,
-) -> Result<Judgement, AllocError>
+) -> Result<Failing, AllocError>
     requires { (r : Run) × IsHistoryOf r program.now history.now }
-    ensures judgement { IfOk result (λ j. (r : Run) → IsHistoryOf r program.now history.now →
-        IsRunJudgement most r j) }
-    ensures names { IfOk result (NamesEvent history.now) }
+    ensures { IfOk result (λ f. (r : Run) → IsHistoryOf r program.now history.now →
+        IsRunJudgement most r f) }
 {
     // What `lines` promises: the listing keeps the rules of listings.
     let _lines = program.listing().lines();
     runs_have_histories();
-    judge(alloc, history, most)
+    judge_without_order(alloc, history, most)
 }
 
-/// Returns the word for a judgement.
-pub fn word_of(judgement: &Judgement) -> Linearizability
-    ensures { result ≡ word_of judgement.now }
+/// Returns the word for a run whose history fails there.
+pub fn word_of(failing: Failing) -> Linearizability
+    ensures { result ≡ word_of failing }
 {
-    match judgement {
-        Judgement::Linearizable(_) => Linearizability::Linearizable,
-        Judgement::NotLinearizable(_) => Linearizability::NotLinearizable,
-        Judgement::Undecided(_) => Linearizability::Undecided,
+    match failing {
+        Failing::Nowhere => Linearizability::Linearizable,
+        Failing::At(_) => Linearizability::NotLinearizable,
+        Failing::Undecided(_) => Linearizability::Undecided,
     }
 }
 
-/// Returns the word for a judgement of the run of a record, which says what is so of the run.
-pub fn word_for<K: Kind>(history: &Record<K>, most: usize, judgement: &Judgement) -> Linearizability
-    requires { IsRunJudgement most history.now judgement.now }
-    ensures word { result ≡ word_of judgement.now }
+/// Returns the word for the run of a record, by a judgement of it, which says what is so of the run.
+pub fn word_for<K: Kind>(history: &Record<K>, most: usize, failing: Failing) -> Linearizability
+    requires { IsRunJudgement most history.now failing }
+    ensures word { result ≡ word_of failing }
     ensures so { IsLinearizabilityOf most history.now result }
 {
     has_history(history);
     linearizable_from_the_beginning();
-    word_of(judgement)
+    word_of(failing)
 }
 
 /// Returns whether the run of `history` is linearizable.
@@ -105,6 +103,6 @@ pub fn linearizability_of<K: Kind>(
 ) -> Result<Linearizability, AllocError>
     ensures { IfOk result (IsLinearizabilityOf most history.now) }
 {
-    let judgement = judge_record(alloc, history, most)?;
-    Ok(word_for(history, most, &judgement))
+    let failing = judge_record(alloc, history, most)?;
+    Ok(word_for(history, most, failing))
 }

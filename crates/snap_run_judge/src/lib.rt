@@ -14,7 +14,7 @@ pub use judging::{
     word_of,
 };
 pub use linearizability::Linearizability;
-pub use snap_judge::{History, Judgement};
+pub use snap_judge::{Failing, History};
 pub use verdict::push_verdict;
 
 /// The events of a run of any listing are a history.

@@ -9,7 +9,7 @@ use Rattle.snap_semantics.specs.Source.{Source}
 use Rattle.snap_semantics.specs.declared.fault.Fault.{Fault}
 use Rattle.snap_semantics.specs.declared.refusal.Refusal.{Refusal}
 use Rattle.snap_runs.specs.Run.{run_over}
-use Rattle.snap_judge.specs.declared.judgements.Judgement.{Judgement}
+use Rattle.snap_judge.specs.declared.judgements.Failing.{Failing}
 use Rattle.snap_input.proofs.Answered.{same_answer}
 use Rattle.snap_input.proofs.Parting.{are_prepared, on_schedules}
 use Rattle.snap_input.specs.Input.{Prepared, listing_for, texts_for}
@@ -41,7 +41,7 @@ next_surveyed l ss k vs s v below here are is =
 
 -- the judgements that surveys rest on
 were_judged : (l : Source) (ss : List Schedule) (vs : List JudgedSurvey) → AreSurveysOf l ss vs →
-    (judged : List Judgement) × WereJudged l ss judged × (vs ≡ surveys_over l ss judged)
+    (judged : List Failing) × WereJudged l ss judged × (vs ≡ surveys_over l ss judged)
 were_judged l [] [] are = ([], tt, refl)
 were_judged l [] (v ∷ vs) are = absurd are
 were_judged l (s ∷ ss) [] are = absurd are
@@ -58,7 +58,7 @@ were_judged l (s ∷ ss) (v ∷ vs) are =
 pub over_texts : (l : Source) (texts : List (List ℕ)) (ss : List Schedule) (vs : List JudgedSurvey)
     (text : List ℕ) (clean : Bool) → schedules_for l texts ≡ Ok ss → AreSurveysOf l ss vs →
     text ≡ surveys_text vs → clean ≡ list_all is_clean vs →
-    (judged : List Judgement) × WereJudgedOver l texts judged × (survey_text judged l texts ≡ Ok text)
+    (judged : List Failing) × WereJudgedOver l texts judged × (survey_text judged l texts ≡ Ok text)
     × (are_clean judged l texts ≡ Ok clean)
 unfolding survey_text are_clean
 over_texts l texts ss vs text clean read are written told =
@@ -74,11 +74,11 @@ over_texts l texts ss vs text clean read are written told =
 
 -- what was judged for an input
 module _ (s : Subject) (parts : List (List ℕ)) (p : Prepared) (is : prepared_schedules s parts ≡ Ok p) where
-  written_of : (judged : List Judgement) → surveyed judged s parts ≡ survey_text judged p.source p.texts
+  written_of : (judged : List Failing) → surveyed judged s parts ≡ survey_text judged p.source p.texts
   unfolding surveyed
   written_of judged = on_schedules s parts p (survey_text judged) is
 
-  clean_of : (judged : List Judgement) → clean_runs judged s parts ≡ are_clean judged p.source p.texts
+  clean_of : (judged : List Failing) → clean_runs judged s parts ≡ are_clean judged p.source p.texts
   unfolding clean_runs
   clean_of judged = on_schedules s parts p (are_clean judged) is
 

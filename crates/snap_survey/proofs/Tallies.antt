@@ -18,7 +18,7 @@ use Rattle.snap_walk.specs.Walk.{Passes, PassesOver, Way, further, look_ahead}
 use Rattle.snap_walk.specs.Walk.{is_skip as skip_of_walk, is_skipped as skipped_on_walk}
 use Rattle.snap_walk.proofs.Over.{Keeps, kept_over, untold_cases}
 use Rattle.snap_walk.specs.declared.passed.Passed.{Passed}
-use Rattle.snap_survey.specs.Survey.{calls_scan, calls_update, ends_update, traps, crashes, is_skip, is_skipped}
+use Rattle.snap_survey.specs.Survey.{calls_scan, calls_update, ends_update, traps, crashes, is_skip, is_skipped, is_trap}
 use Rattle.snap_survey.specs.Survey.{trap_at, skip_at, skip_by, first_found}
 use Rattle.snap_survey.specs.Tally.{IsWithin, TalliesOn, noted, tally_of}
 use Rattle.snap_survey.specs.declared.findings.Skip.{Skip}
@@ -68,6 +68,17 @@ kept (Some x) = refl
 nothing_noted : (a : Tally) (t : ℕ) (x : Item) (o : Outcome) (s : Status) → o ≡ Stepped → a ≡ noted a t x o s
 nothing_noted a t x o s is =
     subst (λ (p : Outcome). a ≡ noted a t x p s) (sym is) (rw (kept a.first_trap, kept a.first_skip) refl)
+
+-- only of a trap the status is noted
+pub untrapped : (a : Tally) (t : ℕ) (x : Item) (o : Outcome) (s stands : Status) → is_trap o ≡ false →
+    noted a t x o s ≡ noted a t x o stands
+untrapped a t x outcomes.Called s stands is = refl
+untrapped a t x outcomes.Stepped s stands is = refl
+untrapped a t x (outcomes.Answered view) s stands is = refl
+untrapped a t x outcomes.Finished s stands is = refl
+untrapped a t x (outcomes.Trapped cause) s stands is = absurd cc
+untrapped a t x outcomes.Crashed s stands is = refl
+untrapped a t x (outcomes.Skipped reason) s stands is = refl
 
 -- nor does one that is skipped, behind the first
 first_kept : (found other : Option Skip) → is_none found ≡ false → or_else found other ≡ found

@@ -17,7 +17,7 @@ use Rattle.snap_runs.specs.Audit.{audit, is_called}
 use Rattle.snap_runs.specs.Run.{Run, state, item, outcome as outcome_at}
 use Rattle.snap_runs.specs.Scan.{count}
 use Rattle.snap_runs.specs.declared.verdict.Verdict.{Verdict}
-use Rattle.snap_judge.specs.declared.judgements.Judgement.{Judgement}
+use Rattle.snap_judge.specs.declared.judgements.Failing.{Failing}
 use Rattle.snap_run_judge.specs.RunJudgement.{IsRunJudgement, most_configurations, word_of}
 use Rattle.snap_survey.specs.declared.findings.JudgedSurvey.{JudgedSurvey}
 use Rattle.snap_survey.specs.declared.findings.Skip.{Skip}
@@ -136,9 +136,9 @@ survey_of r = record {
 }
 
 -- the survey of a run, with what was judged of the run
-abbrev pub judged_survey : Run → Judgement → JudgedSurvey
+abbrev pub judged_survey : Run → Failing → JudgedSurvey
 judged_survey r j = record { survey = survey_of r; linearizability = word_of j }
 
 -- A survey is that of a run, with a judgement that says what is so.
 abbrev pub IsSurveyOf : Run → JudgedSurvey → Type 0
-IsSurveyOf r s = (j : Judgement) × IsRunJudgement most_configurations r j × (s ≡ judged_survey r j)
+IsSurveyOf r s = (j : Failing) × IsRunJudgement most_configurations r j × (s ≡ judged_survey r j)

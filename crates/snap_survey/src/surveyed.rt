@@ -6,7 +6,7 @@ ghost use Rattle.snap_runs.specs.Run.{run_over};
 ghost use Rattle.snap_runs.specs.Scan.{count};
 ghost use Rattle.snap_walk.specs.Walk.{Way};
 ghost use Rattle.snap_audit.specs.Watch.{Watches};
-ghost use Rattle.snap_survey.specs.Survey.{IsSurveyOf, survey_of};
+ghost use Rattle.snap_survey.specs.Survey.{IsSurveyOf, is_trap, survey_of};
 ghost use Rattle.snap_survey.specs.Tally.{TalliesOn, is_open_in, tally_of};
 
 use crate::findings::{JudgedSurvey, Survey};
@@ -17,17 +17,29 @@ use snap_audit::Watch;
 use snap_machine::Machine;
 use snap_run_judge::{History, MOST_CONFIGURATIONS, judge_history, word_of};
 use snap_sched::Schedule;
-use snap_semantics::who;
+use snap_semantics::{Outcome, Status, who};
 use snap_walk::{Passed, Walk};
 use snap_words::Kind;
 use std::alloc::{AllocError, Global};
+
+/// Returns whether an item trapped its process.
+fn is_trap(outcome: &Outcome) -> bool
+    ensures { result ≡ is_trap outcome.now }
+{
+    matches!(outcome, Outcome::Trapped(_))
+}
 
 /// Notes the item that was told last in a tally.
 fn note<K: Kind>(tally: &mut Tally, walk: &Walk<'_, K>, passed: &Passed)
     requires passed { (w : Way) × TalliesOn w tally.old passed.now walk.now }
     ensures { tally.new ≡ tally_of walk.now.run walk.now.at }
 {
-    let status = walk.machine().status(who(passed.item));
+    // Only of a trap the status is noted.
+    let status = if is_trap(&passed.outcome) {
+        walk.machine().status(who(passed.item))
+    } else {
+        Status::Idle
+    };
     tally.note(passed.number, passed.item, &passed.outcome, status);
 }
 
@@ -91,10 +103,10 @@ fn judged_survey<K: Kind>(
         shape: machine.shape(),
         events: watch.into_events(),
     };
-    let judgement = judge_history(alloc, machine.program(), &history, MOST_CONFIGURATIONS)?;
+    let failing = judge_history(alloc, machine.program(), &history, MOST_CONFIGURATIONS)?;
     Ok(JudgedSurvey {
         survey,
-        linearizability: word_of(&judgement),
+        linearizability: word_of(failing),
     })
 }
 

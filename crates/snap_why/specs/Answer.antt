@@ -5,7 +5,7 @@ use Rattle.std.specs.Prelude.{codes, decimal, nat_eq, if◌then◌else◌}
 use Rattle.snap_runs.specs.Run.{Run, run_of_items}
 use Rattle.snap_runs.specs.declared.verdict.Verdict.{Verdict}
 use Rattle.snap_audit.specs.VerdictText.{verdict_line}
-use Rattle.snap_judge.specs.declared.judgements.Judgement.{Judgement}
+use Rattle.snap_judge.specs.declared.judgements.Failing.{Failing}
 use Rattle.snap_run_judge.specs.RunHistory.{history_of}
 use Rattle.snap_run_judge.specs.RunJudgement.{IsRunJudgement, most_configurations}
 use Rattle.snap_run_judge.specs.VerdictText.{verdict_text}
@@ -31,7 +31,7 @@ abbrev pub run_until : Run → ℕ → Run
 run_until r t = run_of_items r.source r.shape (take t r.items)
 
 -- the lines that a scan has no point, and the verdict on a run that ends with its answer
-abbrev pub no_point_lines : Run → Judgement → List ℕ
+abbrev pub no_point_lines : Run → Failing → List ℕ
 no_point_lines r j =
     codes "point: none, memory never held this from the call to the answer\n"
     ++ codes "up to this answer: " ++ verdict_text (history_of r) j
@@ -40,7 +40,7 @@ no_point_lines r j =
 -- the answer is judged; where a search was given up, another one may come to a verdict.
 abbrev pub IsPointText : Run → ℕ → Option ℕ → List ℕ → Type 0
 IsPointText r t (Some point) text = text ≡ goto_line (codes "point") point
-IsPointText r t None text = (j : Judgement) × IsRunJudgement most_configurations (run_until r t) j
+IsPointText r t None text = (j : Failing) × IsRunJudgement most_configurations (run_until r t) j
     × (text ≡ no_point_lines (run_until r t) j)
 
 -- a scan of an update

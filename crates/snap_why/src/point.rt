@@ -1,7 +1,7 @@
 //! What `why` prints of the point of a scan: the item, or, if memory never held what the scan
 //! answered, whether the run up to the answer is linearizable.
 ghost use Rattle.std.specs.Prelude.{◌≡◌, ◌≤◌, IfOk, codes, length};
-ghost use Rattle.snap_judge.specs.declared.judgements.Judgement.{Judgement};
+ghost use Rattle.snap_judge.specs.declared.judgements.Failing.{Failing};
 ghost use Rattle.snap_run_judge.specs.RunJudgement.{IsRunJudgement, most_configurations};
 ghost use Rattle.snap_runs.specs.Run.{run_over};
 ghost use Rattle.snap_why.specs.Answer.{IsPointText, goto_line, no_point_lines};
@@ -28,15 +28,15 @@ fn point_line(alloc: Global, point: u64) -> Result<Vec<u8>, AllocError>
 /// Returns that a scan has no point, and the verdict on the run of a record, which ends with its
 /// answer.
 fn no_point_lines<K: Kind>(alloc: Global, record: &Record<K>) -> Result<Vec<u8>, AllocError>
-    ensures { IfOk result (λ text. (j : Judgement)
+    ensures { IfOk result (λ text. (j : Failing)
         × IsRunJudgement most_configurations record.now j
         × (text.items ≡ no_point_lines record.now j)) }
 {
-    let judgement = judge_record(alloc, record, MOST_CONFIGURATIONS)?;
+    let failing = judge_record(alloc, record, MOST_CONFIGURATIONS)?;
     let mut text = Draft::new(alloc);
     text.push(b"point: none, memory never held this from the call to the answer\n");
     text.push(b"up to this answer: ");
-    push_verdict(&mut text, record, &judgement);
+    push_verdict(&mut text, record, failing);
     text.finish()
 }
 

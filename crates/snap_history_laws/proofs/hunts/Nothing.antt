@@ -31,7 +31,6 @@ use Rattle.snap_hunt.specs.declared.failures.Failure.{Failure}
 use Rattle.snap_hunt.specs.declared.failures.Failure.TheVariants as failure
 use Rattle.snap_hunt.specs.declared.failures.Wanted.{Wanted}
 use Rattle.snap_judge.specs.Judgement.{FailsAt}
-use Rattle.snap_judge.specs.declared.judgements.Judgement.TheVariants.{NotLinearizable}
 use Rattle.snap_run_judge.specs.RunHistory.{history_of}
 use Rattle.snap_history_laws.specs.judgements.ShippedLaws.{ShippedRunsAreSeenLinearizable}
 use Rattle.snap_hunt.specs.Hunt.{run_of}
@@ -117,9 +116,7 @@ finds_nothing laws g keeps seen p w seed k found plan fit collects suffices h =
     let valid : IsValidRun r = record { all = these.there } in
     let numbers = suffice g items short in
     let kept = keeps p.shape items plan.shape fit numbers in
-    let never : (m : ℕ) → FailsAt (history_of r) m → ⊥ = λ m fails.
-    (seen p.shape items plan.shape fit numbers valid).never_accused 1000000 (NotLinearizable m) fails m refl in
-    does_not_fail w r found never
+    does_not_fail w r found (seen p.shape items plan.shape fit numbers valid).never_accused
     (none_seen w r valid (kept.snapshot.verdicts_have_points valid) (kept.snapshot.never_traps valid)
     (no_overrun laws g w.steps r refl valid kept suffices) collects) h
 

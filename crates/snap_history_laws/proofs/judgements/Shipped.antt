@@ -19,7 +19,6 @@ use Rattle.snap_live.specs.declared.seat_state.Setting.{Setting}
 use Rattle.snap_history_laws.specs.threads.ShippedLaws.{IsShapeFor, shipped_over}
 use Rattle.snap_judge.specs.Linearizable.{LinearizableFromTheBeginning}
 use Rattle.snap_run_judge.specs.RunHistory.{RunsHaveHistories, history_of}
-use Rattle.snap_run_judge.specs.RunJudgement.{IsRunJudgement}
 use Rattle.snap_history_laws.specs.judgements.RunLaws.{RunsAreToldByTheirHistories}
 use Rattle.snap_history_laws.specs.judgements.ShippedLaws.{ClosedDesksAreSeenLinearizable, IsSeenLinearizable}
 use Rattle.snap_history_laws.specs.judgements.ShippedLaws.{LiveRunsAreSeenLinearizable, ShippedRunsAreSeenLinearizable}
@@ -40,8 +39,7 @@ seen have told beginning r listing fits linear =
     record {
       history = history;
       linearizable = linearizable;
-      never_accused = λ most j is k same.
-          (subst (IsRunJudgement most r) same is).fails (beginning (history_of r) k history linearizable);
+      never_accused = λ k fails. fails.fails (beginning (history_of r) k history linearizable);
     }
 
 pub shipped_runs : RunsHaveHistories → RunsAreToldByTheirHistories → LinearizableFromTheBeginning →

@@ -5,10 +5,11 @@ use Rattle.snap_semantics.specs.IsListing.{IsListing}
 use Rattle.snap_semantics.specs.declared.event.Event.{Event}
 use Rattle.snap_runs.specs.Linearization.{IsLinearizable, IsLinearization}
 use Rattle.snap_runs.specs.Run.{IsValidRun, Run, events_of, run_of_items}
+use Rattle.snap_judge.specs.Judgement.{IsJudgement}
 use Rattle.snap_judge.specs.Kept.{operation_of}
 use Rattle.snap_judge.specs.declared.judgements.Judgement.{Judgement}
 use Rattle.snap_judge.specs.declared.judgements.Judgement.TheVariants as judgement
-use Rattle.snap_run_judge.specs.RunJudgement.{IsRunJudgement}
+use Rattle.snap_run_judge.specs.RunHistory.{history_of}
 
 -- the run up to its item t
 abbrev pub run_up_to : ℕ → Run → Run
@@ -31,4 +32,4 @@ IsSoOf r (judgement.Undecided k) = Unit {0}
 -- What is judged of the history of a run is so of the run.
 abbrev pub JudgementsAreOfRuns : Type 0
 JudgementsAreOfRuns = (most : ℕ) (r : Run) (j : Judgement) → IsListing r.source → IsValidRun r →
-    IsRunJudgement most r j → IsSoOf r j
+    IsJudgement most (history_of r) j → IsSoOf r j

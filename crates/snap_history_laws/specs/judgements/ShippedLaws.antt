@@ -14,15 +14,13 @@ use Rattle.snap_live.specs.LiveRun.{IsLive}
 use Rattle.snap_history_laws.specs.threads.DeskLaws.{IsClosed}
 use Rattle.snap_history_laws.specs.threads.ShippedLaws.{IsShapeFor, shipped_over}
 use Rattle.snap_judge.specs.History.{IsHistory}
+use Rattle.snap_judge.specs.Judgement.{FailsAt}
 use Rattle.snap_judge.specs.Linearizable.{IsLinearizableHistory}
-use Rattle.snap_judge.specs.declared.judgements.Judgement.{Judgement}
-use Rattle.snap_judge.specs.declared.judgements.Judgement.TheVariants.{NotLinearizable}
 use Rattle.snap_run_judge.specs.RunHistory.{history_of}
-use Rattle.snap_run_judge.specs.RunJudgement.{IsRunJudgement}
 
--- No judgement of a run, whatever the bound of the search, says that its history is not linearizable.
+-- The history of a run fails at no event, so that no judgement, whatever the bound of its search, says that it does.
 abbrev pub IsNeverAccused : Run → Type 0
-IsNeverAccused r = (most : ℕ) (j : Judgement) → IsRunJudgement most r j → (k : ℕ) → j ≡ NotLinearizable k → ⊥
+IsNeverAccused r = (k : ℕ) → FailsAt (history_of r) k → ⊥
 
 -- A run that its callers see as linearizable.
 pub record IsSeenLinearizable (r : Run) : Type 0 where

@@ -1,6 +1,6 @@
 -- `certify_run` of snap_certify (src/program.rt): the proof of what its contract says.
 use Rattle.std.proofs.Common.{subst, ◌≡◌, ◌++◌}
-use Rattle.snap_judge.specs.declared.judgements.Judgement.{Judgement}
+use Rattle.snap_judge.specs.declared.judgements.Failing.{Failing}
 use Rattle.snap_runs.specs.Run.{Run, run_over}
 use Rattle.snap_run_judge.specs.RunHistory.{history_of}
 use Rattle.snap_run_judge.specs.RunJudgement.{IsRunJudgement, most_configurations}
@@ -16,10 +16,10 @@ returns g c =
     let q = c.in_ok-record-in-Missing.record in
     let text = c.in_ok-text.text.items in
     ok_then c.with_verdict.result
-    (λ out. (j : Judgement) × IsRunJudgement most_configurations q j
+    (λ out. (j : Failing) × IsRunJudgement most_configurations q j
     × (out.items ≡ text ++ verdict_text (history_of q) j))
     (λ out. IsCertificateText r out.items)
     (λ out h. when_missing r c.in_ok-certification.certification _ text out.items c.in-Missing.is
     c.in_ok-certification.ensures c.in_ok-text.ensures
-    (subst (λ (y : Run). (j : Judgement) × IsRunJudgement most_configurations y j
+    (subst (λ (y : Run). (j : Failing) × IsRunJudgement most_configurations y j
     × (out.items ≡ text ++ verdict_text (history_of y) j)) c.in_ok-record-in-Missing.ensures h)) c.with_verdict.ensures

@@ -1,6 +1,6 @@
 -- `certification_text` of snap_certify (src/text.rt): the proof of what its contract says.
 use Rattle.std.proofs.Common.{◌≡◌, ◌++◌}
-use Rattle.snap_judge.specs.declared.judgements.Judgement.{Judgement}
+use Rattle.snap_judge.specs.declared.judgements.Failing.{Failing}
 use Rattle.snap_run_judge.specs.RunHistory.{history_of}
 use Rattle.snap_run_judge.specs.RunJudgement.{IsRunJudgement, most_configurations}
 use Rattle.snap_run_judge.specs.VerdictText.{verdict_text}
@@ -19,7 +19,7 @@ returns g c =
     let r = c.args.history.now in
     let text = c.in_ok-text.text.items in
     ok_then c.with_verdict.result
-    (λ out. (j : Judgement) × IsRunJudgement most_configurations r j
+    (λ out. (j : Failing) × IsRunJudgement most_configurations r j
     × (out.items ≡ text ++ verdict_text (history_of r) j))
     (λ out. IsCertificateText r out.items)
     (λ out h. when_missing r c.in_ok-certification.certification _ text out.items c.in-Missing.is

@@ -8,5 +8,5 @@ pub returns-clause-so : goal.returns-clause-so
 returns-clause-so g c =
     let r = c.args.history.now in
     subst (IsLinearizabilityOf c.args.most r) (sym c.word_of.ensures)
-    (word_is c.linearizable_from_the_beginning.ensures c.args.most r c.args.judgement.now c.has_history.ensures
+    (word_is c.linearizable_from_the_beginning.ensures c.args.most r c.args.failing c.has_history.ensures
     c.requires)

@@ -25,7 +25,7 @@ returns g c =
     (c.program.ensures.value ∙ c.machine-machine.ensures.source)
     (c.shape.ensures.shape ∙ c.machine-machine.ensures.shape)
     (c.into_events.ensures w c.requires.watch ∙ ap (events_of w.run) c.requires.end) in (
-      c.in_ok-judgement.judgement,
-      c.in_ok-judgement.ensures.judgement w.run h,
+      c.in_ok-failing.failing,
+      c.in_ok-failing.ensures w.run h,
       rw (c.in_ok-survey.ensures, c.word_of.ensures) refl,
     )

@@ -8,11 +8,11 @@ use Rattle.snap_judge.specs.declared.judgements.Judgement.TheVariants as judgeme
 use Rattle.snap_judge.specs.History.{History, IsHistory}
 use Rattle.snap_judge.specs.declared.config.Found.{Found}
 use Rattle.snap_judge.specs.declared.config.Found.TheVariants as found
-use Rattle.snap_judge.specs.Judgement.{HasFound, IsFailing, IsJudgement, failing_of}
+use Rattle.snap_judge.specs.Judgement.{IsFailing, IsJudgement, failing_of}
 use Rattle.snap_judge.specs.Configurations.{beginning, MeetsMoreThan}
 use Rattle.snap_judge.specs.Kept.{AreNumbered, AreSteps, called_at, operation_of}
 use Rattle.snap_judge.specs.Linearizable.{IsLinearizationOf, IsLinearizableHistory, up_to}
-use Rattle.snap_judge.specs.Nodes.{IsFound}
+use Rattle.snap_judge.specs.Nodes.{HasFound, IsFound}
 use Rattle.snap_judge.specs.Steps.{Explains, Free, Step}
 use Rattle.snap_judge.proofs.ExplainedHistories.{histories_are_explained}
 use Rattle.snap_judge.proofs.Leading.{made}

@@ -1,8 +1,6 @@
 -- What is said of a history: that it is linearizable, or up to which event it is not.
-use Rattle.std.specs.Prelude.{◌≡◌, ℕ, ◌-◌, List, length, map}
+use Rattle.std.specs.Prelude.{ℕ, ◌-◌, length, map}
 use Rattle.snap_words.specs.Shape.{IsOneOf}
-use Rattle.snap_judge.specs.declared.config.Found.{Found}
-use Rattle.snap_judge.specs.declared.config.Step.{Step as KeptStep}
 use Rattle.snap_judge.specs.declared.decisions.Decision.{Decision}
 use Rattle.snap_judge.specs.declared.decisions.Decision.TheVariants as decision
 use Rattle.snap_judge.specs.declared.judgements.Failing.{Failing}
@@ -12,14 +10,7 @@ use Rattle.snap_judge.specs.declared.judgements.Judgement.TheVariants as judgeme
 use Rattle.snap_judge.specs.History.{History}
 use Rattle.snap_judge.specs.Linearizable.{IsLinearizationOf, IsLinearizableHistory, up_to}
 use Rattle.snap_judge.specs.Configurations.{beginning, MeetsMoreThan}
-use Rattle.snap_judge.specs.Kept.{operation_of, steps_kept}
-use Rattle.snap_judge.specs.Nodes.{IsFound}
-use Rattle.snap_judge.specs.Steps.{steps_of}
-
--- These are the steps of a history, and what a search has found of them is so.
-pub record HasFound (most : ℕ) (h : History) (kept : List KeptStep) (f : Found) : Type 0 where
-  pub steps : steps_kept kept ≡ steps_of h.events
-  pub found : IsFound most h.shape.n h.shape.w kept f
+use Rattle.snap_judge.specs.Kept.{operation_of}
 
 -- What is decided of a history is so; it is left open only where there are more than `most` configurations to choose at.
 abbrev pub IsDecision : (most : ℕ) → History → Decision → Type 0

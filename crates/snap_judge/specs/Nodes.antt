@@ -10,7 +10,8 @@ use Rattle.snap_judge.specs.declared.config.Entered.{Entered}
 use Rattle.snap_judge.specs.declared.config.Found.{Found}
 use Rattle.snap_judge.specs.declared.config.Found.TheVariants as found
 use Rattle.snap_judge.specs.declared.search.Trail.{Trail}
-use Rattle.snap_judge.specs.Steps.{Free, CanBeExplained, Explains, Move, taken}
+use Rattle.snap_judge.specs.History.{History}
+use Rattle.snap_judge.specs.Steps.{Free, CanBeExplained, Explains, Move, steps_of, taken}
 use Rattle.snap_judge.specs.Configurations.{MeetsMoreThan}
 use Rattle.snap_judge.specs.Kept.{AreSteps, Can, first, IsConfig, IsReached, IsSameConfig, IsSettled, IsStuck, called_at, steps_kept}
 use Rattle.snap_judge.specs.Choices.{CanTaking, NotNowAt}
@@ -160,3 +161,8 @@ IsFound most n w steps (found.Explained order) =
     × (taken moves ≡ map (called_at steps) order.items)
 IsFound most n w steps found.Unexplained = NothingExplains n w steps
 IsFound most n w steps found.Undecided = MeetsMoreThan most (first n w steps)
+
+-- These are the steps of a history, and what a search has found of them is so.
+pub record HasFound (most : ℕ) (h : History) (kept : List KeptStep) (f : Found) : Type 0 where
+  pub steps : steps_kept kept ≡ steps_of h.events
+  pub found : IsFound most h.shape.n h.shape.w kept f

@@ -3,7 +3,8 @@ ghost use Rattle.std.specs.Prelude.{◌≡◌, ◌≤◌, [], None, IfOk, length
 ghost use Rattle.snap_judge.specs.History.{IsHistory};
 ghost use Rattle.snap_judge.specs.Linearizable.{up_to};
 ghost use Rattle.snap_judge.specs.Kept.{called_at, called_by, operation_of, step_of_kept};
-ghost use Rattle.snap_judge.specs.Judgement.{HasFound, IsDecision};
+ghost use Rattle.snap_judge.specs.Judgement.{IsDecision};
+ghost use Rattle.snap_judge.specs.Nodes.{HasFound};
 ghost use Rattle.snap_judge.specs.declared.operation.Action.TheVariants as kept_action;
 
 use crate::config::{Found, Step};

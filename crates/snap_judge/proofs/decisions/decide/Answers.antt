@@ -1,6 +1,7 @@
 -- `decide` of snap_judge (src/decisions.rt).
 use Rattle.std.proofs.Common.{IfOk, map, subst, sym}
-use Rattle.snap_judge.specs.Judgement.{HasFound, IsDecision}
+use Rattle.snap_judge.specs.Judgement.{IsDecision}
+use Rattle.snap_judge.specs.Nodes.{HasFound}
 use Rattle.snap_judge.specs.Kept.{called_at}
 use Rattle.snap_judge.specs.Linearizable.{up_to}
 use Rattle.snap_judge.proofs.KeptSteps.{history_up_to}

@@ -3,7 +3,7 @@ use Rattle.std.proofs.Common.{rules, ◌≤◌, ℕ, List, ap, length, map, subs
 use Rattle.snap_judge.specs.declared.config.Found.TheVariants as found
 use Rattle.snap_judge.specs.declared.config.Step.{Step as KeptStep}
 use Rattle.snap_judge.specs.History.{History}
-use Rattle.snap_judge.specs.Judgement.{HasFound}
+use Rattle.snap_judge.specs.Nodes.{HasFound}
 use Rattle.snap_judge.specs.Kept.{called_at}
 use Rattle.snap_judge.specs.Linearizable.{IsLinearizationOf, up_to}
 use Rattle.snap_judge.proofs.Judging.{explained_decides, unexplained_decides, up_to_whole}

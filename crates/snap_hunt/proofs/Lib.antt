@@ -2,6 +2,7 @@
 pub mod Traps
 pub mod Products
 pub mod Watching
+pub mod Counting
 pub mod Operations
 pub mod Judging
 pub mod Alike

@@ -1,32 +1,26 @@
 -- `OwnSteps`: the steps that each process has taken since its last call, for failures of too many, after one item
 -- more.
-use Rattle.std.proofs.Common.{◌≡◌, ℕ, zero, suc, ◌+◌, ◌-◌, ◌^◌, ◌<◌, ◌≤◌, Bool, true, false, ◌&&◌, List, []}
-use Rattle.std.proofs.Common.{length, get_or, inl, inr, Option, Some, None, if◌then◌else◌, nat_eq}
+use Rattle.std.proofs.Common.{◌≡◌, ℕ, zero, suc, ◌+◌, ◌-◌, ◌^◌, ◌<◌, ◌≤◌, Bool, true, false, ◌&&◌, List}
+use Rattle.std.proofs.Common.{length, get_or, Option, Some, None, if◌then◌else◌, nat_eq}
 use Rattle.std.proofs.Common.{nat_lt, refl, sym, ap, subst, ◌∙◌, arith}
 use Rattle.std.specs.Prelude.{slice_set}
 use Rattle.std.proofs.lemmas.Bool.{eqb-true, eqb-false}
 use Rattle.std.proofs.lemmas.Grind.{get_or-set_at}
 use Rattle.std.proofs.lemmas.List.{get_or-set_other}
-use Rattle.std.proofs.lemmas.List.{length-set, set-get_or}
+use Rattle.std.proofs.lemmas.List.{length-set}
 use Rattle.snap_words.specs.Shape.{IsOneOf}
 use Rattle.snap_semantics.specs.Rules.{or_else}
-use Rattle.snap_semantics.specs.State.{process_at}
 use Rattle.snap_semantics.specs.Table.{who}
 use Rattle.snap_semantics.specs.declared.process.Item.{Item}
 use Rattle.snap_semantics.specs.declared.process.Item.TheVariants.{Step, Call, Crash}
 use Rattle.snap_semantics.specs.declared.process.Outcome.{Outcome}
-use Rattle.snap_semantics.specs.declared.process.Outcome.TheVariants.{Skipped}
-use Rattle.snap_semantics.specs.declared.process.Reason.{Reason}
 use Rattle.snap_runs.specs.Audit.{is_called, last_call}
-use Rattle.snap_runs.specs.Run.{Run, item, outcome, state}
+use Rattle.snap_runs.specs.Run.{Run, item, outcome}
 use Rattle.snap_runs.specs.Scan.{count, is_not_skipped, own_steps, steps, takes_step}
 use Rattle.snap_runs.proofs.Computing.{same_number}
 use Rattle.snap_runs.proofs.Counting.{count_next, count_none, count_not}
-use Rattle.snap_walk.specs.Walk.{Passes, PassesOver, Way, further, look_ahead}
+use Rattle.snap_walk.specs.Walk.{Passes, Way}
 use Rattle.snap_walk.specs.declared.passed.Passed.{Passed}
-use Rattle.snap_walk.proofs.Over.{Keeps, kept_over, none_quiet, untold_cases}
-use Rattle.snap_audit.specs.Watch.{Watches}
-use Rattle.snap_audit.specs.declared.watch.Watch.{Watch}
 use Rattle.snap_hunt.specs.Firsts.{asks_update}
 use Rattle.snap_hunt.specs.declared.failures.Failure.{Failure}
 use Rattle.snap_hunt.specs.declared.failures.OwnSteps.{OwnSteps}
@@ -192,15 +186,6 @@ few_steps r most t i owns found h one few d =
     let less : own_steps r i (last_call r i t) t ≤ t = count_few (takes_step r i) (last_call r i t) t in
     omega (arith, same, less, few)
 
--- the process of the item that is passed has room for its steps
-pub has_room : (w w' : Way) (p : Passed) (x : Watch) (most : ℕ) (owns : List OwnSteps) (found : Option Failure) →
-    Watches w x → Passes w p w' → CountsSteps w.run most w.at owns found →
-    (d : OwnSteps) → (get_or owns (who p.item - 1) d).count + 1 < 2 ^ 64
-has_room w w' p x most owns found watched is h d =
-    let few = watched.few in
-    let left = is.left in
-    few_steps w.run most w.at (who p.item) owns found h is.process (omega (arith, few, left)) d
-
 -- the steps of the process of the item are counted
 pub is_counted : (w w' : Way) (p : Passed) (most : ℕ) (owns : List OwnSteps) (found : Option Failure) →
     Passes w p w' → CountsSteps w.run most w.at owns found → IsOneOf (length owns) (who p.item)
@@ -235,42 +220,7 @@ steps_passed w w' p most owns owns' found later found' is set over first h =
     (subst (λ f. CountsSteps r most (suc t) owns' f) (sym first)
     (watches_next r most t owns owns' found later there set' over' h))
 
--- A step that is skipped is none that is taken.
-skip_untaken : (x : Item) (o : Outcome) (why : Reason) → o ≡ Skipped why → is_taken x o ≡ false
-skip_untaken (Step k) o why is = ap is_not_skipped is
-skip_untaken (Call k a) o why is = refl
-skip_untaken (Crash k) o why is = refl
-
-skip_uncounted : (own : OwnSteps) (t : ℕ) (x : Item) (o : Outcome) (why : Reason) → o ≡ Skipped why →
-    noted own t x o ≡ own
-skip_uncounted own t x o why is =
-    ap (λ b. noted_if (is_called o) b own t x) (skip_untaken x o why is)
-    ∙ ap (λ (c : Outcome). noted_if (is_called c) false own t x) is
-
-none_later : (found : Option Failure) → found ≡ or_else found None
+-- nothing found later changes what was found
+pub none_later : (found : Option Failure) → found ≡ or_else found None
 none_later None = refl
 none_later (Some f) = refl
-
--- skipped items leave the steps as they are
-untold_counted : (most : ℕ) (owns : List OwnSteps) (found : Option Failure) →
-    Keeps [] false (λ w. CountsSteps w.run most w.at owns found)
-untold_counted most owns found w p d untold h =
-    let x = p.item in
-    elim (untold_cases (look_ahead [] w) p.outcome false untold) [
-      | inl stepped ↦ absurd (
-          let y = item w.run (suc w.at) in
-          none_quiet y (process_at (state w.run w.at) (who y)).status stepped.0)
-      | inr skipped ↦
-          steps_passed w (further w) p most owns owns found None found d
-          (λ q. sym (set-get_or owns (who x - 1) q)
-          ∙ ap (slice_set owns (who x - 1))
-          (sym (skip_uncounted (get_or owns (who x - 1) q) p.number x p.outcome skipped.0 skipped.1)))
-          (λ q. sym (ap (λ b. overrun most (who x) p.number b
-          (noted (get_or owns (who x - 1) q) p.number x p.outcome)) (skip_untaken x p.outcome skipped.0 skipped.1)))
-          (none_later found) h
-    ]
-
-pub counted_over : (most : ℕ) (owns : List OwnSteps) (found : Option Failure) (w v : Way) → PassesOver [] false w v →
-    CountsSteps w.run most w.at owns found → CountsSteps v.run most v.at owns found
-counted_over most owns found w v over h =
-    kept_over [] false (λ u. CountsSteps u.run most u.at owns found) (untold_counted most owns found) w v over h

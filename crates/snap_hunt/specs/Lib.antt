@@ -4,6 +4,7 @@ pub mod Firsts
 pub mod Failing
 pub mod Finding
 pub mod Watching
+pub mod Counting
 pub mod Operations
 pub mod Hunt
 pub mod Shrinking

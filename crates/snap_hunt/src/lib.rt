@@ -20,6 +20,7 @@ mod passes;
 mod places;
 mod shrink;
 mod step_bounds;
+mod step_counter;
 mod step_laws;
 mod steps;
 mod trials;

@@ -6,7 +6,7 @@ ghost use Rattle.snap_hunt.specs.Finding.{Finds};
 use crate::failing::failure;
 use crate::failures::{Failure, StepBound, Wanted};
 use crate::step_bounds::most_steps;
-use crate::steps::{first, none_taken, note};
+use crate::step_counter::StepCounter;
 use snap_asm_program::Program;
 use snap_audit::Watch;
 use snap_sched::Schedule;
@@ -48,14 +48,13 @@ fn failure_of_steps<K: Kind>(
     let most = most_steps(program.kind(), schedule.shape(), bound);
     let mut walk = Walk::<K>::over(alloc, program, schedule)?;
     let mut watch = Watch::new(alloc, program, schedule)?;
-    let mut owns = none_taken(alloc, schedule.shape().n())?;
-    let mut overrun = None;
-    while let Some(passed) = walk.next_told(&[], false)? {
-        let found = note(&mut owns, most, passed.number, passed.item, &passed.outcome);
-        overrun = first(overrun, found);
+    let mut counter = StepCounter::new(alloc, schedule, most)?;
+    while let Some(passed) = walk.next_told(watch.silent_lines(), false)? {
+        counter.note(&walk, &passed);
         watch.note(&walk, passed)?;
     }
-    failure(alloc, &walk, watch, overrun, wanted)
+    counter.pass(walk.done());
+    failure(alloc, &walk, watch, counter.overrun(), wanted)
 }
 
 /// Returns what fails in the run of a program of a kind.

@@ -1,0 +1,251 @@
+-- `Counts`: the steps of a run and its busy processes, after one item more.
+use Rattle.std.proofs.Common.{◌≡◌, ℕ, suc, ◌+◌, ◌-◌, ◌<◌, ◌≤◌, ◌&&◌, Bool, true, false, List, ◌∷◌, inl, inr, length, drop, get_or}
+use Rattle.std.proofs.Common.{Option, None, refl, sym, ap, subst, ◌∙◌, arith}
+use Rattle.std.specs.Prelude.{slice_set}
+use Rattle.std.proofs.Math.Seq.{drop-cons}
+use Rattle.std.proofs.lemmas.Bool.{cases_eq}
+use Rattle.std.proofs.lemmas.Grind.{get_or-set_at}
+use Rattle.std.proofs.lemmas.List.{get_or-set_other, set-get_or}
+use Rattle.snap_words.specs.Shape.{IsOneOf}
+use Rattle.snap_semantics.specs.Rules.{or_else}
+use Rattle.snap_semantics.specs.State.{process_at}
+use Rattle.snap_semantics.specs.Table.{who}
+use Rattle.snap_semantics.specs.declared.process.Item.{Item}
+use Rattle.snap_semantics.specs.declared.process.Item.TheVariants.{Step, Call, Crash}
+use Rattle.snap_semantics.specs.declared.process.Outcome.{Outcome}
+use Rattle.snap_semantics.specs.declared.process.Outcome.TheVariants.{Skipped, Stepped}
+use Rattle.snap_semantics.specs.declared.process.Reason.{Reason}
+use Rattle.snap_semantics.specs.declared.process.Status.{Status}
+use Rattle.snap_semantics.specs.declared.process.Status.TheVariants.{Idle, Busy, Trapped, Crashed}
+use Rattle.snap_runs.specs.Audit.{is_called}
+use Rattle.snap_runs.specs.Run.{IsValidRun, Run, item, outcome, state}
+use Rattle.snap_runs.proofs.Calls.{other_turn, turn}
+use Rattle.snap_runs.proofs.Transitions.{MaySkip, Transition, skipped, calls, goes, answers, finishes, traps, crashes}
+use Rattle.snap_walk.specs.Walk.{IsUntold, Passes, Tells, TellsNone, Way, is_untold, look, way}
+use Rattle.snap_walk.specs.declared.passed.Passed.{Passed}
+use Rattle.snap_walk.specs.Walking.{is_busy, is_step}
+use Rattle.snap_hunt.specs.Counting.{AreUntold, Counts}
+use Rattle.snap_hunt.specs.Failing.{many_steps, overrun, overrun_at}
+use Rattle.snap_hunt.specs.Firsts.{first_found}
+use Rattle.snap_hunt.specs.Watching.{CountsSteps, is_taken, noted, noted_if, overrun_by}
+use Rattle.snap_hunt.specs.declared.failures.Failure.{Failure}
+use Rattle.snap_hunt.specs.declared.failures.OwnSteps.{OwnSteps}
+use Rattle.snap_hunt.specs.declared.step_counter.StepCounter.{StepCounter}
+use Rattle.snap_hunt.proofs.Watching.{none_later, watches_next}
+
+-- a step that is skipped is none of a busy process
+skip_taken : (s : Status) (x : Item) (why : Reason) → MaySkip s x → is_taken x (Skipped why) ≡ (is_step x && is_busy s)
+skip_taken Idle (Step i) why may = refl
+skip_taken (Busy a) (Step i) why may = absurd may
+skip_taken (Trapped cause a) (Step i) why may = refl
+skip_taken (Crashed was) (Step i) why may = refl
+skip_taken s (Call i op) why may = refl
+skip_taken s (Crash i) why may = refl
+
+-- An item over which a walk passes is no call, it is taken if it is a step of a busy process, and its process is busy
+-- as before.
+untold_turn : {s s' : Status} {x : Item} {o : Outcome} (quiet : List Bool) → Transition s x o s' →
+    is_untold (look quiet x s) o false ≡ true →
+    (is_called o ≡ false) × (is_taken x o ≡ (is_step x && is_busy s)) × (is_busy s' ≡ is_busy s)
+untold_turn quiet (skipped s x why may) untold = (refl, skip_taken s x why may, refl)
+untold_turn quiet (calls i op line) untold = absurd cc
+untold_turn quiet (goes i a line link) untold = (refl, refl, refl)
+untold_turn quiet (answers i a view e) untold = absurd cc
+untold_turn quiet (finishes i a word value e) untold = absurd cc
+untold_turn quiet (traps i a cause) untold = absurd cc
+untold_turn quiet (crashes i s was) untold = absurd cc
+
+stepped_taken : (x : Item) → is_taken x Stepped ≡ is_step x
+stepped_taken (Step i) = refl
+stepped_taken (Call i op) = refl
+stepped_taken (Crash i) = refl
+
+both_true : (a b : Bool) → (a && b) ≡ true → a ≡ true
+both_true true b h = refl
+both_true false b h = absurd cc
+
+-- the item that comes next, and those behind it
+pub next_left : (r : Run) (t : ℕ) (x : Item) (xs ys : List Item) → t < length r.items → xs ≡ drop t r.items →
+    xs ≡ x ∷ ys → (x ≡ item r (suc t)) × (ys ≡ drop (suc t) r.items)
+next_left r t x xs ys lt left is =
+    let here : (x ∷ ys) ≡ (item r (suc t) ∷ drop (suc t) r.items) = sym is ∙ left ∙ drop-cons r.items t (Step 0) lt in
+    (cc, cc)
+
+-- of processes that an item is not of, it is known as before whether they are busy
+pub busy_beside : (r : Run) (t j : ℕ) → IsValidRun r → t < length r.items → IsOneOf r.shape.n j →
+    (who (item r (suc t)) ≡ j → ⊥) →
+    is_busy (process_at (state r (suc t)) j).status ≡ is_busy (process_at (state r t) j).status
+busy_beside r t j valid lt one other = ap is_busy (other_turn r valid t j lt one other)
+
+module _ (r : Run) (most t : ℕ) (quiet : List Bool) (c : StepCounter) (h : Counts r most t c)
+    (u : IsUntold quiet false (way r t)) where
+  facts :
+      (is_called (outcome r (suc t)) ≡ false)
+      × (is_taken (item r (suc t)) (outcome r (suc t))
+      ≡ (is_step (item r (suc t)) && is_busy (process_at (state r t) (who (item r (suc t)))).status))
+      × (is_busy (process_at (state r (suc t)) (who (item r (suc t)))).status
+      ≡ is_busy (process_at (state r t) (who (item r (suc t)))).status)
+  facts = untold_turn quiet (turn r h.valid t (who (item r (suc t))) u.left u.process refl) u.untold
+
+  -- the same processes are busy
+  pub busy_untold : (j : ℕ) → IsOneOf r.shape.n j → (d : Bool) →
+      get_or c.busy.items (j - 1) d ≡ is_busy (process_at (state r (suc t)) j).status
+  busy_untold j one d =
+      h.busy j one d
+      ∙ elim (cases_eq (who (item r (suc t))) j) [
+        | inl same ↦ subst (λ k. is_busy (process_at (state r t) k).status
+            ≡ is_busy (process_at (state r (suc t)) k).status) same (sym facts.2)
+        | inr other ↦ sym (busy_beside r t j h.valid u.left one other)
+      ]
+
+  -- the step of a busy process is counted
+  pub step_counted : (k : ℕ) (x : Item) (owns' : List OwnSteps) (later : Option Failure) → k ≡ suc t →
+      x ≡ item r (suc t) →
+      (is_step x && is_busy (process_at (state r t) (who x)).status) ≡ true →
+      ((d : OwnSteps) → owns' ≡ slice_set c.owns.items (who x - 1)
+      (noted (get_or c.owns.items (who x - 1) d) k x Stepped)) →
+      ((d : OwnSteps) → later ≡ overrun_by most k x Stepped (noted (get_or c.owns.items (who x - 1) d) k x Stepped)) →
+      CountsSteps r most (suc t) owns' (or_else c.overrun later)
+  step_counted k x owns' later number is runs set over =
+      let y = item r (suc t) in
+      let o = outcome r (suc t) in
+      let i = who y in
+      let runs' : (is_step y && is_busy (process_at (state r t) i).status) ≡ true =
+      subst (λ z. (is_step z && is_busy (process_at (state r t) (who z)).status) ≡ true) is runs in
+      let taken : is_taken y Stepped ≡ is_taken y o =
+      stepped_taken y ∙ both_true (is_step y) _ runs' ∙ sym runs' ∙ sym facts.1 in
+      let same : (own : OwnSteps) → noted own (suc t) y Stepped ≡ noted own (suc t) y o =
+      λ own. ap (λ b. noted_if b (is_taken y Stepped) own (suc t) y) (sym facts.0)
+      ∙ ap (λ b. noted_if (is_called o) b own (suc t) y) taken in
+      let set' : (d : OwnSteps) → owns' ≡ slice_set c.owns.items (i - 1)
+      (noted (get_or c.owns.items (i - 1) d) (suc t) y Stepped) =
+      λ d. subst (λ z. owns' ≡ slice_set c.owns.items (who z - 1)
+      (noted (get_or c.owns.items (who z - 1) d) (suc t) z Stepped)) is
+      (subst (λ n. owns' ≡ slice_set c.owns.items (who x - 1)
+      (noted (get_or c.owns.items (who x - 1) d) n x Stepped)) number (set d)) in
+      let over' : (d : OwnSteps) →
+      later ≡ overrun_by most (suc t) y Stepped (noted (get_or c.owns.items (i - 1) d) (suc t) y Stepped) =
+      λ d. subst (λ z. later ≡ overrun_by most (suc t) z Stepped
+      (noted (get_or c.owns.items (who z - 1) d) (suc t) z Stepped)) is
+      (subst (λ n. later ≡ overrun_by most n x Stepped (noted (get_or c.owns.items (who x - 1) d) n x Stepped)) number
+      (over d)) in
+      watches_next r most t c.owns.items owns' c.overrun later u.process
+      (λ d. set' d ∙ ap (slice_set c.owns.items (i - 1)) (same (get_or c.owns.items (i - 1) d)))
+      (λ d. over' d
+      ∙ ap (λ (own : OwnSteps). overrun_by most (suc t) y Stepped own) (same (get_or c.owns.items (i - 1) d))
+      ∙ ap (λ b. overrun most i (suc t) b (noted (get_or c.owns.items (i - 1) d) (suc t) y o)) taken)
+      h.steps
+
+  -- nothing is counted of another item
+  pub none_counted : (x : Item) → x ≡ item r (suc t) →
+      (is_step x && is_busy (process_at (state r t) (who x)).status) ≡ false →
+      CountsSteps r most (suc t) c.owns.items c.overrun
+  none_counted x is runs =
+      let y = item r (suc t) in
+      let o = outcome r (suc t) in
+      let i = who y in
+      let untaken : is_taken y o ≡ false =
+      facts.1 ∙ subst (λ z. (is_step z && is_busy (process_at (state r t) (who z)).status) ≡ false) is runs in
+      let same : (own : OwnSteps) → noted own (suc t) y o ≡ own =
+      λ own. ap (λ b. noted_if b (is_taken y o) own (suc t) y) facts.0
+      ∙ ap (λ b. noted_if false b own (suc t) y) untaken in
+      subst (λ f. CountsSteps r most (suc t) c.owns.items f) (sym (none_later c.overrun))
+      (watches_next r most t c.owns.items c.owns.items c.overrun None u.process
+      (λ d. sym (set-get_or c.owns.items (i - 1) d)
+      ∙ ap (slice_set c.owns.items (i - 1)) (sym (same (get_or c.owns.items (i - 1) d))))
+      (λ d. sym (ap (λ b. overrun most i (suc t) b (noted (get_or c.owns.items (i - 1) d) (suc t) y o)) untaken))
+      h.steps)
+
+-- some item is left
+pub some_left : (r : Run) (t : ℕ) (xs : List Item) → t < length r.items → xs ≡ drop t r.items → 0 < length xs
+some_left r t xs lt left =
+    subst (λ (ys : List Item). 0 < length ys) (sym (left ∙ drop-cons r.items t (Step 0) lt)) (omega arith)
+
+-- the items before the one that is told are counted
+pub up_to_told : (w w' : Way) (p : Passed) (quiet : List Bool) (most : ℕ) (c next : StepCounter) →
+    Counts w.run most w.at c → (tells : Tells quiet false w p w') →
+    ((r : Run) (quiet : List Bool) → Counts r most c.done c → AreUntold quiet r c.done (p.number - 1) →
+    c.done ≤ p.number - 1 → Counts r most (p.number - 1) next) →
+    Counts tells.between.run most tells.between.at next
+up_to_told w w' p quiet most c next h tells counted =
+    let v = tells.between in
+    let number = tells.passes.number in
+    let order = tells.over.order in
+    let done = h.done in
+    let before : p.number - 1 ≡ v.at = omega (arith, number) in
+    let so : Counts w.run most (p.number - 1) next =
+    counted w.run quiet (subst (λ k. Counts w.run most k c) (sym done) h)
+    (λ t low high. tells.over.untold t (omega (arith, done, low)) (omega (arith, before, high)))
+    (omega (arith, done, before, order)) in
+    subst (λ (r : Run). Counts r most v.at next) (sym tells.over.run) (subst (λ k. Counts w.run most k next) before so)
+
+-- after the item that is told it is known again of each process whether it is busy
+pub busy_told : (v w' : Way) (p : Passed) (most : ℕ) (c : StepCounter) (b : Bool) → Counts v.run most v.at c →
+    Passes v p w' → b ≡ is_busy (process_at (state w'.run w'.at) (who p.item)).status → (j : ℕ) →
+    IsOneOf v.run.shape.n j → (d : Bool) →
+    get_or (slice_set c.busy.items (who p.item - 1) b) (j - 1) d
+    ≡ is_busy (process_at (state v.run (suc v.at)) j).status
+busy_told v w' p most c b h is stands j one d =
+    let i = who p.item in
+    let first = is.process.0 in
+    let last = is.process.1 in
+    let low = one.0 in
+    let count = h.count in
+    elim (cases_eq i j) [
+      | inl same ↦
+          get_or-set_at c.busy.items (i - 1) (j - 1) b d (ap (λ m. m - 1) (sym same)) (omega (arith, first, last, count))
+          ∙ stands
+          ∙ ap (λ (u : Way). is_busy (process_at (state u.run u.at) i).status) is.way
+          ∙ ap (λ m. is_busy (process_at (state v.run (suc v.at)) m).status) same
+      | inr other ↦
+          get_or-set_other c.busy.items (i - 1) (j - 1) b d (λ same. other (omega (arith, same, first, low)))
+          ∙ h.busy j one d
+          ∙ sym (busy_beside v.run v.at j h.valid is.left one (λ same. other (ap who is.item ∙ same)))
+    ]
+
+-- the item that is told is counted
+pub told_counts : (v w' : Way) (p : Passed) (most : ℕ) (c c' : StepCounter) → Counts v.run most v.at c → Passes v p w' →
+    c'.done ≡ c.done + 1 → c'.most ≡ c.most → c'.ahead ≡ drop (suc v.at) v.run.items →
+    CountsSteps w'.run most w'.at c'.owns.items c'.overrun → length c'.busy.items ≡ v.run.shape.n →
+    ((j : ℕ) → IsOneOf v.run.shape.n j → (d : Bool) →
+    get_or c'.busy.items (j - 1) d ≡ is_busy (process_at (state v.run (suc v.at)) j).status) →
+    Counts w'.run most w'.at c'
+told_counts v w' p most c c' h is done most_is left steps count busy =
+    let before = h.done in
+    subst (λ (u : Way). Counts u.run most u.at c') (sym is.way) (record {
+      valid = h.valid;
+      few = h.few;
+      done = omega (arith, done, before);
+      most_is = most_is ∙ h.most_is;
+      within = is.left;
+      left = left;
+      steps = subst (λ (u : Way). CountsSteps u.run most u.at c'.owns.items c'.overrun) is.way steps;
+      count = count;
+      busy = busy;
+    })
+
+-- Behind the last item that is told a walk passes over all others, which are counted then.
+module _ (w w' : Way) (quiet : List Bool) (most until : ℕ) (c : StepCounter) (h : Counts w.run most w.at c)
+    (none : TellsNone quiet false w w') (end : until ≡ w'.at) where
+  pub counts_here : Counts w.run c.most c.done c
+  counts_here =
+      subst (λ m. Counts w.run m c.done c) (sym h.most_is) (subst (λ t. Counts w.run most t c) (sym h.done) h)
+
+  pub all_untold : AreUntold quiet w.run c.done until
+  all_untold = λ t low high.
+      let done = h.done in
+      none.over.untold t (omega (arith, done, low)) (omega (arith, high, end))
+
+  pub end_later : c.done ≤ until
+  end_later =
+      let done = h.done in
+      let order = none.over.order in
+      omega (arith, done, end, order)
+
+  pub all_counted : (next : StepCounter) → Counts w.run c.most until next → next.overrun ≡ many_steps most w'.run
+  all_counted next so =
+      so.steps.found_is
+      ∙ ap (λ m. first_found (overrun_at w.run m) until) h.most_is
+      ∙ ap (first_found (overrun_at w.run most)) end
+      ∙ ap (λ (r : Run). first_found (overrun_at r most) w'.at) (sym none.over.run)
+      ∙ ap (first_found (overrun_at w'.run most)) none.end

@@ -1,0 +1,26 @@
+-- `Counts`: by how many items of a run its steps are counted, and which of its processes are busy then.
+use Rattle.std.specs.Prelude.{◌≡◌, ℕ, ◌-◌, ◌<◌, ◌≤◌, Bool, false, List, length, drop, get_or}
+use Rattle.snap_words.specs.Shape.{IsOneOf, max_items}
+use Rattle.snap_semantics.specs.State.{process_at}
+use Rattle.snap_runs.specs.Run.{IsValidRun, Run, state}
+use Rattle.snap_walk.specs.Walk.{IsUntold, way}
+use Rattle.snap_walk.specs.Walking.{is_busy}
+use Rattle.snap_hunt.specs.Watching.{CountsSteps}
+use Rattle.snap_hunt.specs.declared.step_counter.StepCounter.{StepCounter}
+
+-- of the first t items of a run the steps are counted
+pub record Counts (r : Run) (most t : ℕ) (c : StepCounter) : Type 0 where
+  pub valid : IsValidRun r
+  pub few : length r.items ≤ max_items
+  pub done : c.done ≡ t
+  pub most_is : c.most ≡ most
+  pub within : t ≤ length r.items
+  pub left : c.ahead ≡ drop t r.items
+  pub steps : CountsSteps r most t c.owns.items c.overrun
+  pub count : length c.busy.items ≡ r.shape.n
+  pub busy : (i : ℕ) → IsOneOf r.shape.n i → (d : Bool) →
+      get_or c.busy.items (i - 1) d ≡ is_busy (process_at (state r t) i).status
+
+-- a walk passes over these items of a run
+abbrev pub AreUntold : List Bool → Run → (from until : ℕ) → Type 0
+AreUntold quiet r from until = (t : ℕ) → from ≤ t → t < until → IsUntold quiet false (way r t)

@@ -1,0 +1,155 @@
+//! `StepCounter`: the steps that the operations of a run take, counted along a walk that passes
+//! over most of its items.
+ghost use Rattle.std.specs.Prelude.{◌≡◌, ◌≤◌, ◌<◌, ◌-◌, ◌∷◌, ◌&&◌, Bool, List, false, IfOk, get_or, length, suc};
+ghost use Rattle.snap_words.specs.Shape.{IsOneOf};
+ghost use Rattle.snap_semantics.specs.Table.{who};
+ghost use Rattle.snap_runs.specs.Run.{Run};
+ghost use Rattle.snap_walk.specs.Walk.{IsUntold, Tells, Way, way};
+ghost use Rattle.snap_walk.specs.Walking.{is_busy, is_step};
+ghost use Rattle.snap_hunt.specs.Counting.{AreUntold, Counts};
+
+use crate::failures::{Failure, OwnSteps};
+use crate::steps::{first, none_taken, note};
+use snap_sched::{ItemIter, Schedule};
+use snap_semantics::{Item, Outcome, Status, who};
+use snap_walk::{Passed, Walk};
+use snap_words::Kind;
+use std::alloc::{AllocError, Global};
+
+/// The steps of the operations of a run, by the items that are counted so far.
+#[derive(Drop)]
+pub(crate) struct StepCounter<'a> {
+    /// The items that are not counted.
+    ahead: ItemIter<'a>,
+    /// How many items are counted.
+    done: u64,
+    /// How many steps an operation may take.
+    most: u64,
+    owns: Vec<OwnSteps>,
+    /// Whether each process is busy.
+    busy: Vec<bool>,
+    /// The first operation that has taken more steps than it may.
+    overrun: Option<Failure>,
+}
+
+/// Returns the next of the items to come.
+fn next_item(items: &mut ItemIter<'_>) -> Item
+    requires { 0 < length items.old }
+    ensures { items.old ≡ result ∷ items.new }
+{
+    match items.next() {
+        Some(item) => item,
+        None => unreachable!(),
+    }
+}
+
+/// Returns whether a process is busy that stands so.
+fn is_busy(status: Status) -> bool
+    ensures { result ≡ is_busy status }
+{
+    matches!(status, Status::Busy(_))
+}
+
+/// Returns whether an item is a step of a process that is busy.
+fn runs_line(item: Item, busy: &[bool]) -> bool
+    requires { IsOneOf (length busy.now) (who item) }
+    ensures { (d : Bool) → result ≡ (is_step item && get_or busy.now (who item - 1) d) }
+{
+    match item {
+        Item::Step(process) => busy[(process - 1) as usize],
+        Item::Call(_, _) | Item::Crash(_) => false,
+    }
+}
+
+impl<'a> StepCounter<'a> {
+    /// Returns a counter before the first item of a run over `schedule`.
+    ///
+    /// # Errors
+    ///
+    /// `AllocError` where memory runs out.
+    pub(crate) fn new(
+        alloc: Global,
+        schedule: &'a Schedule,
+        most: u64,
+    ) -> Result<StepCounter<'a>, AllocError>
+        ensures { IfOk result (λ c. (r : Run) → r.items ≡ schedule.now.items →
+            r.shape ≡ schedule.now.shape → Counts r most 0 c) }
+    {
+        let items = schedule.items();
+        let n = schedule.shape().n();
+        Ok(StepCounter {
+            ahead: items.iter(),
+            done: 0,
+            most,
+            owns: none_taken(alloc, n)?,
+            busy: vec![in alloc; false; n as usize]?,
+            overrun: None,
+        })
+    }
+
+    /// Counts the next item, over which a walk passes.
+    fn pass_next(&mut self)
+        requires { (r : Run) × (quiet : List Bool) × Counts r self.old.most self.old.done self.old
+            × IsUntold quiet false (way r self.old.done) }
+        ensures counted { (r : Run) (quiet : List Bool) → Counts r self.old.most self.old.done self.old →
+            IsUntold quiet false (way r self.old.done) →
+            Counts r self.old.most (suc self.old.done) self.new }
+        ensures most { self.new.most ≡ self.old.most }
+    {
+        let item = next_item(&mut self.ahead);
+        self.done += 1;
+        if runs_line(item, self.busy.as_slice()) {
+            let found = note(
+                &mut self.owns,
+                self.most,
+                self.done,
+                item,
+                &Outcome::Stepped,
+            );
+            self.overrun = first(self.overrun, found);
+        }
+    }
+
+    /// Counts the items up to item number `until`, over all of which a walk passes.
+    pub(crate) fn pass(&mut self, until: u64)
+        requires { (r : Run) × (quiet : List Bool) × Counts r self.old.most self.old.done self.old
+            × AreUntold quiet r self.old.done until × (self.old.done ≤ until) }
+        ensures counted { (r : Run) (quiet : List Bool) → Counts r self.old.most self.old.done self.old →
+            AreUntold quiet r self.old.done until → self.old.done ≤ until →
+            Counts r self.old.most until self.new }
+        ensures most { self.new.most ≡ self.old.most }
+    {
+        while self.done < until {
+            self.pass_next();
+        }
+    }
+
+    /// Counts the items up to the one that a walk has told last.
+    pub(crate) fn note<K: Kind>(&mut self, walk: &Walk<'_, K>, passed: &Passed)
+        requires { (w : Way) × (quiet : List Bool) × Counts w.run self.old.most w.at self.old
+            × Tells quiet false w passed.now walk.now }
+        ensures counted { Counts walk.now.run self.old.most walk.now.at self.new }
+        ensures most { self.new.most ≡ self.old.most }
+    {
+        self.pass(passed.number - 1);
+        let _told = next_item(&mut self.ahead);
+        self.done += 1;
+        let found = note(
+            &mut self.owns,
+            self.most,
+            passed.number,
+            passed.item,
+            &passed.outcome,
+        );
+        self.overrun = first(self.overrun, found);
+        let process = who(passed.item);
+        self.busy[(process - 1) as usize] = is_busy(walk.machine().status(process));
+    }
+
+    /// Returns the first operation that has taken more steps than it may.
+    pub(crate) fn overrun(&self) -> Option<Failure>
+        ensures { result ≡ self.now.overrun }
+    {
+        self.overrun
+    }
+}

@@ -11,9 +11,9 @@ returns g c =
     let frame = c.args.frame.now in
     let look = frame.look.now in
     let listing = option_map (λ (t : Bor (List ℕ)). t.now) frame.listing in
-    judged c.args.most (run_over c.args.program.now c.args.items.now) c.in_ok-history.history c.in_ok-judgement.judgement
+    judged c.args.most (run_over c.args.program.now c.args.items.now) c.in_ok-history.history c.in_ok-failing.failing
     c.as_slice-2.result.now wrong frame.window.now listing frame.schedule.now look.style.now look.legend.now
-    c.picture_by.result c.in_ok-history.ensures c.in_ok-judgement.ensures.judgement
+    c.picture_by.result c.in_ok-history.ensures c.in_ok-failing.ensures.judgement
     (c.as_slice-2.ensures.value
     ∙ (c.in_ok-shapes.ensures
     ∙ rw (c.as_slice.ensures.value, c.in_ok-steps.ensures, c.in_ok-history.ensures) refl))

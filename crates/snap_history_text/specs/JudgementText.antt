@@ -1,7 +1,6 @@
 -- What is written of a judgement: an order of the operations that explains the history, or the event at which no order
 -- does any more, or at which the search for one was given up.
-use Rattle.std.specs.Prelude.{ℕ, ◌-◌, ⊤, List, [], ◌∷◌, ◌++◌, length, Option, Some, None, codes, decimal, slice_index_or}
-use Rattle.snap_words.specs.Shape.{IsOneOf}
+use Rattle.std.specs.Prelude.{ℕ, ◌-◌, List, [], ◌∷◌, ◌++◌, Option, Some, None, codes, decimal, slice_index_or}
 use Rattle.snap_semantics.specs.declared.event.Event.{Event}
 use Rattle.snap_semantics.specs.Report.{numbers_text}
 use Rattle.snap_semantics.specs.declared.event.Happening.TheVariants as what
@@ -49,12 +48,6 @@ not_linearizable_line e = verdict_line (codes "not linearizable") e
 -- the event at which the search was given up
 abbrev pub undecided_line : Event → List ℕ
 undecided_line e = verdict_line (codes "undecided") e
-
--- The event that a judgement names, counted from 1, is one of the history.
-abbrev pub NamesEvent : History → Judgement → Type 0
-NamesEvent h (judgement.Linearizable order) = ⊤
-NamesEvent h (judgement.NotLinearizable count) = IsOneOf (length h.events) count
-NamesEvent h (judgement.Undecided count) = IsOneOf (length h.events) count
 
 -- the last of the first so many events of a history
 abbrev pub last_of : ℕ → History → Event

@@ -1,8 +1,7 @@
 //! What is written of a judgement of a history.
-ghost use Rattle.std.specs.Prelude.{◌≡◌, IfOk, length};
-ghost use Rattle.snap_words.specs.Shape.{IsOneOf};
-ghost use Rattle.snap_semantics.specs.declared.event.Event.{Event};
-ghost use Rattle.snap_history_text.specs.JudgementText.{NamesEvent, judgement_text};
+ghost use Rattle.std.specs.Prelude.{◌≡◌, IfOk};
+ghost use Rattle.snap_judge.specs.Judgement.{NamesEvent, failing_of};
+ghost use Rattle.snap_history_text.specs.JudgementText.{judgement_text};
 
 use crate::operations::push_linearizable;
 use crate::verdicts::{push_not_linearizable, push_undecided};
@@ -20,7 +19,7 @@ pub fn judgement_text(
     history: &History,
     judgement: &Judgement,
 ) -> Result<Vec<u8>, AllocError>
-    requires { NamesEvent history.now judgement.now }
+    requires { NamesEvent history.now (failing_of judgement.now) }
     ensures { IfOk result (λ text. text.items ≡ judgement_text history.now judgement.now) }
 {
     let mut out = Draft::new(alloc);

@@ -1,6 +1,7 @@
 -- `Counts`: the steps of a run and its busy processes, after one item more.
 use Rattle.std.proofs.Common.{◌≡◌, ℕ, suc, ◌+◌, ◌-◌, ◌<◌, ◌≤◌, ◌&&◌, Bool, true, false, List, ◌∷◌, inl, inr, length, drop, get_or}
-use Rattle.std.proofs.Common.{Option, None, refl, sym, ap, subst, ◌∙◌, arith}
+use Rattle.std.proofs.Common.{Option, None, Some, [], refl, sym, ap, subst, ◌∙◌, arith}
+use Rattle.std.specs.Iterator.{YieldsFirst}
 use Rattle.std.specs.Prelude.{slice_set}
 use Rattle.std.proofs.Math.Seq.{drop-cons}
 use Rattle.std.proofs.lemmas.Bool.{cases_eq}
@@ -20,6 +21,7 @@ use Rattle.snap_semantics.specs.declared.process.Status.TheVariants.{Idle, Busy,
 use Rattle.snap_runs.specs.Audit.{is_called}
 use Rattle.snap_runs.specs.Run.{IsValidRun, Run, item, outcome, state}
 use Rattle.snap_runs.proofs.Calls.{other_turn, turn}
+use Rattle.snap_runs.proofs.Computing.{both}
 use Rattle.snap_runs.proofs.Transitions.{MaySkip, Transition, skipped, calls, goes, answers, finishes, traps, crashes}
 use Rattle.snap_walk.specs.Walk.{IsUntold, Passes, Tells, TellsNone, Way, is_untold, look, way}
 use Rattle.snap_walk.specs.declared.passed.Passed.{Passed}
@@ -59,10 +61,6 @@ stepped_taken : (x : Item) → is_taken x Stepped ≡ is_step x
 stepped_taken (Step i) = refl
 stepped_taken (Call i op) = refl
 stepped_taken (Crash i) = refl
-
-both_true : (a b : Bool) → (a && b) ≡ true → a ≡ true
-both_true true b h = refl
-both_true false b h = absurd cc
 
 -- the item that comes next, and those behind it
 pub next_left : (r : Run) (t : ℕ) (x : Item) (xs ys : List Item) → t < length r.items → xs ≡ drop t r.items →
@@ -113,7 +111,7 @@ module _ (r : Run) (most t : ℕ) (quiet : List Bool) (c : StepCounter) (h : Cou
       let runs' : (is_step y && is_busy (process_at (state r t) i).status) ≡ true =
       subst (λ z. (is_step z && is_busy (process_at (state r t) (who z)).status) ≡ true) is runs in
       let taken : is_taken y Stepped ≡ is_taken y o =
-      stepped_taken y ∙ both_true (is_step y) _ runs' ∙ sym runs' ∙ sym facts.1 in
+      stepped_taken y ∙ (both (is_step y) _ runs').0 ∙ sym runs' ∙ sym facts.1 in
       let same : (own : OwnSteps) → noted own (suc t) y Stepped ≡ noted own (suc t) y o =
       λ own. ap (λ b. noted_if b (is_taken y Stepped) own (suc t) y) (sym facts.0)
       ∙ ap (λ b. noted_if (is_called o) b own (suc t) y) taken in
@@ -157,9 +155,17 @@ module _ (r : Run) (most t : ℕ) (quiet : List Bool) (c : StepCounter) (h : Cou
       h.steps)
 
 -- some item is left
-pub some_left : (r : Run) (t : ℕ) (xs : List Item) → t < length r.items → xs ≡ drop t r.items → 0 < length xs
-some_left r t xs lt left =
-    subst (λ (ys : List Item). 0 < length ys) (sym (left ∙ drop-cons r.items t (Step 0) lt)) (omega arith)
+pub some_left : (r : Run) (t : ℕ) (xs : List Item) → t < length r.items → xs ≡ drop t r.items → xs ≡ [] → ⊥
+some_left r t xs lt left none =
+    let clash : [] ≡ (item r (suc t) ∷ drop (suc t) r.items) =
+    sym none ∙ left ∙ drop-cons r.items t (Step 0) lt in
+    cc
+
+-- the items behind the one that comes next
+pub left_behind : (r : Run) (t : ℕ) (o : Option Item) (xs ys : List Item) → t < length r.items →
+    xs ≡ drop t r.items → YieldsFirst (λ (zs : List Item). zs) xs o ys → ys ≡ drop (suc t) r.items
+left_behind r t None xs ys lt left gives = absurd (some_left r t xs lt left gives.0)
+left_behind r t (Some x) xs ys lt left gives = (next_left r t x xs ys lt left gives).1
 
 -- the items before the one that is told are counted
 pub up_to_told : (w w' : Way) (p : Passed) (quiet : List Bool) (most : ℕ) (c next : StepCounter) →

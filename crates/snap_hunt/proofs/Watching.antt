@@ -220,7 +220,7 @@ steps_passed w w' p most owns owns' found later found' is set over first h =
     (subst (λ f. CountsSteps r most (suc t) owns' f) (sym first)
     (watches_next r most t owns owns' found later there set' over' h))
 
--- nothing found later changes what was found
+-- Where nothing is found later, what was found stays.
 pub none_later : (found : Option Failure) → found ≡ or_else found None
 none_later None = refl
 none_later (Some f) = refl

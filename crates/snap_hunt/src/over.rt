@@ -53,8 +53,8 @@ fn failure_of_steps<K: Kind>(
         counter.note(&walk, &passed);
         watch.note(&walk, passed)?;
     }
-    counter.pass(walk.done());
-    failure(alloc, &walk, watch, counter.overrun(), wanted)
+    let overrun = counter.finish(&walk);
+    failure(alloc, &walk, watch, overrun, wanted)
 }
 
 /// Returns what fails in the run of a program of a kind.

@@ -1,12 +1,13 @@
 //! `StepCounter`: the steps that the operations of a run take, counted along a walk that passes
 //! over most of its items.
-ghost use Rattle.std.specs.Prelude.{◌≡◌, ◌≤◌, ◌<◌, ◌-◌, ◌∷◌, ◌&&◌, Bool, List, false, IfOk, get_or, length, suc};
+ghost use Rattle.std.specs.Prelude.{◌≡◌, ◌≤◌, ◌<◌, ◌-◌, ◌&&◌, Bool, List, false, IfOk, get_or, length, suc};
 ghost use Rattle.snap_words.specs.Shape.{IsOneOf};
 ghost use Rattle.snap_semantics.specs.Table.{who};
 ghost use Rattle.snap_runs.specs.Run.{Run};
-ghost use Rattle.snap_walk.specs.Walk.{IsUntold, Tells, Way, way};
+ghost use Rattle.snap_walk.specs.Walk.{IsUntold, Passes, Tells, TellsNone, Way, way};
 ghost use Rattle.snap_walk.specs.Walking.{is_busy, is_step};
 ghost use Rattle.snap_hunt.specs.Counting.{AreUntold, Counts};
+ghost use Rattle.snap_hunt.specs.Failing.{many_steps};
 
 use crate::failures::{Failure, OwnSteps};
 use crate::steps::{first, none_taken, note};
@@ -30,17 +31,6 @@ pub(crate) struct StepCounter<'a> {
     busy: Vec<bool>,
     /// The first operation that has taken more steps than it may.
     overrun: Option<Failure>,
-}
-
-/// Returns the next of the items to come.
-fn next_item(items: &mut ItemIter<'_>) -> Item
-    requires { 0 < length items.old }
-    ensures { items.old ≡ result ∷ items.new }
-{
-    match items.next() {
-        Some(item) => item,
-        None => unreachable!(),
-    }
 }
 
 /// Returns whether a process is busy that stands so.
@@ -96,7 +86,9 @@ impl<'a> StepCounter<'a> {
             Counts r self.old.most (suc self.old.done) self.new }
         ensures most { self.new.most ≡ self.old.most }
     {
-        let item = next_item(&mut self.ahead);
+        let Some(item) = self.ahead.next() else {
+            unreachable!()
+        };
         self.done += 1;
         if runs_line(item, self.busy.as_slice()) {
             let found = note(
@@ -111,7 +103,7 @@ impl<'a> StepCounter<'a> {
     }
 
     /// Counts the items up to item number `until`, over all of which a walk passes.
-    pub(crate) fn pass(&mut self, until: u64)
+    fn pass(&mut self, until: u64)
         requires { (r : Run) × (quiet : List Bool) × Counts r self.old.most self.old.done self.old
             × AreUntold quiet r self.old.done until × (self.old.done ≤ until) }
         ensures counted { (r : Run) (quiet : List Bool) → Counts r self.old.most self.old.done self.old →
@@ -124,15 +116,14 @@ impl<'a> StepCounter<'a> {
         }
     }
 
-    /// Counts the items up to the one that a walk has told last.
-    pub(crate) fn note<K: Kind>(&mut self, walk: &Walk<'_, K>, passed: &Passed)
-        requires { (w : Way) × (quiet : List Bool) × Counts w.run self.old.most w.at self.old
-            × Tells quiet false w passed.now walk.now }
+    /// Counts the next item, which a walk has told last.
+    fn note_told<K: Kind>(&mut self, walk: &Walk<'_, K>, passed: &Passed)
+        requires { (v : Way) × Counts v.run self.old.most v.at self.old
+            × Passes v passed.now walk.now }
         ensures counted { Counts walk.now.run self.old.most walk.now.at self.new }
         ensures most { self.new.most ≡ self.old.most }
     {
-        self.pass(passed.number - 1);
-        let _told = next_item(&mut self.ahead);
+        let _told = self.ahead.next();
         self.done += 1;
         let found = note(
             &mut self.owns,
@@ -146,10 +137,25 @@ impl<'a> StepCounter<'a> {
         self.busy[(process - 1) as usize] = is_busy(walk.machine().status(process));
     }
 
-    /// Returns the first operation that has taken more steps than it may.
-    pub(crate) fn overrun(&self) -> Option<Failure>
-        ensures { result ≡ self.now.overrun }
+    /// Counts the items up to the one that a walk has told last.
+    pub(crate) fn note<K: Kind>(&mut self, walk: &Walk<'_, K>, passed: &Passed)
+        requires { (w : Way) × (quiet : List Bool) × Counts w.run self.old.most w.at self.old
+            × Tells quiet false w passed.now walk.now }
+        ensures counted { Counts walk.now.run self.old.most walk.now.at self.new }
+        ensures most { self.new.most ≡ self.old.most }
     {
+        self.pass(passed.number - 1);
+        self.note_told(walk, passed);
+    }
+
+    /// Counts the items that are left, over all of which a walk has passed, and returns the first
+    /// operation of its run that has taken more steps than it may.
+    pub(crate) fn finish<K: Kind>(&mut self, walk: &Walk<'_, K>) -> Option<Failure>
+        requires { (w : Way) × (quiet : List Bool) × Counts w.run self.old.most w.at self.old
+            × TellsNone quiet false w walk.now }
+        ensures { result ≡ many_steps self.old.most walk.now.run }
+    {
+        self.pass(walk.done());
         self.overrun
     }
 }

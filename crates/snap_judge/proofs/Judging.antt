@@ -3,12 +3,14 @@ use Rattle.std.proofs.Common.{◌≡◌, ℕ, ◌≤◌, List, Vec, Global, ap, 
 use Rattle.std.proofs.lemmas.List.{take_all}
 use Rattle.snap_semantics.specs.declared.event.Event.{Event}
 use Rattle.snap_judge.specs.declared.config.Step.{Step as KeptStep}
+use Rattle.snap_judge.specs.declared.judgements.Failing.{Failing}
+use Rattle.snap_judge.specs.declared.judgements.Failing.TheVariants as failing
 use Rattle.snap_judge.specs.declared.judgements.Judgement.{Judgement}
 use Rattle.snap_judge.specs.declared.judgements.Judgement.TheVariants as judgement
 use Rattle.snap_judge.specs.History.{History, IsHistory}
 use Rattle.snap_judge.specs.declared.config.Found.{Found}
 use Rattle.snap_judge.specs.declared.config.Found.TheVariants as found
-use Rattle.snap_judge.specs.Judgement.{IsFailing, IsJudgement, failing_of}
+use Rattle.snap_judge.specs.Judgement.{IsFailing, IsJudgement, NamesEvent, failing_of}
 use Rattle.snap_judge.specs.Configurations.{beginning, MeetsMoreThan}
 use Rattle.snap_judge.specs.Kept.{AreNumbered, AreSteps, called_at, operation_of}
 use Rattle.snap_judge.specs.Linearizable.{IsLinearizationOf, IsLinearizableHistory, up_to}
@@ -64,6 +66,12 @@ pub fails_so : (most : ℕ) (h : History) (j : Judgement) → IsJudgement most h
 fails_so most h (judgement.Linearizable order) is = (map operation_of order.items, is)
 fails_so most h (judgement.NotLinearizable k) is = is
 fails_so most h (judgement.Undecided k) is = is
+
+-- The event at which a history is said to fail is one of it.
+pub names_event : (most : ℕ) (h : History) (f : Failing) → IsFailing most h f → NamesEvent h f
+names_event most h failing.Nowhere is = tt
+names_event most h (failing.At k) is = is.is_event
+names_event most h (failing.Undecided k) is = is.0
 
 -- The history up to its last event is all of it.
 pub up_to_whole : (k : ℕ) (h : History) → length h.events ≤ k → up_to k h ≡ h

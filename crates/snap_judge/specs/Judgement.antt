@@ -1,5 +1,5 @@
 -- What is said of a history: that it is linearizable, or up to which event it is not.
-use Rattle.std.specs.Prelude.{ℕ, ◌-◌, length, map}
+use Rattle.std.specs.Prelude.{ℕ, ◌-◌, ⊤, length, map}
 use Rattle.snap_words.specs.Shape.{IsOneOf}
 use Rattle.snap_judge.specs.declared.decisions.Decision.{Decision}
 use Rattle.snap_judge.specs.declared.decisions.Decision.TheVariants as decision
@@ -24,13 +24,12 @@ pub record FailsAt (h : History) (k : ℕ) : Type 0 where
   pub before : IsLinearizableHistory (up_to (k - 1) h)
   pub fails : IsLinearizableHistory (up_to k h) → ⊥
 
--- What is said of a history is so: the order is a linearization of it; it fails at that event; or up to that event there
--- are more than `most` configurations at which something has to be chosen.
-abbrev pub IsJudgement : (most : ℕ) → History → Judgement → Type 0
-IsJudgement most h (judgement.Linearizable order) = IsLinearizationOf h (map operation_of order.items)
-IsJudgement most h (judgement.NotLinearizable k) = FailsAt h k
-IsJudgement most h (judgement.Undecided k) =
-    IsOneOf (length h.events) k × MeetsMoreThan most (beginning (up_to k h))
+-- Where a history is said to fail is so: nowhere, at that event, or up to that event there are more than `most`
+-- configurations at which something has to be chosen.
+abbrev pub IsFailing : (most : ℕ) → History → Failing → Type 0
+IsFailing most h failing.Nowhere = IsLinearizableHistory h
+IsFailing most h (failing.At k) = FailsAt h k
+IsFailing most h (failing.Undecided k) = IsOneOf (length h.events) k × MeetsMoreThan most (beginning (up_to k h))
 
 -- where a history fails that is judged so
 abbrev pub failing_of : Judgement → Failing
@@ -38,8 +37,14 @@ failing_of (judgement.Linearizable order) = failing.Nowhere
 failing_of (judgement.NotLinearizable k) = failing.At k
 failing_of (judgement.Undecided k) = failing.Undecided k
 
--- Where a history is said to fail is so, with no order of its operations.
-abbrev pub IsFailing : (most : ℕ) → History → Failing → Type 0
-IsFailing most h failing.Nowhere = IsLinearizableHistory h
-IsFailing most h (failing.At k) = FailsAt h k
-IsFailing most h (failing.Undecided k) = IsOneOf (length h.events) k × MeetsMoreThan most (beginning (up_to k h))
+-- A judgement of a history is so: its order is a linearization of the history; or the history fails where it says.
+abbrev pub IsJudgement : (most : ℕ) → History → Judgement → Type 0
+IsJudgement most h (judgement.Linearizable order) = IsLinearizationOf h (map operation_of order.items)
+IsJudgement most h (judgement.NotLinearizable k) = IsFailing most h (failing.At k)
+IsJudgement most h (judgement.Undecided k) = IsFailing most h (failing.Undecided k)
+
+-- The event that is named, counted from 1, is one of the history.
+abbrev pub NamesEvent : History → Failing → Type 0
+NamesEvent h failing.Nowhere = ⊤
+NamesEvent h (failing.At k) = IsOneOf (length h.events) k
+NamesEvent h (failing.Undecided k) = IsOneOf (length h.events) k

@@ -23,7 +23,7 @@ pub struct JudgeOutput {
 }
 
 /// Returns the output on a history, by a search that keeps at most `most` configurations.
-#[tactic(auto, using(crate::proofs::Named::names_event))]
+#[tactic(auto, using(crate::proofs::Named::event_named))]
 fn told(alloc: Global, history: History, most: u64) -> Result<JudgeOutput, AllocError>
     requires { IsHistory history }
     ensures { IfOk result (λ out. TellsOf most history out.text.items out.word) }

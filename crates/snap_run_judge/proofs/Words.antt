@@ -6,16 +6,10 @@ use Rattle.snap_judge.specs.Linearizable.{LinearizableFromTheBeginning}
 use Rattle.snap_judge.specs.declared.judgements.Failing.{Failing}
 use Rattle.snap_judge.specs.declared.judgements.Failing.TheVariants as failing
 use Rattle.snap_run_judge.specs.RunHistory.{history_of}
-use Rattle.snap_run_judge.specs.RunJudgement.{IsLinearizabilityOf, IsRunJudgement, NamesEvent, word_of}
+use Rattle.snap_run_judge.specs.RunJudgement.{IsLinearizabilityOf, IsRunJudgement, word_of}
 
 pub word_is : LinearizableFromTheBeginning → (most : ℕ) (r : Run) (f : Failing) → IsHistory (history_of r) →
     IsRunJudgement most r f → IsLinearizabilityOf most r (word_of f)
 word_is law most r failing.Nowhere is h = h
 word_is law most r (failing.At k) is h = λ whole. h.fails (law (history_of r) k is whole)
 word_is law most r (failing.Undecided k) is h = (k, h)
-
--- a judgement names an event of the history
-pub event_named : (most : ℕ) (r : Run) (f : Failing) → IsRunJudgement most r f → NamesEvent (history_of r) f
-event_named most r failing.Nowhere h = tt
-event_named most r (failing.At k) h = h.is_event
-event_named most r (failing.Undecided k) h = h.0

@@ -1,8 +1,6 @@
 -- What is said of a run: whether its history is linearizable.
-use Rattle.std.specs.Prelude.{ℕ, length}
-use Rattle.snap_words.specs.Shape.{IsOneOf}
+use Rattle.std.specs.Prelude.{ℕ}
 use Rattle.snap_runs.specs.Run.{Run}
-use Rattle.snap_judge.specs.History.{History}
 use Rattle.snap_judge.specs.Judgement.{IsFailing}
 use Rattle.snap_judge.specs.Linearizable.{IsLinearizableHistory}
 use Rattle.snap_judge.specs.declared.judgements.Failing.{Failing}
@@ -19,12 +17,6 @@ most_configurations = 1000000
 -- configurations were met
 abbrev pub IsRunJudgement : (most : ℕ) → Run → Failing → Type 0
 IsRunJudgement most r f = IsFailing most (history_of r) f
-
--- The event that is named, if one is, is one of the history.
-abbrev pub NamesEvent : History → Failing → Type 0
-NamesEvent h failing.Nowhere = Unit {0}
-NamesEvent h (failing.At k) = IsOneOf (length h.events) k
-NamesEvent h (failing.Undecided k) = IsOneOf (length h.events) k
 
 -- the word for a run whose history fails there
 abbrev pub word_of : Failing → Linearizability

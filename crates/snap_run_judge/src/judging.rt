@@ -2,8 +2,9 @@
 ghost use Rattle.std.specs.Prelude.{◌≡◌, IfOk};
 ghost use Rattle.snap_judge.specs.History.{IsHistory};
 ghost use Rattle.snap_runs.specs.Run.{Run};
+ghost use Rattle.snap_judge.specs.Judgement.{NamesEvent};
 ghost use Rattle.snap_run_judge.specs.RunHistory.{IsHistoryOf, history_of};
-ghost use Rattle.snap_run_judge.specs.RunJudgement.{IsLinearizabilityOf, IsRunJudgement, NamesEvent, word_of};
+ghost use Rattle.snap_run_judge.specs.RunJudgement.{IsLinearizabilityOf, IsRunJudgement, word_of};
 
 use crate::history::history_of;
 use crate::linearizability::Linearizability;
@@ -33,7 +34,7 @@ pub fn has_history<K: Kind>(history: &Record<K>)
 /// # Errors
 ///
 /// `AllocError` where memory runs out.
-#[tactic(auto, using(crate::proofs::Words::event_named))]
+#[tactic(auto, using(snap_judge::proofs::Judging::names_event))]
 pub fn judge_record<K: Kind>(
     alloc: Global,
     history: &Record<K>,

@@ -34,7 +34,7 @@ fn note<K: Kind>(tally: &mut Tally, walk: &Walk<'_, K>, passed: &Passed)
     requires passed { (w : Way) × TalliesOn w tally.old passed.now walk.now }
     ensures { tally.new ≡ tally_of walk.now.run walk.now.at }
 {
-    // Only of a trap the status is noted.
+    // The status is noted of a trap alone.
     let status = if is_trap(&passed.outcome) {
         walk.machine().status(who(passed.item))
     } else {

@@ -5,7 +5,6 @@ use Rattle.snap_words.specs.declared.kind.KindTag.{KindTag}
 use Rattle.snap_runs.specs.Run.{Run}
 use Rattle.snap_audit.proofs.Watches.{silent_here, watched_all}
 use Rattle.snap_hunt.specs.Failing.{long_of, many_steps, most_steps}
-use Rattle.snap_hunt.proofs.Counting.{all_counted, all_untold, counts_here, end_later}
 use Rattle.snap_hunt.proofs.over.failure_of_steps.Goals as goal
 
 pub note-requires-in-Some-clause-passed : goal.note-requires-in-Some-clause-passed
@@ -22,23 +21,6 @@ note-requires-in-Some-clause-passed g c κs within = (
   },
 )
 
-pub pass-requires : goal.pass-requires
-pass-requires g c =
-    let none = rw c.in_default.is at c.in_ok-passed.ensures.told in
-    let w = c.loop-counter.walk in
-    let w' = c.next_told.new.self in
-    let quiet = c.silent_lines.result.now in
-    let most = c.most_steps-most.result in
-    let until = c.done.result in
-    let k = c.loop-counter.counter in
-    let h = c.loop-counter.invariant.steps in (
-      w.run,
-      quiet,
-      counts_here w w' quiet most until k h none c.done.ensures.done,
-      all_untold w w' quiet most until k h none c.done.ensures.done,
-      end_later w w' quiet most until k h none c.done.ensures.done,
-    )
-
 pub failure-requires-clause-watch : goal.failure-requires-clause-watch
 failure-requires-clause-watch g c κs within =
     let none = rw c.in_default.is at c.in_ok-passed.ensures.told in
@@ -48,22 +30,13 @@ failure-requires-clause-watch g c κs within =
 pub failure-requires-clause-overrun : goal.failure-requires-clause-overrun
 failure-requires-clause-overrun g c κs within =
     let none = rw c.in_default.is at c.in_ok-passed.ensures.told in
-    let w = c.loop-counter.walk in
     let w' = c.next_told.new.self in
-    let quiet = c.silent_lines.result.now in
     let most = c.most_steps-most.result in
-    let until = c.done.result in
-    let k = c.loop-counter.counter in
-    let h = c.loop-counter.invariant.steps in
-    let end = c.done.ensures.done in
     let run = none.over.run ∙ c.loop-counter.invariant.run in
     let most_is : most ≡ most_steps w'.run.source.kind w'.run.shape c.args.bound =
     c.most_steps-most.ensures ∙ ap (λ (k : KindTag). most_steps k c.shape.result c.args.bound) c.kind.ensures
     ∙ ap (λ (n : Counts). most_steps c.args.program.now.kind n c.args.bound) c.shape.ensures.shape
     ∙ ap (λ (r : Run). most_steps r.source.kind r.shape c.args.bound) (sym run) in
-    c.overrun.ensures
-    ∙ all_counted w w' quiet most until k h none end c.pass.new.self
-    (c.pass.ensures.counted w.run quiet (counts_here w w' quiet most until k h none end)
-    (all_untold w w' quiet most until k h none end) (end_later w w' quiet most until k h none end))
-    ∙ ap (λ m. many_steps m w'.run) most_is
+    c.finish-overrun.ensures
+    ∙ ap (λ m. many_steps m w'.run) (c.loop-counter.invariant.steps.most_is ∙ most_is)
     ∙ sym (ap (long_of w'.run) c.requires.steps)

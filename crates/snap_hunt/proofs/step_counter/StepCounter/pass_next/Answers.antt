@@ -11,11 +11,11 @@ use Rattle.snap_hunt.proofs.step_counter.StepCounter.pass_next.Goals as goal
 pub note-found-requires-clause-few : goal.note-found-requires-clause-few
 note-found-requires-clause-few c =
     let s = c.args.self.now in
-    let x = c.next_item-item.result in
+    let x = c.in-Some.item in
     let r = c.requires.0 in
     let h = c.requires.2 in
     let u = c.requires.3 in
-    let is = (next_left r s.done x s.ahead c.next_item-item.new.items u.left h.left c.next_item-item.ensures).0 in
+    let is = (next_left r s.done x s.ahead c.next.new.self u.left h.left c.in-Some.ensures.steps).0 in
     let few = h.few in
     let within = h.within in
     few_steps r s.most s.done (who x) s.owns.items s.overrun h.steps
@@ -25,9 +25,9 @@ pub returns-then-runs_line-clause-counted : goal.returns-then-runs_line-clause-c
 returns-then-runs_line-clause-counted c = λ r quiet h u.
     let s = c.args.self.now in
     let t = s.done in
-    let x = c.next_item-item.result in
+    let x = c.in-Some.item in
     let i = who x in
-    let next = next_left r t x s.ahead c.next_item-item.new.items u.left h.left c.next_item-item.ensures in
+    let next = next_left r t x s.ahead c.next.new.self u.left h.left c.in-Some.ensures.steps in
     let one : IsOneOf r.shape.n i = subst (λ y. IsOneOf r.shape.n (who y)) (sym next.0) u.process in
     let number : t + 1 ≡ suc t = omega arith in
     record {
@@ -52,9 +52,9 @@ pub returns-else-runs_line-clause-counted : goal.returns-else-runs_line-clause-c
 returns-else-runs_line-clause-counted c = λ r quiet h u.
     let s = c.args.self.now in
     let t = s.done in
-    let x = c.next_item-item.result in
+    let x = c.in-Some.item in
     let i = who x in
-    let next = next_left r t x s.ahead c.next_item-item.new.items u.left h.left c.next_item-item.ensures in
+    let next = next_left r t x s.ahead c.next.new.self u.left h.left c.in-Some.ensures.steps in
     let one : IsOneOf r.shape.n i = subst (λ y. IsOneOf r.shape.n (who y)) (sym next.0) u.process in
     record {
       valid = h.valid;

@@ -15,7 +15,7 @@ use Rattle.snap_judge.specs.declared.operation.Operation.{Operation}
 -- what an operation did
 abbrev pub action_text : Action → List ℕ
 action_text (action.Sets word value) = codes "update " ++ decimal word ++ codes " " ++ decimal value
-action_text (action.Sees view) = codes "scan" ++ numbers_text view
+action_text (action.Sees view) = codes "scan" ++ numbers_text view.now
 
 -- when it ended, where it has
 abbrev pub end_text : Option ℕ → List ℕ

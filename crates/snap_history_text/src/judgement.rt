@@ -17,7 +17,7 @@ use std::alloc::{AllocError, Global};
 pub fn judgement_text(
     alloc: Global,
     history: &History,
-    judgement: &Judgement,
+    judgement: &Judgement<'_>,
 ) -> Result<Vec<u8>, AllocError>
     requires { NamesEvent history.now (failing_of judgement.now) }
     ensures { IfOk result (λ text. text.items ≡ judgement_text history.now judgement.now) }

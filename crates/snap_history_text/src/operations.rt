@@ -7,7 +7,7 @@ use snap_judge::{Action, Operation};
 use snap_text::Draft;
 
 /// Appends what an operation did.
-fn push_action(out: &mut Draft, action: &Action)
+fn push_action(out: &mut Draft, action: &Action<'_>)
     ensures { Adds out.old out.new (action_text action.now) }
 {
     match action {
@@ -19,7 +19,7 @@ fn push_action(out: &mut Draft, action: &Action)
         }
         Action::Sees(view) => {
             out.push(b"scan");
-            out.push_numbers(view.as_slice());
+            out.push_numbers(view);
         }
     }
 }
@@ -38,7 +38,7 @@ fn push_end(out: &mut Draft, end: Option<u64>)
 }
 
 /// Appends the line of an operation.
-fn push_operation(out: &mut Draft, operation: &Operation)
+fn push_operation(out: &mut Draft, operation: &Operation<'_>)
     ensures { Adds out.old out.new (operation_line operation.now) }
 {
     push_action(out, &operation.action);
@@ -51,7 +51,7 @@ fn push_operation(out: &mut Draft, operation: &Operation)
 }
 
 /// Appends the lines of operations.
-pub fn push_operations(out: &mut Draft, operations: &[Operation])
+pub fn push_operations(out: &mut Draft, operations: &[Operation<'_>])
     ensures { Adds out.old out.new (operation_lines operations.now) }
 {
     for operation in operations {
@@ -60,7 +60,7 @@ pub fn push_operations(out: &mut Draft, operations: &[Operation])
 }
 
 /// Appends an order of the operations that explains their history.
-pub fn push_linearizable(out: &mut Draft, order: &[Operation])
+pub fn push_linearizable(out: &mut Draft, order: &[Operation<'_>])
     ensures { Adds out.old out.new (linearizable_text order.now) }
 {
     out.push(b"linearizable\n");

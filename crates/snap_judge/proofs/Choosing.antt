@@ -44,7 +44,7 @@ one_word word word' value value' e = ap (λ (a : Action). word_of a word) e
 word_is : (n w : ℕ) (a : KeptAction) (word value : ℕ) → HasWord w a → action_of a ≡ Sets word value → IsOneOf w word
 word_is n w (kept_action.Sets word' value') word value has e =
     subst (IsOneOf w) (one_word word' word value' value e) has
-word_is n w (kept_action.Sees view) word value has e = absurd (sets_not_sees (Sees view) word value view e refl)
+word_is n w (kept_action.Sees view) word value has e = absurd (sets_not_sees (Sees view.now) word value view.now e refl)
 
 step_word : (n w : ℕ) (x : KeptStep) (word value : ℕ) → IsStepOf n w x →
     (called_by (step_of_kept x)).action ≡ Sets word value → IsOneOf w word

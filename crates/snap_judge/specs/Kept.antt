@@ -16,7 +16,7 @@ use Rattle.snap_judge.specs.Steps.{Step, Calls, Ends, Waits, Slot, Free, Open, T
 
 abbrev pub action_of : KeptAction → Action
 action_of (kept_action.Sets word value) = Sets word value
-action_of (kept_action.Sees view) = Sees view
+action_of (kept_action.Sees view) = Sees view.now
 
 abbrev pub operation_of : KeptOperation → Operation
 operation_of o = record { process = o.process; call = o.call; end = o.end; action = action_of o.action }

@@ -10,7 +10,7 @@ use std::alloc::AllocError;
 /// Passes the next step, the call of an operation of the process at `place`, and returns whether it
 /// may pass.
 fn pass_call(
-    steps: &[Step],
+    steps: &[Step<'_>],
     config: &mut Config,
     order: &mut Vec<usize>,
     place: usize,
@@ -42,7 +42,7 @@ fn pass_call(
 
 /// Passes the next step, the end of what the process at `place` called, and returns whether it may
 /// pass.
-fn pass_end(steps: &[Step], config: &mut Config, order: &Vec<usize>, place: usize) -> bool
+fn pass_end(steps: &[Step<'_>], config: &mut Config, order: &Vec<usize>, place: usize) -> bool
     requires config { IsConfig steps.now config.old }
     requires next { config.old.position < length steps.now }
     requires place { place < length config.old.slots.items }
@@ -69,7 +69,7 @@ fn pass_end(steps: &[Step], config: &mut Config, order: &Vec<usize>, place: usiz
 
 /// Passes the next step, and returns whether it may pass.
 fn pass_step(
-    steps: &[Step],
+    steps: &[Step<'_>],
     config: &mut Config,
     order: &mut Vec<usize>,
 ) -> Result<bool, AllocError>
@@ -103,7 +103,7 @@ fn pass_step(
 ///
 /// `AllocError` where memory runs out.
 pub fn advance(
-    steps: &[Step],
+    steps: &[Step<'_>],
     config: &mut Config,
     order: &mut Vec<usize>,
 ) -> Result<bool, AllocError>

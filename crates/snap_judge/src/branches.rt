@@ -12,7 +12,7 @@ use std::alloc::AllocError;
 
 /// Takes this update in a copy of the node's configuration, and passes what can be passed then.
 fn enter(
-    steps: &[Step],
+    steps: &[Step<'_>],
     node: &Node,
     order: &mut Vec<usize>,
     update: OpenUpdate,
@@ -35,7 +35,7 @@ fn enter(
 /// Tries the open update at the next place of a node that has to be tried, and returns where the
 /// search has come to; `None` where each was tried, so that nothing explains the rest from there.
 fn try_place(
-    steps: &[Step],
+    steps: &[Step<'_>],
     node: &mut Node,
     order: &mut Vec<usize>,
 ) -> Result<Option<Entered>, AllocError>
@@ -67,7 +67,7 @@ fn try_place(
 ///
 /// `AllocError` where memory runs out.
 pub fn try_next(
-    steps: &[Step],
+    steps: &[Step<'_>],
     node: &mut Node,
     order: &mut Vec<usize>,
 ) -> Result<Option<Entered>, AllocError>

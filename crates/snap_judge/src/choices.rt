@@ -10,7 +10,7 @@ use crate::config::{Config, OpenUpdate, Slot, Step};
 use crate::operation::Action;
 
 /// Returns whether step `call` calls an update of this word.
-fn sets_word(steps: &[Step], call: usize, word: u64) -> bool
+fn sets_word(steps: &[Step<'_>], call: usize, word: u64) -> bool
     requires { call < length steps.now }
     ensures { result ≡ false →
         (value : ℕ) → (called_at steps.now call).action ≡ Sets word value → ⊥ }
@@ -26,14 +26,14 @@ fn sets_word(steps: &[Step], call: usize, word: u64) -> bool
 }
 
 /// Returns whether step `call` calls a scan that sees this value in the word at this place.
-fn sees_value(steps: &[Step], call: usize, place: usize, value: u64) -> bool
+fn sees_value(steps: &[Step<'_>], call: usize, place: usize, value: u64) -> bool
     requires { call < length steps.now }
     ensures { result ≡ false → Wants place value (called_at steps.now call) → ⊥ }
 {
     match &steps[call] {
         Step::Calls(operation) => match &operation.action {
             Action::Sets { .. } => false,
-            Action::Sees(view) => match view.as_slice().get(place) {
+            Action::Sees(view) => match view.get(place) {
                 Some(seen) => *seen == value,
                 None => value == 0,
             },
@@ -44,7 +44,7 @@ fn sees_value(steps: &[Step], call: usize, place: usize, value: u64) -> bool
 }
 
 /// Returns whether an update of this word is open at another place.
-fn has_rival(steps: &[Step], config: &Config, place: usize, word: u64) -> bool
+fn has_rival(steps: &[Step<'_>], config: &Config, place: usize, word: u64) -> bool
     requires { IsConfig steps.now config.now }
     ensures { result ≡ false → IsAlone steps.now config.now place word }
 {
@@ -60,7 +60,7 @@ fn has_rival(steps: &[Step], config: &Config, place: usize, word: u64) -> bool
 }
 
 /// Returns whether an open scan sees this value in this word.
-fn is_wanted(steps: &[Step], config: &Config, word: u64, value: u64) -> bool
+fn is_wanted(steps: &[Step<'_>], config: &Config, word: u64, value: u64) -> bool
     requires { IsConfig steps.now config.now }
     ensures { result ≡ false → IsUnwanted steps.now config.now word value }
 {
@@ -75,7 +75,7 @@ fn is_wanted(steps: &[Step], config: &Config, word: u64, value: u64) -> bool
 }
 
 /// Returns the word and the value of the update that step `call` calls; `None` where it calls none.
-fn called_update(steps: &[Step], call: usize) -> Option<(u64, u64)>
+fn called_update(steps: &[Step<'_>], call: usize) -> Option<(u64, u64)>
     requires { call < length steps.now }
     ensures some { IfSome result (λ u. (called_at steps.now call).action ≡ Sets u.0 u.1) }
     ensures none { IfNone result ((view : List ℕ) × ((called_at steps.now call).action ≡ Sees view)) }
@@ -91,7 +91,7 @@ fn called_update(steps: &[Step], call: usize) -> Option<(u64, u64)>
 }
 
 /// Returns the update that is open at `place`; `None` where none is.
-pub fn open_update(steps: &[Step], config: &Config, place: usize) -> Option<OpenUpdate>
+pub fn open_update(steps: &[Step<'_>], config: &Config, place: usize) -> Option<OpenUpdate>
     requires config { IsConfig steps.now config.now }
     requires steps { AreSteps (length config.now.slots.items) (length config.now.values.items)
         steps.now }
@@ -116,7 +116,7 @@ pub fn open_update(steps: &[Step], config: &Config, place: usize) -> Option<Open
 
 /// Returns the update that is open at `place`, if it has to be tried before the end of the process
 /// at the place `ending`.
-fn choice_at(steps: &[Step], config: &Config, ending: usize, place: usize) -> Option<OpenUpdate>
+fn choice_at(steps: &[Step<'_>], config: &Config, ending: usize, place: usize) -> Option<OpenUpdate>
     requires config { IsConfig steps.now config.now }
     requires steps { AreSteps (length config.now.slots.items) (length config.now.values.items)
         steps.now }
@@ -143,7 +143,7 @@ fn choice_at(steps: &[Step], config: &Config, ending: usize, place: usize) -> Op
 /// Returns the open update at the first place from `from` on that has to be tried before the end of
 /// the process at the place `ending`.
 pub fn next_choice(
-    steps: &[Step],
+    steps: &[Step<'_>],
     config: &Config,
     ending: usize,
     from: usize,

@@ -6,14 +6,14 @@ use crate::operation::Operation;
 use std::alloc::AllocError;
 
 /// An event as a search sees it.
-#[derive(Drop)]
-pub enum Step {
-    /// The call of an operation, with its end.
-    Calls(Operation),
-    /// The end of what the process called.
-    Ends(u32),
+#[derive(Clone, Copy)]
+pub enum Step<'a> {
     /// A crash, or the call of a scan that has no answer.
     Waits,
+    /// The call of an operation, with its end.
+    Calls(Operation<'a>),
+    /// The end of what the process called.
+    Ends(u32),
 }
 
 /// The open operation of a process, by the step that called it.

@@ -1,18 +1,17 @@
 //! Whether the first events of a history are linearizable.
-ghost use Rattle.std.specs.Prelude.{◌≡◌, ◌≤◌, [], None, IfOk, length, map};
+ghost use Rattle.std.specs.Prelude.{◌≡◌, ◌≤◌, IfOk, length, map};
 ghost use Rattle.snap_judge.specs.History.{IsHistory};
 ghost use Rattle.snap_judge.specs.Linearizable.{up_to};
 ghost use Rattle.snap_judge.specs.Kept.{called_at, called_by, operation_of, step_of_kept};
 ghost use Rattle.snap_judge.specs.Judgement.{IsDecision};
 ghost use Rattle.snap_judge.specs.Nodes.{HasFound};
-ghost use Rattle.snap_judge.specs.declared.operation.Action.TheVariants as kept_action;
+ghost use Rattle.snap_judge.specs.Steps as steps;
 
 use crate::config::{Found, Step};
 use crate::history::History;
 use crate::operation::{Action, Operation};
 use crate::prepass::steps_of;
 use crate::search::search;
-use snap_words::View;
 use std::alloc::{AllocError, Global};
 
 /// What is decided of the first events of a history.
@@ -24,38 +23,35 @@ pub enum Decision {
 }
 
 /// Returns an operation that sees no words, which stands for what a step calls that calls none.
-fn no_operation(alloc: Global, process: u32) -> Operation
-    ensures process { result.process ≡ process }
-    ensures call { result.call ≡ 0 }
-    ensures end { result.end ≡ None }
-    ensures action { result.action ≡ kept_action.Sees [] }
+fn no_operation(process: u32) -> Operation<'static>
+    ensures { operation_of result ≡ called_by (steps.Ends process) }
 {
     Operation {
         process,
         call: 0,
         end: None,
-        action: Action::Sees(View::of(Vec::new(alloc))),
+        action: Action::Sees(&[]),
     }
 }
 
 /// Returns the operation that this step calls; of another step, one that sees no words.
-fn called(alloc: Global, step: &Step) -> Result<Operation, AllocError>
-    ensures { IfOk result (λ o. operation_of o ≡ called_by (step_of_kept step.now)) }
+fn called<'a>(step: Step<'a>) -> Operation<'a>
+    ensures { operation_of result ≡ called_by (step_of_kept step.entry) }
 {
     match step {
-        Step::Calls(operation) => operation.copy(alloc),
-        Step::Ends(process) => Ok(no_operation(alloc, *process)),
-        Step::Waits => Ok(no_operation(alloc, 0)),
+        Step::Calls(operation) => operation,
+        Step::Ends(process) => no_operation(process),
+        Step::Waits => no_operation(0),
     }
 }
 
 /// Returns the operation that step `call` calls.
-fn operation_at(alloc: Global, steps: &[Step], call: usize) -> Result<Operation, AllocError>
-    ensures { IfOk result (λ o. operation_of o ≡ called_at steps.now call) }
+fn operation_at<'a>(steps: &[Step<'a>], call: usize) -> Operation<'a>
+    ensures { operation_of result ≡ called_at steps.now call }
 {
     match steps.get(call) {
-        Some(step) => called(alloc, step),
-        None => called(alloc, &Step::Waits),
+        Some(step) => called(*step),
+        None => called(Step::Waits),
     }
 }
 
@@ -64,17 +60,16 @@ fn operation_at(alloc: Global, steps: &[Step], call: usize) -> Result<Operation,
 /// # Errors
 ///
 /// `AllocError` where memory runs out.
-pub fn operations(
+pub fn operations<'a>(
     alloc: Global,
-    steps: &[Step],
+    steps: &[Step<'a>],
     order: &[usize],
-) -> Result<Vec<Operation>, AllocError>
+) -> Result<Vec<Operation<'a>>, AllocError>
     ensures { IfOk result (λ os. map operation_of os.items ≡ map (called_at steps.now) order.now) }
 {
     let mut all = Vec::new(alloc);
     for call in order {
-        let operation = operation_at(alloc, steps, *call)?;
-        all.push(operation)?;
+        all.push(operation_at(steps, *call))?;
     }
     Ok(all)
 }
@@ -85,12 +80,12 @@ pub fn operations(
 /// # Errors
 ///
 /// `AllocError` where memory runs out.
-pub fn search_events(
+pub fn search_events<'a>(
     alloc: Global,
-    history: &History,
+    history: &'a History,
     count: usize,
     most: usize,
-) -> Result<(Vec<Step>, Found), AllocError>
+) -> Result<(Vec<Step<'a>>, Found), AllocError>
     requires history { IsHistory history.now }
     requires count { count ≤ length history.now.events }
     ensures { IfOk result (λ r. HasFound most (up_to count history.now) r.0.items r.1) }

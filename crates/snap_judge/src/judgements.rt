@@ -12,10 +12,10 @@ use std::alloc::{AllocError, Global};
 
 /// What is said of a history.
 #[derive(Drop)]
-pub enum Judgement {
+pub enum Judgement<'a> {
     /// The history is linearizable: its operations could have taken place one after another in this
     /// order.
-    Linearizable(Vec<Operation>),
+    Linearizable(Vec<Operation<'a>>),
     /// The history is not linearizable up to this event, counted from 1; up to the event before it
     /// is.
     NotLinearizable(usize),
@@ -39,7 +39,7 @@ pub enum Failing {
 
 /// Finds the event at which a history that is not linearizable fails, each time in the middle of
 /// the events between one up to which it is linearizable and one up to which it is not.
-fn failure(alloc: Global, history: &History, most: usize) -> Result<Judgement, AllocError>
+fn failure(alloc: Global, history: &History, most: usize) -> Result<Judgement<'_>, AllocError>
     requires history { IsHistory history.now }
     requires fails { IsLinearizableHistory history.now → ⊥ }
     ensures { IfOk result (IsJudgement most history.now) }
@@ -58,7 +58,7 @@ fn failure(alloc: Global, history: &History, most: usize) -> Result<Judgement, A
 }
 
 /// Returns where a history fails that is judged so.
-pub fn failing_of(judgement: &Judgement) -> Failing
+pub fn failing_of(judgement: &Judgement<'_>) -> Failing
     ensures { result ≡ failing_of judgement.now }
 {
     match judgement {
@@ -77,7 +77,7 @@ pub fn failing_of(judgement: &Judgement) -> Failing
 /// # Errors
 ///
 /// `AllocError` where memory runs out.
-pub fn judge(alloc: Global, history: &History, most: usize) -> Result<Judgement, AllocError>
+pub fn judge(alloc: Global, history: &History, most: usize) -> Result<Judgement<'_>, AllocError>
     requires { IsHistory history.now }
     ensures { IfOk result (IsJudgement most history.now) }
 {

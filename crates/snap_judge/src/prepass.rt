@@ -37,36 +37,33 @@ fn end_of_update(process: u32, rest: &[Event]) -> Option<u64>
 }
 
 /// Returns the step that calls a scan of the process at event `call`, which `rest` follow.
-fn call_of_scan(alloc: Global, process: u32, call: u64, rest: &[Event]) -> Result<Step, AllocError>
-    ensures { IfOk result (λ s. step_of_kept s ≡ scan_step process call (next_of process rest.now)) }
+fn call_of_scan(process: u32, call: u64, rest: &[Event]) -> Step<'_>
+    ensures { step_of_kept result ≡ scan_step process call (next_of process rest.now) }
 {
     let Some(event) = next_event(process, rest) else {
-        return Ok(Step::Waits);
+        return Step::Waits;
     };
     match &event.what {
-        Happening::Answer(view) => {
-            let action = Action::Sees(view.copy(alloc)?);
-            Ok(Step::Calls(Operation {
-                process,
-                call,
-                end: Some(event.item),
-                action,
-            }))
-        }
-        Happening::Call(_) => Ok(Step::Waits),
-        Happening::Done => Ok(Step::Waits),
-        Happening::Crash => Ok(Step::Waits),
+        Happening::Answer(view) => Step::Calls(Operation {
+            process,
+            call,
+            end: Some(event.item),
+            action: Action::Sees(view.as_slice()),
+        }),
+        Happening::Call(_) => Step::Waits,
+        Happening::Done => Step::Waits,
+        Happening::Crash => Step::Waits,
     }
 }
 
 /// Returns the step of an event that `rest` follow.
-fn step_at(alloc: Global, event: &Event, rest: &[Event]) -> Result<Step, AllocError>
-    ensures { IfOk result (λ s. step_of_kept s
-        ≡ step_of event.now.process event.now.item event.now.what rest.now) }
+fn step_at<'a>(event: &Event, rest: &'a [Event]) -> Step<'a>
+    ensures { step_of_kept result
+        ≡ step_of event.now.process event.now.item event.now.what rest.now }
 {
     match &event.what {
-        Happening::Call(Op::Scan) => call_of_scan(alloc, event.process, event.item, rest),
-        Happening::Call(Op::Update { word, value }) => Ok(Step::Calls(Operation {
+        Happening::Call(Op::Scan) => call_of_scan(event.process, event.item, rest),
+        Happening::Call(Op::Update { word, value }) => Step::Calls(Operation {
             process: event.process,
             call: event.item,
             end: end_of_update(event.process, rest),
@@ -74,10 +71,10 @@ fn step_at(alloc: Global, event: &Event, rest: &[Event]) -> Result<Step, AllocEr
                 word: *word,
                 value: *value,
             },
-        })),
-        Happening::Answer(_) => Ok(Step::Ends(event.process)),
-        Happening::Done => Ok(Step::Ends(event.process)),
-        Happening::Crash => Ok(Step::Waits),
+        }),
+        Happening::Answer(_) => Step::Ends(event.process),
+        Happening::Done => Step::Ends(event.process),
+        Happening::Crash => Step::Waits,
     }
 }
 
@@ -88,12 +85,12 @@ fn step_at(alloc: Global, event: &Event, rest: &[Event]) -> Result<Step, AllocEr
 /// # Errors
 ///
 /// `AllocError` where memory runs out.
-pub fn steps_of(alloc: Global, events: &[Event]) -> Result<Vec<Step>, AllocError>
+pub fn steps_of(alloc: Global, events: &[Event]) -> Result<Vec<Step<'_>>, AllocError>
     ensures { IfOk result (λ s. steps_kept s.items ≡ steps_of events.now) }
 {
     let mut steps = Vec::new(alloc);
     for place in 0..events.len() {
-        let step = step_at(alloc, &events[place], &events[place + 1..])?;
+        let step = step_at(&events[place], &events[place + 1..]);
         steps.push(step)?;
     }
     Ok(steps)

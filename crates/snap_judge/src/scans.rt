@@ -8,13 +8,13 @@ use crate::operation::Action;
 use std::alloc::AllocError;
 
 /// Returns whether step `call` calls a scan that sees `values`.
-fn sees(steps: &[Step], call: usize, values: &[u64]) -> bool
+fn sees(steps: &[Step<'_>], call: usize, values: &[u64]) -> bool
     requires { call < length steps.now }
     ensures { IsTrue result ↔ ((called_at steps.now call).action ≡ Sees values.now) }
 {
     match &steps[call] {
         Step::Calls(operation) => match &operation.action {
-            Action::Sees(view) => view.as_slice() == values,
+            Action::Sees(view) => *view == values,
             Action::Sets { .. } => false,
         },
         _ => values.is_empty(),
@@ -23,7 +23,7 @@ fn sees(steps: &[Step], call: usize, values: &[u64]) -> bool
 
 /// Lets the scan that is open at `place` take place, if it sees the values at that time.
 fn take_scan(
-    steps: &[Step],
+    steps: &[Step<'_>],
     config: &mut Config,
     order: &mut Vec<usize>,
     place: usize,
@@ -50,7 +50,7 @@ fn take_scan(
 ///
 /// `AllocError` where memory runs out.
 pub fn take_scans(
-    steps: &[Step],
+    steps: &[Step<'_>],
     config: &mut Config,
     order: &mut Vec<usize>,
 ) -> Result<(), AllocError>

@@ -26,7 +26,7 @@ struct Trail {
 }
 
 /// Returns the place of the process whose end the step at `position` is; `None` where it is no end.
-fn ending_at(steps: &[Step], position: usize) -> Option<usize>
+fn ending_at(steps: &[Step<'_>], position: usize) -> Option<usize>
     requires position { position < length steps.now }
     requires process { (i : ℕ) → slice_index_or steps.now position kept_step.Waits
         ≡ kept_step.Ends i → 0 < i }
@@ -44,7 +44,7 @@ fn ending_at(steps: &[Step], position: usize) -> Option<usize>
 
 /// Returns whether it is known that nothing explains the rest from where the search has come to:
 /// the same configuration has failed before, or the next step is no end.
-fn is_dead(steps: &[Step], failed: &HashSet<Config>, entered: &Entered) -> bool
+fn is_dead(steps: &[Step<'_>], failed: &HashSet<Config>, entered: &Entered) -> bool
     requires config { IsConfig steps.now entered.now.config }
     requires stuck { entered.now.at_end ≡ false → IsStuck steps.now entered.now.config }
     requires process { (i : ℕ) → slice_index_or steps.now entered.now.config.position
@@ -68,7 +68,11 @@ fn is_dead(steps: &[Step], failed: &HashSet<Config>, entered: &Entered) -> bool
 
 /// Goes to the first configuration, and passes what can be passed. Returns what the search has come
 /// to, or that nothing explains the history.
-fn start(alloc: Global, steps: &[Step], trail: &mut Trail) -> Result<Option<Entered>, AllocError>
+fn start(
+    alloc: Global,
+    steps: &[Step<'_>],
+    trail: &mut Trail,
+) -> Result<Option<Entered>, AllocError>
     requires steps { AreSteps trail.old.processes trail.old.words steps.now }
     requires nodes { trail.old.nodes.items ≡ [] }
     requires failed { trail.old.failed.keys ≡ [] }
@@ -95,7 +99,11 @@ fn start(alloc: Global, steps: &[Step], trail: &mut Trail) -> Result<Option<Ente
 
 /// Tries what is next at a node that was the last one, and returns where the search has come to;
 /// `None` where each was tried, so that nothing explains the rest from the nodes that are left.
-fn retry(steps: &[Step], trail: &mut Trail, mut node: Node) -> Result<Option<Entered>, AllocError>
+fn retry(
+    steps: &[Step<'_>],
+    trail: &mut Trail,
+    mut node: Node,
+) -> Result<Option<Entered>, AllocError>
     requires trail { IsTrail steps.now trail.old }
     requires node { HasNode steps.now trail.old node }
     ensures trail { OnOk result (IsTrail steps.now trail.new) }
@@ -118,7 +126,7 @@ fn retry(steps: &[Step], trail: &mut Trail, mut node: Node) -> Result<Option<Ent
 
 /// Goes back to the last node at which something is left to try, and tries it; returns where the
 /// search has come to, or `None` where nothing explains the history.
-fn descend(steps: &[Step], trail: &mut Trail) -> Result<Option<Entered>, AllocError>
+fn descend(steps: &[Step<'_>], trail: &mut Trail) -> Result<Option<Entered>, AllocError>
     requires trail { IsTrail steps.now trail.old }
     requires left { NothingLeft steps.now trail.old }
     ensures trail { OnOk result (IsTrail steps.now trail.new) }
@@ -137,7 +145,7 @@ fn descend(steps: &[Step], trail: &mut Trail) -> Result<Option<Entered>, AllocEr
 }
 
 /// Makes a node of what the search has come to.
-fn enter_node(steps: &[Step], trail: &mut Trail, entered: Entered) -> Result<(), AllocError>
+fn enter_node(steps: &[Step<'_>], trail: &mut Trail, entered: Entered) -> Result<(), AllocError>
     requires trail { IsTrail steps.now trail.old }
     requires at { IsAt steps.now trail.old entered }
     requires stuck { entered.at_end ≡ false }
@@ -163,7 +171,11 @@ fn enter_node(steps: &[Step], trail: &mut Trail, entered: Entered) -> Result<(),
 
 /// Goes on from `entered`, and returns where the search comes to next, or `None` where nothing
 /// explains the history.
-fn go_on(steps: &[Step], trail: &mut Trail, entered: Entered) -> Result<Option<Entered>, AllocError>
+fn go_on(
+    steps: &[Step<'_>],
+    trail: &mut Trail,
+    entered: Entered,
+) -> Result<Option<Entered>, AllocError>
     requires trail { IsTrail steps.now trail.old }
     requires at { IsAt steps.now trail.old entered }
     requires stuck { entered.at_end ≡ false }
@@ -188,7 +200,7 @@ fn go_on(steps: &[Step], trail: &mut Trail, entered: Entered) -> Result<Option<E
 /// `AllocError` where memory runs out.
 pub fn search(
     alloc: Global,
-    steps: &[Step],
+    steps: &[Step<'_>],
     processes: usize,
     words: usize,
     most: usize,

@@ -29,7 +29,7 @@ fn put(config: &mut Config, update: OpenUpdate)
 ///
 /// `AllocError` where memory runs out.
 pub fn take_update(
-    steps: &[Step],
+    steps: &[Step<'_>],
     config: &mut Config,
     order: &mut Vec<usize>,
     update: OpenUpdate,

@@ -44,7 +44,7 @@ impl Candidates {
 }
 
 /// Returns whether an operation ended before event number `call`.
-fn ended_before(operation: &Operation, call: u64) -> bool {
+fn ended_before(operation: &Operation<'_>, call: u64) -> bool {
     match operation.end {
         Some(end) => end < call,
         None => false,
@@ -53,7 +53,7 @@ fn ended_before(operation: &Operation, call: u64) -> bool {
 
 /// Returns how many of the operations, which took place in this order, come before a scan that was
 /// called at event number `call`: all up to the last one that ended before.
-fn needed(order: &[Operation], call: u64) -> usize {
+fn needed(order: &[Operation<'_>], call: u64) -> usize {
     let mut needed = 0;
     for place in 0..order.len() {
         if ended_before(&order[place], call) {
@@ -71,7 +71,7 @@ fn set(values: &mut Vec<u64>, word: u64, value: u64) {
 }
 
 /// Lets an operation take place.
-fn take(values: &mut Vec<u64>, operation: &Operation) {
+fn take(values: &mut Vec<u64>, operation: &Operation<'_>) {
     if let Action::Sets { word, value } = &operation.action {
         set(values, *word, *value);
     }
@@ -83,7 +83,7 @@ fn add_held(
     alloc: Global,
     candidates: &mut Candidates,
     words: usize,
-    order: &[Operation],
+    order: &[Operation<'_>],
     call: u64,
 ) -> Result<Vec<u64>, AllocError> {
     let needed = needed(order, call);
@@ -124,7 +124,7 @@ fn set_in_each(
 }
 
 /// Returns whether an operation that is called at event `call` is one of `order`.
-fn is_among(order: &[Operation], call: u64) -> bool {
+fn is_among(order: &[Operation<'_>], call: u64) -> bool {
     order.iter().any(|operation| operation.call == call)
 }
 
@@ -132,8 +132,8 @@ fn is_among(order: &[Operation], call: u64) -> bool {
 fn add_open(
     alloc: Global,
     candidates: &mut Candidates,
-    all: &[Operation],
-    order: &[Operation],
+    all: &[Operation<'_>],
+    order: &[Operation<'_>],
     last: Vec<u64>,
 ) -> Result<(), AllocError> {
     let mut ends = Vec::new(alloc);
@@ -153,7 +153,7 @@ fn add_open(
 fn add_exchanged(
     alloc: Global,
     candidates: &mut Candidates,
-    all: &[Operation],
+    all: &[Operation<'_>],
     view: &[u64],
 ) -> Result<(), AllocError> {
     for operation in all.iter().rev() {
@@ -175,7 +175,7 @@ fn add_exchanged(
 }
 
 /// Returns the event number of the last call of `process`.
-fn last_call(all: &[Operation], process: u32) -> u64 {
+fn last_call(all: &[Operation<'_>], process: u32) -> u64 {
     for operation in all.iter().rev() {
         if operation.process == process {
             return operation.call;

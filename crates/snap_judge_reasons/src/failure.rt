@@ -14,7 +14,7 @@ use snap_words::View;
 use std::alloc::{AllocError, Global};
 
 /// Appends the call of a process.
-fn push_asked(draft: &mut Draft, process: u32, action: &Action)
+fn push_asked(draft: &mut Draft, process: u32, action: &Action<'_>)
     ensures { Adds draft.old draft.new (asked_text process action.now) }
 {
     match action {
@@ -32,7 +32,7 @@ fn push_asked(draft: &mut Draft, process: u32, action: &Action)
 }
 
 /// Appends an operation, by its call and the event of that call.
-fn push_name(draft: &mut Draft, operation: &Operation)
+fn push_name(draft: &mut Draft, operation: &Operation<'_>)
     ensures { Adds draft.old draft.new (operation_name operation.now) }
 {
     push_asked(draft, operation.process, &operation.action);
@@ -42,7 +42,7 @@ fn push_name(draft: &mut Draft, operation: &Operation)
 }
 
 /// Appends that the first operation ended before the second one was called.
-fn push_ended(draft: &mut Draft, first: &Operation, second: &Operation)
+fn push_ended(draft: &mut Draft, first: &Operation<'_>, second: &Operation<'_>)
     ensures { Adds draft.old draft.new
         (grounds_text grounds.Ended first.now second.now) }
 {
@@ -53,7 +53,7 @@ fn push_ended(draft: &mut Draft, first: &Operation, second: &Operation)
 }
 
 /// Appends that the scan saw the update.
-fn push_saw(draft: &mut Draft, update: &Operation, scan: &Operation)
+fn push_saw(draft: &mut Draft, update: &Operation<'_>, scan: &Operation<'_>)
     ensures { Adds draft.old draft.new (grounds_text grounds.Saw update.now scan.now) }
 {
     push_name(draft, scan);
@@ -62,7 +62,7 @@ fn push_saw(draft: &mut Draft, update: &Operation, scan: &Operation)
 }
 
 /// Appends that the scan did not see the update.
-fn push_missed(draft: &mut Draft, scan: &Operation, update: &Operation)
+fn push_missed(draft: &mut Draft, scan: &Operation<'_>, update: &Operation<'_>)
     ensures { Adds draft.old draft.new (grounds_text grounds.Missed scan.now update.now) }
 {
     push_name(draft, scan);
@@ -82,7 +82,7 @@ fn push_setting(draft: &mut Draft, text: &[u8], word: u64, value: u64)
 }
 
 /// Appends that the scan saw the value in the word, and that no update sets it.
-fn push_unset(draft: &mut Draft, scan: &Operation, word: u64, value: u64)
+fn push_unset(draft: &mut Draft, scan: &Operation<'_>, word: u64, value: u64)
     ensures { (other : Operation) → Adds draft.old draft.new
         (grounds_text (grounds.Unset word value) scan.now other) }
 {
@@ -96,7 +96,7 @@ fn push_unset(draft: &mut Draft, scan: &Operation, word: u64, value: u64)
 }
 
 /// Appends why the first operation took place before the second one.
-fn push_grounds(draft: &mut Draft, reason: &Reason)
+fn push_grounds(draft: &mut Draft, reason: &Reason<'_>)
     ensures { Adds draft.old draft.new
         (grounds_text reason.now.grounds reason.now.first reason.now.second) }
 {
@@ -109,7 +109,7 @@ fn push_grounds(draft: &mut Draft, reason: &Reason)
 }
 
 /// Appends the line of a reason.
-fn push_reason(draft: &mut Draft, reason: &Reason)
+fn push_reason(draft: &mut Draft, reason: &Reason<'_>)
     ensures { Adds draft.old draft.new (reason_line reason.now) }
 {
     draft.push(b"because: ");
@@ -118,7 +118,7 @@ fn push_reason(draft: &mut Draft, reason: &Reason)
 }
 
 /// Appends the lines of reasons.
-fn push_reasons(draft: &mut Draft, reasons: &[Reason])
+fn push_reasons(draft: &mut Draft, reasons: &[Reason<'_>])
     ensures { Adds draft.old draft.new (reason_lines reasons.now) }
 {
     for reason in reasons {
@@ -153,7 +153,7 @@ fn push_answers(draft: &mut Draft, views: &[View])
 pub fn failure_text(
     alloc: Global,
     views: &[View],
-    reasons: &[Reason],
+    reasons: &[Reason<'_>],
 ) -> Result<Vec<u8>, AllocError>
     ensures { IfOk result (λ text. text.items ≡ failure_text views.now reasons.now) }
 {

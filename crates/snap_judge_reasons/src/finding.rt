@@ -3,8 +3,8 @@ ghost use Rattle.std.specs.Prelude.{IfOk, IfSome};
 ghost use Rattle.snap_judge.specs.Linearizable.{up_to};
 ghost use Rattle.snap_judge_reasons.specs.Reasons.{IsCircle};
 
+use crate::beginning::Beginning;
 use crate::circles::is_circle;
-use crate::copies::first_events;
 use crate::graph::Graph;
 use crate::graph_search::shortest_circle;
 use crate::reason::Reason;
@@ -12,7 +12,7 @@ use snap_judge::{History, Operation};
 use std::alloc::{AllocError, Global};
 
 /// Returns the place of the operation that ended at this event number.
-fn ended_at(operations: &[Operation], end: u64) -> Option<usize> {
+fn ended_at(operations: &[Operation<'_>], end: u64) -> Option<usize> {
     for place in 0..operations.len() {
         if operations[place].end == Some(end) {
             return Some(place);
@@ -23,7 +23,11 @@ fn ended_at(operations: &[Operation], end: u64) -> Option<usize> {
 
 /// Returns a circle of reasons on which the operation lies that ends at event number `end` of the
 /// history.
-fn circle_at(alloc: Global, history: &History, end: u64) -> Result<Option<Vec<Reason>>, AllocError>
+fn circle_at<'a>(
+    alloc: Global,
+    history: &Beginning<'a>,
+    end: u64,
+) -> Result<Option<Vec<Reason<'a>>>, AllocError>
     ensures { IfOk result (λ r. IfSome r (λ reasons. IsCircle history.now reasons.items)) }
 {
     let graph = Graph::of(alloc, history)?;
@@ -52,13 +56,13 @@ pub fn reasons(
     alloc: Global,
     history: &History,
     count: usize,
-) -> Result<Option<Vec<Reason>>, AllocError>
+) -> Result<Option<Vec<Reason<'_>>>, AllocError>
     ensures { IfOk result (λ r. IfSome r (λ reasons.
         IsCircle (up_to count history.now) reasons.items)) }
 {
     if count == 0 || history.events.len() < count {
         return Ok(None);
     }
-    let front = first_events(alloc, history, count)?;
+    let front = Beginning::of(history, count);
     circle_at(alloc, &front, history.events[count - 1].item)
 }

@@ -1,6 +1,7 @@
 //! The operations of a history, and what a search for reasons looks up in them.
+use crate::beginning::Beginning;
 use crate::operations::operations_of;
-use snap_judge::{Action, History, Operation};
+use snap_judge::{Action, Operation};
 use std::alloc::{AllocError, Global};
 use std::collections::HashMap;
 
@@ -14,8 +15,8 @@ struct Setting {
 /// The operations in the order of their calls; which of them alone sets a word to a value, if one
 /// alone does; the updates of each word; and for each operation the scans that saw it.
 #[derive(Drop)]
-pub struct Graph {
-    pub operations: Vec<Operation>,
+pub struct Graph<'a> {
+    pub operations: Vec<Operation<'a>>,
     setters: HashMap<Setting, Option<usize>>,
     pub updates: Vec<Vec<usize>>,
     pub seen_by: Vec<Vec<usize>>,
@@ -48,14 +49,14 @@ fn add(lists: &mut Vec<Vec<usize>>, place: usize, number: usize) -> Result<(), A
     Ok(())
 }
 
-impl Graph {
+impl<'a> Graph<'a> {
     /// Returns the graph of a history.
     ///
     /// # Errors
     ///
     /// `AllocError` where memory runs out.
-    pub fn of(alloc: Global, history: &History) -> Result<Graph, AllocError> {
-        let operations = operations_of(alloc, history.shape.n() as usize, &history.events)?;
+    pub fn of(alloc: Global, history: &Beginning<'a>) -> Result<Graph<'a>, AllocError> {
+        let operations = operations_of(alloc, history.shape.n() as usize, history.events)?;
         let seen_by = lists(alloc, operations.len())?;
         let updates = lists(alloc, history.shape.w() as usize)?;
         let mut graph = Graph {
@@ -136,7 +137,7 @@ impl Graph {
         let Action::Sees(view) = &operation.action else {
             return None;
         };
-        let Some(value) = view.as_slice().get(word) else {
+        let Some(value) = view.get(word) else {
             return None;
         };
         match self.origin(word, *value) {

@@ -5,7 +5,7 @@
 //! Nothing is proved of what the search finds: `is_circle` tests it.
 use crate::graph::{Graph, Origin};
 use crate::reason::{Grounds, Reason};
-use snap_judge::{Action, Operation};
+use snap_judge::Action;
 use std::alloc::{AllocError, Global};
 
 /// From which operation another one was reached, and on which grounds.
@@ -39,7 +39,7 @@ fn reach(search: &mut Search, place: usize, parent: Parent) -> Result<(), AllocE
 
 /// Reaches each operation that was called after the end of the one at `place`.
 fn reach_later(
-    graph: &Graph,
+    graph: &Graph<'_>,
     search: &mut Search,
     place: usize,
     end: u64,
@@ -59,7 +59,7 @@ fn reach_later(
 }
 
 /// Reaches each scan that saw the update at `place`.
-fn reach_seeing(graph: &Graph, search: &mut Search, place: usize) -> Result<(), AllocError> {
+fn reach_seeing(graph: &Graph<'_>, search: &mut Search, place: usize) -> Result<(), AllocError> {
     if let Some(scans) = graph.seen_by.get(place) {
         for scan in scans {
             let grounds = Grounds::Saw;
@@ -71,7 +71,7 @@ fn reach_seeing(graph: &Graph, search: &mut Search, place: usize) -> Result<(), 
 
 /// Returns the event number after which the updates of a word are called that a scan which shows
 /// this value in it did not see, if that is known.
-fn missed_after(graph: &Graph, word: usize, value: u64) -> Option<u64> {
+fn missed_after(graph: &Graph<'_>, word: usize, value: u64) -> Option<u64> {
     match graph.origin(word, value) {
         Origin::Beginning => Some(0),
         Origin::Update(place) => match graph.operations.get(place) {
@@ -86,7 +86,7 @@ fn missed_after(graph: &Graph, word: usize, value: u64) -> Option<u64> {
 /// Reaches each update of the word at a place that was called after an event, as one that the scan
 /// did not see.
 fn reach_missed(
-    graph: &Graph,
+    graph: &Graph<'_>,
     search: &mut Search,
     place: usize,
     word: usize,
@@ -118,7 +118,7 @@ fn reach_missed(
 
 /// Reaches each update that the scan at `place` did not see.
 fn reach_unseen(
-    graph: &Graph,
+    graph: &Graph<'_>,
     search: &mut Search,
     place: usize,
     view: &[u64],
@@ -132,7 +132,7 @@ fn reach_unseen(
 }
 
 /// Reaches each operation that took place after the one at `place`.
-fn go_on(graph: &Graph, search: &mut Search, place: usize) -> Result<(), AllocError> {
+fn go_on(graph: &Graph<'_>, search: &mut Search, place: usize) -> Result<(), AllocError> {
     let Some(operation) = graph.operations.get(place) else {
         return Ok(());
     };
@@ -141,7 +141,7 @@ fn go_on(graph: &Graph, search: &mut Search, place: usize) -> Result<(), AllocEr
     }
     match &operation.action {
         Action::Sets { .. } => reach_seeing(graph, search, place),
-        Action::Sees(view) => reach_unseen(graph, search, place, view.as_slice()),
+        Action::Sees(view) => reach_unseen(graph, search, place, view),
     }
 }
 
@@ -154,7 +154,7 @@ fn is_reached(search: &Search, place: usize) -> bool {
 }
 
 /// Reaches operations from the one at `start` on, until it is itself reached.
-fn reach_back(alloc: Global, graph: &Graph, start: usize) -> Result<Search, AllocError> {
+fn reach_back(alloc: Global, graph: &Graph<'_>, start: usize) -> Result<Search, AllocError> {
     let mut unmissed = Vec::new(alloc);
     for updates in &graph.updates {
         unmissed.push(updates.len())?;
@@ -180,27 +180,13 @@ fn reach_back(alloc: Global, graph: &Graph, start: usize) -> Result<Search, Allo
     Ok(search)
 }
 
-/// Returns the reason that leads from one operation to another.
-fn reason(
-    alloc: Global,
-    grounds: Grounds,
-    first: &Operation,
-    second: &Operation,
-) -> Result<Reason, AllocError> {
-    Ok(Reason {
-        grounds,
-        first: first.copy(alloc)?,
-        second: second.copy(alloc)?,
-    })
-}
-
 /// Returns the reasons that lead from the operation at `start` back to it.
-fn circle(
+fn circle<'a>(
     alloc: Global,
-    graph: &Graph,
+    graph: &Graph<'a>,
     search: &Search,
     start: usize,
-) -> Result<Vec<Reason>, AllocError> {
+) -> Result<Vec<Reason<'a>>, AllocError> {
     let mut reasons = Vec::new(alloc);
     let mut place = start;
     for _ in 0..graph.operations.len() {
@@ -213,7 +199,11 @@ fn circle(
         ) else {
             break;
         };
-        reasons.push(reason(alloc, parent.grounds, first, second)?)?;
+        reasons.push(Reason {
+            grounds: parent.grounds,
+            first: *first,
+            second: *second,
+        })?;
         place = parent.place;
         if place == start {
             break;
@@ -225,7 +215,7 @@ fn circle(
 
 /// Returns the first word, counted from 1, in which the view shows a value that no update sets, and
 /// that value.
-fn unset(graph: &Graph, view: &[u64]) -> Option<Grounds> {
+fn unset(graph: &Graph<'_>, view: &[u64]) -> Option<Grounds> {
     for word in 0..view.len() {
         if let Origin::Nowhere = graph.origin(word, view[word]) {
             return Some(Grounds::Unset {
@@ -243,18 +233,22 @@ fn unset(graph: &Graph, view: &[u64]) -> Option<Grounds> {
 /// # Errors
 ///
 /// `AllocError` where memory runs out.
-pub fn shortest_circle(
+pub fn shortest_circle<'a>(
     alloc: Global,
-    graph: &Graph,
+    graph: &Graph<'a>,
     start: usize,
-) -> Result<Vec<Reason>, AllocError> {
+) -> Result<Vec<Reason<'a>>, AllocError> {
     let Some(operation) = graph.operations.get(start) else {
         return Ok(Vec::new(alloc));
     };
     if let Action::Sees(view) = &operation.action {
-        if let Some(grounds) = unset(graph, view.as_slice()) {
+        if let Some(grounds) = unset(graph, view) {
             let mut reasons = Vec::new(alloc);
-            reasons.push(reason(alloc, grounds, operation, operation)?)?;
+            reasons.push(Reason {
+                grounds,
+                first: *operation,
+                second: *operation,
+            })?;
             return Ok(reasons);
         }
     }

@@ -11,12 +11,13 @@ ghost use Rattle.snap_judge_reasons.specs.Reasons.{AreGrounds, HasMissed, HasSee
 ghost use Rattle.snap_judge_reasons.specs.Reasons.{IsReason, IsSetOnlyAt, Shows, ShowsUnset};
 ghost use Rattle.snap_judge_reasons.specs.Reasons.{StoodBefore};
 
+use crate::beginning::Beginning;
 use crate::reason::{Grounds, Reason};
-use snap_judge::{Action, History, Operation};
+use snap_judge::{Action, Operation};
 use snap_semantics::{Event, Happening, Op};
 
 /// Returns whether an operation of this action is called so.
-fn is_call(happening: &Happening, action: &Action) -> bool
+fn is_call(happening: &Happening, action: &Action<'_>) -> bool
     ensures { result ≡ true → happening.now ≡ what.Call (called_as (action_of action.now)) }
 {
     match happening {
@@ -38,12 +39,12 @@ fn is_call(happening: &Happening, action: &Action) -> bool
 }
 
 /// Returns whether an operation of this action ends so.
-fn is_end(happening: &Happening, action: &Action) -> bool
+fn is_end(happening: &Happening, action: &Action<'_>) -> bool
     ensures { result ≡ true → happening.now ≡ ends_as (action_of action.now) }
 {
     match happening {
         Happening::Answer(view) => match action {
-            Action::Sees(seen) => view.as_slice() == seen.as_slice(),
+            Action::Sees(seen) => view.as_slice() == *seen,
             Action::Sets { .. } => false,
         },
         Happening::Done => match action {
@@ -56,7 +57,7 @@ fn is_end(happening: &Happening, action: &Action) -> bool
 }
 
 /// Returns whether the operation is called in `events`.
-fn is_called(events: &[Event], operation: &Operation) -> bool
+fn is_called(events: &[Event], operation: &Operation<'_>) -> bool
     ensures { result ≡ true → Contains events.now
         (event operation.now.process operation.now.call
         (what.Call (called_as (action_of operation.now.action)))) }
@@ -73,7 +74,7 @@ fn is_called(events: &[Event], operation: &Operation) -> bool
 }
 
 /// Returns whether the operation ends at event number `end` in `events`.
-fn ends_at(events: &[Event], operation: &Operation, end: u64) -> bool
+fn ends_at(events: &[Event], operation: &Operation<'_>, end: u64) -> bool
     ensures { result ≡ true → Contains events.now
         (event operation.now.process end (ends_as (action_of operation.now.action))) }
 {
@@ -127,7 +128,7 @@ fn only_crashes(events: &[Event], process: u32, call: u64) -> bool
 }
 
 /// Returns whether the operation, once it is called, comes to an end at event number `end`.
-fn came_to(events: &[Event], operation: &Operation, end: u64) -> bool
+fn came_to(events: &[Event], operation: &Operation<'_>, end: u64) -> bool
     ensures { result ≡ true → CameToEnd events.now operation.now.process operation.now.call
         (Some end) (action_of operation.now.action) }
 {
@@ -140,7 +141,7 @@ fn came_to(events: &[Event], operation: &Operation, end: u64) -> bool
 }
 
 /// Returns whether the operation, once it is called, comes to its end, or remains open.
-fn came_to_end(events: &[Event], operation: &Operation) -> bool
+fn came_to_end(events: &[Event], operation: &Operation<'_>) -> bool
     ensures { result ≡ true → CameToEnd events.now operation.now.process operation.now.call
         operation.now.end (action_of operation.now.action) }
 {
@@ -154,10 +155,10 @@ fn came_to_end(events: &[Event], operation: &Operation) -> bool
 }
 
 /// Returns whether the operation is one of the history.
-fn is_operation(history: &History, operation: &Operation) -> bool
+fn is_operation(history: &Beginning<'_>, operation: &Operation<'_>) -> bool
     ensures { result ≡ true → IsOperationOf history.now (operation_of operation.now) }
 {
-    is_called(&history.events, operation) && came_to_end(&history.events, operation)
+    is_called(history.events, operation) && came_to_end(history.events, operation)
 }
 
 /// Returns whether the event calls an update of this word to this value.
@@ -220,7 +221,7 @@ fn shown(view: &[u64], word: u64) -> Option<u64>
 }
 
 /// Returns whether the first operation ended before the second one was called.
-fn ended_before(first: &Operation, second: &Operation) -> bool
+fn ended_before(first: &Operation<'_>, second: &Operation<'_>) -> bool
     ensures { result ≡ true → EndedBefore (operation_of first.now) (operation_of second.now) }
 {
     match first.end {
@@ -230,7 +231,7 @@ fn ended_before(first: &Operation, second: &Operation) -> bool
 }
 
 /// Returns whether the scan saw the update.
-fn has_seen(events: &[Event], update: &Operation, scan: &Operation) -> bool
+fn has_seen(events: &[Event], update: &Operation<'_>, scan: &Operation<'_>) -> bool
     ensures { result ≡ true → HasSeen events.now (operation_of update.now)
         (operation_of scan.now) }
 {
@@ -241,7 +242,7 @@ fn has_seen(events: &[Event], update: &Operation, scan: &Operation) -> bool
         return false;
     };
     *value != 0
-        && shown(view.as_slice(), *word) == Some(*value)
+        && shown(view, *word) == Some(*value)
         && is_set_only_at(events, update.call, *word, *value)
 }
 
@@ -253,7 +254,7 @@ fn stood_from_the_beginning(events: &[Event], word: u64, value: u64) -> bool
 }
 
 /// Returns whether the operation is an update of this word to this value.
-fn is_update(operation: &Operation, word: u64, value: u64) -> bool
+fn is_update(operation: &Operation<'_>, word: u64, value: u64) -> bool
     ensures { result ≡ true → (operation_of operation.now).action ≡ Sets word value }
 {
     match &operation.action {
@@ -268,18 +269,18 @@ fn is_update(operation: &Operation, word: u64, value: u64) -> bool
 /// Returns whether this earlier operation alone sets the word to the value, and had ended when the
 /// update was called.
 fn stood_from(
-    history: &History,
+    history: &Beginning<'_>,
     word: u64,
     value: u64,
-    earlier: &Operation,
-    update: &Operation,
+    earlier: &Operation<'_>,
+    update: &Operation<'_>,
 ) -> bool
     ensures { result ≡ true → StoodBefore history.now word value (operation_of update.now) }
 {
     if is_update(earlier, word, value) {
         if ended_before(earlier, update) {
             if is_operation(history, earlier) {
-                return is_set_only_at(&history.events, earlier.call, word, value);
+                return is_set_only_at(history.events, earlier.call, word, value);
             }
         }
     }
@@ -289,15 +290,15 @@ fn stood_from(
 /// Returns whether the value stood in the word before the update, and not again. The update that
 /// set it is sought among the operations.
 fn stood_before(
-    history: &History,
-    operations: &[Operation],
+    history: &Beginning<'_>,
+    operations: &[Operation<'_>],
     word: u64,
     value: u64,
-    update: &Operation,
+    update: &Operation<'_>,
 ) -> bool
     ensures { result ≡ true → StoodBefore history.now word value (operation_of update.now) }
 {
-    if stood_from_the_beginning(&history.events, word, value) {
+    if stood_from_the_beginning(history.events, word, value) {
         return true;
     }
     for earlier in operations {
@@ -310,10 +311,10 @@ fn stood_before(
 
 /// Returns whether the scan did not see the update.
 fn has_missed(
-    history: &History,
-    operations: &[Operation],
-    scan: &Operation,
-    update: &Operation,
+    history: &Beginning<'_>,
+    operations: &[Operation<'_>],
+    scan: &Operation<'_>,
+    update: &Operation<'_>,
 ) -> bool
     ensures { result ≡ true → HasMissed history.now (operation_of scan.now)
         (operation_of update.now) }
@@ -324,24 +325,24 @@ fn has_missed(
     let Action::Sets { word, value: _ } = &update.action else {
         return false;
     };
-    match shown(view.as_slice(), *word) {
+    match shown(view, *word) {
         Some(seen) => stood_before(history, operations, *word, seen, update),
         None => false,
     }
 }
 
 /// Returns whether the scan shows this value in the word, not 0, and no update sets it.
-fn shows_unset(events: &[Event], word: u64, value: u64, scan: &Operation) -> bool
+fn shows_unset(events: &[Event], word: u64, value: u64, scan: &Operation<'_>) -> bool
     ensures { result ≡ true → ShowsUnset events.now word value (operation_of scan.now) }
 {
     let Action::Sees(view) = &scan.action else {
         return false;
     };
-    value != 0 && shown(view.as_slice(), word) == Some(value) && is_never_set(events, word, value)
+    value != 0 && shown(view, word) == Some(value) && is_never_set(events, word, value)
 }
 
 /// Returns whether two actions are the same.
-fn is_same_action(one: &Action, other: &Action) -> bool
+fn is_same_action(one: &Action<'_>, other: &Action<'_>) -> bool
     ensures { result ≡ true → action_of one.now ≡ action_of other.now }
 {
     match one {
@@ -353,14 +354,14 @@ fn is_same_action(one: &Action, other: &Action) -> bool
             Action::Sees(_) => false,
         },
         Action::Sees(view) => match other {
-            Action::Sees(other_view) => view.as_slice() == other_view.as_slice(),
+            Action::Sees(other_view) => view == other_view,
             Action::Sets { .. } => false,
         },
     }
 }
 
 /// Returns whether two operations are the same.
-pub fn is_same(one: &Operation, other: &Operation) -> bool
+pub fn is_same(one: &Operation<'_>, other: &Operation<'_>) -> bool
     ensures { result ≡ true → operation_of one.now ≡ operation_of other.now }
 {
     one.process == other.process
@@ -370,24 +371,24 @@ pub fn is_same(one: &Operation, other: &Operation) -> bool
 }
 
 /// Returns whether the history gives the grounds of the reason.
-fn are_grounds(history: &History, operations: &[Operation], reason: &Reason) -> bool
+fn are_grounds(history: &Beginning<'_>, operations: &[Operation<'_>], reason: &Reason<'_>) -> bool
     ensures { result ≡ true → AreGrounds history.now reason.now.grounds
         (operation_of reason.now.first) (operation_of reason.now.second) }
 {
     match reason.grounds {
         Grounds::Ended => ended_before(&reason.first, &reason.second),
-        Grounds::Saw => has_seen(&history.events, &reason.first, &reason.second),
+        Grounds::Saw => has_seen(history.events, &reason.first, &reason.second),
         Grounds::Missed => has_missed(history, operations, &reason.first, &reason.second),
         Grounds::Unset { word, value } => {
             is_same(&reason.second, &reason.first)
-                && shows_unset(&history.events, word, value, &reason.first)
+                && shows_unset(history.events, word, value, &reason.first)
         }
     }
 }
 
 /// Returns whether the history gives this reason. An update that a scan saw in place of another one
 /// is sought among the operations.
-pub fn is_reason(history: &History, operations: &[Operation], reason: &Reason) -> bool
+pub fn is_reason(history: &Beginning<'_>, operations: &[Operation<'_>], reason: &Reason<'_>) -> bool
     ensures { result ≡ true → IsReason history.now reason.now }
 {
     is_operation(history, &reason.first)

@@ -5,6 +5,7 @@
 ghost use Rattle.snap_judge_reasons.specs.Reasons.{CirclesRefute};
 
 mod answers;
+mod beginning;
 mod candidates;
 mod circles;
 mod copies;

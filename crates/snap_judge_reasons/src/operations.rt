@@ -1,21 +1,20 @@
 //! The operations of a list of events.
 use snap_judge::{Action, Operation};
 use snap_semantics::{Event, Happening, Op};
-use snap_words::View;
 use std::alloc::{AllocError, Global};
 
 /// The operations in the order of their calls, and the last operation of each process.
 #[derive(Drop)]
-struct Operations {
-    all: Vec<Operation>,
+struct Operations<'a> {
+    all: Vec<Operation<'a>>,
     last: Vec<usize>,
 }
 
 /// Returns what is known of an operation when it is called: of a scan, that it sees no words.
-fn called(alloc: Global, event: &Event, op: Op) -> Operation {
+fn called(event: &Event, op: Op) -> Operation<'static> {
     let action = match op {
         Op::Update { word, value } => Action::Sets { word, value },
-        Op::Scan => Action::Sees(View::of(Vec::new(alloc))),
+        Op::Scan => Action::Sees(&[]),
     };
     Operation {
         process: event.process,
@@ -26,21 +25,16 @@ fn called(alloc: Global, event: &Event, op: Op) -> Operation {
 }
 
 /// Appends an operation that a process calls.
-fn open(
-    alloc: Global,
-    operations: &mut Operations,
-    event: &Event,
-    op: Op,
-) -> Result<(), AllocError> {
+fn open(operations: &mut Operations<'_>, event: &Event, op: Op) -> Result<(), AllocError> {
     if let Some(last) = operations.last.get_mut(event.process as usize) {
         *last = operations.all.len();
     }
-    operations.all.push(called(alloc, event, op))?;
+    operations.all.push(called(event, op))?;
     Ok(())
 }
 
 /// Ends the last operation of a process.
-fn close(operations: &mut Operations, event: &Event, seen: Option<View>) {
+fn close<'a>(operations: &mut Operations<'a>, event: &Event, seen: Option<&'a [u64]>) {
     let Some(last) = operations.last.get(event.process as usize) else {
         return;
     };
@@ -53,10 +47,10 @@ fn close(operations: &mut Operations, event: &Event, seen: Option<View>) {
 }
 
 /// Goes on by an event.
-fn enter(alloc: Global, operations: &mut Operations, event: &Event) -> Result<(), AllocError> {
+fn enter<'a>(operations: &mut Operations<'a>, event: &'a Event) -> Result<(), AllocError> {
     match &event.what {
-        Happening::Call(op) => open(alloc, operations, event, *op)?,
-        Happening::Answer(view) => close(operations, event, Some(view.copy(alloc)?)),
+        Happening::Call(op) => open(operations, event, *op)?,
+        Happening::Answer(view) => close(operations, event, Some(view.as_slice())),
         Happening::Done => close(operations, event, None),
         Happening::Crash => {}
     }
@@ -73,13 +67,13 @@ pub fn operations_of(
     alloc: Global,
     processes: usize,
     events: &[Event],
-) -> Result<Vec<Operation>, AllocError> {
+) -> Result<Vec<Operation<'_>>, AllocError> {
     let mut operations = Operations {
         all: Vec::new(alloc),
         last: vec![in alloc; 0; processes.saturating_add(1)]?,
     };
     for event in events {
-        enter(alloc, &mut operations, event)?;
+        enter(&mut operations, event)?;
     }
     let Operations { all, .. } = operations;
     Ok(all)

@@ -16,9 +16,9 @@ pub enum Grounds {
 
 /// Two operations, of which the first one took place before the second one, and the grounds for
 /// that.
-#[derive(Drop)]
-pub struct Reason {
+#[derive(Clone, Copy)]
+pub struct Reason<'a> {
     pub grounds: Grounds,
-    pub first: Operation,
-    pub second: Operation,
+    pub first: Operation<'a>,
+    pub second: Operation<'a>,
 }

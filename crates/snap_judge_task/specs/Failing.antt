@@ -4,6 +4,8 @@ use Rattle.std.specs.Prelude.{◌≡◌, ℕ, ◌-◌, List, [], ◌∷◌, ◌+
 use Rattle.snap_judge.specs.History.{History}
 use Rattle.snap_judge.specs.Judgement.{IsJudgement}
 use Rattle.snap_judge.specs.Linearizable.{up_to}
+use Rattle.snap_judge.specs.declared.judgements.Failing.{Failing}
+use Rattle.snap_judge.specs.declared.judgements.Failing.TheVariants as failing
 use Rattle.snap_judge.specs.declared.judgements.Judgement.{Judgement}
 use Rattle.snap_judge.specs.declared.judgements.Judgement.TheVariants as judgement
 use Rattle.snap_judge.specs.declared.operation.Operation.{Operation}
@@ -45,8 +47,8 @@ abbrev pub Fails : (most : ℕ) → History → (k : ℕ) → (text longer : Lis
 Fails most h k text longer =
     (before : List ℕ) × (why : List ℕ) × WasBefore most h k text before × TellsWhy h k why × (longer ≡ before ++ why)
 
--- what stands behind the text of a judgement
-abbrev pub IsMore : (most : ℕ) → History → Judgement → (text longer : List ℕ) → Type 0
-IsMore most h (judgement.Linearizable order) text longer = longer ≡ text
-IsMore most h (judgement.NotLinearizable k) text longer = Fails most h k text longer
-IsMore most h (judgement.Undecided k) text longer = longer ≡ text
+-- what stands behind the text of a judgement, by where the history fails
+abbrev pub IsMore : (most : ℕ) → History → Failing → (text longer : List ℕ) → Type 0
+IsMore most h failing.Nowhere text longer = longer ≡ text
+IsMore most h (failing.At k) text longer = Fails most h k text longer
+IsMore most h (failing.Undecided k) text longer = longer ≡ text

@@ -27,7 +27,7 @@ AnswersHistory s input (Err _) = ⊥
 pub record TellsOf (most : ℕ) (h : History) (text : List ℕ) (word : Linearizability) : Type 0 where
   pub judgement : Judgement
   pub is_so : IsJudgement most h judgement
-  pub written : IsMore most h judgement (judgement_text h judgement) text
+  pub written : IsMore most h (failing_of judgement) (judgement_text h judgement) text
   pub word_for_it : word ≡ word_of (failing_of judgement)
 
 -- The text and the word are so of what an input gives to be judged.

@@ -3,18 +3,18 @@ ghost use Rattle.std.specs.Prelude.{IfOk, length};
 ghost use Rattle.snap_text.specs.Drafted.{Adds};
 ghost use Rattle.snap_words.specs.Shape.{IsOneOf};
 ghost use Rattle.snap_judge.specs.History.{IsHistory};
-ghost use Rattle.snap_judge.specs.Judgement.{IsJudgement};
+ghost use Rattle.snap_judge.specs.Judgement.{NamesEvent};
 ghost use Rattle.snap_judge_task.specs.Failing.{Fails, IsMore, TellsWhy, WasBefore, before_text};
 ghost use Rattle.snap_judge_task.specs.Failing.{order_text};
 
 use snap_history_text::push_operations;
-use snap_judge::{History, Judgement, Operation, judge};
+use snap_judge::{Failing, History, Judgement, Operation, judge};
 use snap_judge_reasons::{failure_text, reasons, right_answers};
 use snap_text::Draft;
 use std::alloc::{AllocError, Global};
 
 /// Appends an order of what was before an event, if it has operations.
-fn push_order(out: &mut Draft, order: &[Operation])
+fn push_order(out: &mut Draft, order: &[Operation<'_>])
     ensures { Adds out.old out.new (order_text order.now) }
 {
     if order.is_empty() {
@@ -25,7 +25,7 @@ fn push_order(out: &mut Draft, order: &[Operation])
 }
 
 /// Appends the order that was found of what was before an event.
-fn push_found(out: &mut Draft, judgement: &Judgement)
+fn push_found(out: &mut Draft, judgement: &Judgement<'_>)
     ensures { Adds out.old out.new (before_text judgement.now) }
 {
     match judgement {
@@ -92,7 +92,7 @@ fn with_failing(
     out.finish()
 }
 
-/// Returns `text`, and behind it the text on a judgement of `history`.
+/// Returns `text`, and behind it why `history` fails, if it fails.
 ///
 /// # Errors
 ///
@@ -101,15 +101,15 @@ pub fn with_more(
     alloc: Global,
     text: Vec<u8>,
     history: History,
-    judgement: &Judgement,
+    failing: Failing,
     most: u64,
 ) -> Result<Vec<u8>, AllocError>
     requires history { IsHistory history }
-    requires judgement { IsJudgement most history judgement.now }
-    ensures { IfOk result (λ longer. IsMore most history judgement.now text.items longer.items) }
+    requires event { NamesEvent history failing }
+    ensures { IfOk result (λ longer. IsMore most history failing text.items longer.items) }
 {
-    match judgement {
-        Judgement::NotLinearizable(count) => with_failing(alloc, text, history, *count, most),
-        Judgement::Linearizable(_) | Judgement::Undecided(_) => Ok(text),
+    match failing {
+        Failing::At(count) => with_failing(alloc, text, history, count, most),
+        Failing::Nowhere | Failing::Undecided(_) => Ok(text),
     }
 }

@@ -30,8 +30,9 @@ fn told(alloc: Global, history: History, most: u64) -> Result<JudgeOutput, Alloc
 {
     let judgement = judge(alloc, &history, most as usize)?;
     let judged = judgement_text(alloc, &history, &judgement)?;
-    let text = with_more(alloc, judged, history, &judgement, most)?;
-    let word = word_of(failing_of(&judgement));
+    let failing = failing_of(&judgement);
+    let text = with_more(alloc, judged, history, failing, most)?;
+    let word = word_of(failing);
     Ok(JudgeOutput { text, word })
 }
 

@@ -8,6 +8,5 @@ use Rattle.snap_judge.proofs.advance.pass_step.Goals as goal
 pub returns-in-Waits-clause-goes_on : goal.returns-in-Waits-clause-goes_on
 returns-in-Waits-clause-goes_on c =
     wait_passes c.args.steps.now c.args.order.now.items c.args.config.now _ c.requires.next c.requires.config
-    (get_or_default c.args.steps.now c.args.config.now.position kept_step.Waits c.index-steps-config.result c.requires.next
-    ∙ sym c.index-steps-config.is ∙ c.in-Waits.is)
+    c.in-Waits.is
     (let e : c.args.config.now.position + 1 ≡ suc c.args.config.now.position = omega arith in e) refl refl

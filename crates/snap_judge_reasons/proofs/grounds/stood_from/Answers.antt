@@ -11,4 +11,4 @@ returns-then-is_operation c = λ now.
     FromAnUpdate (operation_of c.args.earlier.now) (c.is_operation.ensures c.if-is_operation.true)
     (c.is_update.ensures c.if-is_update.true) (c.ended_before.ensures c.if-ended_before.true)
     (subst (λ (es : List Event). IsSetOnlyAt es c.args.earlier.now.call c.args.word c.args.value)
-    (c.deref.ensures.value ∙ ap (λ (x : History). x.events) c.history.view_is) (c.is_set_only_at.ensures now))
+    (ap (λ (x : History). x.events) c.history.view_is) (c.is_set_only_at.ensures now))

@@ -4,8 +4,8 @@ use Rattle.snap_hunt.specs.Counting.{Counts}
 use Rattle.snap_hunt.proofs.Counting.{up_to_told}
 use Rattle.snap_hunt.proofs.step_counter.StepCounter.note.Goals as goal
 
-pub note_told-requires : goal.note_told-requires
-note_told-requires g c =
+pub note_told-requires-after_bounds : goal.note_told-requires-after_bounds
+note_told-requires-after_bounds g c κs within =
     let s = c.args.self.now in
     let p = c.args.passed.now in
     let w = c.requires.0 in

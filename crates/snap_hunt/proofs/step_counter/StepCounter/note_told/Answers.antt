@@ -61,8 +61,8 @@ returns-clause-counted g c =
     let i = c.who-process.result in
     let b = c.is_busy.result in
     told_counts v w' p s.most s _ h is refl refl
-    (left_behind v.run v.at c.next-_told.result s.ahead c.next-_told.new.self is.left h.left
-    c.next-_told.ensures.steps)
+    (left_behind v.run v.at c.next-told.result s.ahead c.next-told.new.self is.left h.left
+    c.next-told.ensures.steps)
     (steps_passed v w' p s.most s.owns.items c.note-found.new.owns.items s.overrun c.note-found.result
     c.first-self.result is c.note-found.ensures.owns
     (λ d. c.note-found.ensures.result d

@@ -1,6 +1,6 @@
 -- What is read is a history.
-use Rattle.std.proofs.Common.{◌≡◌, ℕ, zero, suc, ◌+◌, ◌-◌, ◌<◌, ◌≤◌, Bool, true, false, List, [], ◌∷◌, length}
-use Rattle.std.proofs.Common.{Result, Ok, Err, nat_lt, if◌then◌else◌, ◌==◌, refl, sym, ap, ◌∙◌, arith, subst}
+use Rattle.std.proofs.Common.{◌≡◌, ℕ, ◌-◌, ◌<◌, Bool, true, false, List, [], ◌∷◌, length}
+use Rattle.std.proofs.Common.{Result, Ok, Err, nat_lt, if◌then◌else◌, ◌==◌, refl, ap, ◌∙◌, arith, subst}
 use Rattle.std.proofs.Common.{replicate, slice_index_or, slice_set}
 use Rattle.std.proofs.lemmas.Bool.{eqb-true, eqb-false}
 use Rattle.std.proofs.lemmas.List.{get_or-replicate, get_or-set_same, get_or-set_other, length-replicate, length-set}
@@ -15,7 +15,6 @@ use Rattle.snap_semantics.specs.ScheduleForms.{shape_form}
 use Rattle.snap_semantics.specs.Token.{TextLine, text_lines}
 use Rattle.snap_judge.specs.History.{Caller, Free, History, IsHistory, MayCome, MayFollow, caller_after, with_caller}
 use Rattle.snap_history_text.specs.HistoryText.{caller_at, callers_behind, line_event, events_of, history_of_lines}
-use Rattle.snap_history_text.specs.HistoryText.{history_of}
 use Rattle.snap_history_text.specs.HistoryLaws.{ReadsHistories}
 use Rattle.snap_history_text.specs.declared.refusal.HistoryRefusal.{HistoryRefusal}
 use Rattle.snap_history_text.specs.declared.refusal.HistoryRefusal.TheVariants as refusal

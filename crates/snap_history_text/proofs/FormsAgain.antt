@@ -9,7 +9,7 @@ use Rattle.snap_semantics.specs.declared.event.Happening.TheVariants as what
 use Rattle.snap_semantics.specs.declared.process.Op.TheVariants as op
 use Rattle.snap_semantics.specs.Rules.{◌>>=◌, or_else}
 use Rattle.snap_semantics.specs.ScheduleForms.{spelled_shape}
-use Rattle.snap_semantics.specs.Token.{Token, Number}
+use Rattle.snap_semantics.specs.Token.{Number}
 use Rattle.snap_text.specs.Laws.{IsSoundLine}
 use Rattle.snap_text.specs.Tokens.{IsSound}
 use Rattle.snap_history_text.specs.HistoryForms.{spelled_what, spelled_event, scan_form, update_form, call_form}

@@ -1,5 +1,5 @@
 -- What is printed of a history is read as that history.
-use Rattle.std.proofs.Common.{◌≡◌, ℕ, zero, suc, ◌-◌, ◌<◌, ◌≤◌, Bool, true, false, not, List, [], ◌∷◌, length, map}
+use Rattle.std.proofs.Common.{◌≡◌, ℕ, zero, suc, ◌<◌, ◌≤◌, Bool, true, false, not, List, [], ◌∷◌, length, map}
 use Rattle.std.proofs.Common.{replicate, Option, Some, None, Result, Ok, Err, nat_lt, nat_le, nat_eq, if◌then◌else◌}
 use Rattle.std.proofs.Common.{refl, sym, ap, ◌∙◌, arith, subst}
 use Rattle.std.proofs.lemmas.Bool.{and_from, eq-eqb, le-leb, le-ltb, lt-ltb}
@@ -21,7 +21,7 @@ use Rattle.snap_judge.specs.History.{Caller, Free, Busy, Gone, History, IsHistor
 use Rattle.snap_judge.specs.History.{with_caller}
 use Rattle.snap_history_text.specs.HistoryForms.{spelled_event, event_form}
 use Rattle.snap_history_text.specs.HistoryText.{has_word, caller_at, callers_behind, wrong_turn, unless, event_of}
-use Rattle.snap_history_text.specs.HistoryText.{line_event, events_of, history_of_lines, history_of, history_text}
+use Rattle.snap_history_text.specs.HistoryText.{line_event, events_of, history_of_lines, history_text}
 use Rattle.snap_history_text.specs.HistoryLaws.{FitsEvent, PrintsAgain}
 use Rattle.snap_history_text.specs.declared.event_form.EventForm.{EventForm}
 use Rattle.snap_history_text.specs.declared.refusal.HistoryRefusal.{HistoryRefusal}

@@ -1,5 +1,5 @@
 -- `push_answer` of snap_history_text (src/canonical_text.rt): what holds at the head of each of its loops.
-use Rattle.std.proofs.Common.{◌≡◌, [], ◌∷◌, ◌++◌, codes, drop, map}
+use Rattle.std.proofs.Common.{◌≡◌, ◌∷◌, ◌++◌, codes, drop, map}
 use Rattle.snap_semantics.specs.Token.{Identifier, Number}
 use Rattle.snap_text.specs.Tokens.{view_tokens}
 use Rattle.snap_history_text.proofs.canonical_text.push_answer.Given as goal

@@ -1,5 +1,5 @@
 -- `events_of` of snap_history_text (src/reader.rt): the proof of what its contract says.
-use Rattle.std.proofs.Common.{◌≡◌, ◌≤◌, ap, sym, ◌∙◌, Ok, option_map, length, arith}
+use Rattle.std.proofs.Common.{ap, sym, ◌∙◌, arith}
 use Rattle.snap_history_text.specs.ReaderSteps.{next_event, view_callers}
 use Rattle.snap_history_text.proofs.Noted.{still_as_many}
 use Rattle.snap_history_text.proofs.Reading.{begins, line_known, one_read}

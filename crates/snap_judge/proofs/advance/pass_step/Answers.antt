@@ -1,7 +1,5 @@
 -- `pass_step` of snap_judge (src/advance.rt).
-use Rattle.std.proofs.Common.{◌≡◌, suc, ◌+◌, refl, sym, ◌∙◌, arith}
-use Rattle.std.proofs.lemmas.List.{get_or_default}
-use Rattle.snap_judge.specs.declared.config.Step.TheVariants as kept_step
+use Rattle.std.proofs.Common.{◌≡◌, suc, ◌+◌, refl, arith}
 use Rattle.snap_judge.proofs.Passing.{wait_passes}
 use Rattle.snap_judge.proofs.advance.pass_step.Goals as goal
 

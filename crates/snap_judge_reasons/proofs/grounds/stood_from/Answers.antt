@@ -1,5 +1,5 @@
 -- `stood_from` of snap_judge_reasons (src/grounds.rt).
-use Rattle.std.proofs.Common.{List, ap, subst, ◌∙◌}
+use Rattle.std.proofs.Common.{List, ap, subst}
 use Rattle.snap_semantics.specs.declared.event.Event.{Event}
 use Rattle.snap_judge.specs.History.{History}
 use Rattle.snap_judge.specs.Kept.{operation_of}

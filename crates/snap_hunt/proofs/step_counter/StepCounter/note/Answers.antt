@@ -1,5 +1,5 @@
 -- `StepCounter::note` of snap_hunt (src/step_counter.rt).
-use Rattle.std.proofs.Common.{sym, subst, ◌∙◌}
+use Rattle.std.proofs.Common.{sym, subst}
 use Rattle.snap_hunt.specs.Counting.{Counts}
 use Rattle.snap_hunt.proofs.Counting.{up_to_told}
 use Rattle.snap_hunt.proofs.step_counter.StepCounter.note.Goals as goal

@@ -31,6 +31,8 @@ fn told(alloc: Global, history: History, most: u64) -> Result<JudgeOutput, Alloc
     let judgement = judge(alloc, &history, most as usize)?;
     let judged = judgement_text(alloc, &history, &judgement)?;
     let failing = failing_of(&judgement);
+    // The judgement refers to the history, which goes on to `with_more`.
+    drop(judgement);
     let text = with_more(alloc, judged, history, failing, most)?;
     let word = word_of(failing);
     Ok(JudgeOutput { text, word })

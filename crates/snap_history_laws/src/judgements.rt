@@ -5,8 +5,11 @@ ghost use Rattle.snap_words.specs.declared.kind.KindTag.{KindTag};
 ghost use Rattle.snap_semantics.specs.IsListing.{IsListing};
 ghost use Rattle.snap_shipped.specs.Shipped.{shipped};
 ghost use Rattle.snap_judge.specs.Judgement.{IsJudgement};
+ghost use Rattle.snap_judge.specs.declared.judgements.Failing.{Failing};
 ghost use Rattle.snap_judge.specs.declared.judgements.Judgement.{Judgement};
 ghost use Rattle.snap_run_judge.specs.RunHistory.{history_of};
+ghost use Rattle.snap_run_judge.specs.RunJudgement.{IsRunJudgement};
+ghost use Rattle.snap_history_laws.specs.judgements.JudgementLaws.{FailingsAreOfRuns, FailsThere};
 ghost use Rattle.snap_history_laws.specs.judgements.JudgementLaws.{IsSoOf, JudgementsAreOfRuns};
 ghost use Rattle.snap_history_laws.specs.judgements.RunLaws.{RunsAreToldByTheirHistories};
 ghost use Rattle.snap_history_laws.specs.judgements.RunLaws.{RunsTellEachOnce, TellsEachOnce};
@@ -41,6 +44,17 @@ pub fn runs_tell_each_once()
     runs_have_histories();
 }
 
+/// Where the history of a run is said to fail, the run fails: nowhere, and the run is linearizable;
+/// or at the item of that event.
+pub fn failings_are_of_runs()
+    ensures { FailingsAreOfRuns }
+{
+    events_tell_operations();
+    runs_have_histories();
+    runs_are_told_by_their_histories();
+    linearizable_from_the_beginning();
+}
+
 /// What is judged of the history of a run holds of the run: an order of its operations is a
 /// linearization of the run, and the item of an event at which the history fails is one at which
 /// the run fails.
@@ -58,12 +72,15 @@ pub fn judgements_are_of_runs()
 pub fn judgements_are_of_records<K: Kind>(kept: &Record<K>)
     ensures judged { (most : ℕ) (j : Judgement) → IsJudgement most (history_of kept.now) j →
         IsSoOf kept.now j }
+    ensures fails { (most : ℕ) (f : Failing) → IsRunJudgement most kept.now f →
+        FailsThere kept.now f }
     ensures once { TellsEachOnce kept.now }
 {
     // What `items` and `lines` promise: the run is a valid one, of a listing.
     let _items = kept.items();
     let _lines = kept.machine().program().listing().lines();
     judgements_are_of_runs();
+    failings_are_of_runs();
     runs_tell_each_once();
 }
 

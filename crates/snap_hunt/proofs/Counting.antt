@@ -1,4 +1,4 @@
--- `Counts`: the steps of a run and its busy processes, after one item more.
+-- `HasCounted`: the steps of a run and its busy processes, after one item more.
 use Rattle.std.proofs.Common.{◌≡◌, ℕ, suc, ◌+◌, ◌-◌, ◌<◌, ◌≤◌, ◌&&◌, Bool, true, false, List, ◌∷◌, inl, inr, length, drop, get_or}
 use Rattle.std.proofs.Common.{Option, None, Some, [], refl, sym, ap, subst, ◌∙◌, arith}
 use Rattle.std.specs.Iterator.{YieldsFirst}
@@ -26,7 +26,7 @@ use Rattle.snap_runs.proofs.Transitions.{MaySkip, Transition, skipped, calls, go
 use Rattle.snap_walk.specs.Walk.{IsUntold, Passes, Tells, TellsNone, Way, is_untold, look, way}
 use Rattle.snap_walk.specs.declared.passed.Passed.{Passed}
 use Rattle.snap_walk.specs.Walking.{is_busy, is_step}
-use Rattle.snap_hunt.specs.Counting.{AreUntold, Counts}
+use Rattle.snap_hunt.specs.Counting.{AreUntold, HasCounted}
 use Rattle.snap_hunt.specs.Failing.{many_steps, overrun, overrun_at}
 use Rattle.snap_hunt.specs.Firsts.{first_found}
 use Rattle.snap_hunt.specs.Watching.{CountsSteps, is_taken, noted, noted_if, overrun_by}
@@ -75,7 +75,7 @@ pub busy_beside : (r : Run) (t j : ℕ) → IsValidRun r → t < length r.items 
     is_busy (process_at (state r (suc t)) j).status ≡ is_busy (process_at (state r t) j).status
 busy_beside r t j valid lt one other = ap is_busy (other_turn r valid t j lt one other)
 
-module _ (r : Run) (most t : ℕ) (quiet : List Bool) (c : StepCounter) (h : Counts r most t c)
+module _ (r : Run) (most t : ℕ) (quiet : List Bool) (c : StepCounter) (h : HasCounted r most t c)
     (u : IsUntold quiet false (way r t)) where
   facts :
       (is_called (outcome r (suc t)) ≡ false)
@@ -169,24 +169,24 @@ left_behind r t (Some x) xs ys lt left gives = (next_left r t x xs ys lt left gi
 
 -- the items before the one that is told are counted
 pub up_to_told : (w w' : Way) (p : Passed) (quiet : List Bool) (most : ℕ) (c next : StepCounter) →
-    Counts w.run most w.at c → (tells : Tells quiet false w p w') →
-    ((r : Run) (quiet : List Bool) → Counts r most c.done c → AreUntold quiet r c.done (p.number - 1) →
-    c.done ≤ p.number - 1 → Counts r most (p.number - 1) next) →
-    Counts tells.between.run most tells.between.at next
+    HasCounted w.run most w.at c → (tells : Tells quiet false w p w') →
+    ((r : Run) (quiet : List Bool) → HasCounted r most c.done c → AreUntold quiet r c.done (p.number - 1) →
+    c.done ≤ p.number - 1 → HasCounted r most (p.number - 1) next) →
+    HasCounted tells.between.run most tells.between.at next
 up_to_told w w' p quiet most c next h tells counted =
     let v = tells.between in
     let number = tells.passes.number in
     let order = tells.over.order in
     let done = h.done in
     let before : p.number - 1 ≡ v.at = omega (arith, number) in
-    let so : Counts w.run most (p.number - 1) next =
-    counted w.run quiet (subst (λ k. Counts w.run most k c) (sym done) h)
+    let so : HasCounted w.run most (p.number - 1) next =
+    counted w.run quiet (subst (λ k. HasCounted w.run most k c) (sym done) h)
     (λ t low high. tells.over.untold t (omega (arith, done, low)) (omega (arith, before, high)))
     (omega (arith, done, before, order)) in
-    subst (λ (r : Run). Counts r most v.at next) (sym tells.over.run) (subst (λ k. Counts w.run most k next) before so)
+    subst (λ (r : Run). HasCounted r most v.at next) (sym tells.over.run) (subst (λ k. HasCounted w.run most k next) before so)
 
 -- after the item that is told it is known again of each process whether it is busy
-pub busy_told : (v w' : Way) (p : Passed) (most : ℕ) (c : StepCounter) (b : Bool) → Counts v.run most v.at c →
+pub busy_told : (v w' : Way) (p : Passed) (most : ℕ) (c : StepCounter) (b : Bool) → HasCounted v.run most v.at c →
     Passes v p w' → b ≡ is_busy (process_at (state w'.run w'.at) (who p.item)).status → (j : ℕ) →
     IsOneOf v.run.shape.n j → (d : Bool) →
     get_or (slice_set c.busy.items (who p.item - 1) b) (j - 1) d
@@ -210,15 +210,15 @@ busy_told v w' p most c b h is stands j one d =
     ]
 
 -- the item that is told is counted
-pub told_counts : (v w' : Way) (p : Passed) (most : ℕ) (c c' : StepCounter) → Counts v.run most v.at c → Passes v p w' →
+pub told_counts : (v w' : Way) (p : Passed) (most : ℕ) (c c' : StepCounter) → HasCounted v.run most v.at c → Passes v p w' →
     c'.done ≡ c.done + 1 → c'.most ≡ c.most → c'.ahead ≡ drop (suc v.at) v.run.items →
     CountsSteps w'.run most w'.at c'.owns.items c'.overrun → length c'.busy.items ≡ v.run.shape.n →
     ((j : ℕ) → IsOneOf v.run.shape.n j → (d : Bool) →
     get_or c'.busy.items (j - 1) d ≡ is_busy (process_at (state v.run (suc v.at)) j).status) →
-    Counts w'.run most w'.at c'
+    HasCounted w'.run most w'.at c'
 told_counts v w' p most c c' h is done most_is left steps count busy =
     let before = h.done in
-    subst (λ (u : Way). Counts u.run most u.at c') (sym is.way) (record {
+    subst (λ (u : Way). HasCounted u.run most u.at c') (sym is.way) (record {
       valid = h.valid;
       few = h.few;
       done = omega (arith, done, before);
@@ -231,11 +231,11 @@ told_counts v w' p most c c' h is done most_is left steps count busy =
     })
 
 -- Behind the last item that is told a walk passes over all others, which are counted then.
-module _ (w w' : Way) (quiet : List Bool) (most until : ℕ) (c : StepCounter) (h : Counts w.run most w.at c)
+module _ (w w' : Way) (quiet : List Bool) (most until : ℕ) (c : StepCounter) (h : HasCounted w.run most w.at c)
     (none : TellsNone quiet false w w') (end : until ≡ w'.at) where
-  pub counts_here : Counts w.run c.most c.done c
+  pub counts_here : HasCounted w.run c.most c.done c
   counts_here =
-      subst (λ m. Counts w.run m c.done c) (sym h.most_is) (subst (λ t. Counts w.run most t c) (sym h.done) h)
+      subst (λ m. HasCounted w.run m c.done c) (sym h.most_is) (subst (λ t. HasCounted w.run most t c) (sym h.done) h)
 
   pub all_untold : AreUntold quiet w.run c.done until
   all_untold = λ t low high.
@@ -248,7 +248,7 @@ module _ (w w' : Way) (quiet : List Bool) (most until : ℕ) (c : StepCounter) (
       let order = none.over.order in
       omega (arith, done, end, order)
 
-  pub all_counted : (next : StepCounter) → Counts w.run c.most until next → next.overrun ≡ many_steps most w'.run
+  pub all_counted : (next : StepCounter) → HasCounted w.run c.most until next → next.overrun ≡ many_steps most w'.run
   all_counted next so =
       so.steps.found_is
       ∙ ap (λ m. first_found (overrun_at w.run m) until) h.most_is

@@ -1,4 +1,4 @@
--- `Counts`: by how many items of a run its steps are counted, and which of its processes are busy then.
+-- `HasCounted`: the steps of the first items of a run are counted, and which processes are busy behind them is known.
 use Rattle.std.specs.Prelude.{◌≡◌, ℕ, ◌-◌, ◌<◌, ◌≤◌, Bool, false, List, length, drop, get_or}
 use Rattle.snap_words.specs.Shape.{IsOneOf, max_items}
 use Rattle.snap_semantics.specs.State.{process_at}
@@ -8,8 +8,8 @@ use Rattle.snap_walk.specs.Walking.{is_busy}
 use Rattle.snap_hunt.specs.Watching.{CountsSteps}
 use Rattle.snap_hunt.specs.declared.step_counter.StepCounter.{StepCounter}
 
--- of the first t items of a run the steps are counted
-pub record Counts (r : Run) (most t : ℕ) (c : StepCounter) : Type 0 where
+-- The steps of the first t items of a run are counted.
+pub record HasCounted (r : Run) (most t : ℕ) (c : StepCounter) : Type 0 where
   pub valid : IsValidRun r
   pub few : length r.items ≤ max_items
   pub done : c.done ≡ t
@@ -21,6 +21,6 @@ pub record Counts (r : Run) (most t : ℕ) (c : StepCounter) : Type 0 where
   pub busy : (i : ℕ) → IsOneOf r.shape.n i → (d : Bool) →
       get_or c.busy.items (i - 1) d ≡ is_busy (process_at (state r t) i).status
 
--- a walk passes over these items of a run
+-- A walk passes over the items of a run behind one number up to another.
 abbrev pub AreUntold : List Bool → Run → (from until : ℕ) → Type 0
 AreUntold quiet r from until = (t : ℕ) → from ≤ t → t < until → IsUntold quiet false (way r t)

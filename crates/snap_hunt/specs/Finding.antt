@@ -1,5 +1,5 @@
--- `Finds`: what a search for failures comes to in a run. The search for an order that explains the history may come to
--- no end, so what is found is not a function of the run alone.
+-- `Finds`: what a search for failures comes to in a run. A search may leave it undecided whether the run is
+-- linearizable, so what is found is not a function of the run alone.
 use Rattle.std.specs.Prelude.{◌≡◌, ℕ, ◌-◌, Bool, true, false, ◌⊎◌, Option, Some, None, slice_index_or}
 use Rattle.snap_semantics.specs.Rules.{or_else}
 use Rattle.snap_semantics.specs.declared.event.Event.{Event}

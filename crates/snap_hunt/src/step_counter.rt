@@ -6,7 +6,7 @@ ghost use Rattle.snap_semantics.specs.Table.{who};
 ghost use Rattle.snap_runs.specs.Run.{Run};
 ghost use Rattle.snap_walk.specs.Walk.{IsUntold, Passes, Tells, TellsNone, Way, way};
 ghost use Rattle.snap_walk.specs.Walking.{is_busy, is_step};
-ghost use Rattle.snap_hunt.specs.Counting.{AreUntold, Counts};
+ghost use Rattle.snap_hunt.specs.Counting.{AreUntold, HasCounted};
 ghost use Rattle.snap_hunt.specs.Failing.{many_steps};
 
 use crate::failures::{Failure, OwnSteps};
@@ -17,12 +17,12 @@ use snap_walk::{Passed, Walk};
 use snap_words::Kind;
 use std::alloc::{AllocError, Global};
 
-/// The steps of the operations of a run, by the items that are counted so far.
+/// The steps of the operations of a run, over its first items.
 #[derive(Drop)]
 pub(crate) struct StepCounter<'a> {
-    /// The items that are not counted.
+    /// The items that come next.
     ahead: ItemIter<'a>,
-    /// How many items are counted.
+    /// How many items are done.
     done: u64,
     /// How many steps an operation may take.
     most: u64,
@@ -63,7 +63,7 @@ impl<'a> StepCounter<'a> {
         most: u64,
     ) -> Result<StepCounter<'a>, AllocError>
         ensures { IfOk result (λ c. (r : Run) → r.items ≡ schedule.now.items →
-            r.shape ≡ schedule.now.shape → Counts r most 0 c) }
+            r.shape ≡ schedule.now.shape → HasCounted r most 0 c) }
     {
         let items = schedule.items();
         let n = schedule.shape().n();
@@ -79,11 +79,11 @@ impl<'a> StepCounter<'a> {
 
     /// Counts the next item, over which a walk passes.
     fn pass_next(&mut self)
-        requires { (r : Run) × (quiet : List Bool) × Counts r self.old.most self.old.done self.old
+        requires { (r : Run) × (quiet : List Bool) × HasCounted r self.old.most self.old.done self.old
             × IsUntold quiet false (way r self.old.done) }
-        ensures counted { (r : Run) (quiet : List Bool) → Counts r self.old.most self.old.done self.old →
+        ensures counted { (r : Run) (quiet : List Bool) → HasCounted r self.old.most self.old.done self.old →
             IsUntold quiet false (way r self.old.done) →
-            Counts r self.old.most (suc self.old.done) self.new }
+            HasCounted r self.old.most (suc self.old.done) self.new }
         ensures most { self.new.most ≡ self.old.most }
     {
         let Some(item) = self.ahead.next() else {
@@ -104,11 +104,11 @@ impl<'a> StepCounter<'a> {
 
     /// Counts the items up to item number `until`, over all of which a walk passes.
     fn pass(&mut self, until: u64)
-        requires { (r : Run) × (quiet : List Bool) × Counts r self.old.most self.old.done self.old
+        requires { (r : Run) × (quiet : List Bool) × HasCounted r self.old.most self.old.done self.old
             × AreUntold quiet r self.old.done until × (self.old.done ≤ until) }
-        ensures counted { (r : Run) (quiet : List Bool) → Counts r self.old.most self.old.done self.old →
+        ensures counted { (r : Run) (quiet : List Bool) → HasCounted r self.old.most self.old.done self.old →
             AreUntold quiet r self.old.done until → self.old.done ≤ until →
-            Counts r self.old.most until self.new }
+            HasCounted r self.old.most until self.new }
         ensures most { self.new.most ≡ self.old.most }
     {
         while self.done < until {
@@ -118,9 +118,9 @@ impl<'a> StepCounter<'a> {
 
     /// Counts the next item, which a walk has told last.
     fn note_told<K: Kind>(&mut self, walk: &Walk<'_, K>, passed: &Passed)
-        requires { (v : Way) × Counts v.run self.old.most v.at self.old
+        requires { (v : Way) × HasCounted v.run self.old.most v.at self.old
             × Passes v passed.now walk.now }
-        ensures counted { Counts walk.now.run self.old.most walk.now.at self.new }
+        ensures counted { HasCounted walk.now.run self.old.most walk.now.at self.new }
         ensures most { self.new.most ≡ self.old.most }
     {
         let _told = self.ahead.next();
@@ -139,9 +139,9 @@ impl<'a> StepCounter<'a> {
 
     /// Counts the items up to the one that a walk has told last.
     pub(crate) fn note<K: Kind>(&mut self, walk: &Walk<'_, K>, passed: &Passed)
-        requires { (w : Way) × (quiet : List Bool) × Counts w.run self.old.most w.at self.old
+        requires { (w : Way) × (quiet : List Bool) × HasCounted w.run self.old.most w.at self.old
             × Tells quiet false w passed.now walk.now }
-        ensures counted { Counts walk.now.run self.old.most walk.now.at self.new }
+        ensures counted { HasCounted walk.now.run self.old.most walk.now.at self.new }
         ensures most { self.new.most ≡ self.old.most }
     {
         self.pass(passed.number - 1);
@@ -150,10 +150,10 @@ impl<'a> StepCounter<'a> {
 
     /// Counts the items that are left, over all of which a walk has passed, and returns the first
     /// operation of its run that has taken more steps than it may.
-    pub(crate) fn finish<K: Kind>(&mut self, walk: &Walk<'_, K>) -> Option<Failure>
-        requires { (w : Way) × (quiet : List Bool) × Counts w.run self.old.most w.at self.old
+    pub(crate) fn finish<K: Kind>(mut self, walk: &Walk<'_, K>) -> Option<Failure>
+        requires { (w : Way) × (quiet : List Bool) × HasCounted w.run self.most w.at self
             × TellsNone quiet false w walk.now }
-        ensures { result ≡ many_steps self.old.most walk.now.run }
+        ensures { result ≡ many_steps self.entry.most walk.now.run }
     {
         self.pass(walk.done());
         self.overrun

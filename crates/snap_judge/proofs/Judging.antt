@@ -61,7 +61,7 @@ undecided_decides most h steps f =
     subst (λ (xs : List Step). MeetsMoreThan most (made xs (replicate h.shape.w 0) (replicate h.shape.n Free))) f.steps
     f.found
 
--- Where a history fails by a judgement that is so.
+-- A judgement that is so says where the history fails.
 pub fails_so : (most : ℕ) (h : History) (j : Judgement) → IsJudgement most h j → IsFailing most h (failing_of j)
 fails_so most h (judgement.Linearizable order) is = (map operation_of order.items, is)
 fails_so most h (judgement.NotLinearizable k) is = is
@@ -73,7 +73,7 @@ names_event most h failing.Nowhere is = tt
 names_event most h (failing.At k) is = is.is_event
 names_event most h (failing.Undecided k) is = is.0
 
--- The history up to its last event is all of it.
+-- Up to its last event, or further, a history is all of it.
 pub up_to_whole : (k : ℕ) (h : History) → length h.events ≤ k → up_to k h ≡ h
 up_to_whole k h few =
     ap (λ (es : List Event). record { shape = h.shape; events = es }) (take_all k h.events few)

@@ -1,12 +1,12 @@
 -- What a search may leave out.
-use Rattle.std.proofs.Common.{◌≡◌, ℕ, ◌-◌, ◌⊎◌, inl, inr, List, [], ◌∷◌, get_or}
+use Rattle.std.proofs.Common.{◌≡◌, ℕ, ◌-◌, ◌⊎◌, inl, inr, List, [], ◌∷◌}
 use Rattle.std.proofs.Common.{sym, ◌∙◌, ap, subst}
 use Rattle.std.proofs.Math.ListN.{set}
 use Rattle.std.proofs.lemmas.Bool.{cases_eq}
 use Rattle.std.proofs.lemmas.List.{get_or-set_other, set_comm}
 use Rattle.snap_runs.specs.Operation.{Sees, Operation}
 use Rattle.snap_runs.specs.Linearization.{Allows, after}
-use Rattle.snap_judge.specs.Steps.{Step, Calls, Waits, Slot, Free, Open, Taken, MayPass, passed, slot, with_slot}
+use Rattle.snap_judge.specs.Steps.{Step, Slot, Free, Open, Taken, MayPass, passed, slot, with_slot}
 use Rattle.snap_judge.specs.Steps.{Move, Take, Pass, Explains, CanBeExplained}
 use Rattle.snap_judge.proofs.SearchSlots.{at, one_open, Apart, IsThere, place_of}
 use Rattle.snap_judge.proofs.SearchSlots.{passes_by, may_pass, passed_with, nothing_passes, turned}
@@ -14,11 +14,6 @@ use Rattle.snap_judge.proofs.SearchSlots.{passes_by, may_pass, passed_with, noth
 -- The operation is a scan.
 abbrev pub IsScan : Operation → Type 0
 IsScan o = (view : List ℕ) × (o.action ≡ Sees view)
-
--- Of the operations that are open, and of those that are yet to be called, none is such.
-pub record NoneOf (P : Operation → Type 0) (xs : List Step) (S : List Slot) : Type 0 where
-  pub here : (q : ℕ) (o : Operation) → at S q ≡ Open o → P o → ⊥
-  pub later : (t : ℕ) (o : Operation) → get_or xs t Waits ≡ Calls o → P o → ⊥
 
 -- An operation that leaves no trace may as well have taken place already: what can be explained can be explained with
 -- it taken. `Traceless` says when it leaves no trace, and is kept.

@@ -24,26 +24,26 @@ pub record FailsAt (h : History) (k : ℕ) : Type 0 where
   pub before : IsLinearizableHistory (up_to (k - 1) h)
   pub fails : IsLinearizableHistory (up_to k h) → ⊥
 
--- Where a history is said to fail is so: nowhere, at that event, or up to that event there are more than `most`
--- configurations at which something has to be chosen.
+-- Where a history is said to fail is so: the history is linearizable; or it fails at that event; or up to that event,
+-- which is one of it, more than `most` configurations can be met at which something has to be chosen.
 abbrev pub IsFailing : (most : ℕ) → History → Failing → Type 0
 IsFailing most h failing.Nowhere = IsLinearizableHistory h
 IsFailing most h (failing.At k) = FailsAt h k
 IsFailing most h (failing.Undecided k) = IsOneOf (length h.events) k × MeetsMoreThan most (beginning (up_to k h))
 
--- where a history fails that is judged so
+-- where a history fails by this judgement
 abbrev pub failing_of : Judgement → Failing
 failing_of (judgement.Linearizable order) = failing.Nowhere
 failing_of (judgement.NotLinearizable k) = failing.At k
 failing_of (judgement.Undecided k) = failing.Undecided k
 
--- A judgement of a history is so: its order is a linearization of the history; or the history fails where it says.
+-- A judgement of a history is so: its order is a linearization of the history, or what it says of an event is so.
 abbrev pub IsJudgement : (most : ℕ) → History → Judgement → Type 0
 IsJudgement most h (judgement.Linearizable order) = IsLinearizationOf h (map operation_of order.items)
 IsJudgement most h (judgement.NotLinearizable k) = IsFailing most h (failing.At k)
 IsJudgement most h (judgement.Undecided k) = IsFailing most h (failing.Undecided k)
 
--- The event that is named, counted from 1, is one of the history.
+-- The event that is named, if one is, is one of the history; events count from 1.
 abbrev pub NamesEvent : History → Failing → Type 0
 NamesEvent h failing.Nowhere = ⊤
 NamesEvent h (failing.At k) = IsOneOf (length h.events) k

@@ -1,10 +1,9 @@
 //! Which open updates have to be tried before an end that may not pass.
-ghost use Rattle.std.specs.Prelude.{◌≡◌, ◌-◌, ◌<◌, ◌≤◌, ℕ, List, true, false, slice_index_or, length};
+ghost use Rattle.std.specs.Prelude.{◌≡◌, ◌-◌, ◌<◌, ◌≤◌, ℕ, List, true, false, length};
 ghost use Rattle.std.specs.Prelude.{IfNone, IfSome};
 ghost use Rattle.snap_runs.specs.Operation.{Sees, Sets};
 ghost use Rattle.snap_judge.specs.Kept.{AreSteps, IsConfig, IsSettled, called_at};
 ghost use Rattle.snap_judge.specs.Choices.{IsAlone, IsChoice, IsScanAt, IsUnwanted, NotNowAt, Wants};
-ghost use Rattle.snap_judge.specs.declared.config.Slot.TheVariants as kept_slot;
 
 use crate::config::{Config, OpenUpdate, Slot, Step};
 use crate::operation::Action;

@@ -22,7 +22,8 @@ pub enum Decision {
     Undecided,
 }
 
-/// Returns an operation that sees no words, which stands for what a step calls that calls none.
+/// Returns an operation that sees no words, which stands for the operation of a step that calls
+/// none.
 fn no_operation(process: u32) -> Operation<'static>
     ensures { operation_of result ≡ called_by (steps.Ends process) }
 {
@@ -35,7 +36,7 @@ fn no_operation(process: u32) -> Operation<'static>
 }
 
 /// Returns the operation that this step calls; of another step, one that sees no words.
-fn called<'a>(step: Step<'a>) -> Operation<'a>
+fn called(step: Step<'_>) -> Operation<'_>
     ensures { operation_of result ≡ called_by (step_of_kept step.entry) }
 {
     match step {

@@ -33,7 +33,7 @@ pub enum Failing {
     /// is.
     At(usize),
     /// The search has not decided whether the history is linearizable up to this event, counted
-    /// from 1.
+    /// from 1: more configurations can be met on the way there than it may keep.
     Undecided(usize),
 }
 
@@ -57,7 +57,7 @@ fn failure(alloc: Global, history: &History, most: usize) -> Result<Judgement<'_
     Ok(Judgement::NotLinearizable(fails))
 }
 
-/// Returns where a history fails that is judged so.
+/// Returns where a history fails by this judgement.
 pub fn failing_of(judgement: &Judgement<'_>) -> Failing
     ensures { result ≡ failing_of judgement.now }
 {
@@ -88,15 +88,16 @@ pub fn judge(alloc: Global, history: &History, most: usize) -> Result<Judgement<
     let (steps, found) = search_events(alloc, history, count, most)?;
     match found {
         Found::Explained(order) => {
-            let order = operations(alloc, &steps, &order)?;
-            Ok(Judgement::Linearizable(order))
+            let ordered = operations(alloc, &steps, &order)?;
+            Ok(Judgement::Linearizable(ordered))
         }
         Found::Unexplained => failure(alloc, history, most),
         Found::Undecided => Ok(Judgement::Undecided(count)),
     }
 }
 
-/// Returns where `history` fails, as `judge` finds it, without an order of the operations.
+/// Returns where `history` fails, by such a search as that of `judge`; no order of the operations
+/// is made.
 ///
 /// # Errors
 ///

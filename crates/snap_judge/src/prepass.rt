@@ -88,7 +88,7 @@ fn step_at<'a>(event: &Event, rest: &'a [Event]) -> Step<'a>
 pub fn steps_of(alloc: Global, events: &[Event]) -> Result<Vec<Step<'_>>, AllocError>
     ensures { IfOk result (λ s. steps_kept s.items ≡ steps_of events.now) }
 {
-    let mut steps = Vec::new(alloc);
+    let mut steps = Vec::with_capacity(alloc, events.len())?;
     for place in 0..events.len() {
         let step = step_at(&events[place], &events[place + 1..]);
         steps.push(step)?;

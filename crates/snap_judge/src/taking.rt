@@ -1,5 +1,5 @@
 //! An update takes place, and the scans that then can.
-ghost use Rattle.std.specs.Prelude.{◌≡◌, ◌-◌, ◌+◌, ◌<◌, length, slice_set, OnOk};
+ghost use Rattle.std.specs.Prelude.{◌≡◌, ◌-◌, ◌<◌, length, slice_set, OnOk};
 ghost use Rattle.snap_words.specs.Shape.{IsOneOf};
 ghost use Rattle.snap_judge.specs.Kept.{IsConfig, IsSettled, KeepsCounts};
 ghost use Rattle.snap_judge.specs.Choices.{HasTaken, IsChoice};

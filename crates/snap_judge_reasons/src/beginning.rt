@@ -1,4 +1,4 @@
-//! `Beginning`: the first events of a history, which stand there.
+//! `Beginning`: the first events of a history, by reference.
 ghost use Rattle.std.specs.Prelude.{◌≡◌, ◌≤◌, length};
 ghost use Rattle.snap_judge.specs.Linearizable.{up_to};
 

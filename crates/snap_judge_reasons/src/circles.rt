@@ -9,24 +9,24 @@ use crate::reason::Reason;
 use snap_judge::Operation;
 
 /// Returns whether the reasons are a chain from one operation to another.
-fn is_chain<'a>(
+fn is_chain<'a, 'b>(
     history: &Beginning<'_>,
     operations: &[Operation<'_>],
-    reasons: &[Reason<'a>],
-    from: Operation<'a>,
-    to: Operation<'_>,
+    reasons: &'b [Reason<'a>],
+    from: &'b Operation<'a>,
+    to: &Operation<'_>,
 ) -> bool
-    ensures { result ≡ true → IsChain history.now (operation_of from.entry) reasons.now
-        (operation_of to.entry) }
+    ensures { result ≡ true → IsChain history.now (operation_of from.now) reasons.now
+        (operation_of to.now) }
 {
     let mut at = from;
     for reason in reasons {
-        if !is_same(&reason.first, &at) || !is_reason(history, operations, reason) {
+        if !is_same(&reason.first, at) || !is_reason(history, operations, reason) {
             return false;
         }
-        at = reason.second;
+        at = &reason.second;
     }
-    is_same(&at, &to)
+    is_same(at, to)
 }
 
 /// Returns whether the reasons are a circle. An update that a scan saw in place of another one is
@@ -41,5 +41,5 @@ pub fn is_circle(
     let Some(reason) = reasons.first() else {
         return false;
     };
-    is_chain(history, operations, reasons, reason.first, reason.first)
+    is_chain(history, operations, reasons, &reason.first, &reason.first)
 }

@@ -43,7 +43,7 @@ fn circle_at<'a>(
 }
 
 /// Returns why no order explains `history` up to its event number `count`, counted from 1: a
-/// shortest circle of reasons through the operation that ends there; `None` where there is none.
+/// shortest circle of reasons through the operation that ends there; `None` where none is found.
 ///
 /// If no value stands twice in a word, none is set to 0, and each word has one process that updates
 /// it, then there is such a circle at the event at which a history fails. Neither that nor that the
@@ -63,6 +63,6 @@ pub fn reasons(
     if count == 0 || history.events.len() < count {
         return Ok(None);
     }
-    let front = Beginning::of(history, count);
-    circle_at(alloc, &front, history.events[count - 1].item)
+    let beginning = Beginning::of(history, count);
+    circle_at(alloc, &beginning, history.events[count - 1].item)
 }

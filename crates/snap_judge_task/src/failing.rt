@@ -3,7 +3,7 @@ ghost use Rattle.std.specs.Prelude.{IfOk, length};
 ghost use Rattle.snap_text.specs.Drafted.{Adds};
 ghost use Rattle.snap_words.specs.Shape.{IsOneOf};
 ghost use Rattle.snap_judge.specs.History.{IsHistory};
-ghost use Rattle.snap_judge.specs.Judgement.{NamesEvent};
+ghost use Rattle.snap_judge.specs.Judgement.{IsFailing};
 ghost use Rattle.snap_judge_task.specs.Failing.{Fails, IsMore, TellsWhy, WasBefore, before_text};
 ghost use Rattle.snap_judge_task.specs.Failing.{order_text};
 
@@ -105,7 +105,7 @@ pub fn with_more(
     most: u64,
 ) -> Result<Vec<u8>, AllocError>
     requires history { IsHistory history }
-    requires event { NamesEvent history failing }
+    requires failing { IsFailing most history failing }
     ensures { IfOk result (λ longer. IsMore most history failing text.items longer.items) }
 {
     match failing {

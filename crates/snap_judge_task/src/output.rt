@@ -28,11 +28,11 @@ fn told(alloc: Global, history: History, most: u64) -> Result<JudgeOutput, Alloc
     requires { IsHistory history }
     ensures { IfOk result (λ out. TellsOf most history out.text.items out.word) }
 {
-    let judgement = judge(alloc, &history, most as usize)?;
-    let judged = judgement_text(alloc, &history, &judgement)?;
-    let failing = failing_of(&judgement);
-    // The judgement refers to the history, which goes on to `with_more`.
-    drop(judgement);
+    let (judged, failing) = {
+        let judgement = judge(alloc, &history, most as usize)?;
+        let judged = judgement_text(alloc, &history, &judgement)?;
+        (judged, failing_of(&judgement))
+    };
     let text = with_more(alloc, judged, history, failing, most)?;
     let word = word_of(failing);
     Ok(JudgeOutput { text, word })

@@ -18,7 +18,6 @@ use Rattle.snap_input.specs.Input.{parted}
 use Rattle.snap_input.specs.Parts.{part, parts_of, max_input}
 use Rattle.snap_output.specs.ScheduleOutput.{audit_of_first_text, batched}
 use Rattle.snap_output.specs.Perform.{debug_text, perform_listing}
-use Rattle.snap_tasks.specs.declared.subject.Subject.{Subject}
 use Rattle.snap_tasks.specs.declared.task.Task.{Task}
 use Rattle.snap_tasks.specs.declared.task.Task.TheVariants as task
 

@@ -1,8 +1,8 @@
 //! What a picture crosses out: the operation whose end is the first event up to which no order of
 //! the operations explains what the callers saw.
 ghost use Rattle.std.specs.Prelude.{◌≡◌, ◌++◌, IfOk, OnOk, option_map};
-ghost use Rattle.snap_run_judge.specs.RunHistory.{history_of};
 ghost use Rattle.snap_judge.specs.Judgement.{NamesEvent};
+ghost use Rattle.snap_run_judge.specs.RunHistory.{history_of};
 ghost use Rattle.snap_picture.specs.ShapeText.{bar_span};
 ghost use Rattle.snap_picture.specs.Crossed.{crossed_at, crossed_bar, crossed_out, crossed_shape};
 ghost use Rattle.snap_picture.specs.Crossed.{wrong_at};

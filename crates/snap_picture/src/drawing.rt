@@ -1,5 +1,5 @@
 //! `picture`: reads a schedule, runs a listing over it, and draws the run as SVG.
-ghost use Rattle.std.specs.Prelude.{◌≡◌, ◌≤◌, IfOk, Option, length, option_map};
+ghost use Rattle.std.specs.Prelude.{◌≡◌, ◌≤◌, IfOk, Option, option_map};
 ghost use Rattle.snap_words.specs.Shape.{max_items};
 ghost use Rattle.snap_runs.specs.Run.{run_over};
 ghost use Rattle.snap_semantics.specs.Answers.{Answers, Gives, refused_as};

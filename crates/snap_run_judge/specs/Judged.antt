@@ -1,5 +1,5 @@
--- What is written where runs are judged: whether a search decides, the input does not determine. So what is written is
--- defined of the judgements, and that there are judgements, which say what is so.
+-- What is written where runs are judged. The input does not determine whether a search decides, nor up to which event
+-- it does not; so what is written is defined of judgements, and there are such judgements, which say what is so.
 use Rattle.std.specs.Prelude.{◌≡◌, List, [], Result, Ok, Err}
 use Rattle.snap_semantics.specs.Answers.{IsRefusal}
 use Rattle.snap_semantics.specs.declared.fault.Fault.{Fault}

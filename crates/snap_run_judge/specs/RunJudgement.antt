@@ -13,12 +13,11 @@ use Rattle.snap_run_judge.specs.declared.linearizability.Linearizability.TheVari
 abbrev pub most_configurations : ℕ
 most_configurations = 1000000
 
--- what is said of the history of a run is so, and nothing is left undecided but where more than `most`
--- configurations were met
+-- Where the history of a run is said to fail is so.
 abbrev pub IsRunJudgement : (most : ℕ) → Run → Failing → Type 0
 IsRunJudgement most r f = IsFailing most (history_of r) f
 
--- the word for a run whose history fails there
+-- the word for what is said of where a history fails
 abbrev pub word_of : Failing → Linearizability
 word_of failing.Nowhere = word.Linearizable
 word_of (failing.At k) = word.NotLinearizable

@@ -28,8 +28,7 @@ pub fn has_history<K: Kind>(history: &Record<K>)
     runs_have_histories();
 }
 
-/// Judges whether the run of `history` is linearizable, and returns at which event it fails if it is
-/// not.
+/// Returns where the run of `history` fails.
 ///
 /// # Errors
 ///
@@ -48,8 +47,7 @@ pub fn judge_record<K: Kind>(
     judge_without_order(alloc, &events, most)
 }
 
-/// Judges whether the run of `program` that has the history `history` is linearizable, and returns
-/// at which event it fails if it is not.
+/// Returns where the run of `program` that has the history `history` fails.
 ///
 /// # Errors
 ///
@@ -70,7 +68,7 @@ pub fn judge_history(
     judge_without_order(alloc, history, most)
 }
 
-/// Returns the word for a run whose history fails there.
+/// Returns the word for what is said of where a history fails.
 pub fn word_of(failing: Failing) -> Linearizability
     ensures { result ≡ word_of failing }
 {
@@ -81,7 +79,7 @@ pub fn word_of(failing: Failing) -> Linearizability
     }
 }
 
-/// Returns the word for the run of a record, by a judgement of it, which says what is so of the run.
+/// Returns the word for the run of a record, by where its history fails.
 pub fn word_for<K: Kind>(history: &Record<K>, most: usize, failing: Failing) -> Linearizability
     requires { IsRunJudgement most history.now failing }
     ensures word { result ≡ word_of failing }

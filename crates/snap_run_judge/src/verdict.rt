@@ -1,7 +1,7 @@
 //! The line of a verdict on the run of a record.
 ghost use Rattle.snap_text.specs.Drafted.{Adds};
-ghost use Rattle.snap_run_judge.specs.RunHistory.{history_of};
 ghost use Rattle.snap_judge.specs.Judgement.{NamesEvent};
+ghost use Rattle.snap_run_judge.specs.RunHistory.{history_of};
 ghost use Rattle.snap_run_judge.specs.VerdictText.{verdict_text};
 
 use snap_history_text::{push_not_linearizable, push_undecided};

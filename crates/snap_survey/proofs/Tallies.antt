@@ -69,7 +69,7 @@ nothing_noted : (a : Tally) (t : ℕ) (x : Item) (o : Outcome) (s : Status) → 
 nothing_noted a t x o s is =
     subst (λ (p : Outcome). a ≡ noted a t x p s) (sym is) (rw (kept a.first_trap, kept a.first_skip) refl)
 
--- only of a trap the status is noted
+-- The status matters only where the item is a trap.
 pub untrapped : (a : Tally) (t : ℕ) (x : Item) (o : Outcome) (s stands : Status) → is_trap o ≡ false →
     noted a t x o s ≡ noted a t x o stands
 untrapped a t x outcomes.Called s stands is = refl
@@ -80,7 +80,7 @@ untrapped a t x (outcomes.Trapped cause) s stands is = absurd cc
 untrapped a t x outcomes.Crashed s stands is = refl
 untrapped a t x (outcomes.Skipped reason) s stands is = refl
 
--- nor does one that is skipped, behind the first
+-- behind the first skip no other is noted
 first_kept : (found other : Option Skip) → is_none found ≡ false → or_else found other ≡ found
 first_kept None other is = absurd cc
 first_kept (Some x) other is = refl

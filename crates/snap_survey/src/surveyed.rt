@@ -1,7 +1,6 @@
 //! `survey`: a machine goes through the run of a schedule, watched as for an audit, and a `Tally`
 //! is kept of its items. Of what was noted the `Survey` of the run is made.
 ghost use Rattle.std.specs.Prelude.{◌≡◌, IfOk, length};
-ghost use Rattle.snap_semantics.specs.State.{State};
 ghost use Rattle.snap_runs.specs.Run.{run_over};
 ghost use Rattle.snap_runs.specs.Scan.{count};
 ghost use Rattle.snap_walk.specs.Walk.{Way};

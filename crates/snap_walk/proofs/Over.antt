@@ -21,14 +21,6 @@ use Rattle.snap_walk.specs.Glance as glance
 use Rattle.snap_walk.specs.declared.passed.Passed.{Passed}
 
 module _ (quiet : List Bool) (skips : Bool) where
-  -- no item
-  pub over_none : (w : Way) → PassesOver quiet skips w w
-  over_none w = record {
-    run = refl;
-    order = omega arith;
-    untold = λ t low high. absurd (omega (arith, low, high));
-  }
-
   -- some items, and some more
   pub over_more : (w v u : Way) → PassesOver quiet skips w v → PassesOver quiet skips v u → PassesOver quiet skips w u
   over_more w v u h more = record {

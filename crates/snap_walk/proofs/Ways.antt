@@ -9,7 +9,6 @@ use Rattle.snap_semantics.specs.declared.process.Item.{Item}
 use Rattle.snap_semantics.specs.declared.process.Activity.{Activity}
 use Rattle.snap_semantics.specs.declared.process.Cause.{Cause}
 use Rattle.snap_semantics.specs.declared.process.Item.TheVariants.{Step, Call, Crash}
-use Rattle.snap_semantics.specs.declared.process.Outcome.{Outcome}
 use Rattle.snap_semantics.specs.declared.process.Outcome.TheVariants.{Skipped}
 use Rattle.snap_semantics.specs.declared.process.Reason.{Reason}
 use Rattle.snap_semantics.specs.declared.process.Status.{Status}
@@ -31,16 +30,6 @@ items_more r t below = take-suc r.items t (Step 0) below
 -- behind the last item they are all
 pub all_items : (r : Run) (t : ℕ) → t ≡ length r.items → take t r.items ≡ r.items
 all_items r t end = take_all t r.items (omega (arith, end))
-
--- at the end of the schedule the state is that after all items
-pub end_state : (r : Run) (t : ℕ) → t ≡ length r.items →
-    state r t ≡ after r.source r.shape (initial r.source r.shape) r.items
-end_state r t end = ap (after r.source r.shape (initial r.source r.shape)) (all_items r t end)
-
--- at the end of the schedule the events are those of all items
-pub end_events : (r : Run) (t : ℕ) → t ≡ length r.items →
-    events_of r t ≡ events r.source r.shape (initial r.source r.shape) 1 r.items
-end_events r t end = ap (events r.source r.shape (initial r.source r.shape) 1) (all_items r t end)
 
 -- events of items, and of one behind them
 events_last : (s : Source) (n : Counts) (S : State) (t : ℕ) (xs : List Item) (x : Item) →
@@ -75,15 +64,6 @@ pub passed_state : (w w' : Way) (p : Passed) → Passes w p w' →
 passed_state w w' p is =
     ap (λ (v : Way). state v.run v.at) is.way ∙ next_state w.run w.at is.left
     ∙ ap (λ (x : Item). (done w.run.source w.run.shape (state w.run w.at) x).0) (sym is.item)
-
--- the event of an item that is passed is the next event of the run
-pub passed_events : (w w' : Way) (p : Passed) → Passes w p w' →
-    events_of w'.run w'.at ≡ events_of w.run w.at ++ event_of p.number p.item p.outcome
-passed_events w w' p is =
-    ap (λ (v : Way). events_of v.run v.at) is.way ∙ events_more w.run w.at is.left
-    ∙ ap (λ k. events_of w.run w.at ++ event_of k (item w.run (suc w.at)) (outcome w.run (suc w.at))) (sym is.number)
-    ∙ ap (λ (x : Item). events_of w.run w.at ++ event_of p.number x (outcome w.run (suc w.at))) (sym is.item)
-    ∙ ap (λ (o : Outcome). events_of w.run w.at ++ event_of p.number p.item o) (sym is.outcome)
 
 -- a step that goes on or ends is not skipped
 left_done : (S : State) (i : ℕ) (a : Activity) (l : Locals) (e : Result Effect Cause) (r : Reason) →

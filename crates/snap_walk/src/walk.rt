@@ -220,8 +220,8 @@ impl<'a, K: Kind> Walk<'a, K> {
             if let Item::Step(i) = item
                 && let Status::Busy(activity) = self.machine().status(i)
             {
-                let outcome = self.step_at(i, &activity)?;
                 let is_quiet = is_quiet(quiet, activity.line);
+                let outcome = self.step_at(i, &activity)?;
                 if !is_quiet || !has_stepped(&outcome) {
                     return Ok(Some(self.passed(Item::Step(i), told(is_quiet, activity), outcome)));
                 }

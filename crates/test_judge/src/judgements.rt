@@ -8,7 +8,7 @@ const TURNS: usize = 100;
 
 /// Returns whether a history is judged linearizable, with the operations called at these events in
 /// this order.
-fn has_order(judgement: &Judgement, calls: &[u64]) -> bool {
+fn has_order(judgement: &Judgement<'_>, calls: &[u64]) -> bool {
     match judgement {
         Judgement::Linearizable(order) => {
             order.len() == calls.len()
@@ -23,7 +23,7 @@ fn has_order(judgement: &Judgement, calls: &[u64]) -> bool {
 }
 
 /// Returns whether a history is judged not to be linearizable at this event, and at none before it.
-fn fails_at(judgement: &Judgement, event: usize) -> bool {
+fn fails_at(judgement: &Judgement<'_>, event: usize) -> bool {
     match judgement {
         Judgement::NotLinearizable(at) => *at == event,
         Judgement::Linearizable(_) => false,
@@ -32,7 +32,7 @@ fn fails_at(judgement: &Judgement, event: usize) -> bool {
 }
 
 /// Returns whether it is left open if the history is linearizable up to this event.
-fn is_open_at(judgement: &Judgement, event: usize) -> bool {
+fn is_open_at(judgement: &Judgement<'_>, event: usize) -> bool {
     match judgement {
         Judgement::Undecided(at) => *at == event,
         Judgement::Linearizable(_) => false,

@@ -14,11 +14,13 @@ use Rattle.snap_judge.specs.History.{History}
 use Rattle.snap_judge.specs.Judgement.{FailsAt}
 use Rattle.snap_judge.specs.Kept.{operation_of}
 use Rattle.snap_judge.specs.Linearizable.{IsLinearizableHistory, LinearizableFromTheBeginning, up_to}
+use Rattle.snap_judge.specs.declared.judgements.Failing.TheVariants as failing
 use Rattle.snap_judge.specs.declared.judgements.Judgement.TheVariants as judgement
 use Rattle.snap_judge.proofs.ExplainedLists.{each_weaker}
 use Rattle.snap_judge.proofs.ExplainedNext.{Rises}
 use Rattle.snap_history_laws.specs.events.EventLaws.{EventsTellOperations}
-use Rattle.snap_history_laws.specs.judgements.JudgementLaws.{FailsAtItem, JudgementsAreOfRuns, run_up_to}
+use Rattle.snap_history_laws.specs.judgements.JudgementLaws.{FailingsAreOfRuns, FailsAtItem, JudgementsAreOfRuns}
+use Rattle.snap_history_laws.specs.judgements.JudgementLaws.{run_up_to}
 use Rattle.snap_run_judge.specs.RunHistory.{RunsHaveHistories, history_of}
 use Rattle.snap_history_laws.specs.judgements.RunLaws.{RunsAreToldByTheirHistories}
 use Rattle.snap_history_laws.proofs.judgements.Cutting.{cut_after, cut_before, earlier, fits_up_to, found, history_up_to, later}
@@ -103,6 +105,14 @@ module _ (tell : EventsTellOperations) (have : RunsHaveHistories) (told : RunsAr
       let is : slice_get h.events k ≡ Some e = slice_get-get_or h.events k d (omega (arith, last)) in
       let place : suc k - 1 ≡ k = omega arith in
       (e, subst (λ n. slice_get h.events n ≡ Some e) (sym place) is, at_item k e is e.item refl f)
+
+pub failings_are_of_runs : EventsTellOperations → RunsHaveHistories → RunsAreToldByTheirHistories →
+    LinearizableFromTheBeginning → FailingsAreOfRuns
+failings_are_of_runs tell have told beginning most r failing.Nowhere listing fits is =
+    (told r fits).linearizable.1 is
+failings_are_of_runs tell have told beginning most r (failing.At k) listing fits is =
+    fails_there tell have told beginning r listing fits k is
+failings_are_of_runs tell have told beginning most r (failing.Undecided k) listing fits is = tt
 
 pub judgements_are_of_runs : EventsTellOperations → RunsHaveHistories → RunsAreToldByTheirHistories →
     LinearizableFromTheBeginning → JudgementsAreOfRuns

@@ -2,7 +2,7 @@
 use Rattle.std.proofs.Common.{◌≡◌, ◌-◌, length}
 use Rattle.snap_runs.specs.Run.{run_over}
 use Rattle.snap_audit.specs.Watch.{Watches}
-use Rattle.snap_hunt.specs.Counting.{Counts}
+use Rattle.snap_hunt.specs.Counting.{HasCounted}
 use Rattle.snap_hunt.proofs.over.failure_of_steps.Given as goal
 
 -- the items that were passed are noted, and the steps of their operations counted
@@ -10,7 +10,7 @@ abbrev pub invariant-loop-counter : goal.invariant-loop-counter
 invariant-loop-counter g l = record {
   run : l.walk.run ≡ run_over l.program l.schedule;
   watches : Watches l.walk l.watch;
-  steps : Counts l.walk.run l.most l.walk.at l.counter;
+  steps : HasCounted l.walk.run l.most l.walk.at l.counter;
 }
 
 abbrev pub decreases-loop-counter : goal.decreases-loop-counter

@@ -18,7 +18,7 @@ returns-in-Explained c =
     let whole = up_to_whole c.len-count.result h few in
     let f = subst (HasFound c.args.most (up_to c.len-count.result h) steps) c.in-Explained.is c.in_ok-steps.ensures in
     subst (IsLinearizationOf h)
-    (sym (c.in_ok-order-in-Explained.ensures
+    (sym (c.in_ok-ordered-in-Explained.ensures
     ∙ ap (λ (xs : List KeptStep). map (called_at xs) c.deref-in-Explained.result.now) c.deref.ensures.value
     ∙ ap (λ (xs : List ℕ). map (called_at steps) xs) c.deref-in-Explained.ensures.value))
     (explained_decides c.args.most h steps order c.requires

@@ -4,7 +4,7 @@ use Rattle.snap_hunt.proofs.step_counter.StepCounter.finish.Goals as goal
 
 pub pass-requires : goal.pass-requires
 pass-requires g c =
-    let s = c.args.self.now in
+    let s = c.args.self in
     let w = c.requires.0 in
     let w' = c.args.walk.now in
     let quiet = c.requires.1 in
@@ -21,7 +21,7 @@ pass-requires g c =
 
 pub returns : goal.returns
 returns g c =
-    let s = c.args.self.now in
+    let s = c.args.self in
     let w = c.requires.0 in
     let w' = c.args.walk.now in
     let quiet = c.requires.1 in

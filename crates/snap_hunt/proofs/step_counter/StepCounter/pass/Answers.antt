@@ -1,6 +1,6 @@
 -- `StepCounter::pass` of snap_hunt (src/step_counter.rt).
 use Rattle.std.proofs.Common.{◌≡◌, sym, subst, ◌∙◌, arith}
-use Rattle.snap_hunt.specs.Counting.{Counts}
+use Rattle.snap_hunt.specs.Counting.{HasCounted}
 use Rattle.snap_hunt.proofs.step_counter.StepCounter.pass.Goals as goal
 
 pub pass_next-requires : goal.pass_next-requires
@@ -10,7 +10,7 @@ pass_next-requires c =
     let r = c.requires.0 in (
       r,
       c.requires.1,
-      subst (λ m. Counts r m l.done l) (sym inv.most) (inv.counted r c.requires.1 c.requires.2 c.requires.3),
+      subst (λ m. HasCounted r m l.done l) (sym inv.most) (inv.counted r c.requires.1 c.requires.2 c.requires.3),
       c.requires.3 l.done inv.begun c.loop-self-test.true,
     )
 
@@ -22,7 +22,7 @@ loop-self-smaller c =
     let test = c.loop-self-test.true in
     let done =
     (c.pass_next.ensures.counted r c.requires.1
-    (subst (λ m. Counts r m l.done l) (sym inv.most) (inv.counted r c.requires.1 c.requires.2 c.requires.3))
+    (subst (λ m. HasCounted r m l.done l) (sym inv.most) (inv.counted r c.requires.1 c.requires.2 c.requires.3))
     (c.requires.3 l.done inv.begun test)).done in
     omega (arith, test, done)
 
@@ -36,7 +36,7 @@ loop-self-preserved c =
     let begun = inv.begun in
     let done =
     (c.pass_next.ensures.counted r0 c.requires.1
-    (subst (λ m. Counts r0 m l.done l) (sym inv.most) (inv.counted r0 c.requires.1 c.requires.2 c.requires.3))
+    (subst (λ m. HasCounted r0 m l.done l) (sym inv.most) (inv.counted r0 c.requires.1 c.requires.2 c.requires.3))
     (c.requires.3 l.done inv.begun test)).done in
     record {
       begun = omega (arith, begun, done);
@@ -45,9 +45,9 @@ loop-self-preserved c =
       counted = λ r quiet h untold.
           let so =
           c.pass_next.ensures.counted r quiet
-          (subst (λ m. Counts r m l.done l) (sym inv.most) (inv.counted r quiet h untold))
+          (subst (λ m. HasCounted r m l.done l) (sym inv.most) (inv.counted r quiet h untold))
           (untold l.done inv.begun test) in
-          subst (λ m. Counts r m next.done next) inv.most (subst (λ k. Counts r l.most k next) (sym so.done) so);
+          subst (λ m. HasCounted r m next.done next) inv.most (subst (λ k. HasCounted r l.most k next) (sym so.done) so);
     }
 
 pub returns-clause-counted : goal.returns-clause-counted
@@ -57,4 +57,4 @@ returns-clause-counted c = λ r quiet h untold order.
     let within = inv.order in
     let past = c.loop-self-test.false in
     let end : l.done ≡ c.args.until = omega (arith, within, past) in
-    subst (λ k. Counts r c.args.self.now.most k l) end (inv.counted r quiet h untold)
+    subst (λ k. HasCounted r c.args.self.now.most k l) end (inv.counted r quiet h untold)

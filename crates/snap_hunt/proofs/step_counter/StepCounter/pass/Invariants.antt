@@ -1,7 +1,7 @@
 -- `StepCounter::pass` of snap_hunt (src/step_counter.rt): what its loop keeps.
 use Rattle.std.proofs.Common.{◌≡◌, ◌≤◌, ◌-◌, Bool, List}
 use Rattle.snap_runs.specs.Run.{Run}
-use Rattle.snap_hunt.specs.Counting.{AreUntold, Counts}
+use Rattle.snap_hunt.specs.Counting.{AreUntold, HasCounted}
 use Rattle.snap_hunt.proofs.step_counter.StepCounter.pass.Given as goal
 
 -- the items so far are counted
@@ -11,8 +11,8 @@ invariant-loop-self l = record {
   order : l.self.done ≤ l.until;
   most : l.self.most ≡ l.fn.self.most;
   counted :
-      (r : Run) (quiet : List Bool) → Counts r l.fn.self.most l.fn.self.done l.fn.self →
-      AreUntold quiet r l.fn.self.done l.until → Counts r l.fn.self.most l.self.done l.self;
+      (r : Run) (quiet : List Bool) → HasCounted r l.fn.self.most l.fn.self.done l.fn.self →
+      AreUntold quiet r l.fn.self.done l.until → HasCounted r l.fn.self.most l.self.done l.self;
 }
 
 abbrev pub decreases-loop-self : goal.decreases-loop-self

@@ -13,6 +13,7 @@ use Rattle.snap_explanation.specs.Pieces.{PlacedToken}
 use Rattle.snap_explanation.specs.Tests.{is_symbol, is_identifier, is_name, is_line}
 use Rattle.snap_explanation.specs.declared.wording.TheConstants.{END_HINTS, INDEX_HINTS, SUM_HINTS, JOIN_HINTS}
 use Rattle.snap_explanation.specs.declared.wording.TheConstants.{NAME_HINTS, PROCESS_HINTS, RANGE_HINTS, NO_RANGES}
+use Rattle.snap_explanation.specs.declared.wording.TheConstants.{NO_SEMICOLONS, NO_SIGNS}
 use Rattle.snap_explanation.specs.declared.wording.TheConstants.{VALUE_HINTS, INSTRUCTION_HINTS, HEADERS, RESERVED}
 use Rattle.snap_explanation.specs.declared.wording.TheConstants.{VALUES, LOCAL, COMMANDS, REGISTERS, NUMBERED, SHAPE}
 use Rattle.snap_explanation.specs.declared.wording.TheConstants.{ITEM, RETURN}
@@ -122,10 +123,29 @@ form_advice line.Command ts = by_word (rows COMMAND_FORMS.now) [] (first_word ts
 abbrev pub lexeme_advice : List ℕ → ℕ → List ℕ
 lexeme_advice piece b = if list_all is_digit piece then WRONG_NUMBER.now else by_byte (ranges LEXEME_HINTS.now) b
 
+-- whether a byte is `-` or a point
+abbrev pub is_sign : ℕ → Bool
+is_sign b = nat_eq b 45 || nat_eq b 46
+
+-- whether a byte is `!`, `&`, `>` or `|`
+abbrev pub is_of_conditions : ℕ → Bool
+is_of_conditions b = nat_eq b 33 || nat_eq b 38 || nat_eq b 62 || nat_eq b 124
+
+-- what is advised of a byte that begins no token in a line without expressions, where this is advised of a sign
+abbrev pub plain_advice : List ℕ → ℕ → List ℕ
+plain_advice signs b =
+    if is_sign b then signs
+    else (if nat_eq b 59 then NO_SEMICOLONS.now
+    else (if is_of_conditions b then [] else by_byte (ranges BYTE_HINTS.now) b))
+
 -- what is advised of a byte that begins no token, in a line of this sort
 abbrev pub byte_advice : LineSort → ℕ → List ℕ
-byte_advice line.Item b = if nat_eq b 45 || nat_eq b 46 then NO_RANGES.now else by_byte (ranges BYTE_HINTS.now) b
-byte_advice sort b = by_byte (ranges BYTE_HINTS.now) b
+byte_advice (line.Header h) b = by_byte (ranges BYTE_HINTS.now) b
+byte_advice line.Numbered b = by_byte (ranges BYTE_HINTS.now) b
+byte_advice line.Item b = plain_advice NO_RANGES.now b
+byte_advice line.Shape b = plain_advice NO_SIGNS.now b
+byte_advice line.Script b = plain_advice NO_SIGNS.now b
+byte_advice line.Command b = plain_advice NO_SIGNS.now b
 
 -- what is advised of a piece that is no token, in a line of this sort
 abbrev pub stray_advice : LineSort → List ℕ → List ℕ

@@ -18,4 +18,5 @@ pub mod Inputs
 pub mod Explanation
 pub mod HistoryExplanation
 pub mod LiveExplanation
+pub mod ModelExplanation
 pub mod Views

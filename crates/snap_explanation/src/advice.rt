@@ -7,7 +7,7 @@ ghost use Rattle.snap_explanation.specs.Steps.{view_placed_token};
 ghost use Rattle.snap_explanation.specs.Advice.{passes, firm, hints, word_advice, otherwise};
 ghost use Rattle.snap_explanation.specs.Advice.{advice, has_return, return_advice, first_word};
 ghost use Rattle.snap_explanation.specs.Advice.{numbered_advice, form_advice, lexeme_advice};
-ghost use Rattle.snap_explanation.specs.Advice.{byte_advice, stray_advice};
+ghost use Rattle.snap_explanation.specs.Advice.{byte_advice, plain_advice, stray_advice};
 ghost use Rattle.snap_explanation.specs.Said.{view_row};
 
 use crate::forms::may_pass;
@@ -20,8 +20,9 @@ use crate::tests::{is_identifier, is_line, is_name, is_symbol};
 use crate::wording::{
     BYTE_HINTS, COMMAND_FORMS, COMMANDS, COMPARISON_HINTS, END_HINTS, HEADERS, INDEX_HINTS,
     INSTRUCTION_FORMS, INSTRUCTION_HINTS, INSTRUCTIONS, ITEM, JOIN_HINTS, LEXEME_HINTS, LOCAL,
-    NAME_HINTS, NAMES, NO_RANGES, NUMBERED, PROCESS_HINTS, RANGE_HINTS, REGISTERS, RESERVED,
-    RETURN, SCRIPT, SHAPE, SUM_HINTS, TARGET, VALUE_HINTS, VALUES, WRONG_NUMBER,
+    NAME_HINTS, NAMES, NO_RANGES, NO_SEMICOLONS, NO_SIGNS, NUMBERED, PROCESS_HINTS, RANGE_HINTS,
+    REGISTERS, RESERVED, RETURN, SCRIPT, SHAPE, SUM_HINTS, TARGET, VALUE_HINTS, VALUES,
+    WRONG_NUMBER,
 };
 use snap_semantics::Symbol;
 use snap_text::Token;
@@ -199,13 +200,27 @@ fn lexeme_advice(piece: &[u8], first: u8) -> &'static [u8]
     }
 }
 
+/// Returns the advice on a byte that begins no token in a line without expressions; `signs` is that
+/// on `-` and on a point. The comparisons of a listing are of no use there.
+fn plain_advice(signs: &'static [u8], byte: u8) -> &'static [u8]
+    ensures { result.now ≡ plain_advice signs.now byte }
+{
+    match byte {
+        b'-' | b'.' => signs,
+        b';' => NO_SEMICOLONS,
+        b'!' | b'&' | b'>' | b'|' => b"",
+        _ => by_byte(BYTE_HINTS, byte),
+    }
+}
+
 /// Returns the advice on a byte that begins no token, in a line of this sort.
 fn byte_advice(sort: LineSort, byte: u8) -> &'static [u8]
     ensures { result.now ≡ byte_advice sort byte }
 {
     match sort {
-        LineSort::Item if byte == b'-' || byte == b'.' => NO_RANGES,
-        _ => by_byte(BYTE_HINTS, byte),
+        LineSort::Header(_) | LineSort::Numbered => by_byte(BYTE_HINTS, byte),
+        LineSort::Item => plain_advice(NO_RANGES, byte),
+        LineSort::Shape | LineSort::Script | LineSort::Command => plain_advice(NO_SIGNS, byte),
     }
 }
 

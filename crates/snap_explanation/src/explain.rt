@@ -69,7 +69,7 @@ fn push_stray_words(out: &mut Draft, piece: &[u8], advice: &[u8])
 
 /// Appends the text on a byte that begins no token.
 #[tactic(auto, unfolding(crate::specs::Explanation::stray_text))]
-fn push_stray(out: &mut Draft, part: &Part<'_>, sort: LineSort, line: u64, column: usize)
+pub(crate) fn push_stray(out: &mut Draft, part: &Part<'_>, sort: LineSort, line: u64, column: usize)
     ensures { Adds out.old out.new (stray_text (view_part part.now) sort line column) }
 {
     let piece = piece_at(column, text_of(part, line));

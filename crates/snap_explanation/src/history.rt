@@ -2,12 +2,16 @@
 ghost use Rattle.std.specs.Prelude.{◌≡◌, IfOk};
 ghost use Rattle.snap_text.specs.Drafted.{Adds};
 ghost use Rattle.snap_explanation.specs.HistoryExplanation.{history_explanation, history_part};
-ghost use Rattle.snap_explanation.specs.HistoryExplanation.{refused_line, history_rule};
+ghost use Rattle.snap_explanation.specs.HistoryExplanation.{refused_line, history_rule, no_event};
+ghost use Rattle.snap_explanation.specs.Pieces.{placed_of};
+ghost use Rattle.snap_explanation.specs.Spot.{text_of};
 ghost use Rattle.snap_explanation.specs.Views.{view_part};
 
-use crate::explain::push_shape;
+use crate::explain::{push_shape, push_stray};
+use crate::line_sorts::LineSort;
 use crate::part::{Part, PartName};
-use crate::spot::push_line_spot;
+use crate::pieces::placed_tokens;
+use crate::spot::{push_line_spot, text_of};
 use crate::wording::{
     BAD_VIEW, BUSY, CRASHED, EVENT_FORMS, LONG_HISTORY, NO_PROCESS, NO_WORD, NOT_CALLED, NOT_RISING,
 };
@@ -49,8 +53,7 @@ fn history_rule(refusal: &HistoryRefusal) -> &'static [u8]
 {
     match refusal {
         HistoryRefusal::TooLong => LONG_HISTORY,
-        HistoryRefusal::BadShape => b"",
-        HistoryRefusal::BadEvent(_) => EVENT_FORMS,
+        HistoryRefusal::BadShape | HistoryRefusal::BadEvent(_) => b"",
         HistoryRefusal::NoSuchProcess(_) => NO_PROCESS,
         HistoryRefusal::NotRising(_) => NOT_RISING,
         HistoryRefusal::NoSuchWord(_) => NO_WORD,
@@ -58,6 +61,31 @@ fn history_rule(refusal: &HistoryRefusal) -> &'static [u8]
         HistoryRefusal::Crashed(_) => CRASHED,
         HistoryRefusal::NotCalled(_) => NOT_CALLED,
         HistoryRefusal::BadView(_) => BAD_VIEW,
+    }
+}
+
+/// Appends the text on a line that is no event: on the byte in this column that begins no token, if
+/// one does, or on the forms of events.
+fn push_stray_or_forms(out: &mut Draft, part: &Part<'_>, line: u64, stray: Option<usize>)
+    ensures { Adds out.old out.new (no_event (view_part part.now) line stray) }
+{
+    match stray {
+        Some(column) => push_stray(out, part, LineSort::Script, line, column),
+        None => {
+            push_line_spot(out, part, line);
+            out.push(EVENT_FORMS);
+        }
+    }
+}
+
+/// Appends the text on a line that is no event.
+fn push_no_event(alloc: Global, out: &mut Draft, part: &Part<'_>, line: u64)
+    ensures { Adds out.old out.new (no_event (view_part part.now) line
+        (placed_of (text_of (view_part part.now) line)).stray) }
+{
+    match placed_tokens(alloc, text_of(part, line)) {
+        Ok(placed) => push_stray_or_forms(out, part, line, placed.stray),
+        Err(error) => out.fail(error),
     }
 }
 
@@ -70,6 +98,7 @@ fn push_history(alloc: Global, out: &mut Draft, input: &[u8], refusal: &HistoryR
     match refusal {
         HistoryRefusal::TooLong => out.push(LONG_HISTORY),
         HistoryRefusal::BadShape => push_shape(alloc, out, &part),
+        HistoryRefusal::BadEvent(line) => push_no_event(alloc, out, &part, *line),
         _ => {
             push_line_spot(out, &part, refused_line(refusal));
             out.push(history_rule(refusal));

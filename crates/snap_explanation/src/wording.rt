@@ -359,13 +359,18 @@ pub const INSTRUCTION_FORMS: &[(&[u8], &[u8])] = &[
     (b"finish", b""),
 ];
 
-// What is advised of a line with a carriage return inside, and of a range in a schedule.
+// What is advised of a line with a carriage return inside, and of bytes in lines without expressions.
 pub const RETURN: &[u8] =
     b"this line has a carriage return inside, which is a space: a line ends with a line feed\n";
 
 pub const NO_RANGES: &[u8] =
-    b"a schedule has no ranges: `1*5` is five steps of process 1, and each process takes a line of \
-    its own\n";
+    b"numbers have no sign and no point, and a schedule has no ranges: `1*5` is five steps of \
+    process 1, and each process takes a line of its own\n";
+
+pub const NO_SIGNS: &[u8] = b"numbers have no sign and no point\n";
+
+pub const NO_SEMICOLONS: &[u8] =
+    b"a line ends without `;`, and what comes behind it takes a line of its own\n";
 
 // What is advised of a piece that is no token.
 pub const WRONG_NUMBER: &[u8] = b"a number has no leading zero and is below 2^64\n";
@@ -614,8 +619,8 @@ pub const NEAR: &[u8] =
     line\n";
 
 pub const ALONE: &[u8] =
-    b"check, lint and assemble take a listing alone; run, trace, debug, audit, certify, batch and \
-    survey take a schedule behind it, after a line `%`\n";
+    b"check, lint and assemble take a listing alone; run, trace, debug, audit, certify, judge, batch \
+    and survey take a schedule behind it, and live and promela scripts, after a line `%`\n";
 
 pub const SWAPPED: &[u8] =
     b"the parts are swapped: the listing comes first, and the schedule behind it\n";
@@ -635,6 +640,14 @@ pub const SCRIPT_OF: &[u8] = b"the script of process ";
 pub const NOT_DONE: &[u8] =
     b" was not done within its turns: a larger `--limit` gives each process more of them; \
     an operation that does not end needs more than any limit\n";
+
+// What is said where there is no model.
+pub const LARGE_MODEL: &[u8] =
+    b"a model has at most 8 processes and 8 words, and 32 operations of each process\n";
+
+pub const MODEL_NUMBERS: &[u8] =
+    b"the numbers of a model are those below 2147483648, and those from 18446744071562067968 on; \
+    values only have to differ from each other, so small ones are enough\n";
 
 // What is said of a history.
 pub const LONG_HISTORY: &[u8] = b"a history has at most 16777216 bytes\n";

@@ -18,13 +18,14 @@ use Rattle.snap_program.specs.WholeRun.{ConductsJudge, ConductsLiveKeeping, Cond
 use Rattle.snap_faults.specs.Names.{Names, of_program}
 use Rattle.snap_faults.specs.Told.{Helps, SaysWhy, TellsMore, exit_status, no_memory_line, no_text_line, success}
 use Rattle.snap_faults.specs.declared.fault.ProgramFault.{ProgramFault}
-use Rattle.snap_faults.specs.declared.fault.ProgramFault.TheVariants.{Refused, History, Live}
+use Rattle.snap_faults.specs.declared.fault.ProgramFault.TheVariants.{Refused, History, Live, Model}
 use Rattle.snap_streams.specs.Sent.{Says}
 use Rattle.snap_streams.specs.State.{SourceState, SinkState}
 use Rattle.snap_program.specs.TaskRun.{ConductsTask, ConductsTelling}
 use Rattle.snap_explanation.specs.Explanation.{explanation}
 use Rattle.snap_explanation.specs.HistoryExplanation.{history_explanation}
 use Rattle.snap_explanation.specs.LiveExplanation.{turn_limit_explanation}
+use Rattle.snap_explanation.specs.ModelExplanation.{model_explanation}
 use Rattle.snap_semantics.specs.declared.refusal.LiveRefusal.TheVariants.{TurnLimit}
 use Rattle.snap_explanation.specs.Part.{layout_of}
 
@@ -48,6 +49,7 @@ abbrev pub why : Request → (input : List ℕ) → ProgramFault → List ℕ
 why asked input (Refused r) = explanation (layout_of asked) input r
 why asked input (History r) = history_explanation input r
 why asked input (Live (TurnLimit process)) = turn_limit_explanation process
+why asked input (Model r) = model_explanation r
 why asked input _ = []
 
 abbrev pub explained : Invocation → (input : List ℕ) → ProgramFault → List ℕ

@@ -20,7 +20,9 @@ use crate::live_run::{LiveTask, conduct_live_keeping};
 use crate::model_run::conduct_model;
 use crate::told_run::conduct_telling;
 use crate::whole_run::conduct_keeping;
-use snap_explanation::{explanation, history_explanation, layout_of, turn_limit_explanation};
+use snap_explanation::{
+    explanation, history_explanation, layout_of, model_explanation, turn_limit_explanation,
+};
 use snap_faults::{
     Names, ProgramFault, complain, fault_status, help, say_no_memory, say_no_text, tell,
 };
@@ -90,6 +92,9 @@ fn explained(
         }
         ProgramFault::Live(LiveRefusal::TurnLimit(process)) if asked.explains => {
             turn_limit_explanation(alloc, *process)
+        }
+        ProgramFault::Model(refusal) if asked.explains => {
+            Vec::from_slice(alloc, model_explanation(refusal))
         }
         _ => Ok(Vec::new(alloc)),
     }

@@ -153,10 +153,13 @@ function toldJudgement() {
     return judged?.events === operations.text && at >= (judged.item || report.total) ? judged : null;
 }
 
-// The item of the answer that no order of the operations explains, where that is told; 0 where there is none.
+const EXPLAINED = {item: 0, who: 0};
+
+// The item and the process of the answer that no order of the operations explains, where that is told; 0 and 0 where
+// there is none.
 export function unexplained() {
     const told = toldJudgement();
-    return told?.verdict === 'not linearizable' ? told.item : 0;
+    return told?.verdict === 'not linearizable' ? told : EXPLAINED;
 }
 
 // One line for the run, and behind it why no order explains an answer.
@@ -180,7 +183,7 @@ function showJudgement() {
 // The verdicts that are listed: the last ones, the first without a point, and that on the answer that no order
 // explains.
 function listedVerdicts() {
-    const {verdicts: {near, numbers}, operations} = state, item = unexplained(), place = verdictOf(numbers, item);
+    const {verdicts: {near, numbers}, operations} = state, {item} = unexplained(), place = verdictOf(numbers, item);
     if (!item || place < 0 || near.some(({answer}) => answer === item)) return near;
     const verdict = {...verdictAt(numbers, place), view: viewAt(operations, item)};
     return [...near, verdict].sort((one, other) => one.answer - other.answer);
@@ -189,7 +192,7 @@ function listedVerdicts() {
 // The verdicts on scans that are over as a list: each leads to its point, or to the answer where there is none. The
 // answer that no order explains is crossed out.
 export function showVerdicts() {
-    const {verdicts: {numbers}, at, shapes, audited} = state, near = listedVerdicts(), wrong = unexplained();
+    const {verdicts: {numbers}, at, shapes, audited} = state, near = listedVerdicts(), {item: wrong} = unexplained();
     const over = near.filter(({answer}) => answer <= at);
     const left = numbers.length / 5 - near.length, later = near.length - over.length;
     showJudgement();
@@ -220,7 +223,7 @@ export function outcome() {
 export function showWhere() {
     const {report: {at, total, values}, verdicts: {near}, timer} = state;
     const verdict = timer ? null : near.find(each => each.answer === at);
-    const wrong = at === unexplained() ? '; no order explains this answer' : '';
+    const wrong = at === unexplained().item ? '; no order explains this answer' : '';
     const told = `: ${outcome()}; values ${values}`, words = verdict ? `${wrong}; ${verdictWords(verdict)}` : '';
     fill($('where'), [at, total, told, words], () => [make('span', {className: 'at'}, `Item ${at} of ${total}`), told,
         make('span', {className: verdict?.point === 0 ? 'none' : ''}, words)]);

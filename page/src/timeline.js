@@ -9,7 +9,8 @@ const LEAST_WORDS = 22;
 const dark = matchMedia('(prefers-color-scheme: dark)');
 const DIAMOND = [[0, -5.5], [5.5, 0], [0, 5.5], [-5.5, 0]], TRAP = [[0, -8], [8, 7], [-8, 7]];
 const BOX = [[-4, -4], [4, -4], [4, 4], [-4, 4]];
-export const line = {from: 0, to: 1, width: Infinity, wide: 0, drawn: [], high: 0, n: 0, grain: 0, past: 0, wrong: 0};
+export const line = {from: 0, to: 1, width: Infinity, wide: 0, drawn: [], high: 0, n: 0, grain: 0, past: 0,
+    wrong: {item: 0, who: 0}};
 const pen = $('timeline').querySelector('canvas').getContext('2d');
 let colours = {}, areDark = dark.matches;
 
@@ -72,6 +73,10 @@ const isHere = item => item > line.from && item <= line.to;
 const isNear = ({from, to}) => from <= line.to && to > line.from;
 export const topOf = who => LANES + (who - 1) * line.high;
 
+// Whether an operation ended with the answer that no order explains; its item alone does not tell, since operations
+// that are still open are drawn up to the last item, too.
+const isWrong = ({who, to}) => who === line.wrong.who && to === line.wrong.item;
+
 // The lanes cover the canvas, which is made anew where its size is another one, and there alone. What comes later in
 // this list lies above.
 function draw() {
@@ -92,7 +97,7 @@ function draw() {
 }
 
 function drawShapes({values, bar, inner, read, test, write: writes, point, none, loan, trap, crash}) {
-    const {past, wrong} = line, isPast = ({item}) => isHere(item) && item <= past, ended = ({to}) => to <= past;
+    const {past} = line, isPast = ({item}) => isHere(item) && item <= past, ended = ({to}) => to <= past;
     values.filter(each => isNear(each) && each.from <= past).forEach(drawValues);
     drawEach(bar, drawBar);
     drawEach(inner, drawInner);
@@ -100,7 +105,7 @@ function drawShapes({values, bar, inner, read, test, write: writes, point, none,
     test.filter(isPast).forEach(drawTest);
     writes.filter(isPast).forEach(drawWrite);
     none.filter(each => isNear(each) && ended(each)).forEach(drawNone);
-    bar.filter(each => isNear(each) && ended(each) && each.to === wrong).forEach(crossOut);
+    bar.filter(each => isNear(each) && ended(each) && isWrong(each)).forEach(crossOut);
     point.filter(each => each.item >= line.from && each.item <= line.to && ended(each)).forEach(drawPoint);
     loan.filter(each => each.item <= past && each.ended <= line.to && each.item > line.from).forEach(drawLoan);
     trap.filter(isPast).forEach(({item, who}) => shape(placeOf(item), topOf(who) + line.high / 2, TRAP, 'bad'));
@@ -246,7 +251,7 @@ function drawNone(span) {
     pen.setLineDash([6, 4]);
     pen.strokeRect(left + 1, top + 1, Math.max(wide - 2, 1), tall - 2);
     pen.setLineDash([]);
-    if (wide < 90 || line.high < 24 || span.to === line.wrong) return;
+    if (wide < 90 || line.high < 24 || isWrong(span)) return;
     write('point none', 'ink', left, top + tall * upper(), 90, tall * (1 - upper()) - 2, 12);
 }
 

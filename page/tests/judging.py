@@ -49,11 +49,11 @@ def crossed(page):
                     ".map(e => [e.textContent, getComputedStyle(e).color])")
 
 
-def drawn(page):
-    """How many dots of the time line have the colour of a cross."""
-    return page.run("(() => { const c = document.querySelector('#timeline canvas'), {data} = c.getContext('2d').getImageData(0, 0, c.width, "
-                    "c.height); let n = 0; for (let k = 0; k < data.length; k += 4) if (data[k] === 176 && !data[k + 1] && data[k + 2] === 32) n++;"
-                    " return n; })()")
+def drawn(page, who=0):
+    """How many dots of the time line, or of the lane of a process, have the colour of a cross."""
+    return page.run("(who => { const c = document.querySelector('#timeline canvas'), [top, tall] = who ? [topOf(who), line.high] : [0, c.height],"
+                    " {data} = c.getContext('2d').getImageData(0, top, c.width, tall); let n = 0; for (let k = 0; k < data.length; k += 4)"
+                    f" if (data[k] === 176 && !data[k + 1] && data[k + 2] === 32) n++; return n; }})({who})")
 
 
 def try_wrong(page, count):
@@ -75,6 +75,17 @@ def try_wrong(page, count):
     count.check("in the dark, too", crossed(page) == [["answers 0 0", RED["dark"]]] and page.run(
         "getComputedStyle(document.getElementById('run-verdict')).color") == RED["dark"], crossed(page))
     page.tab.look(1280, 720)
+
+
+def try_open(page, count):
+    """What is still open where the wrong answer is the last item of the run is drawn up to the same item."""
+    page.choose(FIRST_IDEA + 13)
+    page.key("End")
+    told, ends = page.text("#run-verdict"), page.run("state.shapes.bar.map(({who, to, rest}) => [who, to, rest])")
+    count.check("a run may end with the wrong answer of a process, while an operation of another one is open", "item 25, process 2:" in told and
+                [2, 25, "answer 0 0 2"] in ends and [3, 25, "open"] in ends, [told, ends])
+    lanes = [drawn(page, who) for who in (1, 2, 3)]
+    count.check("on the time line the wrong answer alone is crossed out", lanes[1] > 20 and lanes[0] == lanes[2] == 0, lanes)
 
 
 def try_untold(page, count):
@@ -189,7 +200,7 @@ def main():
     count = browser.Count()
     with browser.started() as running:
         page = Page(running.tab())
-        for trial in (try_wrong, try_untold, try_no_point, try_undecided, try_once, try_hunt, try_stopped):
+        for trial in (try_wrong, try_open, try_untold, try_no_point, try_undecided, try_once, try_hunt, try_stopped):
             attempt(trial, count, page)
         wrong = [str(one["params"])[:300] for one in list(running.events.queue) if one["method"] == "Runtime.exceptionThrown"]
         count.check("no script failed", not wrong, wrong[:3])

@@ -209,6 +209,13 @@ def try_texts(page, count):
                     "a.scrollWidth - a.clientWidth, a.scrollHeight - a.clientHeight, rows[rows.length - 1].offsetHeight / rows[0].offsetHeight]; })()")
     count.check("a long line typed goes on below itself, and its row with it", told[0] == 0 and told[1] <= 0 and told[2] >= 4, told)
     page.leave()
+    page.choose(FIRST_IDEA + 2)
+    page.run("goTo(state.shapes.test[0].item)")
+    page.tab.settled()
+    bars = page.run("[...document.querySelectorAll('.back > .now')].map(e => { const s = getComputedStyle(e); return [e.textContent.slice(0, 3), e.offsetHeight, "
+                    "s.backgroundImage !== 'none' && s.backgroundRepeat === 'no-repeat' ? parseFloat(s.backgroundPosition.split(' ')[1]) : 0]; })")
+    count.check("a bar is beside what goes on below a line, in colour, too", bars[0][0] == "16:" and bars[0][1] > bars[0][2] + 10 and
+                all(abs(bar - 21) < 1 for _, _, bar in bars), bars)
 
 
 def try_zoomed(page, count):

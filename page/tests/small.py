@@ -90,6 +90,21 @@ def try_words(page, count):
                     [page.run(box), page.text("#where")])
 
 
+def try_note(page, count):
+    """What the page says about work of the last visit covers no control: a click goes through it, but what it covers cannot be read."""
+    page.choose(FIRST_IDEA + 2)
+    covered = ("(() => { const n = document.getElementById('note').getBoundingClientRect(); return [n.width > 100 && n.left >= 0 && n.right <= innerWidth"
+               " && n.top >= 0, ...[...document.querySelectorAll('button, select, input, #timeline')].filter(e => { const r = e.getBoundingClientRect(); "
+               "return e.checkVisibility() && r.left < n.right && r.right > n.left && r.top < n.bottom && r.bottom > n.top; }).map(e => e.id || "
+               "e.textContent)]; })()")
+    wide = {f"{width} x {height}": {"width": width, "height": height} for width, height in ((1280, 720), (1440, 900), (800, 600))}
+    for name, how in {**wide, "420 x 800": {"width": 420, "height": 800, "mobile": True}, **SIZES}.items():
+        shown_in(page, how)
+        page.run("say('This is your work of the last visit; the lessons are where they were.')")
+        count.check(f"{name}: a note covers no control", page.tab.when(f"{covered}.join() === 'true'"), page.run(covered))
+    page.run("say('')")
+
+
 def try_keys(page, count):
     """The Tab key leads to each button."""
     page.choose(FIRST_IDEA + 2)
@@ -181,7 +196,7 @@ def main():
     with browser.started() as running:
         page = Page(running.tab())
         page.run("document.getElementById('hello-close').click()")
-        for trial in (try_edges, try_words, try_keys, try_names, try_lanes, try_many, try_values, try_lower):
+        for trial in (try_edges, try_words, try_note, try_keys, try_names, try_lanes, try_many, try_values, try_lower):
             attempt(trial, count, page)
         attempt(try_deaf, count, page, running)
         wrong = [str(one["params"])[:300] for one in list(running.events.queue) if one["method"] == "Runtime.exceptionThrown"]

@@ -72,12 +72,37 @@ class Page:
         return self.run("snaplab.state.schedule")
 
 
+# What a caption may say of its items, and the shape of the module's picture that is then among them.
+SAID = ((r"\bfails?\b", "fail"), (r"\bpass(es)?\b", "pass"), (r"\b(borrow|lend|lent)|\bthe view of\b", "loan"))
+
+
+def untrue_captions(page):
+    """The captions that tell of a test, a loan or an answer that is not among their items."""
+    texts, total = page.run("[[state.listing, state.schedule], state.report.total]")
+    drawn = page.tab.ask_module("page_shapes", [text.encode() for text in texts], (1, total))[1].decode()
+    happened = [(name, int(item)) for name, item in re.findall(r"(?m)^(pass|fail) \d+ (\d+) ", drawn) +
+                re.findall(r"(?m)^(loan) \d+ \d+ \d+ (\d+) ", drawn)]
+    traced = page.tab.answer("trace", "", "%\n".join(texts).encode())[1].decode()
+    answers = [(view, int(item)) for item, view in re.findall(r"(?m)^item (\d+) \d+ answered ([\d ]+) at ", traced)]
+    found = []
+    for told in page.run("captions()"):
+        items, text = range(told["from"] + 1, told["at"] + 1), told["text"]
+        names, views = ({what for what, item in each if item in items} for each in (happened, answers))
+        wanted = [name for pattern, name in SAID if re.search(pattern, text)]
+        viewed = re.findall(r"\banswers? ((?:\d+ )*\d+)\b", text)
+        if not names.issuperset(wanted) or not views.issuperset(viewed):
+            found.append(text)
+    return found
+
+
 def try_gallery(page, count):
     data = json.loads(page.run("document.getElementById('data').textContent"))
     for k, idea in enumerate(one for one in data["choices"] if "change" in one):
         page.choose(FIRST_IDEA + k)
         for which, shows in (("as it is", idea["shows"]), ("changed", idea["change"]["shows"])):
             page.click("#end")
+            untrue = untrue_captions(page)
+            count.check(f"idea {k + 1} {which}: its captions tell what happens", not untrue, untrue)
             if not shows:
                 count.check(f"idea {k + 1} {which}: no scan ends", "No scan has ended" in page.text("#verdicts"), page.text("#verdicts"))
                 page.click("#change")

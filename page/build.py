@@ -43,7 +43,11 @@ def inline(text):
 
 
 def paragraphs(text):
-    """The paragraphs of a piece of a document, without its blocks of commands and its pictures."""
+    """The paragraphs of a piece of a document, without its blocks of commands and its pictures.
+
+    A colon that leads to such a block is a full stop, since nothing follows it.
+    """
+    text = re.sub(r":(\s+```)", r".\1", text)
     text = re.sub(r"(?ms)^```.*?^```$", "", text)
     return [part.strip() for part in re.split(r"\n\s*\n", text) if part.strip() and not part.startswith("![")]
 

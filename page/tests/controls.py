@@ -99,6 +99,8 @@ def try_gallery(page, count):
     data = json.loads(page.run("document.getElementById('data').textContent"))
     for k, idea in enumerate(one for one in data["choices"] if "change" in one):
         page.choose(FIRST_IDEA + k)
+        open_ends = [one for one in page.run("[...document.querySelectorAll('#idea-text p')].map(p => p.innerText)") if one.endswith(":")]
+        count.check(f"idea {k + 1}: no paragraph leads to what is not there", not open_ends, open_ends)
         for which, shows in (("as it is", idea["shows"]), ("changed", idea["change"]["shows"])):
             page.click("#end")
             untrue = untrue_captions(page)

@@ -52,18 +52,18 @@ def paragraphs(text):
     return [part.strip() for part in re.split(r"\n\s*\n", text) if part.strip() and not part.startswith("![")]
 
 
+def told_of(text):
+    return "".join(f"<p>{inline(part)}</p>" for part in paragraphs(text))
+
+
 def sections():
-    """The gallery's sections: their titles, what they say, and what they change."""
+    """The gallery's sections: their titles, what they say, and what they change, with what follows from that."""
     found = {}
     for piece in [piece for name in GALLERY for piece in re.split(r"(?m)^## ", read("docs", "tutorial", name))[1:]]:
         title, _, text = piece.partition("\n")
         number, _, name = title.partition(". ")
-        told = paragraphs(text)
-        found[int(number)] = {
-            "title": f"{number}. {name}",
-            "text": "".join(f"<p>{inline(part)}</p>" for part in told if not part.startswith("**Change:**")),
-            "change": "".join(f"<p>{inline(part)}</p>" for part in told if part.startswith("**Change:**")),
-        }
+        before, mark, behind = text.partition("**Change:**")
+        found[int(number)] = {"title": f"{number}. {name}", "text": told_of(before), "change": told_of(mark + behind)}
     return found
 
 

@@ -97,10 +97,16 @@ def untrue_captions(page):
 
 def try_gallery(page, count):
     data = json.loads(page.run("document.getElementById('data').textContent"))
+    written = re.split(r"(?m)^## ", "".join(read("docs", "tutorial", name) for name in ("gallery.md", "gallery-2.md")))
+    sections = {one.partition(".")[0]: " ".join(re.sub(r"\[([^]]*)\]\([^)]*\)|[`*]", r"\1", one).split()) for one in written}
     for k, idea in enumerate(one for one in data["choices"] if "change" in one):
+        section = sections[str(k + 1)]
         page.choose(FIRST_IDEA + k)
-        open_ends = [one for one in page.run("[...document.querySelectorAll('#idea-text p')].map(p => p.innerText)") if one.endswith(":")]
+        told = page.run("[...document.querySelectorAll('#idea-text p')].map(p => p.innerText)")
+        open_ends = [one for one in told if one.endswith(":")]
         count.check(f"idea {k + 1}: no paragraph leads to what is not there", not open_ends, open_ends)
+        places = [section.find(one[:40]) for one in told]
+        count.check(f"idea {k + 1}: its paragraphs stand as in the document", -1 not in places and places == sorted(places), places)
         for which, shows in (("as it is", idea["shows"]), ("changed", idea["change"]["shows"])):
             page.click("#end")
             untrue = untrue_captions(page)

@@ -69,8 +69,10 @@ function showCaption() {
 export function showIdea() {
     const {goal, listing, schedule} = state, lesson = data.choices[state.idea] ?? {};
     const idea = goal ? {title: 'Exercise'} : lesson, other = idea.change;
-    const made = other && listing === other.listing && schedule === other.schedule;
-    const own = other && !made && (listing !== idea.listing || schedule !== idea.schedule);
+    const is = one => listing === one.listing && schedule === one.schedule;
+    const own = other && !is(other) && !is(idea);
+    // A change of the listing is made under a schedule of one's own, too, as that of a hunt.
+    const made = other && (is(other) || listing === other.listing && listing !== idea.listing);
     $('menu').textContent = titleOf(state.idea) ?? 'your own';
     $('idea').hidden = !idea.text && !goal;
     $('idea-title').textContent = idea.title ?? '';
@@ -79,8 +81,8 @@ export function showIdea() {
     $('change').hidden = !other;
     const asked = $('change').dataset.asked === '1' && own;
     $('change').dataset.asked = asked ? '1' : '';
-    $('change').textContent = made ? 'Back to how it was' : asked ? 'Replace your own texts? Undo brings them back' :
-        'Make the change';
+    $('change').textContent = asked ? 'Replace your own texts? Undo brings them back' :
+        made ? 'Back to how it was' : 'Make the change';
     const {listing: text, schedule: items} = (made ? idea : other) ?? state;
     $('change').onclick = () => {
         if (own && !asked) {

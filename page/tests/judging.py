@@ -165,6 +165,13 @@ def try_hunt(page, count):
     item = re.search(r"event (\d+) process", said)
     count.check("and stands at its end, which is judged so", item and page.at() == f"Item {item[1]} of {item[1]}" and
                 f"item {item[1]}, process" in page.text("#run-verdict"), page.at() + page.text("#run-verdict"))
+    count.check("the change of the listing is still made", page.text("#change") == "Back to how it was", page.text("#change"))
+    page.click("#change")
+    asked = page.text("#change")
+    page.click("#change")
+    count.check("its way back asks before it overwrites the schedule, and leads to the lesson", "Replace your own" in asked and
+                page.text("#change") == "Make the change", [asked, page.text("#change")])
+    page.click("#undo")
     page.click("#undo")
     count.check("undo brings the schedule back", page.schedule() == before)
     page.choose(0)

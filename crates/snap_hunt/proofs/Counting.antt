@@ -1,5 +1,6 @@
 -- `HasCounted`: the steps of a run and its busy processes, after one item more.
-use Rattle.std.proofs.Common.{◌≡◌, ℕ, suc, ◌+◌, ◌-◌, ◌<◌, ◌≤◌, ◌&&◌, Bool, true, false, List, ◌∷◌, inl, inr, length, drop, get_or}
+use Rattle.std.proofs.Common.{◌≡◌, ℕ, suc, ◌+◌, ◌-◌, ◌<◌, ◌≤◌, ◌&&◌, Bool, true, false, List, ◌∷◌, inl, inr, length}
+use Rattle.std.proofs.Common.{drop, get_or}
 use Rattle.std.proofs.Common.{Option, None, Some, [], refl, sym, ap, subst, ◌∙◌, arith}
 use Rattle.std.specs.Iterator.{YieldsFirst}
 use Rattle.std.specs.Prelude.{slice_set}
@@ -183,7 +184,8 @@ up_to_told w w' p quiet most c next h tells counted =
     counted w.run quiet (subst (λ k. HasCounted w.run most k c) (sym done) h)
     (λ t low high. tells.over.untold t (omega (arith, done, low)) (omega (arith, before, high)))
     (omega (arith, done, before, order)) in
-    subst (λ (r : Run). HasCounted r most v.at next) (sym tells.over.run) (subst (λ k. HasCounted w.run most k next) before so)
+    subst (λ (r : Run). HasCounted r most v.at next) (sym tells.over.run)
+    (subst (λ k. HasCounted w.run most k next) before so)
 
 -- after the item that is told it is known again of each process whether it is busy
 pub busy_told : (v w' : Way) (p : Passed) (most : ℕ) (c : StepCounter) (b : Bool) → HasCounted v.run most v.at c →
@@ -210,7 +212,8 @@ busy_told v w' p most c b h is stands j one d =
     ]
 
 -- the item that is told is counted
-pub told_counts : (v w' : Way) (p : Passed) (most : ℕ) (c c' : StepCounter) → HasCounted v.run most v.at c → Passes v p w' →
+pub told_counts : (v w' : Way) (p : Passed) (most : ℕ) (c c' : StepCounter) → HasCounted v.run most v.at c →
+    Passes v p w' →
     c'.done ≡ c.done + 1 → c'.most ≡ c.most → c'.ahead ≡ drop (suc v.at) v.run.items →
     CountsSteps w'.run most w'.at c'.owns.items c'.overrun → length c'.busy.items ≡ v.run.shape.n →
     ((j : ℕ) → IsOneOf v.run.shape.n j → (d : Bool) →
@@ -233,24 +236,33 @@ told_counts v w' p most c c' h is done most_is left steps count busy =
 -- Behind the last item that is told a walk passes over all others, which are counted then.
 module _ (w w' : Way) (quiet : List Bool) (most until : ℕ) (c : StepCounter) (h : HasCounted w.run most w.at c)
     (none : TellsNone quiet false w w') (end : until ≡ w'.at) where
-  pub counts_here : HasCounted w.run c.most c.done c
+  counts_here : HasCounted w.run c.most c.done c
   counts_here =
       subst (λ m. HasCounted w.run m c.done c) (sym h.most_is) (subst (λ t. HasCounted w.run most t c) (sym h.done) h)
 
-  pub all_untold : AreUntold quiet w.run c.done until
+  all_untold : AreUntold quiet w.run c.done until
   all_untold = λ t low high.
       let done = h.done in
       none.over.untold t (omega (arith, done, low)) (omega (arith, high, end))
 
-  pub end_later : c.done ≤ until
+  end_later : c.done ≤ until
   end_later =
       let done = h.done in
       let order = none.over.order in
       omega (arith, done, end, order)
 
-  pub all_counted : (next : StepCounter) → HasCounted w.run c.most until next → next.overrun ≡ many_steps most w'.run
-  all_counted next so =
-      so.steps.found_is
+  -- what a counter asks for that is to pass over the others
+  pub to_be_passed :
+      (r : Run) × (quiet : List Bool) × HasCounted r c.most c.done c × AreUntold quiet r c.done until × (c.done ≤ until)
+  to_be_passed = (w.run, quiet, counts_here, all_untold, end_later)
+
+  -- what it has counted that passed over them
+  pub all_counted : (next : StepCounter) →
+      ((r : Run) (quiet : List Bool) → HasCounted r c.most c.done c → AreUntold quiet r c.done until →
+      c.done ≤ until → HasCounted r c.most until next) →
+      next.overrun ≡ many_steps most w'.run
+  all_counted next counted =
+      (counted w.run quiet counts_here all_untold end_later).steps.found_is
       ∙ ap (λ m. first_found (overrun_at w.run m) until) h.most_is
       ∙ ap (first_found (overrun_at w.run most)) end
       ∙ ap (λ (r : Run). first_found (overrun_at r most) w'.at) (sym none.over.run)

@@ -119,5 +119,5 @@ pub judgements_are_of_runs : EventsTellOperations → RunsHaveHistories → Runs
 judgements_are_of_runs tell have told beginning most r (judgement.Linearizable order) listing fits is =
     ((told r fits).linearizations (map operation_of order.items)).1 is
 judgements_are_of_runs tell have told beginning most r (judgement.NotLinearizable k) listing fits is =
-    fails_there tell have told beginning r listing fits k is
+    failings_are_of_runs tell have told beginning most r (failing.At k) listing fits is
 judgements_are_of_runs tell have told beginning most r (judgement.Undecided k) listing fits is = tt

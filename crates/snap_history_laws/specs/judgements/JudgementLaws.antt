@@ -32,7 +32,7 @@ FailsThere r (failing.At k) =
     (e : Event) × (slice_get (events_of r (length r.items)) (k - 1) ≡ Some e) × FailsAtItem r e.item
 FailsThere r (failing.Undecided k) = ⊤
 
--- What is said of a run is so: the order is a linearization of it, or the run fails there.
+-- What is judged of a run is so: the order is a linearization of it, or the run fails where this is said.
 abbrev pub IsSoOf : Run → Judgement → Type 0
 IsSoOf r (judgement.Linearizable order) = IsLinearization r (map operation_of order.items)
 IsSoOf r (judgement.NotLinearizable k) = FailsThere r (failing.At k)

@@ -12,8 +12,6 @@ use Rattle.snap_hunt.proofs.step_counter.StepCounter.note_told.Goals as goal
 
 pub overflow_add-self : goal.overflow_add-self
 overflow_add-self g c =
-    let s = c.args.self.now in
-    let p = c.args.passed.now in
     let h = c.requires.1 in
     let done = h.done in
     let few = h.few in
@@ -23,15 +21,12 @@ overflow_add-self g c =
 pub note-found-requires-clause-process : goal.note-found-requires-clause-process
 note-found-requires-clause-process g c =
     let s = c.args.self.now in
-    let p = c.args.passed.now in
-    let v = c.requires.0 in
-    let h = c.requires.1 in
-    is_counted v c.args.walk.now p s.most s.owns.items s.overrun c.requires.2 h.steps
+    is_counted c.requires.0 c.args.walk.now c.args.passed.now s.most s.owns.items s.overrun c.requires.2
+    c.requires.1.steps
 
 pub note-found-requires-clause-few : goal.note-found-requires-clause-few
 note-found-requires-clause-few g c =
     let s = c.args.self.now in
-    let p = c.args.passed.now in
     let v = c.requires.0 in
     let h = c.requires.1 in
     let few = h.few in
@@ -41,9 +36,7 @@ note-found-requires-clause-few g c =
 pub index_mut-requires : goal.index_mut-requires
 index_mut-requires g c =
     let s = c.args.self.now in
-    let p = c.args.passed.now in
-    let h = c.requires.1 in
-    let count = h.count in
+    let count = c.requires.1.count in
     let first = c.requires.2.process.0 in
     let last = c.requires.2.process.1 in
     let process = c.who-process.ensures in

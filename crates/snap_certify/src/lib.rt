@@ -21,7 +21,5 @@ pub use certificates::{
     certified_is_linearizable, points_certify,
 };
 pub use certification::certify;
-pub use found::{Finding, Lack, Missing, Progress, SeenItem, UpdateWrite};
-pub use program::certify_program;
+pub use found::{Finding, Progress, SeenItem, UpdateWrite};
 pub use task::certify_input;
-pub use text::certification_text;

@@ -32,7 +32,9 @@ fn changed_line<K: Kind>(
     passed: &Passed,
 ) -> Result<Option<Option<u64>>, AllocError>
     ensures { IfOk result (λ o. (w : Way) → Passes w passed.now walk.now →
-        passed.now.activity ≡ line_told (look_ahead [] w) → AreRoles w.run.source roles.now → past.now ≡ values (state w.run w.at) →
+        passed.now.activity ≡ line_told (look_ahead [] w) →
+        AreRoles w.run.source roles.now →
+        past.now ≡ values (state w.run w.at) →
         o ≡ changed_line (seen_item w.run (suc w.at))) }
 {
     let Some(activity) = writing(roles, passed.activity) else {

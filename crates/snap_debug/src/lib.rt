@@ -11,10 +11,10 @@ mod session;
 mod stops;
 
 pub use checkpoint::Checkpoint;
-pub use marks::{MAX_MARKS, Marks};
+pub use marks::{Marks, same_address, same_breakpoint};
 pub use recording::Recording;
 pub use reply::Reply;
-pub use reversible_machine::{DoneItem, ReversibleMachine};
+pub use reversible_machine::ReversibleMachine;
 pub use session::Session;
 pub use snap_debug_commands::{
     Breakpoint, Command, CommandRefusal, DebugFault, commands_are_spelled, fault_line,

@@ -54,7 +54,7 @@ impl Model for Marks {
 }
 
 /// Returns whether two breakpoints are the same.
-fn same_breakpoint(a: Breakpoint, b: Breakpoint) -> bool
+pub fn same_breakpoint(a: Breakpoint, b: Breakpoint) -> bool
     ensures { result ≡ same_breakpoint a b }
 {
     a.process == b.process && a.line == b.line
@@ -71,7 +71,7 @@ fn same_bank(a: Bank, b: Bank) -> bool
 }
 
 /// Returns whether two registers are the same.
-fn same_address(a: Address, b: Address) -> bool
+pub fn same_address(a: Address, b: Address) -> bool
     ensures { result ≡ same_address a b }
 {
     same_bank(a.bank, b.bank) && a.i == b.i && a.j == b.j

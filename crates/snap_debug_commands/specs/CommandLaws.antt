@@ -8,7 +8,7 @@ use Rattle.snap_semantics.specs.Layout.{lines_text}
 use Rattle.snap_semantics.specs.Token.{text_lines}
 use Rattle.snap_text.specs.Lines.{line_tokens, found_lines}
 use Rattle.snap_debug_commands.specs.CommandForms.{spelled_command}
-use Rattle.snap_debug_commands.specs.Commands.{commands_of}
+use Rattle.snap_debug_commands.specs.Commands.{commands_of, max_commands, max_text}
 use Rattle.snap_debug_commands.specs.declared.command.Breakpoint.{Breakpoint}
 use Rattle.snap_debug_commands.specs.declared.command.Command.{Command}
 use Rattle.snap_debug_commands.specs.declared.command.Command.TheVariants as command
@@ -45,12 +45,12 @@ FitsCommand command.Where = ⊤
 
 -- commands that can stand in a text, few enough for one
 abbrev pub AreCommands : List Command → Type 0
-AreCommands cs = (length cs ≤ 10000) × AllByRecursion FitsCommand cs
+AreCommands cs = (length cs ≤ max_commands) × AllByRecursion FitsCommand cs
 
 -- a text that spells these commands, one a line, and is not too long
 abbrev pub Spells : List ℕ → List Command → Type 0
 Spells text cs =
-    (length text ≤ 1048576) × AreCommands cs × (line_tokens (text_lines text) ≡ found_lines (map spelled_command cs))
+    (length text ≤ max_text) × AreCommands cs × (line_tokens (text_lines text) ≡ found_lines (map spelled_command cs))
 
 -- a text is read as commands just where it spells them
 abbrev pub ReadsSpelled : Type 0
@@ -63,4 +63,4 @@ commands_text cs = lines_text (map spelled_command cs)
 -- what is written of commands is read as those commands
 abbrev pub ReadsWritten : Type 0
 ReadsWritten =
-    (cs : List Command) → AreCommands cs → length (commands_text cs) ≤ 1048576 → commands_of (commands_text cs) ≡ Ok cs
+    (cs : List Command) → AreCommands cs → length (commands_text cs) ≤ max_text → commands_of (commands_text cs) ≡ Ok cs

@@ -4,7 +4,7 @@ ghost use Rattle.snap_semantics.specs.Answers.{Answers};
 ghost use Rattle.snap_semantics.specs.declared.fault.Fault.TheVariants.{Refused};
 ghost use Rattle.snap_semantics.specs.declared.refusal.CommandRefusal.TheVariants.{TooLong};
 ghost use Rattle.snap_text.specs.Lines.{view_line};
-ghost use Rattle.snap_debug_commands.specs.Commands.{command_at, commands_of};
+ghost use Rattle.snap_debug_commands.specs.Commands.{command_at, commands_of, max_text};
 ghost use Rattle.snap_debug_commands.specs.CommandsInTurn.{admitted_at};
 
 use crate::command::Command;
@@ -49,7 +49,7 @@ fn admitted_at(count: usize, line: &TokenLine<'_>) -> Result<Command, CommandRef
 /// `Refused` with the first reason why `text` spells no commands; `Memory` where memory runs out.
 pub fn read_commands(alloc: Global, text: &[u8]) -> Result<Vec<Command>, Fault<CommandRefusal>>
     ensures commands { Answers (λ commands. commands.items) result (commands_of text.now) }
-    ensures too_long { 1048576 < length text.now → result ≡ Err (Refused TooLong) }
+    ensures too_long { max_text < length text.now → result ≡ Err (Refused TooLong) }
 {
     if text.len() > MAX_BYTES {
         return Err(Fault::from(CommandRefusal::TooLong));

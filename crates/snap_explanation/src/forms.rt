@@ -1,6 +1,5 @@
 //! `after`: what a token does where a part of a line is wanted, by the tables of `grammar`.
 ghost use Rattle.std.specs.Prelude.{◌≡◌, map, option_map};
-ghost use Rattle.snap_semantics.specs.Layout.{symbol_text};
 ghost use Rattle.snap_text.specs.Tokens.{view_token};
 ghost use Rattle.snap_explanation.specs.Grammar.{part_number, same_part, letters_or_sign, admits};
 ghost use Rattle.snap_explanation.specs.Grammar.{view_form, view_class_form, view_front, parts_in};
@@ -18,7 +17,7 @@ use crate::grammar::{
 use crate::parts::{Class, Part};
 use snap_listing::{is_line_number, is_reserved};
 use snap_semantics::Symbol;
-use snap_text::Token;
+use snap_text::{Token, symbol_text};
 use snap_words::{MAX_COUNT, MAX_ITEMS};
 
 /// What a token does where a part is wanted: it is taken or passed over.
@@ -57,26 +56,6 @@ pub fn is_part_among(part: Part, parts: &[Part]) -> bool
         rest = behind;
     }
     false
-}
-
-/// Returns how a symbol is spelled.
-fn symbol_text(symbol: Symbol) -> &'static [u8]
-    ensures { result.now ≡ symbol_text symbol }
-{
-    match symbol {
-        Symbol::Colon => b":",
-        Symbol::Equal => b"=",
-        Symbol::Different => b"!=",
-        Symbol::Less => b"<",
-        Symbol::Plus => b"+",
-        Symbol::Comma => b",",
-        Symbol::OpenParenthesis => b"(",
-        Symbol::CloseParenthesis => b")",
-        Symbol::OpenBracket => b"[",
-        Symbol::CloseBracket => b"]",
-        Symbol::At => b"@",
-        Symbol::Star => b"*",
-    }
 }
 
 /// Returns how a word or a symbol is spelled; nothing of a number.

@@ -12,9 +12,9 @@ ghost use Rattle.snap_explanation.specs.Inputs.{formless_line, has_parts, order_
 ghost use Rattle.snap_explanation.specs.Inputs.{order_advice};
 
 use crate::layout::{Layout, Texts};
-use crate::names::same_word;
 use crate::part::{lines_through, part_at};
-use crate::spot::{line_of, split_line};
+use crate::pieces::begins_with;
+use crate::spot::line_of;
 use crate::tests::is_word;
 use crate::wording::{
     ALONE, COMMANDS_ALONE, FILES_SWAPPED, LINE, LINE_END, LISTING_AND_COMMANDS,
@@ -23,9 +23,10 @@ use crate::wording::{
     WHOLE_INPUT,
 };
 use snap_input::split_parts;
+use snap_listing::same_word;
 use snap_semantics::{ListingRefusal, Refusal};
 use snap_tasks::Subject;
-use snap_text::{Draft, TextLines, Token};
+use snap_text::{Draft, TextLines, Token, split_line};
 use std::alloc::{AllocError, Global};
 
 /// The most lines `%` that are told.
@@ -206,16 +207,6 @@ fn formless_line<'a>(refusal: &ListingRefusal, input: &'a [u8]) -> &'a [u8]
     match refusal {
         ListingRefusal::BadHeader(line) | ListingRefusal::BadLine(line) => line_of(input, *line),
         _ => b"",
-    }
-}
-
-/// Returns whether the first of `bytes` is `byte`.
-fn begins_with(byte: u8, bytes: &[u8]) -> bool
-    ensures { result ≡ begins_with byte bytes.now }
-{
-    match bytes {
-        [] => false,
-        [first, ..] => byte == *first,
     }
 }
 

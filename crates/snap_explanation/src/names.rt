@@ -1,6 +1,6 @@
 //! The token of a line that a refusal is about: a name that is unknown or declared twice, the
 //! nearest known name, or a target that is no line.
-ghost use Rattle.std.specs.Prelude.{◌≡◌, ◌≤◌, ◌++◌, IfOk, OnOk, bytes_eq, length, drop, map};
+ghost use Rattle.std.specs.Prelude.{◌≡◌, ◌≤◌, ◌++◌, IfOk, OnOk, length, drop, map};
 ghost use Rattle.std.specs.Prelude.{option_map};
 ghost use Rattle.snap_semantics.specs.Token.{text_lines};
 ghost use Rattle.snap_text.specs.Lines.{view_line};
@@ -13,7 +13,7 @@ ghost use Rattle.snap_explanation.specs.Names.{name_count, one_too_many, declare
 ghost use Rattle.snap_explanation.specs.Names.{front_number, last_before};
 ghost use Rattle.snap_explanation.specs.Names.{common_len, is_same_later, is_near};
 ghost use Rattle.snap_explanation.specs.Names.{is_leading, is_number, number_there, first_led};
-ghost use Rattle.snap_explanation.specs.Names.{begins_with_number, leads_to, line_leads_to};
+ghost use Rattle.snap_explanation.specs.Names.{begins_with_number, leads_to};
 ghost use Rattle.snap_explanation.specs.Names.{leading_line};
 ghost use Rattle.snap_explanation.specs.Views.{view_declared};
 
@@ -98,13 +98,6 @@ pub fn nth_token<'a>(index: usize, tokens: &[PlacedToken<'a>]) -> Option<PlacedT
         rest = behind;
     }
     None
-}
-
-/// Returns whether two words are the same.
-pub fn same_word(one: &[u8], other: &[u8]) -> bool
-    ensures { result ≡ bytes_eq one.now other.now }
-{
-    one == other
 }
 
 /// Returns whether a word is one of `words`.

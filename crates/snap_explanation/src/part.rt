@@ -86,7 +86,8 @@ fn text_index(
     refusal: &Refusal,
     given: &[&[u8]],
 ) -> Result<usize, AllocError>
-    ensures value { IfOk result (λ k. k ≡ text_index texts refusal.now (map (λ t. t.now) given.now)) }
+    ensures value { IfOk result (λ k. k ≡ text_index texts refusal.now
+        (map (λ t. t.now) given.now)) }
     ensures within { IfOk result (λ k. k ≤ length given.now + 1) }
 {
     match (texts, refusal) {

@@ -6,7 +6,7 @@ ghost use Rattle.snap_text.specs.Tokens.{lexeme_len, view_tokens};
 ghost use Rattle.snap_explanation.specs.Pieces.{first_placed, piece_len, placed_of};
 ghost use Rattle.snap_explanation.specs.Steps.{view_placed, view_placed_token};
 
-use snap_text::{Token, tokens};
+use snap_text::{Token, lexeme_len, tokens};
 use std::alloc::{AllocError, Global};
 
 /// A token, and the column of its first byte.
@@ -31,20 +31,8 @@ pub fn is_lexeme_byte(byte: u8) -> bool
     (b'a' <= byte && byte <= b'z') || (b'0' <= byte && byte <= b'9')
 }
 
-/// Returns how many letters and digits stand at the front.
-fn lexeme_len(bytes: &[u8]) -> usize
-    ensures value { result ≡ lexeme_len bytes.now }
-    ensures within { result ≤ length bytes.now }
-{
-    let mut len = 0;
-    while len < bytes.len() && is_lexeme_byte(bytes[len]) {
-        len += 1;
-    }
-    len
-}
-
 /// Returns whether the first of `bytes` is `byte`.
-fn begins_with(byte: u8, bytes: &[u8]) -> bool
+pub fn begins_with(byte: u8, bytes: &[u8]) -> bool
     ensures { result ≡ begins_with byte bytes.now }
 {
     match bytes {

@@ -9,8 +9,8 @@ ghost use Rattle.snap_explanation.specs.Sorts.{sort_of_keyword, is_sort, names_o
 ghost use Rattle.snap_explanation.specs.Sorts.{of_sort};
 ghost use Rattle.snap_explanation.specs.Views.{view_names};
 
-use crate::names::{is_near, same_word};
-use snap_listing::is_reserved;
+use crate::names::is_near;
+use snap_listing::{is_reserved, same_word};
 use snap_semantics::Sort;
 use snap_words::KindTag;
 

@@ -1,5 +1,5 @@
 //! `push_spot`: a place of a refused input: where it is, its line, and a mark under its column.
-ghost use Rattle.std.specs.Prelude.{◌≡◌, ◌≤◌, ◌<◌, length, option_map, take, drop, ◌∷◌};
+ghost use Rattle.std.specs.Prelude.{◌≡◌, ◌≤◌, length, option_map, take, drop};
 ghost use Rattle.snap_semantics.specs.Token.{lines_of};
 ghost use Rattle.snap_text.specs.Drafted.{Adds};
 ghost use Rattle.snap_explanation.specs.Steps.{view_placed_token};
@@ -16,7 +16,7 @@ use crate::wording::{
     COLUMN, LINE, LINE_END, MARGIN, MARK, NTH_SCHEDULE, OF, OF_THE_INPUT, PLACE_END, THE_COMMANDS,
     THE_HISTORY, THE_LISTING, THE_SCHEDULE, THE_SCRIPTS,
 };
-use snap_text::Draft;
+use snap_text::{Draft, split_line};
 
 /// The most bytes of a line that are shown.
 const WINDOW: usize = 72;
@@ -172,22 +172,6 @@ pub fn push_line_spot(out: &mut Draft, part: &Part<'_>, line: u64)
     push_line_place(out, part, line);
     out.push(PLACE_END);
     push_window(out, text_of(part, line), 1);
-}
-
-/// Returns the first line, without its line feed, and the lines behind it.
-pub fn split_line(bytes: &[u8]) -> (&[u8], &[u8])
-    requires { 0 < length bytes.now }
-    ensures lines { lines_of bytes.now ≡ result.0.now ∷ lines_of result.1.now }
-    ensures shorter { length result.1.now < length bytes.now }
-{
-    let mut len = 0;
-    while len < bytes.len() {
-        if bytes[len] == b'\n' {
-            return (&bytes[..len], &bytes[len + 1..]);
-        }
-        len += 1;
-    }
-    (bytes, &bytes[bytes.len()..])
 }
 
 /// Returns line number `number`, counted from 1; an empty line if there is none.

@@ -1,5 +1,5 @@
 //! What each token of a numbered line stands for, as the tokens beside it decide.
-ghost use Rattle.std.specs.Prelude.{◌≡◌, option_map, length};
+ghost use Rattle.std.specs.Prelude.{◌≡◌, option_map};
 ghost use Rattle.snap_semantics.specs.ListingForms.{field_of_keyword};
 ghost use Rattle.snap_text.specs.Tokens.{view_token};
 ghost use Rattle.snap_explanation.specs.Steps.{placed_tokens};
@@ -9,11 +9,10 @@ ghost use Rattle.snap_explanation.specs.TokenUses.{tuple_use, use_at, is_view_wo
 ghost use Rattle.snap_explanation.specs.TokenUses.{slot_of_word, slot_inside, slot_after};
 ghost use Rattle.snap_explanation.specs.Views.{view_use};
 
-use crate::names::same_word;
 use crate::pieces::PlacedToken;
 use crate::spot::front;
 use crate::tests::is_symbol;
-use snap_listing::is_reserved;
+use snap_listing::{field_of_keyword, is_reserved, same_word};
 use snap_semantics::{Instr, Sort, Symbol, Tuple};
 use snap_text::Token;
 use snap_words::{Bank, Field, KindTag};
@@ -115,23 +114,6 @@ fn sort_at(instr: &Instr, slot: Slot, behind: &[PlacedToken<'_>]) -> Sort
                 lone_sort(instr, count)
             }
         }
-    }
-}
-
-/// Returns the field of one number that a word is.
-fn field_of_keyword(word: &[u8]) -> Option<Field>
-    ensures { result ≡ field_of_keyword word.now }
-{
-    if same_word(word, b"seq") {
-        Some(Field::Seq)
-    } else if same_word(word, b"data") {
-        Some(Field::Datum)
-    } else if same_word(word, b"toggle") {
-        Some(Field::Toggle)
-    } else if same_word(word, b"id") {
-        Some(Field::Id)
-    } else {
-        None
     }
 }
 

@@ -22,7 +22,8 @@ abbrev pub file_of : Names → Which → Option (List ℕ)
 file_of n which.Listing = n.listing
 file_of n which.Schedule = n.schedule
 
--- the front of a line that speaks of a file, where it has a name
+-- the front of a line that speaks of a file: the program and the file, where the file has a name; a line on standard
+-- input has no front
 abbrev pub front : (program : List ℕ) → (file : Option (List ℕ)) → List ℕ
 front program None = []
 front program (Some file) = program ++ codes ": " ++ file ++ codes ": "

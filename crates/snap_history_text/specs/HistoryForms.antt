@@ -1,14 +1,12 @@
 -- The forms of a line of a history: a call, an answer, the end of an update or a crash of a process, with its number or
 -- without it; how an event is spelled, and how a line is read.
-use Rattle.std.specs.Prelude.{ℕ, ◌&&◌, List, [], ◌∷◌, map, Option, Some, None, option_map, codes, if◌then◌else◌}
-use Rattle.snap_words.specs.Shape.{Counts}
+use Rattle.std.specs.Prelude.{ℕ, List, [], ◌∷◌, map, Option, Some, None, option_map, codes}
 use Rattle.snap_semantics.specs.declared.event.Event.{Event}
 use Rattle.snap_semantics.specs.declared.event.Happening.{Happening}
 use Rattle.snap_semantics.specs.declared.event.Happening.TheVariants as what
 use Rattle.snap_semantics.specs.declared.process.Op.{Op}
 use Rattle.snap_semantics.specs.declared.process.Op.TheVariants as op
-use Rattle.snap_semantics.specs.Rules.{◌>>=◌, or_else, number_at, keyword_at, end_at}
-use Rattle.snap_semantics.specs.ScheduleForms.{is_count}
+use Rattle.snap_semantics.specs.Rules.{or_else, number_at, keyword_at, end_at}
 use Rattle.snap_semantics.specs.Token.{Token, Identifier, Number, Sign}
 use Rattle.snap_history_text.specs.declared.event_form.EventForm.{EventForm}
 
@@ -93,7 +91,3 @@ numbered_form ts = do
 -- the form that a line is, where it is one
 unfoldable pub event_form : List Token → Option EventForm
 event_form ts = or_else (numbered_form ts) (plain_form None ts)
-
--- the shape of these counts, where they are one
-abbrev pub shape_of : ℕ → ℕ → Option Counts
-shape_of n w = if is_count n && is_count w then Some (record { n = n; w = w }) else None

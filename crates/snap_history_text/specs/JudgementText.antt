@@ -1,11 +1,10 @@
 -- What is written of a judgement: an order of the operations that explains the history, or the event at which no order
 -- does any more, or at which the search for one was given up.
-use Rattle.std.specs.Prelude.{ℕ, ◌-◌, List, [], ◌∷◌, ◌++◌, Option, Some, None, codes, decimal, slice_index_or}
+use Rattle.std.specs.Prelude.{ℕ, List, [], ◌∷◌, ◌++◌, Option, Some, None, codes, decimal}
 use Rattle.snap_semantics.specs.declared.event.Event.{Event}
 use Rattle.snap_semantics.specs.Report.{numbers_text}
-use Rattle.snap_semantics.specs.declared.event.Happening.TheVariants as what
 use Rattle.snap_judge.specs.History.{History}
-use Rattle.snap_judge.specs.Linearizable.{event}
+use Rattle.snap_judge.specs.Linearizable.{last_of}
 use Rattle.snap_judge.specs.declared.judgements.Judgement.{Judgement}
 use Rattle.snap_judge.specs.declared.judgements.Judgement.TheVariants as judgement
 use Rattle.snap_judge.specs.declared.operation.Action.{Action}
@@ -48,10 +47,6 @@ not_linearizable_line e = verdict_line (codes "not linearizable") e
 -- the event at which the search was given up
 abbrev pub undecided_line : Event → List ℕ
 undecided_line e = verdict_line (codes "undecided") e
-
--- the last of the first so many events of a history
-abbrev pub last_of : ℕ → History → Event
-last_of count h = slice_index_or h.events (count - 1) (event 0 0 what.Crash)
 
 -- what is written of a judgement of a history
 abbrev pub judgement_text : History → Judgement → List ℕ

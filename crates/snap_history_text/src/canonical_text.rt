@@ -1,15 +1,14 @@
 //! Histories in their canonical text.
 ghost use Rattle.std.specs.Prelude.{◌≡◌, ◌∷◌, ◌++◌, [], map, codes, OnOk, IfOk};
 ghost use Rattle.snap_semantics.specs.Layout.{line_text, lines_text};
-ghost use Rattle.snap_semantics.specs.ScheduleForms.{spelled_shape};
 ghost use Rattle.snap_semantics.specs.Token.{Identifier, Number};
 ghost use Rattle.snap_history_text.specs.HistoryForms.{spelled_event};
 ghost use Rattle.snap_history_text.specs.HistoryText.{history_text};
 
 use snap_judge::History;
 use snap_semantics::{Event, Happening, Op};
+use snap_sched::push_shape;
 use snap_text::{Token, push_laid_out};
-use snap_words::Shape;
 use std::alloc::{AllocError, Global};
 
 /// Appends the line of an event that has a word alone.
@@ -104,20 +103,6 @@ fn push_events(alloc: Global, out: &mut Vec<u8>, events: &[Event]) -> Result<(),
         push_event(alloc, out, event)?;
     }
     Ok(())
-}
-
-/// Appends the line of a shape: `shape N W`.
-fn push_shape(out: &mut Vec<u8>, shape: Shape) -> Result<(), AllocError>
-    ensures { OnOk result (out.new.items ≡ out.old.items ++ line_text (spelled_shape shape)) }
-{
-    push_laid_out(
-        out,
-        &[
-            Token::Identifier(b"shape"),
-            Token::Number(shape.n()),
-            Token::Number(shape.w()),
-        ],
-    )
 }
 
 /// Returns the canonical text of a history.

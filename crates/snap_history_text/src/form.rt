@@ -1,36 +1,16 @@
 //! `EventForm`: the forms of the lines of a history: an event of a process, with its number or
 //! without it.
-ghost use Rattle.std.specs.Prelude.{◌≡◌, IfOk};
+ghost use Rattle.std.specs.Prelude.{IfOk};
 ghost use Rattle.snap_text.specs.Tokens.{Finds, view_tokens};
 ghost use Rattle.snap_history_text.specs.HistoryForms.{answer_form, call_form, event_form, mark_form};
 ghost use Rattle.snap_history_text.specs.HistoryForms.{numbered_form, plain_form, scan_form};
-ghost use Rattle.snap_history_text.specs.HistoryForms.{shape_of, update_form, values_of, what_form};
-ghost use Rattle.snap_semantics.specs.ScheduleForms.{shape_form};
+ghost use Rattle.snap_history_text.specs.HistoryForms.{update_form, values_of, what_form};
 
 use crate::event_form::EventForm;
 use snap_semantics::{Happening, Op};
 use snap_text::{Token, end_at, keyword_at, number_at};
-use snap_words::{Shape, View};
+use snap_words::View;
 use std::alloc::{AllocError, Global};
-
-/// Returns the shape of these counts; `None` unless both are 1 to `MAX_COUNT`.
-fn shape_of(n: u64, w: u64) -> Option<Shape>
-    ensures { Finds (λ s. s) result (shape_of n w) }
-{
-    Shape::new(n, w).ok()
-}
-
-/// Reads `shape N W`.
-#[tactic(auto, unfolding(snap_semantics::specs::ScheduleForms::shape_form))]
-pub fn shape_form(tokens: &[Token<'_>]) -> Option<Shape>
-    ensures { Finds (λ s. s) result (shape_form (view_tokens tokens.now)) }
-{
-    let rest = keyword_at(b"shape", tokens)?;
-    let (n, rest) = number_at(rest)?;
-    let (w, rest) = number_at(rest)?;
-    end_at(rest)?;
-    shape_of(n, w)
-}
 
 /// Reads `scan`.
 #[tactic(auto, unfolding(crate::specs::HistoryForms::scan_form))]

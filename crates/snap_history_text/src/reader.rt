@@ -1,10 +1,8 @@
 //! Histories read from texts.
 ghost use Rattle.std.specs.Prelude.{◌≡◌, ◌<◌, length, option_map, replicate, Err, IfOk};
-ghost use Rattle.snap_words.specs.Shape.{IsOneOf, max_count};
 ghost use Rattle.snap_semantics.specs.Answers.{Answers, Gives};
 ghost use Rattle.snap_semantics.specs.declared.fault.Fault.TheVariants.{Refused};
 ghost use Rattle.snap_text.specs.Lines.{view_line};
-ghost use Rattle.snap_text.specs.Tokens.{Finds};
 ghost use Rattle.snap_judge.specs.History.{Free, IsHistory};
 ghost use Rattle.snap_history_text.specs.HistoryText.{event_of, events_of, has_word, history_of};
 ghost use Rattle.snap_history_text.specs.HistoryText.{line_event, max_bytes, number_behind};
@@ -13,9 +11,10 @@ ghost use Rattle.snap_history_text.specs.declared.refusal.HistoryRefusal.TheVari
 
 use crate::callers::{Caller, free_callers, note_event, wrong_turn};
 use crate::event_form::EventForm;
-use crate::form::{event_form, shape_form};
+use crate::form::event_form;
 use crate::refusal::{HistoryFault, HistoryRefusal};
 use snap_judge::History;
+use snap_sched::shape_form;
 use snap_semantics::{Event, Happening, Op};
 use snap_text::{TextLines, TokenLine};
 use snap_words::Shape;

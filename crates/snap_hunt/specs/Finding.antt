@@ -1,15 +1,14 @@
 -- `Finds`: what a search for failures comes to in a run. A search may leave it undecided whether the run is
 -- linearizable, so what is found is not a function of the run alone.
-use Rattle.std.specs.Prelude.{◌≡◌, ℕ, ◌-◌, Bool, true, false, ◌⊎◌, Option, Some, None, slice_index_or}
+use Rattle.std.specs.Prelude.{◌≡◌, ℕ, Bool, true, false, ◌⊎◌, Option, Some, None}
 use Rattle.snap_semantics.specs.Rules.{or_else}
 use Rattle.snap_semantics.specs.declared.event.Event.{Event}
-use Rattle.snap_semantics.specs.declared.event.Happening.TheVariants as what
 use Rattle.snap_runs.specs.Run.{Run}
 use Rattle.snap_judge.specs.Judgement.{FailsAt}
-use Rattle.snap_judge.specs.Linearizable.{IsLinearizableHistory, event}
+use Rattle.snap_judge.specs.Linearizable.{IsLinearizableHistory, last_of}
 use Rattle.snap_judge.specs.declared.judgements.Failing.TheVariants as failing
 use Rattle.snap_run_judge.specs.RunHistory.{history_of}
-use Rattle.snap_run_judge.specs.RunJudgement.{IsRunJudgement}
+use Rattle.snap_run_judge.specs.RunJudgement.{IsRunJudgement, most_configurations}
 use Rattle.snap_hunt.specs.declared.failures.Failure.{Failure}
 use Rattle.snap_hunt.specs.declared.failures.Failure.TheVariants as failure
 use Rattle.snap_hunt.specs.declared.failures.Wanted.{Wanted}
@@ -17,7 +16,7 @@ use Rattle.snap_hunt.specs.Failing.{first_seen}
 
 -- event number k of a run, counted from 1
 abbrev pub event_at : Run → ℕ → Event
-event_at r k = slice_index_or (history_of r).events (k - 1) (event 0 0 what.Crash)
+event_at r k = last_of k (history_of r)
 
 -- that a run fails at its event number k
 abbrev pub failure_at : Run → ℕ → Failure
@@ -26,7 +25,7 @@ failure_at r k = failure.NotLinearizable (event_at r k).process (event_at r k).i
 -- More configurations than a search may meet were met, so that it is not decided whether the history of the run is
 -- linearizable.
 abbrev pub IsUndecided : Run → Type 0
-IsUndecided r = (k : ℕ) × IsRunJudgement 1000000 r (failing.Undecided k)
+IsUndecided r = (k : ℕ) × IsRunJudgement most_configurations r (failing.Undecided k)
 
 -- What is found of linearizability is so: the history of the run is not linearizable, and fails at this event. Where
 -- nothing is found it is linearizable, or that is not decided.

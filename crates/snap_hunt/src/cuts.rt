@@ -1,7 +1,7 @@
 //! `Cut`: some of the items of a failing schedule, to be left out as it is shrunk; and what is
 //! left.
-ghost use Rattle.std.specs.Prelude.{◌≡◌, ◌+◌, ◌<◌, ◌≤◌, ◌^◌, [], ◌∷◌, ◌++◌};
-ghost use Rattle.std.specs.Prelude.{drop, length, IfOk, OnOk};
+ghost use Rattle.std.specs.Prelude.{◌≡◌, ◌+◌, ◌<◌, ◌≤◌};
+ghost use Rattle.std.specs.Prelude.{drop, length, IfOk};
 ghost use Rattle.snap_semantics.specs.ScheduleText.{IsSchedule};
 ghost use Rattle.snap_hunt.specs.Shrinking.{without};
 
@@ -33,18 +33,6 @@ pub(crate) fn items_of(alloc: Global, schedule: &Schedule) -> Result<Vec<Item>, 
     schedule.items().iter().collect(alloc)
 }
 
-/// Appends an item.
-fn push_item(items: &mut Items, item: Item) -> Result<(), AllocError>
-    requires { length items.old + 1 < 2 ^ 32 }
-    ensures { OnOk result (items.new ≡ items.old ++ item ∷ []) }
-{
-    match item {
-        Item::Step(process) => items.push_steps(process, 1),
-        Item::Call(process, op) => items.push_call(process, op),
-        Item::Crash(process) => items.push_crash(process),
-    }
-}
-
 /// Returns the schedule of these items.
 pub(crate) fn schedule_with(
     alloc: Global,
@@ -56,7 +44,7 @@ pub(crate) fn schedule_with(
 {
     let mut all = Items::new(alloc);
     for item in items {
-        push_item(&mut all, *item)?;
+        all.push(*item)?;
     }
     Ok(Schedule::new(shape, all))
 }

@@ -79,9 +79,11 @@ impl<'a> StepCounter<'a> {
 
     /// Counts the next item, over which a walk passes.
     fn pass_next(&mut self)
-        requires { (r : Run) × (quiet : List Bool) × HasCounted r self.old.most self.old.done self.old
+        requires { (r : Run) × (quiet : List Bool) ×
+            HasCounted r self.old.most self.old.done self.old
             × IsUntold quiet false (way r self.old.done) }
-        ensures counted { (r : Run) (quiet : List Bool) → HasCounted r self.old.most self.old.done self.old →
+        ensures counted { (r : Run) (quiet : List Bool) →
+            HasCounted r self.old.most self.old.done self.old →
             IsUntold quiet false (way r self.old.done) →
             HasCounted r self.old.most (suc self.old.done) self.new }
         ensures most { self.new.most ≡ self.old.most }
@@ -104,9 +106,11 @@ impl<'a> StepCounter<'a> {
 
     /// Counts the items up to item number `until`, over all of which a walk passes.
     fn pass(&mut self, until: u64)
-        requires { (r : Run) × (quiet : List Bool) × HasCounted r self.old.most self.old.done self.old
+        requires { (r : Run) × (quiet : List Bool) ×
+            HasCounted r self.old.most self.old.done self.old
             × AreUntold quiet r self.old.done until × (self.old.done ≤ until) }
-        ensures counted { (r : Run) (quiet : List Bool) → HasCounted r self.old.most self.old.done self.old →
+        ensures counted { (r : Run) (quiet : List Bool) →
+            HasCounted r self.old.most self.old.done self.old →
             AreUntold quiet r self.old.done until → self.old.done ≤ until →
             HasCounted r self.old.most until self.new }
         ensures most { self.new.most ≡ self.old.most }

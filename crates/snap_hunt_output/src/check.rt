@@ -6,7 +6,7 @@ ghost use Rattle.snap_semantics.specs.Answers.{Answers, refused_as};
 ghost use Rattle.snap_semantics.specs.declared.refusal.Refusal.TheVariants as refusal;
 ghost use Rattle.snap_debug_commands.specs.Commands.{commands_of};
 ghost use Rattle.snap_input.specs.Input.{parted};
-ghost use Rattle.snap_input.specs.Parts.{parts_of};
+ghost use Rattle.snap_input.specs.Parts.{max_input, parts_of};
 ghost use Rattle.snap_input.specs.Schedules.{schedule_for};
 ghost use Rattle.snap_tasks.specs.declared.subject.Subject.TheVariants.{FirstPart};
 ghost use Rattle.snap_hunt_output.specs.Check.{run_in_input, run_in_texts, run_under};
@@ -58,7 +58,7 @@ fn schedule_under(
 /// out.
 #[tactic(auto, unfolding(snap_input::specs::Input::parted, snap_input::specs::Input::prepared, crate::specs::Check::run_in_input))]
 pub fn run_in_input(alloc: Global, input: &[u8]) -> Result<InputRun, Fault<Refusal>>
-    requires { length input.now ≤ 16777216 }
+    requires { length input.now ≤ max_input }
     ensures { Answers (λ x. run_over x.program x.schedule) result (run_in_input input.now) }
 {
     let Prepared { program, texts } = prepare(alloc, Subject::FirstPart, 2, input)?;

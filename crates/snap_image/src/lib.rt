@@ -14,12 +14,11 @@ mod laws;
 mod lines;
 mod terms;
 
-pub use cursor::Cursor;
 pub use decoder::decode;
 pub use encoder::encode;
 pub use fault::ImageFault;
-pub use image::{Coded, ExprTag, ImageVersion, TermTag, with_code};
-pub use instrs::{InstrTag, instr};
+pub use image::ImageVersion;
+pub use instrs::instr;
 pub use laws::{
     images_are_bytes, more_than_an_image_is_refused, what_is_decoded_is_an_image,
     what_is_encoded_is_decoded,

@@ -15,17 +15,21 @@ abbrev pub schedules_for : Source → List (List ℕ) → Result (List Schedule)
 schedules_for l [] = Ok []
 schedules_for l (text ∷ texts) = schedule_for l text >>= λ s. schedules_for l texts >>= λ ss. Ok (s ∷ ss)
 
+-- the most schedules behind a listing
+abbrev pub max_schedules : ℕ
+max_schedules = 4096
+
 -- 1 to 4,096 schedules behind the listing
 abbrev pub checked_schedules : Subject → List (List ℕ) → Result (Unit {0}) Refusal
 checked_schedules s parts =
-    if nat_lt 0 (length (texts_for s parts)) && nat_le (length (texts_for s parts)) 4096 then Ok tt
+    if nat_lt 0 (length (texts_for s parts)) && nat_le (length (texts_for s parts)) max_schedules then Ok tt
     else Err (refusal.WrongParts (length parts))
 
 -- what a task on 1 to 4,096 schedules works on, or the first reason why it has nothing to work on
 unfoldable pub prepared_schedules : Subject → List (List ℕ) → Result Prepared Refusal
 prepared_schedules s parts = checked_schedules s parts >>= λ there. prepared_parts s parts
 
--- what is said of a listing and its 1 to 4,096 schedules
+-- what `text` says of a listing and the texts of its 1 to 4,096 schedules
 abbrev pub over_schedules : {A : Type 0} → Subject → List (List ℕ) →
     (Source → List (List ℕ) → Result A Refusal) → Result A Refusal
 over_schedules s parts text =

@@ -1,8 +1,8 @@
 -- What is said of a history: that it is linearizable, or up to which event it is not.
 use Rattle.std.specs.Prelude.{ℕ, ◌-◌, ⊤, length, map}
 use Rattle.snap_words.specs.Shape.{IsOneOf}
-use Rattle.snap_judge.specs.declared.decisions.Decision.{Decision}
-use Rattle.snap_judge.specs.declared.decisions.Decision.TheVariants as decision
+use Rattle.snap_judge.specs.declared.linearizability.Linearizability.{Linearizability}
+use Rattle.snap_judge.specs.declared.linearizability.Linearizability.TheVariants as decision
 use Rattle.snap_judge.specs.declared.judgements.Failing.{Failing}
 use Rattle.snap_judge.specs.declared.judgements.Failing.TheVariants as failing
 use Rattle.snap_judge.specs.declared.judgements.Judgement.{Judgement}
@@ -13,7 +13,7 @@ use Rattle.snap_judge.specs.Configurations.{beginning, MeetsMoreThan}
 use Rattle.snap_judge.specs.Kept.{operation_of}
 
 -- What is decided of a history is so; it is left open only where there are more than `most` configurations to choose at.
-abbrev pub IsDecision : (most : ℕ) → History → Decision → Type 0
+abbrev pub IsDecision : (most : ℕ) → History → Linearizability → Type 0
 IsDecision most h decision.Linearizable = IsLinearizableHistory h
 IsDecision most h decision.NotLinearizable = IsLinearizableHistory h → ⊥
 IsDecision most h decision.Undecided = MeetsMoreThan most (beginning h)

@@ -1,6 +1,6 @@
 -- Linearizable: the operations that a history tells of are as if each took place at one moment between its call and
 -- its end.
-use Rattle.std.specs.Prelude.{◌≡◌, ℕ, ◌<◌, List, Option, Some, None, replicate, take}
+use Rattle.std.specs.Prelude.{◌≡◌, ℕ, ◌-◌, ◌<◌, List, Option, Some, None, replicate, slice_index_or, take}
 use Rattle.std.specs.List.{All, AllPairs, Contains}
 use Rattle.snap_semantics.specs.declared.event.Event.{Event}
 use Rattle.snap_semantics.specs.declared.event.Happening.{Happening}
@@ -61,6 +61,10 @@ IsLinearizableHistory h = (os : List Operation) × IsLinearizationOf h os
 -- the history up to its event number k, counted from 1
 abbrev pub up_to : ℕ → History → History
 up_to k h = record { shape = h.shape; events = take k h.events }
+
+-- the last of the first so many events of a history
+abbrev pub last_of : ℕ → History → Event
+last_of count h = slice_index_or h.events (count - 1) (event 0 0 what.Crash)
 
 -- What is linearizable was so from its beginning on.
 abbrev pub LinearizableFromTheBeginning : Type 0

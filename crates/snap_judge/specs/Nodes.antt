@@ -1,4 +1,7 @@
--- How far a search is: the nodes at which it has to choose, each with what it has tried there.
+-- How far a search is: the nodes at which it has to choose, each with what it has tried there. A node stands where the
+-- next step is the end of an operation that has not taken place: that one, or any other that is open, may take place
+-- first. A place is a process, counted from 0, and `ending` that of the node's next step. `d` is a node that stands for
+-- one that is not there.
 use Rattle.std.specs.Prelude.{◌≡◌, ℕ, zero, suc, ◌+◌, ◌-◌, if◌then◌else◌, ◌<◌, ◌≤◌, ◌⊎◌, true, false, List, [], ◌∷◌, ◌++◌, length, slice_index_or, take, map, replicate}
 use Rattle.std.specs.List.{All, Contains, IsDistinct}
 use Rattle.snap_judge.specs.contracts.config.ConfigPartialEq.TheImpl as config_eq

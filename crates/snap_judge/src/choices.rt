@@ -77,7 +77,8 @@ fn is_wanted(steps: &[Step<'_>], config: &Config, word: u64, value: u64) -> bool
 fn called_update(steps: &[Step<'_>], call: usize) -> Option<(u64, u64)>
     requires { call < length steps.now }
     ensures some { IfSome result (λ u. (called_at steps.now call).action ≡ Sets u.0 u.1) }
-    ensures none { IfNone result ((view : List ℕ) × ((called_at steps.now call).action ≡ Sees view)) }
+    ensures none { IfNone result
+        ((view : List ℕ) × ((called_at steps.now call).action ≡ Sees view)) }
 {
     match &steps[call] {
         Step::Calls(operation) => match &operation.action {

@@ -9,18 +9,11 @@ ghost use Rattle.snap_judge.specs.Steps as steps;
 
 use crate::config::{Found, Step};
 use crate::history::History;
+use crate::linearizability::Linearizability;
 use crate::operation::{Action, Operation};
 use crate::prepass::steps_of;
 use crate::search::search;
 use std::alloc::{AllocError, Global};
-
-/// What is decided of the first events of a history.
-#[derive(Clone, Copy)]
-pub enum Decision {
-    Linearizable,
-    NotLinearizable,
-    Undecided,
-}
 
 /// Returns an operation that sees no words, which stands for the operation of a step that calls
 /// none.
@@ -108,15 +101,15 @@ pub fn decide(
     history: &History,
     count: usize,
     most: usize,
-) -> Result<Decision, AllocError>
+) -> Result<Linearizability, AllocError>
     requires history { IsHistory history.now }
     requires count { count ≤ length history.now.events }
     ensures { IfOk result (IsDecision most (up_to count history.now)) }
 {
     let (_, found) = search_events(alloc, history, count, most)?;
     match found {
-        Found::Explained(_) => Ok(Decision::Linearizable),
-        Found::Unexplained => Ok(Decision::NotLinearizable),
-        Found::Undecided => Ok(Decision::Undecided),
+        Found::Explained(_) => Ok(Linearizability::Linearizable),
+        Found::Unexplained => Ok(Linearizability::NotLinearizable),
+        Found::Undecided => Ok(Linearizability::Undecided),
     }
 }

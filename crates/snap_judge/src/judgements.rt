@@ -5,8 +5,9 @@ ghost use Rattle.snap_judge.specs.Judgement.{IsFailing, IsJudgement, failing_of}
 ghost use Rattle.std.specs.Prelude.{◌≡◌, IfOk};
 
 use crate::config::Found;
-use crate::decisions::{Decision, decide, operations, search_events};
+use crate::decisions::{decide, operations, search_events};
 use crate::history::History;
+use crate::linearizability::Linearizability;
 use crate::operation::Operation;
 use std::alloc::{AllocError, Global};
 
@@ -49,9 +50,9 @@ fn failure(alloc: Global, history: &History, most: usize) -> Result<Judgement<'_
     while holds + 1 < fails {
         let middle = holds + (fails - holds) / 2;
         match decide(alloc, history, middle, most)? {
-            Decision::Linearizable => holds = middle,
-            Decision::NotLinearizable => fails = middle,
-            Decision::Undecided => return Ok(Judgement::Undecided(middle)),
+            Linearizability::Linearizable => holds = middle,
+            Linearizability::NotLinearizable => fails = middle,
+            Linearizability::Undecided => return Ok(Judgement::Undecided(middle)),
         }
     }
     Ok(Judgement::NotLinearizable(fails))
@@ -115,8 +116,8 @@ pub fn judge_without_order(
         return Ok(Failing::Nowhere);
     }
     match decide(alloc, history, count, most)? {
-        Decision::Linearizable => Ok(Failing::Nowhere),
-        Decision::NotLinearizable => Ok(failing_of(&failure(alloc, history, most)?)),
-        Decision::Undecided => Ok(Failing::Undecided(count)),
+        Linearizability::Linearizable => Ok(Failing::Nowhere),
+        Linearizability::NotLinearizable => Ok(failing_of(&failure(alloc, history, most)?)),
+        Linearizability::Undecided => Ok(Failing::Undecided(count)),
     }
 }

@@ -11,14 +11,16 @@ mod config;
 mod decisions;
 mod history;
 mod judgements;
+mod linearizability;
 mod operation;
 mod prepass;
 mod scans;
 mod search;
 mod taking;
 
-pub use history::History;
+pub use history::{History, copied_events};
 pub use judgements::{Failing, Judgement, failing_of, judge, judge_without_order};
+pub use linearizability::Linearizability;
 pub use operation::{Action, Operation};
 
 /// The moves that explain a history make a linearization of it, and each linearization is made by

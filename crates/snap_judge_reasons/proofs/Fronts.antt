@@ -9,9 +9,8 @@ use Rattle.snap_semantics.specs.declared.event.Happening.TheVariants as what
 use Rattle.snap_semantics.specs.declared.process.Op.TheVariants as op
 use Rattle.snap_judge.specs.History.{Busy, Caller, Free, Gone, History, IsHistory, MayCome, MayFollow}
 use Rattle.snap_judge.specs.History.{caller_after, with_caller}
-use Rattle.snap_judge.specs.Linearizable.{event, up_to}
+use Rattle.snap_judge.specs.Linearizable.{event, up_to, last_of}
 use Rattle.snap_judge.proofs.ExplainedNext.{Rises}
-use Rattle.snap_history_text.specs.JudgementText.{last_of}
 use Rattle.snap_judge_reasons.specs.RightAnswers.{answering}
 
 follow_take : (shape : Counts) (callers : ℕ → Caller) (k : ℕ) (es : List Event) → MayFollow shape callers es →

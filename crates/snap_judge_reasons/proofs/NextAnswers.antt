@@ -7,8 +7,7 @@ use Rattle.std.proofs.lemmas.List.Quantifiers.{all_pairs_push}
 use Rattle.snap_words.specs.Shape.{IsOneOf}
 use Rattle.snap_semantics.specs.declared.event.Happening.TheVariants as what
 use Rattle.snap_judge.specs.History.{History}
-use Rattle.snap_judge.specs.Linearizable.{up_to}
-use Rattle.snap_history_text.specs.JudgementText.{last_of}
+use Rattle.snap_judge.specs.Linearizable.{up_to, last_of}
 use Rattle.snap_judge_reasons.specs.RightAnswers.{AreRightAnswers, AreRightNext, IsRightNext, most_answers}
 
 -- One more right answer, which is not there.

@@ -4,8 +4,7 @@ use Rattle.std.specs.List.{All, AllPairs}
 use Rattle.snap_words.specs.Shape.{IsOneOf}
 use Rattle.snap_semantics.specs.declared.event.Happening.TheVariants as what
 use Rattle.snap_judge.specs.History.{History, IsHistory}
-use Rattle.snap_judge.specs.Linearizable.{IsLinearizableHistory, event, up_to}
-use Rattle.snap_history_text.specs.JudgementText.{last_of}
+use Rattle.snap_judge.specs.Linearizable.{IsLinearizableHistory, event, up_to, last_of}
 
 -- the first events of a history, and then this answer of process i at event number t
 abbrev pub followed_by : History → (i t : ℕ) → List ℕ → History

@@ -4,8 +4,7 @@ ghost use Rattle.std.specs.List.{All};
 ghost use Rattle.snap_words.specs.Shape.{IsOneOf};
 ghost use Rattle.snap_semantics.specs.declared.event.Happening.TheVariants as what;
 ghost use Rattle.snap_judge.specs.History.{IsHistory};
-ghost use Rattle.snap_judge.specs.Linearizable.{IsLinearizableHistory};
-ghost use Rattle.snap_history_text.specs.JudgementText.{last_of};
+ghost use Rattle.snap_judge.specs.Linearizable.{IsLinearizableHistory, last_of};
 ghost use Rattle.snap_judge_reasons.specs.RightAnswers.{AreRightAnswers, AreRightNext, IsRightNext};
 ghost use Rattle.snap_judge_reasons.specs.RightAnswers.{followed_by, most_answers};
 

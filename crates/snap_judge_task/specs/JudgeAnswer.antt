@@ -5,7 +5,7 @@ use Rattle.snap_judge.specs.Judgement.{IsJudgement, failing_of}
 use Rattle.snap_judge.specs.declared.judgements.Judgement.{Judgement}
 use Rattle.snap_history_text.specs.JudgementText.{judgement_text}
 use Rattle.snap_run_judge.specs.RunJudgement.{word_of}
-use Rattle.snap_run_judge.specs.declared.linearizability.Linearizability.{Linearizability}
+use Rattle.snap_judge.specs.declared.linearizability.Linearizability.{Linearizability}
 use Rattle.snap_tasks.specs.declared.judge_request.JudgeRequest.{JudgeRequest}
 use Rattle.snap_tasks.specs.declared.judge_request.JudgeSource.{JudgeSource}
 use Rattle.snap_faults.specs.declared.fault.ProgramFault.{ProgramFault}

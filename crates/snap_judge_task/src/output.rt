@@ -43,7 +43,8 @@ fn told(alloc: Global, history: History, most: u64) -> Result<JudgeOutput, Alloc
 fn judged(alloc: Global, source: JudgeSource, input: &[u8]) -> Result<History, ProgramFault>
     ensures value { AnswersHistory source input.now result }
     ensures history { IfOk result (λ h. IsHistory h) }
-    ensures at_once { (e : ProgramFault) → found_at_once source input.now ≡ Some e → result ≡ Err e }
+    ensures at_once { (e : ProgramFault) → found_at_once source input.now ≡ Some e →
+        result ≡ Err e }
 {
     match source {
         JudgeSource::Run(subject) => Ok(history_in(alloc, subject, input)?),

@@ -8,11 +8,12 @@ use Rattle.snap_semantics.specs.Spelling.{spelled_line}
 use Rattle.snap_semantics.specs.Token.{TextLine, Token}
 use Rattle.snap_listing.specs.declared.line_texts.LineText.{LineText}
 
--- a line's text, with its number
+-- a text, with the number of its line
 pub record NumberedText : Type 0 where
   pub number : ℕ
   pub text : List ℕ
 
+-- a line as its number and its canonical text
 abbrev pub written : Line → NumberedText
 written line = record { number = line.number; text = line_to [] (spelled_line line) }
 
@@ -25,18 +26,21 @@ text_with (t ∷ ts) k = if nat_eq t.number k then Some t.text else text_with ts
 abbrev pub line_text_at : Source → ℕ → Option (List ℕ)
 line_text_at s k = text_with (map written s.lines) k
 
+-- the text of a line as the program keeps it
 abbrev pub seen_line : LineText → NumberedText
 seen_line line = record { number = line.number; text = line.text.items }
 
--- the tokens of the first of the lines of a text
+-- the tokens that were found, none where there are none
 abbrev pub tokens_in : Option (List Token) → List Token
 tokens_in None = []
 tokens_in (Some ts) = ts
 
+-- the tokens of the first of these lines
 abbrev pub first_tokens : List TextLine → List Token
 first_tokens [] = []
 first_tokens (line ∷ lines) = tokens_in line.tokens
 
+-- the lines behind the first one
 abbrev pub behind : List TextLine → List TextLine
 behind [] = []
 behind (line ∷ lines) = lines

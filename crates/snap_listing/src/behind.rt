@@ -4,7 +4,8 @@ ghost use Rattle.snap_listing.specs.Rules.{expr_behind, name_behind};
 ghost use Rattle.snap_listing.specs.Rules.{index_behind, every_place};
 ghost use Rattle.snap_text.specs.Tokens.{Finds, view_tokens};
 
-use crate::{expr_at, index_at, name_at};
+use crate::conditions::expr_at;
+use crate::terms::{index_at, name_at};
 use snap_semantics::{Expr, Index, Name, Symbol};
 use snap_text::{Token, symbol_at};
 

@@ -19,10 +19,9 @@ mod terms;
 mod tuples;
 mod uses;
 
-pub use conditions::{condition_at, expr_at, join_keyword, range_at, target_at, where_at};
 pub use fault::ListingFault;
 pub use forms::{is_line_number, is_reserved, line_form};
-pub use instructions::{checked_uses, kind_keyword};
+pub use instructions::kind_keyword;
 pub use laws::{
     what_is_printed_is_read, what_is_printed_is_spelled, what_is_read_is_spelled,
     what_is_read_with_comments_is_a_listing, what_is_spelled_is_read,
@@ -38,5 +37,5 @@ pub use snap_semantics::{
 };
 pub use snap_words::{Field, KindTag};
 pub use targets::{checked_target, checked_targets, push_line_copy};
-pub use terms::{index_at, name_at, named_place_at, place_at};
+pub use terms::{field_of_keyword, name_at, same_word};
 pub use uses::{has_bank, has_field, has_handshakes, has_view, is_among, same_kind};

@@ -204,7 +204,8 @@ fn run_all<'t, K: Kind, G: Gate, R: Threads + Wait + Sync>(
     )
 }
 
-/// Joins all workers, for which there is room. Each of them kept its promise.
+/// Joins all workers, for which there is room. What each of them hands back keeps the promise of
+/// its handle.
 fn joined<K: Kind, G: Gate, R: Threads>(
     rt: &R,
     handles: Vec<PromisedHandle<Worked<K>, WorkerPromise<K, G>>>,

@@ -11,5 +11,5 @@ mod written;
 
 pub use laws::live_runs_are_snapshots;
 pub use output::{LiveOutput, live_output};
-pub use setup::{Setup, setup_of};
-pub use uncalled::{UncalledCall, push_front, push_others};
+pub use setup::setup_of;
+pub use uncalled::{push_front, push_others};

@@ -153,7 +153,8 @@ impl<K: Kind> Machine<K> {
         requires process { IsOneOf self.old.shape.n i }
         requires at { (process_at self.old.state i).status ≡ Busy activity.now }
         ensures done { IfOk result (λ o.
-            done self.old.source self.old.shape self.old.state (item.Step i) ≡ (self.new.state, o)) }
+            done self.old.source self.old.shape self.old.state (item.Step i)
+            ≡ (self.new.state, o)) }
         ensures source { self.new.source ≡ self.old.source }
         ensures shape { self.new.shape ≡ self.old.shape }
         ensures err { OnErr result (self.new ≡ self.old) }

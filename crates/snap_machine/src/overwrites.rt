@@ -15,7 +15,7 @@ use crate::step_context::StepContext;
 use crate::undo::{SlotPlace, Undo};
 use snap_asm_program::Program;
 use snap_regs::Registers;
-use snap_semantics::{Item, Status};
+use snap_semantics::{Item, Status, who};
 use snap_words::Kind;
 use std::alloc::{AllocError, Global};
 
@@ -128,15 +128,4 @@ pub fn overwritten<K: Kind>(
         status: process.status,
         place,
     })
-}
-
-/// Returns the process of an item.
-fn who(item: Item) -> u32
-    ensures { result ≡ who item }
-{
-    match item {
-        Item::Step(i) => i,
-        Item::Call(i, _) => i,
-        Item::Crash(i) => i,
-    }
 }

@@ -31,7 +31,8 @@ use Rattle.snap_machine.specs.declared.undo.WritePlace.{WritePlace}
 use Rattle.snap_listing.specs.LineTexts.{NumberedText}
 use Rattle.snap_machine.specs.Configuration.{HasLocals}
 use Rattle.snap_output.specs.Between.{between, process_text}
-use Rattle.snap_output.specs.Step.{did_line, done_text, head_text, line_run}
+use Rattle.snap_report.specs.OutcomeLine.{outcome_line}
+use Rattle.snap_output.specs.Step.{did_line, done_text, line_run}
 use Rattle.snap_report.specs.WrittenLines.{written_local, written_shared}
 use Rattle.snap_output.specs.Touched.{came_text, changed_line, changed_local, touched_text}
 use Rattle.snap_output.proofs.Parts.{between_same}
@@ -39,7 +40,7 @@ use Rattle.snap_output.proofs.Touched.{touched}
 
 pub item_told : (texts : List NumberedText) (s : Source) (n : Counts) (S S' : State) (t : ℕ) (x : Item) (o : Outcome)
     (u : Overwritten) (out did new : List ℕ) → done s n S x ≡ (S', o) →
-    did ≡ out ++ head_text texts t (who x) o (line_run x (process_at S (who x)).status) →
+    did ≡ out ++ outcome_line texts t (who x) o (line_run x (process_at S (who x)).status) →
     new ≡ did ++ touched_text s.kind (who x) (write_place_of u.place) S S' (event_of t x o) →
     IsListing s → who x - 1 < length S.processes → HasLocals s (process_at S (who x)).locals → u.process ≡ who x →
     CanPut s n u → put s u (done s n S x).0 ≡ S → new ≡ out ++ done_text texts s n S t x
@@ -139,7 +140,7 @@ module _ (S S' : State) (r : Reason) where
 
 pub skipped_told : (texts : List NumberedText) (s : Source) (n : Counts) (S S' : State) (t : ℕ) (x : Item) (r : Reason)
     (out did : List ℕ) → done s n S x ≡ (S', Skipped r) →
-    did ≡ out ++ head_text texts t (who x) (Skipped r) (line_run x (process_at S (who x)).status) →
+    did ≡ out ++ outcome_line texts t (who x) (Skipped r) (line_run x (process_at S (who x)).status) →
     did ≡ out ++ done_text texts s n S t x
 unfolding done_text
 skipped_told texts s n S S' t x r out did is first =

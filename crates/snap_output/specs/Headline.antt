@@ -2,6 +2,7 @@
 -- for the first reason, what is assembled lists back, and what is printed of listing U, B or M is of a run that is a
 -- snapshot.
 use Rattle.std.specs.Prelude.{◌≡◌, ℕ, ◌<◌, ◌≤◌, true, List, [], ◌∷◌, length, map, Ok}
+use Rattle.snap_input.specs.ManySchedules.{max_schedules}
 use Rattle.snap_words.specs.Kind.{fits}
 use Rattle.snap_words.specs.declared.kind.KindTag.{KindTag}
 use Rattle.snap_image.specs.Assembly.{assembled, listed}
@@ -68,7 +69,7 @@ pub record AsksForBatch (subject : Subject) (input : List ℕ) (l : Source) (ss 
   pub listing : listing_for subject (parts_of input) ≡ Ok l
   pub schedules : AreSchedulesFor l (texts_in subject input) ss
   pub some : 0 < length (texts_in subject input)
-  pub few : length (texts_in subject input) ≤ 4096
+  pub few : length (texts_in subject input) ≤ max_schedules
 
 -- The program runs such a batch, if the input is not too long.
 abbrev pub RunsBatches : Type 0

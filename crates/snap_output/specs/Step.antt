@@ -1,6 +1,6 @@
 -- `done_text`: what a trace prints of one item, made from the states before and after it: its outcome, the line that
 -- it ran, and what it changed.
-use Rattle.std.specs.Prelude.{ℕ, List, [], ◌++◌, Option, Some, None, codes, decimal}
+use Rattle.std.specs.Prelude.{ℕ, List, [], ◌++◌, Option, Some, None}
 use Rattle.snap_words.specs.Shape.{Counts}
 use Rattle.snap_semantics.specs.declared.process.Item.{Item}
 use Rattle.snap_semantics.specs.declared.process.Item.TheVariants.{Step}
@@ -11,8 +11,8 @@ use Rattle.snap_semantics.specs.Run.{event_of}
 use Rattle.snap_semantics.specs.Source.{Source}
 use Rattle.snap_semantics.specs.State.{State, process_at}
 use Rattle.snap_semantics.specs.Table.{done, who}
-use Rattle.snap_listing.specs.LineTexts.{NumberedText, text_with}
-use Rattle.snap_report.specs.OutcomeText.{outcome_text}
+use Rattle.snap_listing.specs.LineTexts.{NumberedText}
+use Rattle.snap_report.specs.OutcomeLine.{outcome_line}
 use Rattle.snap_output.specs.Between.{between, process_text}
 
 -- the line that an item runs: where its process steps, that at which it is
@@ -20,26 +20,9 @@ abbrev pub line_run : Item → Status → Option ℕ
 line_run (Step i) (Busy a) = Some a.line
 line_run _ _ = None
 
-abbrev pub at_text : Option (List ℕ) → List ℕ
-at_text None = []
-at_text (Some text) = codes " at " ++ text
-
--- the text of the line that was run, among these
-abbrev pub run_text : List NumberedText → Option ℕ → List ℕ
-run_text texts None = []
-run_text texts (Some k) = at_text (text_with texts k)
-
--- `item T I `
-abbrev pub number_text : ℕ → ℕ → List ℕ
-number_text t i = codes "item " ++ decimal t ++ codes " " ++ decimal i ++ codes " "
-
--- `item T I OUTCOME`, and the line that was run, where one was
-unfoldable pub head_text : List NumberedText → ℕ → ℕ → Outcome → Option ℕ → List ℕ
-head_text texts t i o run = number_text t i ++ outcome_text o ++ run_text texts run ++ codes "\n"
-
 -- the line of item t, which came out so in this state
 abbrev pub did_line : List NumberedText → State → ℕ → Item → Outcome → List ℕ
-did_line texts S t x o = head_text texts t (who x) o (line_run x (process_at S (who x)).status)
+did_line texts S t x o = outcome_line texts t (who x) o (line_run x (process_at S (who x)).status)
 
 -- what is said of item t, which is done in this state
 unfoldable pub done_text : List NumberedText → Source → Counts → State → ℕ → Item → List ℕ

@@ -1,7 +1,7 @@
 //! The trace of one item of a run: its outcome, the line of the listing that it ran, and what it
 //! changed in the report.
 ghost use Rattle.std.specs.Prelude.{◌≡◌, ◌-◌, [], ◌++◌, false, IfOk, IsTrue, OnOk};
-ghost use Rattle.std.specs.Prelude.{get_or, length, slice_set};
+ghost use Rattle.std.specs.Prelude.{get_or, length, option_to_list, slice_set};
 ghost use Rattle.snap_text.specs.Drafted.{Adds};
 ghost use Rattle.snap_words.specs.Shape.{IsOneOf};
 ghost use Rattle.snap_semantics.specs.Report.{head_line};
@@ -10,17 +10,17 @@ ghost use Rattle.snap_semantics.specs.State.{process_at};
 ghost use Rattle.snap_semantics.specs.Table.{done, who};
 ghost use Rattle.snap_semantics.specs.declared.process.Outcome.TheVariants as outcomes;
 ghost use Rattle.snap_semantics.specs.declared.process.Reason.{Reason};
-ghost use Rattle.snap_record.specs.SeenRoles.{of_option};
 ghost use Rattle.snap_report.specs.WrittenLines.{written_local, written_shared};
-ghost use Rattle.snap_output.specs.Step.{done_text, head_text, line_run, number_text, run_text};
+ghost use Rattle.snap_output.specs.Step.{done_text, line_run};
 ghost use Rattle.snap_output.specs.Touched.{came_text, changed_local, changes_text};
 ghost use Rattle.snap_output.specs.Touched.{head_texts, of_process};
 
 use crate::heads::Heads;
 use snap_listing::LineTexts;
 use snap_machine::{Machine, WritePlace};
-use snap_report::{event_line, outcome_text, written_local, written_shared};
-use snap_semantics::{Event, Happening, Item, Outcome, Status, who};
+use snap_record::event_of;
+use snap_report::{event_line, outcome_line, written_local, written_shared};
+use snap_semantics::{Event, Item, Outcome, Status, who};
 use snap_text::{Draft, push_changes};
 use snap_words::Kind;
 use std::alloc::{AllocError, Global};
@@ -33,24 +33,6 @@ fn line_run(item: Item, status: Status) -> Option<u64>
         (Item::Step(_), Status::Busy(activity)) => Some(activity.line),
         _ => None,
     }
-}
-
-/// Returns what callers see of an item of this number, if they see something.
-fn event_of(number: u64, item: Item, outcome: Outcome) -> Option<Event>
-    ensures { of_option result ≡ event_of number item outcome }
-{
-    let what = match (outcome, item) {
-        (Outcome::Called, Item::Call(_, op)) => Happening::Call(op),
-        (Outcome::Answered(view), _) => Happening::Answer(view),
-        (Outcome::Finished, _) => Happening::Done,
-        (Outcome::Crashed, _) => Happening::Crash,
-        _ => return None,
-    };
-    Some(Event {
-        item: number,
-        process: who(item),
-        what,
-    })
 }
 
 /// Appends the line of a local, with its process in place of its first space.
@@ -82,7 +64,7 @@ fn push_changed_local(out: &mut Draft, i: u32, before: &[u8], after: &[u8])
 
 /// Appends an event that came, if there is one.
 fn push_came(out: &mut Draft, event: &Option<Event>)
-    ensures { Adds out.old out.new (came_text (of_option event.now)) }
+    ensures { Adds out.old out.new (came_text (option_to_list event.now)) }
 {
     match event {
         Some(event) => {
@@ -131,51 +113,6 @@ impl PlaceLines {
         self.local.clear();
         written_local(&mut self.local, machine, i, place);
     }
-}
-
-/// Appends ` at ` and the text of the line that was run, if one was.
-fn push_run(out: &mut Draft, texts: &LineTexts, run: Option<u64>)
-    ensures { Adds out.old out.new (run_text texts.now run) }
-{
-    let Some(number) = run else {
-        return;
-    };
-    match texts.with_number(number) {
-        Some(text) => {
-            out.push(b" at ");
-            out.push(text);
-        }
-        None => {}
-    }
-}
-
-/// Appends `item T I `.
-fn push_numbers(out: &mut Draft, number: u64, process: u32)
-    ensures { Adds out.old out.new (number_text number process) }
-{
-    out.push(b"item ");
-    out.push_number(number);
-    out.push(b" ");
-    out.push_number(u64::from(process));
-    out.push(b" ");
-}
-
-/// Appends `item T I OUTCOME`, and the line that was run.
-#[tactic(auto, unfolding(crate::specs::Step::head_text))]
-fn push_did(
-    out: &mut Draft,
-    texts: &LineTexts,
-    number: u64,
-    process: u32,
-    outcome: &Outcome,
-    run: Option<u64>,
-)
-    ensures { Adds out.old out.new (head_text texts.now number process outcome.now run) }
-{
-    push_numbers(out, number, process);
-    outcome_text(out, outcome);
-    push_run(out, texts, run);
-    out.push(b"\n");
 }
 
 /// What is written, the first line of each process, and the lines at the place where an item
@@ -277,7 +214,7 @@ pub(crate) fn push_item<K: Kind>(
     let place = machine.overwritten(item)?.write_place();
     sheet.lines_before.renew(machine, i, place);
     let outcome = machine.apply(item)?;
-    push_did(&mut sheet.out, texts, number, i, &outcome, run);
+    outcome_line(&mut sheet.out, texts, number, i, &outcome, run);
     if is_skipped(&outcome) {
         let _skipped = sheet.out.text()?;
         return Ok(());

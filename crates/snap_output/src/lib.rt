@@ -17,15 +17,13 @@ mod run_output;
 mod run_trace;
 mod task;
 
-pub use debug_output::{perform, perform_program};
+pub use debug_output::perform;
 pub use debug_task::debug;
 pub use headlines::{headline, traces_are_refused_as_runs};
-pub use inputs::{audit, batch, batch_in_threads, plan_input, run};
+pub use inputs::{audit, batch, run};
 pub use laws::the_report_is_the_sum_of_the_trace;
 pub use outputs::{output, output_alone, planned_run};
-pub use program::trace_program;
 pub use run_output::{PlannedRun, run_planned};
 pub use run_trace::trace;
 pub use snap_survey::Output;
 pub use snap_tasks::Task;
-pub use task::trace_input;

@@ -6,7 +6,7 @@ use Rattle.snap_semantics.specs.declared.fault.Fault.{Fault}
 use Rattle.snap_semantics.specs.declared.fault.Fault.TheVariants as fault
 use Rattle.snap_semantics.specs.declared.refusal.Refusal.{Refusal}
 use Rattle.snap_semantics.specs.declared.refusal.Refusal.TheVariants as refusal
-use Rattle.snap_run_judge.specs.declared.linearizability.Linearizability.{Linearizability}
+use Rattle.snap_judge.specs.declared.linearizability.Linearizability.{Linearizability}
 use Rattle.snap_judge_task.specs.JudgeAnswer.{IsJudged}
 use Rattle.snap_judge_task.specs.Judged.{judged}
 use Rattle.snap_faults.specs.declared.fault.ProgramFault.TheVariants as judge

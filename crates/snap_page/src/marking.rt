@@ -3,14 +3,15 @@ ghost use Rattle.std.specs.Prelude.{◌≡◌, IfOk};
 ghost use Rattle.std.specs.List.{list_any};
 ghost use Rattle.snap_semantics.specs.Answers.{Answers};
 ghost use Rattle.snap_text.specs.Drafted.{Adds};
-ghost use Rattle.snap_debug.specs.Marks.{same_address, same_bank, same_breakpoint};
-ghost use Rattle.snap_page.specs.Marks.{is_same, mark_line, marks_asked, marks_text, meant_by};
+ghost use Rattle.snap_debug.specs.Marks.{same_address, same_breakpoint};
+ghost use Rattle.snap_page.specs.Marks.{mark_line, marks_asked, marks_text, meant_by};
 ghost use Rattle.snap_page.specs.Marks.{is_same_mark, means, set_by, stays};
 
+use snap_debug::{same_address, same_breakpoint};
 use snap_debug_commands::{Breakpoint, Command, push_command, read_commands};
 use snap_semantics::{Fault, Refusal};
 use snap_text::Draft;
-use snap_words::{Address, Bank};
+use snap_words::Address;
 use std::alloc::{AllocError, Global};
 
 /// What stops a run.
@@ -20,30 +21,6 @@ pub enum AnyMark {
     Line(Breakpoint),
     /// A register that changes.
     Register(Address),
-}
-
-/// Returns whether two breakpoints are the same.
-fn same_breakpoint(a: Breakpoint, b: Breakpoint) -> bool
-    ensures { result ≡ same_breakpoint a b }
-{
-    a.process == b.process && a.line == b.line
-}
-
-/// Returns whether two banks are the same.
-fn same_bank(a: Bank, b: Bank) -> bool
-    ensures { result ≡ same_bank a b }
-{
-    match (a, b) {
-        (Bank::R, Bank::R) | (Bank::Q, Bank::Q) | (Bank::P, Bank::P) | (Bank::V, Bank::V) => true,
-        _ => false,
-    }
-}
-
-/// Returns whether two registers are the same.
-fn same_address(a: Address, b: Address) -> bool
-    ensures { result ≡ same_address a b }
-{
-    same_bank(a.bank, b.bank) && a.i == b.i && a.j == b.j
 }
 
 /// Returns whether two marks are the same.

@@ -38,7 +38,8 @@ fn subject_of(shipped: &[u8]) -> Option<Subject>
     Some(Subject::Shipped(kind_of(name)?))
 }
 
-/// Returns options that have the listing of a task alone.
+/// Returns options of which a page reads the listing alone: the others belong to requests that a
+/// page does not take.
 fn options_for(subject: Subject) -> Options
     ensures value { result ≡ options_for subject }
 {
@@ -51,7 +52,7 @@ fn options_for(subject: Subject) -> Options
     }
 }
 
-/// Returns what the name of a subcommand means on a page. A page cannot run `live`, since it has
+/// Returns what the name of a subcommand asks for, of this listing. A page cannot run `live`, since it has
 /// one thread, and writes no model.
 #[tactic(auto, using(crate::proofs::Names::no_task))]
 fn asked_for(subcommand: &[u8], subject: Subject) -> Option<PageRequest>

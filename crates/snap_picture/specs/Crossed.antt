@@ -5,7 +5,7 @@ use Rattle.snap_semantics.specs.declared.event.Event.{Event}
 use Rattle.snap_runs.specs.Run.{Run}
 use Rattle.snap_judge.specs.declared.judgements.Failing.{Failing}
 use Rattle.snap_judge.specs.declared.judgements.Failing.TheVariants as failing
-use Rattle.snap_history_text.specs.JudgementText.{last_of}
+use Rattle.snap_judge.specs.Linearizable.{last_of}
 use Rattle.snap_run_judge.specs.RunHistory.{history_of}
 use Rattle.snap_run_judge.specs.RunJudgement.{IsRunJudgement}
 use Rattle.snap_picture.specs.ShapeText.{bar_span}

@@ -34,6 +34,7 @@ use crate::elements::{
 use crate::shape::{Bar, End, Period, Point, Span};
 use crate::spots::span_text;
 use crate::window::{Window, width_of, y_of};
+use snap_report::op_text;
 use snap_semantics::Op;
 use snap_text::Draft;
 
@@ -108,21 +109,6 @@ fn end_text(out: &mut Draft, end: &End)
     }
 }
 
-/// Appends an operation.
-fn op_text(out: &mut Draft, op: Op)
-    ensures { Adds out.old out.new (op_text op) }
-{
-    match op {
-        Op::Scan => out.push(b"scan"),
-        Op::Update { word, value } => {
-            out.push(b"update ");
-            out.push_number(word);
-            out.push(b" ");
-            out.push_number(value);
-        }
-    }
-}
-
 /// Appends an operation and its outcome.
 #[tactic(auto, unfolding(crate::specs::ShapeText::bar_words))]
 fn bar_words(out: &mut Draft, bar: &Bar)
@@ -146,7 +132,7 @@ fn bar_label(out: &mut Draft, width: u64, bar: &Bar)
 }
 
 /// Returns the class of an operation.
-fn bar_class(op: Op) -> &'static [u8]
+pub(crate) fn bar_class(op: Op) -> &'static [u8]
     ensures { result.now ≡ bar_class op }
 {
     match op {

@@ -25,11 +25,10 @@ mod window;
 
 pub use drawing::picture;
 pub use drawn::shapes;
-pub use escape::{push_escaped, what_is_escaped_begins_no_tag, what_is_escaped_comes_back};
-pub use frame::{Counts, push_foot, push_head, push_input};
+pub use escape::{what_is_escaped_begins_no_tag, what_is_escaped_comes_back};
+pub use frame::Counts;
 pub use look::{LEGEND, STYLE};
 pub use options::{Look, Options};
-pub use print::push_shapes;
 pub use refusal::PictureRefusal;
 pub use shape::{Bar, End, Loan, Period, Point, Read, Shape, Span, Spot, Write, Written};
 pub use told::told_shapes;

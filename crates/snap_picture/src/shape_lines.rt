@@ -1,6 +1,6 @@
 //! `push_shape_lines`: the shapes of a run as lines of text, in items and processes, as far as they
 //! are in the picture's `Window`.
-ghost use Rattle.std.specs.Prelude.{◌≡◌, ◌++◌};
+ghost use Rattle.std.specs.Prelude.{◌≡◌};
 ghost use Rattle.snap_text.specs.Drafted.{Adds};
 ghost use Rattle.snap_picture.specs.ShapeLines.{
   bar_line,
@@ -19,6 +19,7 @@ ghost use Rattle.snap_picture.specs.ShapeLines.{
 };
 ghost use Rattle.snap_picture.specs.ShapeText.{bar_class};
 
+use crate::bars::bar_class;
 use crate::print::is_drawn;
 use crate::shape::{Bar, End, Loan, Period, Point, Shape, Span, Spot, Write};
 use crate::window::Window;
@@ -77,16 +78,6 @@ fn push_end(out: &mut Draft, end: &End)
         End::Crash => out.push(b" crash"),
         End::Trap => out.push(b" trap"),
         End::Open => out.push(b" open"),
-    }
-}
-
-/// Returns the name of an operation.
-fn bar_class(op: Op) -> &'static [u8]
-    ensures { result.now ≡ bar_class op }
-{
-    match op {
-        Op::Scan => b"scan",
-        Op::Update { .. } => b"update",
     }
 }
 

@@ -17,7 +17,7 @@ use Rattle.snap_faults.specs.declared.fault.ProgramFault.TheVariants as fault
 use Rattle.snap_live_output.specs.LiveAnswer.{AnswersLive}
 use Rattle.snap_live_output.specs.LiveOutput.{MayWrite}
 use Rattle.snap_live_output.specs.Uncalled.{MayTell}
-use Rattle.snap_run_judge.specs.declared.linearizability.Linearizability.{Linearizability}
+use Rattle.snap_judge.specs.declared.linearizability.Linearizability.{Linearizability}
 use Rattle.snap_judge_task.specs.JudgeAnswer.{AnswersJudge, IsJudged}
 use Rattle.snap_program.specs.ModelOutput.{RefusesModel}
 use Rattle.snap_tasks.specs.declared.judge_request.JudgeRequest.{JudgeRequest}

@@ -12,8 +12,8 @@ use Rattle.snap_tasks.specs.declared.task.Task.{Task}
 use Rattle.snap_tasks.specs.declared.task.Task.TheVariants as task
 use Rattle.snap_tasks.specs.declared.subject.Subject.{Subject}
 use Rattle.snap_tasks.specs.declared.judge_request.JudgeRequest.{JudgeRequest}
-use Rattle.snap_run_judge.specs.declared.linearizability.Linearizability.{Linearizability}
-use Rattle.snap_run_judge.specs.declared.linearizability.Linearizability.TheVariants as word
+use Rattle.snap_judge.specs.declared.linearizability.Linearizability.{Linearizability}
+use Rattle.snap_judge.specs.declared.linearizability.Linearizability.TheVariants as word
 use Rattle.snap_program.specs.WholeRun.{ConductsJudge, ConductsLiveKeeping, ConductsModel}
 use Rattle.snap_faults.specs.Names.{Names, of_program}
 use Rattle.snap_faults.specs.Told.{Helps, SaysWhy, TellsMore, exit_status, no_memory_line, no_text_line, success}

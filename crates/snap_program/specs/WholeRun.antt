@@ -5,7 +5,7 @@ use Rattle.std.specs.Global.{Global}
 use Rattle.std.specs.Io.KnownBytes.{Consumes, Appends, IsAtEnd}
 use Rattle.snap_live_output.specs.LiveOutput.{MayGiveUp, MayWrite, setup_of}
 use Rattle.snap_live_output.specs.Uncalled.{MayTell}
-use Rattle.snap_run_judge.specs.declared.linearizability.Linearizability.{Linearizability}
+use Rattle.snap_judge.specs.declared.linearizability.Linearizability.{Linearizability}
 use Rattle.snap_judge_task.specs.Judged.{judged}
 use Rattle.snap_judge_task.specs.JudgeAnswer.{IsJudged}
 use Rattle.snap_program.specs.ModelOutput.{MayModel, RefusesModel}

@@ -3,6 +3,7 @@
 use Rattle.std.specs.Prelude.{ℕ, List, [], ◌∷◌, ◌++◌, Bool, true, false, not, Option, Some, None, Result, Ok, Err}
 use Rattle.std.specs.Prelude.{codes, length, nat_eq, nat_lt, is_some, if◌then◌else◌, ◌==◌}
 use Rattle.std.specs.Io.BufRead.{strip_last}
+use Rattle.snap_streams.specs.TypedLines.{max_line}
 use Rattle.snap_semantics.specs.Rules.{◌>>=◌, or_else, keyword_at, number_at}
 use Rattle.snap_semantics.specs.Token.{Token, is_lexeme_byte, tokens_of}
 use Rattle.snap_semantics.specs.declared.process.Op.{Op}
@@ -139,7 +140,7 @@ ask_or (Some a) other = Ok a
 -- and another line for the command that it is.
 abbrev pub ask_of : ℕ → List ℕ → Result Ask CommandRefusal
 ask_of number line =
-    if nat_lt 1048576 (length line) then Err refusal.TooLong else
+    if nat_lt max_line (length line) then Err refusal.TooLong else
     if length (strip_last 10 line) == 0 then Ok ask.Again else
     ask_or (prompt_ask_in (tokens_of (strip_last 10 line))) (command_asked number (commands_of (spelled_out line)))
 

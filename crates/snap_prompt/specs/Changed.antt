@@ -1,7 +1,7 @@
 -- What the prompt shows of a move of the session: `item_text`, the last item and the line that it ran, and `changed`,
 -- what differs in the state.
 use Rattle.std.specs.Prelude.{ℕ, ◌-◌, Bool, true, false, List, [], ◌++◌, Option, Some}
-use Rattle.std.specs.Prelude.{None, codes, decimal, map, if◌then◌else◌}
+use Rattle.std.specs.Prelude.{None, map, if◌then◌else◌}
 use Rattle.snap_words.specs.declared.kind.KindTag.{KindTag}
 use Rattle.snap_semantics.specs.Readers.{line_of}
 use Rattle.snap_semantics.specs.Report.{processes_lines, register_lines}
@@ -10,10 +10,10 @@ use Rattle.snap_semantics.specs.Token.{lines_of}
 use Rattle.snap_semantics.specs.declared.process.Outcome.{Outcome}
 use Rattle.snap_semantics.specs.declared.process.Outcome.TheVariants as outcome
 use Rattle.snap_runs.specs.Run.{Run, state}
-use Rattle.snap_report.specs.OutcomeText.{outcome_text}
+use Rattle.snap_report.specs.OutcomeLine.{outcome_line}
 use Rattle.snap_text.specs.Changes.{text_between}
 use Rattle.snap_text.specs.Owned.{owned_text}
-use Rattle.snap_listing.specs.LineTexts.{NumberedText, text_with, written}
+use Rattle.snap_listing.specs.LineTexts.{NumberedText, written}
 use Rattle.snap_debug.specs.Replies.{last_of}
 use Rattle.snap_debug.specs.Session.{Session, state_of}
 
@@ -41,27 +41,14 @@ abbrev pub line_run : Run → ℕ → Option (ℕ × Outcome) → Option ℕ
 line_run r t None = None
 line_run r t (Some o) = if ran o.1 then line_of (process_at (state r (t - 1)) o.0).status else None
 
-abbrev pub at_text : Option (List ℕ) → List ℕ
-at_text None = []
-at_text (Some text) = codes " at " ++ text
-
--- the text of the line that was run, among these
-abbrev pub run_text : List NumberedText → Option ℕ → List ℕ
-run_text texts None = []
-run_text texts (Some line) = at_text (text_with texts line)
-
--- `item T I `
-abbrev pub item_head : ℕ → ℕ → List ℕ
-item_head t i = codes "item " ++ decimal t ++ codes " " ++ decimal i ++ codes " "
-
--- `item T I OUTCOME`, and the line that it ran
-abbrev pub item_line : List NumberedText → ℕ → Option (ℕ × Outcome) → Option ℕ → List ℕ
-item_line texts t None line = []
-item_line texts t (Some o) line = item_head t o.0 ++ outcome_text o.1 ++ run_text texts line ++ codes "\n"
+-- the line of the last item, where there is one
+abbrev pub last_line : List NumberedText → ℕ → Option (ℕ × Outcome) → Option ℕ → List ℕ
+last_line texts t None line = []
+last_line texts t (Some o) line = outcome_line texts t o.0 o.1 line
 
 -- the last of the first t items, where there is one
 unfoldable pub item_text : Run → ℕ → List ℕ
-item_text r t = item_line (map written r.source.lines) t (last_of r t) (line_run r t (last_of r t))
+item_text r t = last_line (map written r.source.lines) t (last_of r t) (line_run r t (last_of r t))
 
 -- what is said of a move from one session to another
 unfoldable pub moved_text : Session → Session → List ℕ

@@ -12,6 +12,9 @@ use Rattle.snap_semantics.specs.declared.refusal.ScheduleRefusal.TheVariants as 
 use Rattle.snap_faults.specs.RefusalText.{refused_text}
 use Rattle.snap_debug_commands.specs.FaultText.{refusal_text}
 use Rattle.snap_debug.specs.Session.{Session, total}
+use Rattle.snap_prompt.specs.declared.words.TheConstants.{REGISTERS, BIT_REGISTERS, MULTI_REGISTERS, LINES, PROCESSES}
+use Rattle.snap_prompt.specs.declared.words.TheConstants.{POSITIONS, SEE_HELP, MARKS_FULL, LINE_LIMIT, ITEM_LIMIT}
+use Rattle.snap_prompt.specs.declared.words.TheConstants.{IDLE, TRAPPED, CRASHED}
 use Rattle.snap_prompt.specs.declared.goal.NoSteps.{NoSteps}
 use Rattle.snap_prompt.specs.declared.goal.NoSteps.TheVariants as none
 
@@ -29,22 +32,20 @@ range_text what from to = codes ": " ++ what ++ codes " " ++ decimal from ++ cod
 
 -- the registers of a kind
 abbrev pub registers_text : KindTag → Counts → List ℕ
-registers_text kind.Seq s = range_text (codes "the registers are r") 1 s.w
-registers_text kind.Bits s =
-    range_text (codes "the registers are q I J with I and J to the number of processes, and r") 1 s.w
-registers_text kind.Multi s =
-    range_text (codes "the registers are q I J, p I J and v I with I and J to the number of processes, and r") 1 s.w
+registers_text kind.Seq s = range_text REGISTERS.now 1 s.w
+registers_text kind.Bits s = range_text BIT_REGISTERS.now 1 s.w
+registers_text kind.Multi s = range_text MULTI_REGISTERS.now 1 s.w
 
 -- what would have been right
 unfoldable pub hint_text : Session → CommandRefusal → List ℕ
-hint_text s (refusal.BadCommand line) = codes ": `help` says what can be typed"
+hint_text s (refusal.BadCommand line) = SEE_HELP.now
 hint_text s refusal.NoSuchLine =
-    range_text (codes "the lines are") (first_number s.run.source.lines) (last_number 0 s.run.source.lines)
-hint_text s refusal.NoSuchProcess = range_text (codes "the processes are") 1 s.run.shape.n
+    range_text LINES.now (first_number s.run.source.lines) (last_number 0 s.run.source.lines)
+hint_text s refusal.NoSuchProcess = range_text PROCESSES.now 1 s.run.shape.n
 hint_text s refusal.NoSuchRegister = registers_text s.run.source.kind s.run.shape
-hint_text s refusal.NoSuchPosition = range_text (codes "the positions are") 0 (total s)
-hint_text s refusal.TooManyMarks = codes ": 64 are set, and `clear` and `unwatch` take them away"
-hint_text s refusal.TooLong = codes ": a line has at most 1048576 bytes"
+hint_text s refusal.NoSuchPosition = range_text POSITIONS.now 0 (total s)
+hint_text s refusal.TooManyMarks = MARKS_FULL.now
+hint_text s refusal.TooLong = LINE_LIMIT.now
 
 -- the line of a refused command
 unfoldable pub refused_line : Session → CommandRefusal → List ℕ
@@ -52,8 +53,8 @@ refused_line s r = codes "refused: " ++ refusal_text r ++ hint_text s r ++ codes
 
 -- what would have been right to add
 abbrev pub added_hint : Session → ScheduleRefusal → List ℕ
-added_hint s (schedule.NoSuchProcess line) = range_text (codes "the processes are") 1 s.run.shape.n
-added_hint s _ = codes ": a schedule has at most 1000000 items"
+added_hint s (schedule.NoSuchProcess line) = range_text PROCESSES.now 1 s.run.shape.n
+added_hint s _ = ITEM_LIMIT.now
 
 -- the line of an addition that is refused
 unfoldable pub refused_addition : Session → ScheduleRefusal → List ℕ
@@ -67,7 +68,7 @@ standing_line i how = codes "refused: process " ++ decimal i ++ codes " " ++ how
 unfoldable pub refused_steps : Session → (number i : ℕ) → NoSteps → List ℕ
 refused_steps s number i none.NoSuchProcess = refused_line s refusal.NoSuchProcess
 refused_steps s number i none.NoSuchLine = refused_line s refusal.NoSuchLine
-refused_steps s number i none.Idle = standing_line i (codes "is idle: `call` gives it an operation")
-refused_steps s number i none.Trapped = standing_line i (codes "has trapped: it takes no more steps")
-refused_steps s number i none.Crashed = standing_line i (codes "has crashed: it takes no more steps")
+refused_steps s number i none.Idle = standing_line i IDLE.now
+refused_steps s number i none.Trapped = standing_line i TRAPPED.now
+refused_steps s number i none.Crashed = standing_line i CRASHED.now
 refused_steps s number i none.Full = refused_addition s (schedule.TooManyItems number)

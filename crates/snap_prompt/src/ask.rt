@@ -8,7 +8,7 @@ ghost use Rattle.snap_prompt.specs.Ask.{ask_of, at_line, command_asked};
 ghost use Rattle.snap_prompt.specs.Ask.{first_command, is_yes, prompt_ask_in};
 ghost use Rattle.snap_debug_commands.specs.Commands.{commands_of};
 
-use crate::Addition;
+use crate::addition::Addition;
 use crate::forms::{prompt_ask, yes_form};
 use crate::short::spelled_out;
 use snap_debug_commands::{Command, read_commands};

@@ -1,26 +1,14 @@
 //! `state_text`: the report of a machine's state, by which the prompt finds what a move of the
 //! session changed.
 ghost use Rattle.std.specs.Prelude.{◌≡◌, IfOk};
-ghost use Rattle.snap_text.specs.Drafted.{Adds};
 ghost use Rattle.snap_semantics.specs.Report.{processes_lines};
 ghost use Rattle.snap_prompt.specs.Changed.{state_text};
 
 use snap_machine::Machine;
-use snap_report::{process_lines, register_lines};
+use snap_report::{processes_lines, register_lines};
 use snap_text::{Draft, push_owned_lines};
 use snap_words::Kind;
 use std::alloc::{AllocError, Global};
-
-/// Appends the lines of the processes, from process 1 on.
-fn processes_lines<K: Kind>(out: &mut Draft, machine: &Machine<K>)
-    ensures { Adds out.old out.new
-        (processes_lines machine.now.source.kind 1 machine.now.state.processes) }
-{
-    let shape = machine.shape();
-    for k in 0..shape.n() {
-        process_lines(out, machine, k as u32 + 1);
-    }
-}
 
 /// Returns the report of a machine's state: its registers, and its processes with their locals.
 /// Each line names its owner.

@@ -1,5 +1,5 @@
 //! `edited`: cuts a schedule after its first items, and adds items there.
-ghost use Rattle.std.specs.Prelude.{◌≡◌, ◌≤◌, ◌<◌, ◌+◌, ◌^◌, ◌++◌, ◌∷◌, []};
+ghost use Rattle.std.specs.Prelude.{◌≡◌, ◌≤◌, ◌<◌, ◌+◌, ◌^◌, ◌++◌};
 ghost use Rattle.std.specs.Prelude.{IfOk, OnOk, length, take};
 ghost use Rattle.std.specs.List.{AllByRecursion};
 ghost use Rattle.snap_words.specs.Shape.{max_items};
@@ -10,7 +10,7 @@ ghost use Rattle.snap_prompt.specs.Edits.{edited, form_of};
 
 use crate::addition::Addition;
 use snap_sched::{Items, MAX_ITEMS, Schedule};
-use snap_semantics::{Fault, Item, ScheduleRefusal};
+use snap_semantics::{Fault, ScheduleRefusal};
 use std::alloc::{AllocError, Global};
 
 /// Returns `addition` if its process is one of `n` and it has no more than `left` items.
@@ -45,18 +45,6 @@ fn push_addition(items: &mut Items, addition: Addition) -> Result<(), AllocError
     }
 }
 
-/// Appends an item.
-fn push_item(items: &mut Items, item: Item) -> Result<(), AllocError>
-    requires { length items.old + 1 < 2 ^ 32 }
-    ensures { OnOk result (items.new ≡ items.old ++ item ∷ []) }
-{
-    match item {
-        Item::Step(process) => items.push_steps(process, 1),
-        Item::Call(process, op) => items.push_call(process, op),
-        Item::Crash(process) => items.push_crash(process),
-    }
-}
-
 /// Returns the first `count` of `items`.
 fn first_items(alloc: Global, items: &Items, count: u64) -> Result<Items, AllocError>
     requires within { count ≤ length items.now }
@@ -69,7 +57,7 @@ fn first_items(alloc: Global, items: &Items, count: u64) -> Result<Items, AllocE
         let Some(item) = left.next() else {
             return Ok(first);
         };
-        push_item(&mut first, item)?;
+        first.push(item)?;
     }
     Ok(first)
 }

@@ -5,7 +5,7 @@ ghost use Rattle.snap_prompt.specs.Ask.{adding_ask, alone, break_ask, call_ask, 
 ghost use Rattle.snap_prompt.specs.Ask.{list_ask, op_form, prompt_ask, steps_ask, why_ask};
 ghost use Rattle.snap_prompt.specs.Ask.{word_ask, yes_form};
 
-use crate::Addition;
+use crate::addition::Addition;
 use crate::ask::Ask;
 use snap_debug_commands::{Breakpoint, Command, keyword_form, number_form, numbers_form};
 use snap_semantics::Op;

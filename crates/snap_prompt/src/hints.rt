@@ -6,6 +6,10 @@ ghost use Rattle.snap_prompt.specs.Hints.{range_text, refused_addition, refused_
 ghost use Rattle.snap_prompt.specs.Hints.{refused_steps, registers_text, standing_line};
 
 use crate::NoSteps;
+use crate::words::{
+    BIT_REGISTERS, CRASHED, IDLE, ITEM_LIMIT, LINE_LIMIT, LINES, MARKS_FULL, MULTI_REGISTERS,
+    POSITIONS, PROCESSES, REGISTERS, SEE_HELP, TRAPPED,
+};
 use snap_debug::{Session, push_refusal};
 use snap_faults::push_refused;
 use snap_semantics::{CommandRefusal, Line, Refusal, ScheduleRefusal};
@@ -59,20 +63,9 @@ fn push_registers(out: &mut Draft, kind: KindTag, shape: Shape)
     ensures { Adds out.old out.new (registers_text kind shape) }
 {
     match kind {
-        KindTag::Seq => push_range(out, b"the registers are r", 1, shape.w()),
-        KindTag::Bits => push_range(
-            out,
-            b"the registers are q I J with I and J to the number of processes, and r",
-            1,
-            shape.w(),
-        ),
-        KindTag::Multi => push_range(
-            out,
-            b"the registers are q I J, p I J and v I with I and J to the number of processes, \
-and r",
-            1,
-            shape.w(),
-        ),
+        KindTag::Seq => push_range(out, REGISTERS, 1, shape.w()),
+        KindTag::Bits => push_range(out, BIT_REGISTERS, 1, shape.w()),
+        KindTag::Multi => push_range(out, MULTI_REGISTERS, 1, shape.w()),
     }
 }
 
@@ -82,21 +75,19 @@ fn push_hint<K: Kind>(out: &mut Draft, session: &Session<K>, refusal: &CommandRe
     ensures { Adds out.old out.new (hint_text session.now refusal.now) }
 {
     match refusal {
-        CommandRefusal::BadCommand(_) => out.push(b": `help` says what can be typed"),
-        CommandRefusal::NoSuchLine => push_lines_range(out, session, b"the lines are"),
+        CommandRefusal::BadCommand(_) => out.push(SEE_HELP),
+        CommandRefusal::NoSuchLine => push_lines_range(out, session, LINES),
         CommandRefusal::NoSuchProcess => {
-            push_range(out, b"the processes are", 1, session.machine().shape().n());
+            push_range(out, PROCESSES, 1, session.machine().shape().n());
         }
         CommandRefusal::NoSuchRegister => {
             push_registers(out, session.program().kind(), session.machine().shape());
         }
         CommandRefusal::NoSuchPosition => {
-            push_range(out, b"the positions are", 0, session.total());
+            push_range(out, POSITIONS, 0, session.total());
         }
-        CommandRefusal::TooManyMarks => {
-            out.push(b": 64 are set, and `clear` and `unwatch` take them away");
-        }
-        CommandRefusal::TooLong => out.push(b": a line has at most 1048576 bytes"),
+        CommandRefusal::TooManyMarks => out.push(MARKS_FULL),
+        CommandRefusal::TooLong => out.push(LINE_LIMIT),
     }
 }
 
@@ -121,14 +112,12 @@ fn push_added_hint<K: Kind>(out: &mut Draft, session: &Session<K>, refusal: &Sch
 {
     match refusal {
         ScheduleRefusal::NoSuchProcess(_) => {
-            push_range(out, b"the processes are", 1, session.machine().shape().n());
+            push_range(out, PROCESSES, 1, session.machine().shape().n());
         }
         ScheduleRefusal::TooLong
         | ScheduleRefusal::BadShape
         | ScheduleRefusal::BadItem(_)
-        | ScheduleRefusal::TooManyItems(_) => {
-            out.push(b": a schedule has at most 1000000 items");
-        }
+        | ScheduleRefusal::TooManyItems(_) => out.push(ITEM_LIMIT),
     }
 }
 
@@ -173,9 +162,9 @@ pub(crate) fn push_refused_steps<K: Kind>(
             push_refused_line(out, session, &CommandRefusal::NoSuchProcess);
         }
         NoSteps::NoSuchLine => push_refused_line(out, session, &CommandRefusal::NoSuchLine),
-        NoSteps::Idle => push_standing(out, process, b"is idle: `call` gives it an operation"),
-        NoSteps::Trapped => push_standing(out, process, b"has trapped: it takes no more steps"),
-        NoSteps::Crashed => push_standing(out, process, b"has crashed: it takes no more steps"),
+        NoSteps::Idle => push_standing(out, process, IDLE),
+        NoSteps::Trapped => push_standing(out, process, TRAPPED),
+        NoSteps::Crashed => push_standing(out, process, CRASHED),
         NoSteps::Full => {
             push_refused_addition(out, session, ScheduleRefusal::TooManyItems(line));
         }

@@ -10,12 +10,12 @@ ghost use Rattle.snap_semantics.specs.Table.{who};
 ghost use Rattle.snap_runs.specs.Run.{state};
 ghost use Rattle.snap_listing.specs.LineTexts.{written};
 ghost use Rattle.snap_debug.specs.Session.{Obeys, at_position};
-ghost use Rattle.snap_prompt.specs.Changed.{item_head, item_line, item_text};
-ghost use Rattle.snap_prompt.specs.Changed.{line_run, ran, run_text};
+ghost use Rattle.snap_prompt.specs.Changed.{outcome_line, item_text};
+ghost use Rattle.snap_prompt.specs.Changed.{line_run, ran};
 
 use snap_debug::{Command, Reply, Session};
 use snap_listing::LineTexts;
-use snap_report::outcome_text;
+use snap_report::outcome_line;
 use snap_semantics::{CommandRefusal, Fault, Outcome};
 use snap_text::Draft;
 use snap_words::Kind;
@@ -90,50 +90,6 @@ fn line_run<K: Kind>(
     }
 }
 
-/// Appends ` at ` and the text of the line that was run, if one was.
-fn push_run(out: &mut Draft, texts: &LineTexts, line: Option<u64>)
-    ensures { Adds out.old out.new (run_text texts.now line) }
-{
-    let Some(number) = line else {
-        return;
-    };
-    match texts.with_number(number) {
-        Some(text) => {
-            out.push(b" at ");
-            out.push(text);
-        }
-        None => {}
-    }
-}
-
-/// Appends `item T I `.
-fn push_item_head(out: &mut Draft, number: u64, process: u32)
-    ensures { Adds out.old out.new (item_head number process) }
-{
-    out.push(b"item ");
-    out.push_number(number);
-    out.push(b" ");
-    out.push_number(u64::from(process));
-    out.push(b" ");
-}
-
-/// Appends `item T I OUTCOME`, and the line that it ran.
-fn push_item_line(
-    out: &mut Draft,
-    texts: &LineTexts,
-    number: u64,
-    process: u32,
-    outcome: &Outcome,
-    line: Option<u64>,
-)
-    ensures { Adds out.old out.new (item_line texts.now number (Some (process, outcome.now)) line) }
-{
-    push_item_head(out, number, process);
-    outcome_text(out, outcome);
-    push_run(out, texts, line);
-    out.push(b"\n");
-}
-
 /// Appends the text on the last item, if there is one.
 #[tactic(auto, using(crate::proofs::LastItems::last_process_is_one), unfolding(crate::specs::Changed::item_text))]
 pub(crate) fn push_item<K: Kind>(
@@ -154,6 +110,6 @@ pub(crate) fn push_item<K: Kind>(
         return Ok(());
     };
     let line = line_run(session, process, &outcome)?;
-    push_item_line(out, texts, position, process, &outcome, line);
+    outcome_line(out, texts, position, process, &outcome, line);
     Ok(())
 }

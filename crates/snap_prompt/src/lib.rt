@@ -24,14 +24,11 @@ mod short;
 mod shows;
 mod steps;
 mod typed;
+mod words;
 
-pub use addition::Addition;
-pub use ask::{Ask, ask_of, is_yes};
+pub use ask::Ask;
 pub use conversation::converse;
-pub use edits::edited;
 pub use goal::{Goal, NoSteps};
 pub use prompt::Prompt;
-pub use question::Question;
-pub use save_form::saving_of;
 pub use shows::Shows;
 pub use steps::steps_to;

@@ -1,6 +1,5 @@
 -- `seen_step_role`: the `StepRole` of the code, seen as that of the definitions.
 use Rattle.snap_runs.specs.StepRoles.{StepRole, Write, Test, Answer, Nothing}
-use Rattle.std.specs.Prelude.{List, [], ◌∷◌, Option, Some, None}
 use Rattle.snap_record.specs.declared.step_role.StepRole as code
 use Rattle.snap_record.specs.declared.step_role.StepRole.TheVariants as role
 
@@ -10,8 +9,3 @@ seen_step_role role.Write = Write
 seen_step_role role.Test = Test
 seen_step_role (role.Answer view) = Answer view
 seen_step_role role.Nothing = Nothing
-
--- one or none, as a list
-abbrev pub of_option : {A : Type 0} → Option A → List A
-of_option None = []
-of_option (Some x) = x ∷ []

@@ -1,7 +1,7 @@
 //! What a record keeps of its run besides the items: changes of values (`Change`), events, and
 //! counts of double collects.
 ghost use Rattle.std.specs.Prelude.{◌≡◌, ◌+◌, ◌-◌, ◌<◌, ◌≤◌, ◌++◌, [], ◌&&◌, ◌^◌};
-ghost use Rattle.std.specs.Prelude.{IsTrue, get_or, length, map, vec_capacity};
+ghost use Rattle.std.specs.Prelude.{IsTrue, get_or, length, map, option_to_list, vec_capacity};
 ghost use Rattle.std.specs.Prelude.{vec_len, slice_index, slice_set, ℕ, List, OnOk, true, false};
 ghost use Rattle.snap_words.specs.Shape.{IsOneOf};
 ghost use Rattle.snap_semantics.specs.Run.{call_event, event_of};
@@ -13,7 +13,7 @@ ghost use Rattle.snap_semantics.specs.declared.process.Outcome.TheVariants as ou
 ghost use Rattle.snap_runs.specs.StepRoles.{Answer, is_test, is_write};
 ghost use Rattle.snap_runs.specs.Scan.{is_stepped};
 ghost use Rattle.snap_record.specs.History.{change_at, changes_to, counted};
-ghost use Rattle.snap_record.specs.SeenRoles.{of_option, seen_step_role};
+ghost use Rattle.snap_record.specs.SeenRoles.{seen_step_role};
 
 use crate::row::Row;
 use crate::step_role::StepRole;
@@ -32,7 +32,7 @@ pub struct Change {
 
 /// Returns the event of a call.
 fn call_event(number: u64, item: Item) -> Option<Event>
-    ensures { of_option result ≡ call_event number item }
+    ensures { option_to_list result ≡ call_event number item }
 {
     match item {
         Item::Step(_) => None,
@@ -51,7 +51,7 @@ fn call_event(number: u64, item: Item) -> Option<Event>
 pub fn event_of(number: u64, item: Item, outcome: &Outcome, step_role: StepRole) -> Option<Event>
     requires { (v : List ℕ) → outcome.now ≡ outcomes.Answered v → seen_step_role step_role
         ≡ Answer v }
-    ensures { of_option result ≡ event_of number item outcome.now }
+    ensures { option_to_list result ≡ event_of number item outcome.now }
 {
     match outcome {
         Outcome::Called => call_event(number, item),
@@ -223,9 +223,9 @@ pub fn note_event(
 )
     requires events { vec_len events.old < vec_capacity events.old }
     requires at_events { vec_len at_events.old < vec_capacity at_events.old }
-    ensures events { events.new.items ≡ events.old.items ++ of_option event }
+    ensures events { events.new.items ≡ events.old.items ++ option_to_list event }
     ensures at_events { at_events.new.items ≡ at_events.old.items
-        ++ map (λ (e : Event). collects) (of_option event) }
+        ++ map (λ (e : Event). collects) (option_to_list event) }
 {
     if let Some(event) = event {
         events.push_reserved(event);

@@ -1,12 +1,11 @@
 //! The items of a record as a schedule.
-ghost use Rattle.std.specs.Prelude.{◌≡◌, ◌+◌, ◌<◌, ◌≤◌, ◌^◌, ◌++◌, [], ◌∷◌, IfOk, OnOk, length};
+ghost use Rattle.std.specs.Prelude.{◌≡◌, ◌+◌, ◌<◌, ◌≤◌, IfOk, OnOk, length};
 ghost use Rattle.std.specs.Prelude.{take};
 ghost use Rattle.snap_words.specs.Shape.{max_items};
 
 use crate::items::History;
 use crate::record::Record;
 use snap_sched::{Items, Schedule};
-use snap_semantics::Item;
 use snap_words::Kind;
 use std::alloc::{AllocError, Global};
 
@@ -51,18 +50,6 @@ fn push_next(items: &mut Items, history: &History, t: u64) -> Result<(), AllocEr
     let Some(item) = history.item(t + 1) else {
         unreachable!()
     };
-    push_item(items, item)?;
+    items.push(item)?;
     Ok(())
-}
-
-/// Appends an item.
-fn push_item(items: &mut Items, item: Item) -> Result<(), AllocError>
-    requires { length items.old + 1 < 2 ^ 32 }
-    ensures { OnOk result (items.new ≡ items.old ++ item ∷ []) }
-{
-    match item {
-        Item::Step(process) => items.push_steps(process, 1),
-        Item::Call(process, op) => items.push_call(process, op),
-        Item::Crash(process) => items.push_crash(process),
-    }
 }

@@ -12,9 +12,9 @@ mod word_text;
 mod written_text;
 
 pub use event_text::{event_line, event_lines, op_text};
-pub use outcomes::{head_lines, outcome_text, reason_text};
+pub use outcomes::{head_lines, outcome_line, outcome_text, reason_text};
 pub use printed::Report;
-pub use process_text::{head_line, process_lines};
-pub use register_text::{register_line, register_lines, values_line};
+pub use process_text::{head_line, process_lines, processes_lines};
+pub use register_text::{bank_text, register_line, register_lines, values_line};
 pub use reports::{position_line, report};
 pub use written_text::{written_local, written_shared};

@@ -1,9 +1,11 @@
-//! The printed texts of an item's outcome (`outcome_text`), and of where each process stands
-//! (`head_lines`).
+//! The printed texts of an item's outcome (`outcome_text`), of its line (`outcome_line`), and of
+//! where each process stands (`head_lines`).
 ghost use Rattle.snap_text.specs.Drafted.{Adds};
+ghost use Rattle.snap_report.specs.OutcomeLine.{number_text, outcome_line, run_text};
 ghost use Rattle.snap_report.specs.OutcomeText.{head_lines, outcome_text, reason_text};
 
 use crate::process_text::{cause_text, head_line};
+use snap_listing::LineTexts;
 use snap_machine::Machine;
 use snap_semantics::{Outcome, Reason};
 use snap_text::Draft;
@@ -55,4 +57,49 @@ pub fn head_lines<K: Kind>(out: &mut Draft, machine: &Machine<K>)
     for k in 0..shape.n() {
         head_line(out, machine, k as u32 + 1);
     }
+}
+
+/// Appends ` at ` and the text of the line that was run, if one was.
+fn run_text(out: &mut Draft, texts: &LineTexts, run: Option<u64>)
+    ensures { Adds out.old out.new (run_text texts.now run) }
+{
+    let Some(number) = run else {
+        return;
+    };
+    match texts.with_number(number) {
+        Some(text) => {
+            out.push(b" at ");
+            out.push(text);
+        }
+        None => {}
+    }
+}
+
+/// Appends `item T I `.
+fn number_text(out: &mut Draft, number: u64, process: u32)
+    ensures { Adds out.old out.new (number_text number process) }
+{
+    out.push(b"item ");
+    out.push_number(number);
+    out.push(b" ");
+    out.push_number(u64::from(process));
+    out.push(b" ");
+}
+
+/// Appends `item T I OUTCOME`, and the line that was run.
+#[tactic(auto, unfolding(crate::specs::OutcomeLine::outcome_line))]
+pub fn outcome_line(
+    out: &mut Draft,
+    texts: &LineTexts,
+    number: u64,
+    process: u32,
+    outcome: &Outcome,
+    run: Option<u64>,
+)
+    ensures { Adds out.old out.new (outcome_line texts.now number process outcome.now run) }
+{
+    number_text(out, number, process);
+    outcome_text(out, outcome);
+    run_text(out, texts, run);
+    out.push(b"\n");
 }

@@ -47,7 +47,7 @@ fn word_line<K: Kind>(out: &mut Draft, kind: KindTag, k: u64, word: &K::Word)
 }
 
 /// Returns the letter of a bank.
-fn bank_text(bank: Bank) -> &'static [u8]
+pub fn bank_text(bank: Bank) -> &'static [u8]
     ensures { result.now ≡ bank_text bank }
 {
     match bank {

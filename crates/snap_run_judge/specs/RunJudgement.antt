@@ -6,8 +6,8 @@ use Rattle.snap_judge.specs.Linearizable.{IsLinearizableHistory}
 use Rattle.snap_judge.specs.declared.judgements.Failing.{Failing}
 use Rattle.snap_judge.specs.declared.judgements.Failing.TheVariants as failing
 use Rattle.snap_run_judge.specs.RunHistory.{history_of}
-use Rattle.snap_run_judge.specs.declared.linearizability.Linearizability.{Linearizability}
-use Rattle.snap_run_judge.specs.declared.linearizability.Linearizability.TheVariants as word
+use Rattle.snap_judge.specs.declared.linearizability.Linearizability.{Linearizability}
+use Rattle.snap_judge.specs.declared.linearizability.Linearizability.TheVariants as word
 
 -- how many configurations a search meets at most, where nobody has asked for another bound
 abbrev pub most_configurations : ℕ

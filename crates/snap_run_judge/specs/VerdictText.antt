@@ -4,7 +4,8 @@ use Rattle.std.specs.Prelude.{ℕ, List, [], ◌∷◌, ◌++◌, codes}
 use Rattle.snap_judge.specs.History.{History}
 use Rattle.snap_judge.specs.declared.judgements.Failing.{Failing}
 use Rattle.snap_judge.specs.declared.judgements.Failing.TheVariants as failing
-use Rattle.snap_history_text.specs.JudgementText.{last_of, not_linearizable_line, undecided_line}
+use Rattle.snap_history_text.specs.JudgementText.{not_linearizable_line, undecided_line}
+use Rattle.snap_judge.specs.Linearizable.{last_of}
 
 -- a verdict; no order is told
 abbrev pub verdict_text : History → Failing → List ℕ

@@ -7,10 +7,11 @@ ghost use Rattle.snap_run_judge.specs.RunHistory.{IsHistoryOf, history_of};
 ghost use Rattle.snap_run_judge.specs.RunJudgement.{IsLinearizabilityOf, IsRunJudgement, word_of};
 
 use crate::history::history_of;
-use crate::linearizability::Linearizability;
 use crate::runs_have_histories;
 use snap_asm_program::Program;
-use snap_judge::{Failing, History, judge_without_order, linearizable_from_the_beginning};
+use snap_judge::{
+    Failing, History, Linearizability, judge_without_order, linearizable_from_the_beginning,
+};
 use snap_record::Record;
 use snap_words::Kind;
 use std::alloc::{AllocError, Global};

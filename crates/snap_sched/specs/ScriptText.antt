@@ -2,6 +2,7 @@
 -- and why a text is refused, the first reason first. Processes and lines are counted from 1.
 use Rattle.std.specs.Prelude.{◌≡◌, ℕ, zero, suc, ◌+◌, Bool, true, false, ◌&&◌, List, [], ◌∷◌, ◌++◌, length, Option}
 use Rattle.std.specs.Prelude.{Some, None, Result, Ok, Err, nat_lt, nat_le, if◌then◌else◌}
+use Rattle.snap_semantics.specs.Schedule.{max_schedule}
 use Rattle.snap_words.specs.Shape.{Counts, IsShape}
 use Rattle.snap_semantics.specs.declared.process.Op.{Op}
 use Rattle.snap_semantics.specs.declared.refusal.ScheduleRefusal.{ScheduleRefusal}
@@ -69,7 +70,7 @@ scripts_of_lines (line ∷ lines) =
 
 -- the scripts that a text is, or the first reason why it is none
 abbrev pub scripts_of : List ℕ → Result Scripts ScheduleRefusal
-scripts_of text = if nat_lt 4194304 (length text) then Err refusal.TooLong else scripts_of_lines (text_lines text)
+scripts_of text = if nat_lt max_schedule (length text) then Err refusal.TooLong else scripts_of_lines (text_lines text)
 
 -- one script for each process of the shape
 pub record AreScripts (s : Scripts) : Type 0 where

@@ -94,7 +94,11 @@ fn push_segments(out: &mut Vec<u8>, segments: Segments<'_>) -> Result<(), AllocE
 }
 
 /// Appends the line of a shape: `shape N W`.
-fn push_shape(out: &mut Vec<u8>, shape: Shape) -> Result<(), AllocError>
+///
+/// # Errors
+///
+/// `AllocError` where memory runs out.
+pub fn push_shape(out: &mut Vec<u8>, shape: Shape) -> Result<(), AllocError>
     ensures { OnOk result (out.new.items ≡ out.old.items ++ line_text (spelled_shape shape)) }
 {
     push_laid_out(

@@ -1,6 +1,5 @@
 //! `ItemForm`: the forms of the lines of a schedule: the shape, steps of a process, a call, or a
 //! crash.
-ghost use Rattle.std.specs.Prelude.{◌≡◌};
 ghost use Rattle.snap_semantics.specs.ScheduleForms.{shape_form, step_form, steps_form, scan_form};
 ghost use Rattle.snap_semantics.specs.ScheduleForms.{update_form, crash_form, item_form};
 ghost use Rattle.snap_text.specs.Tokens.{Finds, view_tokens};

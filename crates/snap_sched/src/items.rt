@@ -9,7 +9,7 @@ ghost use Rattle.snap_sched.specs.Segments.{segment_items, segment_form};
 ghost use Rattle.snap_sched.specs.Kept.{single_segment};
 
 use crate::segments::{CallOrCrash, SegmentStart, Segments, Single};
-use snap_semantics::Op;
+use snap_semantics::{Item, Op};
 use std::alloc::{AllocError, Global};
 use std::marker::Model;
 
@@ -191,5 +191,22 @@ impl Items {
         ensures unchanged { OnErr result (self.new ≡ self.old) }
     {
         self.push_single(process, CallOrCrash::Crash)
+    }
+
+    /// Appends an item.
+    ///
+    /// # Errors
+    ///
+    /// `AllocError` where memory runs out.
+    pub fn push(&mut self, item: Item) -> Result<(), AllocError>
+        requires { length self.old + 1 < 2 ^ 32 }
+        ensures added { OnOk result (self.new ≡ self.old ++ item ∷ []) }
+        ensures unchanged { OnErr result (self.new ≡ self.old) }
+    {
+        match item {
+            Item::Step(process) => self.push_steps(process, 1),
+            Item::Call(process, op) => self.push_call(process, op),
+            Item::Crash(process) => self.push_crash(process),
+        }
     }
 }

@@ -15,8 +15,9 @@ mod script_reader;
 mod scripts;
 mod segments;
 
-pub use canonical_text::print;
+pub use canonical_text::{print, push_shape};
 pub use fault::{ScheduleFault, ScheduleFault as SchedFault};
+pub use forms::shape_form;
 pub use item_iter::ItemIter;
 pub use items::Items;
 pub use laws::{prints_again, reads_all_spelled, reads_only_spelled};

@@ -4,7 +4,7 @@ ghost use Rattle.std.specs.Prelude.{length, option_map, Some, Err, IfOk, OnOk};
 ghost use Rattle.std.specs.List.{AllByRecursion};
 ghost use Rattle.snap_words.specs.Shape.{IsOneOf, max_count, max_items};
 ghost use Rattle.snap_semantics.specs.Answers.{Answers, Gives};
-ghost use Rattle.snap_semantics.specs.Schedule.{admitted, items_of, schedule_of};
+ghost use Rattle.snap_semantics.specs.Schedule.{admitted, items_of, max_schedule, schedule_of};
 ghost use Rattle.snap_semantics.specs.Schedule.{form_process, form_count, form_items};
 ghost use Rattle.snap_semantics.specs.ScheduleText.{FitsItem};
 ghost use Rattle.snap_semantics.specs.Table.{who};
@@ -220,7 +220,7 @@ fn items_of(alloc: Global, n: u64, lines: &mut TextLines<'_>) -> Result<Items, S
 /// `Refused` with the first reason why `text` is no schedule; `Memory` where memory runs out.
 pub fn read(alloc: Global, text: &[u8]) -> Result<Schedule, ScheduleFault>
     ensures schedule { Answers (λ s. s) result (schedule_of text.now) }
-    ensures too_long { 4194304 < length text.now → result ≡ Err (Refused TooLong) }
+    ensures too_long { max_schedule < length text.now → result ≡ Err (Refused TooLong) }
 {
     if text.len() > MAX_BYTES {
         return Err(ScheduleFault::Refused(ScheduleRefusal::TooLong));

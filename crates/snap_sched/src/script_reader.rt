@@ -1,5 +1,6 @@
 //! `read_scripts`: the scripts of a live run, one for each process, read from a text.
 ghost use Rattle.std.specs.Prelude.{◌≡◌, ◌≤◌, ◌<◌, [], length, Err, IfOk};
+ghost use Rattle.snap_semantics.specs.Schedule.{max_schedule};
 ghost use Rattle.snap_words.specs.Shape.{max_count};
 ghost use Rattle.snap_semantics.specs.Answers.{Answers, Gives};
 ghost use Rattle.snap_semantics.specs.declared.fault.Fault.TheVariants.{Refused};
@@ -117,7 +118,7 @@ fn each_script(alloc: Global, forms: &[ScriptForm], n: u64) -> Result<Vec<Script
 /// `Refused` with the first reason why `text` is no such text; `Memory` where memory runs out.
 pub fn read_scripts(alloc: Global, text: &[u8]) -> Result<Scripts, ScheduleFault>
     ensures scripts { Answers (λ s. s) result (scripts_of text.now) }
-    ensures too_long { 4194304 < length text.now → result ≡ Err (Refused TooLong) }
+    ensures too_long { max_schedule < length text.now → result ≡ Err (Refused TooLong) }
 {
     if text.len() > MAX_BYTES {
         return Err(ScheduleFault::Refused(ScheduleRefusal::TooLong));

@@ -53,6 +53,10 @@ schedule_of_lines (line ∷ lines) =
     form_or refusal.BadShape shape_form line.tokens >>= λ shape. items_of shape.n max_items lines >>= λ items.
     Ok (record { shape = shape; items = items })
 
+-- the most bytes of a schedule's text, and of a text of scripts
+abbrev pub max_schedule : ℕ
+max_schedule = 4194304
+
 -- the schedule that a text is, or the first reason why it is none
 abbrev pub schedule_of : List ℕ → Result Schedule ScheduleRefusal
-schedule_of text = if nat_lt 4194304 (length text) then Err refusal.TooLong else schedule_of_lines (text_lines text)
+schedule_of text = if nat_lt max_schedule (length text) then Err refusal.TooLong else schedule_of_lines (text_lines text)

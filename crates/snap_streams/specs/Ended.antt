@@ -27,11 +27,12 @@ gone = 141
 abbrev pub ended_status : Option ErrorKind → (status : ℕ) → ℕ
 ended_status failure status = if is_gone failure then gone else status
 
--- what is said at the end: what was kept, or that there was no memory to keep it
+-- what is said at the end: the messages that were kept, or, where keeping them has failed, that there was no memory
 abbrev pub text_at_end : (failed : Bool) → List ℕ → List ℕ
 text_at_end failed text = if failed then codes "refused: Memory\n" else text
 
--- Messages are said at the end of a program, all of them; where its reader has gone away, none is.
+-- Messages are said at the end of a program, all of them; where the reader of its output has gone away (`is_gone`),
+-- none is, and the device stays as it was.
 abbrev pub SaysAtEnd : (is_gone : Bool) → List ℕ → (device device_after : SinkState) → Type 0
 SaysAtEnd true text device device_after = device ≡ device_after
 SaysAtEnd false text device device_after = Says text device device_after

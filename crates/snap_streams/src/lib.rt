@@ -29,7 +29,6 @@ pub use file_fault::{FileFault, reason};
 pub use folder::Folder;
 pub use messages::Messages;
 pub use piped::Piped;
-pub use read::{read_below, read_named, read_opened};
 pub use respondent::Respondent;
 pub use sending::{Unsent, say, write_all};
 pub use source::{Disk, FileSource};
@@ -37,7 +36,6 @@ pub use standard::Std;
 pub use terminal::Terminal;
 use thiserror::Error;
 pub use turns::talk;
-pub use typed_line::read_line;
 /// The device failed.
 #[derive(Clone, Copy, Debug, PartialEq, Eq, Error)]
 #[error("the device failed")]

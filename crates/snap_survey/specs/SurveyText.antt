@@ -2,8 +2,8 @@
 use Rattle.std.specs.Prelude.{ℕ, ◌+◌, List, [], ◌∷◌, ◌++◌, Option, Some, None, codes, decimal}
 use Rattle.snap_semantics.specs.declared.process.Outcome.TheVariants as outcome
 use Rattle.snap_report.specs.OutcomeText.{outcome_text}
-use Rattle.snap_run_judge.specs.declared.linearizability.Linearizability.{Linearizability}
-use Rattle.snap_run_judge.specs.declared.linearizability.Linearizability.TheVariants as word
+use Rattle.snap_judge.specs.declared.linearizability.Linearizability.{Linearizability}
+use Rattle.snap_judge.specs.declared.linearizability.Linearizability.TheVariants as word
 use Rattle.snap_survey.specs.Summary.{summary_of}
 use Rattle.snap_survey.specs.declared.summary.Summary.{Summary}
 use Rattle.snap_survey.specs.declared.findings.Skip.{Skip}

@@ -1,7 +1,7 @@
 -- Which of the three words is said of a run.
 use Rattle.std.specs.Prelude.{Bool, true, false}
-use Rattle.snap_run_judge.specs.declared.linearizability.Linearizability.{Linearizability}
-use Rattle.snap_run_judge.specs.declared.linearizability.Linearizability.TheVariants as word
+use Rattle.snap_judge.specs.declared.linearizability.Linearizability.{Linearizability}
+use Rattle.snap_judge.specs.declared.linearizability.Linearizability.TheVariants as word
 
 abbrev pub is_linearizable : Linearizability → Bool
 is_linearizable word.Linearizable = true

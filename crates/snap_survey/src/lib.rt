@@ -17,8 +17,7 @@ mod words;
 
 pub use findings::{JudgedSurvey, Skip, Survey, Trap};
 pub use in_threads::survey_in_threads;
-pub use summary::{Summary, summary_of};
-pub use survey_output::{Output, survey_runs, survey_runs_in_threads};
+pub use summary::Summary;
+pub use survey_output::Output;
 pub use surveyed::survey;
 pub use task::survey_input;
-pub use text::{summary_line, survey_line};

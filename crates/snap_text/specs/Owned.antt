@@ -1,5 +1,5 @@
--- `owned_text`, as a definition: the lines of a text, each indented one with
--- its owner, the first two words of the line above that is not indented.
+-- `owned_text`: the lines of a text, as of a report, each indented one with its owner, the first two words of the last
+-- line above it that is not indented.
 use Rattle.std.specs.Prelude.{ℕ, ◌+◌, List, [], ◌∷◌, ◌++◌, take, drop, codes, if◌then◌else◌, ◌==◌}
 
 -- how many bytes stand before the first space
@@ -11,7 +11,7 @@ word_len (b ∷ bs) = if b == 32 then 0 else word_len bs + 1
 abbrev pub two_words : List ℕ → List ℕ
 two_words line = take (word_len line + 1 + word_len (drop (word_len line + 1) line)) line
 
--- of whom the lines behind a line speak that are indented
+-- the owner of the indented lines that follow a line: the line itself, or its owner where it is indented too
 abbrev pub next_owner : List ℕ → List ℕ → List ℕ
 next_owner owner [] = []
 next_owner owner (b ∷ bs) = if b == 32 then owner else two_words (b ∷ bs)

@@ -1,28 +1,13 @@
 //! `push_changes`: prints the changes from one text to another, old lines after `- ` and new ones
 //! after `+ `.
-ghost use Rattle.std.specs.Prelude.{◌≡◌, ◌<◌, ◌+◌, ◌++◌, ◌∷◌, codes, false, length};
+ghost use Rattle.std.specs.Prelude.{◌≡◌, ◌<◌, ◌+◌, ◌++◌, false, length};
 ghost use Rattle.snap_semantics.specs.Token.{lines_of};
 ghost use Rattle.snap_text.specs.Changes.{behind_first, changes_between, changes_text};
 ghost use Rattle.snap_text.specs.Changes.{line_with, replaced_text, text_between};
 ghost use Rattle.snap_text.specs.Drafted.{Adds};
 
 use crate::draft::Draft;
-
-/// Returns the first line, without its line feed, and the lines behind it.
-pub(crate) fn split_line(bytes: &[u8]) -> (&[u8], &[u8])
-    requires { 0 < length bytes.now }
-    ensures lines { lines_of bytes.now ≡ result.0.now ∷ lines_of result.1.now }
-    ensures shorter { length result.1.now < length bytes.now }
-{
-    let mut len = 0;
-    while len < bytes.len() {
-        if bytes[len] == b'\n' {
-            return (&bytes[..len], &bytes[len + 1..]);
-        }
-        len += 1;
-    }
-    (bytes, &bytes[bytes.len()..])
-}
+use crate::lines::split_line;
 
 /// Returns `text` without its first line.
 pub fn behind_first_line(text: &[u8]) -> &[u8]

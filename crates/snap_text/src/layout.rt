@@ -11,7 +11,7 @@ use snap_semantics::Symbol;
 use std::alloc::AllocError;
 
 /// Returns how a symbol is spelled.
-fn symbol_text(symbol: Symbol) -> &'static [u8]
+pub fn symbol_text(symbol: Symbol) -> &'static [u8]
     ensures { result.now ≡ symbol_text symbol }
 {
     match symbol {

@@ -44,7 +44,7 @@ pub(crate) fn is_space(b: u8) -> bool
 }
 
 /// Returns how many letters and digits stand at the front.
-fn lexeme_len(bytes: &[u8]) -> usize
+pub fn lexeme_len(bytes: &[u8]) -> usize
     ensures value { result ≡ lexeme_len bytes.now }
     ensures within { result ≤ length bytes.now }
 {

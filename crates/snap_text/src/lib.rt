@@ -17,13 +17,13 @@ mod push;
 mod rules;
 
 pub use change_laws::changes_make_the_new_text;
-pub use changed::{behind_first_line, push_changes};
+pub use changed::push_changes;
 pub use comments::line_comments;
 pub use draft::Draft;
 pub use laws::{what_is_commented_is_read, what_is_laid_out_is_read};
-pub use layout::{push_laid_out, push_tokens};
-pub use lexer::{Token, tokens};
-pub use lines::{CallLine, NumberLine, TextLines, TokenLine, line_count};
+pub use layout::{push_laid_out, push_tokens, symbol_text};
+pub use lexer::{Token, lexeme_len, tokens};
+pub use lines::{CallLine, NumberLine, TextLines, TokenLine, line_count, split_line};
 pub use owned::push_owned_lines;
 pub use push::{push_number, push_numbers, push_text};
 pub use rules::{end_at, identifier_at, keyword_at, number_at, symbol_at};

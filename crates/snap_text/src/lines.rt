@@ -1,6 +1,6 @@
 //! `TextLines`: the lines of a text that have tokens, one by one, each with its number and its
 //! tokens or its one or two numbers.
-ghost use Rattle.std.specs.Prelude.{◌≡◌, ◌<◌, ℕ, length, IfOk, OnErr, option_map, IsTrue, ◌↔◌, ◌∷◌};
+ghost use Rattle.std.specs.Prelude.{◌≡◌, ◌<◌, length, IfOk, OnErr, option_map, ◌∷◌};
 ghost use Rattle.snap_semantics.specs.Token.{TextLine, lines_of, numbered, text_lines};
 ghost use Rattle.snap_text.specs.Tokens.{view_tokens, has_tokens};
 ghost use Rattle.snap_text.specs.Lines.{IsNext};
@@ -57,7 +57,7 @@ impl<'a> Model for TextLines<'a> {
 }
 
 /// Returns the first line, without its line feed, and the lines behind it.
-pub(crate) fn split_line(bytes: &[u8]) -> (&[u8], &[u8])
+pub fn split_line(bytes: &[u8]) -> (&[u8], &[u8])
     requires { 0 < length bytes.now }
     ensures lines { lines_of bytes.now ≡ result.0.now ∷ lines_of result.1.now }
     ensures shorter { length result.1.now < length bytes.now }

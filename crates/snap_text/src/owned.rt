@@ -1,12 +1,12 @@
 //! `push_owned_lines`: the lines of a text, each indented one with its
 //! owner, the first two words of the line above that is not indented.
-ghost use Rattle.std.specs.Prelude.{◌≡◌, ◌≤◌, [], codes, length};
+ghost use Rattle.std.specs.Prelude.{◌≡◌, ◌≤◌, [], length};
 ghost use Rattle.snap_semantics.specs.Token.{lines_of};
 ghost use Rattle.snap_text.specs.Drafted.{Adds};
 ghost use Rattle.snap_text.specs.Owned.{next_owner, owned_line, owned_text, two_words, word_len};
 
-use crate::changed::split_line;
 use crate::draft::Draft;
+use crate::lines::split_line;
 
 /// Returns how many bytes stand before the first space.
 fn word_len(bytes: &[u8]) -> usize

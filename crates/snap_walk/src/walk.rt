@@ -144,7 +144,8 @@ impl<'a, K: Kind> Walk<'a, K> {
     #[inline(always)]
     pub fn upcoming(&self) -> Option<Item>
         ensures { MatchOption result (self.now.at ≡ length self.now.run.items)
-            (λ x. (self.now.at < length self.now.run.items) × (x ≡ item_at self.now.run (suc self.now.at))
+            (λ x. (self.now.at < length self.now.run.items) ×
+            (x ≡ item_at self.now.run (suc self.now.at))
             × IsOneOf self.now.run.shape.n (who x)) }
     {
         self.ahead.first()
@@ -213,7 +214,8 @@ impl<'a, K: Kind> Walk<'a, K> {
             (λ p. Tells quiet.now tells_skips self.old p self.new)) }
         ensures over { OnErr result (PassesOver quiet.now tells_skips self.old self.new) }
         ensures grows { OnErr result ((self.new.at < length self.new.run.items)
-            × IsTrue (may_grow self.new.run.source self.new.run.shape (state self.new.run self.new.at)
+            × IsTrue (may_grow self.new.run.source self.new.run.shape
+            (state self.new.run self.new.at)
             (item_at self.new.run (suc self.new.at)))) }
     {
         while let Some(item) = self.upcoming() {
@@ -270,7 +272,8 @@ impl<'a, K: Kind> Walk<'a, K> {
         ensures few { length self.old.run.items ≤ max_items }
         ensures unchanged { OnErr result (self.new ≡ self.old) }
         ensures grows { OnErr result ((self.old.at < length self.old.run.items)
-            × IsTrue (may_grow self.old.run.source self.old.run.shape (state self.old.run self.old.at)
+            × IsTrue (may_grow self.old.run.source self.old.run.shape
+            (state self.old.run self.old.at)
             (item_at self.old.run (suc self.old.at)))) }
     {
         // What `shape` promises: the schedule has at most as many items as schedules may have.

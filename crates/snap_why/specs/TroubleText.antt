@@ -1,9 +1,9 @@
 -- The printed text of a `Trouble`, the operand at which a line traps.
 use Rattle.std.specs.Prelude.{ℕ, List, ◌++◌, codes, decimal, nat_eq, if◌then◌else◌}
 use Rattle.snap_words.specs.declared.address.Bank.{Bank}
-use Rattle.snap_words.specs.declared.address.Bank.TheVariants as bank
 use Rattle.snap_semantics.specs.declared.instr.Index.{Index}
 use Rattle.snap_semantics.specs.declared.instr.Index.TheVariants as index
+use Rattle.snap_report.specs.ReportLines.{bank_text}
 use Rattle.snap_why.specs.declared.trouble.Trouble.{Trouble}
 use Rattle.snap_why.specs.declared.trouble.Trouble.TheVariants.{NoPlace, LargeSum, NoBit, NotOwn}
 
@@ -16,12 +16,6 @@ index_text index.Me = codes "me"
 index_text index.Word = codes "word"
 index_text index.Place = codes "@"
 index_text (index.Scalar x) = x
-
-abbrev pub bank_text : Bank → List ℕ
-bank_text bank.R = codes "r"
-bank_text bank.Q = codes "q"
-bank_text bank.P = codes "p"
-bank_text bank.V = codes "v"
 
 -- a second index, where there is one
 abbrev pub second_text : ℕ → List ℕ

@@ -16,6 +16,5 @@ mod why;
 
 pub use operands::line_trouble;
 pub use taker::Taker;
-pub use text::push_trouble;
 pub use trouble::Trouble;
 pub use why::push_why;

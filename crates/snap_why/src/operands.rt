@@ -1,6 +1,6 @@
 //! `line_trouble`: the operand at which a line traps, the first in the order in which the line
 //! takes them.
-ghost use Rattle.std.specs.Prelude.{◌≡◌, ◌<◌, ◌+◌, ◌^◌};
+ghost use Rattle.std.specs.Prelude.{◌≡◌, ◌<◌};
 ghost use Rattle.snap_words.specs.Shape.{IsOneOf, places};
 ghost use Rattle.snap_semantics.specs.Rules.{or_else};
 ghost use Rattle.snap_semantics.specs.Table.{range_end};
@@ -13,26 +13,9 @@ use crate::numbers::{index_number, term_number};
 use crate::puts::{put_bit_trouble, put_trouble, put_view_trouble};
 use crate::taker::Taker;
 use crate::trouble::Trouble;
-use snap_machine::Machine;
+use snap_machine::{Machine, places, range_end};
 use snap_semantics::{Expr, Index, Instr, Range, Term};
 use snap_words::{Kind, Shape};
-
-/// Returns how many places a row or a `words` local has.
-pub(crate) fn places(shape: Shape) -> u64
-    ensures { result ≡ places shape }
-{
-    shape.n().max(shape.w())
-}
-
-/// Returns how many places a quantifier goes over.
-fn range_end(shape: Shape, range: Range) -> u64
-    ensures { result ≡ range_end shape range }
-{
-    match range {
-        Range::Processes => shape.n(),
-        Range::Words => shape.w(),
-    }
-}
 
 /// Returns the trouble of an index that is none of `count` places.
 pub(crate) fn place_trouble<K: Kind>(

@@ -2,10 +2,11 @@
 ghost use Rattle.snap_text.specs.Drafted.{Adds};
 ghost use Rattle.snap_why.specs.declared.trouble.Trouble.TheVariants.{LargeSum, NoBit};
 ghost use Rattle.snap_why.specs.declared.trouble.Trouble.TheVariants.{NoPlace, NotOwn};
-ghost use Rattle.snap_why.specs.TroubleText.{bank_text, index_text, register_text};
+ghost use Rattle.snap_why.specs.TroubleText.{index_text, register_text};
 ghost use Rattle.snap_why.specs.TroubleText.{second_text, trouble_text, valued_index};
 
 use crate::trouble::Trouble;
+use snap_report::bank_text;
 use snap_semantics::Index;
 use snap_text::Draft;
 use snap_words::Bank;
@@ -22,18 +23,6 @@ fn push_index(out: &mut Draft, index: &Index)
         Index::Word => out.push(b"word"),
         Index::Place => out.push(b"@"),
         Index::Scalar(name) => out.push(name.letters()),
-    }
-}
-
-/// Appends the letter of a bank.
-fn push_bank(out: &mut Draft, bank: Bank)
-    ensures { Adds out.old out.new (bank_text bank) }
-{
-    match bank {
-        Bank::R => out.push(b"r"),
-        Bank::Q => out.push(b"q"),
-        Bank::P => out.push(b"p"),
-        Bank::V => out.push(b"v"),
     }
 }
 
@@ -63,7 +52,7 @@ fn push_register(out: &mut Draft, bank: Bank, i: u64, j: u64)
     ensures { Adds out.old out.new (register_text bank i j) }
 {
     out.push(b"the register ");
-    push_bank(out, bank);
+    out.push(bank_text(bank));
     out.push(b" ");
     out.push_number(i);
     push_second(out, j);

@@ -1,10 +1,9 @@
 //! `push_why`: what `why` prints of an item of a run, be it the answer of a scan, a trap, or
 //! neither.
-ghost use Rattle.std.specs.Prelude.{◌≡◌, ◌≤◌, ◌<◌, ℕ, List};
+ghost use Rattle.std.specs.Prelude.{◌≡◌, ◌≤◌, ℕ, List};
 ghost use Rattle.std.specs.Prelude.{IfOk, IfSome, OnOk, None, length, map, option_map};
 ghost use Rattle.snap_text.specs.Drafted.{Adds};
 ghost use Rattle.snap_words.specs.Shape.{IsOneOf};
-ghost use Rattle.snap_runs.specs.Audit.{audit};
 ghost use Rattle.snap_runs.specs.Run.{run_over, state};
 ghost use Rattle.snap_listing.specs.LineTexts.{written};
 ghost use Rattle.snap_acts.specs.Trace.{trace_of};
@@ -17,26 +16,13 @@ use crate::point::point_text;
 use crate::trap::push_trap;
 use snap_acts::{Act, StepPattern, TraceStep, first_step_from, last_before, trace};
 use snap_asm_program::Program;
-use snap_audit::{Verdict, audit};
+use snap_audit::{Verdict, audit_over};
 use snap_listing::LineTexts;
-use snap_record::{Record, record_over};
+use snap_record::Record;
 use snap_sched::Schedule;
 use snap_text::Draft;
 use snap_words::Kind;
 use std::alloc::{AllocError, Global};
-
-/// Returns the audit of a program over a schedule.
-fn verdicts_over<K: Kind>(
-    alloc: Global,
-    program: &Program,
-    schedule: &Schedule,
-) -> Result<Vec<Verdict>, AllocError>
-    requires { program.now.kind ≡ K.TAG }
-    ensures { IfOk result (λ v. v.items ≡ audit (run_over program.now schedule.now)) }
-{
-    let record = record_over::<K>(alloc, program, schedule)?;
-    audit(alloc, &record)
-}
 
 /// Returns the process that a step leaves trapped.
 fn trapped_by(step: &TraceStep) -> Option<u32>
@@ -178,7 +164,7 @@ pub fn push_why<K: Kind>(
     ensures { OnOk result ((text : List ℕ) × IsWhy (run_over program.now schedule.now) item text
         × Adds out.old out.new text) }
 {
-    let verdicts = verdicts_over::<K>(alloc, program, schedule)?;
+    let verdicts = audit_over::<K>(alloc, program, schedule)?;
     let steps = trace::<K>(alloc, program, schedule)?;
     if let Some(verdict) = verdict_with(verdicts.as_slice(), item) {
         let point = point_text::<K>(alloc, program, schedule, verdict.point, item)?;

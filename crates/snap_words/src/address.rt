@@ -13,10 +13,12 @@ pub enum Bank {
     V,
 }
 
-/// A register by its bank and its indices, which count from 1. In banks R and V `j` is 0.
+/// A register by its bank and its indices, which count from 1.
 #[derive(Clone, Copy, PartialEq, Eq)]
 pub struct Address {
     pub bank: Bank,
+    /// In bank R the word; in Q, P and V the process that writes the register.
     pub i: u64,
+    /// In banks Q and P the other process of the handshake; 0 in R and V.
     pub j: u64,
 }

@@ -1,7 +1,7 @@
 -- What is printed of a live run, run again: it is a schedule and a report (`LiveRunsAreCut`), and the run over that
 -- schedule is the same (`LiveRunsAreReadAgain`).
 use Rattle.std.specs.Prelude.{◌≡◌, ℕ, ◌≤◌, List, ◌++◌, length, Ok}
-use Rattle.snap_semantics.specs.Schedule.{Schedule, schedule_of}
+use Rattle.snap_semantics.specs.Schedule.{Schedule, max_schedule, schedule_of}
 use Rattle.snap_semantics.specs.ScheduleText.{IsSchedule, schedule_text}
 use Rattle.snap_semantics.specs.declared.process.Item.{Item}
 use Rattle.snap_report.specs.RunReport.{report_at}
@@ -25,9 +25,9 @@ pub record IsCut (g : Setup) (items : List Item) (text : List ℕ) : Type 0 wher
 -- as nothing else: the run over them is the same, and so is its report. It is no longer where
 -- there are at most 80,000 items.
 pub record IsReadAgain (g : Setup) (items : List Item) (text : List ℕ) : Type 0 where
-  pub reads : length (before_report text) ≤ 4194304 → schedule_of (before_report text) ≡ Ok (played g items)
+  pub reads : length (before_report text) ≤ max_schedule → schedule_of (before_report text) ≡ Ok (played g items)
   pub no_other : (s : Schedule) → schedule_of (before_report text) ≡ Ok s → s ≡ played g items
-  pub short : length items ≤ 80000 → length (before_report text) ≤ 4194304
+  pub short : length items ≤ 80000 → length (before_report text) ≤ max_schedule
   pub reports : (s : Schedule) → schedule_of (before_report text) ≡ Ok s →
       report_at (run_over g.source s) (length s.items) ≡ report_in text
 

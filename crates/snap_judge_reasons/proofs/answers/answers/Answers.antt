@@ -3,7 +3,7 @@ use Rattle.std.proofs.Common.{◌-◌, ◌∙◌, ap, subst, sym}
 use Rattle.std.proofs.lemmas.Result.{IfOk-weaker}
 use Rattle.snap_semantics.specs.declared.event.Event.{Event}
 use Rattle.snap_judge.specs.History.{History, IsHistory}
-use Rattle.snap_history_text.specs.JudgementText.{last_of}
+use Rattle.snap_judge.specs.Linearizable.{last_of}
 use Rattle.snap_judge_reasons.specs.RightAnswers.{AreRightNext, followed_by}
 use Rattle.snap_judge_reasons.proofs.Fronts.{answering_history, up_to_history}
 use Rattle.snap_judge_reasons.proofs.NextAnswers.{right_in_place}

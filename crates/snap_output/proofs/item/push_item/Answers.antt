@@ -9,7 +9,8 @@ use Rattle.snap_semantics.specs.State.{State, process_at}
 use Rattle.snap_semantics.specs.Table.{done, who}
 use Rattle.snap_machine.specs.WritePlace.{write_place_of}
 use Rattle.snap_report.specs.WrittenLines.{written_local, written_shared}
-use Rattle.snap_output.specs.Step.{head_text, line_run}
+use Rattle.snap_report.specs.OutcomeLine.{outcome_line}
+use Rattle.snap_output.specs.Step.{line_run}
 use Rattle.snap_output.specs.Touched.{head_texts}
 use Rattle.snap_output.proofs.HeadTexts.{head_count, head_of, heads_after}
 use Rattle.snap_output.proofs.Said.{item_told, pieces_told, skipped_stays, skipped_told}
@@ -32,13 +33,13 @@ returns-then-is_skipped-clause-text g c =
     let mine : c.who-i.result ≡ who x = c.who-i.ensures in
     let run : c.line_run-run.result ≡ line_run x (process_at S (who x)).status =
     c.line_run-run.ensures ∙ ap (line_run x) (c.status.ensures ∙ ap (λ (i : ℕ). (process_at S i).status) mine) in
-    let told = c.push_did.ensures c.in_ok-_skipped.ensures.0 in
-    skipped_told c.args.texts.now s c.args.machine.now.shape S S' t x why.0 out c.push_did.new.out.text
+    let told = c.outcome_line.ensures c.in_ok-_skipped.ensures.0 in
+    skipped_told c.args.texts.now s c.args.machine.now.shape S S' t x why.0 out c.outcome_line.new.out.text
     (c.in_ok-outcome.ensures.done ∙ ap (λ (o : Outcome). let r : State × Outcome = (S', o) in r) why.1)
     (told.1
-    ∙ ap (λ (i : ℕ). out ++ head_text c.args.texts.now t i c.in_ok-outcome.outcome c.line_run-run.result) mine
-    ∙ ap (λ r. out ++ head_text c.args.texts.now t (who x) c.in_ok-outcome.outcome r) run
-    ∙ ap (λ (o : Outcome). out ++ head_text c.args.texts.now t (who x) o (line_run x (process_at S (who x)).status))
+    ∙ ap (λ (i : ℕ). out ++ outcome_line c.args.texts.now t i c.in_ok-outcome.outcome c.line_run-run.result) mine
+    ∙ ap (λ r. out ++ outcome_line c.args.texts.now t (who x) c.in_ok-outcome.outcome r) run
+    ∙ ap (λ (o : Outcome). out ++ outcome_line c.args.texts.now t (who x) o (line_run x (process_at S (who x)).status))
     why.1)
 
 pub returns-then-is_skipped-clause-heads : goal.returns-then-is_skipped-clause-heads
@@ -63,14 +64,14 @@ returns-clause-text g c =
     let u = c.in_ok-overwritten.field-0 in
     let p = c.write_place-place.result in
     let out = c.args.sheet.now.out.text in
-    let did = c.push_did.new.out.text in
+    let did = c.outcome_line.new.out.text in
     let mine : i ≡ who x = c.who-i.ensures in
     let run : c.line_run-run.result ≡ line_run x (process_at S (who x)).status =
     c.line_run-run.ensures ∙ ap (line_run x) (c.status.ensures ∙ ap (λ (i : ℕ). (process_at S i).status) mine) in
     let came = c.push_came.ensures c.in_ok-_well.ensures.0 in
     let changed = c.in_ok-push_changed.ensures.text came.0 in
     let well = c.in_ok-push_changed.ensures.well in
-    let told = c.push_did.ensures changed.0 in
+    let told = c.outcome_line.ensures changed.0 in
     let one = c.requires.process.0 in
     let there : who x - 1 < length S.processes =
     (let high = c.requires.process.1 in
@@ -86,8 +87,8 @@ returns-clause-text g c =
     item_told c.args.texts.now s c.args.machine.now.shape S S' t x o u out did c.push_came.new.out.text
     c.in_ok-outcome.ensures.done
     (told.1
-    ∙ ap (λ (i : ℕ). out ++ head_text c.args.texts.now t i o c.line_run-run.result) mine
-    ∙ ap (λ r. out ++ head_text c.args.texts.now t (who x) o r) run)
+    ∙ ap (λ (i : ℕ). out ++ outcome_line c.args.texts.now t i o c.line_run-run.result) mine
+    ∙ ap (λ r. out ++ outcome_line c.args.texts.now t (who x) o r) run)
     (pieces_told s.kind (who x) i (write_place_of u.place) p S S' _ _ c.renew.new.self.shared.text
     c.renew-2.new.self.shared.text c.renew.new.self.local.text c.renew-2.new.self.local.text
     (get_or c.args.sheet.now.heads (i - 1) []) did c.push_changed.new.self.out.text c.push_came.new.out.text

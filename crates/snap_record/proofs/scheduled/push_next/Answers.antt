@@ -6,6 +6,6 @@ use Rattle.snap_record.proofs.scheduled.push_next.Goals as goal
 
 pub returns : goal.returns
 returns c =
-    one_more c.args.history.now.items c.push_item.new.items c.args.t c.in-Some.item c.requires.there
+    one_more c.args.history.now.items c.push.new.self c.args.t c.in-Some.item c.requires.there
     (sym c.item.ensures ∙ c.in-Some.is)
-    (c.in_ok-push_item.ensures ∙ ap (λ (xs : List Item). xs ++ c.in-Some.item ∷ []) c.requires.first)
+    (c.in_ok-push.ensures.added ∙ ap (λ (xs : List Item). xs ++ c.in-Some.item ∷ []) c.requires.first)

@@ -1,6 +1,6 @@
--- `copy_of_events` of snap_run_judge (src/history.rt): what holds at the head of each of its loops.
+-- `copied_events` of snap_judge (src/history.rt): what holds at the head of each of its loops.
 use Rattle.std.proofs.Common.{◌≡◌, ◌++◌, drop}
-use Rattle.snap_run_judge.proofs.history.copy_of_events.Given as goal
+use Rattle.snap_judge.proofs.history.copied_events.Given as goal
 
 -- the copies so far, and the events that are left
 abbrev pub invariant-loop-event : goal.invariant-loop-event

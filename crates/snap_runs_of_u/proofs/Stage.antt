@@ -90,10 +90,10 @@ module _ (n me : ℕ) (history : ℕ → Words) (t since round : ℕ) (words : W
       (let l : seq_at (history since) k ≤ seq_at words k = known.low k i in omega arith)
   stage_move d p L11 known h = (h, λ k i lt. absurd (omega arith))
   stage_move d p L12 known h =
-      let len : length p.a ≡ max n n = known.length_a in (
+      (
         h.0,
         first_more n (history since) (history round) words p.moved p.a p.j known.keeps.0
-            (omega arith) h.0 known.opened h.1,
+            (omega (arith, known.length_a)) h.0 known.opened h.1,
       )
   stage_move d p L13 known h =
       either (StageMove n history t since round) (nat_lt p.j n) _ _ (λ b. h)
@@ -202,46 +202,16 @@ module _ (n : ℕ) (history : ℕ → Words) (t t' since : ℕ) where
     views = λ k i more. lent_wider history t t' since k (word_at b k).view le (h.views k i more);
   }
 
+ruleset still = (low_kept, first_kept, between_kept, gained_kept, held_wider)
+
 module _ (n : ℕ) (history : ℕ → Words) (t t' since round : ℕ) (words words' : Words) (p : Variables) where
   pub stage_kept : (k : ProgramCounter) → t ≤ t' → Grows n words words' → Stage n history t since round words p k →
       Stage n history t' since round words' p k
-  stage_kept L10 le g h = tt
-  stage_kept L11 le g h = low_kept n (history since) words words' p.moved g h
-  stage_kept L12 le g h = (
-    low_kept n (history since) words words' p.moved g h.0,
-    first_kept n (history since) (history round) words words' p.moved p.a p.j g h.1,
-  )
-  stage_kept L13 le g h = (
-    low_kept n (history since) words words' p.moved g h.0,
-    first_kept n (history since) (history round) words words' p.moved p.a (p.j + 1) g h.1,
-  )
-  stage_kept L14 le g h = (
-    low_kept n (history since) words words' p.moved g h.0,
-    between_kept n history t t' since round words words' p.moved p.a p.b p.j le g h.1,
-  )
-  stage_kept L15 le g h = (
-    low_kept n (history since) words words' p.moved g h.0,
-    between_kept n history t t' since round words words' p.moved p.a p.b (p.j + 1) le g h.1,
-  )
-  stage_kept L16 le g h = (
-    low_kept n (history since) words words' p.moved g h.0,
-    between_kept n history t t' since round words words' p.moved p.a p.b (n + 1) le g h.1,
-  )
-  stage_kept L17 le g h = (
-    low_kept n (history since) words words' p.moved g h.0,
-    between_kept n history t t' since round words words' p.moved p.a p.b (n + 1) le g h.1,
-  )
-  stage_kept L18 le g h = gained_kept n history t t' since words words' p.moved p.b le g h
-  stage_kept L19 le g h = low_kept n (history since) words words' p.moved g h
-  stage_kept L21 le g h = held_wider history t t' since since (data_of (take n p.b)) le (omega arith) h
-  stage_kept L23 le g h = (gained_kept n history t t' since words words' p.moved p.b le g h.0, h.1)
   stage_kept L24 le g h = (
     held_wider history t t' since since p.s le (omega arith) h.0,
     (h.1.0, h.1.1, beside_wider history t t' since h.1.0 p.s le h.1.2),
   )
-  stage_kept L30 le g h = tt
-  stage_kept L33 le g h = tt
-  stage_kept k le g h = held_wider history t t' since since p.s le (omega arith) h
+  stage_kept k le g h = search (still, arith)
 
 -- The copies have all places, and c is the number of writes so far, one ahead at line 32.
 abbrev pub Sized : ℕ → ℕ → Variables → ProgramCounter → Type 0
@@ -256,26 +226,20 @@ SizedMove n s Finish = Unit {0}
 module _ (n me s : ℕ) where
   pub sized_move : (d : Mode) (m : Words) (p : Variables) (k : ProgramCounter) → IsLineOf me d k → Sized n s p k →
       SizedMove n (s + writes k) (move n me d m p k)
-  sized_move d m p L12 doable h = (length-set p.a (p.j - 1) (word_at m p.j) ∙ h.0, h.1, omega arith)
+  sized_move (Updating w x) m p L30 doable h = omega arith
+  sized_move d m p L12 doable h = omega (arith, length-set p.a (p.j - 1) (word_at m p.j))
   sized_move d m p L13 doable h =
-      either (SizedMove n (s + 0)) (nat_lt p.j n) _ _ (λ b. (h.0, h.1, omega arith)) (λ b. (h.0, h.1, omega arith))
-  sized_move d m p L14 doable h = (h.0, length-set p.b (p.j - 1) (word_at m p.j) ∙ h.1, omega arith)
+      either (SizedMove n (s + 0)) (nat_lt p.j n) _ _ (λ b. omega arith) (λ b. omega arith)
+  sized_move d m p L14 doable h = omega (arith, length-set p.b (p.j - 1) (word_at m p.j))
   sized_move d m p L15 doable h =
-      either (SizedMove n (s + 0)) (nat_lt p.j n) _ _ (λ b. (h.0, h.1, omega arith)) (λ b. (h.0, h.1, omega arith))
+      either (SizedMove n (s + 0)) (nat_lt p.j n) _ _ (λ b. omega arith) (λ b. omega arith)
   sized_move d m p L16 doable h =
-      either (SizedMove n (s + 0)) (all_true (map (agree p) (places_to n))) _ _ (λ b. (h.0, h.1, omega arith))
-      (λ b. (h.0, h.1, omega arith))
+      either (SizedMove n (s + 0)) (all_true (map (agree p) (places_to n))) _ _ (λ b. omega arith) (λ b. omega arith)
   sized_move d m p L18 doable h =
       whether (SizedMove n (s + 0)) (first_to d m p) (first_true 1 (map (at_limit p) (places_to n)))
-      (λ e. (h.0, h.1, omega arith)) (λ k e. (h.0, h.1, omega arith))
+      (λ e. omega arith) (λ k e. omega arith)
   sized_move Scanning m p L22 doable h = tt
-  sized_move (Embedded w x) m p L22 doable h = (h.0, h.1, omega arith)
-  sized_move (Updating w x) m p L22 doable h = absurd doable
+  sized_move (Updating w x) m p L22 doable h = tt
   sized_move Scanning m p L24 doable h = tt
-  sized_move (Embedded w x) m p L24 doable h = (h.0, h.1, omega arith)
-  sized_move (Updating w x) m p L24 doable h = absurd doable
-  sized_move Scanning m p L30 doable h = absurd doable
-  sized_move (Embedded w x) m p L30 doable h = absurd doable
-  sized_move (Updating w x) m p L30 doable h = (h.0, h.1, omega arith)
-  sized_move d m p L33 doable h = tt
-  sized_move d m p k doable h = (h.0, h.1, omega arith)
+  sized_move (Updating w x) m p L24 doable h = tt
+  sized_move d m p k doable h = omega arith

@@ -99,22 +99,27 @@ module _ (n w me : ℕ) where
       omega (arith, budget_zero (round n w) 3)
   count_move d m p L16 own c c' recent recent' pos e f keeps sharp bits h =
       either (CountMove n w (suc own) c' recent') (nat_lt p.j n) _ _
-      (λ t. omega (arith, same_budget (round n w) 3 c c' e)) (λ t. omega (arith, same_budget (round n w) 3 c c' e, not_lt p.j n t))
+      (λ t. omega (arith, same_budget (round n w) 3 c c' e))
+      (λ t. omega (arith, same_budget (round n w) 3 c c' e, not_lt p.j n t))
   count_move d m p L18 own c c' recent recent' pos e f keeps sharp bits h =
       either (CountMove n w (suc own) c' recent') (nat_lt p.k w) _ _
-      (λ t. omega (arith, same_budget (round n w) 3 c c' e)) (λ t. omega (arith, same_budget (round n w) 3 c c' e, not_lt p.k w t))
+      (λ t. omega (arith, same_budget (round n w) 3 c c' e))
+      (λ t. omega (arith, same_budget (round n w) 3 c c' e, not_lt p.k w t))
   count_move d m p L20 own c c' recent recent' pos e f keeps sharp bits h =
       either (CountMove n w (suc own) c' recent') (nat_lt p.k w) _ _
-      (λ t. omega (arith, same_budget (round n w) 3 c c' e)) (λ t. omega (arith, same_budget (round n w) 3 c c' e, not_lt p.k w t))
+      (λ t. omega (arith, same_budget (round n w) 3 c c' e))
+      (λ t. omega (arith, same_budget (round n w) 3 c c' e, not_lt p.k w t))
   count_move d m p L23 own c c' recent recent' pos e f keeps sharp bits h =
       either (CountMove n w (suc own) c' recent') (nat_lt p.j n) _ _
-      (λ t. omega (arith, same_budget (round n w) 3 c c' e)) (λ t. omega (arith, same_budget (round n w) 3 c c' e, not_lt p.j n t))
+      (λ t. omega (arith, same_budget (round n w) 3 c c' e))
+      (λ t. omega (arith, same_budget (round n w) 3 c c' e, not_lt p.j n t))
   count_move d m p L26 own c c' recent recent' pos e f keeps sharp bits h =
       either (CountMove n w (suc own) c' recent') (same_at p.a p.b p.k) _ _
       (λ t. omega (arith, same_budget (round n w) 3 c c' e)) (λ t. omega (arith, same_budget (round n w) 3 c c' e))
   count_move d m p L29 own c c' recent recent' pos e f keeps sharp bits h =
       either (CountMove n w (suc own) c' recent') (nat_lt p.k w) _ _
-      (λ t. omega (arith, same_budget (round n w) 3 c c' e)) (λ t. omega (arith, same_budget (round n w) 3 c c' e, not_lt p.k w t))
+      (λ t. omega (arith, same_budget (round n w) 3 c c' e))
+      (λ t. omega (arith, same_budget (round n w) 3 c c' e, not_lt p.k w t))
   count_move d m p L30 own c c' recent recent' pos e f keeps sharp bits h =
       let b : budget n w c' ≡ budget n w c + (7 * n + 8 * w + 6) = next_budget (round n w) 3 c c' e in
       let less : moves n p + 2 ≤ 2 * n = sharp refl in

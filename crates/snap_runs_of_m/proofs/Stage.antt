@@ -18,7 +18,7 @@ use Rattle.snap_runs_of_m.proofs.Algorithm.{at_limit, restarts, IsLineOf}
 use Rattle.snap_runs_of_m.proofs.Basics.{other_from, set_here, set_there}
 use Rattle.snap_runs_of_m.proofs.Control.{Keeps, Long}
 use Rattle.snap_runs_of_m.proofs.History.{words_of, Since, Laws}
-use Rattle.snap_runs_of_m.proofs.Collect.{events, ReadBit, Collected, collected_starts, collected_as, collected_kept}
+use Rattle.snap_runs_of_m.proofs.Collect.{events, ReadBit, Collected, collected_starts, collected_as, collected_kept, read_until}
 use Rattle.snap_runs_of_m.proofs.Collect.{ended_kept, asked_row, asked_more, first_more, second_more, late_more}
 use Rattle.snap_runs_of_m.proofs.Collect.{seen_by_words, seen_by_bits, passed, borrowed_put, borrowed}
 
@@ -288,10 +288,10 @@ module _ (n w me : ℕ) (history : ℕ → Registers) (t since round : ℕ) wher
       events_le n w me since round history ((e.laws round e.round_le).since since e.opened) e.one c i in omega arith)
   stage_move m d p L11 e h = h
   stage_move m d p L12 e h =
-      let first : p.j ≡ 1 = e.keeps.0 in (
+      (
         h,
-        collected_as n w me history round t p.g p.a p.b p.h 1 p.j 1 1 1 1 1 1 (λ c o lt. omega arith) (λ c o lt. lt)
-            (λ c o lt. lt) (λ c o lt. lt) (collected_starts n w me history round t p.g p.a p.b p.h e.round_le),
+        collected_as n w me history round t p.g p.a p.b p.h (omega (arith, e.keeps))
+            (collected_starts n w me history round t p.g p.a p.b p.h e.round_le),
       )
   stage_move m d p L13 e h = (h.0, h.1, reads_now history round t me p.j m e.now e.round_le)
   stage_move m d p L14 e h =
@@ -305,11 +305,9 @@ module _ (n w me : ℕ) (history : ℕ → Registers) (t since round : ℕ) wher
       )
   stage_move m d p L16 e h =
       either (StageMove n w me history t since round) (nat_lt p.j n) _ _ (λ b. h)
-      (λ b. let ge : n ≤ p.j = not_lt p.j n b in
-      let k : p.k ≡ 1 = e.keeps.1 in (
+      (λ b. (
         h.0,
-        collected_as n w me history round t p.g p.a p.b p.h (p.j + 1) (n + 1) 1 p.k 1 1 1 1 (λ c o lt. omega arith)
-            (λ c o lt. omega arith) (λ c o lt. lt) (λ c o lt. lt) h.1,
+        collected_as n w me history round t p.g p.a p.b p.h (omega (arith, not_lt p.j n b, e.keeps)) h.1,
       ))
   stage_move m d p L17 e h =
       let long : Long n w p = e.long in
@@ -317,26 +315,20 @@ module _ (n w me : ℕ) (history : ℕ → Registers) (t since round : ℕ) wher
       (h.0, first_more n w me history round t m p.g p.a p.b p.h (n + 1) p.k e.keeps.1 (omega arith) e.now h.1)
   stage_move m d p L18 e h =
       either (StageMove n w me history t since round) (nat_lt p.k w) _ _ (λ b. h)
-      (λ b. let ge : w ≤ p.k = not_lt p.k w b in (
-        h.0,
-        collected_as n w me history round t p.g p.a p.b p.h (n + 1) (n + 1) (p.k + 1) (w + 1) 1 1 1 1 (λ c o lt. lt)
-            (λ c o lt. omega arith) (λ c o lt. lt) (λ c o lt. lt) h.1,
-      ))
+      (λ b. (h.0, collected_as n w me history round t p.g p.a p.b p.h (omega (arith, not_lt p.k w b)) h.1))
   stage_move m d p L19 e h =
       let long : Long n w p = e.long in
       let len : length p.b ≡ max n w = long.b in
       (h.0, second_more n w me history round t m p.g p.a p.b p.h (n + 1) (w + 1) p.k e.keeps.1 (omega arith) e.now h.1)
   stage_move m d p L20 e h =
-      let j : p.j ≡ 1 = e.keeps.0 in
       either (StageMove n w me history t since round) (nat_lt p.k w) _ _ (λ b. h)
-      (λ b. let ge : w ≤ p.k = not_lt p.k w b in (
+      (λ b. (
         h.0,
-        collected_as n w me history round t p.g p.a p.b p.h (n + 1) (n + 1) (w + 1) (w + 1) (p.k + 1) (w + 1) 1 p.j
-            (λ c o lt. lt) (λ c o lt. lt) (λ c o lt. omega arith) (λ c o lt. omega arith) h.1,
+        collected_as n w me history round t p.g p.a p.b p.h (omega (arith, not_lt p.k w b, e.keeps)) h.1,
       ))
   stage_move m d p L21 e h =
       let x : Gathered n w me history round t p (n + 1) (w + 1) (w + 1) p.j = h.1 in
-      (h.0, x, reads_now history x.ended t me p.j m e.now x.now)
+      (h.0, x, reads_now history x.ended t me p.j m e.now x.order.3)
   stage_move m d p L22 e h =
       let long : Long n w p = e.long in
       let len : length p.h ≡ max n w = long.h in (
@@ -345,11 +337,7 @@ module _ (n w me : ℕ) (history : ℕ → Registers) (t since round : ℕ) wher
       )
   stage_move m d p L23 e h =
       either (StageMove n w me history t since round) (nat_lt p.j n) _ _ (λ b. h)
-      (λ b. let ge : n ≤ p.j = not_lt p.j n b in (
-        h.0,
-        collected_as n w me history round t p.g p.a p.b p.h (n + 1) (n + 1) (w + 1) (w + 1) (w + 1) (w + 1) (p.j + 1)
-            (n + 1) (λ c o lt. lt) (λ c o lt. lt) (λ c o lt. lt) (λ c o lt. omega arith) h.1,
-      ))
+      (λ b. (h.0, collected_as n w me history round t p.g p.a p.b p.h (omega (arith, not_lt p.j n b)) h.1))
   stage_move m d p L24 e h = (h.0, h.1, λ c i. for_each_at n (λ c. 0) p.d c i)
   stage_move m d p L25 e h = (
     h.0,
@@ -398,10 +386,10 @@ module _ (n w me : ℕ) (history : ℕ → Registers) (t since round : ℕ) wher
       stage_first n w me history t since round d m p (third_move n p) h
       (λ k f. same_from (place p.moved k) limit (first_found 1 n (at_limit p) k f).2)
   stage_move m d p L33 e h =
-      let first : p.j ≡ 1 = e.keeps.0 in (
+      (
         h,
-        collected_as n w me history t t p.g p.a p.b p.h 1 p.j 1 1 1 1 1 1 (λ c o lt. omega arith) (λ c o lt. lt)
-            (λ c o lt. lt) (λ c o lt. lt) (collected_starts n w me history t t p.g p.a p.b p.h (omega arith)),
+        collected_as n w me history t t p.g p.a p.b p.h (omega (arith, e.keeps))
+            (collected_starts n w me history t t p.g p.a p.b p.h (omega arith)),
       )
   stage_move m d p L34 e h = h
   stage_move m Scanning p L35 e h = h
@@ -453,11 +441,6 @@ module _ (n w me : ℕ) (history : ℕ → Registers) (t since round : ℕ) wher
   )
 
 -- Time passes and other processes act.
-sight_kept : (history : ℕ → Registers) (from t me c value : ℕ) → ReadBit history from t me c value →
-    ReadBit history from (suc t) me c value
-sight_kept history from t me c value h =
-    record { at = h.at; after = h.after; until = (let u : h.at ≤ t = h.until in omega arith); is = h.is }
-
 module _ (n w me : ℕ) (history : ℕ → Registers) where
   row_kept : (round t : ℕ) (g h d : List ℕ) (a b : Words) (k : ℕ) → IsOneOf n me → Since n w history t (suc t) →
       Row n w me history round t g h d a b k → Row n w me history round (suc t) g h d a b k
@@ -483,100 +466,32 @@ pub record Apart (n me : ℕ) (m m' : Registers) : Type 0 where
   pub asks : (c : ℕ) → IsOneOf n c → bit m'.q me c ≡ bit m.q me c
   pub writes : m'.writes me ≡ m.writes me
 
+ruleset still = (collected_kept, read_until, row_kept, high_kept, held_wider)
+
 module _ (n w me : ℕ) (history : ℕ → Registers) (t since round : ℕ) (p : Variables) where
   pub stage_kept : (k : ProgramCounter) → IsOneOf n me → Since n w history t (suc t) →
       Apart n me (history t) (history (suc t)) → Stage n w me history t since round p k →
       Stage n w me history (suc t) since round p k
-  stage_kept L11 i s o h = h
-  stage_kept L12 i s o h = h
-  stage_kept L13 i s o h = (h.0, collected_kept n w me history round t p.g p.a p.b p.h p.j 1 1 1 o.asks h.1)
-  stage_kept L14 i s o h = (
-    h.0,
-    collected_kept n w me history round t p.g p.a p.b p.h p.j 1 1 1 o.asks h.1,
-    sight_kept history round t me p.j p.x h.2,
-  )
-  stage_kept L15 i s o h = (
-    h.0,
-    collected_kept n w me history round t p.g p.a p.b p.h p.j 1 1 1 o.asks h.1,
-    sight_kept history round t me p.j p.x h.2,
-    h.3,
-  )
-  stage_kept L16 i s o h = (h.0, collected_kept n w me history round t p.g p.a p.b p.h (p.j + 1) 1 1 1 o.asks h.1)
-  stage_kept L17 i s o h = (h.0, collected_kept n w me history round t p.g p.a p.b p.h (n + 1) p.k 1 1 o.asks h.1)
-  stage_kept L18 i s o h = (h.0, collected_kept n w me history round t p.g p.a p.b p.h (n + 1) (p.k + 1) 1 1 o.asks h.1)
-  stage_kept L19 i s o h = (h.0, collected_kept n w me history round t p.g p.a p.b p.h (n + 1) (w + 1) p.k 1 o.asks h.1)
-  stage_kept L20 i s o h =
-      (h.0, collected_kept n w me history round t p.g p.a p.b p.h (n + 1) (w + 1) (p.k + 1) 1 o.asks h.1)
-  stage_kept L21 i s o h =
-      (h.0, collected_kept n w me history round t p.g p.a p.b p.h (n + 1) (w + 1) (w + 1) p.j o.asks h.1)
   stage_kept L22 i s o h = (
     h.0,
     collected_kept n w me history round t p.g p.a p.b p.h (n + 1) (w + 1) (w + 1) p.j o.asks h.1,
     subst (λ y. ReadBit history y (suc t) me p.j p.x)
         (sym (ended_kept n w me history round t p.g p.a p.b p.h (n + 1) (w + 1) (w + 1) p.j o.asks h.1))
-        (sight_kept history h.1.ended t me p.j p.x h.2),
+        (read_until history h.1.ended t (suc t) me p.j p.x (omega arith) h.2),
   )
-  stage_kept L23 i s o h =
-      (h.0, collected_kept n w me history round t p.g p.a p.b p.h (n + 1) (w + 1) (w + 1) (p.j + 1) o.asks h.1)
-  stage_kept L24 i s o h =
-      (h.0, collected_kept n w me history round t p.g p.a p.b p.h (n + 1) (w + 1) (w + 1) (n + 1) o.asks h.1)
-  stage_kept L25 i s o h =
-      (h.0, collected_kept n w me history round t p.g p.a p.b p.h (n + 1) (w + 1) (w + 1) (n + 1) o.asks h.1, h.2)
-  stage_kept L26 i s o h = (
-    h.0,
-    collected_kept n w me history round t p.g p.a p.b p.h (n + 1) (w + 1) (w + 1) (n + 1) o.asks h.1,
-    row_kept n w me history round t p.g p.h p.d p.a p.b p.k i s h.2,
-  )
-  stage_kept L27 i s o h = (
-    h.0,
-    collected_kept n w me history round t p.g p.a p.b p.h (n + 1) (w + 1) (w + 1) (n + 1) o.asks h.1,
-    row_kept n w me history round t p.g p.h p.d p.a p.b p.k i s h.2,
-    h.3,
-  )
-  stage_kept L28 i s o h = (
-    h.0,
-    collected_kept n w me history round t p.g p.a p.b p.h (n + 1) (w + 1) (w + 1) (n + 1) o.asks h.1,
-    row_kept n w me history round t p.g p.h p.d p.a p.b p.k i s h.2,
-    h.3,
-    h.4,
-  )
-  stage_kept L29 i s o h = (
-    h.0,
-    collected_kept n w me history round t p.g p.a p.b p.h (n + 1) (w + 1) (w + 1) (n + 1) o.asks h.1,
-    row_kept n w me history round t p.g p.h p.d p.a p.b (p.k + 1) i s h.2,
-  )
-  stage_kept L30 i s o h = (
-    h.0,
-    collected_kept n w me history round t p.g p.a p.b p.h (n + 1) (w + 1) (w + 1) (n + 1) o.asks h.1,
-    row_kept n w me history round t p.g p.h p.d p.a p.b (w + 1) i s h.2,
-  )
-  stage_kept L31 i s o h = (
-    h.0,
-    collected_kept n w me history round t p.g p.a p.b p.h (n + 1) (w + 1) (w + 1) (n + 1) o.asks h.1,
-    row_kept n w me history round t p.g p.h p.d p.a p.b (w + 1) i s h.2,
-  )
-  stage_kept L32 i s o h = high_kept n w me history since t p.moved i s h
-  stage_kept L33 i s o h = high_kept n w me history since t p.moved i s h
-  stage_kept L34 i s o h =
-      held_wider (words_of history) t (suc t) since since
-      (map (λ (r : Word). r.datum) (take w (map plain p.b))) (omega arith) (omega arith) h
-  stage_kept L35 i s o h = held_wider (words_of history) t (suc t) since since p.s (omega arith) (omega arith) h
-  stage_kept L36 i s o h = (high_kept n w me history since t p.moved i s h.0, h.1)
   stage_kept L37 i s o h =
-      let shown : Shown n me history t since p.s = h.1 in
-      let before : shown.time ≤ t = shown.before in (
+      let shown : Shown n me history t since p.s = h.1 in (
         held_wider (words_of history) t (suc t) since since p.s (omega arith) (omega arith) h.0,
         record {
           lender = shown.lender;
           inside = shown.inside;
           time = shown.time;
           after = shown.after;
-          before = omega arith;
+          before = omega (arith, shown.before);
           put = shown.put;
           is = shown.is;
         },
       )
   stage_kept L52 i s o h =
-      record { at = h.at; until = (let u : h.at ≤ t = h.until in omega arith); is = h.is; same = h.same ∙ sym o.writes }
-  stage_kept L55 i s o h = held_wider (words_of history) t (suc t) since since p.s (omega arith) (omega arith) h
-  stage_kept k i s o h = tt
+      record { at = h.at; until = omega (arith, h.until); is = h.is; same = h.same ∙ sym o.writes }
+  stage_kept k i s o h = search (still, arith)

@@ -312,59 +312,21 @@ line_place n i p L13 h = h.0
 line_place n i p L14 h = h.0
 line_place n i p k h = tt
 
+ruleset still = (low_kept, drawn_kept, put_kept, first_kept, between_kept, gained_kept, held_wider)
+
 module _ (n i : ℕ) (history : ℕ → Words) (t t' since round : ℕ) (words words' : Words) (p : Variables) where
   pub stage_kept : (k : ProgramCounter) → t ≤ t' → Grows n words words' → IsLinePlace n p k →
       Stage n i history t since round words p k → Stage n i history t' since round words' p k
-  stage_kept L10 le g one h = h
-  stage_kept L11 le g one h = h
-  stage_kept L12 le g one h = (h.0, put_kept n (history round) words words' p.g p.marks i p.j g h.1)
   stage_kept L13 le g one h = (
     h.0,
     put_kept n (history round) words words' p.g p.marks i p.j g h.1,
     (h.2.0, follows_trans (word_at p.a p.j) (word_at words p.j) (word_at words' p.j) h.2.1 (g p.j one)),
   )
-  stage_kept L14 le g one h = (
-    h.0,
-    put_kept n (history round) words words' p.g p.marks i p.j g h.1,
-    drawn_kept n (history round) words words' p.g i p.j one g h.2,
-  )
-  stage_kept L15 le g one h = (h.0, put_kept n (history round) words words' p.g p.marks i (p.j + 1) g h.1)
-  stage_kept L16 le g one h = (
-    h.0,
-    put_kept n (history round) words words' p.g p.marks i (n + 1) g h.1,
-    first_kept n (history round) words words' p.marks p.a p.j g h.2,
-  )
-  stage_kept L17 le g one h = (
-    h.0,
-    put_kept n (history round) words words' p.g p.marks i (n + 1) g h.1,
-    first_kept n (history round) words words' p.marks p.a (p.j + 1) g h.2,
-  )
-  stage_kept L18 le g one h = (
-    h.0,
-    put_kept n (history round) words words' p.g p.marks i (n + 1) g h.1,
-    between_kept n i history t t' since round words words' p.g p.marks p.a p.b p.j le g h.2,
-  )
-  stage_kept L19 le g one h = (
-    h.0,
-    put_kept n (history round) words words' p.g p.marks i (n + 1) g h.1,
-    between_kept n i history t t' since round words words' p.g p.marks p.a p.b (p.j + 1) le g h.2,
-  )
-  stage_kept L20 le g one h =
-      (h.0, between_kept n i history t t' since round words words' p.g p.marks p.a p.b (n + 1) le g h.1)
-  stage_kept L21 le g one h =
-      (h.0, between_kept n i history t t' since round words words' p.g p.marks p.a p.b (n + 1) le g h.1)
-  stage_kept L22 le g one h = gained_kept n history t t' since words words' p.moved p.b le g h
-  stage_kept L23 le g one h = low_kept n (history since) words words' p.moved g h
-  stage_kept L25 le g one h = held_wider history t t' since since (data_of (take n p.b)) le (omega arith) h
-  stage_kept L26 le g one h = held_wider history t t' since since p.s le (omega arith) h
-  stage_kept L27 le g one h = (gained_kept n history t t' since words words' p.moved p.b le g h.0, h.1)
   stage_kept L28 le g one h = (
     held_wider history t t' since since p.s le (omega arith) h.0,
     (h.1.0, h.1.1, beside_wider history t t' since h.1.0 p.s le h.1.2),
   )
-  stage_kept L45 le g one h = held_wider history t t' since since p.s le (omega arith) h
-  stage_kept L46 le g one h = held_wider history t t' since since p.s le (omega arith) h
-  stage_kept k le g one h = tt
+  stage_kept k le g one h = search (still, arith)
 
 -- The lengths of the copies and the rows, the bits for the readers, and the toggle: it is the word's, but for line 46.
 abbrev pub IsToggle : ℕ → ℕ → ℕ → Type 0
@@ -416,39 +378,31 @@ flipped_differs (suc (suc t)) h e = absurd (omega arith)
 module _ (n i toggle : ℕ) where
   pub fit_move : (d : Mode) (m : Registers) (p : Variables) (k : ProgramCounter) → IsLineOf i d k →
       VariablesAt n i p k → writes k ≡ 0 → Fit n toggle p k → FitMove n toggle (move n i d m p k)
-  fit_move d m p L12 s keeps quiet h =
-      ((length-set p.a (p.j - 1) (word_at m.words p.j) ∙ h.0.0, h.0.1, h.0.2, h.0.3, h.0.4), h.1, h.2)
+  fit_move (Updating word value) m p L44 s keeps quiet h = h
+  fit_move d m p L12 s keeps quiet h = assumption (length-set p.a (p.j - 1) (word_at m.words p.j) ∙ h.0.0)
   fit_move d m p L13 s keeps quiet h =
-      ((h.0.0, h.0.1, length-set p.g (p.j - 1) (handshake_at (word_at p.a p.j) i) ∙ h.0.2, h.0.3, h.0.4), h.1, h.2)
-  fit_move d m p L14 s keeps quiet h =
-      ((h.0.0, h.0.1, h.0.2, h.0.3, length-set p.marks (p.j - 1) (seq_at m.words p.j) ∙ h.0.4), h.1, h.2)
+      assumption (length-set p.g (p.j - 1) (handshake_at (word_at p.a p.j) i) ∙ h.0.2)
+  fit_move d m p L14 s keeps quiet h = assumption (length-set p.marks (p.j - 1) (seq_at m.words p.j) ∙ h.0.4)
   fit_move d m p L15 s keeps quiet h = either (FitMove n toggle) (nat_lt p.j n) _ _ (λ b. h) (λ b. h)
-  fit_move d m p L16 s keeps quiet h =
-      ((length-set p.a (p.j - 1) (word_at m.words p.j) ∙ h.0.0, h.0.1, h.0.2, h.0.3, h.0.4), h.1, h.2)
+  fit_move d m p L16 s keeps quiet h = assumption (length-set p.a (p.j - 1) (word_at m.words p.j) ∙ h.0.0)
   fit_move d m p L17 s keeps quiet h = either (FitMove n toggle) (nat_lt p.j n) _ _ (λ b. h) (λ b. h)
-  fit_move d m p L18 s keeps quiet h =
-      ((h.0.0, length-set p.b (p.j - 1) (word_at m.words p.j) ∙ h.0.1, h.0.2, h.0.3, h.0.4), h.1, h.2)
+  fit_move d m p L18 s keeps quiet h = assumption (length-set p.b (p.j - 1) (word_at m.words p.j) ∙ h.0.1)
   fit_move d m p L19 s keeps quiet h = either (FitMove n toggle) (nat_lt p.j n) _ _ (λ b. h) (λ b. h)
   fit_move d m p L20 s keeps quiet h =
       either (FitMove n toggle) (all_true (map (agree i p) (places_to n))) _ _ (λ b. h) (λ b. h)
   fit_move d m p L22 s keeps quiet h =
       whether (FitMove n toggle) (first_to d m p) (first_true 1 (map (at_limit p) (places_to n))) (λ e. h) (λ k e. h)
   fit_move Scanning m p L26 s keeps quiet h = tt
-  fit_move (Embedded word value) m p L26 s keeps quiet h = h
-  fit_move (Updating word value) m p L26 s keeps quiet h = absurd s
+  fit_move (Updating word value) m p L26 s keeps quiet h = tt
   fit_move Scanning m p L28 s keeps quiet h = tt
-  fit_move (Embedded word value) m p L28 s keeps quiet h = h
-  fit_move (Updating word value) m p L28 s keeps quiet h = absurd s
+  fit_move (Updating word value) m p L28 s keeps quiet h = tt
   fit_move d m p L42 s keeps quiet h =
-      let len : length p.f ≡ max n n = h.0.3 in (
-        (h.0.0, h.0.1, h.0.2, length-set p.f (p.j - 1) (answer p.x) ∙ h.0.3, h.0.4),
-        (h.1.0, bits_set n p.f p.j (answer p.x) keeps (omega arith) (answer_bit p.x) h.1.1),
-        h.2,
+      assumption (
+        length-set p.f (p.j - 1) (answer p.x) ∙ h.0.3,
+        bits_set n p.f p.j (answer p.x) keeps (omega (arith, h.0.3)) (answer_bit p.x) h.1.1,
       )
   fit_move d m p L43 s keeps quiet h = either (FitMove n toggle) (nat_lt p.j n) _ _ (λ b. h) (λ b. h)
-  fit_move Scanning m p L44 s keeps quiet h = absurd s
-  fit_move (Embedded word value) m p L44 s keeps quiet h = absurd s
-  fit_move (Updating word value) m p L44 s keeps quiet h = h
+  fit_move d m p L44 s keeps quiet h = absurd s
   fit_move d m p L45 s keeps quiet h =
       (h.0, (flipped_bit p.t h.1.0, h.1.1), λ e. flipped_differs p.t h.1.0 (e ∙ sym h.2))
   fit_move d m p L46 s keeps quiet h = absurd (omega arith)

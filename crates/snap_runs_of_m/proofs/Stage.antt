@@ -466,7 +466,14 @@ pub record Apart (n me : ℕ) (m m' : Registers) : Type 0 where
   pub asks : (c : ℕ) → IsOneOf n c → bit m'.q me c ≡ bit m.q me c
   pub writes : m'.writes me ≡ m.writes me
 
-ruleset still = (collected_kept, read_until, row_kept, high_kept, held_wider)
+sight_kept : (history : ℕ → Registers) (from t me c value : ℕ) → ReadBit history from t me c value →
+    ReadBit history from (suc t) me c value
+sight_kept history from t me c value h = read_until history from t (suc t) me c value (omega arith) h
+
+held_on : (history : ℕ → Words) (t since : ℕ) (v : List ℕ) → Held history t since v → Held history (suc t) since v
+held_on history t since v h = held_wider history t (suc t) since since v (omega arith) (omega arith) h
+
+ruleset still = (collected_kept, sight_kept, row_kept, high_kept, held_on)
 
 module _ (n w me : ℕ) (history : ℕ → Registers) (t since round : ℕ) (p : Variables) where
   pub stage_kept : (k : ProgramCounter) → IsOneOf n me → Since n w history t (suc t) →
@@ -477,11 +484,11 @@ module _ (n w me : ℕ) (history : ℕ → Registers) (t since round : ℕ) (p :
     collected_kept n w me history round t p.g p.a p.b p.h (n + 1) (w + 1) (w + 1) p.j o.asks h.1,
     subst (λ y. ReadBit history y (suc t) me p.j p.x)
         (sym (ended_kept n w me history round t p.g p.a p.b p.h (n + 1) (w + 1) (w + 1) p.j o.asks h.1))
-        (read_until history h.1.ended t (suc t) me p.j p.x (omega arith) h.2),
+        (sight_kept history h.1.ended t me p.j p.x h.2),
   )
   stage_kept L37 i s o h =
       let shown : Shown n me history t since p.s = h.1 in (
-        held_wider (words_of history) t (suc t) since since p.s (omega arith) (omega arith) h.0,
+        held_on (words_of history) t since p.s h.0,
         record {
           lender = shown.lender;
           inside = shown.inside;
@@ -494,4 +501,4 @@ module _ (n w me : ℕ) (history : ℕ → Registers) (t since round : ℕ) (p :
       )
   stage_kept L52 i s o h =
       record { at = h.at; until = omega (arith, h.until); is = h.is; same = h.same ∙ sym o.writes }
-  stage_kept k i s o h = search (still, arith)
+  stage_kept k i s o h = search still

@@ -312,7 +312,11 @@ line_place n i p L13 h = h.0
 line_place n i p L14 h = h.0
 line_place n i p k h = tt
 
-ruleset still = (low_kept, drawn_kept, put_kept, first_kept, between_kept, gained_kept, held_wider)
+held_on : (history : ℕ → Words) (t t' since : ℕ) (v : List ℕ) → t ≤ t' → Held history t since v →
+    Held history t' since v
+held_on history t t' since v le h = held_wider history t t' since since v le (omega arith) h
+
+ruleset still = (low_kept, drawn_kept, put_kept, first_kept, between_kept, gained_kept, held_on)
 
 module _ (n i : ℕ) (history : ℕ → Words) (t t' since round : ℕ) (words words' : Words) (p : Variables) where
   pub stage_kept : (k : ProgramCounter) → t ≤ t' → Grows n words words' → IsLinePlace n p k →
@@ -323,10 +327,10 @@ module _ (n i : ℕ) (history : ℕ → Words) (t t' since round : ℕ) (words w
     (h.2.0, follows_trans (word_at p.a p.j) (word_at words p.j) (word_at words' p.j) h.2.1 (g p.j one)),
   )
   stage_kept L28 le g one h = (
-    held_wider history t t' since since p.s le (omega arith) h.0,
+    held_on history t t' since p.s le h.0,
     (h.1.0, h.1.1, beside_wider history t t' since h.1.0 p.s le h.1.2),
   )
-  stage_kept k le g one h = search (still, arith)
+  stage_kept k le g one h = search still
 
 -- The lengths of the copies and the rows, the bits for the readers, and the toggle: it is the word's, but for line 46.
 abbrev pub IsToggle : ℕ → ℕ → ℕ → Type 0

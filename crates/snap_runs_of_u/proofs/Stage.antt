@@ -202,16 +202,20 @@ module _ (n : ℕ) (history : ℕ → Words) (t t' since : ℕ) where
     views = λ k i more. lent_wider history t t' since k (word_at b k).view le (h.views k i more);
   }
 
-ruleset still = (low_kept, first_kept, between_kept, gained_kept, held_wider)
+held_on : (history : ℕ → Words) (t t' since : ℕ) (v : List ℕ) → t ≤ t' → Held history t since v →
+    Held history t' since v
+held_on history t t' since v le h = held_wider history t t' since since v le (omega arith) h
+
+ruleset still = (low_kept, first_kept, between_kept, gained_kept, held_on)
 
 module _ (n : ℕ) (history : ℕ → Words) (t t' since round : ℕ) (words words' : Words) (p : Variables) where
   pub stage_kept : (k : ProgramCounter) → t ≤ t' → Grows n words words' → Stage n history t since round words p k →
       Stage n history t' since round words' p k
   stage_kept L24 le g h = (
-    held_wider history t t' since since p.s le (omega arith) h.0,
+    held_on history t t' since p.s le h.0,
     (h.1.0, h.1.1, beside_wider history t t' since h.1.0 p.s le h.1.2),
   )
-  stage_kept k le g h = search (still, arith)
+  stage_kept k le g h = search still
 
 -- The copies have all places, and c is the number of writes so far, one ahead at line 32.
 abbrev pub Sized : ℕ → ℕ → Variables → ProgramCounter → Type 0

@@ -51,8 +51,10 @@ Reaches n = collecting.Reaches (algorithm n) (copies n)
 -- what each line does to the copies; a line that calls or returns does what the mode says
 reaches : (n me : ℕ) (d : Mode) (m : Words) (p : Variables) (k : ProgramCounter) → IsLineOf me d k →
     VariablesAt n p k → n ≤ length p.a → n ≤ length p.b → Reaches n m p k (move n me d m p k)
-reaches n me (Updating word value) m p L30 s h a b = refl
 reaches n me d m p L11 s h a b = inl refl
+reaches n me Scanning m p L22 s h a b = tt
+reaches n me Scanning m p L24 s h a b = tt
+reaches n me (Updating word value) m p L30 s h a b = refl
 reaches n me d m p L12 s h a b = (refl, refl, h.0, a, refl)
 reaches n me d m p L13 s h a b =
     either (Reaches n m p L13) (nat_lt p.j n) _ _ (λ e. inr (refl, refl, refl))

@@ -44,9 +44,9 @@ MoveWell op n me v = LeadsTo (λ d p k. IsLineOf me d k × VariablesAt n p k × 
 
 pub move_well : (n me : ℕ) (d : Mode) (m : Words) (p : Variables) (k : ProgramCounter) → IsOneOf n me →
     IsLineOf me d k → VariablesAt n p k → MoveWell (op_of d) n me (move n me d m p k)
+move_well n me d m p L10 i s h = (s, λ k e. rw (for_each_at n (λ k. 0) p.moved k e) (omega arith), refl)
 move_well n me (Updating word value) m p L30 i s h = (s, tt, refl)
 move_well n me d m p L30 i s h = absurd s
-move_well n me d m p L10 i s h = (s, λ k e. rw (for_each_at n (λ k. 0) p.moved k e) (omega arith), refl)
 move_well n me d m p L13 i s h =
     either (MoveWell (op_of d) n me) (nat_lt p.j n) _ _ (λ b. (s, omega (arith, lt_from p.j n b), refl))
     (λ b. (s, omega arith, refl))

@@ -79,10 +79,11 @@ pub count_move : (n me : ℕ) (d : Mode) (words : Words) (p : Variables) (k : Pr
     (own c c' recent recent' : ℕ) → c' ≡ c + tests k →
     recent' ≡ (if restarts k then 0 else recent + tests k) → VariablesAt n p k → ((k ≡ L16) → moves n p < n) →
     Count n p own c recent k → CountMove n (suc own) c' recent' (move n me d words p k)
-count_move n me (Updating w x) words p L30 own c c' recent recent' e f keeps sharp h = tt
 count_move n me d words p L11 own c c' recent recent' e f keeps sharp h =
-    let b : budget n c' ≡ budget n 0 = ap (budget n) (let f : c' ≡ 0 = omega arith in f) in
-    omega (arith, budget_zero (round n) 2)
+    omega (arith, ap (budget n) (let f : c' ≡ 0 = omega arith in f), budget_zero (round n) 2)
+count_move n me Scanning words p L22 own c c' recent recent' e f keeps sharp h = tt
+count_move n me Scanning words p L24 own c c' recent recent' e f keeps sharp h = tt
+count_move n me (Updating w x) words p L30 own c c' recent recent' e f keeps sharp h = tt
 count_move n me d words p L13 own c c' recent recent' e f keeps sharp h =
     either (CountMove n (suc own) c' recent') (nat_lt p.j n) _ _ (λ t. omega (arith, same_budget (round n) 2 c c' e))
     (λ t. omega (arith, same_budget (round n) 2 c c' e, not_lt p.j n t))

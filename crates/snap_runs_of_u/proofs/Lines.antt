@@ -102,25 +102,18 @@ each_line n me d m p L18 s h =
     bind_ok _ _ _ _
     (each_ok _ (at_limit p) 1 n (λ k low high. bind_ok _ _ _ _ (row_moved n me d p k (in_range n k low high)) refl))
     (first_shown n d m p (first_true 1 (map (at_limit p) (places_to n))))
-each_line n me Scanning m p L22 s h = refl
-each_line n me (Embedded word value) m p L22 s h = refl
 each_line n me (Updating word value) m p L22 s h = absurd s
 each_line n me d m p L23 s h = bind_ok _ _ _ _ (place_ok (max n n) p.j (h.0, omega arith)) refl
-each_line n me Scanning m p L24 s h = refl
-each_line n me (Embedded word value) m p L24 s h = refl
 each_line n me (Updating word value) m p L24 s h = absurd s
-each_line n me Scanning m p L30 s h = absurd s
-each_line n me (Embedded word value) m p L30 s h = absurd s
 each_line n me (Updating word value) m p L30 s h = refl
+each_line n me d m p L30 s h = absurd s
 each_line n me d m p L31 s h = bind_ok _ _ _ _ (sum_ok p.c 1 h) refl
-each_line n me Scanning m p L32 s h = absurd s
-each_line n me (Embedded word value) m p L32 s h = absurd s
 each_line n me (Updating word value) m p L32 s h =
     bind_ok _ _ _ _ (place_ok n me h)
     (owned_ok (nat_eq me me) (word_put (Updating word value) p) Owner
     (λ y. on (following listing_u.lines (number L32)) (Goes (real (slice_set m (me - 1) y)) (locals_of p) None))
     (same_number me))
-each_line n me Scanning m p L33 s h = absurd s
-each_line n me (Embedded word value) m p L33 s h = absurd s
+each_line n me d m p L32 s h = absurd s
 each_line n me (Updating word value) m p L33 s h = refl
+each_line n me d m p L33 s h = absurd s
 each_line n me d m p k s h = refl

@@ -43,12 +43,12 @@ module _ (n : ℕ) (history : ℕ → Words) where
         well = tt;
         length_a = length-replicate (max n n) (first_word n);
         length_b = length-replicate (max n n) (first_word n);
-        seq = (let e = z i h in omega arith);
+        seq = omega (arith, z i h);
         fresh = omega arith;
         since_le = omega arith;
         low = λ k j. at_most_now history (replicate n (first_word n)) 0 now k;
         opened = λ k j. at_most_now history (replicate n (first_word n)) 0 now k;
-        views = λ k j more. absurd (let e = z k j in omega arith);
+        views = λ k j more. absurd (omega (arith, z k j));
         stage = tt;
         self = λ inside. absurd inside;
         counts = tt;

@@ -87,7 +87,7 @@ module _ (n me : ℕ) (history : ℕ → Words) (t since round : ℕ) (words : W
       StageMove n history t since (if restarts k then t else round) (move n me d words p k)
   stage_move d p L10 known h =
       λ k i. rw (for_each_at n (λ k. 0) p.moved k i)
-      (let l : seq_at (history since) k ≤ seq_at words k = known.low k i in omega arith)
+      (omega (arith, known.low k i))
   stage_move d p L11 known h = (h, λ k i lt. absurd (omega arith))
   stage_move d p L12 known h =
       (
@@ -100,7 +100,7 @@ module _ (n me : ℕ) (history : ℕ → Words) (t since round : ℕ) (words : W
       (λ b. (
         h.0,
         second_starts n history t since round words p.moved p.a p.b known.now known.since_le
-            (λ k i lt. h.1 k i (let ge : n ≤ p.j = not_lt p.j n b in omega arith)),
+            (λ k i lt. h.1 k i (omega (arith, not_lt p.j n b))),
       ))
   stage_move d p L14 known h =
       let len : length p.b ≡ max n n = known.length_b in (
@@ -133,29 +133,25 @@ module _ (n me : ℕ) (history : ℕ → Words) (t since round : ℕ) (words : W
       }
   stage_move d p L18 known h =
       whether (StageMove n history t since round) (first_to d words p) (first_true 1 (map (at_limit p) (places_to n)))
-      (λ e k i. let low : floor (history since) p.moved k ≤ seq_at p.b k = h.low k i in
-      let le : seq_at p.b k ≤ seq_at words k = before_seq (word_at p.b k) (word_at words k) (h.before k i) in omega arith)
+      (λ e k i. omega (arith, h.low k i, before_seq (word_at p.b k) (word_at words k) (h.before k i)))
       (λ k e. (
         record { low = h.low; before = h.before; views = h.views },
         same_from (moved_at p k) limit (first_found 1 n (at_limit p) k e).2,
       ))
   stage_move d p L19 known h = let one : p.j ≡ 1 = known.keeps.0 in (h, λ k i lt. absurd (omega arith))
   stage_move d p L21 known h = h
-  stage_move Scanning p L22 known h = h
-  stage_move (Embedded w x) p L22 known h = h
   stage_move (Updating w x) p L22 known h = absurd known.line
+  stage_move d p L22 known h = h
   stage_move d p L23 known h =
       let g : Gained n history t since words p.moved p.b = h.0 in
       let l : floor (history since) p.moved p.j ≤ seq_at p.b p.j = g.low p.j known.keeps in
       let moves : moved_at p p.j ≡ limit = h.1 in
       let lent : Lent history t since p.j (word_at p.b p.j).view = g.views p.j known.keeps (omega arith) in
       (lent.0, (p.j, known.keeps, lent.1))
-  stage_move Scanning p L24 known h = h.0
-  stage_move (Embedded w x) p L24 known h = h.0
   stage_move (Updating w x) p L24 known h = absurd known.line
-  stage_move Scanning p L30 known h = absurd known.line
-  stage_move (Embedded w x) p L30 known h = absurd known.line
+  stage_move d p L24 known h = h.0
   stage_move (Updating w x) p L30 known h = refl
+  stage_move d p L30 known h = absurd known.line
   stage_move d p L31 known h = h
   stage_move d p L32 known h = tt
   stage_move d p L33 known h = tt
@@ -164,8 +160,7 @@ module _ (n me : ℕ) (history : ℕ → Words) (t since round : ℕ) (words : W
 pub low_kept : (n : ℕ) (base words words' : Words) (moved : List ℕ) → Grows n words words' →
     Low n base words moved → Low n base words' moved
 low_kept n base words words' moved g h k i =
-    let l : floor base moved k ≤ seq_at words k = h k i in
-    let le : seq_at words k ≤ seq_at words' k = before_seq (word_at words k) (word_at words' k) (g k i) in omega arith
+    omega (arith, h k i, before_seq (word_at words k) (word_at words' k) (g k i))
 
 pub first_kept : (n : ℕ) (base opening words words' : Words) (moved : List ℕ) (a : Words) (j : ℕ) →
     Grows n words words' → First n base opening words moved a j → First n base opening words' moved a j
@@ -230,8 +225,8 @@ SizedMove n s Finish = Unit {0}
 module _ (n me s : ℕ) where
   pub sized_move : (d : Mode) (m : Words) (p : Variables) (k : ProgramCounter) → IsLineOf me d k → Sized n s p k →
       SizedMove n (s + writes k) (move n me d m p k)
-  sized_move (Updating w x) m p L30 doable h = omega arith
   sized_move d m p L12 doable h = omega (arith, length-set p.a (p.j - 1) (word_at m p.j))
+  sized_move (Updating w x) m p L30 doable h = omega arith
   sized_move d m p L13 doable h =
       either (SizedMove n (s + 0)) (nat_lt p.j n) _ _ (λ b. omega arith) (λ b. omega arith)
   sized_move d m p L14 doable h = omega (arith, length-set p.b (p.j - 1) (word_at m p.j))

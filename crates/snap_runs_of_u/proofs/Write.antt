@@ -60,8 +60,7 @@ module _ (n t : ℕ) (history : ℕ → Words) (x : State) (i : ℕ) (d : Mode)
 
   not_older : (old : Words) (k : ℕ) → IsOneOf n k → seq_at old k ≤ seq_at x.memory k → seq_at old k ≤ seq_at after k
   not_older old k j le =
-      let more : seq_at x.memory k ≤ seq_at after k = before_seq (word_at x.memory k) (word_at after k) (grows k j) in
-      omega arith
+      omega (arith, before_seq (word_at x.memory k) (word_at after k) (grows k j))
 
   -- the view that is written was held since the writer's embedded scan started
   held : Held history t (at i).auxiliary.since (at i).variables.s
@@ -100,9 +99,9 @@ module _ (n t : ℕ) (history : ℕ → Words) (x : State) (i : ℕ) (d : Mode)
         well = (up, tt);
         length_a = own.length_a;
         length_b = own.length_b;
-        seq = (let e : seq_at after i ≡ (at i).variables.c = ap (λ (y : Word). y.seq) (new_word i refl) in omega arith);
-        fresh = (let le : (at i).variables.c ≤ t = own.fresh in omega arith);
-        since_le = (let le : (at i).auxiliary.since ≤ t = own.since_le in omega arith);
+        seq = omega (arith, ap (λ (y : Word). y.seq) (new_word i refl));
+        fresh = omega (arith, own.fresh);
+        since_le = omega (arith, own.since_le);
         low = λ k j. not_older (history (at i).auxiliary.since) k j (own.low k j);
         opened = λ k j. not_older (history (at i).auxiliary.round) k j (own.opened k j);
         views = viewed i one;

@@ -266,7 +266,7 @@ pub agreed : (a b : Word) (mark bit i : ℕ) → IsLaterWord a b → mark ≤ a.
     (mark + 2 ≤ b.seq → handshake_at b i ≡ bit → ⊥) → handshake_at b i ≡ bit → a.toggle ≡ b.toggle → b.seq ≤ a.seq
 agreed a b mark bit i f marked late handshake toggle =
     elim (cases_lt a.seq b.seq) [
-      | inl lt ↦ absurd (late (let two : a.seq + 2 ≤ b.seq = toggled a b f lt toggle in omega arith) handshake)
+      | inl lt ↦ absurd (late (omega (arith, toggled a b f lt toggle)) handshake)
       | inr le ↦ le
     ]
 
@@ -320,4 +320,4 @@ moved_since n i history t since round words p h k ik differ =
 pub gained_at : (start opening x v : ℕ) (b : Bool) → start + v ≤ opening → opening ≤ x → (b ≡ false → opening < x) →
     start + (if not b then v + 1 else v) ≤ x
 gained_at start opening x v true low le more = omega arith
-gained_at start opening x v false low le more = let lt : opening < x = more refl in omega arith
+gained_at start opening x v false low le more = omega (arith, more refl)

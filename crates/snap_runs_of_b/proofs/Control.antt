@@ -70,9 +70,9 @@ put_word ws j w pos le = get_or-set_at ws (j - 1) (j - 1) w no_word refl (omega 
 pub move_well : (n me : ℕ) (d : Mode) (m : Registers) (p : Variables) (k : ProgramCounter) →
     IsOneOf n me → BitWords n m.words → Sized n p → IsLineOf me d k → VariablesAt n me p k →
     MoveWell (op_of d) n me (move n me d m p k)
+move_well n me d m p L10 i bits sized s h = (s, λ k e. rw (for_each_at n (λ k. 0) p.moved k e) (omega arith), refl)
 move_well n me (Updating word value) m p L44 i bits sized s h = (s, tt, refl)
 move_well n me d m p L44 i bits sized s h = absurd s
-move_well n me d m p L10 i bits sized s h = (s, λ k e. rw (for_each_at n (λ k. 0) p.moved k e) (omega arith), refl)
 move_well n me d m p L12 i bits sized s h = (
   s,
   (

@@ -84,10 +84,11 @@ pub count_move : (n me : ℕ) (d : Mode) (m : Registers) (p : Variables) (k : Pr
     (own c c' recent recent' : ℕ) → c' ≡ c + tests k →
     recent' ≡ (if restarts k then 0 else recent + tests k) → VariablesAt n me p k → ((k ≡ L20) → moves n p < n) →
     Count n me p own c recent k → CountMove n me (suc own) c' recent' (move n me d m p k)
-count_move n me (Updating word value) m p L44 own c c' recent recent' e f keeps sharp h = tt
 count_move n me d m p L11 own c c' recent recent' e f keeps sharp h =
-    let b : budget n c' ≡ budget n 0 = ap (budget n) (let f : c' ≡ 0 = omega arith in f) in
-    omega (arith, budget_zero (round n) 2)
+    omega (arith, ap (budget n) (let f : c' ≡ 0 = omega arith in f), budget_zero (round n) 2)
+count_move n me Scanning m p L26 own c c' recent recent' e f keeps sharp h = tt
+count_move n me Scanning m p L28 own c c' recent recent' e f keeps sharp h = tt
+count_move n me (Updating word value) m p L44 own c c' recent recent' e f keeps sharp h = tt
 count_move n me d m p L15 own c c' recent recent' e f keeps sharp h =
     either (CountMove n me (suc own) c' recent') (nat_lt p.j n) _ _ (λ t. omega (arith, same_budget (round n) 2 c c' e))
     (λ t. omega (arith, same_budget (round n) 2 c c' e, not_lt p.j n t))

@@ -84,13 +84,13 @@ BitsMove n i m p r Finish = Unit {0}
 pub bits_move : (n i : ℕ) (d : Mode) (m : Registers) (p : Variables) (k : ProgramCounter) →
     IsOneOf n i → Square n m.q → Sized n p → IsLineOf i d k → VariablesAt n i p k →
     BitsMove n i m p (reach n p k) (move n i d m p k)
+bits_move n i d m p L12 one square sized s h = λ k ik lt. inl (omega arith, refl, refl, refl)
 bits_move n i Scanning m p L26 one square sized s h = tt
 bits_move n i (Updating word value) m p L26 one square sized s h = tt
 bits_move n i Scanning m p L28 one square sized s h = tt
 bits_move n i (Updating word value) m p L28 one square sized s h = tt
 bits_move n i (Updating word value) m p L44 one square sized s h = refl
 bits_move n i d m p L44 one square sized s h = absurd s
-bits_move n i d m p L12 one square sized s h = λ k ik lt. inl (omega arith, refl, refl, refl)
 bits_move n i d m p L13 one square sized s h =
     λ k ik lt. inl (lt, place_kept p.g p.j k _ h.0.0 ik.0 (λ e. omega arith), refl, refl)
 bits_move n i d m p L14 one square sized s h = λ k ik lt.
@@ -155,9 +155,8 @@ puts_move n i (Updating word value) m p L26 = tt
 puts_move n i Scanning m p L28 = tt
 puts_move n i (Updating word value) m p L28 = tt
 puts_move n i d m p L43 = either (PutsMove i m p) (nat_lt p.j n) _ _ (λ b. inl refl) (λ b. inl refl)
-puts_move n i Scanning m p L44 = tt
-puts_move n i (Embedded word value) m p L44 = tt
 puts_move n i (Updating word value) m p L44 = tt
+puts_move n i d m p L44 = tt
 puts_move n i d m p L47 = tt
 puts_move n i d m p k = inl refl
 
@@ -209,9 +208,9 @@ all_said me said bit (Updating word value) s h = h
 pub answers_move : (n me i bit : ℕ) (d : Mode) (m : Registers) (p : Variables) (k : ProgramCounter) →
     IsOneOf n i → Sized n p → IsLineOf me d k → VariablesAt n me p k → bit_for m.q i me ≡ bit →
     Answers i bit d p k → AnswersMove i bit (move n me d m p k)
-answers_move n me i bit (Updating word value) m p L44 one sized s keeps put h = h
 answers_move n me i bit d m p L15 one sized s keeps put h =
     either (AnswersMove i bit) (nat_lt p.j n) _ _ (λ b. h) (λ b. h)
+answers_move n me i bit (Updating word value) m p L44 one sized s keeps put h = h
 answers_move n me i bit d m p L17 one sized s keeps put h =
     either (AnswersMove i bit) (nat_lt p.j n) _ _ (λ b. h) (λ b. h)
 answers_move n me i bit d m p L19 one sized s keeps put h =

@@ -127,7 +127,7 @@ module _ (n i : ℕ) (history : ℕ → Words) (t since round : ℕ) where
       StageMove n i history t since (if restarts k then t else round) (move n i d m p k)
   stage_move d m p L10 known h =
       λ k ik. rw (for_each_at n (λ k. 0) p.moved k ik)
-      (let l : seq_at (history since) k ≤ seq_at (history round) k = h k ik in omega arith)
+      (omega (arith, h k ik))
   stage_move d m p L11 known h = (h, λ k ik lt. absurd (omega arith))
   stage_move d m p L12 known h =
       let len : length p.a ≡ max n n = known.sized.0 in
@@ -153,7 +153,7 @@ module _ (n i : ℕ) (history : ℕ → Words) (t since round : ℕ) where
   stage_move d m p L15 known h =
       either (StageMove n i history t since round) (nat_lt p.j n) _ _ (λ b. h)
       (λ b.
-      (h.0, λ k ik lt. h.1 k ik (let ge : n ≤ p.j = not_lt p.j n b in omega arith), λ k ik lt. absurd (omega arith)))
+      (h.0, λ k ik lt. h.1 k ik (omega (arith, not_lt p.j n b)), λ k ik lt. absurd (omega arith)))
   stage_move d m p L16 known h =
       let len : length p.a ≡ max n n = known.sized.0 in
       (h.0, h.1, first_more n (history round) m.words p.g p.marks i p.a p.j known.keeps.0 (omega arith) h.1 h.2)
@@ -163,7 +163,7 @@ module _ (n i : ℕ) (history : ℕ → Words) (t since round : ℕ) where
         h.0,
         h.1,
         second_starts n i history t since round m.words p.g p.marks p.a p.b known.now known.since_le
-            (λ k ik lt. h.2 k ik (let ge : n ≤ p.j = not_lt p.j n b in omega arith)),
+            (λ k ik lt. h.2 k ik (omega (arith, not_lt p.j n b))),
       ))
   stage_move d m p L18 known h =
       let len : length p.b ≡ max n n = known.sized.1 in (
@@ -202,9 +202,7 @@ module _ (n i : ℕ) (history : ℕ → Words) (t since round : ℕ) where
       }
   stage_move d m p L22 known h =
       whether (StageMove n i history t since round) (first_to d m p) (first_true 1 (map (at_limit p) (places_to n)))
-      (λ e k ik. let low : floor (history since) p.moved k ≤ seq_at p.b k = h.low k ik in
-      let le : seq_at p.b k ≤ seq_at m.words k = follows_seq (word_at p.b k) (word_at m.words k) (h.before k ik) in
-      omega arith)
+      (λ e k ik. omega (arith, h.low k ik, follows_seq (word_at p.b k) (word_at m.words k) (h.before k ik)))
       (λ k e. (
         record { low = h.low; before = h.before; views = h.views },
         same_from (moved_at p k) limit (first_found 1 n (at_limit p) k e).2,
@@ -213,22 +211,19 @@ module _ (n i : ℕ) (history : ℕ → Words) (t since round : ℕ) where
       let one : p.j ≡ 1 = known.keeps.0 in
       (subst (λ words. Low n (history since) words p.moved) (sym known.now) h, λ k ik lt. absurd (omega arith))
   stage_move d m p L25 known h = h
-  stage_move Scanning m p L26 known h = h
-  stage_move (Embedded word value) m p L26 known h = h
   stage_move (Updating word value) m p L26 known h = absurd known.line
+  stage_move d m p L26 known h = h
   stage_move d m p L27 known h =
       let g : Gained n history t since m.words p.moved p.b = h.0 in
       let l : floor (history since) p.moved p.j ≤ seq_at p.b p.j = g.low p.j known.keeps in
       let two : moved_at p p.j ≡ limit = h.1 in
       let lent : Lent history t since p.j (word_at p.b p.j).view = g.views p.j known.keeps (omega arith) in
       (lent.0, (p.j, known.keeps, lent.1))
-  stage_move Scanning m p L28 known h = h.0
-  stage_move (Embedded word value) m p L28 known h = h.0
   stage_move (Updating word value) m p L28 known h = absurd known.line
+  stage_move d m p L28 known h = h.0
   stage_move d m p L43 known h = either (StageMove n i history t since round) (nat_lt p.j n) _ _ (λ b. tt) (λ b. tt)
-  stage_move Scanning m p L44 known h = absurd known.line
-  stage_move (Embedded word value) m p L44 known h = absurd known.line
   stage_move (Updating word value) m p L44 known h = refl
+  stage_move d m p L44 known h = absurd known.line
   stage_move d m p L45 known h = h
   stage_move d m p k known h = tt
 
@@ -236,8 +231,7 @@ module _ (n i : ℕ) (history : ℕ → Words) (t since round : ℕ) where
 pub low_kept : (n : ℕ) (base words words' : Words) (moved : List ℕ) → Grows n words words' →
     Low n base words moved → Low n base words' moved
 low_kept n base words words' moved g h k ik =
-    let l : floor base moved k ≤ seq_at words k = h k ik in
-    let le : seq_at words k ≤ seq_at words' k = follows_seq (word_at words k) (word_at words' k) (g k ik) in omega arith
+    omega (arith, h k ik, follows_seq (word_at words k) (word_at words' k) (g k ik))
 
 module _ (n : ℕ) (opening words words' : Words) where
   drawn_kept : (g : List ℕ) (i k : ℕ) → IsOneOf n k → Grows n words words' → Drawn opening words g i k →
@@ -256,9 +250,7 @@ module _ (n : ℕ) (opening words words' : Words) where
       record {
         drawn = drawn_kept g i k ik grows old.drawn;
         fresh = old.fresh;
-        before = (let b : place marks k ≤ seq_at words k = old.before in
-            let le : seq_at words k ≤ seq_at words' k = follows_seq (word_at words k) (word_at words' k) (grows k ik) in
-            omega arith);
+        before = omega (arith, old.before, follows_seq (word_at words k) (word_at words' k) (grows k ik));
       }
 
   first_kept : (marks : List ℕ) (a : Words) (j : ℕ) → Grows n words words' → First n opening words marks a j →
@@ -382,8 +374,8 @@ flipped_differs (suc (suc t)) h e = absurd (omega arith)
 module _ (n i toggle : ℕ) where
   pub fit_move : (d : Mode) (m : Registers) (p : Variables) (k : ProgramCounter) → IsLineOf i d k →
       VariablesAt n i p k → writes k ≡ 0 → Fit n toggle p k → FitMove n toggle (move n i d m p k)
-  fit_move (Updating word value) m p L44 s keeps quiet h = h
   fit_move d m p L12 s keeps quiet h = assumption (length-set p.a (p.j - 1) (word_at m.words p.j) ∙ h.0.0)
+  fit_move (Updating word value) m p L44 s keeps quiet h = h
   fit_move d m p L13 s keeps quiet h =
       assumption (length-set p.g (p.j - 1) (handshake_at (word_at p.a p.j) i) ∙ h.0.2)
   fit_move d m p L14 s keeps quiet h = assumption (length-set p.marks (p.j - 1) (seq_at m.words p.j) ∙ h.0.4)

@@ -66,10 +66,7 @@ module _ (n t : ℕ) (history : ℕ → Words) (x : State) (i : ℕ) (d : Mode)
   not_less : (base : Words) → ((k : ℕ) → IsOneOf n k → seq_at base k ≤ seq_at x.memory.words k) → (k : ℕ) →
       IsOneOf n k → seq_at base k ≤ seq_at after.words k
   not_less base low k ik =
-      let l : seq_at base k ≤ seq_at x.memory.words k = low k ik in
-      let s : seq_at x.memory.words k ≤ seq_at after.words k =
-      follows_seq (word_at x.memory.words k) (word_at after.words k) (grows k ik) in
-      omega arith
+      omega (arith, low k ik, follows_seq (word_at x.memory.words k) (word_at after.words k) (grows k ik))
 
   making : Making (at i).control
   making = subst Making (sym at_46) (flow.late_makes lines (λ word. word ≡ i) d L46 up tt)
@@ -120,7 +117,7 @@ module _ (n t : ℕ) (history : ℕ → Words) (x : State) (i : ℕ) (d : Mode)
         sized = past.sized;
         bits = past.bits;
         toggle = sym (ap (λ (y : Word). y.toggle) (new_word i refl));
-        since_le = (let f : q.auxiliary.since ≤ t = past.since_le in omega arith);
+        since_le = omega (arith, past.since_le);
         low = not_less (history q.auxiliary.since) past.low;
         opened = not_less (history q.auxiliary.round) past.opened;
         views = viewed i one;

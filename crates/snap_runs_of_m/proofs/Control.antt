@@ -83,9 +83,9 @@ for_each_long n f old =
 
 pub long_move : (n w me : ℕ) (d : Mode) (m : Registers) (p : Variables) (k : ProgramCounter) → Long n w p →
     LongMove n w (move n w me d m p k)
+long_move n w me d m p L14 h = assumption (length-set p.g (p.j - 1) p.x ∙ h.g)
 long_move n w me Scanning m p L54 h = tt
 long_move n w me (Embedded y z) m p L54 h = tt
-long_move n w me d m p L14 h = assumption (length-set p.g (p.j - 1) p.x ∙ h.g)
 long_move n w me d m p L16 h = either (LongMove n w) (nat_lt p.j n) _ _ (λ t. assumption) (λ t. assumption)
 long_move n w me d m p L17 h = assumption (length-set p.a (p.k - 1) (word_at m.words p.k) ∙ h.a)
 long_move n w me d m p L18 h = either (LongMove n w) (nat_lt p.k w) _ _ (λ t. assumption) (λ t. assumption)
@@ -127,9 +127,9 @@ pub record Ground (n w me : ℕ) (m : Registers) (p : Variables) : Type 0 where
 
 pub move_well : (n w me : ℕ) (d : Mode) (m : Registers) (p : Variables) (k : ProgramCounter) → Ground n w me m p →
     IsLineOf w d k → Keeps n w d p k → MoveWell (op_of d) n w (move n w me d m p k)
+move_well n w me d m p L10 e s h = (s, λ c i. rw (for_each_at n (λ c. 0) p.moved c i) (omega arith), refl)
 move_well n w me (Updating y z) m p L54 e s h = (s, tt, refl)
 move_well n w me d m p L54 e s h = absurd s
-move_well n w me d m p L10 e s h = (s, λ c i. rw (for_each_at n (λ c. 0) p.moved c i) (omega arith), refl)
 move_well n w me d m p L13 e s h = (s, (h.0, h.1, h.2, e.bits p.j h.0), refl)
 move_well n w me d m p L16 e s h =
     either (MoveWell (op_of d) n w) (nat_lt p.j n) _ _ (λ b. (s, omega (arith, lt_from p.j n b), refl))
@@ -172,7 +172,8 @@ move_well n w me d m p L53 e s h =
     (λ b. (s, tt, refl))
 move_well n w me (Updating y z) m p L56 e s h = (
   s,
-  subst (λ v. v ≤ 1) (sym (set_here p.tog y (flip (place p.tog y)) s.0 (omega (arith, e.long)))) (flip_bit (place p.tog y)),
+  subst (λ v. v ≤ 1) (sym (set_here p.tog y (flip (place p.tog y)) s.0 (omega (arith, e.long))))
+      (flip_bit (place p.tog y)),
   refl,
 )
 move_well n w me d m p L56 e s h = absurd s
@@ -180,9 +181,8 @@ move_well n w me d m p L58 e s h = tt
 move_well n w me d m p k e s h = (s, omega (arith, e.one, e.some), refl)
 
 word_is : (w : ℕ) (d : Mode) → IsUpdate w d → IsOneOf w (word_of d)
-word_is w Scanning h = absurd h
-word_is w (Embedded y z) h = absurd h
 word_is w (Updating y z) h = h
+word_is w d h = absurd h
 
 -- what a line needs is kept
 pub needs : (n w me : ℕ) (d : Mode) (p : Variables) (k : ProgramCounter) → IsOneOf n me → IsLineOf w d k →

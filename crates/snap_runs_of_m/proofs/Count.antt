@@ -93,10 +93,11 @@ module _ (n w me : ℕ) where
       0 < n → c' ≡ c + tests k → recent' ≡ (if restarts k then 0 else recent + tests k) → Keeps n w d p k →
       (k ≡ L30 → moves n p + 2 ≤ 2 * n) → (k ≡ L31 → (c : ℕ) → IsOneOf n c → place p.d c ≤ 1) →
       Count n w p own c recent k → CountMove n w (suc own) c' recent' (move n w me d m p k)
-  count_move Scanning m p L54 own c c' recent recent' pos e f keeps sharp bits h = tt
   count_move d m p L12 own c c' recent recent' pos e f keeps sharp bits h =
-      let b : budget n w c' ≡ budget n w 0 = ap (budget n w) (let z : c' ≡ 0 = omega arith in z) in
-      omega (arith, budget_zero (round n w) 3)
+      omega (arith, ap (budget n w) (let z : c' ≡ 0 = omega arith in z), budget_zero (round n w) 3)
+  count_move Scanning m p L35 own c c' recent recent' pos e f keeps sharp bits h = tt
+  count_move Scanning m p L37 own c c' recent recent' pos e f keeps sharp bits h = tt
+  count_move Scanning m p L54 own c c' recent recent' pos e f keeps sharp bits h = tt
   count_move d m p L16 own c c' recent recent' pos e f keeps sharp bits h =
       either (CountMove n w (suc own) c' recent') (nat_lt p.j n) _ _
       (λ t. omega (arith, same_budget (round n w) 3 c c' e))

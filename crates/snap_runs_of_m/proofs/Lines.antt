@@ -146,12 +146,8 @@ lines n w me d m p L32 s h =
     (each_ok _ (at_limit p) 1 n
     (λ c low high. bind_ok _ _ _ _ (row_term n w me d p c names.moved (in_range n w c low high)) refl))
     (first_shown n w d m p (third_move n p))
-lines n w me Scanning m p L35 s h = refl
-lines n w me (Embedded y z) m p L35 s h = refl
 lines n w me (Updating y z) m p L35 s h = absurd s
 lines n w me d m p L36 s h = bind_ok _ _ _ _ (place_ok n p.j h) refl
-lines n w me Scanning m p L37 s h = refl
-lines n w me (Embedded y z) m p L37 s h = refl
 lines n w me (Updating y z) m p L37 s h = absurd s
 lines n w me d m p L51 s h = bind_ok _ _ _ _ (place_ok n p.j h.0) (bind_ok _ _ _ _ (place_ok n me h.1) refl)
 lines n w me d m p L52 s h =
@@ -159,17 +155,13 @@ lines n w me d m p L52 s h =
     (bind_ok _ _ _ _ (if_true (nat_le (flip p.x) 1) (Ok (flip p.x)) (Err NotABit) (le_true (flip p.x) 1 (flip_bit p.x)))
     (owned_ok (nat_eq me me) (flip p.x) Owner _ (same_number me))))
 lines n w me d m p L53 s h = if_of (shown (algorithm n w) m) (nat_lt p.j n) _ _
-lines n w me Scanning m p L54 s h = absurd s
-lines n w me (Embedded y z) m p L54 s h = absurd s
 lines n w me (Updating y z) m p L54 s h = refl
+lines n w me d m p L54 s h = absurd s
 lines n w me d m p L55 s h = bind_ok _ _ _ _ (place_ok n me h) (owned_ok (nat_eq me me) p.s Owner _ (same_number me))
-lines n w me Scanning m p L56 s h = absurd s
-lines n w me (Embedded y z) m p L56 s h = absurd s
 lines n w me (Updating y z) m p L56 s h =
     bind_ok _ _ _ _ (place_ok (max n w) y (word_place n w y h))
     (bind_ok _ _ _ _ (bind_ok _ _ _ _ (bind_ok _ _ _ _ (place_ok (max n w) y (word_place n w y h)) refl) refl) refl)
-lines n w me Scanning m p L57 s h = absurd s
-lines n w me (Embedded y z) m p L57 s h = absurd s
+lines n w me d m p L56 s h = absurd s
 lines n w me (Updating y z) m p L57 s h =
     let word : Word = plain (written me (Updating y z) m p) in
     bind_ok _ _ _ _ (place_ok w y h.0)
@@ -178,7 +170,7 @@ lines n w me (Updating y z) m p L57 s h =
     (ap (λ b. b && true) (le_true (place p.tog y) 1 h.1)))
     (ap (λ (xs : Words). Ok (Goes (record { words = xs; q = m.q; p = m.p; views = m.views }) (locals_of p) None 58))
     (sym (map-set plain m.words (y - 1) (written me (Updating y z) m p))))))
-lines n w me Scanning m p L58 s h = absurd s
-lines n w me (Embedded y z) m p L58 s h = absurd s
+lines n w me d m p L57 s h = absurd s
 lines n w me (Updating y z) m p L58 s h = refl
+lines n w me d m p L58 s h = absurd s
 lines n w me d m p k s h = refl

@@ -46,10 +46,10 @@ KeepsMemory m v = memory_after m v ≡ m
 module _ (n w me : ℕ) (m : Registers) (p : Variables) where
   -- a quiet line keeps the registers
   pub kept : (d : Mode) (k : ProgramCounter) → IsQuiet k → KeepsMemory m (move n w me d m p k)
+  kept d L15 q = absurd q
   kept Scanning L35 q = refl
   kept Scanning L37 q = refl
   kept Scanning L54 q = refl
-  kept d L15 q = absurd q
   kept d L16 q = either (KeepsMemory m) (nat_lt p.j n) _ _ (λ t. refl) (λ t. refl)
   kept d L18 q = either (KeepsMemory m) (nat_lt p.k w) _ _ (λ t. refl) (λ t. refl)
   kept d L20 q = either (KeepsMemory m) (nat_lt p.k w) _ _ (λ t. refl) (λ t. refl)
@@ -87,7 +87,7 @@ module _ (n w i : ℕ) (history : ℕ → Registers) (t since round : ℕ) where
       (let l : events (history since) i i + place p.moved i ≤ events (history round) i i = low i one in
       let le : events (history round) i i ≤ events (history t) i i = events_le n w i round t history s one i one in
       let z : place p.moved i ≡ 0 = omega arith in z)
-      (λ k e. let below : place p.moved k < limit = small k e in omega arith) in omega arith
+      (λ k e. omega (arith, small k e)) in omega arith
 
   pub sharp_at : (d : Mode) (p : Variables) (k : ProgramCounter) → IsOneOf n i → Since n w history round t →
       IsLineOf w d k → Keeps n w d p k → Books n w i (history since) (history t) d p k →
@@ -160,11 +160,7 @@ module _ (n w t : ℕ) (history : ℕ → Registers) where
       Invariant n w (suc t) history (changed x i (by_move (algorithm n w) (suc t) x.memory (at n w x i) k v))
   quiet_put x i d k (To d' m' p k') count one laws same h own owes =
       let q = at n w x i in
-      put_inv n w t history x i m' (record {
-        control = At d' k';
-        variables = p;
-        auxiliary = stepped_auxiliary (algorithm n w) k (suc t) q.auxiliary;
-      }) Stepped count one laws
+      put_inv n w t history x i m' _ Stepped count one laws
       (λ j o other. untouched_same n w j (history t) (history (suc t)) same) h
       (record {
         well = (owes.well.0, owes.well.1);
@@ -178,11 +174,7 @@ module _ (n w t : ℕ) (history : ℕ → Registers) where
       })
   quiet_put x i d k (Begin d' p k') count one laws same h own owes =
       let q = at n w x i in
-      put_inv n w t history x i x.memory (record {
-        control = At d' k';
-        variables = p;
-        auxiliary = begun_auxiliary (algorithm n w) k (suc t) q.auxiliary;
-      }) Stepped count one laws
+      put_inv n w t history x i x.memory _ Stepped count one laws
       (λ j o other. untouched_same n w j (history t) (history (suc t)) same) h
       (record {
         well = (owes.well.0, owes.well.1);
@@ -196,20 +188,12 @@ module _ (n w t : ℕ) (history : ℕ → Registers) where
       })
   quiet_put x i d k (Answer v) count one laws same h own owes =
       let q = at n w x i in
-      put_inv n w t history x i x.memory (record {
-        control = Idle;
-        variables = q.variables;
-        auxiliary = stepped_auxiliary (algorithm n w) k (suc t) q.auxiliary;
-      }) (Answered v) count one laws
+      put_inv n w t history x i x.memory _ (Answered v) count one laws
       (λ j o other. untouched_same n w j (history t) (history (suc t)) same) h
       (idle_own n w (suc t) history i q k own owes.books)
   quiet_put x i d k Finish count one laws same h own owes =
       let q = at n w x i in
-      put_inv n w t history x i x.memory (record {
-        control = Idle;
-        variables = q.variables;
-        auxiliary = stepped_auxiliary (algorithm n w) k (suc t) q.auxiliary;
-      }) Finished count one laws
+      put_inv n w t history x i x.memory _ Finished count one laws
       (λ j o other. untouched_same n w j (history t) (history (suc t)) same) h
       (idle_own n w (suc t) history i q k own owes.books)
 
@@ -337,9 +321,8 @@ books_15 : (n w i : ℕ) (base m : Registers) (d : Mode) (p : Variables) → IsS
     Books n w i base (after_15 i m p) d p L16
 books_15 n w i base m d p s h =
     let next = books_scan n w i base m d p p L15 L16 s refl h in
-    let old = next.settled in
     record {
-      settled = record { answers_are = old.answers_are; puts_are = old.puts_are; toggles_are = old.toggles_are };
+      settled = assumption;
       made = next.made;
       self = next.self;
     }
@@ -496,8 +479,8 @@ books_57 n w i y z base m p h =
     let more : m'.writes i ≡ m.writes i + 1 = raised_here m.writes i in
     record {
       settled = record {
-        answers_are = λ c o. (let e : m.answers i c ≡ m.writes i + 1 = old.answers_are c o in omega arith);
-        puts_are = (let e : m.puts i ≡ m.writes i + 1 = old.puts_are in omega arith);
+        answers_are = λ c o. omega (arith, old.answers_are c o);
+        puts_are = omega (arith, old.puts_are);
         toggles_are = λ v o. elim (cases_eq v y) [
           | inl same ↦
               subst (λ u. place p.tog u ≡ m'.toggles i u) (sym same) (sym (with_at_here m.toggles i y (place p.tog y)))
@@ -544,12 +527,12 @@ module _ (n w t : ℕ) (history : ℕ → Registers) (x : State) where
       history t ≡ x.memory → Invariant n w t history x → (at n w x i).control ≡ At d k →
       history (suc t) ≡ (changed x i (by_step (algorithm n w) (suc t) x.memory i (at n w x i) (At d k))).memory →
       Invariant n w (suc t) history (changed x i (by_step (algorithm n w) (suc t) x.memory i (at n w x i) (At d k)))
+  line_inv i d L15 s some count one now h is next = line15_inv n w t history x i d count one now h is next
   line_inv i (Updating y z) L52 s some count one now h is next =
       line52_inv n w t history x i y z count one now h is next
   line_inv i (Updating y z) L55 s some count one now h is next =
       line55_inv n w t history x i y z count one now h is next
   line_inv i (Updating y z) L57 s some count one now h is next = line57_inv i y z count one now h is next
-  line_inv i d L15 s some count one now h is next = line15_inv n w t history x i d count one now h is next
   line_inv i d L52 s some count one now h is next = absurd s
   line_inv i d L55 s some count one now h is next = absurd s
   line_inv i d L57 s some count one now h is next = absurd s
@@ -582,11 +565,7 @@ module _ (n w t : ℕ) (history : ℕ → Registers) (x : State) where
       (untouched_same n w i (history t) (history (suc t)) same) (h.each i one) in
       let rest : Rest n w i (history (suc t)) q.variables.tog =
       subst (BooksAt n w i (history q.auxiliary.since) (history (suc t)) q.variables) is own.books in
-      put_inv n w t history x i x.memory (record {
-        control = At Scanning L10;
-        variables = q.variables;
-        auxiliary = called_auxiliary (suc t) Scan q.auxiliary;
-      }) Called count one laws
+      put_inv n w t history x i x.memory _ Called count one laws
       (λ j o other. untouched_same n w j (history t) (history (suc t)) same) h
       (record {
         well = called_well n w i q.variables Scan e;
@@ -597,7 +576,7 @@ module _ (n w t : ℕ) (history : ℕ → Registers) (x : State) where
         counts = (refl, refl, refl);
         wrote = tt;
         books = record {
-          settled = record { answers_are = rest.answers_are; puts_are = rest.puts_are; toggles_are = rest.toggles_are };
+          settled = rest;
           made = λ making. absurd making;
           self = λ inside. refl;
         };
@@ -609,11 +588,7 @@ module _ (n w t : ℕ) (history : ℕ → Registers) (x : State) where
       (untouched_same n w i (history t) (history (suc t)) same) (h.each i one) in
       let rest : Rest n w i (history (suc t)) q.variables.tog =
       subst (BooksAt n w i (history q.auxiliary.since) (history (suc t)) q.variables) is own.books in
-      put_inv n w t history x i x.memory (record {
-        control = At (Updating word value) (counter (Update word value));
-        variables = q.variables;
-        auxiliary = called_auxiliary (suc t) (Update word value) q.auxiliary;
-      }) Called count one laws
+      put_inv n w t history x i x.memory _ Called count one laws
       (λ j o other. untouched_same n w j (history t) (history (suc t)) same) h
       (record {
         well = called_well n w i q.variables (Update word value) e;
@@ -624,7 +599,7 @@ module _ (n w t : ℕ) (history : ℕ → Registers) (x : State) where
         counts = tt;
         wrote = refl;
         books = record {
-          settled = record { answers_are = rest.answers_are; puts_are = rest.puts_are; toggles_are = rest.toggles_are };
+          settled = rest;
           made = λ making. absurd making;
           self = λ inside. absurd inside;
         };

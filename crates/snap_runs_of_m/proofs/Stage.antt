@@ -18,9 +18,9 @@ use Rattle.snap_runs_of_m.proofs.Algorithm.{at_limit, restarts, IsLineOf}
 use Rattle.snap_runs_of_m.proofs.Basics.{other_from, set_here, set_there}
 use Rattle.snap_runs_of_m.proofs.Control.{Keeps, Long}
 use Rattle.snap_runs_of_m.proofs.History.{words_of, Since, Laws}
-use Rattle.snap_runs_of_m.proofs.Collect.{events, ReadBit, Collected, collected_starts, collected_as, collected_kept, read_until}
+use Rattle.snap_runs_of_m.proofs.Collect.{events, ReadBit, Collected, collected_starts, collected_as, collected_kept}
 use Rattle.snap_runs_of_m.proofs.Collect.{ended_kept, asked_row, asked_more, first_more, second_more, late_more}
-use Rattle.snap_runs_of_m.proofs.Collect.{seen_by_words, seen_by_bits, passed, borrowed_put, borrowed}
+use Rattle.snap_runs_of_m.proofs.Collect.{seen_by_words, seen_by_bits, passed, borrowed_put, borrowed, read_until}
 
 -- The moves that the scan has seen are events since its start: up to its last double collect's start, and up to now.
 abbrev pub Low : ℕ → ℕ → (ℕ → Registers) → ℕ → ℕ → List ℕ → Type 0
@@ -63,49 +63,40 @@ module _ (n w me : ℕ) (history : ℕ → Registers) (round t : ℕ) (p : Varia
   Marks k = Row n w me history round t p.g p.h p.d p.a p.b k
 
 module _ (n w me : ℕ) (history : ℕ → Registers) (t since round : ℕ) where
+  -- the moves that the scan had seen before its double collect, and how far that has come, up to all of it
+  abbrev pub Before : Variables → Type 0
+  Before p = Low n me history since round p.moved
+
+  abbrev pub Comes : Variables → ℕ → ℕ → ℕ → ℕ → Type 0
+  Comes p = Gathered n w me history round t p
+
+  abbrev pub Full : Variables → Type 0
+  Full p = Comes p (n + 1) (w + 1) (w + 1) (n + 1)
+
   abbrev pub Stage : Variables → ProgramCounter → Type 0
-  Stage p L11 = Low n me history since round p.moved
-  Stage p L12 = Low n me history since round p.moved
-  Stage p L13 = Low n me history since round p.moved × Gathered n w me history round t p p.j 1 1 1
-  Stage p L14 =
-      Low n me history since round p.moved × Gathered n w me history round t p p.j 1 1 1
-      × ReadBit history round t me p.j p.x
-  Stage p L15 =
-      Low n me history since round p.moved × Gathered n w me history round t p p.j 1 1 1
-      × ReadBit history round t me p.j p.x × (place p.g p.j ≡ p.x)
-  Stage p L16 = Low n me history since round p.moved × Gathered n w me history round t p (p.j + 1) 1 1 1
-  Stage p L17 = Low n me history since round p.moved × Gathered n w me history round t p (n + 1) p.k 1 1
-  Stage p L18 = Low n me history since round p.moved × Gathered n w me history round t p (n + 1) (p.k + 1) 1 1
-  Stage p L19 = Low n me history since round p.moved × Gathered n w me history round t p (n + 1) (w + 1) p.k 1
-  Stage p L20 = Low n me history since round p.moved × Gathered n w me history round t p (n + 1) (w + 1) (p.k + 1) 1
-  Stage p L21 = Low n me history since round p.moved × Gathered n w me history round t p (n + 1) (w + 1) (w + 1) p.j
-  Stage p L22 =
-      Low n me history since round p.moved × (x : Gathered n w me history round t p (n + 1) (w + 1) (w + 1) p.j)
-      × ReadBit history x.ended t me p.j p.x
-  Stage p L23 =
-      Low n me history since round p.moved × Gathered n w me history round t p (n + 1) (w + 1) (w + 1) (p.j + 1)
-  Stage p L24 = Low n me history since round p.moved × Gathered n w me history round t p (n + 1) (w + 1) (w + 1) (n + 1)
-  Stage p L25 =
-      Low n me history since round p.moved × Gathered n w me history round t p (n + 1) (w + 1) (w + 1) (n + 1)
-      × ((c : ℕ) → IsOneOf n c → place p.d c ≡ 0)
-  Stage p L26 =
-      Low n me history since round p.moved × Gathered n w me history round t p (n + 1) (w + 1) (w + 1) (n + 1)
-      × Marks n w me history round t p p.k
-  Stage p L27 =
-      Low n me history since round p.moved × Gathered n w me history round t p (n + 1) (w + 1) (w + 1) (n + 1)
-      × Marks n w me history round t p p.k × (same_at p.a p.b p.k ≡ false)
+  Stage p L11 = Before p
+  Stage p L12 = Before p
+  Stage p L13 = Before p × Comes p p.j 1 1 1
+  Stage p L14 = Before p × Comes p p.j 1 1 1 × ReadBit history round t me p.j p.x
+  Stage p L15 = Before p × Comes p p.j 1 1 1 × ReadBit history round t me p.j p.x × (place p.g p.j ≡ p.x)
+  Stage p L16 = Before p × Comes p (p.j + 1) 1 1 1
+  Stage p L17 = Before p × Comes p (n + 1) p.k 1 1
+  Stage p L18 = Before p × Comes p (n + 1) (p.k + 1) 1 1
+  Stage p L19 = Before p × Comes p (n + 1) (w + 1) p.k 1
+  Stage p L20 = Before p × Comes p (n + 1) (w + 1) (p.k + 1) 1
+  Stage p L21 = Before p × Comes p (n + 1) (w + 1) (w + 1) p.j
+  Stage p L22 = Before p × (x : Comes p (n + 1) (w + 1) (w + 1) p.j) × ReadBit history x.ended t me p.j p.x
+  Stage p L23 = Before p × Comes p (n + 1) (w + 1) (w + 1) (p.j + 1)
+  Stage p L24 = Before p × Full p
+  Stage p L25 = Before p × Full p × ((c : ℕ) → IsOneOf n c → place p.d c ≡ 0)
+  Stage p L26 = Before p × Full p × Marks n w me history round t p p.k
+  Stage p L27 = Before p × Full p × Marks n w me history round t p p.k × (same_at p.a p.b p.k ≡ false)
   Stage p L28 =
-      Low n me history since round p.moved × Gathered n w me history round t p (n + 1) (w + 1) (w + 1) (n + 1)
-      × Marks n w me history round t p p.k × (same_at p.a p.b p.k ≡ false) × (p.x ≡ (word_at p.b p.k).id)
-  Stage p L29 =
-      Low n me history since round p.moved × Gathered n w me history round t p (n + 1) (w + 1) (w + 1) (n + 1)
-      × Marks n w me history round t p (p.k + 1)
-  Stage p L30 =
-      Low n me history since round p.moved × Gathered n w me history round t p (n + 1) (w + 1) (w + 1) (n + 1)
-      × Marks n w me history round t p (w + 1)
-  Stage p L31 =
-      Low n me history since round p.moved × Gathered n w me history round t p (n + 1) (w + 1) (w + 1) (n + 1)
-      × Marks n w me history round t p (w + 1)
+      Before p × Full p × Marks n w me history round t p p.k × (same_at p.a p.b p.k ≡ false)
+      × (p.x ≡ (word_at p.b p.k).id)
+  Stage p L29 = Before p × Full p × Marks n w me history round t p (p.k + 1)
+  Stage p L30 = Before p × Full p × Marks n w me history round t p (w + 1)
+  Stage p L31 = Before p × Full p × Marks n w me history round t p (w + 1)
   Stage p L32 = Low n me history since t p.moved
   Stage p L33 = Low n me history since t p.moved
   Stage p L34 = Held (words_of history) t since (map (λ (r : Word). r.datum) (take w (map plain p.b)))
@@ -210,7 +201,7 @@ module _ (n w me : ℕ) (history : ℕ → Registers) (round t : ℕ) where
   row_marks g h d a b k x one len is named event r =
       let row = slice_set d (x - 1) 1 in
       let here : (c : ℕ) → c ≡ x → place row c ≡ 1 =
-      λ c e. ap (place row) e ∙ set_here d x 1 one.0 (let le : x ≤ n = one.1 in omega arith) in
+      λ c e. ap (place row) e ∙ set_here d x 1 one.0 (omega (arith, one.1)) in
       let there : (c : ℕ) → 0 < c → c ≢ x → place row c ≡ place d c = λ c pos other. set_there d x c 1 one.0 pos other in
       let stays : (c : ℕ) → IsOneOf n c → place d c ≡ 1 → place row c ≡ 1 = λ c o e. elim (cases_eq c x) [
         | inl same ↦ here c same
@@ -218,7 +209,7 @@ module _ (n w me : ℕ) (history : ℕ → Registers) (round t : ℕ) where
       ] in
       record {
         bits = λ c o. elim (cases_eq c x) [
-          | inl same ↦ (let e : place row c ≡ 1 = here c same in omega arith)
+          | inl same ↦ omega (arith, here c same)
           | inr other ↦ subst (λ v. v ≤ 1) (sym (there c o.0 other)) (r.bits c o)
         ];
         shown = λ c o differ. stays c o (r.shown c o differ);
@@ -244,7 +235,7 @@ module _ (n w me : ℕ) (history : ℕ → Registers) (round t : ℕ) where
         | inr differ ↦ absurd (
             let zero : place p.d c ≡ 0 =
             same_from (place p.d c) 0 (all_pass (λ c. nat_eq (place p.d c) 0) 1 n still c (omega arith) (omega arith)) in
-            let one : place p.d c ≡ 1 = r.shown c o differ in omega arith)
+            omega (arith, r.shown c o differ))
       ]
 
   pub still_words : (p : Variables) → IsOneOf n me → ((u : ℕ) → u ≤ t → Laws n w history u) →
@@ -258,8 +249,7 @@ module _ (n w me : ℕ) (history : ℕ → Registers) (round t : ℕ) where
             (seen_by_words n w me history round t p.g p.a p.b p.h one laws x y o e).0 in
             let zero : place p.d (word_at p.b y).id ≡ 0 = same_from (place p.d (word_at p.b y).id) 0
             (all_pass (λ c. nat_eq (place p.d c) 0) 1 n still (word_at p.b y).id (omega arith) (omega arith)) in
-            let marked_is : place p.d (word_at p.b y).id ≡ 1 = r.words y o (let le : y ≤ w = o.1 in omega arith) e in
-            omega arith)
+            omega (arith, r.words y o (omega (arith, o.1)) e))
       ] refl
 
 -- a process that is marked is counted
@@ -267,7 +257,7 @@ counted_le : (v d low round t : ℕ) → low + v ≤ round → round ≤ t → (
     low + (if nat_eq d 1 then v + 1 else v) ≤ t
 counted_le v d low round t h le f =
     elim (nat_eq d 1) as (λ b. nat_eq d 1 ≡ b → low + (if b then v + 1 else v) ≤ t) [
-      | true ↦ λ e. (let lt : round < t = f (same_from d 1 e) in omega arith)
+      | true ↦ λ e. omega (arith, f (same_from d 1 e))
       | false ↦ λ e. omega arith
     ] refl
 
@@ -275,8 +265,7 @@ counted_le v d low round t h le f =
 pub events_le : (n w me u t : ℕ) (history : ℕ → Registers) → Since n w history u t → IsOneOf n me → (c : ℕ) →
     IsOneOf n c → events (history u) c me ≤ events (history t) c me
 events_le n w me u t history s one c o =
-    let a : (history u).writes c ≤ (history t).writes c = s.writes c o in
-    let b : (history u).answers c me ≤ (history t).answers c me = s.answers c me o one in omega arith
+    omega (arith, s.writes c o, s.answers c me o one)
 
 module _ (n w me : ℕ) (history : ℕ → Registers) (t since round : ℕ) where
   -- each line that writes no register takes the scan on; a line that starts another double collect does so at item t
@@ -284,8 +273,8 @@ module _ (n w me : ℕ) (history : ℕ → Registers) (t since round : ℕ) wher
       Known n w me history t since round m d p k → Stage n w me history t since round p k →
       StageMove n w me history t since (if restarts k then t else round) (move n w me d m p k)
   stage_move m d p L10 e h =
-      λ c i. rw (for_each_at n (λ c. 0) p.moved c i) (let le : events (history since) c me ≤ events (history round) c me =
-      events_le n w me since round history ((e.laws round e.round_le).since since e.opened) e.one c i in omega arith)
+      λ c i. rw (for_each_at n (λ c. 0) p.moved c i) (omega (arith,
+      events_le n w me since round history ((e.laws round e.round_le).since since e.opened) e.one c i))
   stage_move m d p L11 e h = h
   stage_move m d p L12 e h =
       (
@@ -392,9 +381,8 @@ module _ (n w me : ℕ) (history : ℕ → Registers) (t since round : ℕ) wher
             (collected_starts n w me history t t p.g p.a p.b p.h (omega arith)),
       )
   stage_move m d p L34 e h = h
-  stage_move m Scanning p L35 e h = h
-  stage_move m (Embedded y z) p L35 e h = h
   stage_move m (Updating y z) p L35 e h = absurd e.line
+  stage_move m d p L35 e h = h
   stage_move m d p L36 e h =
       let opened : since ≤ round = e.opened in
       let closed : round ≤ t = e.round_le in
@@ -415,16 +403,14 @@ module _ (n w me : ℕ) (history : ℕ → Registers) (t since round : ℕ) wher
           is = ap (λ (x : Registers). view_at x.views p.j) e.now;
         },
       )
-  stage_move m Scanning p L37 e h = h.0
-  stage_move m (Embedded y z) p L37 e h = h.0
   stage_move m (Updating y z) p L37 e h = absurd e.line
+  stage_move m d p L37 e h = h.0
   stage_move m d p L50 e h = tt
   stage_move m d p L51 e h =
       record { at = t; until = omega arith; is = ap (λ (x : Registers). bit x.q p.j me) (sym e.now); same = refl }
   stage_move m d p L53 e h = either (StageMove n w me history t since round) (nat_lt p.j n) _ _ (λ b. tt) (λ b. tt)
-  stage_move m Scanning p L54 e h = absurd e.line
-  stage_move m (Embedded y z) p L54 e h = absurd e.line
   stage_move m (Updating y z) p L54 e h = refl
+  stage_move m d p L54 e h = absurd e.line
   stage_move m d p L56 e h = tt
   stage_move m d p L58 e h = tt
   stage_move m d p k e h = absurd e.quiet
@@ -448,18 +434,13 @@ module _ (n w me : ℕ) (history : ℕ → Registers) where
     bits = r.bits;
     shown = r.shown;
     words = r.words;
-    moved = λ c o e. let lt : events (history round) c me < events (history t) c me = r.moved c o e in
-        let le : events (history t) c me ≤ events (history (suc t)) c me =
-        events_le n w me t (suc t) history s one c o in
-        omega arith;
+    moved = λ c o e. omega (arith, r.moved c o e, events_le n w me t (suc t) history s one c o);
   }
 
   high_kept : (since t : ℕ) (moved : List ℕ) → IsOneOf n me → Since n w history t (suc t) →
       Low n me history since t moved → Low n me history since (suc t) moved
   high_kept since t moved one s h c o =
-      let lt : events (history since) c me + place moved c ≤ events (history t) c me = h c o in
-      let le : events (history t) c me ≤ events (history (suc t)) c me = events_le n w me t (suc t) history s one c o in
-      omega arith
+      omega (arith, h c o, events_le n w me t (suc t) history s one c o)
 
 -- the process's own registers stay
 pub record Apart (n me : ℕ) (m m' : Registers) : Type 0 where

@@ -6,7 +6,7 @@ use Rattle.std.proofs.lemmas.Grind.{common_steps, get_or-set_at}
 use Rattle.std.proofs.lemmas.List.{get_or-set_other}
 use Rattle.std.proofs.Math.Nat.{eq-or-lt_of_le}
 use Rattle.snap_runs.proofs.Common.{IsOneOf, Word, no_word}
-use Rattle.snap_runs.proofs.Held.{word_at, seq_at, Held, data_of, WordBefore, squeezed, same_data}
+use Rattle.snap_runs.proofs.Held.{word_at, seq_at, Held, data_of, squeezed, same_data}
 use Rattle.snap_runs_of_m.proofs.Algorithm.{Words, Registers, place, bit, same_words, same_at, view_at}
 use Rattle.snap_runs_of_m.proofs.Basics.{less_or_not, set_here, set_there}
 use Rattle.snap_runs_of_m.proofs.History.{words_of, id_at, Since, Laws}

@@ -1,8 +1,8 @@
 -- Which locals a process of M has at each line, and how long they are; and that no line traps.
 use Rattle.snap_runs.proofs.Computing.{either, whether, lt_from, le_from, both, differs, raised_most, none_then}
 use Rattle.snap_runs.proofs.Places.{for_each, for_each_at, first_found, first_none}
-use Rattle.std.proofs.Common.{◌≡◌, ℕ, ◌+◌, ◌-◌, ◌<◌, ◌≤◌, max, ◌&&◌, List, drop, length, map, Option, Some, None}
-use Rattle.std.proofs.Common.{nat_eq, nat_lt, nat_le, slice_set, refl, sym, ◌∙◌, subst, arith}
+use Rattle.std.proofs.Common.{◌≡◌, ℕ, ◌-◌, ◌<◌, ◌≤◌, max, ◌&&◌, List, drop, length, map, Option, Some, None}
+use Rattle.std.proofs.Common.{nat_eq, nat_lt, nat_le, refl, sym, ◌∙◌, subst, arith}
 use Rattle.std.proofs.lemmas.List.{length-set, length-append}
 use Rattle.std.proofs.lemmas.List.FromFn.{length-map-range_with_len}
 use Rattle.snap_runs.proofs.Common.{IsOneOf, Op, Scan, Update, places_to}
@@ -16,7 +16,7 @@ use Rattle.snap_runs.proofs.Held.{word_at}
 use Rattle.snap_runs_of_m.specs.Promises.{counts}
 use Rattle.snap_runs_of_m.proofs.Algorithm.{Registers, Control, Move, Variables, ProgramCounter, L10, L11, L12, L13}
 use Rattle.snap_runs_of_m.proofs.Algorithm.{L14, L15, L16, L17, L18, L19, L20, L21, L22, L23, L24, L25, L26, L27, L28}
-use Rattle.snap_runs_of_m.proofs.Algorithm.{L29, L30, L31, L32, L33, L34, L35, L36, L37, L50, L51, L52, L53, L54, L55}
+use Rattle.snap_runs_of_m.proofs.Algorithm.{L29, L30, L31, L32, L33, L35, L36, L37, L51, L52, L53, L54}
 use Rattle.snap_runs_of_m.proofs.Algorithm.{L56, L57, L58, word_of, move, first_to, place, bit, flip, same_at, marked}
 use Rattle.snap_runs_of_m.proofs.Algorithm.{counted, all_still, third_move, Needs, IsLineOf, IsScan, IsUpdate}
 use Rattle.snap_runs_of_m.proofs.Algorithm.{algorithm, counter, limit, at_limit}

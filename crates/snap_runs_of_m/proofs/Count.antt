@@ -9,13 +9,12 @@ use Rattle.std.proofs.Common.{◌≡◌, ℕ, suc, ◌+◌, ◌-◌, ◌*◌, �
 use Rattle.std.proofs.Common.{if◌then◌else◌, refl, ap, arith}
 use Rattle.std.proofs.lemmas.Grind.{common_steps}
 use Rattle.snap_words.specs.Shape.{IsOneOf}
-use Rattle.snap_runs.proofs.Algorithm.{Mode, Scanning, Embedded, Updating, GoesOn}
+use Rattle.snap_runs.proofs.Algorithm.{Mode, Scanning, GoesOn}
 use Rattle.snap_runs.proofs.Flow.{IsScanLine}
 use Rattle.snap_runs_of_m.proofs.Algorithm.{Registers, restarts, Move, Variables, ProgramCounter, L10, L11, L12, L13}
 use Rattle.snap_runs_of_m.proofs.Algorithm.{L14, L15, L16, L17, L18, L19, L20, L21, L22, L23, L24, L25, L26, L27, L28}
-use Rattle.snap_runs_of_m.proofs.Algorithm.{L29, L30, L31, L32, L33, L34, L35, L36, L37, L50, L51, L52, L53, L54, L55}
-use Rattle.snap_runs_of_m.proofs.Algorithm.{L56, L57, L58, move, first_to, place, same_at, counted, all_still}
-use Rattle.snap_runs_of_m.proofs.Algorithm.{third_move, tests, in_update}
+use Rattle.snap_runs_of_m.proofs.Algorithm.{L29, L30, L31, L32, L33, L34, L35, L36, L37, L53, L54, move, first_to}
+use Rattle.snap_runs_of_m.proofs.Algorithm.{place, same_at, counted, all_still, third_move, tests, in_update}
 use Rattle.snap_runs_of_m.proofs.Basics.{other_from}
 use Rattle.snap_runs_of_m.proofs.Control.{Keeps}
 

@@ -12,11 +12,10 @@ use Rattle.snap_runs.proofs.Flow as flow
 use Rattle.snap_runs.proofs.Frame as frame
 use Rattle.snap_runs.proofs.Flow.{IsInScan}
 use Rattle.snap_runs_of_m.proofs.Algorithm.{IsLate, lines, Registers, Control, Process, State, Move, Variables}
-use Rattle.snap_runs_of_m.proofs.Algorithm.{ProgramCounter, L10, L11, L12, L13, L14, L15, L16, L17, L18, L19, L20}
-use Rattle.snap_runs_of_m.proofs.Algorithm.{L21, L22, L23, L24, L25, L26, L27, L28, L29, L30, L31, L32, L33, L34, L35}
-use Rattle.snap_runs_of_m.proofs.Algorithm.{L36, L37, L50, L51, L52, L53, L54, L55, L56, L57, L58, place, bit, flip}
-use Rattle.snap_runs_of_m.proofs.Algorithm.{move, first_to, return_to, embed_to, same_at, all_still, third_move}
-use Rattle.snap_runs_of_m.proofs.Algorithm.{IsScan, IsUpdate, IsLineOf, algorithm}
+use Rattle.snap_runs_of_m.proofs.Algorithm.{ProgramCounter, L15, L16, L18, L20, L23, L26, L29, L30, L32, L33, L35, L36}
+use Rattle.snap_runs_of_m.proofs.Algorithm.{L37, L50, L51, L52, L53, L54, L55, L56, L57, L58, place, bit, flip, move}
+use Rattle.snap_runs_of_m.proofs.Algorithm.{first_to, return_to, embed_to, same_at, all_still, third_move, IsScan}
+use Rattle.snap_runs_of_m.proofs.Algorithm.{IsUpdate, IsLineOf, algorithm}
 use Rattle.snap_runs_of_m.proofs.Basics.{set_here, set_there}
 use Rattle.snap_runs_of_m.proofs.Control.{ControlWell, Long}
 use Rattle.snap_runs_of_m.proofs.History.{Since, Laws}

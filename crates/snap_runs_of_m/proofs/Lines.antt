@@ -14,19 +14,18 @@ use Rattle.snap_semantics.specs.Source.{Name, instr_at}
 use Rattle.snap_semantics.specs.State.{Locals, value_at}
 use Rattle.snap_semantics.specs.Value.{Context, at_place, term_value}
 use Rattle.snap_semantics.specs.Table.{Goes, Effect, effect_at, first_goes}
-use Rattle.snap_runs.proofs.Algorithm.{To, shown, Mode, Scanning, Embedded, Updating, op_of, link_of}
+use Rattle.snap_runs.proofs.Algorithm.{To, shown, Mode, Updating, op_of, link_of}
 use Rattle.snap_runs.proofs.Held.{word_at}
 use Rattle.snap_runs.proofs.Plain.{plain_at, plain_copied}
 use Rattle.snap_runs_of_m.specs.ListingM as names
 use Rattle.snap_runs_of_m.specs.ListingM.{listing_m}
 use Rattle.snap_runs_of_m.specs.Promises.{counts}
 use Rattle.snap_runs_of_m.proofs.Algorithm.{Words, Registers, plain, real, Variables, locals_of, context_of}
-use Rattle.snap_runs_of_m.proofs.Algorithm.{ProgramCounter, L10, L11, L12, L13, L14, L15, L16, L17, L18, L19, L20}
-use Rattle.snap_runs_of_m.proofs.Algorithm.{L21, L22, L23, L24, L25, L26, L27, L28, L29, L30, L31, L32, L33, L34, L35}
-use Rattle.snap_runs_of_m.proofs.Algorithm.{L36, L37, L50, L51, L52, L53, L54, L55, L56, L57, L58, number, move}
-use Rattle.snap_runs_of_m.proofs.Algorithm.{first_to, algorithm, Needs, IsLineOf, place, flip, same_words, same_at}
-use Rattle.snap_runs_of_m.proofs.Algorithm.{marked, counted, all_still, third_move, limit}
-use Rattle.snap_runs_of_m.proofs.Algorithm.{at_limit, borrows, back, written}
+use Rattle.snap_runs_of_m.proofs.Algorithm.{ProgramCounter, L10, L13, L14, L15, L16, L17, L18, L19, L20, L21, L22, L23}
+use Rattle.snap_runs_of_m.proofs.Algorithm.{L24, L25, L26, L27, L28, L29, L30, L31, L32, L34, L35, L36, L37, L51, L52}
+use Rattle.snap_runs_of_m.proofs.Algorithm.{L53, L54, L55, L56, L57, L58, number, move, first_to, algorithm, Needs}
+use Rattle.snap_runs_of_m.proofs.Algorithm.{IsLineOf, place, flip, same_words, same_at, marked, counted, all_still}
+use Rattle.snap_runs_of_m.proofs.Algorithm.{third_move, limit, at_limit, borrows, back, written}
 use Rattle.snap_runs_of_m.proofs.Basics.{flip_bit}
 
 abbrev pub act : Op → Option ℕ → ℕ → Activity

@@ -10,25 +10,22 @@ use Rattle.snap_runs.proofs.Common.{IsOneOf, Op, Scan, Update, Reason, Item, Ste
 use Rattle.snap_runs.proofs.Common.{Answered, Finished, who}
 use Rattle.snap_words.specs.declared.kind.KindTag.TheVariants as kind
 use Rattle.snap_semantics.specs.Table.{call_skip}
-use Rattle.snap_runs.proofs.Algorithm.{Idle, At, To, Begin, Answer, Finish, New, by_move, by_step, by_admission}
+use Rattle.snap_runs.proofs.Algorithm.{Idle, At, To, Begin, Answer, Finish, by_move, by_step, by_admission}
 use Rattle.snap_runs.proofs.Algorithm.{by_call, memory_after, typed_at, changed, happens, stepped_auxiliary}
-use Rattle.snap_runs.proofs.Algorithm.{begun_auxiliary, called_auxiliary, Mode, Scanning, Embedded, Updating, op_of}
+use Rattle.snap_runs.proofs.Algorithm.{Mode, Scanning, Updating, op_of}
 use Rattle.snap_runs.proofs.Embedding as embed
 use Rattle.snap_runs.proofs.Flow as flow
-use Rattle.snap_runs.proofs.Held.{Held}
 use Rattle.snap_runs_of_m.specs.Promises.{counts}
-use Rattle.snap_runs_of_m.proofs.Algorithm.{counter, limit, lines, Registers, restarts, Process, Control, Move, State}
-use Rattle.snap_runs_of_m.proofs.Algorithm.{Variables, ProgramCounter, L10, L11, L12, L13, L14, L15, L16, L17, L18}
-use Rattle.snap_runs_of_m.proofs.Algorithm.{L19, L20, L21, L22, L23, L24, L25, L26, L27, L28, L29, L30, L31, L32, L33}
-use Rattle.snap_runs_of_m.proofs.Algorithm.{L34, L35, L36, L37, L50, L51, L52, L53, L54, L55, L56, L57, L58, place}
-use Rattle.snap_runs_of_m.proofs.Algorithm.{bit, flip, move, first_to, return_to, embed_to, same_at, all_still}
-use Rattle.snap_runs_of_m.proofs.Algorithm.{third_move, after_15, after_52, after_55, after_57, IsLineOf, IsScan}
-use Rattle.snap_runs_of_m.proofs.Algorithm.{tests, writes, algorithm}
+use Rattle.snap_runs_of_m.proofs.Algorithm.{lines, Registers, restarts, Process, Control, Move, State, Variables}
+use Rattle.snap_runs_of_m.proofs.Algorithm.{ProgramCounter, L15, L16, L18, L20, L23, L26, L29, L30, L31, L32, L35, L37}
+use Rattle.snap_runs_of_m.proofs.Algorithm.{L52, L53, L54, L55, L56, L57, L58, place, bit, flip, move, first_to}
+use Rattle.snap_runs_of_m.proofs.Algorithm.{same_at, all_still, third_move, after_15, after_52, after_55, after_57}
+use Rattle.snap_runs_of_m.proofs.Algorithm.{IsLineOf, IsScan, tests, writes, algorithm}
 use Rattle.snap_runs_of_m.proofs.Basics.{less_or_not}
 use Rattle.snap_runs_of_m.proofs.Control.{Keeps, BelowLimit, LongMove, long_move, MoveWell}
 use Rattle.snap_runs_of_m.proofs.Control.{ControlWell, Ground, move_well, called_well}
 use Rattle.snap_runs_of_m.proofs.Flows.{Flows, flows}
-use Rattle.snap_runs_of_m.proofs.History.{words_of, Now, Since, Laws, Acts, acts_nothing, laws_next, laws_up_to}
+use Rattle.snap_runs_of_m.proofs.History.{Now, Since, Laws, Acts, acts_nothing, laws_next, laws_up_to}
 use Rattle.snap_runs_of_m.proofs.Collect.{events}
 use Rattle.snap_runs_of_m.proofs.Stage.{Stage, StageMove, IsQuiet, Low, Row, events_le, stage_move, stage_15}
 use Rattle.snap_runs_of_m.proofs.Count.{Count, CountMove, count_move, moves}

@@ -6,7 +6,7 @@ use Rattle.snap_runs.proofs.Common.{IsOneOf, Word, no_word, Item}
 use Rattle.snap_runs.proofs.Algorithm.{Mode, Idle, At, when_busy, first_process}
 use Rattle.snap_runs.proofs.Algorithm.{first_state, typed_at, item_at, typed_state}
 use Rattle.snap_runs.proofs.Embedding as embed
-use Rattle.snap_runs.proofs.Held.{word_at, seq_at}
+use Rattle.snap_runs.proofs.Held.{word_at}
 use Rattle.snap_runs.proofs.Scans as scans
 use Rattle.snap_runs_of_m.specs.Promises.{run_of}
 use Rattle.snap_runs_of_m.proofs.Algorithm.{lines, Registers, Process, first_word, first_memory, Control, State}

@@ -1,20 +1,19 @@
 -- How far a scan of M has come at each line, and that each line takes it on.
 use Rattle.snap_runs.proofs.Places.{for_each_at, first_found, all_pass}
 use Rattle.snap_runs.proofs.Computing.{either, other_number, same_from, not_lt}
-use Rattle.std.specs.Prelude.{◌≡◌, ◌≢◌, ℕ, suc, ◌+◌, ◌-◌, ◌<◌, ◌≤◌, max, Bool, true, false, not, List, take, length}
+use Rattle.std.specs.Prelude.{◌≡◌, ◌≢◌, ℕ, suc, ◌+◌, ◌-◌, ◌<◌, ◌≤◌, Bool, true, false, not, List, take, length}
 use Rattle.std.specs.Prelude.{map, Option, Some, None, nat_eq, nat_lt, if◌then◌else◌, slice_set, refl}
 use Rattle.std.proofs.Common.{sym, ◌∙◌, ap, subst, arith, inl, inr}
 use Rattle.std.proofs.lemmas.Bool.{cases_eq}
 use Rattle.snap_runs.proofs.Common.{IsOneOf, Word}
-use Rattle.snap_runs.proofs.Algorithm.{To, Begin, Answer, Finish, Mode, Scanning, Embedded, Updating}
+use Rattle.snap_runs.proofs.Algorithm.{To, Begin, Answer, Finish, Mode, Updating}
 use Rattle.snap_runs.proofs.Held.{word_at, Held, held_wider}
 use Rattle.snap_runs.proofs.Plain.{plain_taken}
-use Rattle.snap_runs_of_m.proofs.Algorithm.{Words, Registers, Move, Variables, ProgramCounter, L10, L11, L12, L13}
-use Rattle.snap_runs_of_m.proofs.Algorithm.{L14, L15, L16, L17, L18, L19, L20, L21, L22, L23, L24, L25, L26, L27, L28}
-use Rattle.snap_runs_of_m.proofs.Algorithm.{L29, L30, L31, L32, L33, L34, L35, L36, L37, L50, L51, L52, L53, L54, L55}
-use Rattle.snap_runs_of_m.proofs.Algorithm.{L56, L57, L58, plain, place, bit, view_at, move, first_to, same_at}
-use Rattle.snap_runs_of_m.proofs.Algorithm.{marked, counted, all_still, third_move, limit}
-use Rattle.snap_runs_of_m.proofs.Algorithm.{at_limit, restarts, IsLineOf}
+use Rattle.snap_runs_of_m.proofs.Algorithm.{Words, Registers, Move, Variables, ProgramCounter, L10, L11, L12, L13, L14}
+use Rattle.snap_runs_of_m.proofs.Algorithm.{L15, L16, L17, L18, L19, L20, L21, L22, L23, L24, L25, L26, L27, L28, L29}
+use Rattle.snap_runs_of_m.proofs.Algorithm.{L30, L31, L32, L33, L34, L35, L36, L37, L50, L51, L52, L53, L54, L55, L56}
+use Rattle.snap_runs_of_m.proofs.Algorithm.{L57, L58, plain, place, bit, view_at, move, first_to, same_at, marked}
+use Rattle.snap_runs_of_m.proofs.Algorithm.{counted, all_still, third_move, limit, at_limit, restarts, IsLineOf}
 use Rattle.snap_runs_of_m.proofs.Basics.{other_from, set_here, set_there}
 use Rattle.snap_runs_of_m.proofs.Control.{Keeps, Long}
 use Rattle.snap_runs_of_m.proofs.History.{words_of, Since, Laws}
@@ -284,13 +283,11 @@ module _ (n w me : ℕ) (history : ℕ → Registers) (t since round : ℕ) wher
       )
   stage_move m d p L13 e h = (h.0, h.1, reads_now history round t me p.j m e.now e.round_le)
   stage_move m d p L14 e h =
-      let long : Long n w p = e.long in
-      let len : length p.g ≡ max n w = long.g in
       let one : IsOneOf n p.j = e.keeps.0 in (
         h.0,
         asked_row n w me history round t p.g p.a p.b p.h p.j p.x 1 1 1 one h.1,
         h.2,
-        set_here p.g p.j p.x one.0 (omega arith),
+        set_here p.g p.j p.x one.0 (omega (arith, e.long)),
       )
   stage_move m d p L16 e h =
       either (StageMove n w me history t since round) (nat_lt p.j n) _ _ (λ b. h)
@@ -299,15 +296,12 @@ module _ (n w me : ℕ) (history : ℕ → Registers) (t since round : ℕ) wher
         collected_as n w me history round t p.g p.a p.b p.h (omega (arith, not_lt p.j n b, e.keeps)) h.1,
       ))
   stage_move m d p L17 e h =
-      let long : Long n w p = e.long in
-      let len : length p.a ≡ max n w = long.a in
-      (h.0, first_more n w me history round t m p.g p.a p.b p.h (n + 1) p.k e.keeps.1 (omega arith) e.now h.1)
+      (h.0, first_more n w me history round t m p.g p.a p.b p.h (n + 1) p.k e.keeps.1 (omega (arith, e.long)) e.now h.1)
   stage_move m d p L18 e h =
       either (StageMove n w me history t since round) (nat_lt p.k w) _ _ (λ b. h)
       (λ b. (h.0, collected_as n w me history round t p.g p.a p.b p.h (omega (arith, not_lt p.k w b)) h.1))
   stage_move m d p L19 e h =
       let long : Long n w p = e.long in
-      let len : length p.b ≡ max n w = long.b in
       (h.0, second_more n w me history round t m p.g p.a p.b p.h (n + 1) (w + 1) p.k e.keeps.1 (omega arith) e.now h.1)
   stage_move m d p L20 e h =
       either (StageMove n w me history t since round) (nat_lt p.k w) _ _ (λ b. h)
@@ -319,8 +313,7 @@ module _ (n w me : ℕ) (history : ℕ → Registers) (t since round : ℕ) wher
       let x : Gathered n w me history round t p (n + 1) (w + 1) (w + 1) p.j = h.1 in
       (h.0, x, reads_now history x.ended t me p.j m e.now x.order.3)
   stage_move m d p L22 e h =
-      let long : Long n w p = e.long in
-      let len : length p.h ≡ max n w = long.h in (
+      let long : Long n w p = e.long in (
         h.0,
         late_more n w me history round t p.g p.a p.b p.h (n + 1) (w + 1) (w + 1) p.j p.x e.keeps.0 (omega arith) h.1 h.2,
       )
@@ -358,11 +351,9 @@ module _ (n w me : ℕ) (history : ℕ → Registers) (t since round : ℕ) wher
       let inside : IsOneOf w p.k = e.keeps.1 in
       (h.0, h.1, subst (λ y. Marks n w me history round t p (y + 1)) (let f : p.k ≡ w = omega arith in f) h.2))
   stage_move m d p L30 e h =
-      let long : Long n w p = e.long in
-      let len : length p.b ≡ max n w = long.b in
       either (StageMove n w me history t since round) (all_still n p) _ _
       (λ b. subst (Held (words_of history) t since) (sym (plain_taken plain (λ x. refl) w p.b))
-      (passed n w me history round t p.g p.a p.b p.h e.one e.laws h.1 since e.opened (omega arith)
+      (passed n w me history round t p.g p.a p.b p.h e.one e.laws h.1 since e.opened (omega (arith, e.long))
       (still_bits n w me history round t p (w + 1) h.2 b) (still_words n w me history round t p e.one e.laws h.1 h.2 b)))
       (λ b. h)
   stage_move m d p L31 e h =

@@ -97,8 +97,7 @@ untouched_15 n w me k m p one his other = record {
 pub asks_there : (n w me c : ℕ) (m : Registers) (p : Variables) → IsOneOf n me → IsOneOf n p.j → Now n w m →
     IsOneOf n c → c ≢ p.j → bit (after_15 me m p).q me c ≡ bit m.q me c
 asks_there n w me c m p one inside now o other =
-    let len : length m.q ≡ n = now.square_q.0 in
-    bit_elsewhere m.q me p.j p.x c one.0 inside.0 o.0 other (omega arith)
+    bit_elsewhere m.q me p.j p.x c one.0 inside.0 o.0 other (omega (arith, now.square_q.0))
 
 pub asks_here : (n w me : ℕ) (m : Registers) (p : Variables) → IsOneOf n me → IsOneOf n p.j → Now n w m →
     bit (after_15 me m p).q me p.j ≡ p.x
@@ -223,8 +222,7 @@ module _ (n w me : ℕ) (history : ℕ → Registers) (t since : ℕ) (p : Varia
 
   view_55 : view_at m5.views me ≡ p.s
   view_55 =
-      let len : length (history t).views ≡ n = now5.views in
-      get_or-set_at (history t).views (me - 1) (me - 1) p.s [] refl (omega arith)
+      get_or-set_at (history t).views (me - 1) (me - 1) p.s [] refl (omega (arith, now5.views))
 
   put_55 : Put n history t m5 me
   put_55 u i le h lt =
@@ -298,8 +296,7 @@ module _ (n w me word arg : ℕ) (history : ℕ → Registers) (t : ℕ) (p : Va
 
   word_here : word_at m7.words word ≡ new_word
   word_here =
-      let len : length (history t).words ≡ w = now.size in
-      get_or-set_at (history t).words (word - 1) (word - 1) new_word no_word refl (omega arith)
+      get_or-set_at (history t).words (word - 1) (word - 1) new_word no_word refl (omega (arith, now.size))
 
   word_there : (k : ℕ) → IsOneOf w k → k ≢ word → word_at m7.words k ≡ word_at (history t).words k
   word_there k h other =

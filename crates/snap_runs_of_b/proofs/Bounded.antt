@@ -14,8 +14,7 @@ use Rattle.snap_runs.proofs.Plain.{plain_taken}
 use Rattle.snap_runs.proofs.Places.{first_found}
 use Rattle.snap_runs.proofs.Steady.{Steady}
 use Rattle.snap_runs.proofs.Within.{set_within, taken_within, row_within, bit_set_within, bit_read_within, as_wide}
-use Rattle.snap_runs.proofs.Within.{all_read, data_within, handshake_within}
-use Rattle.snap_runs.proofs.Within.{read_within, copied_within, written_within}
+use Rattle.snap_runs.proofs.Within.{all_read, data_within, handshake_within, read_within, copied_within, written_within}
 use Rattle.snap_runs_of_b.specs.Bounded.{limits, StaysBounded}
 use Rattle.snap_runs_of_b.specs.ListingB.{listing_b}
 use Rattle.snap_runs_of_b.specs.Promises.{square, run_of}

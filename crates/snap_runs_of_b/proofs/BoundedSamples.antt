@@ -1,5 +1,5 @@
 -- The bounds of B at work on runs by one and by two processes, by computing.
-use Rattle.std.proofs.Common.{◌≡◌, ℕ, zero, suc, ◌≤◌, List, [], ◌∷◌, ◌++◌, replicate, refl, ap, arith, inl, inr}
+use Rattle.std.proofs.Common.{◌≡◌, ℕ, zero, suc, List, [], ◌∷◌, ◌++◌, replicate, refl, ap, arith, inl, inr}
 use Rattle.snap_runs.proofs.Common.{Word, Item, Step, Call, Scan, Update, State, process_at, state, item}
 use Rattle.snap_semantics.specs.declared.process.Status.TheVariants.{Idle}
 use Rattle.snap_runs.specs.Bounded.{IsValue, IsWordWithin, IsStateWithin}

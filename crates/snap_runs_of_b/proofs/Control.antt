@@ -6,16 +6,15 @@ use Rattle.snap_runs.proofs.Common.{IsOneOf, Word, no_word, places_to, all_true,
 use Rattle.snap_words.specs.declared.kind.KindTag.TheVariants as kind
 use Rattle.snap_semantics.specs.Table.{call_skip}
 use Rattle.snap_semantics.specs.declared.process.Reason.TheVariants.{NoSuchWord, NotOwner}
-use Rattle.snap_runs.proofs.Algorithm.{Mode, Scanning, Embedded, Updating, mode_of, op_of}
-use Rattle.snap_runs.proofs.Algorithm.{Idle, At, WhenBusy, LeadsTo, leads_to}
+use Rattle.snap_runs.proofs.Algorithm.{Mode, Scanning, Updating, mode_of, op_of, Idle, At, WhenBusy, LeadsTo, leads_to}
 use Rattle.snap_runs.proofs.Computing.{lt_from, same_from, either, whether, differs, raised_most, none_then}
 use Rattle.snap_runs.proofs.Embedding as embed
 use Rattle.snap_runs.proofs.Held.{word_at}
 use Rattle.snap_runs.proofs.Places.{for_each_at, first_found, first_none}
 use Rattle.snap_runs_of_b.specs.Promises.{square}
 use Rattle.snap_runs_of_b.proofs.Algorithm.{Words, Registers, Move, Control, Variables, ProgramCounter, L10, L11, L12}
-use Rattle.snap_runs_of_b.proofs.Algorithm.{L13, L14, L15, L16, L17, L18, L19, L20, L21, L22, L23, L25, L26, L27, L28}
-use Rattle.snap_runs_of_b.proofs.Algorithm.{L40, L41, L42, L43, L44, L45, L46, L47, place, handshake_at, agree, limit}
+use Rattle.snap_runs_of_b.proofs.Algorithm.{L13, L14, L15, L16, L17, L18, L19, L20, L21, L22, L23, L26, L27, L28}
+use Rattle.snap_runs_of_b.proofs.Algorithm.{L41, L42, L43, L44, L46, L47, place, handshake_at, agree, limit}
 use Rattle.snap_runs_of_b.proofs.Algorithm.{moved_at, counted, at_limit, move, first_to, counter, algorithm, IsLineOf}
 use Rattle.snap_runs_of_b.proofs.Lines.{SaysBits, Needs, each_line}
 

@@ -2,7 +2,7 @@
 -- at each line, how a line raises them, and the limits on them.
 use Rattle.std.proofs.Common.{◌≡◌, ℕ, suc, ◌+◌, ◌*◌, ◌<◌, ◌≤◌, false, not, map, nat_lt, if◌then◌else◌, refl, ap, arith}
 use Rattle.snap_runs.proofs.Common.{IsOneOf, places_to, all_true, first_true}
-use Rattle.snap_runs.proofs.Algorithm.{Mode, Scanning, Embedded, Updating, GoesOn}
+use Rattle.snap_runs.proofs.Algorithm.{Mode, Scanning, Updating, GoesOn}
 use Rattle.snap_runs.proofs.Budget as budgets
 use Rattle.snap_runs.proofs.Budget.{budget_zero, same_budget, next_budget, budget_le}
 use Rattle.snap_runs.proofs.Computing.{not_lt, either, whether}
@@ -10,9 +10,8 @@ use Rattle.snap_runs.proofs.Places.{for_each, for_each_at, some_fails}
 use Rattle.snap_runs.proofs.Totals.{total, total_le, total_less, total_raised}
 use Rattle.snap_runs.proofs.Flow.{IsScanLine}
 use Rattle.snap_runs_of_b.proofs.Algorithm.{Registers, Move, Variables, ProgramCounter, L10, L11, L12, L13, L14, L15}
-use Rattle.snap_runs_of_b.proofs.Algorithm.{L16, L17, L18, L19, L20, L21, L22, L23, L25, L26, L27, L28, L40, L41, L42}
-use Rattle.snap_runs_of_b.proofs.Algorithm.{L43, L44, L45, L46, L47, move, first_to, agree, limit, moved_at, counted}
-use Rattle.snap_runs_of_b.proofs.Algorithm.{at_limit, tests, restarts, in_update}
+use Rattle.snap_runs_of_b.proofs.Algorithm.{L16, L17, L18, L19, L20, L21, L22, L23, L25, L26, L27, L28, L43, L44, move}
+use Rattle.snap_runs_of_b.proofs.Algorithm.{first_to, agree, moved_at, counted, at_limit, tests, restarts, in_update}
 use Rattle.snap_runs_of_b.proofs.Control.{BelowLimit, VariablesAt}
 
 -- the own steps of c failed double collects

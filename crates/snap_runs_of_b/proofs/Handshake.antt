@@ -39,9 +39,8 @@ bit_set n q i j k v h one jn e =
 pub bit_kept : (n : ℕ) (q : List (List ℕ)) (i j k v : ℕ) → Square n q → IsOneOf n i → IsOneOf n j → IsOneOf n k →
     (k ≡ j → ⊥) → bit_for (with_bit_at q (i - 1) (j - 1) v) i k ≡ bit_for q i k
 bit_kept n q i j k v h one jn kn other =
-    let rows : length q ≡ n = h.rows in
     ap (λ row. slice_index row (k - 1))
-    (get_or-set_at q (i - 1) (i - 1) (slice_set (row_of q i) (j - 1) v) [] refl (omega arith))
+    (get_or-set_at q (i - 1) (i - 1) (slice_set (row_of q i) (j - 1) v) [] refl (omega (arith, h.rows)))
     ∙ place_kept (row_of q i) j k v jn.0 kn.0 other
 
 pub other_row : (q : List (List ℕ)) (i j u v : ℕ) → 0 < i → 0 < u → u ≢ i →

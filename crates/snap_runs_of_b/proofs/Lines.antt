@@ -19,7 +19,7 @@ use Rattle.snap_semantics.specs.declared.instr.Relation.TheVariants.{Equal, Diff
 use Rattle.snap_semantics.specs.declared.instr.Term.TheVariants.{Row}
 use Rattle.snap_semantics.specs.declared.process.Cause.{Cause}
 use Rattle.snap_semantics.specs.declared.process.Cause.TheVariants.{Owner}
-use Rattle.snap_runs.proofs.Algorithm.{Mode, Scanning, Embedded, Updating, op_of, link_of, To, shown}
+use Rattle.snap_runs.proofs.Algorithm.{Mode, Updating, op_of, link_of, To, shown}
 use Rattle.snap_runs.proofs.Computing.{if_true, le_true, same_number, if_of}
 use Rattle.snap_runs.proofs.Held.{word_at}
 use Rattle.snap_runs.proofs.Plain.{plain_at, plain_copied, plain_taken}
@@ -27,9 +27,9 @@ use Rattle.snap_runs.proofs.Places.{bind_ok, place_ok, each_ok, sum_ok}
 use Rattle.snap_runs_of_b.specs.ListingB as listing
 use Rattle.snap_runs_of_b.specs.ListingB.{listing_b}
 use Rattle.snap_runs_of_b.specs.Promises.{square}
-use Rattle.snap_runs_of_b.proofs.Algorithm.{Words, Registers, Variables, ProgramCounter, L10, L11, L12, L13, L14, L15}
-use Rattle.snap_runs_of_b.proofs.Algorithm.{L16, L17, L18, L19, L20, L21, L22, L23, L25, L26, L27, L28, L40, L41, L42}
-use Rattle.snap_runs_of_b.proofs.Algorithm.{L43, L44, L45, L46, L47, number, back, plain, real, locals_of, place}
+use Rattle.snap_runs_of_b.proofs.Algorithm.{Words, Registers, Variables, ProgramCounter, L10, L12, L13, L14, L15}
+use Rattle.snap_runs_of_b.proofs.Algorithm.{L16, L17, L18, L19, L20, L21, L22, L25, L26, L27, L28, L41, L42}
+use Rattle.snap_runs_of_b.proofs.Algorithm.{L43, L44, L46, L47, number, back, plain, real, locals_of, place}
 use Rattle.snap_runs_of_b.proofs.Algorithm.{handshake_at, agree, limit, moved_at, counted, at_limit, word_put, move}
 use Rattle.snap_runs_of_b.proofs.Algorithm.{first_to, algorithm, IsLineOf}
 

@@ -6,9 +6,8 @@ use Rattle.snap_runs.proofs.Common.{IsOneOf, who, Item, Step, Call, Crash, Op, S
 use Rattle.snap_runs.proofs.Common.{Answered, Finished, Reason}
 use Rattle.snap_words.specs.declared.kind.KindTag.TheVariants as kind
 use Rattle.snap_semantics.specs.Table.{call_skip}
-use Rattle.snap_runs.proofs.Algorithm.{Mode, Scanning, Updating, op_of, Idle, At, To, Begin, Answer, Finish, New}
-use Rattle.snap_runs.proofs.Algorithm.{by_move, by_step, by_admission, by_call, typed_at, changed, happens}
-use Rattle.snap_runs.proofs.Algorithm.{stepped_auxiliary, begun_auxiliary, called_auxiliary}
+use Rattle.snap_runs.proofs.Algorithm.{Mode, op_of, Idle, At, To, Begin, Answer, Finish, New, by_move, by_step}
+use Rattle.snap_runs.proofs.Algorithm.{by_admission, by_call, typed_at, changed, happens, stepped_auxiliary}
 use Rattle.snap_runs.proofs.Flow as flow
 use Rattle.snap_runs.proofs.Flow.{IsInScan, InScan, scan_inside}
 use Rattle.snap_runs.proofs.Held.{word_at, seq_at, at_most_now, at_least_now, opened_next}
@@ -16,10 +15,10 @@ use Rattle.snap_runs.proofs.ListedLines.{writes_or_not}
 use Rattle.snap_runs.proofs.WordWrites.{words_then}
 use Rattle.snap_runs_of_b.specs.Promises.{square}
 use Rattle.snap_runs_of_b.proofs.Algorithm.{Words, Registers, Move, Control, Process, State, Variables}
-use Rattle.snap_runs_of_b.proofs.Algorithm.{ProgramCounter, L10, L20, L40, L46, place, handshake_at, bit_for, move}
+use Rattle.snap_runs_of_b.proofs.Algorithm.{ProgramCounter, L10, L20, L46, place, handshake_at, bit_for, move}
 use Rattle.snap_runs_of_b.proofs.Algorithm.{IsLineOf, lines, tests, restarts, writes, algorithm}
 use Rattle.snap_runs_of_b.proofs.Change.{process_changes}
-use Rattle.snap_runs_of_b.proofs.Collect.{Low, Late, Viewed, floor}
+use Rattle.snap_runs_of_b.proofs.Collect.{Low, Late, Viewed}
 use Rattle.snap_runs_of_b.proofs.Control.{BelowLimit, VariablesAt, MoveWell, ControlWell, move_well, called_well}
 use Rattle.snap_runs_of_b.proofs.Count.{Count, CountMove, count_move, moves, moves_less}
 use Rattle.snap_runs_of_b.proofs.Flows.{Making, HasWritten, flows, counter_with, line_listed, writer}

@@ -4,22 +4,20 @@ use Rattle.std.proofs.Common.{nat_lt, if◌then◌else◌, slice_set, refl, sym,
 use Rattle.std.proofs.lemmas.Bool.{cases_eq}
 use Rattle.std.proofs.lemmas.List.{length-set}
 use Rattle.snap_runs.proofs.Common.{IsOneOf, Word, places_to, all_true, first_true}
-use Rattle.snap_runs.proofs.Algorithm.{Mode, Scanning, Embedded, Updating, To, Begin, Answer, Finish}
+use Rattle.snap_runs.proofs.Algorithm.{Mode, Scanning, Updating, To, Begin, Answer, Finish}
 use Rattle.snap_runs.proofs.Computing.{not_lt, same_from, either, whether}
 use Rattle.snap_runs.proofs.Held.{word_at, Held, held_wider, Beside, beside_wider, Lent, lent_wider, data_of, seq_at}
 use Rattle.snap_runs.proofs.Places.{for_each_at, first_found}
-use Rattle.snap_runs_of_b.proofs.Algorithm.{Words, Registers, Move, Variables, ProgramCounter, L10, L11, L12, L13}
-use Rattle.snap_runs_of_b.proofs.Algorithm.{L14, L15, L16, L17, L18, L19, L20, L21, L22, L23, L25, L26, L27, L28, L40}
-use Rattle.snap_runs_of_b.proofs.Algorithm.{L41, L42, L43, L44, L45, L46, L47, move, first_to, place, handshake_at}
-use Rattle.snap_runs_of_b.proofs.Algorithm.{answer, flipped, agree, limit, moved_at, counted}
-use Rattle.snap_runs_of_b.proofs.Algorithm.{at_limit, IsLineOf, restarts, writes}
+use Rattle.snap_runs_of_b.proofs.Algorithm.{Words, Registers, Move, Variables, ProgramCounter, L10, L11, L12, L13, L14}
+use Rattle.snap_runs_of_b.proofs.Algorithm.{L15, L16, L17, L18, L19, L20, L21, L22, L23, L25, L26, L27, L28, L40, L41}
+use Rattle.snap_runs_of_b.proofs.Algorithm.{L42, L43, L44, L45, L46, L47, move, first_to, handshake_at, answer, flipped}
+use Rattle.snap_runs_of_b.proofs.Algorithm.{agree, limit, moved_at, counted, at_limit, IsLineOf, restarts, writes}
 use Rattle.snap_runs_of_b.proofs.Control.{VariablesAt, Sized}
 use Rattle.snap_runs_of_b.proofs.Lines.{Bits, SaysBits}
 use Rattle.snap_runs_of_b.proofs.Follow.{IsLaterWord, follows_trans, follows_seq, Grows}
 use Rattle.snap_runs_of_b.proofs.Collect.{floor, Low, Drawn, Put, PutTo, Late, First, Viewed, Second, Between, Gained}
-use Rattle.snap_runs_of_b.proofs.Collect.{word_set, place_set, place_kept, put_drawn, just_drawn, put_more}
-use Rattle.snap_runs_of_b.proofs.Collect.{first_more, second_starts, second_more}
-use Rattle.snap_runs_of_b.proofs.Collect.{copies_follow, moved_since, gained_at}
+use Rattle.snap_runs_of_b.proofs.Collect.{word_set, place_set, place_kept, put_drawn, just_drawn, put_more, first_more}
+use Rattle.snap_runs_of_b.proofs.Collect.{second_starts, second_more, copies_follow, moved_since, gained_at}
 use Rattle.snap_runs_of_b.proofs.PassedTests.{passed}
 
 -- The copy of the word at place j was read since the double collect's start.
@@ -130,21 +128,19 @@ module _ (n i : ℕ) (history : ℕ → Words) (t since round : ℕ) where
       (omega (arith, h k ik))
   stage_move d m p L11 known h = (h, λ k ik lt. absurd (omega arith))
   stage_move d m p L12 known h =
-      let len : length p.a ≡ max n n = known.sized.0 in
       let one : IsOneOf n p.j = known.keeps.0 in
       let set : word_at (slice_set p.a (p.j - 1) (word_at m.words p.j)) p.j ≡ word_at m.words p.j =
-      word_set p.a p.j p.j (word_at m.words p.j) one.0 (omega arith) refl in (
+      word_set p.a p.j p.j (word_at m.words p.j) one.0 (omega (arith, known.sized.0)) refl in (
         h.0,
         h.1,
         subst (λ (w : Word). (seq_at (history round) p.j ≤ w.seq) × IsLaterWord w (word_at m.words p.j)) (sym set)
             (known.opened p.j one, inr refl),
       )
   stage_move d m p L13 known h =
-      let len : length p.g ≡ max n n = known.sized.2 in
       let one : IsOneOf n p.j = known.keeps.0 in (
         h.0,
         put_drawn n (history round) m.words p.g p.marks i p.j (handshake_at (word_at p.a p.j) i) one h.1,
-        just_drawn n (history round) m.words p.g p.a i p.j one (omega arith) h.2.0 h.2.1,
+        just_drawn n (history round) m.words p.g p.a i p.j one (omega (arith, known.sized.2)) h.2.0 h.2.1,
       )
   stage_move d m p L14 known h =
       let len : length p.marks ≡ max n n = known.sized.4 in
@@ -173,29 +169,25 @@ module _ (n i : ℕ) (history : ℕ → Words) (t since round : ℕ) where
             (omega arith) known.now known.since_le known.views h.1 known.late h.2,
       )
   stage_move d m p L19 known h =
-      let inside : IsOneOf n p.j = known.keeps.0 in
       either (StageMove n i history t since round) (nat_lt p.j n) _ _ (λ b. h)
       (λ b. (
         h.0,
         subst (λ x. Between n i history t since round m.words p.g p.marks p.a p.b (x + 1))
-            (let ge : n ≤ p.j = not_lt p.j n b in let e : p.j ≡ n = omega arith in e) h.2,
+            (let ge : n ≤ p.j = not_lt p.j n b in let e : p.j ≡ n = omega (arith, known.keeps.0) in e) h.2,
       ))
   stage_move d m p L20 known h =
-      let len : length p.b ≡ max n n = known.sized.1 in
       either (StageMove n i history t since round) (all_true (map (agree i p) (places_to n))) _ _
-      (λ b. passed n i history t since round m.words p known.lengths (omega arith) h.1 b) (λ b. h)
+      (λ b. passed n i history t since round m.words p known.lengths (omega (arith, known.sized.1)) h.1 b) (λ b. h)
   stage_move d m p L21 known h =
       let s : Second n i history t since round m.words p.g p.marks p.a p.b (n + 1) (history h.1.0) = h.1.3 in
       record {
         low = λ k ik.
             let first = s.first k ik in
-            let fresh : seq_at (history round) k ≤ place p.marks k = first.fresh in
-            let marked : place p.marks k ≤ seq_at p.a k = first.marked in
             let le : seq_at p.a k ≤ seq_at p.b k =
             follows_seq (word_at p.a k) (word_at p.b k) (copies_follow n i history t since round m.words p h.1 k ik) in
             rw (for_each_at n (counted i p) p.moved k ik)
             (gained_at (seq_at (history since) k) (seq_at (history round) k) (seq_at p.b k) (moved_at p k)
-            (agree i p k) (h.0 k ik) (omega arith)
+            (agree i p k) (h.0 k ik) (omega (arith, first.marked, first.fresh))
             (moved_since n i history t since round m.words p h.1 k ik));
         before = λ k ik. (s.read k ik (omega arith)).before;
         views = λ k ik. s.views k ik (omega arith);
@@ -216,8 +208,7 @@ module _ (n i : ℕ) (history : ℕ → Words) (t since round : ℕ) where
   stage_move d m p L27 known h =
       let g : Gained n history t since m.words p.moved p.b = h.0 in
       let l : floor (history since) p.moved p.j ≤ seq_at p.b p.j = g.low p.j known.keeps in
-      let two : moved_at p p.j ≡ limit = h.1 in
-      let lent : Lent history t since p.j (word_at p.b p.j).view = g.views p.j known.keeps (omega arith) in
+      let lent : Lent history t since p.j (word_at p.b p.j).view = g.views p.j known.keeps (omega (arith, h.1)) in
       (lent.0, (p.j, known.keeps, lent.1))
   stage_move (Updating word value) m p L28 known h = absurd known.line
   stage_move d m p L28 known h = h.0

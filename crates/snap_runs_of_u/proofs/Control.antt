@@ -5,16 +5,14 @@ use Rattle.snap_runs.proofs.Common.{IsOneOf, places_to, all_true, first_true, Op
 use Rattle.snap_words.specs.declared.kind.KindTag.TheVariants as kind
 use Rattle.snap_semantics.specs.Table.{call_skip}
 use Rattle.snap_semantics.specs.declared.process.Reason.TheVariants.{NoSuchWord, NotOwner}
-use Rattle.snap_runs.proofs.Algorithm.{Mode, Scanning, Embedded, Updating, mode_of, op_of}
-use Rattle.snap_runs.proofs.Algorithm.{Idle, At, WhenBusy, LeadsTo, leads_to}
+use Rattle.snap_runs.proofs.Algorithm.{Mode, Scanning, Updating, mode_of, op_of, Idle, At, WhenBusy, LeadsTo, leads_to}
 use Rattle.snap_runs.proofs.Computing.{lt_from, same_from, either, whether, differs, raised_most, none_then}
 use Rattle.snap_runs.proofs.Embedding as embed
 use Rattle.snap_runs.proofs.Places.{for_each_at, first_found, first_none}
 use Rattle.snap_runs_of_u.specs.Promises.{square}
 use Rattle.snap_runs_of_u.proofs.Algorithm.{Words, Move, Control, Variables, ProgramCounter, L10, L11, L12, L13, L14}
-use Rattle.snap_runs_of_u.proofs.Algorithm.{L15, L16, L17, L18, L19, L21, L22, L23, L24, L30, L31, L32, L33, agree}
-use Rattle.snap_runs_of_u.proofs.Algorithm.{limit, moved_at, counted, at_limit, move}
-use Rattle.snap_runs_of_u.proofs.Algorithm.{first_to, counter, algorithm, IsLineOf}
+use Rattle.snap_runs_of_u.proofs.Algorithm.{L15, L16, L17, L18, L19, L22, L23, L24, L30, L31, L33, agree, limit}
+use Rattle.snap_runs_of_u.proofs.Algorithm.{moved_at, counted, at_limit, move, first_to, counter, algorithm, IsLineOf}
 use Rattle.snap_runs_of_u.proofs.Lines.{Needs, each_line}
 
 -- no process has been seen to move up to the limit, or none beyond it

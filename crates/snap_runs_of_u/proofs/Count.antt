@@ -2,7 +2,7 @@
 -- at each line, how a line raises them, and the limits on them.
 use Rattle.std.proofs.Common.{◌≡◌, ℕ, suc, ◌+◌, ◌*◌, ◌<◌, ◌≤◌, false, not, map, nat_lt, if◌then◌else◌, refl, ap, arith}
 use Rattle.snap_runs.proofs.Common.{places_to, all_true, first_true, IsOneOf}
-use Rattle.snap_runs.proofs.Algorithm.{Mode, Scanning, Embedded, Updating, GoesOn}
+use Rattle.snap_runs.proofs.Algorithm.{Mode, Scanning, Updating, GoesOn}
 use Rattle.snap_runs.proofs.Budget as budgets
 use Rattle.snap_runs.proofs.Budget.{budget_zero, same_budget, next_budget, budget_le}
 use Rattle.snap_runs.proofs.Computing.{not_lt, either, whether}
@@ -10,8 +10,8 @@ use Rattle.snap_runs.proofs.Places.{for_each, for_each_at, some_fails}
 use Rattle.snap_runs.proofs.Totals.{total, total_le, total_less, total_raised}
 use Rattle.snap_runs.proofs.Flow.{IsScanLine}
 use Rattle.snap_runs_of_u.proofs.Algorithm.{Words, Move, Variables, ProgramCounter, L10, L11, L12, L13, L14, L15, L16}
-use Rattle.snap_runs_of_u.proofs.Algorithm.{L17, L18, L19, L21, L22, L23, L24, L30, L31, L32, L33, move, first_to}
-use Rattle.snap_runs_of_u.proofs.Algorithm.{agree, limit, moved_at, counted, at_limit, tests, restarts, in_update}
+use Rattle.snap_runs_of_u.proofs.Algorithm.{L17, L18, L19, L21, L22, L23, L24, L30, move, first_to}
+use Rattle.snap_runs_of_u.proofs.Algorithm.{agree, moved_at, counted, at_limit, tests, restarts, in_update}
 use Rattle.snap_runs_of_u.proofs.Control.{BelowLimit, VariablesAt}
 
 -- the own steps of c failed double collects

@@ -10,15 +10,15 @@ use Rattle.snap_semantics.specs.declared.instr.Index.TheVariants.{Place}
 use Rattle.snap_semantics.specs.declared.instr.Term.TheVariants.{Row}
 use Rattle.snap_semantics.specs.declared.process.Cause.{Cause}
 use Rattle.snap_semantics.specs.declared.process.Cause.TheVariants.{Owner}
-use Rattle.snap_runs.proofs.Algorithm.{Mode, Scanning, Embedded, Updating, op_of, link_of, To, shown}
+use Rattle.snap_runs.proofs.Algorithm.{Mode, Updating, op_of, link_of, To, shown}
 use Rattle.snap_runs.proofs.Computing.{same_number, if_of}
 use Rattle.snap_runs.proofs.Held.{word_at}
 use Rattle.snap_runs.proofs.Places.{bind_ok, place_ok, each_ok, sum_ok, owned_ok}
 use Rattle.snap_runs_of_u.specs.ListingU as u
 use Rattle.snap_runs_of_u.specs.ListingU.{listing_u}
 use Rattle.snap_runs_of_u.specs.Promises.{square}
-use Rattle.snap_runs_of_u.proofs.Algorithm.{Words, Variables, ProgramCounter, L10, L11, L12, L13, L14, L15, L16, L17}
-use Rattle.snap_runs_of_u.proofs.Algorithm.{L18, L19, L21, L22, L23, L24, L30, L31, L32, L33, number, back, real}
+use Rattle.snap_runs_of_u.proofs.Algorithm.{Words, Variables, ProgramCounter, L10, L12, L13, L14, L15, L16, L17}
+use Rattle.snap_runs_of_u.proofs.Algorithm.{L18, L21, L22, L23, L24, L30, L31, L32, L33, number, back, real}
 use Rattle.snap_runs_of_u.proofs.Algorithm.{locals_of, compared, agree, limit, moved_at, counted, at_limit, borrows}
 use Rattle.snap_runs_of_u.proofs.Algorithm.{first_to, word_put, move, algorithm, IsLineOf}
 

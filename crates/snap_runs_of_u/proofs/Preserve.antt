@@ -6,9 +6,8 @@ use Rattle.snap_runs.proofs.Common.{IsOneOf, who, Item, Step, Call, Crash, Op, S
 use Rattle.snap_runs.proofs.Common.{Finished, Reason}
 use Rattle.snap_words.specs.declared.kind.KindTag.TheVariants as kind
 use Rattle.snap_semantics.specs.Table.{call_skip}
-use Rattle.snap_runs.proofs.Algorithm.{Mode, Scanning, Updating, op_of, Idle, At, To, Begin, Answer, Finish, New}
-use Rattle.snap_runs.proofs.Algorithm.{by_move, by_step, by_admission, by_call, typed_at, changed, happens}
-use Rattle.snap_runs.proofs.Algorithm.{stepped_auxiliary, begun_auxiliary, called_auxiliary}
+use Rattle.snap_runs.proofs.Algorithm.{Mode, op_of, Idle, At, To, Begin, Answer, Finish, New, by_move, by_step}
+use Rattle.snap_runs.proofs.Algorithm.{by_admission, by_call, typed_at, changed, happens, stepped_auxiliary}
 use Rattle.snap_runs.proofs.Flow as flow
 use Rattle.snap_runs.proofs.Flow.{IsInScan, InScan, scan_inside}
 use Rattle.snap_runs.proofs.Held.{seq_at, at_most_now, at_least_now, opened_next}
@@ -16,9 +15,8 @@ use Rattle.snap_runs.proofs.ListedLines.{writes_or_not}
 use Rattle.snap_runs.proofs.WordWrites.{words_then}
 use Rattle.snap_runs_of_u.specs.Promises.{square}
 use Rattle.snap_runs_of_u.proofs.Algorithm.{written, Words, Move, Control, Process, State, Variables, ProgramCounter}
-use Rattle.snap_runs_of_u.proofs.Algorithm.{L10, L16, L30, L32, move, IsLineOf, lines}
-use Rattle.snap_runs_of_u.proofs.Algorithm.{tests, restarts, writes, algorithm}
-use Rattle.snap_runs_of_u.proofs.Collect.{Low, floor}
+use Rattle.snap_runs_of_u.proofs.Algorithm.{L16, L32, move, IsLineOf, lines, tests, restarts, writes, algorithm}
+use Rattle.snap_runs_of_u.proofs.Collect.{Low}
 use Rattle.snap_runs_of_u.proofs.Control.{BelowLimit, VariablesAt, MoveWell, ControlWell, move_well, called_well}
 use Rattle.snap_runs_of_u.proofs.Count.{Count, CountMove, count_move, moves, moves_less}
 use Rattle.snap_runs_of_u.proofs.Flows.{Making, HasWritten, flows, counter_with, line_listed, writer}

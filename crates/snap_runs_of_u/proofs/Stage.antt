@@ -1,9 +1,9 @@
 -- How far a scan of U has come at each line, and that each line takes it on.
 use Rattle.std.specs.Prelude.{◌≡◌, ℕ, ◌+◌, ◌-◌, ◌≤◌, max, List, take, length, map, nat_lt, if◌then◌else◌, refl}
-use Rattle.std.proofs.Common.{◌∙◌, subst, arith}
+use Rattle.std.proofs.Common.{subst, arith}
 use Rattle.std.proofs.lemmas.List.{length-set}
 use Rattle.snap_runs.proofs.Common.{places_to, all_true, first_true, IsOneOf}
-use Rattle.snap_runs.proofs.Algorithm.{Mode, Scanning, Embedded, Updating, To, Begin, Answer, Finish}
+use Rattle.snap_runs.proofs.Algorithm.{Mode, Scanning, Updating, To, Begin, Answer, Finish}
 use Rattle.snap_runs.proofs.Computing.{not_lt, same_from, either, whether}
 use Rattle.snap_runs.proofs.Held.{word_at, Held, held_wider, Beside, beside_wider, Lent, lent_wider, data_of, seq_at}
 use Rattle.snap_runs.proofs.Held.{before_trans, before_seq, Grows}
@@ -109,17 +109,15 @@ module _ (n me : ℕ) (history : ℕ → Words) (t since round : ℕ) (words : W
             (omega arith) known.now known.since_le known.views h.1,
       )
   stage_move d p L15 known h =
-      let inside : IsOneOf n p.j = known.keeps.0 in
       either (StageMove n history t since round) (nat_lt p.j n) _ _ (λ b. h)
       (λ b. (
         h.0,
         subst (λ x. Between n history t since round words p.moved p.a p.b (x + 1))
-            (let ge : n ≤ p.j = not_lt p.j n b in let e : p.j ≡ n = omega arith in e) h.1,
+            (let ge : n ≤ p.j = not_lt p.j n b in let e : p.j ≡ n = omega (arith, known.keeps.0) in e) h.1,
       ))
   stage_move d p L16 known h =
-      let len : length p.b ≡ max n n = known.length_b in
       either (StageMove n history t since round) (all_true (map (agree p) (places_to n))) _ _
-      (λ b. passed n history t since round words p known.lengths (omega arith) h.1 b) (λ b. h)
+      (λ b. passed n history t since round words p known.lengths (omega (arith, known.length_b)) h.1 b) (λ b. h)
   stage_move d p L17 known h =
       let s : Second n history t since round words p.moved p.a p.b (n + 1) (history h.1.0) = h.1.3 in
       record {
@@ -145,8 +143,7 @@ module _ (n me : ℕ) (history : ℕ → Words) (t since round : ℕ) (words : W
   stage_move d p L23 known h =
       let g : Gained n history t since words p.moved p.b = h.0 in
       let l : floor (history since) p.moved p.j ≤ seq_at p.b p.j = g.low p.j known.keeps in
-      let moves : moved_at p p.j ≡ limit = h.1 in
-      let lent : Lent history t since p.j (word_at p.b p.j).view = g.views p.j known.keeps (omega arith) in
+      let lent : Lent history t since p.j (word_at p.b p.j).view = g.views p.j known.keeps (omega (arith, h.1)) in
       (lent.0, (p.j, known.keeps, lent.1))
   stage_move (Updating w x) p L24 known h = absurd known.line
   stage_move d p L24 known h = h.0

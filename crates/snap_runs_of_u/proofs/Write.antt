@@ -6,7 +6,7 @@ use Rattle.std.proofs.lemmas.Grind.{get_or-set_at}
 use Rattle.std.proofs.lemmas.List.{length-set, get_or-set_other}
 use Rattle.snap_runs.proofs.Common.{Outcome, IsOneOf, Word, no_word}
 use Rattle.snap_runs.proofs.Algorithm.{Mode, At, New, typed_at, changed, stepped_auxiliary}
-use Rattle.snap_runs.proofs.Flow.{IsInScan, not_update}
+use Rattle.snap_runs.proofs.Flow.{not_update}
 use Rattle.snap_runs.proofs.Frame as frame
 use Rattle.snap_runs.proofs.Held.{word_at, Held, held_wider, seq_at, WordBefore, before_seq, Grows}
 use Rattle.snap_runs.proofs.Flow as flow
@@ -38,8 +38,7 @@ module _ (n t : ℕ) (history : ℕ → Words) (x : State) (i : ℕ) (d : Mode)
 
   new_word : (k : ℕ) → k ≡ i → word_at after k ≡ word
   new_word k e =
-      let len : length x.memory ≡ n = h.size in
-      get_or-set_at x.memory (i - 1) (k - 1) word no_word (ap (λ y. y - 1) e) (omega arith)
+      get_or-set_at x.memory (i - 1) (k - 1) word no_word (ap (λ y. y - 1) e) (omega (arith, h.size))
 
   old_word : (k : ℕ) → IsOneOf n k → k ≢ i → word_at after k ≡ word_at x.memory k
   old_word k j other = get_or-set_other x.memory (i - 1) (k - 1) word no_word (λ same. other (omega arith))
@@ -50,11 +49,10 @@ module _ (n t : ℕ) (history : ℕ → Words) (x : State) (i : ℕ) (d : Mode)
 
   grows : Grows n x.memory after
   grows k j =
-      let more : (at i).variables.c ≡ seq_at x.memory i + 1 = one_ahead in
       elim (cases_eq k i) [
         | inl same ↦
             subst (λ (y : Word). WordBefore (word_at x.memory k) y) (sym (new_word k same))
-            (inl (subst (λ y. seq_at x.memory y < (at i).variables.c) (sym same) (omega arith)))
+            (inl (subst (λ y. seq_at x.memory y < (at i).variables.c) (sym same) (omega (arith, one_ahead))))
         | inr other ↦ inr (sym (old_word k j other))
       ]
 

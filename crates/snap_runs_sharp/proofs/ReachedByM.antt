@@ -16,9 +16,8 @@ use Rattle.snap_runs.proofs.Held.{word_at}
 use Rattle.snap_runs.proofs.Places.{for_each, for_each_at}
 use Rattle.snap_runs.proofs.Steady.{Steady}
 use Rattle.snap_runs_of_m.specs.Promises.{counts, run_of}
-use Rattle.snap_runs_of_m.proofs.Algorithm.{Words, Registers, Variables, ProgramCounter, L10, L13, L19, L35}
-use Rattle.snap_runs_of_m.proofs.Algorithm.{first_word, first_variables, first_memory, place}
-use Rattle.snap_runs_of_m.proofs.Algorithm.{flip, same_words, lines, algorithm}
+use Rattle.snap_runs_of_m.proofs.Algorithm.{Words, Registers, Variables, ProgramCounter, L10, L13, L19, L35, first_word}
+use Rattle.snap_runs_of_m.proofs.Algorithm.{first_variables, first_memory, place, flip, same_words, lines, algorithm}
 use Rattle.snap_runs_of_m.proofs.Basics.{flip_other}
 use Rattle.snap_runs_of_m.proofs.Flows.{listed}
 use Rattle.snap_runs_of_m.proofs.Runs.{execution}

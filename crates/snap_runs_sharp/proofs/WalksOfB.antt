@@ -50,9 +50,8 @@ shaken me m r j g = record {
 drawn_is : (size me : ℕ) (m : Registers) (r : Shaken size) (j : ℕ) (g : List ℕ) → 0 < j → j ≤ size →
     drawn me m r j g ≡ slice_set g (j - 1) (handshakes m.words me j)
 drawn_is size me m r j g pos le =
-    let long : length r.a ≡ size = r.size_a in
     ap (λ (x : Word). slice_set g (j - 1) (handshake_at x me))
-    (get_or-set_at r.a (j - 1) (j - 1) (word_at m.words j) no_word refl (omega arith))
+    (get_or-set_at r.a (j - 1) (j - 1) (word_at m.words j) no_word refl (omega (arith, r.size_a)))
 
 -- a process that shakes hands with process j
 abbrev shaking : {size : ℕ} → Mode → Registers → Variables → ℕ → Shaken size → ℕ → List ℕ → Standing

@@ -282,8 +282,7 @@ fails n w i m m' p c some words first_j first_k sized copies bits one id changed
           (let f : place v.moved e ≡ place p.moved i + 1 = ap (place v.moved) is ∙ moved_i in
           other_number (place v.moved e) 3 (λ at_limit. absurd (omega arith)))
       | inr other ↦ (let f : place v.moved e ≡ place p.moved e = moved_other e at other in
-          let g : place p.moved e ≤ 2 = few_all e at in
-          other_number (place v.moved e) 3 (λ at_limit. absurd (omega arith)))
+          other_number (place v.moved e) 3 (λ at_limit. absurd (omega (arith, few_all e at))))
     ] in
     let test : walk (algorithm n w) 1 3 (standing Scanning m' p1 L26 c) ≡ standing Scanning m' p2 L29 c =
     rw differ refl in

@@ -32,11 +32,10 @@ uncalled o other h = refl
 -- numbers that are found to be equal
 equal_numbers : (xs ys : List ℕ) → bytes_eq xs ys ≡ true → xs ≡ ys
 equal_numbers [] [] h = refl
-equal_numbers [] (y ∷ ys) h = absurd cc
-equal_numbers (x ∷ xs) [] h = absurd cc
 equal_numbers (x ∷ xs) (y ∷ ys) h =
     let parts = both (nat_eq x y) (bytes_eq xs ys) h in
     ap (λ z. z ∷ xs) (eqb-true x y parts.0) ∙ ap (λ zs. y ∷ zs) (equal_numbers xs ys parts.1)
+equal_numbers _ _ h = absurd cc
 
 -- numbers are equal to themselves
 bytes_eq-refl : (xs : List ℕ) → bytes_eq xs xs ≡ true
@@ -138,12 +137,6 @@ module _ (r : Run) (fits : IsValidRun r) where
   -- the verdict of an answered scan
   one_verdict : (t : ℕ) (o : Outcome) → t < length r.items → outcome_at r (suc t) ≡ o →
       AllByRecursion (IsOfScan r) (verdict_at r (suc t) o)
-  one_verdict t outcome.Called lt is = tt
-  one_verdict t outcome.Stepped lt is = tt
-  one_verdict t outcome.Finished lt is = tt
-  one_verdict t (outcome.Trapped c) lt is = tt
-  one_verdict t outcome.Crashed lt is = tt
-  one_verdict t (outcome.Skipped c) lt is = tt
   one_verdict t (outcome.Answered view) lt is =
       let i = who (item r (suc t)) in
       let found = answer_ends r fits t view lt is in
@@ -166,6 +159,7 @@ module _ (r : Run) (fits : IsValidRun r) where
         collects_are = refl;
       } in
       (subst (λ k. IsOfScan r (verdict_of r i k (suc t) view)) (sym before) verdict, tt)
+  one_verdict t _ lt is = tt
 
   -- of two lists
   join_all : (xs ys : List Verdict) → AllByRecursion (IsOfScan r) xs → AllByRecursion (IsOfScan r) ys →

@@ -32,18 +32,14 @@ Touches S i S' =
 leave_touches : (S : State) (i : ℕ) (a : Activity) (l : Locals) (e : Result Effect Cause) →
     Touches S i (leave S i a l e).0
 leave_touches S i a l (Ok (Goes m k link line)) = inl (m, _, refl)
-leave_touches S i a l (Ok (Answers v)) = inl (S.memory, _, refl)
-leave_touches S i a l (Ok Finishes) = inl (S.memory, _, refl)
-leave_touches S i a l (Err e) = inl (S.memory, _, refl)
+leave_touches S i a l _ = inl (S.memory, _, refl)
 
 step_touches : (s : Source) (shape : Counts) (S : State) (i : ℕ) (p : Process) (status : Status) →
     Touches S i (step s shape S i p status).0
-step_touches s shape S i p (Trapped e a) = inr refl
-step_touches s shape S i p (Crashed was) = inr refl
-step_touches s shape S i p Idle = inr refl
 step_touches s shape S i p (Busy a) = leave_touches S i a p.locals
     (effect_at s (record { shape = shape; me = i; op = a.op; locals = p.locals; place = 0 }) S.memory a
     (instr_at s.lines a.line))
+step_touches s shape S i p _ = inr refl
 
 called_touches : (s : Source) (S : State) (i : ℕ) (p : Process) (o : Op) (why : Option Reason) →
     Touches S i (called s S i p o why).0
@@ -52,16 +48,13 @@ called_touches s S i p o None = inl (S.memory, _, refl)
 
 call_touches : (s : Source) (shape : Counts) (S : State) (i : ℕ) (o : Op) (p : Process) (status : Status) →
     Touches S i (call s shape S i o p status).0
-call_touches s shape S i o p (Trapped e a) = inr refl
-call_touches s shape S i o p (Crashed was) = inr refl
-call_touches s shape S i o p (Busy a) = inr refl
 call_touches s shape S i o p Idle = called_touches s S i p o (call_skip s.kind shape i o)
+call_touches s shape S i o p _ = inr refl
 
 crash_touches : (S : State) (i : ℕ) (p : Process) (status : Status) → Touches S i (crash S i p status).0
-crash_touches S i p (Trapped e a) = inr refl
-crash_touches S i p (Crashed was) = inr refl
 crash_touches S i p (Busy a) = inl (S.memory, _, refl)
 crash_touches S i p Idle = inl (S.memory, _, refl)
+crash_touches S i p _ = inr refl
 
 touches : (s : Source) (shape : Counts) (S : State) (x : Item) → Touches S (who x) (done s shape S x).0
 touches s shape S (Step i) = step_touches s shape S i (process_at S i) (process_at S i).status
@@ -83,8 +76,7 @@ other_status S S' k i (inr h) pk pi other = ap (λ (x : State). status_of x i) h
 abbrev pub Occupied : Op → Status → Type 0
 Occupied o Idle = ⊥
 Occupied o (Busy a) = a.op ≡ o
-Occupied o (Trapped cause a) = Unit {0}
-Occupied o (Crashed was) = Unit {0}
+Occupied o _ = Unit {0}
 
 -- how such an operation ends
 abbrev pub EndsWith : Op → Outcome → Type 0
@@ -100,15 +92,14 @@ IsEnd _ = ⊥
 
 stays_occupied : {s s' : Status} {x : Item} {out : Outcome} (o : Op) → Transition s x out s' →
     (EndsWith o out → ⊥) → Occupied o s → Occupied o s'
-stays_occupied o (skipped s x why may) not_end h = h
 stays_occupied o (calls i p line) not_end h = absurd h
-stays_occupied o (goes i a line link) not_end h = h
 stays_occupied o (answers i a view is) not_end h =
     absurd (not_end (subst (λ p. EndsWith p (Answered view)) (sym is ∙ h) tt))
 stays_occupied o (finishes i a word value is) not_end h =
     absurd (not_end (subst (λ p. EndsWith p Finished) (sym is ∙ h) tt))
 stays_occupied o (traps i a cause) not_end h = tt
 stays_occupied o (crashes i s was) not_end h = tt
+stays_occupied o _ not_end h = h
 
 -- a call finds its process idle, and occupies it
 is_called : {s s' : Status} {x : Item} {out : Outcome} (i : ℕ) (o : Op) → Transition s x out s' → out ≡ Called →
@@ -223,10 +214,8 @@ module _ (r : Run) (fits : IsValidRun r) where
     pub open_still : (u : ℕ) → call < u → u ≤ t → who (item r u) ≡ i → IsEnd (outcome r u) → ⊥
 
   abbrev pub UnderAt : ℕ → ℕ → Status → Type 0
-  UnderAt i t Idle = Unit {0}
   UnderAt i t (Busy a) = UnderCall i a.op t
-  UnderAt i t (Trapped cause a) = Unit {0}
-  UnderAt i t (Crashed was) = Unit {0}
+  UnderAt i t _ = Unit {0}
 
   longer : (i t : ℕ) (o : Op) → (who (item r (suc t)) ≡ i → IsEnd (outcome r (suc t)) → ⊥) →
       UnderCall i o t → UnderCall i o (suc t)

@@ -34,8 +34,7 @@ dead_step : (f : ℕ → Status) (i : ℕ) (x : Item) (out : Outcome) → steps 
     (out ≡ outcomes.Skipped reason.Crashed) × ((was : Option Activity) × (f i ≡ Crashed was))
 dead_step f i (Step k) out h dead =
     (dead.0, subst (λ j. (was : Option Activity) × (f j ≡ Crashed was)) (same_from k i h) dead.1)
-dead_step f i (Call k op) out h dead = absurd (cc)
-dead_step f i (Crash k) out h dead = absurd (cc)
+dead_step f i _ out h dead = absurd (cc)
 
 dead_outcome : (x : Item) (out : Outcome) (st : Status) → IsDead x out st →
     (out ≡ outcomes.Crashed) ⊎ ((why : Reason) × (out ≡ outcomes.Skipped why))

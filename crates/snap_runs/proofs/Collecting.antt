@@ -58,8 +58,7 @@ module _ {V P M : Type 0} (a : Algorithm V P M) (c : Copies V P M) where
   abbrev pub Reaches : M → V → P → Move V P M → Type 0
   Reaches m p k (To d' m' p' k') = Reached (c.phase k') m p (c.phase k) p'
   Reaches m p k (Begin d' p' k') = c.phase k' ≡ Away
-  Reaches m p k (Answer v) = Unit {0}
-  Reaches m p k Finish = Unit {0}
+  Reaches m p k _ = Unit {0}
 
   module _ (items : List Item) (fits : Steady (embed.run_of a items)) (does : embed.AllDo a items)
       (reaches : (t i : ℕ) → t < length items → IsOneOf a.shape.n i →
@@ -286,8 +285,7 @@ module _ {V P M : Type 0} (a : Algorithm V P M) (c : Copies V P M) where
           ],
         )
     stepped t d k (Begin d' p' k') is at r le h = (omega arith, subst (Progress (suc t) (suc t) p') (sym r) tt)
-    stepped t d k (Answer v) is at r le h = (round_le t (his t).auxiliary.round (a.restarts k) le, tt)
-    stepped t d k Finish is at r le h = (round_le t (his t).auxiliary.round (a.restarts k) le, tt)
+    stepped t d k _ is at r le h = (round_le t (his t).auxiliary.round (a.restarts k) le, tt)
 
     called_round : (t : ℕ) (op : Op) (q : TypedProcess V P M) → q.auxiliary.round ≤ t →
         (called_auxiliary (suc t) op q.auxiliary).round ≤ suc t

@@ -80,8 +80,6 @@ further vs t h =
 
 -- one item more
 one_more : (r : Run) (vs : List Verdict) (t : ℕ) (o : Outcome) → Rise vs t → Rise (vs ++ verdict_at r (suc t) o) (suc t)
-one_more r vs t outcome.Called h = further vs t h
-one_more r vs t outcome.Stepped h = further vs t h
 one_more r vs t (outcome.Answered view) h =
     let i = who (item r (suc t)) in
     let v = verdict_of r i (last_call r i (suc t)) (suc t) view in
@@ -93,10 +91,7 @@ one_more r vs t (outcome.Answered view) h =
           All-push (λ (a : Verdict). a.answer ≤ suc t) vs v
           (λ k d lt. let le = h.within k d lt in omega (arith, le)) (omega arith);
     }
-one_more r vs t outcome.Finished h = further vs t h
-one_more r vs t (outcome.Trapped c) h = further vs t h
-one_more r vs t outcome.Crashed h = further vs t h
-one_more r vs t (outcome.Skipped c) h = further vs t h
+one_more r vs t _ h = further vs t h
 
 -- any number of items
 rise : (r : Run) (t : ℕ) → Rise (verdicts r t) t

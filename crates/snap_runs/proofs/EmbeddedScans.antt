@@ -43,10 +43,9 @@ module _ {V P M : Type 0} (a : Algorithm V P M) (lines : Lines V P M) where
       pub scan : FinishedScan r i (Some a.back) c to view
 
     abbrev Tracked : ℕ → ℕ → List ℕ → Control P → Type 0
-    Tracked t since view Idle = Unit {0}
-    Tracked t since view (At Scanning k) = Unit {0}
     Tracked t since view (At (Embedded w x) k) = Open since t
     Tracked t since view (At (Updating w x) k) = lines.IsLate k → Lending since t view
+    Tracked t since view _ = Unit {0}
 
     longer : (c t : ℕ) → ((view : List ℕ) → Ends r i (suc t) (Some a.back) view → ⊥) → Open c t → Open c (suc t)
     longer c t not_now h = record {
@@ -66,11 +65,10 @@ module _ {V P M : Type 0} (a : Algorithm V P M) (lines : Lines V P M) where
     kept : (t since : ℕ) (view : List ℕ) (control : Control P) →
         ((d : Mode) (k : P) → control ≡ At d k → item_at items t ≡ Step i → ⊥) →
         Tracked t since view control → Tracked (suc t) since view control
-    kept t since view Idle no_step h = tt
-    kept t since view (At Scanning k) no_step h = tt
     kept t since view (At (Embedded w x) k) no_step h =
         longer since t (λ v ends. no_step (Embedded w x) k refl ends.0) h
     kept t since view (At (Updating w x) k) no_step h = λ late. lends_longer since t view (h late)
+    kept t since view _ no_step h = tt
 
     -- the process at its line, in the words of the machine
     busy : (t : ℕ) (d : Mode) (k : P) → t < length items → (his t).control ≡ At d k →
@@ -150,7 +148,6 @@ module _ {V P M : Type 0} (a : Algorithm V P M) (lines : Lines V P M) where
         (lines.answer (cases.moved a (suc t) (his t) k v).variables) (cases.moved a (suc t) (his t) k v).control
     stepped t Scanning k (To d' m' p' k') short is at e after out h =
         subst (λ y. Tracked (suc t) (his t).auxiliary.since (lines.answer p') (At y k')) (sym e.0) tt
-    stepped t Scanning k (Begin d' p' k') short is at e after out h = absurd e
     stepped t (Embedded w x) k (To d' m' p' k') short is at e after out h =
         let since = (his t).auxiliary.since in
         elim e.2 [
@@ -159,7 +156,6 @@ module _ {V P M : Type 0} (a : Algorithm V P M) (lines : Lines V P M) where
           | inr back ↦ subst (λ y. Tracked (suc t) since (lines.answer p') (At y k')) (sym back.0)
               (λ late. subst (Lending since (suc t)) (sym back.3) (ended t w x k short is at back.1 h))
         ]
-    stepped t (Embedded w x) k (Begin d' p' k') short is at e after out h = absurd e
     stepped t (Updating w x) k (To d' m' p' k') short is at e after out h =
         let since = (his t).auxiliary.since in
         subst (λ y. Tracked (suc t) since (lines.answer p') (At y k')) (sym e.1)
@@ -175,6 +171,7 @@ module _ {V P M : Type 0} (a : Algorithm V P M) (lines : Lines V P M) where
         }) e.0) out)
     stepped t d k (Answer v) short is at e after out h = tt
     stepped t d k Finish short is at e after out h = tt
+    stepped t _ k (Begin d' p' k') short is at e after out h = absurd e
 
     called : (t since : ℕ) (view : List ℕ) (op : Op) → Tracked t since view (At (mode_of op) (a.counter op))
     called t since view Scan = tt

@@ -15,8 +15,7 @@ use Rattle.snap_runs.proofs.Steady.{Steady}
 
 pub step_of : (i : ℕ) (y : Item) → steps i y ≡ true → y ≡ Step i
 step_of i (Step k) h = ap (λ u. Step u) (same_from k i h)
-step_of i (Call k op) h = absurd (cc)
-step_of i (Crash k) h = absurd (cc)
+step_of i _ h = absurd (cc)
 
 not_on : (b c : Bool) → (b && (c && false)) ≡ false
 not_on true true = refl

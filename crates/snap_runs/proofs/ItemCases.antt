@@ -23,9 +23,7 @@ module _ {V P M : Type 0} (a : Algorithm V P M) where
       record { control = At d k'; variables = p; auxiliary = stepped_auxiliary a k time q.auxiliary }
   moved time q k (Begin d p k') =
       record { control = At d k'; variables = p; auxiliary = begun_auxiliary a k time q.auxiliary }
-  moved time q k (Answer v) =
-      record { control = Idle; variables = q.variables; auxiliary = stepped_auxiliary a k time q.auxiliary }
-  moved time q k Finish =
+  moved time q k _ =
       record { control = Idle; variables = q.variables; auxiliary = stepped_auxiliary a k time q.auxiliary }
 
   module _ (items : List Item) (fits : Steady (embed.run_of a items)) (does : embed.AllDo a items) (i : ℕ)

@@ -57,8 +57,7 @@ passing_next test c e x = (x.0, x.1, (let le : x.0 ≤ e = x.2 in omega arith), 
 passing_last : (test : ℕ → Bool) (c e n : ℕ) (later passes : Bool) → nat_lt c (suc e) ≡ later → test (suc e) ≡ passes →
     (1 ≤ n → Passing test c e) → 1 ≤ (if later && passes then suc n else n) → Passing test c (suc e)
 passing_last test c e n true true is so past more = (suc e, lt_from c (suc e) is, omega arith, so)
-passing_last test c e n true false is so past more = passing_next test c e (past more)
-passing_last test c e n false passes is so past more = passing_next test c e (past more)
+passing_last test c e n _ _ is so past more = passing_next test c e (past more)
 
 pub counted_item : (test : ℕ → Bool) (c e : ℕ) → 1 ≤ count test c e → Passing test c e
 counted_item test c zero h = absurd (omega arith)
@@ -81,8 +80,7 @@ finishing other = inr (λ is. absurd (cc))
 -- the process of an item that executes a line
 step_of : (i : ℕ) (y : Item) → steps i y ≡ true → i ≡ who y
 step_of i (Step k) h = sym (same_from k i h)
-step_of i (Call k o) h = absurd (cc)
-step_of i (Crash k) h = absurd (cc)
+step_of i _ h = absurd (cc)
 
 -- how an update ends, and how a scan does
 pub ends_done : (word value : ℕ) (out : Outcome) → EndsWith (op.Update word value) out → out ≡ outcome.Finished

@@ -16,10 +16,9 @@ Pairs R [] = Unit {0}
 Pairs R (o ∷ os) = AllByRecursion (R o) os × Pairs R os
 
 pub all_pairs : (R : Operation → Operation → Type 0) (os : List Operation) → Pairs R os → AllPairs R os
-all_pairs R [] h i j d lt short = absurd (omega arith)
-all_pairs R (o ∷ os) h i zero d lt short = absurd (omega arith)
 all_pairs R (o ∷ os) h zero (suc j) d lt short = All-from_recursion (R o) os h.0 j d (omega arith)
 all_pairs R (o ∷ os) h (suc i) (suc j) d lt short = all_pairs R os h.1 i j d (omega arith) (omega arith)
+all_pairs R _ h i _ d lt short = absurd (omega arith)
 
 -- one more at the end
 pub all_push : (P : Operation → Type 0) (os : List Operation) (o : Operation) → AllByRecursion P os → P o →

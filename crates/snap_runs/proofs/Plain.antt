@@ -26,7 +26,6 @@ module _ (plain : Word → Word) (same : (w : Word) → (plain w).datum ≡ w.da
   plain_data (w ∷ ws) = ap (λ x. x ∷ data_of (map plain ws)) (same w) ∙ ap (λ rest. w.datum ∷ rest) (plain_data ws)
 
   pub plain_taken : (n : ℕ) (ws : List Word) → data_of (take n (map plain ws)) ≡ data_of (take n ws)
-  plain_taken zero ws = refl
-  plain_taken (suc n) [] = refl
   plain_taken (suc n) (w ∷ ws) =
       ap (λ x. x ∷ data_of (take n (map plain ws))) (same w) ∙ ap (λ rest. w.datum ∷ rest) (plain_taken n ws)
+  plain_taken _ _ = refl

@@ -39,16 +39,13 @@ module _ {V P M : Type 0} (a : Algorithm V P M) where
   -- a line of a scan stays in it, or returns
   abbrev pub Stays : Option ℕ → P → V → Move V P M → Type 0
   Stays link k p (To d' m' p' k') = Inside link d' ⊎ ReturnsAt link k p
-  Stays link k p (Begin d' p' k') = ⊥
   Stays link k p (Answer v) = IsTop link
-  Stays link k p Finish = ⊥
+  Stays link k p _ = ⊥
 
   -- a move that does not merely go on
   abbrev pub NotTo : Move V P M → Type 0
   NotTo (To d m p k) = ⊥
-  NotTo (Begin d p k) = Unit {0}
-  NotTo (Answer v) = Unit {0}
-  NotTo Finish = Unit {0}
+  NotTo _ = Unit {0}
 
   pub embeds : (k : P) (d : Mode) (p : V) → NotTo (embedding k d p)
   embeds k Scanning p = tt
@@ -218,11 +215,10 @@ module _ {V P M : Type 0} (a : Algorithm V P M) where
           subst (λ (y : Process). ReturnsView (line_in r.source y.status) y.locals h.0) (sym busy) h.1,
           ap (λ (y : Process). link_in y.status) busy ∙ within,
         ))
-    stepped_goes link c e t d k (Begin d' p' k') scan le lt short is at after out_is within h g = absurd h
     stepped_goes None c e t d k (Answer v) scan le lt short is at after out_is within h g =
         absurd (scan.goes_on (suc t) v (omega arith) lt (ap who is, out_is))
     stepped_goes (Some l) c e t d k (Answer v) scan le lt short is at after out_is within h g = absurd h
-    stepped_goes link c e t d k Finish scan le lt short is at after out_is within h g = absurd h
+    stepped_goes link c e t d k _ scan le lt short is at after out_is within h g = absurd h
 
     next_goes : (link : Option ℕ) (c e t : ℕ) → PendingScan r i link c e → c ≤ t → suc t < e →
         Goes link c t → Goes link c (suc t)
@@ -298,8 +294,7 @@ module _ {V P M : Type 0} (a : Algorithm V P M) where
         started (Some l) c d' k' p' (begun_auxiliary a k (suc c) (his c).auxiliary) after
         (sym (ap (λ (q : TypedProcess V P M). link_in (status_of a q.control)) after) ∙ link)
         (refl, refl, refl, refl, refl)
-    moved_goes l c k (Answer v) not_to after out link = absurd (cc)
-    moved_goes l c k Finish not_to after out link = absurd (cc)
+    moved_goes l c k _ not_to after out link = absurd (cc)
 
     -- the item that starts an embedded scan
     begun_goes : (l c : ℕ) → c < length items → item_at items c ≡ Step i →

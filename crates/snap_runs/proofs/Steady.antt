@@ -4,9 +4,8 @@ use Rattle.snap_runs.proofs.Common.{IsOneOf, Item, Step, Call, Crash, who, Run, 
 
 -- a step or a call
 abbrev pub IsNoCrash : Item → Type 0
-IsNoCrash (Step i) = Unit {0}
-IsNoCrash (Call i op) = Unit {0}
 IsNoCrash (Crash i) = ⊥
+IsNoCrash _ = Unit {0}
 
 -- a run that fits, without crashes
 pub record Steady (r : Run) : Type 0 where

@@ -21,10 +21,8 @@ use Rattle.snap_runs.proofs.Steady.{Steady}
 module _ {V P M : Type 0} (a : Algorithm V P M) where
   -- an update never answers
   abbrev pub NoAnswer : Move V P M → Type 0
-  NoAnswer (To d m p k) = Unit {0}
-  NoAnswer (Begin d p k) = Unit {0}
   NoAnswer (Answer v) = ⊥
-  NoAnswer Finish = Unit {0}
+  NoAnswer _ = Unit {0}
 
   module _ (line : ℕ) (writes_is : (k : P) → (if nat_eq (a.number k) line then 1 else 0) ≡ a.writes k)
       (items : List Item) (fits : Steady (embed.run_of a items)) (does : embed.AllDo a items)
@@ -74,14 +72,11 @@ module _ {V P M : Type 0} (a : Algorithm V P M) where
         outcome r (suc t) ≡ outcome_of (by_move a (suc t) (memory t) (his t) k v) →
         Under (op_of d) (his t).auxiliary.called t →
         UnderAt (suc t) (cases.moved a (suc t) (his t) k v) (cases.moved a (suc t) (his t) k v).control
-    stepped_under t d k (To d' m' p' k') same out h =
-        subst (λ (op : Op). Under op (his t).auxiliary.called (suc t)) (sym same)
-        (longer (op_of d) (his t).auxiliary.called t (λ done. absurd (let e = sym done.1 ∙ out in cc)) h)
-    stepped_under t d k (Begin d' p' k') same out h =
-        subst (λ (op : Op). Under op (his t).auxiliary.called (suc t)) (sym same)
-        (longer (op_of d) (his t).auxiliary.called t (λ done. absurd (let e = sym done.1 ∙ out in cc)) h)
     stepped_under t d k (Answer v) same out h = tt
     stepped_under t d k Finish same out h = tt
+    stepped_under t d k _ same out h =
+        subst (λ (op : Op). Under op (his t).auxiliary.called (suc t)) (sym same)
+        (longer (op_of d) (his t).auxiliary.called t (λ done. absurd (let e = sym done.1 ∙ out in cc)) h)
 
     called_at : (t : ℕ) (op : Op) (g : Auxiliary) → (called_auxiliary t op g).called ≡ t
     called_at t Scan g = refl

@@ -31,8 +31,7 @@ module _ {V P M : Type 0} (a : Algorithm V P M) (lines : Lines V P M) where
   abbrev pub Nearer : Ahead → V → P → Move V P M → Type 0
   Nearer h p k (To d m p' k') = (h.ahead p' k' + 1 ≤ h.ahead p k) × (h.scanned k' ≡ h.scanned k)
   Nearer h p k (Begin d p' k') = (h.rest + 1 ≤ h.ahead p k) × (h.scanned k ≡ false)
-  Nearer h p k (Answer v) = 1 ≤ h.ahead p k
-  Nearer h p k Finish = 1 ≤ h.ahead p k
+  Nearer h p k _ = 1 ≤ h.ahead p k
 
   -- what a line that returns from the embedded scan does to the steps ahead
   abbrev pub Resumes : Ahead → Move V P M → Type 0
@@ -46,16 +45,14 @@ module _ {V P M : Type 0} (a : Algorithm V P M) (lines : Lines V P M) where
   pub own_step : (h : Ahead) (p : V) (k : P) (v : Move V P M) → Nearer h p k v → 1 ≤ h.ahead p k
   own_step h p k (To d m p' k') n = let le : h.ahead p' k' + 1 ≤ h.ahead p k = n.0 in omega arith
   own_step h p k (Begin d p' k') n = let le : h.rest + 1 ≤ h.ahead p k = n.0 in omega arith
-  own_step h p k (Answer v) n = n
-  own_step h p k Finish n = n
+  own_step h p k _ n = n
 
   -- What an update has spent with what it has ahead: the steps of its scan count once the scan is made, and until
   -- then those that it has taken.
   abbrev pub Spending : Ahead → ℕ → ℕ → V → Auxiliary → Control P → Type 0
-  Spending h scan own p g Idle = Unit {0}
-  Spending h scan own p g (At Scanning k) = Unit {0}
   Spending h scan own p g (At (Embedded word value) k) = own + h.rest ≤ h.total + g.own
   Spending h scan own p g (At (Updating word value) k) = own + h.ahead p k ≤ h.total + (if h.scanned k then scan else 0)
+  Spending h scan own p g _ = Unit {0}
 
   module _ (run : scans.Execution a lines) (h : Ahead) (scan : ℕ) (i : ℕ) (one : IsOneOf a.shape.n i)
       -- what the lines of an update do, and those that return
@@ -157,9 +154,6 @@ module _ {V P M : Type 0} (a : Algorithm V P M) (lines : Lines V P M) where
               (after_scan (own_steps r i c t) (own_steps r i c (suc t)) w x k (his t).auxiliary d' m' p' k' (suc t)
               (own_next c t le) (within t (Embedded w x) k (omega arith) at tt) spent resumed);
         }
-    stepped word value c t (Embedded w x) k (Begin d' p' k') le short at op is still after flows spent = absurd flows
-    stepped word value c t (Embedded w x) k (Answer v) le short at op is still after flows spent = absurd flows
-    stepped word value c t (Embedded w x) k Finish le short at op is still after flows spent = absurd flows
     stepped word value c t (Updating w x) k (To d' m' p' k') le short at op is still after flows spent =
         let n : Nearer h (his t).variables k (To d' m' p' k') =
         subst (Nearer h (his t).variables k) is (nearer t w x k short at) in
@@ -199,8 +193,8 @@ module _ {V P M : Type 0} (a : Algorithm V P M) (lines : Lines V P M) where
               (subst (λ y. Spending h scan (own_steps r i c (suc t)) p'
               (begun_auxiliary a k (suc t) (his t).auxiliary) (At y k')) (sym flows.0) left);
         }
-    stepped word value c t (Updating w x) k (Answer v) le short at op is still after flows spent = absurd flows
     stepped word value c t (Updating w x) k Finish le short at op is still after flows spent = absurd (still refl)
+    stepped word value c t _ k _ le short at op is still after flows spent = absurd flows
 
     next_spent : (word value c e t : ℕ) → PendingUpdate r i word value c e → c ≤ t → suc t < e →
         Spent word value c t → Spent word value c (suc t)

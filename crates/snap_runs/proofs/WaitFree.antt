@@ -39,18 +39,12 @@ and_when false x y h = refl
 
 -- a turn that is not skipped is one of a process that has not crashed
 alive : (out : Outcome) → is_not_skipped out ≡ true → is_alive out ≡ is_not_skipped out
-alive outcomes.Called h = refl
-alive outcomes.Stepped h = refl
-alive (outcomes.Answered view) h = refl
-alive outcomes.Finished h = refl
-alive (outcomes.Trapped cause) h = refl
-alive outcomes.Crashed h = refl
 alive (outcomes.Skipped why) h = absurd (cc)
+alive _ h = refl
 
 step_is : (i : ℕ) (y : Item) → steps i y ≡ true → y ≡ Step i
 step_is i (Step k) h = ap (λ u. Step u) (same_from k i h)
-step_is i (Call k o) h = absurd (cc)
-step_is i (Crash k) h = absurd (cc)
+step_is i _ h = absurd (cc)
 
 -- who is occupied and has not trapped is busy or has crashed
 busy_then : (o : Op) (s : Status) → Occupied o s → (HasTrapped s → ⊥) →

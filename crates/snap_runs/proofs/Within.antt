@@ -38,9 +38,8 @@ all_read P (x ∷ xs) zero none h other = h.0
 all_read P (x ∷ xs) (suc k) none h other = all_read P xs k none h.1 other
 
 all_taken : {A : Type 0} (P : A → Type 0) (n : ℕ) (xs : List A) → AllByRecursion P xs → AllByRecursion P (take n xs)
-all_taken P zero xs h = tt
-all_taken P (suc n) [] h = tt
 all_taken P (suc n) (x ∷ xs) h = (h.0, all_taken P n xs h.1)
+all_taken P _ _ h = tt
 
 all_dropped : {A : Type 0} (P : A → Type 0) (n : ℕ) (xs : List A) → AllByRecursion P xs → AllByRecursion P (drop n xs)
 all_dropped P zero xs h = h

@@ -47,24 +47,17 @@ module _ {V P M : Type 0} (a : Algorithm V P M) (lines : Lines V P M) (line : �
     most_once : (d : Mode) (k : P) (w word value : ℕ) → op_of d ≡ Update word value →
         flow.HasWritten lines (At d k) w → w + a.writes k ≤ 1
     most_once Scanning k w word value e h = absurd (cc)
-    most_once (Embedded x y) k w word value e h =
-        let most : lines.written k + a.writes k ≤ 1 = once.most k in
-        omega arith
-    most_once (Updating x y) k w word value e h =
-        let most : lines.written k + a.writes k ≤ 1 = once.most k in
-        omega arith
+    most_once _ k w word value e h = let most : lines.written k + a.writes k ≤ 1 = once.most k in omega arith
 
     -- where an update is done it has written
     once_done : (t : ℕ) (m : M) (q : TypedProcess V P M) (d : Mode) (k : P) (v : Move V P M) (w word value : ℕ) →
         outcome_of (by_move a t m q k v) ≡ Finished →
         op_of d ≡ Update word value → flow.Flows lines a d m q.variables k v →
         flow.HasWritten lines (At d k) w → (w ≡ 1) × (a.writes k ≡ 0)
-    once_done t m q d k (To d' m' p k') w word value out e h is = absurd (cc)
-    once_done t m q d k (Begin d' p k') w word value out e h is = absurd (cc)
-    once_done t m q d k (Answer v) w word value out e h is = absurd (cc)
     once_done t m q Scanning k Finish w word value out e h is = absurd h
     once_done t m q (Embedded x y) k Finish w word value out e h is = absurd h
     once_done t m q (Updating x y) k Finish w word value out e h is = let last = once.last k h in (is ∙ last.0, last.1)
+    once_done t m q d k _ w word value out e h is = absurd (cc)
 
     abbrev pub Going : (word value c t : ℕ) → Type 0
     Going word value c t = called.Going a line once.writes_is items run.fits run.does i one silent word value c t

@@ -35,8 +35,7 @@ second_update = record { process = 2; call = 38; end = Some 55; action = Sets 2 
 
 abbrev pub is_call : Item → Bool
 is_call (Call i op) = true
-is_call (Step i) = false
-is_call (Crash i) = false
+is_call _ = false
 
 pub scan_took_place : FinishedScan run 1 None 1 64 (0 ∷ 5 ∷ [])
 scan_took_place =

@@ -60,8 +60,6 @@ sees_five : (values : List ℕ) (os : List Operation) → AllByRecursion (λ o. 
     (j k : ℕ) (d e : Operation) (view : List ℕ) →
     j < k → k < length os → (slice_index_or os j d).action ≡ Sets 2 5 →
     (slice_index_or os k e).action ≡ Sees view → slice_index view 1 ≡ 5
-sees_five values [] fives runs j k d e view before lt sets sees = absurd (omega arith)
-sees_five values (o ∷ os) fives runs j zero d e view before lt sets sees = absurd (omega arith)
 sees_five values (o ∷ os) fives runs zero (suc k) d e view before lt sets sees =
     let here : IsOneOf (length values) 2 = subst (Allows values) sets runs.0 in
     let two : 1 < length values = here.1 in
@@ -71,6 +69,7 @@ sees_five values (o ∷ os) fives runs zero (suc k) d e view before lt sets sees
     (get_or-set_same values 1 5 0 two) rest k e view (omega arith) sees
 sees_five values (o ∷ os) fives runs (suc j) (suc k) d e view before lt sets sees =
     sees_five (after values o.action) os fives.1 runs.1 j k d e view (omega arith) (omega arith) sets sees
+sees_five values _ fives runs j _ d e view before lt sets sees = absurd (omega arith)
 
 -- The one update of word 2 in the future in which process 1 goes on alone sets it to 5.
 abbrev run_alone : Run
@@ -100,9 +99,8 @@ completed_sets_five i c None (Sets word value) took = updates_set_five i word va
 completed_sets_five i c end (Sees view) took = tt
 
 open_sets_five : (i c : ℕ) (end : Option ℕ) (a : Action) → IsOpenScan run_alone i c end a → SetsFive a
-open_sets_five i c (Some e) a h = absurd h
-open_sets_five i c None (Sets word value) h = absurd h
 open_sets_five i c None (Sees view) h = tt
+open_sets_five i c _ _ h = absurd h
 
 sets_five : (o : Operation) → IsCompleted run_alone o → SetsFive o.action
 sets_five o (inl took) = completed_sets_five o.process o.call o.end o.action took

@@ -33,10 +33,9 @@ ends_is_end (Sets word value) out h = subst IsEnd (sym (ends_done word value out
 ends_is_end (Sees view) out h = let x = ends_answer out h in subst IsEnd (sym x.1) tt
 
 pub same_action : (b d : Action) → op_of b ≡ op_of d → outcome_of b ≡ outcome_of d → b ≡ d
-same_action (Sets word value) (Sets word' value') op out = cc
 same_action (Sets word value) (Sees view) op out = absurd (cc)
 same_action (Sees view) (Sets word value) op out = absurd (cc)
-same_action (Sees view) (Sees view') op out = cc
+same_action _ _ op out = cc
 
 -- an operation of process i that has not ended ends at item e
 abbrev pub end_at : Bool → ℕ → Option ℕ → Option ℕ
@@ -50,8 +49,7 @@ ended i e o =
 
 pub not_ended_before : (b : Bool) (e : ℕ) (end : Option ℕ) → end_at b e end ≡ None → end ≡ None
 not_ended_before true e None h = refl
-not_ended_before true e (Some d) h = h
-not_ended_before false e end h = h
+not_ended_before _ e _ h = h
 
 pub ended_now : (b : Bool) (e : ℕ) (end : Option ℕ) → b ≡ true → end_at b e end ≡ None → ⊥
 ended_now true e None is h = cc
@@ -60,8 +58,7 @@ ended_now false e end is h = cc
 
 ended_then : (b : Bool) (e : ℕ) (end : Option ℕ) (d : ℕ) → end_at b e end ≡ Some d → (end ≡ Some d) ⊎ (e ≡ d)
 ended_then true e None d h = inr (cc)
-ended_then true e (Some f) d h = inl h
-ended_then false e end d h = inl h
+ended_then _ e _ d h = inl h
 
 module _ (r : Run) where
   -- no item after item c and before item t ends what process i is asked for

@@ -328,7 +328,7 @@ module _ (r : Run) where
       memory = memory_wider m m (as_wide m) r.shape (IsValue (calm r) t) Mine mine S.memory h.memory;
       processes = (
         let same = length-map S.processes revived in
-            let few : length (map revived S.processes) ≤ r.shape.n = h.processes.0 in omega arith,
+            omega arith,
         processes_from S.processes h.processes.1,
       );
     }

@@ -270,8 +270,7 @@ module _ (r : Run) (fits : IsValidRun r) where
       let one = item_one t h in
       let was = is_answered view (turn t i h one refl) out in
       let u : UnderCall i op.Scan t =
-      subst (λ o. UnderCall i o t) was.2 (subst (UnderAt i t) was.1 (under t i (omega arith) one)) in
-      let le : u.call ≤ t = u.order in (
+      subst (λ o. UnderCall i o t) was.2 (subst (UnderAt i t) was.1 (under t i (omega arith) one)) in (
         u.call,
         record {
           scan = record {
@@ -295,8 +294,7 @@ module _ (r : Run) (fits : IsValidRun r) where
       let one = item_one t h in
       let was = is_finished (turn t i h one refl) out in
       let u : UnderCall i (op.Update was.1 was.2) t =
-      subst (λ o. UnderCall i o t) was.4 (subst (UnderAt i t) was.3 (under t i (omega arith) one)) in
-      let le : u.call ≤ t = u.order in (
+      subst (λ o. UnderCall i o t) was.4 (subst (UnderAt i t) was.3 (under t i (omega arith) one)) in (
         u.call,
         was.1,
         was.2,

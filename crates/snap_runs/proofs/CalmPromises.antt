@@ -185,7 +185,6 @@ module _ (r : Run) where
 
   pub borrowed_views_are_lent : (line : ℕ) → OfCalm (BorrowedViewsAreLent line) → BorrowedViewsAreLent line r
   borrowed_views_are_lent line p fits i link c e view f ex =
-      let order : c < e = f.order in
       let last : e ≤ length r.items = f.scan.last in
       let x =
       p (steady_of r fits) (fits_calm fits) i link c e view (finished_to r fits i link c e view f)
@@ -203,7 +202,6 @@ module _ (r : Run) where
 
   pub own_updates_are_seen : OfCalm OwnUpdatesAreSeen → OwnUpdatesAreSeen r
   own_updates_are_seen p fits i word value called ended c e view up lt is_done after none f =
-      let order : c < e = f.order in
       let last : e ≤ length r.items = f.scan.last in
       let shorter : ended ≤ length r.items = up.last in
       p (steady_of r fits) (fits_calm fits) i word value called ended c e view

@@ -121,7 +121,7 @@ module _ {V P M : Type 0} (a : Algorithm V P M) (lines : Lines V P M) (line : �
         let x = writes.written a lines line writer run updates t j there.1.0 short there.0 there.1.1 in
         let op = subst (λ (p : Process). IsUpdating k p.status)
         (busy t j (Updating x.word x.value) writer.counter (omega arith) w.1 x.control) w.3 in
-        let same : x.word ≡ k = (let e : Update x.word x.value ≡ Update k op.0 = op.1 in cc) in
+        let same : x.word ≡ k = cc in
         let e2 : seq_at (words (suc t)) k ≡ seq_at (words t) k + 1 = counted t j k short one x w.1 same in omega arith
 
     module _ (c : Copies V P M) (names : CollectLines) (test : P) where
@@ -175,23 +175,17 @@ module _ {V P M : Type 0} (a : Algorithm V P M) (lines : Lines V P M) (line : �
             (b : Both (at t i).auxiliary.round t (at t i).variables (c.places + 1)) →
             CleanReads r names line i c0 (suc t) b.middle k
         reads link c0 t k d scan le there one_k equal b =
-            let last : suc t ≤ length items = scan.last in
             let g = scans.goes a lines listed run i one link c0 (suc t) t scan le (omega arith) in
             let round = (at t i).auxiliary.round in
             let after : c0 ≤ round = g.round_after in
             let place : IsOneOf c.places k = subst (λ y. IsOneOf y k) (sym h.places) one_k in
             let x = b.first k place in
             let y = b.second k place (omega arith) in
-            let x1 : round ≤ x.time = x.after in
-            let x2 : x.time < b.middle = x.before in
-            let y1 : b.middle ≤ y.time = y.after in
-            let y2 : y.time < t = y.before in
             let tested : (at t i).auxiliary.tested ≡ double_collects r i round t = g.tested in
             let none : (at t i).auxiliary.tested ≡ 0 = h.fresh t i d (omega arith) one there in
             let more : double_collects r i round (suc t) ≤ double_collects r i round t + a.tests test =
             span.last_collects a listed.tested items run.fits run.does
             (scans.lawful a lines listed run) i one round t d test g.round_before (omega arith) there in
-            let ends : a.tests test ≡ 1 = h.ends in
             let fewer : double_collects r i (suc x.time) (suc t) ≤ double_collects r i round (suc t) =
             count_later (ends_double_collect r i) round (suc x.time) (suc t) (omega arith) in
             let first_count : seq_at (c.first (at t i).variables) k ≡ seq_at (words x.time) k =
@@ -227,7 +221,6 @@ module _ {V P M : Type 0} (a : Algorithm V P M) (lines : Lines V P M) (line : �
             is_at names.passed (process_at (state r (suc t)) i).status ≡ true →
             (middle : ℕ) × ((k : ℕ) → IsOneOf a.shape.w k → CleanReads r names line i c0 (suc t) middle k)
         passed_test link c0 t scan le ex passes =
-            let last : suc t ≤ length items = scan.last in
             let there =
             executing.stands_at a items run.fits run.does numbered t i names.test test (omega arith) one h.tests ex in
             let d = there.1.0 in

@@ -211,7 +211,6 @@ module _ {V P M : Type 0} (a : Algorithm V P M) (c : Copies V P M) where
         ]
     advance s t d l p' HasSecond le is at r h =
         let p = (his t).variables in
-        let e : c.index p' ≡ c.index p = r.2 in
         let g : Both s t p (c.index p) = subst (Progress s t p) r.1 h in
         let to : g.middle ≤ t = g.to in
         record {
@@ -228,8 +227,7 @@ module _ {V P M : Type 0} (a : Algorithm V P M) (c : Copies V P M) where
     advance s t d l p' Collected le is at r h =
         let p = (his t).variables in
         elim r.2 [
-          | inl done ↦ (let all : c.places ≤ c.index p = done.1 in
-              both_on s t p p' (c.index p + 1) (c.places + 1) r.0 r.1 (λ k o lt. omega arith)
+          | inl done ↦ (both_on s t p p' (c.index p + 1) (c.places + 1) r.0 r.1 (λ k o lt. omega arith)
               (subst (Progress s t p) done.0 h))
           | inr on ↦ both_on s t p p' (c.places + 1) (c.places + 1) r.0 r.1 (λ k o lt. lt) (subst (Progress s t p) on h)
         ]

@@ -51,7 +51,7 @@ module _ {V P M : Type 0} (a : Algorithm V P M) (lines : Lines V P M) where
     longer c t not_now h = record {
       starts = h.starts;
       first = h.first;
-      order = (let o : c ≤ t = h.order in omega arith);
+      order = omega arith;
       goes_on = λ u view after before ends. elim (eq-or-lt_of_le before) [
         | inl same ↦ not_now view (subst (λ y. Ends r i y (Some a.back) view) same ends)
         | inr less ↦ h.goes_on u view after (omega arith) ends
@@ -59,7 +59,7 @@ module _ {V P M : Type 0} (a : Algorithm V P M) (lines : Lines V P M) where
     }
 
     lends_longer : (c t : ℕ) (view : List ℕ) → Lending c t view → Lending c (suc t) view
-    lends_longer c t view h = record { to = h.to; before = (let b : h.to ≤ t = h.before in omega arith); scan = h.scan }
+    lends_longer c t view h = record { to = h.to; before = omega arith; scan = h.scan }
 
     -- an item that is no step of the busy process
     kept : (t since : ℕ) (view : List ℕ) (control : Control P) →

@@ -200,7 +200,7 @@ module _ {V P M : Type 0} (lines : Lines V P M) where
     counts_writes Scanning m p k (To d' m' p' k') w h is =
         subst (λ x. HasWritten (At x k') (w + a.writes k)) (sym h.0) tt
     counts_writes (Embedded word value) m p k (To d' m' p' k') w h is =
-        let none : w + a.writes k ≡ 0 = (let q : a.writes k ≡ 0 = h.1 in omega arith) in
+        let none : w + a.writes k ≡ 0 = omega arith in
         elim h.2 [
           | inl same ↦ subst (λ x. HasWritten (At x k') (w + a.writes k)) (sym same.0) none
           | inr back ↦ subst (λ x. HasWritten (At x k') (w + a.writes k)) (sym back.0) (none ∙ sym back.2)
@@ -239,7 +239,7 @@ module _ {V P M : Type 0} (lines : Lines V P M) where
     stays (Some l) Scanning m p k (Answer v) returns h inside =
         absurd (let e : ◌≡◌ {A = Option ℕ} None (Some l) = inside in cc)
     stays None (Embedded word value) m p k v returns h inside =
-        absurd (let e : Update word value ≡ Scan = inside.1 in cc)
+        absurd (cc)
     stays (Some l) (Embedded word value) m p k (To d' m' p' k') returns h inside =
         elim h.2 [
           | inl same ↦ inl (subst (span.Inside a (Some l)) (sym same.0) inside)

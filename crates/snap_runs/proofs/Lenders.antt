@@ -99,7 +99,6 @@ module _ {V P M : Type 0} (a : Algorithm V P M) (lines : Lines V P M) (line : �
         seq_at (words c) j + 2 ≤ seq_at (words u) j → (word_at (words u) j).view ≡ view → LentView r i c (suc t) view
     lent_view i link c t view ends j u jone from to two is =
         let one = ends.scan.process in
-        let last : suc t ≤ length items = ends.scan.last in
         let w : LastWrite j c u = last_write j c u jone from (omega arith) (omega arith) in
         let v = w.time in
         let after : c ≤ v = w.after in
@@ -128,7 +127,6 @@ module _ {V P M : Type 0} (a : Algorithm V P M) (lines : Lines V P M) (line : �
         (omega arith) wrote.control lends.late in
         let its_view : lines.answer (at v j).variables ≡ view =
         sym (lends.views v j wrote.word wrote.value) ∙ sym (ap (λ (x : Word). x.view) now) ∙ is in
-        let ended : lent.to ≤ v = lent.before in
         let other : j ≢ i =
         λ same. flow.not_update (writer.Owned j) g.mode (flow.in_scan lines a link g.mode g.inside)
         (subst (IsUpdateOf (writer.Owned j)) (let e : At there.1.0 writer.counter ≡ At g.mode g.counter =

@@ -113,9 +113,7 @@ module _ (line : ℕ) (r : Run) (fits : IsValidRun r) (points : HasLinearization
       let up' = operations.open_update r i' word' value' c' t' end' took' (omega arith) last' still' in
       let call : Call i (op.Update word value) ≡ Call i' (op.Update word' value') =
       sym up.call ∙ ap (item r) same ∙ up'.call in
-      let his : i ≡ i' = cc in
-      let none : s ≡ 0 = spot.0 in
-      let none' : s' ≡ 0 = spot'.0 in (
+      let his : i ≡ i' = cc in (
         elim (cases_eq t t') [
           | inl now ↦ now
           | inr other ↦ elim (cases_lt t t') [
@@ -131,14 +129,12 @@ module _ (line : ℕ) (r : Run) (fits : IsValidRun r) (points : HasLinearization
       )
   same_spot (Sets word value) (Sees view') i i' c c' end end' t t' s s' took took' spot spot'
       last last' still still' same =
-      let lt : c < t = spot.1 in
       let up = operations.open_update r i word value c t end took (omega arith) last still in
       let f = finished_of i' c' s' end' view' took' spot'.1 in
       absurd (let call : Call i (op.Update word value) ≡ Call i' op.Scan =
       sym up.call ∙ ap (item r) same ∙ f.scan.starts.0 in cc)
   same_spot (Sees view) (Sets word' value') i i' c c' end end' t t' s s' took took' spot spot'
       last last' still still' same =
-      let lt' : c' < t' = spot'.1 in
       let up' = operations.open_update r i' word' value' c' t' end' took' (omega arith) last' still' in
       let f = finished_of i c s end view took spot.1 in
       absurd (let call : Call i op.Scan ≡ Call i' (op.Update word' value') =
@@ -188,7 +184,7 @@ module _ (line : ℕ) (r : Run) (fits : IsValidRun r) (points : HasLinearization
   same_at (Sets word value) (Sees view') i i' c c' end end' t s took took' spot spot' last still still' =
       absurd (let none : s ≡ 0 = spot.0 in let some : 0 < s = spot'.0 in omega arith)
   same_at (Sees view) (Sets word' value') i i' c c' end end' t s took took' spot spot' last still still' =
-      absurd (let none : s ≡ 0 = spot'.0 in let some : 0 < s = spot.0 in omega arith)
+      absurd (omega arith)
   same_at (Sees view) (Sees view') i i' c c' end end' t s took took' spot spot' last still still' =
       let f = finished_of i c s end view took spot.1 in
       let f' = finished_of i' c' s end' view' took' spot'.1 in
@@ -208,30 +204,26 @@ module _ (line : ℕ) (r : Run) (fits : IsValidRun r) (points : HasLinearization
         same_spot a.action b.action a.process b.process a.call b.call a.end b.end t t' s s' p.operation q.operation
         p.spot q.spot p.last q.last p.open_still q.open_still same in
         sooner_differs t s t' s' sooner spots.0 spots.1,
-    λ ended. let called : a.call ≤ t = p.called in
-        let le : t' ≤ ended.0 = q.open_still ended.0 ended.1 in
-        let lt : ended.0 < a.call = ended.2 in
+    λ ended. let le : t' ≤ ended.0 = q.open_still ended.0 ended.1 in
         let before : t ≤ t' = sooner_item_le t s t' s' sooner in
         omega arith,
   )
 
   not_ended_before_itself : (o : Operation) (t s : ℕ) → Placed t s o → EndedBefore o o → ⊥
   not_ended_before_itself o t s p ended =
-      let called : o.call ≤ t = p.called in
       let le : t ≤ ended.0 = p.open_still ended.0 ended.1 in
-      let lt : ended.0 < o.call = ended.2 in
       omega arith
 
   -- no spot is before the first item, and no number past the last
   first_item : (a : Action) (i c : ℕ) (end : Option ℕ) (t s : ℕ) → TookPlace r i c end a →
       Spot a i c end t s → c ≤ t → 0 < t
-  first_item (Sets word value) i c end t s took spot le = let lt : c < t = spot.1 in omega arith
+  first_item (Sets word value) i c end t s took spot le = omega arith
   first_item (Sees view) i c end t s took spot le =
-      let f = finished_of i c s end view took spot.1 in let pos : 0 < c = f.scan.first in omega arith
+      let f = finished_of i c s end view took spot.1 in omega arith
 
   last_number : (a : Action) (i c : ℕ) (end : Option ℕ) (t s : ℕ) → TookPlace r i c end a →
       Spot a i c end t s → s ≤ length r.items
-  last_number (Sets word value) i c end t s took spot = let none : s ≡ 0 = spot.0 in omega arith
+  last_number (Sets word value) i c end t s took spot = omega arith
   last_number (Sees view) i c end t s took spot = let f = finished_of i c s end view took spot.1 in f.scan.last
 
   abbrev zeros : List ℕ
@@ -302,7 +294,7 @@ module _ (line : ℕ) (r : Run) (fits : IsValidRun r) (points : HasLinearization
   no_scan_in : (t s i c : ℕ) (end : Option ℕ) (a : Action) →
       ((view : List ℕ) → FinishedScan r i None c (suc s) view → point (suc s) ≡ t → ⊥) →
       TookPlace r i c end a → Spot a i c end t (suc s) → ⊥
-  no_scan_in t s i c end (Sets word value) none took spot = let zeroed : suc s ≡ 0 = spot.0 in omega arith
+  no_scan_in t s i c end (Sets word value) none took spot = omega arith
   no_scan_in t s i c end (Sees view) none took spot = none view (finished_of i c (suc s) end view took spot.1) spot.2
 
   no_scan : (t s : ℕ) → ((i c : ℕ) (view : List ℕ) → FinishedScan r i None c (suc s) view → point (suc s) ≡ t → ⊥) →
@@ -311,7 +303,7 @@ module _ (line : ℕ) (r : Run) (fits : IsValidRun r) (points : HasLinearization
 
   no_update_in : (t i c : ℕ) (end : Option ℕ) (a : Action) → (executes r i line t ≡ true → ⊥) → Spot a i c end t 0 → ⊥
   no_update_in t i c end (Sets word value) none spot = none spot.2
-  no_update_in t i c end (Sees view) none spot = let pos : 0 < 0 = spot.0 in omega arith
+  no_update_in t i c end (Sees view) none spot = omega arith
 
   -- the scans with their points at an item, by the numbers of their answers; no updates are among them
   scans_at : (t s : ℕ) (os : List Operation) → s ≤ length r.items → OrderedUpTo t 1 (values (state r t)) os →
@@ -339,8 +331,6 @@ module _ (line : ℕ) (r : Run) (fits : IsValidRun r) (points : HasLinearization
             )
             | inl here ↦ (let o : Operation =
                 record { process = a.process; call = a.call; end = Some (suc s); action = Sees a.view } in
-                let low : a.call ≤ a.point = a.low in
-                let high : a.point ≤ suc s = a.high in
                 let p : Placed t (suc s) o = record {
                   operation = a.finished;
                   called = omega arith;
@@ -425,7 +415,6 @@ module _ (line : ℕ) (r : Run) (fits : IsValidRun r) (points : HasLinearization
       let counted : count (executes r i line) c e ≡ 1 = (points.writes_once fits i word value c e up).1 took.1 took.2 in
       let w = counted_item (executes r i line) c e (omega arith) in
       let lt : c < w.0 = w.1 in
-      let le : w.0 ≤ e = w.2 in
       let last : e ≤ length r.items = up.last in (
         w.0,
         0,
@@ -444,11 +433,7 @@ module _ (line : ℕ) (r : Run) (fits : IsValidRun r) (points : HasLinearization
       decided (inr never) is = absurd (never i c view took)
       decided (inl a) is =
           let same = operations.same_scan r fits i a.process c a.call e view a.view took a.finished in
-          let at_call : c ≡ a.call = same.1 in
-          let low : a.call ≤ a.point = a.low in
-          let high : a.point ≤ e = a.high in
-          let last : e ≤ length r.items = took.scan.last in
-          let lt : c < e = took.order in (
+          let last : e ≤ length r.items = took.scan.last in (
             a.point,
             e,
             record {
@@ -466,7 +451,6 @@ module _ (line : ℕ) (r : Run) (fits : IsValidRun r) (points : HasLinearization
       let its : TookPlace r o.process o.call (Some ended.0) o.action =
       subst (λ y. TookPlace r o.process o.call y o.action) ended.1 took in
       let p = spot_of o.action o.process o.call ended.0 its in
-      let last : p.0 ≤ length r.items = p.2.last in
       subst (λ y. Contains os (record { process = o.process; call = o.call; end = y; action = o.action })) (sym ended.1)
       (h.has (record { process = o.process; call = o.call; end = Some ended.0; action = o.action }) p.0 p.1 p.2
       (inl (omega arith)))

@@ -52,7 +52,7 @@ abbrev pub Passing : (ℕ → Bool) → ℕ → ℕ → Type 0
 Passing test c e = (t : ℕ) × (c < t) × (t ≤ e) × (test t ≡ true)
 
 passing_next : (test : ℕ → Bool) (c e : ℕ) → Passing test c e → Passing test c (suc e)
-passing_next test c e x = (x.0, x.1, (let le : x.0 ≤ e = x.2 in omega arith), x.3)
+passing_next test c e x = (x.0, x.1, omega arith, x.3)
 
 passing_last : (test : ℕ → Bool) (c e n : ℕ) (later passes : Bool) → nat_lt c (suc e) ≡ later → test (suc e) ≡ passes →
     (1 ≤ n → Passing test c e) → 1 ≤ (if later && passes then suc n else n) → Passing test c (suc e)
@@ -181,7 +181,7 @@ module _ (r : Run) where
     called = up.called;
     first = up.first;
     order = le;
-    last = (let last : e ≤ length r.items = up.last in omega arith);
+    last = omega arith;
     goes_on = λ u lt less. up.goes_on u lt (omega arith);
   }
 
@@ -325,7 +325,7 @@ module _ (r : Run) where
                 }))
             | inr not ↦ inr (λ i c view f. not view f.ends.1)
           ]
-          | inr ge ↦ inr (λ i c view f. let last : suc t ≤ length r.items = f.scan.last in omega arith)
+          | inr ge ↦ inr (λ i c view f. omega arith)
         ]
 
     -- an item that writes, and the update of which it is the write

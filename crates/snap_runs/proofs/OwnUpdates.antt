@@ -111,7 +111,6 @@ module _ {V P M : Type 0} (a : Algorithm V P M) (lines : Lines V P M) (line : �
     not_updating : (word value c e : ℕ) (op : Op) → PendingUpdate r i word value c (suc e) → c ≤ e →
         item r (suc e) ≡ Call i op → outcome r (suc e) ≡ Called → ⊥
     not_updating word value c e op up le call out =
-        let last : suc e ≤ length items = up.last in
         let g = called.going a line once.writes_is items run.fits run.does i one
         (writes_once.silent a lines line once run i one) word value c (suc e) e up le (omega arith) in
         let x = typed_state a items e in
@@ -184,10 +183,8 @@ module _ {V P M : Type 0} (a : Algorithm V P M) (lines : Lines V P M) (line : �
     -- after an update that is done, and up to the end of a scan that it called next, it writes nothing
     quiet : (done c e : ℕ) → ((u : ℕ) → done < u → u < c → IsDone r i u → ⊥) → PendingScan r i None c e → (t : ℕ) →
         done ≤ t → t < e → executes r i line (suc t) ≡ false
-    quiet done zero e none scan t lo hi = absurd (let pos : 0 < 0 = scan.first in omega arith)
+    quiet done zero e none scan t lo hi = absurd (omega arith)
     quiet done (suc c) e none scan t lo hi =
-        let last : e ≤ length items = scan.last in
-        let order : suc c ≤ e = scan.order in
         (elim (executes r i line (suc t)) as (λ b. executes r i line (suc t) ≡ b → executes r i line (suc t) ≡ false) [
           | false ↦ λ is. is
           | true ↦ λ is.
@@ -210,7 +207,6 @@ module _ {V P M : Type 0} (a : Algorithm V P M) (lines : Lines V P M) (line : �
 
     wrote : (word value c e : ℕ) → PendingUpdate r i word value c e → c < e → IsDone r i e → Wrote word value c e
     wrote word value c e up lt done =
-        let last : e ≤ length items = up.last in
         let two =
         writes.once_in_update a lines line writer run updates once numbered its
         (fits_of r run.fits) i word value c e up in
@@ -254,13 +250,9 @@ module _ {V P M : Type 0} (a : Algorithm V P M) (lines : Lines V P M) (line : �
   pub own_updates_are_seen : HavePoints r → OwnUpdatesAreSeen r
   own_updates_are_seen points fits i word value c0 done c e view up lt ended after none scan =
       let one = up.process in
-      let last : e ≤ length items = scan.scan.last in
       let point : HasPoint r c e view = points fits i None c e view scan in
       let u = point.0 in
-      let from : c ≤ u = point.1 in
-      let to : u ≤ e = point.2 in
       let w : Wrote i one word value c0 done = wrote i one word value c0 done up lt ended in
-      let before : w.item_before < done = w.before in
       let same : word_at (words u) i ≡ word_at (words (suc w.item_before)) i =
       stays i (suc w.item_before) u one (omega arith) (omega arith) (λ t lo hi. elim (cases_lt t done) [
         | inl early ↦ w.none_since t (omega arith) early

@@ -27,17 +27,15 @@ module _ {V P M : Type 0} (a : Algorithm V P M) (lines : Lines V P M) (line : �
   point_of : (c e t : ℕ) (v : List ℕ) → t ≤ length items → t ≤ e →
       Held (writes.words_at a lines line writer run) t c v → HasPoint r c e v
   point_of c e t v le more h =
-      let u : h.0 ≤ t = h.2 in
       (h.0, h.1, omega arith, writes.values_is a lines line writer run h.0 (omega arith) ∙ h.3)
 
   module _ (held : (t i : ℕ) (d : Mode) (k : P) → t ≤ length items → IsOneOf a.shape.n i →
       (at t i).control ≡ At d k → lines.IsReturn k →
       Held (writes.words_at a lines line writer run) t (at t i).auxiliary.since (lines.answer (at t i).variables)) where
     pub have_points : HavePoints r
-    have_points fits i link c zero view h = absurd (let lt : c < 0 = h.order in omega arith)
+    have_points fits i link c zero view h = absurd (omega arith)
     have_points fits i link c (suc t) view h =
         let one = h.scan.process in
-        let last : suc t ≤ length items = h.scan.last in
         let ending = scans.ending a lines listed run i one link c t view h in
         let g = ending.goes_on in
         let returned = held t i g.mode g.counter (omega arith) one g.control ending.at_return in

@@ -120,7 +120,7 @@ module _ {V P M : Type 0} (a : Algorithm V P M) where
       round_after = subst (λ (q : TypedProcess V P M). c ≤ q.auxiliary.round) (sym same) g.round_after;
       round_before =
           subst (λ (q : TypedProcess V P M). q.auxiliary.round ≤ suc t) (sym same)
-          (let le2 : (his t).auxiliary.round ≤ t = g.round_before in omega arith);
+          (omega arith);
       tested =
           subst (λ (q : TypedProcess V P M). q.auxiliary.tested ≡ double_collects r i q.auxiliary.round (suc t))
           (sym same) (g.tested ∙ sym (collects_same (his t).auxiliary.round t g.round_before none));
@@ -223,7 +223,7 @@ module _ {V P M : Type 0} (a : Algorithm V P M) where
     next_goes : (link : Option ℕ) (c e t : ℕ) → PendingScan r i link c e → c ≤ t → suc t < e →
         Goes link c t → Goes link c (suc t)
     next_goes link c e t scan le lt g =
-        let short : t < length items = (let last : e ≤ length items = scan.last in omega arith) in
+        let short : t < length items = omega arith in
         elim (cases.item_case a items fits does i one t short) [
           | inl stays ↦ same_goes link c t le stays.same
               (cases.no_step a items fits does i one t g.mode g.counter stays g.control) g
@@ -330,9 +330,8 @@ module _ {V P M : Type 0} (a : Algorithm V P M) where
 
     -- the scan goes on up to the item before its end
     pub goes : (link : Option ℕ) (c e t : ℕ) → PendingScan r i link c e → c ≤ t → t < e → Goes link c t
-    goes link c e zero scan le lt = absurd (let pos : 0 < c = scan.first in omega arith)
+    goes link c e zero scan le lt = absurd (omega arith)
     goes link c e (suc t) scan le lt =
-        let last : e ≤ length items = scan.last in
         elim (eq-or-lt_of_le le) [
           | inl same ↦ subst (λ y. Goes link c y) same (first_goes link c e scan.first (omega arith) scan.starts)
           | inr more ↦ next_goes link c e t scan (omega arith) lt (goes link c e t scan (omega arith) (omega arith))

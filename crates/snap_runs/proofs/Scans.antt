@@ -130,6 +130,4 @@ module _ {V P M : Type 0} (a : Algorithm V P M) (lines : Lines V P M) where
           h.ends.0 h.ends.1
       ending (Some l) c t view h =
           let scan = h.scan in
-          let last : suc t ≤ length items = scan.last in
-          let lt : c < suc t = h.order in
           embedded_ending l c t view (omega arith) (goes (Some l) c (suc t) t scan (omega arith) (omega arith)) h.ends

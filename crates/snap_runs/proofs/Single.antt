@@ -49,7 +49,6 @@ module _ {V P M : Type 0} {a : Algorithm V P M} {lines : Lines V P M} {line : â„
         BorrowedViewsAreLent at_line (every.r frame items)
     borrowed_views_are_lent at_line there is lends beside =
         every.borrowed_views_are_lent frame items kept at_line there is (Î» steady i link c t view ends x.
-        let last : suc t â‰¤ length calmed = ends.scan.last in
         let b = beside steady t i x.mode (omega arith) ends.scan.process x.control in
         let since = (at frame calmed t i).auxiliary.since in
         let stood : Beside (words frame calmed) t c b.0 view =
@@ -80,7 +79,6 @@ module _ {V P M : Type 0} {a : Algorithm V P M} {lines : Lines V P M} {line : â„
             let k = kept steady in
             let run = execution frame calmed k in
             let one = scan.process in
-            let short : suc t â‰¤ length calmed = scan.last in
             let seen =
             moves.observed a lines frame.listed run frame.numbered raises there next raised row is goes i j t
             (omega arith) one move in

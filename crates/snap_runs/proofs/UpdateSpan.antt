@@ -56,7 +56,7 @@ module _ {V P M : Type 0} (a : Algorithm V P M) where
       call = h.call;
       called = h.called;
       first = h.first;
-      order = (let o : c ≤ t = h.order in omega arith);
+      order = omega arith;
       open_still = λ u lt le done. elim (eq-or-lt_of_le le) [
         | inl same ↦ not_done (subst (λ y. IsDone r i y) same done)
         | inr less ↦ h.open_still u lt (omega arith) done
@@ -172,7 +172,7 @@ module _ {V P M : Type 0} (a : Algorithm V P M) where
     next_going : (word value c e t : ℕ) → PendingUpdate r i word value c e → c ≤ t → suc t < e →
         Going word value c t → Going word value c (suc t)
     next_going word value c e t up le lt g =
-        let short : t < length items = (let last : e ≤ length items = up.last in omega arith) in
+        let short : t < length items = omega arith in
         elim (cases.item_case a items fits does i one t short) [
           | inl stays ↦ same_going word value c t le stays.same
               (cases.no_step a items fits does i one t g.mode g.counter stays g.control) g
@@ -210,9 +210,8 @@ module _ {V P M : Type 0} (a : Algorithm V P M) where
         ]
 
     pub going : (word value c e t : ℕ) → PendingUpdate r i word value c e → c ≤ t → t < e → Going word value c t
-    going word value c e zero up le lt = absurd (let pos : 0 < c = up.first in omega arith)
+    going word value c e zero up le lt = absurd (omega arith)
     going word value c e (suc t) up le lt =
-        let last : e ≤ length items = up.last in
         elim (eq-or-lt_of_le le) [
           | inl same ↦
               subst (λ y. Going word value c y) same (first_going word value c up.first (omega arith) up.call up.called)

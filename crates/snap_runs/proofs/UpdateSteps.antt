@@ -44,7 +44,7 @@ module _ {V P M : Type 0} (a : Algorithm V P M) (lines : Lines V P M) where
   -- each line of an update has at least its own step ahead
   pub own_step : (h : Ahead) (p : V) (k : P) (v : Move V P M) → Nearer h p k v → 1 ≤ h.ahead p k
   own_step h p k (To d m p' k') n = let le : h.ahead p' k' + 1 ≤ h.ahead p k = n.0 in omega arith
-  own_step h p k (Begin d p' k') n = let le : h.rest + 1 ≤ h.ahead p k = n.0 in omega arith
+  own_step h p k (Begin d p' k') n = omega arith
   own_step h p k _ n = n
 
   -- What an update has spent with what it has ahead: the steps of its scan count once the scan is made, and until
@@ -122,7 +122,6 @@ module _ {V P M : Type 0} (a : Algorithm V P M) (lines : Lines V P M) where
     after_scan own own' word value k g d' m' p' k' time more few spent (inr back) =
         let resumed : Resumes h (To (Updating word value) m' p' k') =
         subst (λ y. Resumes h (To y m' p' k')) back.0 back.1 in
-        let le : h.ahead p' k' ≤ h.rest = resumed.0 in
         subst (λ y. Spending h scan own' p' (stepped_auxiliary a k time g) (At y k')) (sym back.0)
         (subst (λ b. own' + h.ahead p' k' ≤ h.total + (if b then scan else 0)) (sym resumed.1) (omega arith))
 
@@ -177,8 +176,7 @@ module _ {V P M : Type 0} (a : Algorithm V P M) (lines : Lines V P M) where
         let n : Nearer h (his t).variables k (Begin d' p' k') =
         subst (Nearer h (his t).variables k) is (nearer t w x k short at) in
         let left : own_steps r i c (suc t) + h.rest ≤ h.total + 0 =
-        (let fewer : h.rest + 1 ≤ h.ahead (his t).variables k = n.0 in
-        let more = own_next c t le in
+        (let more = own_next c t le in
         let before : own_steps r i c t + h.ahead (his t).variables k ≤ h.total + 0 =
         subst (λ b. own_steps r i c t + h.ahead (his t).variables k ≤ h.total + (if b then scan else 0)) n.1 spent in
         omega arith) in
@@ -199,7 +197,7 @@ module _ {V P M : Type 0} (a : Algorithm V P M) (lines : Lines V P M) where
     next_spent : (word value c e t : ℕ) → PendingUpdate r i word value c e → c ≤ t → suc t < e →
         Spent word value c t → Spent word value c (suc t)
     next_spent word value c e t up le lt g =
-        let short : t < length items = (let last : e ≤ length items = up.last in omega arith) in
+        let short : t < length items = omega arith in
         elim (cases.item_case a items run.fits run.does i one t short) [
           | inl stays ↦ same_spent word value c t le stays.same
               (cases.no_step a items run.fits run.does i one t g.mode g.counter stays g.control) g
@@ -234,7 +232,6 @@ module _ {V P M : Type 0} (a : Algorithm V P M) (lines : Lines V P M) where
                 let b = begins p word value in
                 let none : own_steps r i (suc c) (suc c) ≡ 0 =
                 count_none (takes_step r i) (suc c) (suc c) (omega arith) in
-                let most : h.ahead p (a.counter (Update word value)) ≤ h.total = b.0 in
                 record {
                   mode = Updating word value;
                   counter = a.counter (Update word value);
@@ -250,9 +247,8 @@ module _ {V P M : Type 0} (a : Algorithm V P M) (lines : Lines V P M) where
         ]
 
     spent_at : (word value c e t : ℕ) → PendingUpdate r i word value c e → c ≤ t → t < e → Spent word value c t
-    spent_at word value c e zero up le lt = absurd (let pos : 0 < c = up.first in omega arith)
+    spent_at word value c e zero up le lt = absurd (omega arith)
     spent_at word value c e (suc t) up le lt =
-        let last : e ≤ length items = up.last in
         elim (eq-or-lt_of_le le) [
           | inl same ↦
               subst (λ y. Spent word value c y) same (first_spent word value c up.first (omega arith) up.call up.called)
@@ -284,7 +280,6 @@ module _ {V P M : Type 0} (a : Algorithm V P M) (lines : Lines V P M) where
     pub update_steps : (word value c e : ℕ) → PendingUpdate r i word value c e → own_steps r i c e ≤ h.total + scan
     update_steps word value c zero up = omega arith
     update_steps word value c (suc t) up =
-        let last : suc t ≤ length items = up.last in
         elim (eq-or-lt_of_le up.order) [
           | inl same ↦
               (let none : own_steps r i c (suc t) ≡ 0 = count_none (takes_step r i) c (suc t) (omega arith) in

@@ -76,9 +76,6 @@ module _ {V P M : Type 0} (a : Algorithm V P M) (lines : Lines V P M) (line : �
         once_done (suc t) m (his t) g.mode g.counter (a.move i g.mode m (his t).variables g.counter)
         (his t).auxiliary.wrote word value (sym step.1 ∙ out) g.op
         (flows_at t g.mode g.counter short g.control) written in
-        let one_write : (his t).auxiliary.wrote ≡ 1 = ended.0 in
-        let none_more : a.writes g.counter ≡ 0 = ended.1 in
-        let is_count : (his t).auxiliary.wrote ≡ count (executes (embed.run_of a items) i line) c t = g.wrote in
         let next : count (executes (embed.run_of a items) i line) c (suc t)
         ≡ count (executes (embed.run_of a items) i line) c t + a.writes g.counter =
         called.line_counts a line once.writes_is items run.fits run.does i one silent t c g.mode g.counter le
@@ -91,7 +88,6 @@ module _ {V P M : Type 0} (a : Algorithm V P M) (lines : Lines V P M) (line : �
     writes_once word value c zero up = (omega arith, λ lt done. absurd (omega arith))
     writes_once word value c (suc t) up =
         let r = embed.run_of a items in
-        let last : suc t ≤ length items = up.last in
         elim (eq-or-lt_of_le up.order) [
           | inl same ↦ (let none : count (executes r i line) c (suc t) ≡ 0 =
               called.none_yet a line once.writes_is items run.fits run.does i one silent c (suc t) (omega arith) in
@@ -105,7 +101,6 @@ module _ {V P M : Type 0} (a : Algorithm V P M) (lines : Lines V P M) (line : �
               (run.wrote t i (omega arith) one) in
               let most : (his t).auxiliary.wrote + a.writes g.counter ≤ 1 =
               most_once g.mode g.counter (his t).auxiliary.wrote word value g.op written in
-              let is : (his t).auxiliary.wrote ≡ count (executes r i line) c t = g.wrote in
               let next : count (executes r i line) c (suc t) ≤ count (executes r i line) c t + a.writes g.counter =
               called.line_at_most a line once.writes_is items run.fits run.does i one silent t c g.mode g.counter
               (omega arith) (omega arith) g.control in (

@@ -56,17 +56,15 @@ one_before r view t more None other h = λ u low high e. elim (eq-or-lt_of_le lo
   | inl same ↦ other (subst (λ k. values (state r k) ≡ view) (sym same) e)
   | inr less ↦ h u less (omega (arith, high)) e
 ]
-one_before r view t more (Some p) other h =
-    let after : suc t ≤ p = h.0 in
-    let before : p < suc t + more = h.1 in (
-      omega (arith, after),
-      omega (arith, before),
-      h.2,
-      λ u low high e. elim (eq-or-lt_of_le low) [
-        | inl same ↦ other (subst (λ k. values (state r k) ≡ view) (sym same) e)
-        | inr less ↦ h.3 u less high e
-      ],
-    )
+one_before r view t more (Some p) other h = (
+  omega (arith, h.0),
+  omega (arith, h.1),
+  h.2,
+  λ u low high e. elim (eq-or-lt_of_le low) [
+    | inl same ↦ other (subst (λ k. values (state r k) ≡ view) (sym same) e)
+    | inr less ↦ h.3 u less high e
+  ],
+)
 
 -- the least point is the least
 least_of : (r : Run) (view : List ℕ) (t more : ℕ) → IsLeastOf r view t more (least_point r view t more)
@@ -92,12 +90,9 @@ least_of_scan : (r : Run) (view : List ℕ) (c e : ℕ) (o : Option ℕ) → c �
     IsLeastOf r view c (suc (e - c)) o → IsLeastPoint r c e view o
 unfolding IsLeastOf
 least_of_scan r view c e None order h = λ point.
-    let low : c ≤ point.0 = point.1 in
-    let high : point.0 ≤ e = point.2 in
-    h point.0 low (omega (arith, low, high)) point.3
+    h point.0 point.1 (omega (arith, point.1, point.2)) point.3
 least_of_scan r view c e (Some p) order h =
-    let high : p < c + suc (e - c) = h.1 in
-    (h.0, omega (arith, high, order), h.2, h.3)
+    (h.0, omega (arith, h.1, order), h.2, h.3)
 
 module _ (r : Run) (fits : IsValidRun r) where
   -- the last call of a process is the one whose operation has not ended
@@ -142,7 +137,6 @@ module _ (r : Run) (fits : IsValidRun r) where
       let found = answer_ends r fits t view lt is in
       let c = found.0 in
       let scan = found.1.scan in
-      let le : c < suc t = found.1.order in
       let before : last_call r i (suc t) ≡ c =
       ap (λ (y : Outcome). if nat_eq i i && is_called y then suc t else last_call r i t) is
       ∙ and_false (nat_eq i i) (suc t) (last_call r i t)
@@ -154,7 +148,7 @@ module _ (r : Run) (fits : IsValidRun r) where
         finished = found.1;
         point_is = refl;
         point_is_least =
-            least_of_scan r view c (suc t) (least_point r view c (suc (suc t - c))) (omega (arith, le))
+            least_of_scan r view c (suc t) (least_point r view c (suc (suc t - c))) (omega (arith, found.1.order))
             (least_of r view c (suc (suc t - c)));
         collects_are = refl;
       } in
@@ -199,10 +193,8 @@ found_by r view t u (suc more) low high h = elim (eq-or-lt_of_le low) [
 point_found : (r : Run) (v : Verdict) → HavePoints r → IsValidRun r → IsOfScan r v → HasFoundPoint v
 point_found r v points fits h =
     let p = points fits v.process None v.call v.answer h.view h.finished in
-    let from : v.call ≤ p.0 = p.1 in
-    let to : p.0 ≤ v.answer = p.2 in
     subst (λ (o : Option ℕ). IsSome o) (sym h.point_is)
-    (found_by r h.view v.call p.0 (suc (v.answer - v.call)) from (omega (arith, from, to)) p.3)
+    (found_by r h.view v.call p.0 (suc (v.answer - v.call)) p.1 (omega (arith, p.1, p.2)) p.3)
 
 -- of each verdict
 all_found : (r : Run) (vs : List Verdict) → HavePoints r → IsValidRun r → AllByRecursion (IsOfScan r) vs →

@@ -260,15 +260,12 @@ module _ (r : Run) where
     -- scans
     pub scan_to : (i : ℕ) (link : Option ℕ) (c e : ℕ) → PendingScan r i link c e → PendingScan (calm r) i link c e
     scan_to i link c e s =
-        let order : c ≤ e = s.order in
-        let last : e ≤ length r.items = s.last in
-        let first : 0 < c = s.first in
         record {
           process = s.process;
-          starts = at_starts_to i link c first (omega arith) s.starts;
-          first = first;
-          order = order;
-          last = subst (λ k. e ≤ k) (sym (same_length r)) last;
+          starts = at_starts_to i link c s.first (omega arith) s.starts;
+          first = s.first;
+          order = s.order;
+          last = subst (λ k. e ≤ k) (sym (same_length r)) s.last;
           goes_on =
               λ t view lt less ends.
               s.goes_on t view lt less (at_ends_from i link view t (omega arith) (omega arith) ends);
@@ -276,14 +273,12 @@ module _ (r : Run) where
 
     pub scan_from : (i : ℕ) (link : Option ℕ) (c e : ℕ) → PendingScan (calm r) i link c e → PendingScan r i link c e
     scan_from i link c e s =
-        let order : c ≤ e = s.order in
         let last : e ≤ length r.items = subst (λ k. e ≤ k) (same_length r) s.last in
-        let first : 0 < c = s.first in
         record {
           process = s.process;
-          starts = at_starts_from i link c first (omega arith) s.starts;
-          first = first;
-          order = order;
+          starts = at_starts_from i link c s.first (omega arith) s.starts;
+          first = s.first;
+          order = s.order;
           last = last;
           goes_on =
               λ t view lt less ends.
@@ -293,21 +288,17 @@ module _ (r : Run) where
     pub finished_to : (i : ℕ) (link : Option ℕ) (c e : ℕ) (view : List ℕ) → FinishedScan r i link c e view →
         FinishedScan (calm r) i link c e view
     finished_to i link c e view f =
-        let order : c < e = f.order in
-        let last : e ≤ length r.items = f.scan.last in
         record {
           scan = scan_to i link c e f.scan;
-          order = order;
-          ends = at_ends_to i link view e (omega arith) last f.ends;
+          order = f.order;
+          ends = at_ends_to i link view e (omega arith) f.scan.last f.ends;
         }
 
     pub finished_from : (i : ℕ) (link : Option ℕ) (c e : ℕ) (view : List ℕ) → FinishedScan (calm r) i link c e view →
         FinishedScan r i link c e view
     finished_from i link c e view f =
         let s = scan_from i link c e f.scan in
-        let order : c < e = f.order in
-        let last : e ≤ length r.items = s.last in
-        record { scan = s; order = order; ends = at_ends_from i link view e (omega arith) last f.ends }
+        record { scan = s; order = f.order; ends = at_ends_from i link view e (omega arith) s.last f.ends }
 
     -- updates
     done_at_to : (i t : ℕ) → t < length r.items → IsDone r i (suc t) → IsDone (calm r) i (suc t)
@@ -354,33 +345,28 @@ module _ (r : Run) where
     pub updating_to : (i word value c e : ℕ) → PendingUpdate r i word value c e →
         PendingUpdate (calm r) i word value c e
     updating_to i word value c e up =
-        let order : c ≤ e = up.order in
-        let last : e ≤ length r.items = up.last in
-        let first : 0 < c = up.first in
-        let call = calls_to i _ c first (omega arith) (up.call, up.called) in
+        let call = calls_to i _ c up.first (omega arith) (up.call, up.called) in
         record {
           process = up.process;
           call = call.0;
           called = call.1;
-          first = first;
-          order = order;
-          last = subst (λ k. e ≤ k) (sym (same_length r)) last;
+          first = up.first;
+          order = up.order;
+          last = subst (λ k. e ≤ k) (sym (same_length r)) up.last;
           goes_on = λ t lt less done. up.goes_on t lt less (done_from i t (omega arith) (omega arith) done);
         }
 
     pub updating_from : (i word value c e : ℕ) → PendingUpdate (calm r) i word value c e →
         PendingUpdate r i word value c e
     updating_from i word value c e up =
-        let order : c ≤ e = up.order in
         let last : e ≤ length r.items = subst (λ k. e ≤ k) (same_length r) up.last in
-        let first : 0 < c = up.first in
-        let call = calls_from i _ c first (omega arith) (up.call, up.called) in
+        let call = calls_from i _ c up.first (omega arith) (up.call, up.called) in
         record {
           process = up.process;
           call = call.0;
           called = call.1;
-          first = first;
-          order = order;
+          first = up.first;
+          order = up.order;
           last = last;
           goes_on = λ t lt less done. up.goes_on t lt less (done_to i t (omega arith) (omega arith) done);
         }

@@ -177,11 +177,9 @@ module _ {V P M : Type 0} (a : Algorithm V P M) (lines : Lines V P M) (line : �
         reads link c0 t k d scan le there one_k equal b =
             let g = scans.goes a lines listed run i one link c0 (suc t) t scan le (omega arith) in
             let round = (at t i).auxiliary.round in
-            let after : c0 ≤ round = g.round_after in
             let place : IsOneOf c.places k = subst (λ y. IsOneOf y k) (sym h.places) one_k in
             let x = b.first k place in
             let y = b.second k place (omega arith) in
-            let tested : (at t i).auxiliary.tested ≡ double_collects r i round t = g.tested in
             let none : (at t i).auxiliary.tested ≡ 0 = h.fresh t i d (omega arith) one there in
             let more : double_collects r i round (suc t) ≤ double_collects r i round t + a.tests test =
             span.last_collects a listed.tested items run.fits run.does

@@ -93,7 +93,6 @@ module _ {V P M : Type 0} (a : Algorithm V P M) (c : Copies V P M) where
     read_on : (phase : Phase) (s t t' : ℕ) (x y : List Word) (k : ℕ) → t ≤ t' → word_at y k ≡ word_at x k →
         Read phase s t x k → Read phase s t' y k
     read_on phase s t t' x y k le same h =
-        let before : h.time < t = h.before in
         record { time = h.time; after = h.after; before = omega arith; reading = h.reading; copy = same ∙ h.copy }
 
     abbrev pub FirstTo : ℕ → ℕ → V → ℕ → Type 0
@@ -125,7 +124,6 @@ module _ {V P M : Type 0} (a : Algorithm V P M) (c : Copies V P M) where
     both_on : (s t : ℕ) (p p' : V) (j j' : ℕ) → c.first p' ≡ c.first p → c.second p' ≡ c.second p →
         ((k : ℕ) → IsOneOf c.places k → k < j' → k < j) → Both s t p j → Both s (suc t) p' j'
     both_on s t p p' j j' same same2 less h =
-        let to : h.middle ≤ t = h.to in
         record {
           middle = h.middle;
           from = h.from;
@@ -179,12 +177,10 @@ module _ {V P M : Type 0} (a : Algorithm V P M) (c : Copies V P M) where
     advance s t d l p' ReadsFirst le is at r h =
         elim r [
           | inl first ↦ (λ k one_k lt. absurd (let e : c.index p' ≡ 1 = first in omega arith))
-          | inr next ↦ (let e : c.index p' ≡ c.index (his t).variables + 1 = next.1 in
-              first_on s t (his t).variables p' (c.index (his t).variables + 1) (c.index p') next.2 (omega arith)
+          | inr next ↦ (first_on s t (his t).variables p' (c.index (his t).variables + 1) (c.index p') next.2 (omega arith)
               (subst (Progress s t (his t).variables) next.0 h))
         ]
     advance s t d l p' HasFirst le is at r h =
-        let e : c.index p' ≡ c.index (his t).variables = r.1 in
         let g : FirstTo s t (his t).variables (c.index (his t).variables) =
         subst (Progress s t (his t).variables) r.0 h in
         λ k one_k lt.
@@ -194,8 +190,6 @@ module _ {V P M : Type 0} (a : Algorithm V P M) (c : Copies V P M) where
         let p = (his t).variables in
         elim r.1 [
           | inl start ↦ (let g : FirstTo s t p (c.index p + 1) = subst (Progress s t p) start.0 h in
-              let all : c.places ≤ c.index p = start.1 in
-              let e : c.index p' ≡ 1 = start.2 in
               record {
                 middle = t;
                 from = le;
@@ -205,14 +199,12 @@ module _ {V P M : Type 0} (a : Algorithm V P M) (c : Copies V P M) where
                     (ap (λ x. word_at x k) r.0) (g k one_k (omega arith));
                 second = λ k one_k lt. absurd (omega arith);
               })
-          | inr next ↦ (let e : c.index p' ≡ c.index p + 1 = next.1 in
-              both_on s t p p' (c.index p + 1) (c.index p') r.0 next.2 (λ k o lt. omega arith)
+          | inr next ↦ (both_on s t p p' (c.index p + 1) (c.index p') r.0 next.2 (λ k o lt. omega arith)
               (subst (Progress s t p) next.0 h))
         ]
     advance s t d l p' HasSecond le is at r h =
         let p = (his t).variables in
         let g : Both s t p (c.index p) = subst (Progress s t p) r.1 h in
-        let to : g.middle ≤ t = g.to in
         record {
           middle = g.middle;
           from = g.from;
@@ -221,7 +213,7 @@ module _ {V P M : Type 0} (a : Algorithm V P M) (c : Copies V P M) where
               λ k one_k. read_on ReadsFirst s g.middle g.middle (c.first p) (c.first p') k (omega arith)
               (ap (λ x. word_at x k) r.0) (g.first k one_k);
           second = λ k one_k lt.
-              read_now ReadsSecond g.middle t d l (c.second p) (c.second p') k to is at r.1 r.3 r.4 r.5
+              read_now ReadsSecond g.middle t d l (c.second p) (c.second p') k g.to is at r.1 r.3 r.4 r.5
               (g.second k) one_k (omega arith);
         }
     advance s t d l p' Collected le is at r h =
@@ -294,7 +286,6 @@ module _ {V P M : Type 0} (a : Algorithm V P M) (c : Copies V P M) where
     tracked zero short = subst (Tracked 0) (sym (embed.first_process_is a i one)) (omega arith, tt)
     tracked (suc t) short =
         let h = tracked t (omega arith) in
-        let le : (his t).auxiliary.round ≤ t = h.0 in
         elim (cases.item_case a items fits does i one t (omega arith)) [
           | inl stays ↦ subst (Tracked (suc t)) (sym stays.same) (
             omega arith,
@@ -307,11 +298,11 @@ module _ {V P M : Type 0} (a : Algorithm V P M) (c : Copies V P M) where
                 (subst (WhenBusy (λ d k. Reaches (typed_state a items t).memory (his t).variables k
                 (a.move i d (typed_state a items t).memory (his t).variables k)))
                 s.control (reaches t i (omega arith) one))
-                le
+                h.0
                 (subst (WhenBusy (λ d k. Progress (his t).auxiliary.round t (his t).variables (c.phase k)))
                 s.control h.1))
             | inr k ↦ subst (Tracked (suc t)) (sym k.after) (
-              called_round t k.op (his t) le,
+              called_round t k.op (his t) h.0,
               subst (Progress (called_auxiliary (suc t) k.op (his t).auxiliary).round (suc t) (his t).variables)
                   (sym (away k.op)) tt,
             )

@@ -46,9 +46,8 @@ module _ (r : Run) (fits : IsValidRun r) (i c : ℕ) (view : List ℕ) where
       let j = who (item r (suc t)) in
       let d = last_call r j (suc t) in
       let v = verdict_of r j d (suc t) view in
-      let last = f.scan.last in
       let found : Contains (audit r) v =
-      still_found r v (suc t) (length r.items) last (found_there r t view f.ends.1) in
+      still_found r v (suc t) (length r.items) f.scan.last (found_there r t view f.ends.1) in
       let scan : IsOfScan r v =
       subst (IsOfScan r) found.2 (All-from_recursion (IsOfScan r) (audit r) (of_scans r fits) found.0 v found.1) in
       let same = same_scan r fits i j c d (suc t) view scan.view f scan.finished in

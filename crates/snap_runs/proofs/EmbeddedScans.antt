@@ -92,7 +92,6 @@ module _ {V P M : Type 0} (a : Algorithm V P M) (lines : Lines V P M) where
         Lending (his t).auxiliary.since (suc t) (lines.answer (his t).variables)
     ended t w x k short is at returns h =
         let c = (his t).auxiliary.since in
-        let order : c ≤ t = h.order in
         let view = lines.answer (his t).variables in
         record {
           to = suc t;

@@ -107,8 +107,6 @@ module _ (line : ℕ) (r : Run) (fits : IsValidRun r) (points : HasLinearization
       ((e : ℕ) → end ≡ Some e → t ≤ e) → ((e : ℕ) → end' ≡ Some e → t' ≤ e) → c ≡ c' → (t ≡ t') × (s ≡ s')
   same_spot (Sets word value) (Sets word' value') i i' c c' end end' t t' s s' took took' spot spot'
       last last' still still' same =
-      let lt : c < t = spot.1 in
-      let lt' : c' < t' = spot'.1 in
       let up = operations.open_update r i word value c t end took (omega arith) last still in
       let up' = operations.open_update r i' word' value' c' t' end' took' (omega arith) last' still' in
       let call : Call i (op.Update word value) ≡ Call i' (op.Update word' value') =
@@ -161,15 +159,13 @@ module _ (line : ℕ) (r : Run) (fits : IsValidRun r) (points : HasLinearization
       ((e : ℕ) → end ≡ Some e → t ≤ e) → ((e : ℕ) → end' ≡ Some e → t ≤ e) →
       (i ≡ i') × (c ≡ c') × (end ≡ end') × (a ≡ a')
   same_at (Sets word value) (Sets word' value') i i' c c' end end' t s took took' spot spot' last still still' =
-      let lt : c < t = spot.1 in
-      let lt' : c' < t = spot'.1 in
       let his : i ≡ i' =
       operations.executes_who r i line t spot.2 ∙ sym (operations.executes_who r i' line t spot'.2) in
       let his_took : TookPlace r i c' end' (Sets word' value') =
       subst (λ y. TookPlace r y c' end' (Sets word' value')) (sym his) took' in
       let up = operations.open_update r i word value c t end took (omega arith) last still in
       let up' = operations.open_update r i word' value' c' t end' his_took (omega arith) last still' in
-      let same = operations.same_update r fits i word value word' value' c c' t lt lt' up up' in
+      let same = operations.same_update r fits i word value word' value' c c' t spot.1 spot'.1 up up' in
       let at_c : TookPlace r i c end' (Sets word' value') =
       subst (λ y. TookPlace r i y end' (Sets word' value')) (sym same.0) his_took in
       let at_word : TookPlace r i c end' (Sets word value') =
@@ -389,8 +385,7 @@ module _ (line : ℕ) (r : Run) (fits : IsValidRun r) (points : HasLinearization
           } in
           let count : length (values (state r t)) ≡ r.shape.w =
           ap length (sym past.leaves) ∙ length_after_all zeros xs ∙ length-replicate r.shape.w 0 in
-          let is_word : IsOneOf r.shape.w w.word = w.is_word in
-          let sets : IsOneOf (length (values (state r t))) w.word = subst (λ y. IsOneOf y w.word) (sym count) is_word in
+          let sets : IsOneOf (length (values (state r t))) w.word = subst (λ y. IsOneOf y w.word) (sym count) w.is_word in
           let u : UpdateCall = record { process = w.process; call = w.call; word = w.word; value = w.value } in
           let writes : WritesAt line r (suc t) u =
           record { executed = w.executed; before_it = lt; updating = w.updating } in (
@@ -411,11 +406,8 @@ module _ (line : ℕ) (r : Run) (fits : IsValidRun r) (points : HasLinearization
   spot_of : (a : Action) (i c e : ℕ) → TookPlace r i c (Some e) a →
       (t : ℕ) × (s : ℕ) × Placed t s (record { process = i; call = c; end = Some e; action = a })
   spot_of (Sets word value) i c e took =
-      let up = took.0 in
-      let counted : count (executes r i line) c e ≡ 1 = (points.writes_once fits i word value c e up).1 took.1 took.2 in
-      let w = counted_item (executes r i line) c e (omega arith) in
-      let lt : c < w.0 = w.1 in
-      let last : e ≤ length r.items = up.last in (
+      let counted : count (executes r i line) c e ≡ 1 = (points.writes_once fits i word value c e took.0).1 took.1 took.2 in
+      let w = counted_item (executes r i line) c e (omega arith) in (
         w.0,
         0,
         record {
@@ -423,7 +415,7 @@ module _ (line : ℕ) (r : Run) (fits : IsValidRun r) (points : HasLinearization
           called = omega arith;
           last = omega arith;
           open_still = λ u is. let same : e ≡ u = cc in omega arith;
-          spot = (refl, lt, w.3);
+          spot = (refl, w.1, w.3);
         },
       )
   spot_of (Sees view) i c e took = decided (answer_at e) refl
@@ -432,8 +424,7 @@ module _ (line : ℕ) (r : Run) (fits : IsValidRun r) (points : HasLinearization
           (t : ℕ) × (s : ℕ) × Placed t s (record { process = i; call = c; end = Some e; action = Sees view })
       decided (inr never) is = absurd (never i c view took)
       decided (inl a) is =
-          let same = operations.same_scan r fits i a.process c a.call e view a.view took a.finished in
-          let last : e ≤ length r.items = took.scan.last in (
+          let same = operations.same_scan r fits i a.process c a.call e view a.view took a.finished in (
             a.point,
             e,
             record {

@@ -79,13 +79,10 @@ module _ (r : Run) where
 
   called_by : (a : Action) (i c : ℕ) (end : Option ℕ) → TookPlace r i c end a → Called i c
   called_by (Sets word value) i c (Some e) took =
-      let order : c < e = took.1 in
-      let last : e ≤ length r.items = took.0.last in
       record { asked = op.Update word value; first = took.0.first; last = omega arith; is = took.0.call }
   called_by (Sets word value) i c None took =
       record { asked = op.Update word value; first = took.0.first; last = took.0.order; is = took.0.call }
   called_by (Sees view) i c (Some e) took =
-      let last : e ≤ length r.items = took.scan.last in
       record { asked = op.Scan; first = took.scan.first; last = omega arith; is = took.scan.starts.0 }
   called_by (Sees view) i c None took = absurd took
 

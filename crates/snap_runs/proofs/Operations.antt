@@ -194,7 +194,6 @@ module _ (r : Run) where
   pub update_operation : (i word value c t : ℕ) → c < t → PendingUpdate r i word value c t →
       UpdateOperation i word value c t
   update_operation i word value c t before up =
-      let last : t ≤ length r.items = up.last in
       elim (first_end i c (length r.items)) [
         | inl x ↦ record {
           end = Some x.item;
@@ -246,8 +245,7 @@ module _ (r : Run) where
   still_open : (i word value c e : ℕ) → TookPlace r i c (Some e) (Sets word value) →
       TookPlace r i c None (Sets word value) → ⊥
   still_open i word value c e h h' =
-      let last : e ≤ length r.items = h.0.last in
-      elim (eq-or-lt_of_le last) [
+      elim (eq-or-lt_of_le h.0.last) [
         | inl same ↦ h'.1 (subst (IsDone r i) same h.2)
         | inr less ↦ h'.0.goes_on e h.1 less h.2
       ]

@@ -48,7 +48,6 @@ last_of test c (suc e) h =
         | false ↦ λ is.
             let fewer : count test c (suc e) ≡ count test c e = count_not test c e (omega arith) is in
             let rest : LastOf test c e = last_of test c e (omega arith) in
-            let before : rest.item < e = rest.before in
             record {
               item = rest.item;
               after = rest.after;
@@ -154,7 +153,6 @@ module _ {V P M : Type 0} (a : Algorithm V P M) (lines : Lines V P M) (line : �
         suc c ≤ length items → item r (suc c) ≡ Call i op → outcome r (suc c) ≡ Called → Writing t → ⊥
     before_call done c t op none lo hi short call out w =
         let under : Under (Update w.word w.value) (at t i).auxiliary.called t = w.under in
-        let order : (at t i).auxiliary.called ≤ t = under.order in
         not_updating w.word w.value (at t i).auxiliary.called c op
         (record {
           process = one;
@@ -177,8 +175,7 @@ module _ {V P M : Type 0} (a : Algorithm V P M) (lines : Lines V P M) (line : �
         let same : At g.mode g.counter ≡ At (Updating w.word w.value) writer.counter =
         sym g.control ∙ w.control ∙ ap (λ y. At y writer.counter) w.is in
         let mode : g.mode ≡ Updating w.word w.value = cc in
-        let op : op_of g.mode ≡ Scan = g.inside.1 in
-        absurd (let e2 : Update w.word w.value ≡ Scan = sym (ap op_of mode) ∙ op in cc)
+        absurd (let e2 : Update w.word w.value ≡ Scan = sym (ap op_of mode) ∙ g.inside.1 in cc)
 
     -- after an update that is done, and up to the end of a scan that it called next, it writes nothing
     quiet : (done c e : ℕ) → ((u : ℕ) → done < u → u < c → IsDone r i u → ⊥) → PendingScan r i None c e → (t : ℕ) →
@@ -213,13 +210,12 @@ module _ {V P M : Type 0} (a : Algorithm V P M) (lines : Lines V P M) (line : �
         let one_write : count (executes r i line) c e ≡ 1 = two.1 lt done in
         let l : LastOf (executes r i line) c e = last_of (executes r i line) c e (omega arith) in
         let v = l.item in
-        let before : v < e = l.before in
         let short : v < length items = omega arith in
         let there =
         executing.stands_at a items run.fits run.does numbered v i line writer.counter short one its l.passes in
         let w = writes.written a lines line writer run updates v i there.1.0 short there.0 there.1.1 in
         let g = called.going a line once.writes_is items run.fits run.does i one
-        (writes_once.silent a lines line once run i one) word value c e v up l.after before in
+        (writes_once.silent a lines line once run i one) word value c e v up l.after l.before in
         let same : At g.mode g.counter ≡ At (Updating w.word w.value) writer.counter = sym g.control ∙ w.control in
         let mode : g.mode ≡ Updating w.word w.value = cc in
         let op : Update w.word w.value ≡ Update word value = sym (ap op_of mode) ∙ g.op in
@@ -231,7 +227,7 @@ module _ {V P M : Type 0} (a : Algorithm V P M) (lines : Lines V P M) (line : �
         record {
           item_before = v;
           after = l.after;
-          before = before;
+          before = l.before;
           is_own = sym its_word ∙ owned;
           datum = ap (λ ws. (word_at ws i).datum) w.words_are
               ∙ ap (λ (x : Word). x.datum)

@@ -35,10 +35,9 @@ module _ {V P M : Type 0} (a : Algorithm V P M) (lines : Lines V P M) (line : â„
     pub have_points : HavePoints r
     have_points fits i link c zero view h = absurd (omega arith)
     have_points fits i link c (suc t) view h =
-        let one = h.scan.process in
-        let ending = scans.ending a lines listed run i one link c t view h in
+        let ending = scans.ending a lines listed run i h.scan.process link c t view h in
         let g = ending.goes_on in
-        let returned = held t i g.mode g.counter (omega arith) one g.control ending.at_return in
+        let returned = held t i g.mode g.counter (omega arith) h.scan.process g.control ending.at_return in
         point_of c (suc t) t view (omega arith) (omega arith)
         (subst (Held (writes.words_at a lines line writer run) t c) ending.answers
         (subst (Î» s. Held (writes.words_at a lines line writer run) t s (lines.answer (at t i).variables))

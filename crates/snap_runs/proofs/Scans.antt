@@ -123,11 +123,7 @@ module _ {V P M : Type 0} (a : Algorithm V P M) (lines : Lines V P M) where
       pub ending : (link : Option ℕ) (c t : ℕ) (view : List ℕ) →
           FinishedScan (embed.run_of a items) i link c (suc t) view → Ending link c t view
       ending None c t view h =
-          let scan = h.scan in
-          let last : suc t ≤ length items = scan.last in
-          let lt : c < suc t = h.order in
-          called_ending c t view (omega arith) (goes None c (suc t) t scan (omega arith) (omega arith))
+          called_ending c t view (omega arith) (goes None c (suc t) t h.scan (omega arith) (omega arith))
           h.ends.0 h.ends.1
       ending (Some l) c t view h =
-          let scan = h.scan in
-          embedded_ending l c t view (omega arith) (goes (Some l) c (suc t) t scan (omega arith) (omega arith)) h.ends
+          embedded_ending l c t view (omega arith) (goes (Some l) c (suc t) t h.scan (omega arith) (omega arith)) h.ends

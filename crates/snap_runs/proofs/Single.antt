@@ -78,10 +78,9 @@ module _ {V P M : Type 0} {a : Algorithm V P M} {lines : Lines V P M} {line : â„
         in_calm steady whole i j link c (suc t) scan lt move =
             let k = kept steady in
             let run = execution frame calmed k in
-            let one = scan.process in
             let seen =
             moves.observed a lines frame.listed run frame.numbered raises there next raised row is goes i j t
-            (omega arith) one move in
-            let x = newer steady t i j seen.mode (omega arith) one move.process seen.control seen.grows in
+            (omega arith) scan.process move in
+            let x = newer steady t i j seen.mode (omega arith) scan.process move.process seen.control seen.grows in
             moves.recent_write a lines frame.listed run line frame.writer k.updates own i j link c t seen.mode there
             move.process scan (omega arith) seen.control none x.0 x.1

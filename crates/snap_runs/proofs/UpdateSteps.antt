@@ -157,8 +157,7 @@ module _ {V P M : Type 0} (a : Algorithm V P M) (lines : Lines V P M) where
         let n : Nearer h (his t).variables k (To d' m' p' k') =
         subst (Nearer h (his t).variables k) is (nearer t w x k short at) in
         let left : own_steps r i c (suc t) + h.ahead p' k' ≤ h.total + (if h.scanned k' then scan else 0) =
-        (let fewer : h.ahead p' k' + 1 ≤ h.ahead (his t).variables k = n.0 in
-        let more = own_next c t le in
+        (let more = own_next c t le in
         subst (λ b. own_steps r i c (suc t) + h.ahead p' k' ≤ h.total + (if b then scan else 0)) (sym n.1)
         (omega arith)) in
         record {

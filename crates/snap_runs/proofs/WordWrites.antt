@@ -157,7 +157,6 @@ module _ {V P M : Type 0} (a : Algorithm V P M) (lines : Lines V P M) (line : â„
               (Update word value) c t =
               subst (called.UnderAt a line once.writes_is items run.fits run.does i one silent t (at t i)) w.control
               (called.under a line once.writes_is items run.fits run.does i one silent t (omega arith)) in
-              let order : c â‰¤ t = under.order in
               let new : Word = writer.put i word value (typed_state a items t).memory (at t i).variables in (
                 word,
                 value,

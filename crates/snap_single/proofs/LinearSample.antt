@@ -149,7 +149,6 @@ not_empty h =
 -- starts, which is no operation.
 wrong_answer : IsOperation run (record { process = 1; call = 1; end = Some 64; action = Sees (0 ∷ 6 ∷ []) }) → ⊥
 wrong_answer took =
-    let out : Answered (0 ∷ 5 ∷ []) ≡ Answered (0 ∷ 6 ∷ []) = took.ends.1 in
     let same : ◌≡◌ {A = ℕ} 5 6 = cc in omega arith
 
 never_called : IsOperation run (record { process = 2; call = 9; end = Some 25; action = Sets 2 5 }) → ⊥

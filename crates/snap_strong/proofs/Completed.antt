@@ -43,7 +43,7 @@ pairs_told R (o ∷ os) h =
     pairs_if R (tells o) o (told os) (all_told (R o) (R o) os (λ x r is. r) h.0) (pairs_told R os h.1)
 
 later : (x : Operation) (xs : List Operation) (o : Operation) → Contains xs o → Contains (x ∷ xs) o
-later x xs o there = (let lt : there.0 < length xs = there.1 in (suc there.0, omega arith, there.2))
+later x xs o there = ((suc there.0, omega arith, there.2))
 
 contains_if : (b : Bool) (x : Operation) (xs : List Operation) (o : Operation) → Contains xs o →
     Contains (cond b (x ∷ xs) xs) o

@@ -1,7 +1,7 @@
 -- The calls of a run, for any listing: under which one a process is, and that no two of a process are open at once.
 use Rattle.std.proofs.Common.{◌≡◌, ◌≢◌, ℕ, zero, suc, ◌-◌, ◌<◌, ◌≤◌, ◌⊎◌, true, List, length, Option, Some, None}
 use Rattle.std.proofs.Common.{Result, Ok, Err, slice_set, refl, sym, ◌∙◌, ap, subst, arith, inl, inr}
-use Rattle.std.proofs.lemmas.Bool.{cases_eq, cases_lt}
+use Rattle.std.proofs.lemmas.Bool.{cases_eq}
 use Rattle.std.proofs.lemmas.List.Elements.{All-from_recursion}
 use Rattle.std.proofs.lemmas.List.{length-set, get_or-set_other, length-replicate, get_or-replicate}
 use Rattle.std.proofs.Math.Nat.{eq-or-lt_of_le}
@@ -19,58 +19,11 @@ use Rattle.snap_semantics.specs.Table.{crash, done}
 use Rattle.snap_runs.specs.Operation.{EndsAreOfOperations}
 use Rattle.snap_runs.specs.Scan.{FinishedScan, is_not_skipped}
 use Rattle.snap_runs.specs.Update.{PendingUpdate}
+use Rattle.snap_runs.proofs.Computing.{neither_less}
 use Rattle.snap_runs.proofs.Embedding.{next_state}
 use Rattle.snap_runs.proofs.Transitions.{MaySkip, Transition, skipped, calls, goes, answers}
 use Rattle.snap_runs.proofs.Transitions.{finishes, traps, crashes, status_of, own_turn}
-
--- An item leaves a state, or changes its process and perhaps the memory.
-abbrev pub Touches : State → ℕ → State → Type 0
-Touches S i S' =
-    ((m : Memory) × (p : Process) × (S' ≡ record { memory = m; processes = slice_set S.processes (i - 1) p }))
-    ⊎ (S' ≡ S)
-
-leave_touches : (S : State) (i : ℕ) (a : Activity) (l : Locals) (e : Result Effect Cause) →
-    Touches S i (leave S i a l e).0
-leave_touches S i a l (Ok (Goes m k link line)) = inl (m, _, refl)
-leave_touches S i a l _ = inl (S.memory, _, refl)
-
-step_touches : (s : Source) (shape : Counts) (S : State) (i : ℕ) (p : Process) (status : Status) →
-    Touches S i (step s shape S i p status).0
-step_touches s shape S i p (Busy a) = leave_touches S i a p.locals
-    (effect_at s (record { shape = shape; me = i; op = a.op; locals = p.locals; place = 0 }) S.memory a
-    (instr_at s.lines a.line))
-step_touches s shape S i p _ = inr refl
-
-called_touches : (s : Source) (S : State) (i : ℕ) (p : Process) (o : Op) (why : Option Reason) →
-    Touches S i (called s S i p o why).0
-called_touches s S i p o (Some why) = inr refl
-called_touches s S i p o None = inl (S.memory, _, refl)
-
-call_touches : (s : Source) (shape : Counts) (S : State) (i : ℕ) (o : Op) (p : Process) (status : Status) →
-    Touches S i (call s shape S i o p status).0
-call_touches s shape S i o p Idle = called_touches s S i p o (call_skip s.kind shape i o)
-call_touches s shape S i o p _ = inr refl
-
-crash_touches : (S : State) (i : ℕ) (p : Process) (status : Status) → Touches S i (crash S i p status).0
-crash_touches S i p (Busy a) = inl (S.memory, _, refl)
-crash_touches S i p Idle = inl (S.memory, _, refl)
-crash_touches S i p _ = inr refl
-
-touches : (s : Source) (shape : Counts) (S : State) (x : Item) → Touches S (who x) (done s shape S x).0
-touches s shape S (Step i) = step_touches s shape S i (process_at S i) (process_at S i).status
-touches s shape S (Call i o) = call_touches s shape S i o (process_at S i) (process_at S i).status
-touches s shape S (Crash i) = crash_touches S i (process_at S i) (process_at S i).status
-
-same_count : (S S' : State) (i : ℕ) → Touches S i S' → length S'.processes ≡ length S.processes
-same_count S S' i (inl h) = ap (λ (x : State). length x.processes) h.2 ∙ length-set S.processes (i - 1) h.1
-same_count S S' i (inr h) = ap (λ (x : State). length x.processes) h
-
-other_status : (S S' : State) (k i : ℕ) → Touches S k S' → 0 < k → 0 < i → k ≢ i → status_of S' i ≡ status_of S i
-other_status S S' k i (inl h) pk pi other =
-    ap (λ (x : State). status_of x i) h.2
-    ∙ ap (λ (p : Process). p.status)
-    (get_or-set_other S.processes (k - 1) (i - 1) h.1 nobody (λ same. other (omega arith)))
-other_status S S' k i (inr h) pk pi other = ap (λ (x : State). status_of x i) h
+use Rattle.snap_runs.proofs.Transitions.{same_count, other_status}
 
 -- A process is at an operation that was called and has not ended, or has trapped or crashed.
 abbrev pub Occupied : Op → Status → Type 0
@@ -136,22 +89,23 @@ module _ (r : Run) (fits : IsValidRun r) where
   processes_count zero h = length-replicate r.shape.n (initial_process r.source r.shape)
   processes_count (suc t) h =
       ap (λ (S : State). length S.processes) (next_state r t (omega arith))
-      ∙ same_count (state r t) _ (who (item r (suc t))) (touches r.source r.shape (state r t) (item r (suc t)))
+      ∙ same_count r.source r.shape (state r t) (item r (suc t))
       ∙ processes_count t (omega arith)
 
   pub turn : (t i : ℕ) → t < length r.items → IsOneOf r.shape.n i → who (item r (suc t)) ≡ i →
       Transition (status t i) (item r (suc t)) (outcome r (suc t)) (status (suc t) i)
   turn t i h one his =
-      subst (λ (S : State). Transition (status t i) (item r (suc t)) (outcome r (suc t)) (status_of S i))
+      let k = who (item r (suc t)) in
+      subst (λ j. Transition (status t j) (item r (suc t)) (outcome r (suc t)) (status (suc t) j)) his
+      (subst (λ (S : State). Transition (status t k) (item r (suc t)) (outcome r (suc t)) (status_of S k))
       (sym (next_state r t h))
-      (own_turn r.source r.shape (state r t) i (processes_count t (omega arith)) one (item r (suc t)) his)
+      (own_turn r.source r.shape (state r t) (item r (suc t)) (processes_count t (omega arith)) (item_one t h)))
 
   pub other_turn : (t i : ℕ) → t < length r.items → IsOneOf r.shape.n i →
       who (item r (suc t)) ≢ i → status (suc t) i ≡ status t i
   other_turn t i h one other =
       ap (λ (S : State). status_of S i) (next_state r t h)
-      ∙ other_status (state r t) _ (who (item r (suc t))) i
-      (touches r.source r.shape (state r t) (item r (suc t))) (item_one t h).0 one.0 other
+      ∙ other_status r.source r.shape (state r t) (item r (suc t)) i (item_one t h).0 one.0 other
 
   -- item c is such a call
   abbrev pub Calls : ℕ → Op → ℕ → Type 0
@@ -194,16 +148,9 @@ module _ (r : Run) (fits : IsValidRun r) where
       0 < d → c < t → d < t → t ≤ length r.items → Calls i o c → Calls i p d →
       ((u : ℕ) → c < u → u < t → EndsAt i o u → ⊥) → ((u : ℕ) → d < u → u < t → EndsAt i p u → ⊥) → c ≡ d
   one_call i o p c d t one pc pd lc ld short call again still_c still_d =
-      elim (cases_eq c d) [
-        | inl same ↦ same
-        | inr other ↦ elim (cases_lt c d) [
-          | inl less ↦
-              absurd (not_called i o p c d one pc less (omega arith) call again (λ u lt le. still_c u lt (omega arith)))
-          | inr more ↦
-              absurd (not_called i p o d c one pd (omega arith) (omega arith) again call
-              (λ u lt le. still_d u lt (omega arith)))
-        ]
-      ]
+      neither_less c d
+      (λ less. not_called i o p c d one pc less (omega arith) call again (λ u lt le. still_c u lt (omega arith)))
+      (λ more. not_called i p o d c one pd more (omega arith) again call (λ u lt le. still_d u lt (omega arith)))
 
   -- item c called this operation of process i, and it has not ended up to item t
   pub record UnderCall (i : ℕ) (o : Op) (t : ℕ) : Type 0 where

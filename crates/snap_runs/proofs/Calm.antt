@@ -151,9 +151,7 @@ module _ (s : Source) (shape : Counts) where
   alive_of : (S : State) (i : ℕ) (a : Activity) (l : Locals) (e : Result Effect Cause) →
       is_alive (leave S i a l e).1 ≡ true
   alive_of S i a l (Ok (Goes m k link line)) = refl
-  alive_of S i a l (Ok (Answers v)) = refl
-  alive_of S i a l (Ok Finishes) = refl
-  alive_of S i a l (Err c) = refl
+  alive_of S i a l _ = refl
 
   -- a step of a process that has not crashed
   step_along : (S : State) (i : ℕ) (p : Process) (st : Status) → uncrashed st ≡ st →

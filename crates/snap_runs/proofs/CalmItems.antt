@@ -16,13 +16,9 @@ use Rattle.snap_runs.specs.Scan.{double_collects, own_steps}
 use Rattle.snap_runs.specs.Update.{is_at, goes_on, executes, IsDone, PendingUpdate}
 use Rattle.snap_runs.proofs.Calm.{IsDead, calm, calm_list, same_length, state_is, process_is, Kept, Paused}
 use Rattle.snap_runs.proofs.Calm.{kept_or_paused}
-use Rattle.snap_runs.proofs.Computing.{same_number, same_from}
+use Rattle.snap_runs.proofs.Computing.{same_number, same_from, and_when}
 use Rattle.snap_runs.proofs.Executing.{step_of}
 use Rattle.snap_runs.proofs.WaitFree.{same_counts}
-
-same_test : (b x y : Bool) → (b ≡ true → x ≡ y) → (b && x) ≡ (b && y)
-same_test true x y h = h refl
-same_test false x y h = refl
 
 never : (b x : Bool) → (b ≡ true → x ≡ false) → (b && x) ≡ false
 never true x h = h refl
@@ -176,7 +172,7 @@ module _ (r : Run) where
         let mine = steps i (item r (suc t)) in
         elim (kept_or_paused r fits t h) [
           | inl k ↦ ap (λ y. steps i y && calm_one) k.item_is
-              ∙ same_test mine calm_one (test (status t i) (outcome r (suc t)))
+              ∙ and_when mine calm_one (test (status t i) (outcome r (suc t)))
               (λ his. ap (λ (p : Process). test p.status (outcome (calm r) (suc t)))
               (stands_before t i k (ap who (step_of i (item r (suc t)) his))) ∙ ap (test (status t i)) k.outcome_is)
           | inr k ↦ ap (λ y. steps i y && calm_one) k.item_is

@@ -15,6 +15,7 @@ use Rattle.snap_runs.proofs.Algorithm.{Mode, Updating, Control, At, WhenBusy, Ty
 use Rattle.snap_runs.proofs.Algorithm.{typed_state, status_of, process_of}
 use Rattle.snap_runs.proofs.Collecting as collecting
 use Rattle.snap_runs.proofs.Collecting.{Copies, Phase, Away, ReadsFirst, ReadsSecond, Collected}
+use Rattle.snap_runs.proofs.Computing.{from_there}
 use Rattle.snap_runs.proofs.Counting.{count_later}
 use Rattle.snap_runs.proofs.Embedding as embed
 use Rattle.snap_runs.proofs.Executing as executing
@@ -89,28 +90,9 @@ module _ {V P M : Type 0} (a : Algorithm V P M) (lines : Lines V P M) (line : �
 
     pub count_grows : (k u t : ℕ) → IsOneOf a.shape.w k → u ≤ t → t ≤ length items →
         seq_at (words u) k ≤ seq_at (words t) k
-    count_grows k u zero one le short =
-        let e : seq_at (words u) k ≡ seq_at (words 0) k =
-        ap (λ y. seq_at (words y) k) (let z : u ≡ 0 = omega arith in z) in
-        omega arith
-    count_grows k u (suc t) one le short =
-        elim (eq-or-lt_of_le le) [
-          | inl same ↦
-              (let e : seq_at (words u) k ≡ seq_at (words (suc t)) k = ap (λ y. seq_at (words y) k) same in omega arith)
-          | inr less ↦ (
-              let rest : seq_at (words u) k ≤ seq_at (words t) k = count_grows k u t one (omega arith) (omega arith) in
-              let last : seq_at (words t) k ≤ seq_at (words (suc t)) k = next_count t k (omega arith) one in
-              omega arith)
-        ]
-
-    -- the process at its line, in the words of the machine
-    busy : (t i : ℕ) (d : Mode) (k : P) → t ≤ length items → IsOneOf a.shape.n i → (at t i).control ≡ At d k →
-        process_at (state r t) i
-        ≡ process_of a (record { control = At d k; variables = (at t i).variables; auxiliary = (at t i).auxiliary })
-    busy t i d k short one there =
-        embed.process_at_is a items run.fits run.does t i short one
-        ∙ ap (λ (p : Control P).
-        process_of a (record { control = p; variables = (at t i).variables; auxiliary = (at t i).auxiliary })) there
+    count_grows k u t one le short =
+        from_there (λ v. seq_at (words u) k ≤ seq_at (words v) k) u t le (omega arith)
+        (λ v low high past. let next = next_count v k (omega arith) one in omega arith)
 
     -- where some process writes word k, its count is one more
     written_more : (t k : ℕ) → t < length items → IsOneOf a.shape.w k → WritesWord r line k (suc t) →
@@ -120,7 +102,7 @@ module _ {V P M : Type 0} (a : Algorithm V P M) (lines : Lines V P M) (line : �
         let there = executing.stands_at a items run.fits run.does numbered t j line writer.counter short w.1 its w.2 in
         let x = writes.written a lines line writer run updates t j there.1.0 short there.0 there.1.1 in
         let op = subst (λ (p : Process). IsUpdating k p.status)
-        (busy t j (Updating x.word x.value) writer.counter (omega arith) w.1 x.control) w.3 in
+        (embed.busy_at a items run.fits run.does t j (Updating x.word x.value) writer.counter (omega arith) w.1 x.control) w.3 in
         let same : x.word ≡ k = cc in
         let e2 : seq_at (words (suc t)) k ≡ seq_at (words t) k + 1 = counted t j k short one x w.1 same in omega arith
 
@@ -161,7 +143,7 @@ module _ {V P M : Type 0} (a : Algorithm V P M) (lines : Lines V P M) (line : �
           executing.line_executes a items run.fits run.does t i number x.mode x.line short x.item x.control
               (lines_are x.line x.is),
           ap (λ (p : Process). value_at names.scalar p.locals.scalars 0)
-              (busy t i x.mode x.line (omega arith) one x.control)
+              (embed.busy_at a items run.fits run.does t i x.mode x.line (omega arith) one x.control)
               ∙ h.scalar (at t i).variables ∙ x.place,
         )
 

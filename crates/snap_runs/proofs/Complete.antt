@@ -14,18 +14,15 @@ use Rattle.snap_runs.specs.Run.{outcome as outcome_at}
 use Rattle.snap_runs.specs.Scan.{FinishedScan}
 use Rattle.snap_runs.specs.declared.verdict.Verdict.{Verdict}
 use Rattle.snap_runs.proofs.Audits.{of_scans}
+use Rattle.snap_runs.proofs.Computing.{from_there}
 use Rattle.snap_runs.proofs.Operations.{same_scan}
 use Rattle.snap_runs.specs.Complete.{AnswersRise, ScansHaveVerdicts}
 
 -- what was found of the first items is found of more
 still_found : (r : Run) (v : Verdict) (t u : ℕ) → t ≤ u → Contains (verdicts r t) v → Contains (verdicts r u) v
-still_found r v t zero le h = subst (λ k. Contains (verdicts r k) v) (let same : t ≡ zero = omega (arith, le) in same) h
-still_found r v t (suc u) le h = elim (eq-or-lt_of_le le) [
-  | inl same ↦ subst (λ k. Contains (verdicts r k) v) same h
-  | inr less ↦
-      Contains-append_left (verdicts r u) (verdict_at r (suc u) (outcome_at r (suc u))) v
-      (still_found r v t u (omega (arith, less)) h)
-]
+still_found r v t u le h =
+    from_there (λ k. Contains (verdicts r k) v) t u le h
+    (λ k low high. Contains-append_left (verdicts r k) (verdict_at r (suc k) (outcome_at r (suc k))) v)
 
 -- an answer has its verdict
 found_there : (r : Run) (t : ℕ) (view : List ℕ) → outcome_at r (suc t) ≡ outcome.Answered view →

@@ -70,21 +70,12 @@ module _ {V P M : Type 0} (a : Algorithm V P M) (lines : Lines V P M) where
     kept t since view (At (Updating w x) k) no_step h = λ late. lends_longer since t view (h late)
     kept t since view _ no_step h = tt
 
-    -- the process at its line, in the words of the machine
-    busy : (t : ℕ) (d : Mode) (k : P) → t < length items → (his t).control ≡ At d k →
-        process_at (state r t) i
-        ≡ process_of a (record { control = At d k; variables = (his t).variables; auxiliary = (his t).auxiliary })
-    busy t d k short at =
-        embed.process_at_is a items run.fits run.does t i (omega arith) one
-        ∙ ap (λ (p : Control P).
-        process_of a (record { control = p; variables = (his t).variables; auxiliary = (his t).auxiliary })) at
-
     -- a line that does not return ends no scan
     no_end : (t : ℕ) (d : Mode) (k : P) (view : List ℕ) → t < length items → (his t).control ≡ At d k →
         (lines.IsReturn k → ⊥) → Ends r i (suc t) (Some a.back) view → ⊥
     no_end t d k view short at none ends =
         none (listed.returns (his t).variables k view
-        (subst (λ (p : Process). ReturnsView (line_in a.source p.status) p.locals view) (busy t d k short at) ends.1)).0
+        (subst (λ (p : Process). ReturnsView (line_in a.source p.status) p.locals view) (embed.busy_at a items run.fits run.does t i d k (omega arith) one at) ends.1)).0
 
     -- a line that returns ends its embedded scan
     ended : (t w x : ℕ) (k : P) → t < length items → item_at items t ≡ Step i →
@@ -109,8 +100,8 @@ module _ {V P M : Type 0} (a : Algorithm V P M) (lines : Lines V P M) where
             ends = (
               is,
               subst (λ (p : Process). ReturnsView (line_in a.source p.status) p.locals view)
-                  (sym (busy t (Embedded w x) k short at)) (listed.answers (his t).variables k returns),
-              ap (λ (p : Process). link_in p.status) (busy t (Embedded w x) k short at),
+                  (sym (embed.busy_at a items run.fits run.does t i (Embedded w x) k (omega arith) one at)) (listed.answers (his t).variables k returns),
+              ap (λ (p : Process). link_in p.status) (embed.busy_at a items run.fits run.does t i (Embedded w x) k (omega arith) one at),
             );
           };
         }
@@ -128,7 +119,7 @@ module _ {V P M : Type 0} (a : Algorithm V P M) (lines : Lines V P M) where
     begun t w x k p' k' short is at calls after out = record {
       starts = (
         is,
-        subst (λ (p : Process). IsCallLine (line_in a.source p.status)) (sym (busy t (Updating w x) k short at)) calls,
+        subst (λ (p : Process). IsCallLine (line_in a.source p.status)) (sym (embed.busy_at a items run.fits run.does t i (Updating w x) k (omega arith) one at)) calls,
         out,
         ap (λ (p : Process). link_in p.status)
             (embed.process_at_is a items run.fits run.does (suc t) i (omega arith) one ∙ ap (process_of a) after),

@@ -19,8 +19,7 @@ step_of i _ h = absurd (cc)
 
 not_on : (b c : Bool) → (b && (c && false)) ≡ false
 not_on true true = refl
-not_on true false = refl
-not_on false c = refl
+not_on _ _ = refl
 
 -- a line that traps is not executed
 pub traps_execute_nothing : TrapsExecuteNothing

@@ -12,6 +12,7 @@ use Rattle.snap_runs.specs.Update.{executes, IsDone, PendingUpdate}
 use Rattle.snap_runs.specs.Promises.{HavePoints, OwnUpdatesAreSeen}
 use Rattle.snap_runs.proofs.Algorithm.{Mode, Updating, op_of, Control, At, TypedProcess, Algorithm, by_call, typed_at}
 use Rattle.snap_runs.proofs.Algorithm.{by_item, outcome_of, item_at, typed_state}
+use Rattle.snap_runs.proofs.Computing.{from_there}
 use Rattle.snap_runs.proofs.Counting.{count_none, count_not}
 use Rattle.snap_runs.proofs.Embedding as embed
 use Rattle.snap_runs.proofs.Executing as executing
@@ -90,15 +91,12 @@ module _ {V P M : Type 0} (a : Algorithm V P M) (lines : Lines V P M) (line : �
   pub stays : (i from to : ℕ) → IsOneOf a.shape.n i → from ≤ to → to ≤ length items →
       ((t : ℕ) → from ≤ t → t < to → executes r i line (suc t) ≡ false) →
       word_at (words to) i ≡ word_at (words from) i
-  stays i from zero one le short none = ap (λ u. word_at (words u) i) (let z : 0 ≡ from = omega arith in z)
-  stays i from (suc t) one le short none =
-      elim (eq-or-lt_of_le le) [
-        | inl same ↦ ap (λ u. word_at (words u) i) (sym same)
-        | inr less ↦ elim (writes.word_changes a lines line writer run updates own i t one (omega arith)) [
-          | inl wrote ↦ absurd (let e : true ≡ false = sym wrote ∙ none t (omega arith) (omega arith) in cc)
-          | inr same ↦ same ∙ stays i from t one (omega arith) (omega arith) (λ u lo hi. none u lo (omega arith))
-        ]
-      ]
+  stays i from to one le short none =
+      from_there (λ t. word_at (words t) i ≡ word_at (words from) i) from to le refl (λ t low high past.
+      elim (writes.word_changes a lines line writer run updates own i t one (omega arith)) [
+        | inl wrote ↦ absurd (let e : true ≡ false = sym wrote ∙ none t low high in cc)
+        | inr same ↦ same ∙ past
+      ])
 
   module _ (i : ℕ) (one : IsOneOf a.shape.n i) where
     abbrev Under : Op → ℕ → ℕ → Type 0

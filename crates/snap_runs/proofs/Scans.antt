@@ -97,11 +97,7 @@ module _ {V P M : Type 0} (a : Algorithm V P M) (lines : Lines V P M) where
       embedded_ending : (l c t : ℕ) (view : List ℕ) → t < length items → Goes (Some l) c t →
           Ends (embed.run_of a items) i (suc t) (Some l) view → Ending (Some l) c t view
       embedded_ending l c t view short g ends =
-          let busy : process_at (state (embed.run_of a items) t) i ≡ process_of a
-          (record { control = At g.mode g.counter; variables = (his t).variables; auxiliary = (his t).auxiliary }) =
-          embed.process_at_is a items run.fits run.does t i (omega arith) one
-          ∙ ap (λ (p : Control P). process_of a
-          (record { control = p; variables = (his t).variables; auxiliary = (his t).auxiliary })) g.control in
+          let busy = embed.busy_at a items run.fits run.does t i g.mode g.counter (omega arith) one g.control in
           let returned =
           listed.returns (his t).variables g.counter view
           (subst (λ (p : Process). ReturnsView (line_in a.source p.status) p.locals view) busy ends.1) in

@@ -15,7 +15,8 @@ use Rattle.snap_runs.specs.Update.{PendingUpdate}
 use Rattle.snap_runs.specs.Promises.{HasTrapped, NeverTraps, StepsAtMost}
 use Rattle.snap_runs.specs.WaitFree.{is_alive, turns, IsWaitFree}
 use Rattle.snap_runs.proofs.Calls.{Occupied, Calls, EndsAt, status, occupied, turn, is_not_skipped_there}
-use Rattle.snap_runs.proofs.Computing.{lt_from, same_from}
+use Rattle.snap_runs.proofs.Computing.{lt_from, and_when}
+use Rattle.snap_runs.proofs.Executing.{step_of}
 use Rattle.snap_runs.proofs.Operations.{ends_done, ends_answer}
 
 -- tests that agree at each item count the same
@@ -33,18 +34,10 @@ same_counts test other c (suc e) h =
         ∙ ap (λ y. if other (suc e) then suc y else y) past
     at_last false is past = past
 
-and_when : (b x y : Bool) → (b ≡ true → x ≡ y) → (b && x) ≡ (b && y)
-and_when true x y h = h refl
-and_when false x y h = refl
-
 -- a turn that is not skipped is one of a process that has not crashed
 alive : (out : Outcome) → is_not_skipped out ≡ true → is_alive out ≡ is_not_skipped out
 alive (outcomes.Skipped why) h = absurd (cc)
 alive _ h = refl
-
-step_is : (i : ℕ) (y : Item) → steps i y ≡ true → y ≡ Step i
-step_is i (Step k) h = ap (λ u. Step u) (same_from k i h)
-step_is i _ h = absurd (cc)
 
 -- who is occupied and has not trapped is busy or has crashed
 busy_then : (o : Op) (s : Status) → Occupied o s → (HasTrapped s → ⊥) →
@@ -69,7 +62,7 @@ module _ (r : Run) (fits : IsValidRun r) (safe : NeverTraps r) where
   turn_counts i o c zero one pos lt short call still = absurd (omega arith)
   turn_counts i o c (suc t) one pos lt short call still =
       and_when (steps i (item r (suc t))) (is_alive (outcome r (suc t))) (is_not_skipped (outcome r (suc t))) (λ his.
-      let step = step_is i (item r (suc t)) his in
+      let step = step_of i (item r (suc t)) his in
       let there = occupied r fits i o c t one pos (omega arith) (omega arith) call
       (λ u more le ends. still u more (omega arith) ends) in
       elim (busy_then o (status r fits t i) there (safe fits i t one (omega arith))) [

@@ -16,7 +16,7 @@ use Rattle.snap_runs.specs.Update.{executes}
 use Rattle.snap_runs.specs.Bounded.{WasAsked, IsValue, Limits, IsMemoryWithin, IsLocalsWithin, IsOpWithin, HasLine}
 use Rattle.snap_runs.specs.Bounded.{IsActivityWithin, IsStatusWithin, IsProcessWithin, IsStateWithin, StaysWithin}
 use Rattle.snap_runs.specs.Bounded.{sequence_numbers, one_more, CountsWrites}
-use Rattle.snap_runs.proofs.Algorithm.{Mode, Scanning, Embedded, Updating, op_of, value_of, link_of, op_is, Control}
+use Rattle.snap_runs.proofs.Algorithm.{Mode, Scanning, Embedded, op_of, value_of, link_of, op_is, Control}
 use Rattle.snap_runs.proofs.Algorithm.{Idle, At, WhenBusy, Move, To, Begin, Answer, Finish, TypedProcess, TypedState}
 use Rattle.snap_runs.proofs.Algorithm.{Algorithm, New, by_move, by_step, by_admission, by_call, typed_at, by_item}
 use Rattle.snap_runs.proofs.Algorithm.{changed, outcome_of, happens, item_at, typed_state, first_process, first_state}

@@ -1,29 +1,24 @@
 -- The calls of a run, for any listing: under which one a process is, and that no two of a process are open at once.
-use Rattle.std.proofs.Common.{◌≡◌, ◌≢◌, ℕ, zero, suc, ◌-◌, ◌<◌, ◌≤◌, ◌⊎◌, true, List, length, Option, Some, None}
-use Rattle.std.proofs.Common.{Result, Ok, Err, slice_set, refl, sym, ◌∙◌, ap, subst, arith, inl, inr}
+use Rattle.std.proofs.Common.{◌≡◌, ◌≢◌, ℕ, zero, suc, ◌-◌, ◌<◌, ◌≤◌, true, List, length, None}
+use Rattle.std.proofs.Common.{refl, sym, ◌∙◌, ap, subst, arith, inl, inr}
 use Rattle.std.proofs.lemmas.Bool.{cases_eq}
 use Rattle.std.proofs.lemmas.List.Elements.{All-from_recursion}
-use Rattle.std.proofs.lemmas.List.{length-set, get_or-set_other, length-replicate, get_or-replicate}
+use Rattle.std.proofs.lemmas.List.{length-replicate, get_or-replicate}
 use Rattle.std.proofs.Math.Nat.{eq-or-lt_of_le}
-use Rattle.snap_runs.proofs.Common.{Counts, IsOneOf, Activity, Item, Step, Call, Crash, Op, Outcome, Called, Answered}
-use Rattle.snap_runs.proofs.Common.{Finished, Reason, Process, State, process_at, who, Run, IsValidRun, state, item}
-use Rattle.snap_runs.proofs.Common.{outcome}
-use Rattle.snap_semantics.specs.declared.process.Cause.{Cause}
+use Rattle.snap_runs.proofs.Common.{IsOneOf, Activity, Item, Step, Call, Op, Outcome, Called, Answered, Finished}
+use Rattle.snap_runs.proofs.Common.{Process, State, who, Run, IsValidRun, state, item, outcome}
 use Rattle.snap_semantics.specs.declared.process.Op.TheVariants as op
 use Rattle.snap_semantics.specs.declared.process.Status.{Status}
-use Rattle.snap_semantics.specs.declared.process.Status.TheVariants.{Idle, Busy, Trapped, Crashed}
-use Rattle.snap_semantics.specs.Source.{Source, instr_at}
-use Rattle.snap_semantics.specs.State.{Locals, Memory, nobody, initial_process}
-use Rattle.snap_semantics.specs.Table.{Effect, Goes, Answers, Finishes, effect_at, leave, step, call_skip, called, call}
-use Rattle.snap_semantics.specs.Table.{crash, done}
+use Rattle.snap_semantics.specs.declared.process.Status.TheVariants.{Idle, Busy}
+use Rattle.snap_semantics.specs.State.{nobody, initial_process}
+use Rattle.snap_semantics.specs.Table.{step, call}
 use Rattle.snap_runs.specs.Operation.{EndsAreOfOperations}
 use Rattle.snap_runs.specs.Scan.{FinishedScan, is_not_skipped}
 use Rattle.snap_runs.specs.Update.{PendingUpdate}
 use Rattle.snap_runs.proofs.Computing.{neither_less}
 use Rattle.snap_runs.proofs.Embedding.{next_state}
-use Rattle.snap_runs.proofs.Transitions.{MaySkip, Transition, skipped, calls, goes, answers}
-use Rattle.snap_runs.proofs.Transitions.{finishes, traps, crashes, status_of, own_turn}
-use Rattle.snap_runs.proofs.Transitions.{same_count, other_status}
+use Rattle.snap_runs.proofs.Transitions.{MaySkip, Transition, skipped, calls, goes, answers, finishes, traps, crashes}
+use Rattle.snap_runs.proofs.Transitions.{status_of, own_turn, same_count, other_status}
 
 -- A process is at an operation that was called and has not ended, or has trapped or crashed.
 abbrev pub Occupied : Op → Status → Type 0

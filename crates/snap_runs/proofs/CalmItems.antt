@@ -2,7 +2,7 @@
 -- updates, lines that are executed, and counts.
 use Rattle.std.proofs.Common.{◌≡◌, ℕ, zero, suc, ◌<◌, ◌≤◌, ◌⊎◌, Bool, true, false, ◌&&◌, List, length, Option, Some}
 use Rattle.std.proofs.Common.{None, refl, sym, ◌∙◌, ap, subst, arith, inl, inr}
-use Rattle.snap_runs.proofs.Common.{Counts, Activity, Item, Step, Call, Crash, Op, Scan, Update, Outcome, Process}
+use Rattle.snap_runs.proofs.Common.{Counts, Activity, Item, Step, Call, Crash, Scan, Update, Outcome, Process}
 use Rattle.snap_runs.proofs.Common.{process_at, values, who, Run, IsValidRun, state, before, item, outcome}
 use Rattle.snap_semantics.specs.declared.process.Outcome.TheVariants as outcomes
 use Rattle.snap_semantics.specs.declared.process.Reason.TheVariants as reason
@@ -44,7 +44,8 @@ IsOf i Holds = (y : Item) (o : Outcome) (p q : Process) → Holds y o p q →
 
 -- what is told of an item of one run is told of it in another one
 abbrev Tells : Run → Run → Type 1
-Tells r r' = (Holds : Telling) (i t : ℕ) → IsOf i Holds → 0 < t → t ≤ length r.items → Told Holds r i t → Told Holds r' i t
+Tells r r' = (Holds : Telling) (i t : ℕ) → IsOf i Holds → 0 < t → t ≤ length r.items → Told Holds r i t → Told Holds
+    r' i t
 
 -- scans and updates start and end at the same items then
 module _ (s : Source) (shape : Counts) (xs ys : List Item)
@@ -228,7 +229,8 @@ module _ (r : Run) where
         elim (kept_or_paused r fits t (omega arith)) [
           | inl k ↦ subst (λ (A : Type 0). A) (sym (told_alike Holds i t k its.0)) h
           | inr k ↦ absurd (elim its.1 [
-            | inl effect ↦ no_effect (item r (suc t)) (outcome r (suc t)) (status t (who (item r (suc t)))) k.dead effect
+            | inl effect ↦ no_effect (item r (suc t)) (outcome r (suc t)) (status t (who (item r (suc t)))) k.dead
+                effect
             | inr step ↦
                 (let dead = dead_at t i k (ap (steps i) step.0 ∙ same_number i) in step.1 dead.1.0 dead.1.1)
           ])

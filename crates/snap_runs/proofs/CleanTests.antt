@@ -5,14 +5,13 @@ use Rattle.std.proofs.Common.{nat_eq, sym, ◌∙◌, ap, subst, arith, inl, inr
 use Rattle.std.proofs.lemmas.Bool.{cases_eq}
 use Rattle.std.proofs.lemmas.Grind.{get_or-set_at}
 use Rattle.std.proofs.lemmas.List.{get_or-set_other}
-use Rattle.std.proofs.Math.Nat.{eq-or-lt_of_le}
-use Rattle.snap_runs.proofs.Common.{IsOneOf, Word, no_word, Process, process_at, Item, Op, Update, Run, state}
+use Rattle.snap_runs.proofs.Common.{IsOneOf, Word, no_word, Process, process_at, Item, Op, Run, state}
 use Rattle.snap_semantics.specs.State.{value_at}
 use Rattle.snap_runs.specs.Scan.{PendingScan, ends_double_collect, double_collects}
 use Rattle.snap_runs.specs.Update.{is_at, executes}
 use Rattle.snap_runs.specs.Promises.{CollectLines, ExecutesFor, IsUpdating, WritesWord, CleanReads}
-use Rattle.snap_runs.proofs.Algorithm.{Mode, Updating, Control, At, WhenBusy, TypedProcess, Algorithm, typed_at}
-use Rattle.snap_runs.proofs.Algorithm.{typed_state, status_of, process_of}
+use Rattle.snap_runs.proofs.Algorithm.{Mode, Updating, At, WhenBusy, TypedProcess, Algorithm, typed_at}
+use Rattle.snap_runs.proofs.Algorithm.{typed_state, status_of}
 use Rattle.snap_runs.proofs.Collecting as collecting
 use Rattle.snap_runs.proofs.Collecting.{Copies, Phase, Away, ReadsFirst, ReadsSecond, Collected}
 use Rattle.snap_runs.proofs.Computing.{from_there}
@@ -102,7 +101,8 @@ module _ {V P M : Type 0} (a : Algorithm V P M) (lines : Lines V P M) (line : �
         let there = executing.stands_at a items run.fits run.does numbered t j line writer.counter short w.1 its w.2 in
         let x = writes.written a lines line writer run updates t j there.1.0 short there.0 there.1.1 in
         let op = subst (λ (p : Process). IsUpdating k p.status)
-        (embed.busy_at a items run.fits run.does t j (Updating x.word x.value) writer.counter (omega arith) w.1 x.control) w.3 in
+        (embed.busy_at a items run.fits run.does t j (Updating x.word x.value) writer.counter (omega arith) w.1
+        x.control) w.3 in
         let same : x.word ≡ k = cc in
         let e2 : seq_at (words (suc t)) k ≡ seq_at (words t) k + 1 = counted t j k short one x w.1 same in omega arith
 

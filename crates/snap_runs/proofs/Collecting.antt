@@ -6,8 +6,7 @@ use Rattle.std.proofs.lemmas.Bool.{cases_eq}
 use Rattle.std.proofs.lemmas.Grind.{get_or-set_at}
 use Rattle.std.proofs.lemmas.List.{get_or-set_other}
 use Rattle.snap_runs.proofs.Common.{IsOneOf, Word, no_word, Item, Step, Op, Scan, Update}
-use Rattle.snap_runs.specs.Run.{}
-use Rattle.snap_runs.proofs.Algorithm.{Mode, Control, Idle, At, WhenBusy, Move, To, Begin, Answer, Finish}
+use Rattle.snap_runs.proofs.Algorithm.{Mode, Control, Idle, At, WhenBusy, Move, To, Begin}
 use Rattle.snap_runs.proofs.Algorithm.{TypedProcess, Algorithm, typed_at, item_at, typed_state, called_auxiliary}
 use Rattle.snap_runs.proofs.Computing.{either}
 use Rattle.snap_runs.proofs.Embedding as embed
@@ -177,7 +176,8 @@ module _ {V P M : Type 0} (a : Algorithm V P M) (c : Copies V P M) where
     advance s t d l p' ReadsFirst le is at r h =
         elim r [
           | inl first ↦ (λ k one_k lt. absurd (let e : c.index p' ≡ 1 = first in omega arith))
-          | inr next ↦ (first_on s t (his t).variables p' (c.index (his t).variables + 1) (c.index p') next.2 (omega arith)
+          | inr next ↦ (first_on s t (his t).variables p' (c.index (his t).variables + 1) (c.index p') next.2
+              (omega arith)
               (subst (Progress s t (his t).variables) next.0 h))
         ]
     advance s t d l p' HasFirst le is at r h =

@@ -3,13 +3,12 @@
 use Rattle.std.specs.Prelude.{◌≡◌, ℕ, zero, suc, ◌<◌, ◌≤◌, List, length, Some, refl}
 use Rattle.std.proofs.Common.{sym, ◌∙◌, ap, subst, arith, inl, inr}
 use Rattle.std.proofs.Math.Nat.{eq-or-lt_of_le}
-use Rattle.snap_runs.proofs.Common.{IsOneOf, Process, process_at, Item, Step, Op, Scan, Update, Run, state, outcome}
+use Rattle.snap_runs.proofs.Common.{IsOneOf, Process, Item, Step, Op, Scan, Update, Run, outcome}
 use Rattle.snap_semantics.specs.Source.{instr_at}
 use Rattle.snap_runs.specs.Scan.{Starts, Ends, FinishedScan, IsCallLine, ReturnsView, line_in, link_in}
-use Rattle.snap_runs.proofs.Algorithm.{Mode, Scanning, Embedded, Updating, mode_of, Control, Idle, At, Move}
-use Rattle.snap_runs.proofs.Algorithm.{To, Begin, Answer, Finish, TypedProcess, Algorithm, by_move, typed_at}
-use Rattle.snap_runs.proofs.Algorithm.{outcome_of, item_at, typed_state, process_of}
-use Rattle.snap_runs.proofs.Algorithm.{begun_auxiliary, called_auxiliary}
+use Rattle.snap_runs.proofs.Algorithm.{Mode, Scanning, Embedded, Updating, mode_of, Control, At, Move, To, Begin}
+use Rattle.snap_runs.proofs.Algorithm.{Answer, Finish, TypedProcess, Algorithm, by_move, typed_at, outcome_of, item_at}
+use Rattle.snap_runs.proofs.Algorithm.{typed_state, process_of, begun_auxiliary, called_auxiliary}
 use Rattle.snap_runs.proofs.Embedding as embed
 use Rattle.snap_runs.proofs.Flow as flow
 use Rattle.snap_runs.proofs.Flow.{Lines}
@@ -75,7 +74,8 @@ module _ {V P M : Type 0} (a : Algorithm V P M) (lines : Lines V P M) where
         (lines.IsReturn k → ⊥) → Ends r i (suc t) (Some a.back) view → ⊥
     no_end t d k view short at none ends =
         none (listed.returns (his t).variables k view
-        (subst (λ (p : Process). ReturnsView (line_in a.source p.status) p.locals view) (embed.busy_at a items run.fits run.does t i d k (omega arith) one at) ends.1)).0
+        (subst (λ (p : Process). ReturnsView (line_in a.source p.status) p.locals view)
+        (embed.busy_at a items run.fits run.does t i d k (omega arith) one at) ends.1)).0
 
     -- a line that returns ends its embedded scan
     ended : (t w x : ℕ) (k : P) → t < length items → item_at items t ≡ Step i →
@@ -100,8 +100,10 @@ module _ {V P M : Type 0} (a : Algorithm V P M) (lines : Lines V P M) where
             ends = (
               is,
               subst (λ (p : Process). ReturnsView (line_in a.source p.status) p.locals view)
-                  (sym (embed.busy_at a items run.fits run.does t i (Embedded w x) k (omega arith) one at)) (listed.answers (his t).variables k returns),
-              ap (λ (p : Process). link_in p.status) (embed.busy_at a items run.fits run.does t i (Embedded w x) k (omega arith) one at),
+                  (sym (embed.busy_at a items run.fits run.does t i (Embedded w x) k (omega arith) one at))
+                  (listed.answers (his t).variables k returns),
+              ap (λ (p : Process). link_in p.status)
+                  (embed.busy_at a items run.fits run.does t i (Embedded w x) k (omega arith) one at),
             );
           };
         }
@@ -119,7 +121,8 @@ module _ {V P M : Type 0} (a : Algorithm V P M) (lines : Lines V P M) where
     begun t w x k p' k' short is at calls after out = record {
       starts = (
         is,
-        subst (λ (p : Process). IsCallLine (line_in a.source p.status)) (sym (embed.busy_at a items run.fits run.does t i (Updating w x) k (omega arith) one at)) calls,
+        subst (λ (p : Process). IsCallLine (line_in a.source p.status))
+            (sym (embed.busy_at a items run.fits run.does t i (Updating w x) k (omega arith) one at)) calls,
         out,
         ap (λ (p : Process). link_in p.status)
             (embed.process_at_is a items run.fits run.does (suc t) i (omega arith) one ∙ ap (process_of a) after),

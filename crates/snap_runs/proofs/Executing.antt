@@ -2,7 +2,7 @@
 -- program counter of that line; and what its step there leaves.
 use Rattle.std.specs.Prelude.{◌≡◌, ℕ, suc, ◌<◌, Bool, true, false, ◌&&◌, List, length, Option, Some, nat_eq, refl}
 use Rattle.std.proofs.Common.{sym, ◌∙◌, ap, subst, arith}
-use Rattle.snap_runs.proofs.Common.{IsOneOf, Process, process_at, who, Item, Step, Call, Crash, Stepped, Run, state}
+use Rattle.snap_runs.proofs.Common.{IsOneOf, Process, process_at, who, Item, Step, Stepped, Run, state}
 use Rattle.snap_runs.proofs.Common.{before, item, outcome}
 use Rattle.snap_runs.specs.Scan.{steps}
 use Rattle.snap_runs.specs.Update.{is_at, goes_on, executes, TrapsExecuteNothing}

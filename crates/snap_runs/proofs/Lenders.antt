@@ -129,7 +129,8 @@ module _ {V P M : Type 0} (a : Algorithm V P M) (lines : Lines V P M) (line : �
         sym there.1.1 ∙ ap (λ y. (at v y).control) same ∙ g.control in let f : there.1.0 ≡ g.mode = cc in f)
         (updates v j there.1.0 short jone there.1.1)) in
         let differ : (at v j).auxiliary.since ≢ c =
-        λ same. other (sym (starter r j (at v j).auxiliary.since (Some a.back) lent.scan.scan.starts) ∙ ap (λ y. who (item r y)) same
+        λ same. other (sym (starter r j (at v j).auxiliary.since (Some a.back) lent.scan.scan.starts) ∙ ap
+        (λ y. who (item r y)) same
         ∙ starter r i c link ends.scan.starts) in
         record {
           lender = j;

@@ -2,14 +2,13 @@
 use Rattle.std.proofs.Common.{◌≡◌, ℕ, zero, suc, ◌<◌, ◌≤◌, ◌⊎◌, true, List, [], ◌∷◌, ◌++◌, length, Option, Some, None}
 use Rattle.std.proofs.Common.{replicate, map, refl, sym, ◌∙◌, ap, subst, arith, inl, inr}
 use Rattle.std.specs.List.{AllByRecursion, Contains}
-use Rattle.std.proofs.lemmas.Bool.{cases_eq, cases_lt}
+use Rattle.std.proofs.lemmas.Bool.{cases_eq}
 use Rattle.std.proofs.lemmas.List.{append-nil, length-replicate}
 use Rattle.std.proofs.lemmas.List.Elements.{All-from_recursion, Contains-append_left, Contains-push}
-use Rattle.snap_runs.proofs.Common.{Counts, IsOneOf, Word, Call, values, Run, IsValidRun, state, item}
+use Rattle.snap_runs.proofs.Common.{Counts, IsOneOf, Word, values, Run, IsValidRun, state}
 use Rattle.snap_words.specs.Kind.{initial_word}
 use Rattle.snap_words.specs.declared.kind.KindTag.{KindTag}
 use Rattle.snap_words.specs.declared.kind.KindTag.TheVariants as kind
-use Rattle.snap_semantics.specs.declared.process.Op.TheVariants as op
 use Rattle.snap_semantics.specs.State.{initial_memory}
 use Rattle.snap_runs.specs.Scan.{FinishedScan, count}
 use Rattle.snap_runs.specs.Update.{executes, PendingUpdate}
@@ -319,7 +318,8 @@ module _ (line : ℕ) (r : Run) (fits : IsValidRun r) (points : HasLinearization
           } in
           let count : length (values (state r t)) ≡ r.shape.w =
           ap length (sym past.leaves) ∙ length_after_all zeros xs ∙ length-replicate r.shape.w 0 in
-          let sets : IsOneOf (length (values (state r t))) w.word = subst (λ y. IsOneOf y w.word) (sym count) w.is_word in
+          let sets : IsOneOf (length (values (state r t))) w.word = subst (λ y. IsOneOf y w.word) (sym count)
+          w.is_word in
           let u : UpdateCall = record { process = w.process; call = w.call; word = w.word; value = w.value } in
           let writes : WritesAt line r (suc t) u =
           record { executed = w.executed; before_it = lt; updating = w.updating } in (
@@ -340,7 +340,8 @@ module _ (line : ℕ) (r : Run) (fits : IsValidRun r) (points : HasLinearization
   spot_of : (a : Action) (i c e : ℕ) → TookPlace r i c (Some e) a →
       (t : ℕ) × (s : ℕ) × Placed t s (record { process = i; call = c; end = Some e; action = a })
   spot_of (Sets word value) i c e took =
-      let counted : count (executes r i line) c e ≡ 1 = (points.writes_once fits i word value c e took.0).1 took.1 took.2 in
+      let counted : count (executes r i line) c e ≡ 1 = (points.writes_once fits i word value c e took.0).1 took.1
+      took.2 in
       let w = counted_item (executes r i line) c e (omega arith) in (
         w.0,
         0,

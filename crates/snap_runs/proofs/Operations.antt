@@ -3,7 +3,7 @@ use Rattle.std.proofs.Common.{◌≡◌, ℕ, zero, suc, ◌-◌, ◌<◌, ◌�
 use Rattle.std.proofs.Common.{Some, None, nat_lt, if◌then◌else◌, slice_set, refl, sym, ◌∙◌, ap, subst, arith, inl, inr}
 use Rattle.std.proofs.lemmas.Bool.{cases_eq, cases_lt}
 use Rattle.std.proofs.Math.Nat.{eq-or-lt_of_le}
-use Rattle.snap_runs.proofs.Common.{IsOneOf, Item, Step, Call, Crash, Op, Outcome, process_at, values, who, Run}
+use Rattle.snap_runs.proofs.Common.{IsOneOf, Call, Op, Outcome, process_at, values, who, Run}
 use Rattle.snap_runs.proofs.Common.{IsValidRun, state, before, item}
 use Rattle.snap_semantics.specs.declared.process.Op.TheVariants as op
 use Rattle.snap_semantics.specs.declared.process.Outcome.TheVariants as outcome
@@ -12,7 +12,7 @@ use Rattle.snap_runs.specs.Scan.{FinishedScan, steps, count}
 use Rattle.snap_runs.specs.Update.{is_at, goes_on, executes, IsDone, PendingUpdate}
 use Rattle.snap_runs.specs.LinearizationPoints.{HasLinearizationPoints}
 use Rattle.snap_runs.specs.Operation.{Sets, TookPlace}
-use Rattle.snap_runs.proofs.Computing.{lt_from, both, same_from, neither_less}
+use Rattle.snap_runs.proofs.Computing.{lt_from, both, neither_less}
 use Rattle.snap_runs.proofs.Counting.{count_next}
 use Rattle.snap_runs.proofs.Executing.{step_of}
 use Rattle.snap_runs.proofs.Calls.{EndsWith, IsEnd, Calls, item_one, one_call, answer_ends}

@@ -1,6 +1,6 @@
 -- Every finished scan of any algorithm has a point, where the view that
 -- a line returns was the values at some state since the scan's start.
-use Rattle.std.proofs.Common.{◌≡◌, ℕ, zero, suc, ◌<◌, ◌≤◌, List, length, ◌∙◌, subst, arith}
+use Rattle.std.proofs.Common.{◌≡◌, ℕ, zero, suc, ◌≤◌, List, length, ◌∙◌, subst, arith}
 use Rattle.snap_runs.proofs.Common.{IsOneOf, Item, Run}
 use Rattle.snap_runs.specs.Scan.{HasPoint}
 use Rattle.snap_runs.specs.Promises.{HavePoints}

@@ -2,18 +2,16 @@
 -- process, its own steps and its double collects, is what the run's items say.
 use Rattle.std.proofs.Common.{◌≡◌, ℕ, zero, suc, ◌+◌, ◌<◌, ◌≤◌, ◌⊎◌, Bool, true, false, ◌&&◌, List, length, Option}
 use Rattle.std.proofs.Common.{Some, None, if◌then◌else◌, refl, sym, ◌∙◌, ap, subst, arith, inl, inr}
-use Rattle.std.proofs.Math.Nat.{eq-or-lt_of_le}
 use Rattle.snap_semantics.specs.Source.{instr_at}
-use Rattle.snap_runs.proofs.Common.{Op, Scan, Item, Step, Call, Outcome, Called, Stepped, Process, process_at}
+use Rattle.snap_runs.proofs.Common.{Scan, Item, Step, Call, Outcome, Called, Stepped, Process, process_at}
 use Rattle.snap_runs.proofs.Common.{who, IsOneOf, Run, state, before, item, outcome}
 use Rattle.snap_runs.specs.Scan.{line_in, link_in, IsCallLine, ReturnsView, Starts, PendingScan, steps, is_if_all}
 use Rattle.snap_runs.specs.Scan.{is_stepped, is_not_skipped, ends_double_collect}
 use Rattle.snap_runs.specs.Scan.{takes_step, double_collects, own_steps}
-use Rattle.snap_runs.proofs.Algorithm.{Mode, Scanning, op_of, link_of, mode_of, op_is, link_is}
-use Rattle.snap_runs.proofs.Algorithm.{Control, Idle, At, Move, To, Begin, Answer, Finish, embedding, TypedProcess}
-use Rattle.snap_runs.proofs.Algorithm.{Algorithm, by_move, typed_at}
-use Rattle.snap_runs.proofs.Algorithm.{outcome_of, item_at, typed_state, status_of, process_of}
-use Rattle.snap_runs.proofs.Algorithm.{Auxiliary, begun_auxiliary, called_auxiliary}
+use Rattle.snap_runs.proofs.Algorithm.{Mode, Scanning, op_of, link_of, mode_of, op_is, link_is, Control, Idle, At, Move}
+use Rattle.snap_runs.proofs.Algorithm.{To, Begin, Answer, embedding, TypedProcess, Algorithm, by_move, typed_at}
+use Rattle.snap_runs.proofs.Algorithm.{outcome_of, item_at, typed_state, status_of, Auxiliary, begun_auxiliary}
+use Rattle.snap_runs.proofs.Algorithm.{called_auxiliary}
 use Rattle.snap_runs.proofs.Counting.{count_none, count_next, count_not, add_one, inner_more, own_same}
 use Rattle.snap_runs.proofs.Counting.{own_next as own_more}
 use Rattle.snap_runs.proofs.Computing.{same_number, and_true, from_there}

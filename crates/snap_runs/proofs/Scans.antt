@@ -1,13 +1,11 @@
 -- The scans of a run of an algorithm: where the process of a scan stands, and how a finished scan ends.
 use Rattle.std.specs.Prelude.{◌≡◌, ℕ, suc, ◌<◌, ◌≤◌, List, length, Option, Some, None, if◌then◌else◌}
-use Rattle.std.proofs.Common.{sym, ◌∙◌, ap, subst, arith}
-use Rattle.snap_runs.proofs.Common.{IsOneOf, Process, process_at, who, Item, Answered, state}
-use Rattle.snap_runs.proofs.Common.{outcome}
+use Rattle.std.proofs.Common.{sym, ◌∙◌, subst, arith}
+use Rattle.snap_runs.proofs.Common.{IsOneOf, Process, who, Item, Answered, outcome}
 use Rattle.snap_semantics.specs.Source.{instr_at}
 use Rattle.snap_runs.specs.Scan.{IsCallLine, ReturnsView, Ends, PendingScan, FinishedScan, line_in, is_if_all}
-use Rattle.snap_runs.proofs.Algorithm.{Mode, Control, Idle, At, WhenBusy, Move, Answer}
-use Rattle.snap_runs.proofs.Algorithm.{TypedProcess, Algorithm, by_move, typed_at}
-use Rattle.snap_runs.proofs.Algorithm.{outcome_of, item_at, typed_state, process_of}
+use Rattle.snap_runs.proofs.Algorithm.{Mode, Control, Idle, At, WhenBusy, Move, Answer, TypedProcess, Algorithm}
+use Rattle.snap_runs.proofs.Algorithm.{by_move, typed_at, outcome_of, item_at, typed_state}
 use Rattle.snap_runs.proofs.Embedding as embed
 use Rattle.snap_runs.proofs.Flow.{Lines}
 use Rattle.snap_runs.proofs.Flow as flow

@@ -7,11 +7,9 @@ use Rattle.snap_runs.proofs.Common.{Op, Scan, Update, Item, Step, Call, Called}
 use Rattle.snap_runs.proofs.Common.{Finished, Process, process_at, who, IsOneOf, Run, before, item, outcome}
 use Rattle.snap_runs.specs.Scan.{count, steps}
 use Rattle.snap_runs.specs.Update.{is_at, goes_on, executes, IsDone, PendingUpdate}
-use Rattle.snap_runs.proofs.Algorithm.{Mode, Updating, op_of, mode_of, op_is, Control, Idle, At, Move, To, Begin, Answer}
-use Rattle.snap_runs.proofs.Algorithm.{Finish, Auxiliary, TypedProcess, Algorithm, by_move}
-use Rattle.snap_runs.proofs.Algorithm.{typed_at, outcome_of}
-use Rattle.snap_runs.proofs.Algorithm.{item_at, typed_state, status_of}
-use Rattle.snap_runs.proofs.Algorithm.{called_auxiliary, SameOp}
+use Rattle.snap_runs.proofs.Algorithm.{Mode, Updating, op_of, mode_of, op_is, Control, Idle, At, Move, To, Begin}
+use Rattle.snap_runs.proofs.Algorithm.{Answer, Finish, Auxiliary, TypedProcess, Algorithm, by_move, typed_at}
+use Rattle.snap_runs.proofs.Algorithm.{outcome_of, item_at, typed_state, called_auxiliary, SameOp}
 use Rattle.snap_runs.proofs.Computing.{same_number, and_true, from_there}
 use Rattle.snap_runs.proofs.Embedding as embed
 use Rattle.snap_runs.proofs.Counting.{count_none, count_next, count_not, add_one, inner_more}

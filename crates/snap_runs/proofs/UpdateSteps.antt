@@ -1,16 +1,14 @@
 -- A bound on the own steps of an update of any algorithm: those
 -- of its lines outside its embedded scan, and those of the scan.
-use Rattle.std.proofs.Common.{◌≡◌, ℕ, zero, suc, ◌+◌, ◌<◌, ◌≤◌, ◌⊎◌, Bool, true, false, ◌&&◌, List, length}
+use Rattle.std.proofs.Common.{◌≡◌, ℕ, zero, suc, ◌+◌, ◌<◌, ◌≤◌, ◌⊎◌, Bool, true, false, List, length}
 use Rattle.std.proofs.Common.{if◌then◌else◌, refl, sym, ◌∙◌, ap, subst, arith, inl, inr}
 use Rattle.std.proofs.Math.Nat.{eq-or-lt_of_le}
-use Rattle.snap_runs.proofs.Common.{IsOneOf, who, Item, Call, Op, Update, Called, Finished, Run}
-use Rattle.snap_runs.proofs.Common.{item, outcome}
-use Rattle.snap_runs.specs.Scan.{steps, is_not_skipped, own_steps, takes_step}
+use Rattle.snap_runs.proofs.Common.{IsOneOf, who, Item, Call, Update, Called, Finished, Run, item, outcome}
+use Rattle.snap_runs.specs.Scan.{steps, own_steps, takes_step}
 use Rattle.snap_runs.specs.Update.{PendingUpdate}
-use Rattle.snap_runs.proofs.Algorithm.{Mode, Scanning, Embedded, Updating, op_of, Control, Idle, At, Move, To, Begin}
-use Rattle.snap_runs.proofs.Algorithm.{Answer, Finish, Auxiliary, TypedProcess, Algorithm, by_move}
-use Rattle.snap_runs.proofs.Algorithm.{typed_at, outcome_of}
-use Rattle.snap_runs.proofs.Algorithm.{item_at, typed_state, stepped_auxiliary, begun_auxiliary, called_auxiliary, mode_of}
+use Rattle.snap_runs.proofs.Algorithm.{Mode, Scanning, Embedded, Updating, op_of, Control, At, Move, To, Begin, Answer}
+use Rattle.snap_runs.proofs.Algorithm.{Finish, Auxiliary, TypedProcess, Algorithm, by_move, typed_at, outcome_of}
+use Rattle.snap_runs.proofs.Algorithm.{item_at, typed_state, stepped_auxiliary, begun_auxiliary, called_auxiliary}
 use Rattle.snap_runs.proofs.Computing.{from_there}
 use Rattle.snap_runs.proofs.Counting.{count_none, own_next, own_same}
 use Rattle.snap_runs.proofs.Embedding as embed

@@ -2,7 +2,7 @@
 -- bounds on turns.
 use Rattle.std.proofs.Common.{◌≡◌, ℕ, zero, suc, ◌<◌, ◌≤◌, Bool, true, false, ◌&&◌, ◌⊎◌, length, Option, None, nat_lt}
 use Rattle.std.proofs.Common.{if◌then◌else◌, refl, sym, ◌∙◌, ap, subst, arith, inl, inr}
-use Rattle.snap_runs.proofs.Common.{IsOneOf, Activity, Item, Step, Call, Crash, Op, Outcome, process_at, who, Run}
+use Rattle.snap_runs.proofs.Common.{IsOneOf, Activity, Item, Step, Op, Outcome, process_at, who, Run}
 use Rattle.snap_runs.proofs.Common.{IsValidRun, state, item, outcome}
 use Rattle.snap_semantics.specs.declared.process.Op.TheVariants as op
 use Rattle.snap_semantics.specs.declared.process.Outcome.TheVariants as outcomes

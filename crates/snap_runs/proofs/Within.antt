@@ -1,6 +1,6 @@
 -- Lemmas about numbers that stay within `Limits`: lists of them,
 -- words that are read and written, and the first state of a run.
-use Rattle.std.proofs.Common.{◌≡◌, ℕ, zero, suc, ◌+◌, ◌<◌, ◌≤◌, List, [], ◌∷◌, ◌++◌, take, drop, length, map}
+use Rattle.std.proofs.Common.{◌≡◌, ℕ, zero, suc, ◌+◌, ◌<◌, ◌≤◌, List, [], ◌∷◌, ◌++◌, take, drop, map}
 use Rattle.std.proofs.Common.{slice_index_or, slice_set, replicate, sym, subst, arith}
 use Rattle.std.specs.List.{AllByRecursion, range_with_len}
 use Rattle.std.proofs.lemmas.List.{map-set, length-set, length-take, length-drop}

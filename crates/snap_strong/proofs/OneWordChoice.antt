@@ -22,7 +22,6 @@ use Rattle.snap_runs.proofs.Audits.{last_call_under}
 use Rattle.snap_runs.proofs.Calls.{EndsWith, IsEnd, Calls, UnderCall, UnderAt, item_one, one_call, under, status}
 use Rattle.snap_runs.proofs.Computing.{other_number, same_number}
 use Rattle.snap_runs.proofs.Embedding.{next_state}
-use Rattle.snap_runs.proofs.Linear.{same_parts}
 use Rattle.snap_runs_of_u.specs.ListingU.{a, s}
 use Rattle.snap_runs.proofs.Order.{Pairs, Apart, all_pairs, all_push, all_weaker, pairs_push, keeps_order}
 use Rattle.snap_strong.specs.StrongLinearization.{IsCompleted, IsCompletedLinearization}
@@ -355,8 +354,9 @@ module _ (n : ℕ) (items : List Item) (fits : IsValidRun (run_of_items one_word
             sym its_place.call_is ∙ ap (item r) same ∙ calls.0 in
             let action : g ≡ x.action =
             same_action g x.action (let both : op_of g ≡ op_of x.action = cc in both) (sym out ∙ end.3) in
-            same_parts i x.process c x.call (end_at (nat_eq i i) (suc t) None) x.end g x.action his same
-            (ap (λ y. end_at y (suc t) None) (same_number i) ∙ sym last) action
+            let ends : end_at (nat_eq i i) (suc t) None ≡ x.end =
+            ap (λ y. end_at y (suc t) None) (same_number i) ∙ sym last in
+            λ k. record { process = his k; call = same k; end = ends k; action = action k }
 
     -- item t + 1, whatever it does
     next : (os : List Operation) → Book t os → Book (suc t) (booked_at r t os)

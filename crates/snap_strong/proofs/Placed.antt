@@ -53,8 +53,7 @@ not_ended_before _ e _ h = h
 
 pub ended_now : (b : Bool) (e : ℕ) (end : Option ℕ) → b ≡ true → end_at b e end ≡ None → ⊥
 ended_now true e None is h = cc
-ended_now true e (Some d) is h = cc
-ended_now false e end is h = cc
+ended_now _ e _ is h = cc
 
 ended_then : (b : Bool) (e : ℕ) (end : Option ℕ) (d : ℕ) → end_at b e end ≡ Some d → (end ≡ Some d) ⊎ (e ≡ d)
 ended_then true e None d h = inr (cc)

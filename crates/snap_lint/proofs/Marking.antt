@@ -21,8 +21,9 @@ Implies p q = (line : Line) → p line ≡ true → q line ≡ true
 
 longer_step : (b c : Bool) (n : ℕ) (xs ys : List ℕ) → (b ≡ true → c ≡ true) → length xs ≤ length ys →
     length (if b then n ∷ xs else xs) ≤ length (if c then n ∷ ys else ys)
+longer_step true true n xs ys h le = omega (arith, le)
 longer_step true false n xs ys h le = absurd (let e : false ≡ true = h refl in cc)
-longer_step _ true n xs ys h le = omega (arith, le)
+longer_step false true n xs ys h le = omega (arith, le)
 longer_step false false n xs ys h le = le
 
 longer : (p q : Line → Bool) → Implies p q → (lines : List Line) →

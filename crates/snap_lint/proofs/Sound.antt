@@ -180,8 +180,10 @@ module _ (s : Source) (listing : IsListing s) (shape : Counts) where
   left_trap : (S : State) (i : ℕ) (a : Activity) (l : Locals) (r : Result Effect Cause) (why : Cause) →
       Keeps s a.line a.op r → (leave S i a l r).1 ≡ outcome.Trapped why → IsWarnedOf s a.line why
   unfolding Keeps
+  left_trap S i a l (Ok (Goes m k link line)) why keeps is = absurd (cc)
+  left_trap S i a l (Ok (Answers v)) why keeps is = absurd (cc)
+  left_trap S i a l (Ok Finishes) why keeps is = absurd (cc)
   left_trap S i a l (Err e) why keeps is = subst (IsWarnedOf s a.line) (let same : e ≡ why = cc in same) keeps
-  left_trap S i a l _ why keeps is = absurd (cc)
 
   abbrev WarnedSomewhere : Cause → Type 0
   WarnedSomewhere why = (k : ℕ) × IsWarnedOf s k why
@@ -205,9 +207,7 @@ module _ (s : Source) (listing : IsListing s) (shape : Counts) where
   crash_trap : (S : State) (i : ℕ) (p : Process) (status : Status) (why : Cause) →
       (crash S i p status).1 ≡ outcome.Trapped why → WarnedSomewhere why
   crash_trap S i p (Trapped e a) why is = absurd (cc)
-  crash_trap S i p (Crashed was) why is = absurd (cc)
-  crash_trap S i p (Busy a) why is = absurd (cc)
-  crash_trap S i p Idle why is = absurd (cc)
+  crash_trap S i p _ why is = absurd (cc)
 
   item_trap : (S : State) (x : Item) (why : Cause) → IsOneOf shape.n (who x) → StateInFlow s S →
       (done s shape S x).1 ≡ outcome.Trapped why → WarnedSomewhere why

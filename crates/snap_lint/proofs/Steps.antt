@@ -96,9 +96,7 @@ starts s mode.UpdateCall = callees s.lines (reach_of s).update
 
 reached_in : (s : Source) (m : Mode) → lines_in (reach_of s) m ≡ reached s.lines (edges s.lines (way_of m)) (starts s m)
 reached_in s mode.Scan = refl
-reached_in s mode.ScanCall = refl
-reached_in s mode.Update = refl
-reached_in s mode.UpdateCall = refl
+reached_in s _ = refl
 
 -- the mode of a call in a mode
 abbrev call_of : Mode → Mode
@@ -228,9 +226,7 @@ outside (op.Update word value) target = refl
 -- no mode ends at a write
 writes_on : (m : Mode) (x : Index) (t : Tuple) → may_go_on (way_of m) (Put x t) ≡ true
 writes_on mode.Scan x t = refl
-writes_on mode.ScanCall x t = refl
-writes_on mode.Update x t = refl
-writes_on mode.UpdateCall x t = refl
+writes_on _ x t = refl
 
 module _ (s : Source) (listing : IsListing s) (k : ℕ) (i : Instr) (here : instr_at s.lines k ≡ Some i) (o : Op) where
   there : AllByRecursion (λ n. has_line s.lines n ≡ true) (instr_targets i)

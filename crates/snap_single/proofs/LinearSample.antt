@@ -35,7 +35,8 @@ second_update = record { process = 2; call = 38; end = Some 55; action = Sets 2 
 
 abbrev pub is_call : Item → Bool
 is_call (Call i op) = true
-is_call _ = false
+is_call (Step i) = false
+is_call (Crash i) = false
 
 pub scan_took_place : FinishedScan run 1 None 1 64 (0 ∷ 5 ∷ [])
 scan_took_place =
@@ -149,6 +150,7 @@ not_empty h =
 -- starts, which is no operation.
 wrong_answer : IsOperation run (record { process = 1; call = 1; end = Some 64; action = Sees (0 ∷ 6 ∷ []) }) → ⊥
 wrong_answer took =
+    let out : Answered (0 ∷ 5 ∷ []) ≡ Answered (0 ∷ 6 ∷ []) = took.ends.1 in
     let same : ◌≡◌ {A = ℕ} 5 6 = cc in omega arith
 
 never_called : IsOperation run (record { process = 2; call = 9; end = Some 25; action = Sets 2 5 }) → ⊥

@@ -114,6 +114,7 @@ open_place = record {
 missing : (places : List ℕ) → IsPlacedLinearization 32 written [] places → ⊥
 missing places h =
     let there = h.complete open_update 24 open_update_took_place open_place in
+    let lt : there.0 < 0 = there.1 in
     omega arith
 
 -- Two scans that overlap and see the same: each takes place at each item from 2 to 15.

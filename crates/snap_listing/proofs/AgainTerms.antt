@@ -40,11 +40,7 @@ use Rattle.snap_listing.proofs.Alls.{all_first, all_rest}
 -- what a use names is a name
 abbrev pub IsNamed : Use → Type 0
 IsNamed (Named wanted x) = IsName x
-IsNamed (BankUse b) = Unit {0}
-IsNamed (FieldUse f) = Unit {0}
-IsNamed HandshakeUse = Unit {0}
-IsNamed ViewUse = Unit {0}
-IsNamed (TupleUse k) = Unit {0}
+IsNamed _ = Unit {0}
 
 abbrev pub Names : List Use → Type 0
 Names us = AllByRecursion IsNamed us
@@ -126,13 +122,9 @@ scalar_read q x rest h = then_is (index_of_identifier x) (index.Scalar x) _ _ (i
 pub index_again : (q : Bool) (i : Index) (rest : List Token) → HasIndex q i → Names (index_uses i) →
     index_at q (spelled_index i ++ rest) ≡ Some (i, rest)
 unfolding index_at number_index place_index identifier_index
-index_again q (index.Number k) rest h names = refl
-index_again q index.Processes rest h names = refl
-index_again q index.Words rest h names = refl
-index_again q index.Me rest h names = refl
-index_again q index.Word rest h names = refl
 index_again q index.Place rest h names = place_read q rest h
 index_again q (index.Scalar x) rest h names = scalar_read q x rest names.0
+index_again q _ rest h names = refl
 
 pub bracket_again : (q : Bool) (i : Index) (rest : List Token) → HasIndex q i → Names (index_uses i) →
     place_at q (in_brackets (spelled_index i) ++ rest) ≡ Some (i, rest)
@@ -209,13 +201,9 @@ index_term_again : (q : Bool) (i : Index) (rest : List Token) → HasIndex q i �
     term_at q (spelled_index i ++ rest) ≡ Some (term.Index i, rest)
 unfolding term_at arg_term row_term named_place_at name_at field_term handshake_term index_term index_at
     number_index place_index identifier_index
-index_term_again q (index.Number k) rest h names e = refl
-index_term_again q index.Processes rest h names e = refl
-index_term_again q index.Words rest h names e = refl
-index_term_again q index.Me rest h names e = refl
-index_term_again q index.Word rest h names e = refl
 index_term_again q index.Place rest h names e = place_term q rest h
 index_term_again q (index.Scalar x) rest h names e = scalar_term q x rest names.0 e
+index_term_again q _ rest h names e = refl
 
 arg_term_again : (q : Bool) (rest : List Token) → term_at q (Identifier (codes "arg") ∷ rest) ≡ Some (term.Arg, rest)
 unfolding term_at arg_term
@@ -246,22 +234,16 @@ place_inside q x i rest h name names =
 field_no_row : (q : Bool) (f : Field) (rest : List Token) → row_term q (Identifier (field_keyword f) ∷ rest) ≡ None
 unfolding row_term named_place_at name_at
 field_no_row q field.Datum rest = refl
-field_no_row q field.Seq rest = refl
-field_no_row q field.Id rest = refl
-field_no_row q field.Toggle rest = refl
+field_no_row q _ rest = refl
 
 field_no_arg : (f : Field) (rest : List Token) → arg_term (Identifier (field_keyword f) ∷ rest) ≡ None
 unfolding arg_term
 field_no_arg field.Datum rest = refl
-field_no_arg field.Seq rest = refl
-field_no_arg field.Id rest = refl
-field_no_arg field.Toggle rest = refl
+field_no_arg _ rest = refl
 
 field_word_again : (f : Field) → field_of_keyword (field_keyword f) ≡ Some f
 field_word_again field.Datum = refl
-field_word_again field.Seq = refl
-field_word_again field.Id = refl
-field_word_again field.Toggle = refl
+field_word_again _ = refl
 
 field_read : (q : Bool) (f : Field) (x : Name) (i : Index) (rest : List Token) → HasIndex q i → IsName x →
     Names (index_uses i) → field_term q (spelled_term (term.Field f x i) ++ rest) ≡ Some (term.Field f x i, rest)
@@ -344,25 +326,16 @@ NoPlus rest = symbol_at symbol.Plus rest ≡ None
 
 index_no_not : (i : Index) (rest : List Token) → Names (index_uses i) →
     keyword_at (codes "not") (spelled_index i ++ rest) ≡ None
-index_no_not (index.Number k) rest names = refl
-index_no_not index.Processes rest names = refl
-index_no_not index.Words rest names = refl
-index_no_not index.Me rest names = refl
-index_no_not index.Word rest names = refl
-index_no_not index.Place rest names = refl
 index_no_not (index.Scalar x) rest names = no_keyword x (codes "not") rest names.0 refl
+index_no_not _ rest names = refl
 
 term_no_not : (q : Bool) (t : Term) (rest : List Token) → HasTerm q t → Names (term_uses t) →
     keyword_at (codes "not") (spelled_term t ++ rest) ≡ None
 term_no_not q (term.Index i) rest h names = index_no_not i rest names
-term_no_not q term.Arg rest h names = refl
 term_no_not q (term.Row x i) rest h names =
     no_keyword x (codes "not") (in_brackets (spelled_index i) ++ rest) names.0 refl
 term_no_not q (term.Field field.Datum x i) rest h names = refl
-term_no_not q (term.Field field.Seq x i) rest h names = refl
-term_no_not q (term.Field field.Id x i) rest h names = refl
-term_no_not q (term.Field field.Toggle x i) rest h names = refl
-term_no_not q (term.Handshake x i j) rest h names = refl
+term_no_not q _ rest h names = refl
 
 no_not : (q : Bool) (ts : List Token) → keyword_at (codes "not") ts ≡ None → not_expr q ts ≡ None
 unfolding not_expr
@@ -414,13 +387,11 @@ expr_again q (expr.Not t) rest h names e p = not_begun q t rest h names e
 relation_again : (r : Relation) (rest : List Token) → relation_at (spelled_relation r ∷ rest) ≡ Some (r, rest)
 unfolding relation_at
 relation_again relation.Equal rest = refl
-relation_again relation.Different rest = refl
-relation_again relation.Less rest = refl
+relation_again _ rest = refl
 
 relation_no_bracket : (r : Relation) (rest : List Token) → NoBracket (spelled_relation r ∷ rest)
 relation_no_bracket relation.Equal rest = refl
-relation_no_bracket relation.Different rest = refl
-relation_no_bracket relation.Less rest = refl
+relation_no_bracket _ rest = refl
 
 pub comparison_again : (q : Bool) (k : Comparison) (rest : List Token) → HasComparison q k →
     Names (comparison_uses k) → NoBracket rest → comparison_at q (spelled_comparison k ++ rest) ≡ Some (k, rest)
@@ -462,9 +433,6 @@ no_join_word Or rest h = h.2
 no_joined : (q : Bool) (j : Join) (rest : List Token) → NoJoin rest → joined_at q j rest ≡ None
 unfolding joined_at
 no_joined q j rest h = then_none (keyword_at (join_keyword j) rest) _ (no_join_word j rest h)
-
-join_no_bracket : (j : Join) (rest : List Token) → NoBracket (Identifier (join_keyword j) ∷ rest)
-join_no_bracket j rest = refl
 
 third_more : (q : Bool) (j : Join) (k l m o : Comparison) (rest : List Token) →
     HasComparison q o → Names (comparison_uses o) → NoJoin rest →

@@ -45,11 +45,7 @@ declared_name s wanted x all e =
 
 use_named : (s : Source) (u : Use) → AllByRecursion IsName (all_names s) → IsRight s u → IsNamed u
 use_named s (Named wanted x) all e = declared_name s wanted x all e
-use_named s (BankUse b) all e = tt
-use_named s (FieldUse f) all e = tt
-use_named s HandshakeUse all e = tt
-use_named s ViewUse all e = tt
-use_named s (TupleUse k) all e = tt
+use_named s _ all e = tt
 
 pub uses_named : (s : Source) (us : List Use) → AllByRecursion IsName (all_names s) →
     AllByRecursion (IsRight s) us → Names us

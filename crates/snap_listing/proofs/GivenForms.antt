@@ -250,28 +250,19 @@ Stops f = (x : Name) (ts : List Token) → symbol_at symbol.Comma ts ≡ None �
 index_stops : {B : Type 0} (i : Index) (rest : List Token) (f : (Name × List Token) → Option B) → Names (index_uses i) →
     ((x : Name) → f (x, rest) ≡ None) → (name_at (spelled_index i ++ rest) >>= f) ≡ None
 unfolding name_at
-index_stops (index.Number k) rest f names g = refl
-index_stops index.Processes rest f names g = refl
-index_stops index.Words rest f names g = refl
-index_stops index.Me rest f names g = refl
-index_stops index.Word rest f names g = refl
-index_stops index.Place rest f names g = refl
 index_stops (index.Scalar x) rest f names g =
     then_is (name_at (Identifier x ∷ rest)) (x, rest) f None (name_read x rest names.0) (g x)
+index_stops _ rest f names g = refl
 
 term_stops : {B : Type 0} (t : Term) (rest : List Token) (f : (Name × List Token) → Option B) → Names (term_uses t) →
     ((x : Name) → f (x, rest) ≡ None) → Stops f → (name_at (spelled_term t ++ rest) >>= f) ≡ None
 unfolding name_at
 term_stops (term.Index i) rest f names g h = index_stops i rest f names g
-term_stops term.Arg rest f names g h = refl
 term_stops (term.Row x i) rest f names g h =
     let ts : List Token = in_brackets (spelled_index i) ++ rest in
     then_is (name_at (Identifier x ∷ ts)) (x, ts) f None (name_read x ts names.0) (h x ts refl)
 term_stops (term.Field field.Datum x i) rest f names g h = refl
-term_stops (term.Field field.Seq x i) rest f names g h = refl
-term_stops (term.Field field.Id x i) rest f names g h = refl
-term_stops (term.Field field.Toggle x i) rest f names g h = refl
-term_stops (term.Handshake x i j) rest f names g h = refl
+term_stops _ rest f names g h = refl
 
 expr_stops : {B : Type 0} (e : Expr) (rest : List Token) (f : (Name × List Token) → Option B) → Names (expr_uses e) →
     ((x : Name) → f (x, rest) ≡ None) → Stops f → (name_at (spelled_expr e ++ rest) >>= f) ≡ None
@@ -716,7 +707,5 @@ instr_checks s line (First x g k target) = first_then s line (scalar x) (conditi
 instr_checks s line (Next x g target) = alone s line (scalar x)
 instr_checks s line (If k target) = condition_checks s line k
 instr_checks s line (IfAll g k target) = condition_checks s line k
-instr_checks s line (Goto target) = refl
-instr_checks s line (Call target) = refl
 instr_checks s line (Return x) = alone s line (view x)
-instr_checks s line Finish = refl
+instr_checks s line _ = refl

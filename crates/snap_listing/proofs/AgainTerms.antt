@@ -33,8 +33,7 @@ use Rattle.snap_semantics.specs.Source.{Name}
 use Rattle.snap_semantics.specs.Spelling.{in_brackets, spelled_index, spelled_place, field_keyword, spelled_term}
 use Rattle.snap_semantics.specs.Spelling.{spelled_expr, spelled_relation, spelled_comparison, spelled_condition}
 use Rattle.snap_semantics.specs.Token.{Token, Identifier, Sign}
-use Rattle.snap_semantics.specs.Uses.{Use, Named, BankUse, FieldUse, HandshakeUse, ViewUse, TupleUse, index_uses}
-use Rattle.snap_semantics.specs.Uses.{term_uses, expr_uses, comparison_uses, condition_uses}
+use Rattle.snap_semantics.specs.Uses.{Use, Named, index_uses, term_uses, expr_uses, comparison_uses, condition_uses}
 use Rattle.snap_listing.proofs.Alls.{all_first, all_rest}
 
 -- what a use names is a name

@@ -1,7 +1,6 @@
 -- What is read from a text is a listing, and the text spells it: for each numbered line, and then for the whole text.
 use Rattle.std.proofs.Common.{◌≡◌, ℕ, ◌+◌, ◌<◌, ◌≤◌, Bool, true, false, List, [], ◌∷◌, length, map, Option, Some}
-use Rattle.std.proofs.Common.{None, Result, Ok, Err, nat_lt, nat_le, codes}
-use Rattle.std.proofs.Common.{if◌then◌else◌, refl, ap, ◌∙◌, subst, arith}
+use Rattle.std.proofs.Common.{None, Result, Ok, Err, nat_lt, nat_le, codes, if◌then◌else◌, refl, ap, ◌∙◌, arith}
 use Rattle.std.proofs.lemmas.Bool.{leb-false}
 use Rattle.std.specs.List.{AllByRecursion}
 use Rattle.snap_words.specs.declared.kind.KindTag.{KindTag}
@@ -17,8 +16,7 @@ use Rattle.snap_semantics.specs.RightUses.{HasRightUses}
 use Rattle.snap_semantics.specs.Source.{Source}
 use Rattle.snap_semantics.specs.Spelling.{spelled_names, spelled_entry, spelled_line, spelled_source}
 use Rattle.snap_semantics.specs.Token.{Token, TextLine, text_lines, lines_of}
-use Rattle.snap_semantics.specs.Uses.{Use, Named, BankUse, FieldUse, HandshakeUse, ViewUse}
-use Rattle.snap_semantics.specs.Uses.{TupleUse, instr_uses, checked_uses}
+use Rattle.snap_semantics.specs.Uses.{Use, Named, instr_uses, checked_uses}
 use Rattle.snap_text.specs.Lines.{line_tokens}
 use Rattle.snap_text.proofs.Sound.{AreSound, lines_sound}
 use Rattle.snap_listing.specs.Laws.{Spells}
@@ -26,11 +24,9 @@ use Rattle.snap_listing.proofs.AgainTerms.{IsNamed, Names, short_name}
 use Rattle.snap_listing.proofs.Declared.{uses_named}
 use Rattle.snap_listing.proofs.HasTerms.{Finds}
 use Rattle.snap_listing.proofs.FoundForms.{LineFound, line_found}
-use Rattle.snap_listing.proofs.RightSources.{HoldsOk, holds_ok, ok_with, ok_same}
-use Rattle.snap_listing.proofs.RightSources.{WhenDone, uses_ok, relined_uses}
+use Rattle.snap_listing.proofs.RightSources.{HoldsOk, holds_ok, ok_with, ok_same, WhenDone, uses_ok, relined_uses}
 use Rattle.snap_listing.proofs.SpelledTerms.{IsShort, Shorts}
-use Rattle.snap_listing.proofs.SpelledHeader.{ok_when, some_line, spelled_kind}
-use Rattle.snap_listing.proofs.SpelledHeader.{AreSoundTexts, HeaderOk, header_ok}
+use Rattle.snap_listing.proofs.SpelledHeader.{ok_when, some_line, spelled_kind, AreSoundTexts, HeaderOk, header_ok}
 
 use_short : (u : Use) → IsNamed u → IsShort u
 use_short (Named wanted x) h = short_name x h

@@ -2,6 +2,7 @@
 -- letters, and has the forms that listings allow, where the tokens can stand in a text.
 use Rattle.std.proofs.Common.{◌≡◌, ℕ, ◌≤◌, ◌++◌, length, take_all, sym, ◌∙◌, ap, append_assoc, arith, nat_eq, Bool}
 use Rattle.std.proofs.Common.{true, false, List, [], ◌∷◌, Option, Some, None, bytes_eq, codes, if◌then◌else◌, refl}
+use Rattle.std.proofs.Common.{subst}
 use Rattle.snap_words.specs.declared.kind.Field.{Field}
 use Rattle.snap_semantics.specs.declared.instr.Comparison.{Comparison}
 use Rattle.snap_semantics.specs.declared.instr.Condition.{Condition}
@@ -26,13 +27,16 @@ use Rattle.snap_semantics.specs.ListingForms.{named_place_at, arg_term, row_term
 use Rattle.snap_semantics.specs.ListingForms.{handshake_term, index_term, term_at, not_expr, plus_expr, term_expr}
 use Rattle.snap_semantics.specs.ListingForms.{expr_at, relation_at, comparison_at, join_keyword, joined_at, third_on}
 use Rattle.snap_semantics.specs.ListingForms.{second_on, first_on, condition_at, where_at, range_at, target_at}
+use Rattle.snap_semantics.specs.ListingForms.{pair_at, bit_bank_at, seq_tuple_at, bits_tuple_at, multi_tuple_at}
+use Rattle.snap_semantics.specs.ListingForms.{triple_at, tuple_at}
 use Rattle.snap_semantics.specs.Source.{Name}
-use Rattle.snap_semantics.specs.Spelling.{in_parentheses, in_brackets, spelled_index, spelled_place, field_keyword}
-use Rattle.snap_semantics.specs.Spelling.{spelled_term, spelled_expr, spelled_relation, spelled_comparison}
-use Rattle.snap_semantics.specs.Spelling.{spelled_condition, spelled_where, spelled_range, spelled_target}
+use Rattle.snap_semantics.specs.Spelling.{in_brackets, spelled_index, spelled_place, field_keyword, spelled_term}
+use Rattle.snap_semantics.specs.Spelling.{spelled_expr, spelled_relation, spelled_comparison, spelled_condition}
+use Rattle.snap_semantics.specs.Spelling.{spelled_where, spelled_range, spelled_target, spelled_pair, bank_keyword}
+use Rattle.snap_semantics.specs.Spelling.{spelled_tuple}
 use Rattle.snap_semantics.specs.Token.{Token, Identifier, Number, Sign, symbol_byte, same_symbol}
-use Rattle.snap_semantics.specs.Uses.{Use, Named, BankUse, FieldUse, HandshakeUse, ViewUse, TupleUse, index_uses}
-use Rattle.snap_semantics.specs.Uses.{term_uses, expr_uses, comparison_uses, condition_uses, where_uses}
+use Rattle.snap_semantics.specs.Uses.{Use, Named, index_uses, term_uses, expr_uses, comparison_uses, condition_uses}
+use Rattle.snap_semantics.specs.Uses.{where_uses, tuple_uses}
 use Rattle.snap_listing.proofs.Alls.{all_first, all_rest}
 use Rattle.snap_listing.proofs.HasTerms.{Holds, Finds, found, missed, on, first_of_two, when, so, Sounds}
 use Rattle.snap_words.specs.declared.kind.KindTag.{KindTag}
@@ -41,13 +45,9 @@ use Rattle.snap_semantics.specs.declared.instr.BitBank.{BitBank}
 use Rattle.snap_semantics.specs.declared.instr.Tuple.{Tuple}
 use Rattle.snap_semantics.specs.declared.text.Sort.{Sort}
 use Rattle.snap_semantics.specs.declared.text.Sort.TheVariants as sort
-use Rattle.snap_semantics.specs.ListingForms.{pair_at, bit_bank_at, seq_tuple_at, bits_tuple_at, multi_tuple_at}
-use Rattle.snap_semantics.specs.ListingForms.{triple_at, tuple_at}
-use Rattle.snap_semantics.specs.Spelling.{spelled_pair, bank_keyword, spelled_tuple}
-use Rattle.snap_semantics.specs.Uses.{tuple_uses}
-use Rattle.snap_semantics.specs.IsListing.{HasIndex, HasTerm, HasExpr, HasComparison, HasCondition, HasWhere, HasTuple}
+use Rattle.snap_semantics.specs.IsListing.{HasIndex, HasTerm, HasExpr, HasComparison, HasCondition, HasWhere}
+use Rattle.snap_semantics.specs.IsListing.{HasTuple}
 use Rattle.snap_text.specs.Tokens.{IsSound}
-use Rattle.std.proofs.Common.{subst}
 
 abbrev pub IsShort : Use → Type 0
 IsShort (Named wanted x) = length x ≤ 8

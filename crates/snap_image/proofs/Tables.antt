@@ -1,5 +1,5 @@
 -- The names of each sort of a listing fit a table of an image: at most 32 names, of at most eight letters.
-use Rattle.std.proofs.Common.{◌≡◌, ◌+◌, ◌≤◌, List, ◌++◌, length, nat_lt, arith, false}
+use Rattle.std.proofs.Common.{◌≡◌, ◌≤◌, List, ◌++◌, length, nat_lt, arith, false}
 use Rattle.std.proofs.lemmas.Bool.{or_parts}
 use Rattle.std.proofs.lemmas.List.{length-append}
 use Rattle.snap_semantics.specs.IsListing.{IsName, IsListing}

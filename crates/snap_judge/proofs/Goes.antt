@@ -42,48 +42,26 @@ there slots p s s' lt is same = get_or_default slots p kept_slot.Free s lt ∙ s
 -- the slot at a place, as the definitions have it
 pub slot_at : (steps : List KeptStep) (slots : List KeptSlot) (p : ℕ) →
     at (map (slot_of steps) slots) p ≡ slot_of steps (get_or slots p kept_slot.Free)
-slot_at steps [] p = slot_none steps p
-  where
-    slot_none : (steps : List KeptStep) (p : ℕ) → at (map (slot_of steps) []) p ≡ slot_of steps (get_or [] p kept_slot.Free)
-    slot_none steps zero = refl
-    slot_none steps (suc p) = refl
+slot_at steps [] zero = refl
+slot_at steps [] (suc p) = refl
 slot_at steps (s ∷ slots) zero = refl
 slot_at steps (s ∷ slots) (suc p) = slot_at steps slots p
 
-is_open : KeptSlot → Type 0
-is_open kept_slot.Free = ⊥
-is_open (kept_slot.Open j) = Unit {0}
-is_open (kept_slot.Taken j) = ⊥
-
 pub kept_not_free : (s : KeptSlot) (j : ℕ) → s ≡ kept_slot.Open j → s ≡ kept_slot.Free → ⊥
-unfolding is_open
-kept_not_free s j e e' = subst is_open (sym e ∙ e') tt
+kept_not_free s j e e' = cc
 
 -- What is open where a slot has changed to one that is not open was open before.
-was_open : (slots : List KeptSlot) (p q j : ℕ) (s : KeptSlot) → (is_open s → ⊥) →
-    (q ≡ p) ⊎ (q ≡ p → ⊥) → (p < length slots) ⊎ (length slots ≤ p) →
+pub was_open : (slots : List KeptSlot) (p q j : ℕ) (s : KeptSlot) → (s ≡ kept_slot.Open j → ⊥) →
     get_or (set slots p s) q kept_slot.Free ≡ kept_slot.Open j → get_or slots q kept_slot.Free ≡ kept_slot.Open j
-unfolding is_open
-was_open slots p q j s shut (inr apart) in_range e = sym (get_or-set_other slots p q s kept_slot.Free apart) ∙ e
-was_open slots p q j s shut (inl here) (inl lt) e =
-    absurd (shut (subst is_open (sym e ∙ ap (λ (r : ℕ). get_or (set slots p s) r kept_slot.Free) here
-    ∙ get_or-set_same slots p s kept_slot.Free lt) tt))
-was_open slots p q j s shut (inl here) (inr past) e =
-    ap (λ (l : List KeptSlot). get_or l q kept_slot.Free) (sym (set_past slots p s past)) ∙ e
-
-pub was_open_taken : (slots : List KeptSlot) (p q j k : ℕ) →
-    get_or (set slots p (kept_slot.Taken k)) q kept_slot.Free ≡ kept_slot.Open j →
-    get_or slots q kept_slot.Free ≡ kept_slot.Open j
-unfolding is_open
-was_open_taken slots p q j k e =
-    was_open slots p q j (kept_slot.Taken k) (λ h. h) (cases_eq q p) (cases_lt p (length slots)) e
-
-pub was_open_freed : (slots : List KeptSlot) (p q j : ℕ) →
-    get_or (set slots p kept_slot.Free) q kept_slot.Free ≡ kept_slot.Open j →
-    get_or slots q kept_slot.Free ≡ kept_slot.Open j
-unfolding is_open
-was_open_freed slots p q j e =
-    was_open slots p q j kept_slot.Free (λ h. h) (cases_eq q p) (cases_lt p (length slots)) e
+was_open slots p q j s shut e = by_place (cases_eq q p) (cases_lt p (length slots))
+  where
+    by_place : (q ≡ p) ⊎ (q ≡ p → ⊥) → (p < length slots) ⊎ (length slots ≤ p) →
+        get_or slots q kept_slot.Free ≡ kept_slot.Open j
+    by_place (inr apart) in_range = sym (get_or-set_other slots p q s kept_slot.Free apart) ∙ e
+    by_place (inl here) (inl lt) =
+        absurd (shut (sym (get_or-set_same slots p s kept_slot.Free lt)
+        ∙ ap (λ (r : ℕ). get_or (set slots p s) r kept_slot.Free) (sym here) ∙ e))
+    by_place (inl here) (inr past) = ap (λ (l : List KeptSlot). get_or l q kept_slot.Free) (sym (set_past slots p s past)) ∙ e
 
 -- What a slot tells of where one has changed: it is that one, or tells what it told before.
 pub tells_set : (slots : List KeptSlot) (p q k : ℕ) (s : KeptSlot) →
@@ -155,7 +133,7 @@ module _ (steps : List KeptStep) (order : List ℕ) (c c' : Config) (p j : ℕ)
   pub still_config : IsConfig steps c'
   still_config = record {
     within = subst (λ (n : ℕ). n ≤ length steps) (sym position) fits.within;
-    placed = λ q k e. fits.placed q k (was_open_taken c.slots.items p q k j
+    placed = λ q k e. fits.placed q k (was_open c.slots.items p q k (kept_slot.Taken j) (λ no. cc)
         (ap (λ (l : List KeptSlot). get_or l q kept_slot.Free) (sym slots) ∙ e));
     tells = λ q k h. told q k (tells_set c.slots.items p q k (kept_slot.Taken j)
         (subst (λ (l : List KeptSlot). TellsOf (get_or l q kept_slot.Free) k) slots h));
@@ -192,25 +170,16 @@ module _ (steps : List KeptStep) (order : List ℕ) (c c' : Config) (p j : ℕ)
     grows = (j ∷ [], more);
   }
 
-is_taken : KeptSlot → Type 0
-is_taken kept_slot.Free = ⊥
-is_taken (kept_slot.Open j) = ⊥
-is_taken (kept_slot.Taken j) = Unit {0}
-
 pub kept_taken_not_free : (j : ℕ) → kept_slot.Taken j ≡ kept_slot.Free → ⊥
-unfolding is_taken
-kept_taken_not_free j e = subst is_taken e tt
-
-kept_within_by : (slots : List KeptSlot) (p j : ℕ) → (p < length slots) ⊎ (length slots ≤ p) →
-    get_or slots p kept_slot.Free ≡ kept_slot.Open j → p < length slots
-kept_within_by slots p j (inl lt) is = lt
-kept_within_by slots p j (inr past) is =
-    absurd (kept_not_free (get_or slots p kept_slot.Free) j is (get_or_past slots p kept_slot.Free past))
+kept_taken_not_free j e = cc
 
 -- what is open is within the list
 pub kept_open_within : (slots : List KeptSlot) (p j : ℕ) → get_or slots p kept_slot.Free ≡ kept_slot.Open j →
     p < length slots
-kept_open_within slots p j is = kept_within_by slots p j (cases_lt p (length slots)) is
+kept_open_within slots p j is = elim (cases_lt p (length slots)) [
+  | inl lt ↦ lt
+  | inr past ↦ absurd (kept_not_free (get_or slots p kept_slot.Free) j is (get_or_past slots p kept_slot.Free past))
+]
 
 -- A copy is as good.
 pub same_goes : (steps : List KeptStep) (order : List ℕ) (c c' : Config) → IsSameConfig c c' → GoesOn steps order c order c'

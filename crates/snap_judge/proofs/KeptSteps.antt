@@ -21,7 +21,6 @@ use Rattle.snap_judge.specs.Kept.{AreNumbered, AreSteps, HasWord, IsStepOf, acti
 use Rattle.snap_judge.specs.Linearizable.{up_to}
 use Rattle.snap_judge.specs.Steps.{Calls, Ends, Step, Waits, answered_step, next_of, scan_step, step_of, steps_of}
 use Rattle.snap_judge.proofs.Passing.{step_at}
-use Rattle.snap_judge.proofs.SearchSlots.{ends_not_call, one_call, waits_not_call}
 
 -- The next event of a process, where it is the one at place k.
 pub found_here : (i k : ℕ) (es : List Event) (e : Event) → k < length es → e ≡ get_or es k e → e.process ≡ i →
@@ -113,30 +112,30 @@ steps_of_history h xs is kept =
     (good_steps h.shape (λ i. Free) h.events is.follow))
 
 -- A step calls an operation by the number of its event.
+called_number : (o o' : Operation) → Calls o ≡ Calls o' → o.call ≡ o'.call
+called_number o o' e = let same : o ≡ o' = cc in ap (λ (y : Operation). y.call) same
+
 number_of_answer : (i c t : ℕ) (a : Happening) (o : Operation) → answered_step i c t a ≡ Calls o → o.call ≡ c
-number_of_answer i c t (what.Call x) o e = absurd (waits_not_call o e)
-number_of_answer i c t (what.Answer view) o e = sym (ap (λ (y : Operation). y.call) (one_call _ o e))
-number_of_answer i c t what.Done o e = absurd (waits_not_call o e)
-number_of_answer i c t what.Crash o e = absurd (waits_not_call o e)
+number_of_answer i c t (what.Call x) o e = absurd (let no : Waits ≡ Calls o = e in cc)
+number_of_answer i c t (what.Answer view) o e = sym (called_number _ o e)
+number_of_answer i c t what.Done o e = absurd (let no : Waits ≡ Calls o = e in cc)
+number_of_answer i c t what.Crash o e = absurd (let no : Waits ≡ Calls o = e in cc)
 
 number_of_scan : (i c : ℕ) (x : Option Event) (o : Operation) → scan_step i c x ≡ Calls o → o.call ≡ c
-number_of_scan i c None o e = absurd (waits_not_call o e)
+number_of_scan i c None o e = absurd (let no : Waits ≡ Calls o = e in cc)
 number_of_scan i c (Some x) o e = number_of_answer i c x.item x.what o e
 
 number_of_step : (i c : ℕ) (a : Happening) (es : List Event) (o : Operation) → step_of i c a es ≡ Calls o → o.call ≡ c
 number_of_step i c (what.Call op.Scan) es o e = number_of_scan i c (next_of i es) o e
-number_of_step i c (what.Call (op.Update word value)) es o e = sym (ap (λ (y : Operation). y.call) (one_call _ o e))
-number_of_step i c (what.Answer view) es o e = absurd (ends_not_call i o e)
-number_of_step i c what.Done es o e = absurd (ends_not_call i o e)
-number_of_step i c what.Crash es o e = absurd (waits_not_call o e)
-
-no_call : (t : ℕ) (o : Operation) → get_or [] t Waits ≡ Calls o → ⊥
-no_call zero o e = waits_not_call o e
-no_call (suc t) o e = waits_not_call o e
+number_of_step i c (what.Call (op.Update word value)) es o e = sym (called_number _ o e)
+number_of_step i c (what.Answer view) es o e = absurd (let no : Ends i ≡ Calls o = e in cc)
+number_of_step i c what.Done es o e = absurd (let no : Ends i ≡ Calls o = e in cc)
+number_of_step i c what.Crash es o e = absurd (let no : Waits ≡ Calls o = e in cc)
 
 numbers : (es : List Event) (t : ℕ) (o : Operation) (d : Event) → get_or (steps_of es) t Waits ≡ Calls o →
     (t < length es) × ((get_or es t d).item ≡ o.call)
-numbers [] t o d is = absurd (no_call t o is)
+numbers [] zero o d is = absurd (let no : Waits ≡ Calls o = is in cc)
+numbers [] (suc t) o d is = absurd (let no : Waits ≡ Calls o = is in cc)
 numbers (e ∷ es) zero o d is = (omega arith, sym (number_of_step e.process e.item e.what es o is))
 numbers (e ∷ es) (suc t) o d is = let rest = numbers es t o d is in (let lt = rest.0 in omega (arith, lt), rest.1)
 

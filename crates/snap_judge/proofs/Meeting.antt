@@ -23,29 +23,29 @@ use Rattle.snap_judge.specs.contracts.config.ConfigPartialEq.TheImpl as config_e
 use Rattle.snap_judge.specs.contracts.config.SlotPartialEq.TheImpl as slot_eq
 use Rattle.snap_runs.specs.Operation.{Operation}
 use Rattle.snap_judge.specs.Steps.{Step, Calls, Ends, Waits, Slot, Free, Open, Taken, MayPass}
-use Rattle.snap_judge.specs.Configurations.{Configuration, HasToChoose, IsMetFrom, Leads, MeetsMoreThan}
+use Rattle.snap_judge.specs.Configurations.{Configuration, HasToChoose, IsMetFrom, MeetsMoreThan}
 use Rattle.snap_judge.specs.Kept.{AreNumbered, AreSteps, called_at, called_by, first, IsCallOf, IsConfig, IsSameConfig}
 use Rattle.snap_judge.specs.Kept.{IsStuck, MayNotPass, operation_of, seen_as, slot_of, slots_of, step_of_kept, steps_kept, TellsOf, rest_of}
 use Rattle.snap_judge.specs.Nodes.{HasSame, IsAt, IsMet, IsNode, IsTrail, kept_by}
 use Rattle.snap_judge.specs.declared.config.Entered.{Entered}
 use Rattle.snap_judge.specs.declared.search.Trail.{Trail}
-use Rattle.snap_judge.proofs.SearchSlots.{one_open, one_taken, open_not_free, open_not_taken, taken_not_free}
+use Rattle.snap_judge.proofs.SearchSlots.{one_open, one_taken, open_not_taken}
 use Rattle.snap_judge.proofs.ExplainedLists.{contains_cases, contains_head, contains_none, contains_tail, pairs_head, pairs_tail}
-use Rattle.snap_judge.proofs.Counting.{same_length}
+use Rattle.snap_judge.proofs.Counting.{led_from, same_length}
 use Rattle.snap_judge.proofs.Passing.{step_at}
 use Rattle.snap_judge.proofs.Goes.{slot_at}
 
 -- What `==` says of slots and of configurations.
 slot_decides : (s s' : KeptSlot) → Decides ((slot_eq.ghosts).eq s s') (s ≡ s')
 slot_decides kept_slot.Free kept_slot.Free = (λ e. refl, λ e. refl)
-slot_decides kept_slot.Free (kept_slot.Open k) = (λ e. absurd (let no : ⊥ = cc in no), λ e. absurd (let no : ⊥ = cc in no))
-slot_decides kept_slot.Free (kept_slot.Taken k) = (λ e. absurd (let no : ⊥ = cc in no), λ e. absurd (let no : ⊥ = cc in no))
-slot_decides (kept_slot.Open j) kept_slot.Free = (λ e. absurd (let no : ⊥ = cc in no), λ e. absurd (let no : ⊥ = cc in no))
+slot_decides kept_slot.Free (kept_slot.Open k) = (λ e. absurd cc, λ e. absurd cc)
+slot_decides kept_slot.Free (kept_slot.Taken k) = (λ e. absurd cc, λ e. absurd cc)
+slot_decides (kept_slot.Open j) kept_slot.Free = (λ e. absurd cc, λ e. absurd cc)
 slot_decides (kept_slot.Open j) (kept_slot.Open k) =
     Decides-like _ (ap kept_slot.Open) (λ e. let same : j ≡ k = cc in same) (Decides-eqb j k)
-slot_decides (kept_slot.Open j) (kept_slot.Taken k) = (λ e. absurd (let no : ⊥ = cc in no), λ e. absurd (let no : ⊥ = cc in no))
-slot_decides (kept_slot.Taken j) kept_slot.Free = (λ e. absurd (let no : ⊥ = cc in no), λ e. absurd (let no : ⊥ = cc in no))
-slot_decides (kept_slot.Taken j) (kept_slot.Open k) = (λ e. absurd (let no : ⊥ = cc in no), λ e. absurd (let no : ⊥ = cc in no))
+slot_decides (kept_slot.Open j) (kept_slot.Taken k) = (λ e. absurd cc, λ e. absurd cc)
+slot_decides (kept_slot.Taken j) kept_slot.Free = (λ e. absurd cc, λ e. absurd cc)
+slot_decides (kept_slot.Taken j) (kept_slot.Open k) = (λ e. absurd cc, λ e. absurd cc)
 slot_decides (kept_slot.Taken j) (kept_slot.Taken k) =
     Decides-like _ (ap kept_slot.Taken) (λ e. let same : j ≡ k = cc in same) (Decides-eqb j k)
 
@@ -88,22 +88,16 @@ module _ (steps : List KeptStep) (numbered : AreNumbered steps) where
   same_slot : (p : ℕ) (s s' : KeptSlot) → ((j : ℕ) → TellsOf s j → IsCallOf steps j p) →
       ((j : ℕ) → TellsOf s' j → IsCallOf steps j p) → slot_of steps s ≡ slot_of steps s' → s ≡ s'
   same_slot p kept_slot.Free kept_slot.Free calls calls' e = refl
-  same_slot p kept_slot.Free (kept_slot.Open k) calls calls' e = absurd (open_not_free Free (called_at steps k) e refl)
-  same_slot p kept_slot.Free (kept_slot.Taken k) calls calls' e = absurd (taken_not_free Free (called_at steps k) e refl)
-  same_slot p (kept_slot.Open j) kept_slot.Free calls calls' e =
-      absurd (open_not_free (Open (called_at steps j)) (called_at steps j) refl e)
+  same_slot p kept_slot.Free (kept_slot.Open k) calls calls' e = absurd (let no : Free ≡ Open (called_at steps k) = e in cc)
+  same_slot p kept_slot.Free (kept_slot.Taken k) calls calls' e = absurd (let no : Free ≡ Taken (called_at steps k) = e in cc)
+  same_slot p (kept_slot.Open j) kept_slot.Free calls calls' e = absurd (let no : Open (called_at steps j) ≡ Free = e in cc)
   same_slot p (kept_slot.Open j) (kept_slot.Open k) calls calls' e =
-      ap kept_slot.Open (same_call j k p p (calls j refl) (calls' k refl)
-      (one_open (Open (called_at steps j)) (called_at steps j) (called_at steps k) refl e))
-  same_slot p (kept_slot.Open j) (kept_slot.Taken k) calls calls' e =
-      absurd (open_not_taken (Open (called_at steps j)) (called_at steps j) (called_at steps k) refl e)
-  same_slot p (kept_slot.Taken j) kept_slot.Free calls calls' e =
-      absurd (taken_not_free (Taken (called_at steps j)) (called_at steps j) refl e)
-  same_slot p (kept_slot.Taken j) (kept_slot.Open k) calls calls' e =
-      absurd (open_not_taken (Taken (called_at steps j)) (called_at steps k) (called_at steps j) e refl)
+      ap kept_slot.Open (same_call j k p p (calls j refl) (calls' k refl) (one_open _ _ _ refl e))
+  same_slot p (kept_slot.Open j) (kept_slot.Taken k) calls calls' e = absurd (open_not_taken _ _ _ refl e)
+  same_slot p (kept_slot.Taken j) kept_slot.Free calls calls' e = absurd (let no : Taken (called_at steps j) ≡ Free = e in cc)
+  same_slot p (kept_slot.Taken j) (kept_slot.Open k) calls calls' e = absurd (open_not_taken _ _ _ e refl)
   same_slot p (kept_slot.Taken j) (kept_slot.Taken k) calls calls' e =
-      ap kept_slot.Taken (same_call j k p p (calls j refl) (calls' k refl)
-      (one_taken (Taken (called_at steps j)) (called_at steps j) (called_at steps k) refl e))
+      ap kept_slot.Taken (same_call j k p p (calls j refl) (calls' k refl) (one_taken _ _ _ refl e))
 
   pub same_config : (c c' : Config) → IsConfig steps c → IsConfig steps c' → seen_as steps c ≡ seen_as steps c' →
       IsSameConfig c c'
@@ -175,9 +169,7 @@ module _ (n w : ℕ) (steps : List KeptStep) (are : AreSteps n w steps) (numbere
   is_met : (c : Config) → IsMet n w steps c → IsMetFrom (first n w steps) (seen_as steps c)
   is_met c met = record {
     moves = met.reached.0;
-    leads = subst (λ (m : ℕ). Leads met.reached.0 (first n m steps) (seen_as steps c)) met.counts.1
-        (subst (λ (m : ℕ). Leads met.reached.0 (first m (length c.values.items) steps) (seen_as steps c)) met.counts.0
-        met.reached.1);
+    leads = led_from n w steps c met.reached.0 met.counts met.reached.1;
     chooses = chooses steps c met.stuck;
   }
 

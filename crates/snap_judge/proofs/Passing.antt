@@ -17,7 +17,7 @@ use Rattle.snap_judge.specs.Kept.{step_of_kept, IsCallOf, IsStuck, MayNotPass, c
 use Rattle.snap_judge.specs.declared.operation.Operation.{Operation as KeptOperation}
 use Rattle.snap_judge.proofs.SearchSlots.{at, open_not_free, open_not_taken}
 use Rattle.snap_judge.proofs.SearchPass.{IsClear, pass_now}
-use Rattle.snap_judge.proofs.Goes.{slot_at, tells_set, was_open_freed}
+use Rattle.snap_judge.proofs.Goes.{slot_at, tells_set, was_open}
 use Rattle.snap_judge.proofs.Leading.{leads_on, made, same_parts, taken_on}
 use Rattle.snap_judge.specs.Kept.{first, seen_as, TellsOf}
 use Rattle.snap_judge.specs.Configurations.{Leads}
@@ -91,7 +91,7 @@ module _ (steps : List KeptStep) (order : List ℕ) (c c' : Config) (place j : �
   ended_config : IsConfig steps c'
   ended_config = record {
     within = subst (λ (n : ℕ). n ≤ length steps) (sym position) lt;
-    placed = λ q k e. fits.placed q k (was_open_freed c.slots.items place q k
+    placed = λ q k e. fits.placed q k (was_open c.slots.items place q k kept_slot.Free (λ no. cc)
         (ap (λ (l : List KeptSlot). get_or l q kept_slot.Free) (sym slots) ∙ e));
     tells = λ q k h. told q k (tells_set c.slots.items place q k kept_slot.Free
         (subst (λ (l : List KeptSlot). TellsOf (get_or l q kept_slot.Free) k) slots h));
@@ -135,22 +135,15 @@ module _ (steps : List KeptStep) (order : List ℕ) (c c' : Config) (place : ℕ
       get_or (set c.slots.items place (kept_slot.Open c.position)) q kept_slot.Free ≡ kept_slot.Open k →
       ((called_at steps k).process ≡ suc q) × (k < length steps)
   placed q k (inl same) e =
-      let here : c.position ≡ k =
-      one_place (sym (get_or-set_same c.slots.items place (kept_slot.Open c.position) kept_slot.Free within)
-      ∙ ap (λ (r : ℕ). get_or (set c.slots.items place (kept_slot.Open c.position)) r kept_slot.Free) (sym same) ∙ e) in
+      let both : kept_slot.Open c.position ≡ kept_slot.Open k =
+      sym (get_or-set_same c.slots.items place (kept_slot.Open c.position) kept_slot.Free within)
+      ∙ ap (λ (r : ℕ). get_or (set c.slots.items place (kept_slot.Open c.position)) r kept_slot.Free) (sym same) ∙ e in
+      let here : c.position ≡ k = cc in
       subst (λ (m : ℕ). ((called_at steps m).process ≡ suc q) × (m < length steps)) here (
         let at_call : (called_at steps c.position).process ≡ o.process = ap (λ (x : Operation). x.process) called in
             at_call ∙ is_call.2 ∙ ap suc (sym same),
         lt,
       )
-    where
-      index_of : KeptSlot → ℕ
-      index_of kept_slot.Free = 0
-      index_of (kept_slot.Open m) = m
-      index_of (kept_slot.Taken m) = 0
-
-      one_place : {a b : ℕ} → kept_slot.Open a ≡ kept_slot.Open b → a ≡ b
-      one_place e = ap index_of e
   placed q k (inr differ) e =
       fits.placed q k (sym (get_or-set_other c.slots.items place q (kept_slot.Open c.position) kept_slot.Free differ) ∙ e)
 
@@ -185,15 +178,10 @@ end_stuck steps c place lt next never = (
       (sym (slot_at steps c.slots.items place) ∙ ap (at (slots_of steps c)) (sym (place_again place)) ∙ held)),
 )
   where
-    is_taken : Slot → Type 0
-    is_taken Free = ⊥
-    is_taken (Open o) = ⊥
-    is_taken (Taken o) = Unit {0}
-
     kept_taken : (s : KeptSlot) (o : Operation) → get_or c.slots.items place kept_slot.Free ≡ s →
         slot_of steps s ≡ Taken o → ⊥
-    kept_taken kept_slot.Free o is e = subst is_taken (sym e) tt
-    kept_taken (kept_slot.Open j) o is e = subst is_taken (sym e) tt
+    kept_taken kept_slot.Free o is e = let no : Free ≡ Taken o = e in cc
+    kept_taken (kept_slot.Open j) o is e = let no : Open (called_at steps j) ≡ Taken o = e in cc
     kept_taken (kept_slot.Taken j) o is e = never j is
 
 -- A step that changes nothing passes.

@@ -2,6 +2,7 @@
 use Rattle.std.proofs.Common.{◌≡◌, ℕ, suc, ◌-◌, ◌+◌, ◌<◌, ◌≤◌, List, [], ◌∷◌, ◌++◌, length, get_or, refl, sym, ◌∙◌, ap, subst, arith}
 use Rattle.std.proofs.Common.{Bool, if◌then◌else◌, map, take, drop, true, false}
 use Rattle.std.proofs.Math.ListN.{set}
+use Rattle.std.proofs.Math.Seq.{take-append_seam}
 use Rattle.std.proofs.lemmas.List.{length-append, length-take-le}
 use Rattle.snap_runs.specs.Linearization.{after}
 use Rattle.snap_judge.specs.declared.config.Step.{Step as KeptStep}
@@ -51,11 +52,7 @@ pub same_prefix : (order order' : List ℕ) (d : ℕ) → d ≤ length order →
 same_prefix order order' d le g =
     let cut : length (take d order) ≡ d = length-take-le d order le in
     ap (take d) g.1
-    ∙ subst (λ (n : ℕ). take n (take d order ++ g.0) ≡ take d order) cut (front (take d order) g.0)
-  where
-    front : (xs ys : List ℕ) → take (length xs) (xs ++ ys) ≡ xs
-    front [] ys = refl
-    front (x ∷ xs) ys = ap (λ (l : List ℕ). x ∷ l) (front xs ys)
+    ∙ subst (λ (n : ℕ). take n (take d order ++ g.0) ≡ take d order) cut (take-append_seam (take d order) g.0)
 
 -- From a copy of the node's configuration an update is taken, and then steps are passed.
 pub has_entered : (steps : List KeptStep) (node : Node) (p : ℕ) (order mid order' : List ℕ) (copy taken c : Config)

@@ -47,8 +47,7 @@ first_suffix h is = record {
 
 -- No end is a call, and the step of an end is that end.
 no_call : (a : Action) (o : Op) → ends_as a ≡ what.Call o → ⊥
-no_call (Sets word value) o is = let no : what.Done ≡ what.Call o = is in cc
-no_call (Sees view) o is = let no : what.Answer view ≡ what.Call o = is in cc
+no_call a o is = grind arith
 
 end_step : (i t : ℕ) (a : Action) (es : List Event) → step_of i t (ends_as a) es ≡ Ends i
 end_step i t (Sets word value) es = refl
@@ -56,15 +55,10 @@ end_step i t (Sees view) es = refl
 
 -- the step of a call is no end
 answered_not_end : (i c t j : ℕ) (w : Happening) → answered_step i c t w ≡ Ends j → ⊥
-answered_not_end i c t j (what.Call o) is = let no : Waits ≡ Ends j = is in cc
-answered_not_end i c t j (what.Answer view) is =
-    let no : Calls (record { process = i; call = c; end = Some t; action = Sees view }) ≡ Ends j = is in cc
-answered_not_end i c t j what.Done is = let no : Waits ≡ Ends j = is in cc
-answered_not_end i c t j what.Crash is = let no : Waits ≡ Ends j = is in cc
+answered_not_end i c t j w is = grind arith
 
 scan_not_end : (i c j : ℕ) (n : Option Event) → scan_step i c n ≡ Ends j → ⊥
-scan_not_end i c j None is = let no : Waits ≡ Ends j = is in cc
-scan_not_end i c j (Some e) is = answered_not_end i c e.item j e.what is
+scan_not_end i c j n is = grind (arith, answered_not_end)
 
 -- The operation is the one that such an event of process i calls.
 record IsCalled (h : History) (i c : ℕ) (w : Happening) (o : Operation) : Type 0 where
@@ -257,8 +251,7 @@ module _ (h : History) (p : ℕ) (callers : ℕ → Caller) (e : Event) (es : Li
             (sym (same ∙ c.process)) (omega arith) c.called
             (λ t end. let le' : p ≤ t = l.going t end in elim (cases_lt e.item t) [
               | inl less ↦ less
-              | inr more ↦ absurd (let came =
-                  subst (λ (n : Option ℕ). CameToEnd h.events y.process y.call n y.action) end l.operation.came in
+              | inr more ↦ absurd (let came = rw end at l.operation.came in
                   let one = here (event y.process t (ends_as y.action)) came.1 le' (omega arith) in
                   no_call y.action (called_as o.action)
                   (sym (ap (λ (z : Event). z.what) one) ∙ c.called))
@@ -327,7 +320,7 @@ module _ (h : History) (p : ℕ) (callers : ℕ → Caller) (e : Event) (es : Li
             (subst (λ c. CameToEnd h.events y.process c y.end y.action) (sym at) is.came)));
         begins = begins;
         ends = λ y t is end from lt.
-            let came = subst (λ (n : Option ℕ). CameToEnd h.events y.process y.call n y.action) end is.came in
+            let came = rw end at is.came in
             let one = here (event y.process t (ends_as y.action)) came.1 from lt in
             subst (λ (z : Event). step_of z.process z.item z.what es ≡ Ends y.process) (sym one)
             (end_step y.process t y.action es);
@@ -343,8 +336,7 @@ over h p callers s = record {
   ];
   ended = λ y t is end. elim (cases_lt t p) [
     | inl less ↦ less
-    | inr le ↦ (let came =
-        subst (λ (n : Option ℕ). CameToEnd h.events y.process y.call n y.action) end is.came in
+    | inr le ↦ (let came = rw end at is.came in
         let c = event y.process t (ends_as y.action) in absurd (contains_none c (s.all c came.1 le)))
   ];
 }
@@ -373,7 +365,7 @@ same_from h (x ∷ xs) p g a b ha hb same le = elim (cases_lt a.call g.0) [
 
 -- An operation ends after its call.
 pub ends_later : (h : History) (o : Operation) (t : ℕ) → IsOperationOf h o → o.end ≡ Some t → o.call < t
-ends_later h o t its end = (subst (λ (n : Option ℕ). CameToEnd h.events o.process o.call n o.action) end its.came).0
+ends_later h o t its end = (rw end at its.came).0
 
 pub are_sound : (h : History) → IsHistory h → AreSound h
 are_sound h is = record {

@@ -29,7 +29,7 @@ use Rattle.snap_judge.specs.Kept.{IsStuck, MayNotPass, operation_of, seen_as, sl
 use Rattle.snap_judge.specs.Nodes.{HasSame, IsAt, IsMet, IsNode, IsTrail, kept_by}
 use Rattle.snap_judge.specs.declared.config.Entered.{Entered}
 use Rattle.snap_judge.specs.declared.search.Trail.{Trail}
-use Rattle.snap_judge.proofs.SearchSlots.{one_open, one_taken, open_not_taken}
+use Rattle.snap_judge.proofs.SearchSlots.{one_open, one_taken, open_not_free, open_not_taken, taken_not_free}
 use Rattle.snap_judge.proofs.ExplainedLists.{contains_cases, contains_head, contains_none, contains_tail, pairs_head, pairs_tail}
 use Rattle.snap_judge.proofs.Counting.{led_from, same_length}
 use Rattle.snap_judge.proofs.Passing.{step_at}
@@ -88,13 +88,13 @@ module _ (steps : List KeptStep) (numbered : AreNumbered steps) where
   same_slot : (p : ℕ) (s s' : KeptSlot) → ((j : ℕ) → TellsOf s j → IsCallOf steps j p) →
       ((j : ℕ) → TellsOf s' j → IsCallOf steps j p) → slot_of steps s ≡ slot_of steps s' → s ≡ s'
   same_slot p kept_slot.Free kept_slot.Free calls calls' e = refl
-  same_slot p kept_slot.Free (kept_slot.Open k) calls calls' e = absurd (let no : Free ≡ Open (called_at steps k) = e in cc)
-  same_slot p kept_slot.Free (kept_slot.Taken k) calls calls' e = absurd (let no : Free ≡ Taken (called_at steps k) = e in cc)
-  same_slot p (kept_slot.Open j) kept_slot.Free calls calls' e = absurd (let no : Open (called_at steps j) ≡ Free = e in cc)
+  same_slot p kept_slot.Free (kept_slot.Open k) calls calls' e = absurd (open_not_free _ _ e refl)
+  same_slot p kept_slot.Free (kept_slot.Taken k) calls calls' e = absurd (taken_not_free _ _ e refl)
+  same_slot p (kept_slot.Open j) kept_slot.Free calls calls' e = absurd (open_not_free _ _ refl e)
   same_slot p (kept_slot.Open j) (kept_slot.Open k) calls calls' e =
       ap kept_slot.Open (same_call j k p p (calls j refl) (calls' k refl) (one_open _ _ _ refl e))
   same_slot p (kept_slot.Open j) (kept_slot.Taken k) calls calls' e = absurd (open_not_taken _ _ _ refl e)
-  same_slot p (kept_slot.Taken j) kept_slot.Free calls calls' e = absurd (let no : Taken (called_at steps j) ≡ Free = e in cc)
+  same_slot p (kept_slot.Taken j) kept_slot.Free calls calls' e = absurd (taken_not_free _ _ refl e)
   same_slot p (kept_slot.Taken j) (kept_slot.Open k) calls calls' e = absurd (open_not_taken _ _ _ e refl)
   same_slot p (kept_slot.Taken j) (kept_slot.Taken k) calls calls' e =
       ap kept_slot.Taken (same_call j k p p (calls j refl) (calls' k refl) (one_taken _ _ _ refl e))

@@ -1,5 +1,5 @@
 -- What a search has come to from a node.
-use Rattle.std.proofs.Common.{◌≡◌, ℕ, suc, ◌-◌, ◌+◌, ◌<◌, ◌≤◌, List, [], ◌∷◌, ◌++◌, length, get_or, refl, sym, ◌∙◌, ap, subst, arith}
+use Rattle.std.proofs.Common.{◌≡◌, ℕ, suc, ◌-◌, ◌+◌, ◌<◌, ◌≤◌, List, ◌∷◌, ◌++◌, length, get_or, refl, sym, ◌∙◌, ap, subst, arith}
 use Rattle.std.proofs.Common.{Bool, if◌then◌else◌, map, take, drop, true, false}
 use Rattle.std.proofs.Math.ListN.{set}
 use Rattle.std.proofs.Math.Seq.{take-append_seam}
@@ -24,10 +24,8 @@ use Rattle.std.proofs.lemmas.Bool.{cases_eq, cases_lt}
 use Rattle.snap_judge.proofs.Choosing.{kept_at}
 use Rattle.snap_judge.proofs.SearchSlots.{at}
 use Rattle.snap_judge.proofs.SearchLater.{Fails, nothing_explains}
-use Rattle.snap_judge.proofs.Passing.{step_at}
-use Rattle.std.proofs.Common.{drop-cons}
-use Rattle.std.proofs.lemmas.List.{length-map}
-use Rattle.snap_judge.specs.Steps.{Waits, Open}
+use Rattle.snap_judge.proofs.Passing.{rest_at}
+use Rattle.snap_judge.specs.Steps.{Open}
 use Rattle.snap_judge.specs.Kept.{MayNotPass, step_of_kept}
 use Rattle.snap_judge.specs.Nodes.{HasEntered, HasTried, IsEntered, IsNode, IsTried, IsTriedAt, tries_left}
 use Rattle.snap_judge.proofs.Goes.{grown, same_goes}
@@ -56,30 +54,28 @@ same_prefix order order' d le g =
 
 -- From a copy of the node's configuration an update is taken, and then steps are passed.
 pub has_entered : (steps : List KeptStep) (node : Node) (p : ℕ) (order mid order' : List ℕ) (copy taken c : Config)
-    (at_end : Entered) →
+    (shut : Bool) →
     IsNode (length node.config.slots.items) (length node.config.values.items) steps order node →
     IsSameConfig node.config copy → HasTaken steps p (take node.depth order) copy mid taken →
     GoesOn steps mid taken order' c → KeepsCounts copy taken → KeepsCounts taken c → IsSettled steps c →
-    at_end.config ≡ c → (at_end.at_end ≡ true → c.position ≡ length steps) →
-    (at_end.at_end ≡ false → IsStuck steps c) → HasEntered steps node p order order' at_end
-has_entered steps node p order mid order' copy taken c e is_node same took goes kept kept' settled is end stuck = record {
+    (shut ≡ true → c.position ≡ length steps) → (shut ≡ false → IsStuck steps c) →
+    HasEntered steps node p order order' (record { config = c; at_end = shut })
+has_entered steps node p order mid order' copy taken c shut is_node same took goes kept kept' settled end stuck = record {
   entered = record {
-    counts = subst (λ (x : Config). (length x.slots.items ≡ length node.config.slots.items)
-        × (length x.values.items ≡ length node.config.values.items)) (sym is)
-        (kept'.slots ∙ kept.slots ∙ ap length same.slots, kept'.values ∙ kept.values ∙ ap length same.values);
-    config = subst (IsConfig steps) (sym is) (goes.config (took.config copied.0));
-    settled = subst (IsSettled steps) (sym is) settled;
-    reached = subst (IsReached steps order') (sym is) (goes.reached (took.config copied.0) (took.reached copied.0 copied.1));
-    at_end = λ x. subst (λ (y : Config). y.position ≡ length steps) (sym is) (end x);
-    stuck = λ x. subst (IsStuck steps) (sym is) (stuck x);
+    counts = (kept'.slots ∙ kept.slots ∙ ap length same.slots, kept'.values ∙ kept.values ∙ ap length same.values);
+    config = goes.config (took.config copied.0);
+    settled = settled;
+    reached = goes.reached (took.config copied.0) (took.reached copied.0 copied.1);
+    at_end = end;
+    stuck = stuck;
   };
   prefix = cut;
   deep = (let long : length order' ≡ length (mid ++ goes.grows.0) = ap length goes.grows.1 in
       let all = length-append mid goes.grows.0 in
       let more = took.longer in
       let cut_off = length-take-le node.depth order is_node.depth in omega (arith, long, all, more, cut_off));
-  tried = λ can. subst (Can steps) (sym is) (goes.explained (took.config copied.0)
-      (took.explained copied.0 (same_taking steps node.config copy p same can)));
+  tried = λ can. goes.explained (took.config copied.0)
+      (took.explained copied.0 (same_taking steps node.config copy p same can));
 }
   where
     copied : IsConfig steps copy × IsReached steps (take node.depth order) copy
@@ -106,10 +102,8 @@ all_tried n w steps order node is_node tried can =
 
     rest : rest_of steps c ≡ Ends (suc node.ending) ∷ drop (suc c.position) (steps_kept steps)
     rest =
-        drop-cons (steps_kept steps) c.position Waits
-        (subst (λ (m : ℕ). c.position < m) (sym (length-map steps step_of_kept)) is_node.stuck.0)
-        ∙ ap (λ (y : Step). y ∷ drop (suc c.position) (steps_kept steps))
-        (step_at steps c.position ∙ ap step_of_kept is_node.ending)
+        rest_at steps c is_node.stuck.0
+        ∙ ap (λ (y : KeptStep). step_of_kept y ∷ drop (suc c.position) (steps_kept steps)) is_node.ending
 
     each : (p : ℕ) (o : Operation) → at (slots_of steps c) p ≡ Open o → o.process - 1 ≡ p →
         Fails (Ends (suc node.ending) ∷ drop (suc c.position) (steps_kept steps)) c.values.items (slots_of steps c) p o

@@ -1,12 +1,11 @@
 -- The configurations that a search keeps are different ones.
 use Rattle.std.proofs.Common.{◌≡◌, ℕ, suc, ◌+◌, ◌<◌, ◌≤◌, ◌⊎◌, inl, inr, List, [], ◌∷◌, ◌++◌, length, get_or}
-use Rattle.std.proofs.Common.{refl, sym, ◌∙◌, ap, subst, arith, map, drop, take, drop-cons, true, false, Bool, not}
+use Rattle.std.proofs.Common.{refl, sym, ◌∙◌, ap, subst, arith, map, drop, take, true, false, Bool, not}
 use Rattle.std.specs.List.{All, AllByRecursion, AllPairs, Contains, IsDistinct, list_any}
 use Rattle.std.specs.Bool.{Decides}
 use Rattle.std.proofs.lemmas.Bool.Decides.{Decides-and, Decides-eqb, Decides-like, Decides-or}
 use Rattle.std.proofs.lemmas.Slice.Eq.{bytes_eq-Decides, slice_eq-Decides}
-use Rattle.std.proofs.lemmas.List.{ext_get_or, get_or_append_left, length-append, length-drop, length-map, length-take-le}
-use Rattle.std.proofs.Math.Seq.{get_or-append_seam}
+use Rattle.std.proofs.lemmas.List.{ext_get_or, length-append, length-drop, length-map, length-take-le}
 use Rattle.std.specs.List.Sorted.{IsPermutation}
 use Rattle.std.specs.HashSet.{HashSet, PutsKey}
 use Rattle.std.proofs.lemmas.List.Sorted.{Contains-permutation, IsPermutation-sym}
@@ -22,17 +21,18 @@ use Rattle.snap_judge.specs.declared.config.Node.{Node}
 use Rattle.snap_judge.specs.contracts.config.ConfigPartialEq.TheImpl as config_eq
 use Rattle.snap_judge.specs.contracts.config.SlotPartialEq.TheImpl as slot_eq
 use Rattle.snap_runs.specs.Operation.{Operation}
-use Rattle.snap_judge.specs.Steps.{Step, Calls, Ends, Waits, Slot, Free, Open, Taken, MayPass}
+use Rattle.snap_judge.specs.Steps.{Step, Calls, Ends, Waits, Slot, Free, MayPass}
 use Rattle.snap_judge.specs.Configurations.{Configuration, HasToChoose, IsMetFrom, MeetsMoreThan}
 use Rattle.snap_judge.specs.Kept.{AreNumbered, AreSteps, called_at, called_by, first, IsCallOf, IsConfig, IsSameConfig}
 use Rattle.snap_judge.specs.Kept.{IsStuck, MayNotPass, operation_of, seen_as, slot_of, slots_of, step_of_kept, steps_kept, TellsOf, rest_of}
-use Rattle.snap_judge.specs.Nodes.{HasSame, IsAt, IsMet, IsNode, IsTrail, kept_by}
+use Rattle.snap_judge.specs.Nodes.{AreNodes, HasSame, IsAt, IsMet, IsNode, IsTrail, kept_by}
 use Rattle.snap_judge.specs.declared.config.Entered.{Entered}
 use Rattle.snap_judge.specs.declared.search.Trail.{Trail}
 use Rattle.snap_judge.proofs.SearchSlots.{one_open, one_taken, open_not_free, open_not_taken, taken_not_free}
 use Rattle.snap_judge.proofs.ExplainedLists.{contains_cases, contains_head, contains_none, contains_tail, pairs_head, pairs_tail}
 use Rattle.snap_judge.proofs.Counting.{led_from, same_length}
-use Rattle.snap_judge.proofs.Passing.{step_at}
+use Rattle.snap_judge.proofs.Passing.{rest_at}
+use Rattle.snap_judge.proofs.Searching.{are_front, below_last, last_is}
 use Rattle.snap_judge.proofs.Goes.{slot_at}
 
 -- What `==` says of slots and of configurations.
@@ -143,15 +143,13 @@ chooses steps c stuck =
     let x = step_of_kept (get_or steps c.position kept_step.Waits) in (
       x,
       drop (suc c.position) (steps_kept steps),
-      drop-cons (steps_kept steps) c.position Waits
-          (subst (λ (m : ℕ). c.position < m) (sym (length-map steps step_of_kept)) stuck.0)
-          ∙ ap (λ (y : Step). y ∷ drop (suc c.position) (steps_kept steps)) (step_at steps c.position),
+      rest_at steps c stuck.0,
       may_not (slots_of steps c) x stuck.1,
     )
 
-pub node_met : (n w : ℕ) (steps : List KeptStep) (order : List ℕ) (node : Node) → IsNode n w steps order node →
+pub node_met : {n w : ℕ} {steps : List KeptStep} {order : List ℕ} (node : Node) → IsNode n w steps order node →
     IsMet n w steps node.config
-node_met n w steps order node is = record {
+node_met {order = order} node is = record {
   counts = is.counts;
   config = is.config;
   stuck = is.stuck;
@@ -282,7 +280,7 @@ module _ (n w : ℕ) (steps : List KeptStep) (are : AreSteps n w steps) (numbere
         (new_to c met fresh failed (λ y there. there)))
         (nodes_pairs order nodes (map seen failed) are_nodes rising
         (λ node there. new_to node.config
-        (node_met n w steps order node (All-contains (IsNode n w steps order) nodes node are_nodes there))
+        (node_met node (All-contains (IsNode n w steps order) nodes node are_nodes there))
         (All-contains (λ (x : Node). HasSame failed x.config → ⊥) nodes node apart there) failed (λ y inside. inside))
         (failed_pairs failed are_failed distinct))
 
@@ -292,7 +290,7 @@ module _ (n w : ℕ) (steps : List KeptStep) (are : AreSteps n w steps) (numbere
         (All-append (IsMetFrom (first n w steps)) (map seen_node nodes) (map seen failed)
         (All-map (IsMetFrom (first n w steps)) seen_node nodes
         (All-weaker (IsNode n w steps order) (λ (y : Node). IsMetFrom (first n w steps) (seen_node y))
-        (λ y is. is_met y.config (node_met n w steps order y is)) nodes are_nodes))
+        (λ y is. is_met y.config (node_met y is)) nodes are_nodes))
         (All-map (IsMetFrom (first n w steps)) seen failed
         (All-weaker (IsMet n w steps) (λ (y : Config). IsMetFrom (first n w steps) (seen y)) (λ y is. is_met y is) failed
         are_failed)))
@@ -347,34 +345,19 @@ moved_key s s' k k' added e puts is new =
     put_moved false puts is = absurd (let no : ⊥ = cc in no)
 
 -- no node before it is the same as it, or as what had failed
-pub still_apart : (n w : ℕ) (steps : List KeptStep) (order : List ℕ) (front : List Node) (node : Node)
-    (ks ks' : List Config) → AreSteps n w steps → All (IsNode n w steps order) (front ++ node ∷ []) →
-    AllPairs (λ (a b : Node). a.depth < b.depth) (front ++ node ∷ []) → IsPermutation (node.config ∷ ks) ks' →
-    All (λ (x : Node). HasSame ks x.config → ⊥) front → All (λ (x : Node). HasSame ks' x.config → ⊥) front
-still_apart n w steps order front node ks ks' are nodes rising moved apart t d lt has =
+pub still_apart : {n w : ℕ} {steps : List KeptStep} {order : List ℕ} (front : List Node) (node : Node)
+    (ks ks' : List Config) → AreSteps n w steps → AreNodes n w steps order (front ++ node ∷ []) →
+    IsPermutation (node.config ∷ ks) ks' → All (λ (x : Node). HasSame ks x.config → ⊥) front →
+    All (λ (x : Node). HasSame ks' x.config → ⊥) front
+still_apart {n} {w} {steps} {order} front node ks ks' are nodes moved apart t d lt has =
     by_key (contains_cases node.config has.0 ks
     (Contains-permutation ks' (node.config ∷ ks) has.0 (IsPermutation-sym (node.config ∷ ks) ks' moved) has.1))
   where
-    long : length (front ++ node ∷ []) ≡ suc (length front)
-    long = let both = length-append front (node ∷ []) in omega (arith, both)
-
-    here : get_or (front ++ node ∷ []) t d ≡ get_or front t d
-    here = get_or_append_left front (node ∷ []) d t lt
-
     is_here : IsNode n w steps order (get_or front t d)
-    is_here = subst (IsNode n w steps order) here (nodes t d (omega (arith, lt, long)))
-
-    seam : get_or (front ++ node ∷ []) (length front) d ≡ node
-    seam = get_or-append_seam front node [] d
+    is_here = (are_front front node nodes).each t d lt
 
     is_last : IsNode n w steps order node
-    is_last = subst (IsNode n w steps order) seam (nodes (length front) d (omega (arith, long)))
-
-    below : (get_or front t d).depth < node.depth
-    below =
-        let up = rising t (length front) d lt (omega (arith, long)) in
-        let one = ap (λ (x : Node). x.depth) here in
-        let other = ap (λ (x : Node). x.depth) seam in omega (arith, up, one, other)
+    is_last = last_is front node nodes
 
     by_key : (node.config ≡ has.0) ⊎ Contains ks has.0 → ⊥
     by_key (inr there) = apart t d lt (has.0, there, has.2)
@@ -385,4 +368,4 @@ still_apart n w steps order front node ks ks' are nodes rising moved apart t d l
         (subst (λ (c : Config). IsSameConfig c (get_or front t d).config) (sym same) has.2)) in
         let one = length-take-le node.depth order is_last.depth in
         let other = length-take-le (get_or front t d).depth order is_here.depth in
-        omega (arith, equal, one, other, below)
+        let below = below_last front node nodes t d lt in omega (arith, equal, one, other, below)

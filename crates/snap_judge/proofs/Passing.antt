@@ -30,6 +30,14 @@ step_at [] (suc t) = refl
 step_at (s ∷ steps) zero = refl
 step_at (s ∷ steps) (suc t) = step_at steps t
 
+-- what is left of the steps, the next one by itself
+pub rest_at : (steps : List KeptStep) (c : Config) → c.position < length steps →
+    rest_of steps c
+    ≡ step_of_kept (get_or steps c.position kept_step.Waits) ∷ drop (suc c.position) (steps_kept steps)
+rest_at steps c lt =
+    drop-cons (steps_kept steps) c.position Waits (rw (length-map steps step_of_kept) lt)
+    ∙ ap (λ (y : Step). y ∷ drop (suc c.position) (steps_kept steps)) (step_at steps c.position)
+
 -- What may pass is clear of what is open.
 pub clear_if : (x : Step) (S : List Slot) → MayPass S x → IsClear x S
 clear_if (Calls o) S may p o' is = λ here. open_not_free (at S p) o' is (ap (at S) here ∙ may)
@@ -44,8 +52,8 @@ module _ (steps : List KeptStep) (order : List ℕ) (c c' : Config) (x : KeptSte
     (may : MayPass (slots_of steps c) (step_of_kept x)) where
   rest : rest_of steps c ≡ step_of_kept x ∷ rest_of steps c'
   rest =
-      drop-cons (steps_kept steps) c.position Waits (subst (λ (n : ℕ). c.position < n) (sym (length-map steps step_of_kept)) lt)
-      ∙ ap (λ (y : Step). y ∷ drop (suc c.position) (steps_kept steps)) (step_at steps c.position ∙ ap step_of_kept next)
+      rest_at steps c lt
+      ∙ ap (λ (y : KeptStep). step_of_kept y ∷ drop (suc c.position) (steps_kept steps)) next
       ∙ ap (λ (n : ℕ). step_of_kept x ∷ drop n (steps_kept steps)) (sym position)
 
   seen_now : made (rest_of steps c') c.values.items (passed (slots_of steps c) (step_of_kept x)) ≡ seen_as steps c'

@@ -2,17 +2,17 @@
 use Rattle.std.proofs.Common.{◌≡◌, ℕ, zero, suc, ◌+◌, ◌-◌, ◌<◌, List, [], ◌∷◌, length, get_or, refl, sym, ◌∙◌, ap}
 use Rattle.std.proofs.Common.{subst, arith}
 use Rattle.std.proofs.Math.ListN.{set}
-use Rattle.std.proofs.lemmas.List.{length-set, length-map}
+use Rattle.std.proofs.lemmas.List.{length-set, length-map, length-replicate}
 use Rattle.std.specs.Prelude.{replicate}
-use Rattle.std.proofs.lemmas.List.{length-replicate}
 use Rattle.snap_runs.specs.Operation.{Operation}
 use Rattle.snap_judge.specs.declared.config.Step.{Step as KeptStep}
 use Rattle.snap_judge.specs.declared.config.Step.TheVariants as kept_step
 use Rattle.snap_judge.specs.Steps.{Step, Calls, Ends, Waits, Slot, Free, Open, Taken, MayPass, passed, Move, Take, Pass, taken}
 use Rattle.snap_judge.specs.Configurations.{Configuration, Leads}
-use Rattle.snap_judge.specs.Kept.{AreSteps, called_at, first, IsReached, IsStepOf, operation_of, seen_as, step_of_kept, steps_kept}
+use Rattle.snap_judge.specs.Kept.{AreSteps, called_at, first, IsStepOf, operation_of, seen_as}
+use Rattle.snap_judge.specs.Kept.{step_of_kept, steps_kept}
 use Rattle.snap_judge.specs.declared.config.Config.{Config}
-use Rattle.snap_judge.specs.Nodes.{HasCounts}
+use Rattle.snap_judge.specs.Nodes.{HasCounts, IsMet}
 use Rattle.snap_judge.proofs.SearchSlots.{at, open_within, taken_within}
 use Rattle.snap_judge.proofs.Passing.{step_at}
 
@@ -95,28 +95,26 @@ are_within n w steps are t o e = within_by n w (get_or steps t kept_step.Waits) 
 pub led_from : (n w : ℕ) (steps : List KeptStep) (c : Config) (ms : List Move) → HasCounts n w c →
     Leads ms (first (length c.slots.items) (length c.values.items) steps) (seen_as steps c) →
     Leads ms (first n w steps) (seen_as steps c)
-led_from n w steps c ms has led =
-    subst (λ (m : ℕ). Leads ms (first n m steps) (seen_as steps c)) has.1
-    (subst (λ (m : ℕ). Leads ms (first m (length c.values.items) steps) (seen_as steps c)) has.0 led)
+led_from n w steps c ms has led = rw (has.0, has.1) at led
 
 -- The same configuration is reached by orders of the same length.
-pub same_length : (n w : ℕ) (steps : List KeptStep) (order order' : List ℕ) (c c' : Config) → AreSteps n w steps →
-    HasCounts n w c → HasCounts n w c' → IsReached steps order c → IsReached steps order' c' →
-    seen_as steps c ≡ seen_as steps c' → length order ≡ length order'
-same_length n w steps order order' c c' are has has' r r' same =
-    let one = led order c has r in
-    let other = led order' c' has' r' in
+pub same_length : {n w : ℕ} {steps : List KeptStep} {c c' : Config} → AreSteps n w steps → (m : IsMet n w steps c)
+    (m' : IsMet n w steps c') → seen_as steps c ≡ seen_as steps c' → length m.order ≡ length m'.order
+same_length {n} {w} {steps} {c} {c'} are m m' same =
+    let one = led c m in
+    let other = led c' m' in
     let calls_same : calls (seen_as steps c).left ≡ calls (seen_as steps c').left =
     ap (λ (x : Configuration). calls x.left) same in
     let opens_same : opens (seen_as steps c).slots ≡ opens (seen_as steps c').slots =
     ap (λ (x : Configuration). opens x.slots) same in
     omega (arith, one, other, calls_same, opens_same)
   where
-    led : (os : List ℕ) (x : Config) → HasCounts n w x → IsReached steps os x →
-        length os + calls (seen_as steps x).left + opens (seen_as steps x).slots
+    led : (x : Config) (met : IsMet n w steps x) →
+        length met.order + calls (seen_as steps x).left + opens (seen_as steps x).slots
         ≡ calls (steps_kept steps) + opens (replicate n Free)
-    led os x has r =
-        let start = led_from n w steps x r.0 has r.1 in
-        let all = counts n r.0 (first n w steps) (seen_as steps x) (length-replicate n Free) (are_within n w steps are) start in
-        let long : length (taken r.0) ≡ length os = ap length r.2 ∙ length-map os (called_at steps) in
+    led x met =
+        let r = met.reached in
+        let all = counts n r.0 (first n w steps) (seen_as steps x) (length-replicate n Free) (are_within n w steps are)
+        (led_from n w steps x r.0 met.counts r.1) in
+        let long : length (taken r.0) ≡ length met.order = ap length r.2 ∙ length-map met.order (called_at steps) in
         omega (arith, all, long)

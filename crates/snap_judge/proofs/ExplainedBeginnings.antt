@@ -1,8 +1,7 @@
 -- `LinearizableFromTheBeginning`: of a linearization the operations up to the first one that is called later, without
 -- the scans that have not been answered yet, and without the ends that come later.
-use Rattle.std.proofs.Common.{◌≡◌, ℕ, zero, suc, ◌<◌, ◌≤◌, ◌⊎◌, List, [], ◌∷◌, refl, ap, sym, subst, arith, ◌∙◌}
-use Rattle.std.proofs.Common.{inl, inr}
-use Rattle.std.proofs.Common.{Option, Some, None, max, replicate, take}
+use Rattle.std.proofs.Common.{◌≡◌, ℕ, zero, suc, ◌<◌, ◌≤◌, ◌⊎◌, List, [], ◌∷◌, refl, ap, sym, subst, arith, ◌∙◌, inl}
+use Rattle.std.proofs.Common.{inr, Option, Some, None, max, replicate, take}
 use Rattle.std.specs.List.{AllByRecursion, AllPairs, Contains}
 use Rattle.std.proofs.lemmas.Bool.{cases_lt}
 use Rattle.std.proofs.lemmas.List.Elements.{All-from_recursion, recursion_from_All}

@@ -58,26 +58,21 @@ module _ (h : History) (sound : AreSound h) where
       ]
 
   -- What ends by an event had been taken before it.
-  taken_at_end : (p q : ℕ) (x : Step) (slots : List Slot) → Turned h p q x → SlotsAt h p slots → MayPass slots x →
-      (y : Operation) (t : ℕ) → IsOperationOf h y → y.end ≡ Some t → p ≤ t → t < q → x ≡ Ends y.process →
+  taken_at_end : (p q : ℕ) (slots : List Slot) (y : Operation) (e : ℕ) → Turned h p q (Ends y.process) →
+      SlotsAt h p slots → MayPass slots (Ends y.process) → IsOperationOf h y → y.end ≡ Some e → p ≤ e → e < q →
       slice_index_or slots (y.process - 1) Free ≡ Taken y
-  taken_at_end p q (Calls o) slots t s may y e is end le lt it = absurd (let no : Calls o ≡ Ends y.process = it in cc)
-  taken_at_end p q Waits slots t s may y e is end le lt it = absurd (let no : Waits ≡ Ends y.process = it in cc)
-  taken_at_end p q (Ends i) slots t s may y e is end le lt it =
-      let same : i ≡ y.process = (let both : Ends i ≡ Ends y.process = it in cc) in
+  taken_at_end p q slots y e t s may is end le lt =
       let early : y.call < e = sound.ends_later y e is end in
       let l : Live h p y = record {
         operation = is;
         called = elim (cases_lt y.call p) [
           | inl less ↦ less
-          | inr more ↦ absurd (let no : Ends i ≡ Calls y = t.calls y is more (omega arith) in cc)
+          | inr more ↦ absurd (let no : Ends y.process ≡ Calls y = t.calls y is more (omega arith) in cc)
         ];
         going = λ u ends. let one : e ≡ u = (let both : Some e ≡ Some u = sym end ∙ ends in cc) in omega arith;
       } in
-      let held : slice_index_or slots (y.process - 1) Free ≡ Taken may.0 =
-      subst (λ j. slice_index_or slots (j - 1) Free ≡ Taken may.0) same may.1 in
       elim (s.live y l) [
-        | inl free ↦ absurd (let no : Open y ≡ Taken may.0 = sym free ∙ held in cc)
+        | inl free ↦ absurd (let no : Open y ≡ Taken may.0 = sym free ∙ may.1 in cc)
         | inr now ↦ now
       ]
 
@@ -88,7 +83,8 @@ module _ (h : History) (sound : AreSound h) where
     each = each_weaker (MayBeTaken h q (passed slots x)) (MayBeTaken h p slots) left
         (may_before p q x slots t s) f.each;
     has = λ y e is end le. elim (cases_lt e q) [
-      | inl lt ↦ inl (taken_at_end p q x slots t s may y e is end le lt (t.ends y e is end le lt))
+      | inl lt ↦ (let it = t.ends y e is end le lt in
+          inl (taken_at_end p q slots y e (rw it at t) s (rw it at may) is end le lt))
       | inr more ↦ elim (f.has y e is end more) [
         | inl now ↦ inl (taken_before p q x slots t s y now)
         | inr here ↦ inr here

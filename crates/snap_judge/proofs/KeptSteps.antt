@@ -15,7 +15,7 @@ use Rattle.snap_judge.specs.declared.operation.Action.{Action as KeptAction}
 use Rattle.snap_judge.specs.declared.operation.Action.TheVariants as kept_action
 use Rattle.snap_judge.specs.declared.config.Step.{Step as KeptStep}
 use Rattle.snap_judge.specs.declared.config.Step.TheVariants as kept_step
-use Rattle.snap_judge.specs.History.{Busy, Caller, Free, Gone, History, IsHistory, MayCome, MayFollow, caller_after}
+use Rattle.snap_judge.specs.History.{Caller, Free, History, IsHistory, MayCome, MayFollow, caller_after}
 use Rattle.snap_judge.specs.History.{with_caller}
 use Rattle.snap_judge.specs.Kept.{AreNumbered, AreSteps, HasWord, IsStepOf, action_of, operation_of, step_of_kept, steps_kept}
 use Rattle.snap_judge.specs.Linearizable.{up_to}
@@ -81,10 +81,7 @@ good_scan n w i c (Some e) is = good_answer n w i c e.item e.what is
 
 word_there : (shape : Counts) (caller : Caller) (word value : ℕ) → MayCome shape caller (what.Call (op.Update word value)) →
     IsOneOf shape.w word
-word_there shape Free word value h = h
-word_there shape (Busy op.Scan) word value h = absurd h
-word_there shape (Busy (op.Update x y)) word value h = absurd h
-word_there shape Gone word value h = absurd h
+word_there shape caller word value h = grind arith
 
 good_step : (shape : Counts) (caller : Caller) (i c : ℕ) (a : Happening) (es : List Event) → IsOneOf shape.n i →
     MayCome shape caller a → IsGood shape.n shape.w (step_of i c a es)
@@ -112,25 +109,14 @@ steps_of_history h xs is kept =
     (good_steps h.shape (λ i. Free) h.events is.follow))
 
 -- A step calls an operation by the number of its event.
-called_number : (o o' : Operation) → Calls o ≡ Calls o' → o.call ≡ o'.call
-called_number o o' e = let same : o ≡ o' = cc in ap (λ (y : Operation). y.call) same
-
 number_of_answer : (i c t : ℕ) (a : Happening) (o : Operation) → answered_step i c t a ≡ Calls o → o.call ≡ c
-number_of_answer i c t (what.Call x) o e = absurd (let no : Waits ≡ Calls o = e in cc)
-number_of_answer i c t (what.Answer view) o e = sym (called_number _ o e)
-number_of_answer i c t what.Done o e = absurd (let no : Waits ≡ Calls o = e in cc)
-number_of_answer i c t what.Crash o e = absurd (let no : Waits ≡ Calls o = e in cc)
+number_of_answer i c t a o e = grind arith
 
 number_of_scan : (i c : ℕ) (x : Option Event) (o : Operation) → scan_step i c x ≡ Calls o → o.call ≡ c
-number_of_scan i c None o e = absurd (let no : Waits ≡ Calls o = e in cc)
-number_of_scan i c (Some x) o e = number_of_answer i c x.item x.what o e
+number_of_scan i c x o e = grind (arith, number_of_answer)
 
 number_of_step : (i c : ℕ) (a : Happening) (es : List Event) (o : Operation) → step_of i c a es ≡ Calls o → o.call ≡ c
-number_of_step i c (what.Call op.Scan) es o e = number_of_scan i c (next_of i es) o e
-number_of_step i c (what.Call (op.Update word value)) es o e = sym (called_number _ o e)
-number_of_step i c (what.Answer view) es o e = absurd (let no : Ends i ≡ Calls o = e in cc)
-number_of_step i c what.Done es o e = absurd (let no : Ends i ≡ Calls o = e in cc)
-number_of_step i c what.Crash es o e = absurd (let no : Waits ≡ Calls o = e in cc)
+number_of_step i c a es o e = grind (arith, number_of_scan)
 
 numbers : (es : List Event) (t : ℕ) (o : Operation) (d : Event) → get_or (steps_of es) t Waits ≡ Calls o →
     (t < length es) × ((get_or es t d).item ≡ o.call)

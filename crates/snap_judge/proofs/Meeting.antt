@@ -10,7 +10,8 @@ use Rattle.std.specs.List.Sorted.{IsPermutation}
 use Rattle.std.specs.HashSet.{HashSet, PutsKey}
 use Rattle.std.proofs.lemmas.List.Sorted.{Contains-permutation, IsPermutation-sym}
 use Rattle.snap_judge.proofs.Leading.{same_parts}
-use Rattle.std.proofs.lemmas.List.Elements.{All-append, All-cons, All-contains, All-head, All-map, All-tail, All-weaker}
+use Rattle.std.proofs.lemmas.List.Elements.{All-append, All-cons, All-contains, All-contains_itself}
+use Rattle.std.proofs.lemmas.List.Elements.{All-head, All-map, All-tail, All-weaker}
 use Rattle.std.proofs.lemmas.List.Kept.{AllPairs-cons}
 use Rattle.snap_judge.specs.declared.config.Step.{Step as KeptStep}
 use Rattle.snap_judge.specs.declared.config.Step.TheVariants as kept_step
@@ -66,12 +67,11 @@ same_decides (x ∷ xs) k = Decides-like _ to from (Decides-or _ _ (config_decid
     to (inl same) = (x, contains_head x xs, same)
     to (inr has) = (has.0, contains_tail x has.0 xs has.1, has.2)
 
-    from_by : (y : Config) → IsSameConfig y k → (x ≡ y) ⊎ Contains xs y → IsSameConfig x k ⊎ HasSame xs k
-    from_by y same (inl here) = inl (subst (λ (c : Config). IsSameConfig c k) (sym here) same)
-    from_by y same (inr there) = inr (y, there, same)
-
     from : HasSame (x ∷ xs) k → IsSameConfig x k ⊎ HasSame xs k
-    from has = from_by has.0 has.2 (contains_cases x has.0 xs has.1)
+    from has = elim (contains_cases x has.0 xs has.1) [
+      | inl here ↦ inl (rw here has.2)
+      | inr there ↦ inr (has.0, there, has.2)
+    ]
 
 -- Configurations that are seen as the same one are the same.
 module _ (steps : List KeptStep) (numbered : AreNumbered steps) where
@@ -147,7 +147,7 @@ chooses steps c stuck =
       may_not (slots_of steps c) x stuck.1,
     )
 
-pub node_met : {n w : ℕ} {steps : List KeptStep} {order : List ℕ} (node : Node) → IsNode n w steps order node →
+abbrev pub node_met : {n w : ℕ} {steps : List KeptStep} {order : List ℕ} (node : Node) → IsNode n w steps order node →
     IsMet n w steps node.config
 node_met {order = order} node is = record {
   counts = is.counts;
@@ -205,8 +205,8 @@ module _ (n w : ℕ) (steps : List KeptStep) (are : AreSteps n w steps) (numbere
   nodes_pairs order (x ∷ xs) rest all rising out pairs =
       AllPairs-cons Differ (seen_node x) (map seen_node xs ++ rest)
       (All-append (Differ (seen_node x)) (map seen_node xs) rest
-      (All-map (Differ (seen_node x)) seen_node xs (from_node xs (All-tail (IsNode n w steps order) x xs all)
-      (λ y there. pairs_head Deeper x y xs rising there)))
+      (All-map (Differ (seen_node x)) seen_node xs
+      (All-weaker (Contains xs) (λ (y : Node). Differ (seen_node x) (seen_node y)) later xs (All-contains_itself xs)))
       (out x (contains_head x xs)))
       (nodes_pairs order xs rest (All-tail (IsNode n w steps order) x xs all) (pairs_tail Deeper x xs rising)
       (λ node there. out node (contains_tail x node xs there)) pairs)
@@ -214,19 +214,13 @@ module _ (n w : ℕ) (steps : List KeptStep) (are : AreSteps n w steps) (numbere
       is_x : IsNode n w steps order x
       is_x = All-head (IsNode n w steps order) x xs all
 
-      from_node : (ys : List Node) → All (IsNode n w steps order) ys → ((y : Node) → Contains ys y → Deeper x y) →
-          All (λ (y : Node). Differ (seen_node x) (seen_node y)) ys
-      from_node [] all below = λ k d lt. absurd (omega (arith, lt))
-      from_node (y ∷ ys) all below =
-          All-cons (λ (z : Node). Differ (seen_node x) (seen_node z)) y ys
-          (λ same. let is_y = All-head (IsNode n w steps order) y ys all in
-          let equal = same_length n w steps (take x.depth order) (take y.depth order) x.config y.config are is_x.counts
-          is_y.counts is_x.reached is_y.reached same in
+      later : (y : Node) → Contains xs y → Differ (seen_node x) (seen_node y)
+      later y there same =
+          let is_y = All-contains (IsNode n w steps order) xs y (All-tail (IsNode n w steps order) x xs all) there in
+          let equal = same_length are (node_met x is_x) (node_met y is_y) same in
           let one = length-take-le x.depth order is_x.depth in
           let other = length-take-le y.depth order is_y.depth in
-          let less = below y (contains_head y ys) in
-          let no : ⊥ = omega (arith, equal, one, other, less) in no)
-          (from_node ys (All-tail (IsNode n w steps order) y ys all) (λ z there. below z (contains_tail y z ys there)))
+          let less = pairs_head Deeper x y xs rising there in omega (arith, equal, one, other, less)
 
   -- What the search has come to, its nodes, and what has failed: these are different ones.
   module _ (order : List ℕ) (nodes : List Node) (failed : List Config) (c : Config)
@@ -239,49 +233,38 @@ module _ (n w : ℕ) (steps : List KeptStep) (are : AreSteps n w steps) (numbere
     abbrev pub all_met : List Configuration
     all_met = seen c ∷ (map seen_node nodes ++ map seen failed)
 
-    new_to : (x : Config) → IsMet n w steps x → (HasSame failed x → ⊥) → (ys : List Config) →
-        ((y : Config) → Contains ys y → Contains failed y) → All (Differ (seen x)) (map seen ys)
-    new_to x is new [] inside = λ k d lt. absurd (omega (arith, lt))
-    new_to x is new (y ∷ ys) inside =
-        All-cons (Differ (seen x)) (seen y) (map seen ys)
-        (λ same. let there = inside y (contains_head y ys) in
-        new (
+    new_to : (x : Config) → IsMet n w steps x → (HasSame failed x → ⊥) → All (Differ (seen x)) (map seen failed)
+    new_to x is new =
+        All-map (Differ (seen x)) seen failed
+        (All-weaker (Contains failed) (λ (y : Config). Differ (seen x) (seen y)) (λ y there same. new (
           y,
           there,
           same_config steps numbered y x (All-contains (IsMet n w steps) failed y are_failed there).config
               is.config (sym same),
-        ))
-        (new_to x is new ys (λ z there. inside z (contains_tail y z ys there)))
+        )) failed (All-contains_itself failed))
 
-    past_nodes : (ys : List Node) → ((y : Node) → Contains ys y → Contains nodes y) →
-        All (λ (y : Node). Differ (seen c) (seen_node y)) ys
-    past_nodes [] inside = λ k d lt. absurd (omega (arith, lt))
-    past_nodes (y ∷ ys) inside =
-        All-cons (λ (z : Node). Differ (seen c) (seen_node z)) y ys
-        (λ same. let there = inside y (contains_head y ys) in
+    past_nodes : (y : Node) → Contains nodes y → Differ (seen c) (seen_node y)
+    past_nodes y there same =
         let is_y = All-contains (IsNode n w steps order) nodes y are_nodes there in
-        let equal = same_length n w steps met.order (take y.depth order) c y.config are met.counts is_y.counts met.reached
-        is_y.reached same in
+        let equal = same_length are met (node_met y is_y) same in
         let other = length-take-le y.depth order is_y.depth in
         let whole : length met.order ≡ length order = ap length here in
         let less : (get_or nodes there.0 y).depth < length order = deeper there.0 y there.1 in
-        let at_y : (get_or nodes there.0 y).depth ≡ y.depth = depth_there y there in
-        let no : ⊥ = omega (arith, equal, other, whole, less, at_y) in no)
-        (past_nodes ys (λ z there. inside z (contains_tail y z ys there)))
-      where
-        depth_there : (z : Node) (there : Contains nodes z) → (get_or nodes there.0 z).depth ≡ z.depth
-        depth_there z there = ap (λ (node : Node). node.depth) there.2
+        let at_y = ap (λ (node : Node). node.depth) there.2 in
+        omega (arith, equal, other, whole, less, at_y)
 
     pub all_differ : AllPairs (λ (x y : Configuration). x ≡ y → ⊥) all_met
     all_differ =
         AllPairs-cons Differ (seen c) (map seen_node nodes ++ map seen failed)
         (All-append (Differ (seen c)) (map seen_node nodes) (map seen failed)
-        (All-map (Differ (seen c)) seen_node nodes (past_nodes nodes (λ y there. there)))
-        (new_to c met fresh failed (λ y there. there)))
+        (All-map (Differ (seen c)) seen_node nodes
+        (All-weaker (Contains nodes) (λ (y : Node). Differ (seen c) (seen_node y)) past_nodes nodes
+        (All-contains_itself nodes)))
+        (new_to c met fresh))
         (nodes_pairs order nodes (map seen failed) are_nodes rising
         (λ node there. new_to node.config
         (node_met node (All-contains (IsNode n w steps order) nodes node are_nodes there))
-        (All-contains (λ (x : Node). HasSame failed x.config → ⊥) nodes node apart there) failed (λ y inside. inside))
+        (All-contains (λ (x : Node). HasSame failed x.config → ⊥) nodes node apart there))
         (failed_pairs failed are_failed distinct))
 
     each_met : All (IsMetFrom (first n w steps)) all_met
@@ -349,23 +332,15 @@ pub still_apart : {n w : ℕ} {steps : List KeptStep} {order : List ℕ} (front 
     (ks ks' : List Config) → AreSteps n w steps → AreNodes n w steps order (front ++ node ∷ []) →
     IsPermutation (node.config ∷ ks) ks' → All (λ (x : Node). HasSame ks x.config → ⊥) front →
     All (λ (x : Node). HasSame ks' x.config → ⊥) front
-still_apart {n} {w} {steps} {order} front node ks ks' are nodes moved apart t d lt has =
-    by_key (contains_cases node.config has.0 ks
-    (Contains-permutation ks' (node.config ∷ ks) has.0 (IsPermutation-sym (node.config ∷ ks) ks' moved) has.1))
-  where
-    is_here : IsNode n w steps order (get_or front t d)
-    is_here = (are_front front node nodes).each t d lt
-
-    is_last : IsNode n w steps order node
-    is_last = last_is front node nodes
-
-    by_key : (node.config ≡ has.0) ⊎ Contains ks has.0 → ⊥
-    by_key (inr there) = apart t d lt (has.0, there, has.2)
-    by_key (inl same) =
-        let equal = same_length n w steps (take node.depth order) (take (get_or front t d).depth order) node.config
-        (get_or front t d).config are is_last.counts is_here.counts is_last.reached is_here.reached
-        (same_seen steps node.config (get_or front t d).config
-        (subst (λ (c : Config). IsSameConfig c (get_or front t d).config) (sym same) has.2)) in
-        let one = length-take-le node.depth order is_last.depth in
-        let other = length-take-le (get_or front t d).depth order is_here.depth in
-        let below = below_last front node nodes t d lt in omega (arith, equal, one, other, below)
+still_apart {steps = steps} {order} front node ks ks' are nodes moved apart t d lt has =
+    elim (contains_cases node.config has.0 ks
+    (Contains-permutation ks' (node.config ∷ ks) has.0 (IsPermutation-sym (node.config ∷ ks) ks' moved) has.1)) [
+      | inr there ↦ apart t d lt (has.0, there, has.2)
+      | inl same ↦ (let is_here = (are_front front node nodes).each t d lt in
+          let is_last = last_is front node nodes in
+          let equal = same_length are (node_met node is_last) (node_met (get_or front t d) is_here)
+          (same_seen steps node.config (get_or front t d).config (rw same has.2)) in
+          let one = length-take-le node.depth order is_last.depth in
+          let other = length-take-le (get_or front t d).depth order is_here.depth in
+          let below = below_last front node nodes t d lt in omega (arith, equal, one, other, below))
+    ]

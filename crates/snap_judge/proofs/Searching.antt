@@ -35,7 +35,8 @@ one_longer front node = omega (arith, length-append front (node ∷ []))
 fails_same : (n w : ℕ) (steps : List KeptStep) (d : Node) (front more : List Node) (t : ℕ) → t ≤ length front →
     FailsBehind n w steps d (front ++ more) t ≡ FailsBehind n w steps d front t
 fails_same n w steps d front more zero le = refl
-fails_same n w steps d front more (suc t) le = ap (IsTried steps) (get_or_append_left front more d t (omega (arith, le)))
+fails_same n w steps d front more (suc t) le =
+    ap (IsTried steps) (get_or_append_left front more d t (omega (arith, le)))
 
 -- behind the last one it is what that one has tried
 pub fails_last : (n w : ℕ) (steps : List KeptStep) (d : Node) (front : List Node) (node : Node) →
@@ -184,7 +185,8 @@ module _ {n w : ℕ} {steps : List KeptStep} {order order' : List ℕ} {node nod
   retried_deeper =
       let deep = has.deep in let depth = has.depth in
       All-push (λ (x : Node). x.depth < length order') front node'
-      (λ k d lt. let below = below_last front node are k d lt in omega (arith, below, deep)) (omega (arith, deep, depth))
+      (λ k d lt. let below = below_last front node are k d lt in omega (arith, below, deep))
+      (omega (arith, deep, depth))
 
   pub retried_entered : IsEntered n w steps order' e
   retried_entered = rw (counts.0, counts.1) at has.entered
@@ -292,9 +294,10 @@ module _ (n w : ℕ) (steps : List KeptStep) (c : Config) (position : c.position
   first_can can = rw (first_rest, values, first_slots) can
 
   module _ (c' : Config) (order : List ℕ) (goes : GoesOn steps [] c order c') where
-    pub started : (at_end : Bool) → KeepsCounts c c' → IsSettled steps c' → (at_end ≡ true → c'.position ≡ length steps) →
-        (at_end ≡ false → IsStuck steps c') → IsEntered n w steps order (record { config = c'; at_end = at_end })
-    started at_end kept settled end stuck = record {
+    pub started : (at_end : Bool) → KeepsCounts c c' → IsSettled steps c' →
+        (at_end ≡ true → c'.position ≡ length steps) → (at_end ≡ false → IsStuck steps c') →
+        IsEntered n w steps order (record { config = c'; at_end = at_end })
+    started ended kept settled end stuck = record {
       counts = (kept.slots ∙ first_count, kept.values ∙ first_width);
       config = goes.config first_config;
       settled = settled;

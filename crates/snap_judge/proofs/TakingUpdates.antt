@@ -8,8 +8,7 @@ use Rattle.snap_runs.specs.Linearization.{Allows, after}
 use Rattle.snap_judge.specs.declared.config.Step.{Step as KeptStep}
 use Rattle.snap_judge.specs.declared.config.Slot.TheVariants as kept_slot
 use Rattle.snap_judge.specs.declared.config.Config.{Config}
-use Rattle.snap_judge.specs.Steps.{CanBeExplained, Taken}
-use Rattle.snap_judge.specs.Kept.{GoesOn, IsConfig, called_at, rest_of, slots_of}
+use Rattle.snap_judge.specs.Kept.{GoesOn, IsConfig, called_at}
 use Rattle.snap_judge.specs.Choices.{HasTaken}
 use Rattle.snap_judge.proofs.Goes.{grown, still_config, taken_can, took}
 
@@ -24,9 +23,7 @@ has_taken steps order order' c mid c' p j word value position values slots is_wo
       (took steps order c mid p j position values' slots k is (subst (Allows c.values.items) (sym act) is_word) r);
   explained = λ k can. let both : kept_slot.Open can.0 ≡ kept_slot.Open j = sym can.1 ∙ is in
       let index : can.0 ≡ j = cc in goes.explained (mid_config k)
-      (taken_can steps order c mid p j position values' slots k is
-      (subst (λ (m : ℕ). CanBeExplained (rest_of steps c) (after c.values.items (called_at steps m).action)
-      (set (slots_of steps c) p (Taken (called_at steps m)))) index can.2));
+      (taken_can steps order c mid p j position values' slots k is (rw index at can.2));
   grows = grown order (order ++ j ∷ []) order' (j ∷ [], refl) goes.grows;
   longer = (let whole : length order' ≡ length ((order ++ j ∷ []) ++ goes.grows.0) = ap length goes.grows.1 in
       let last = length-append (order ++ j ∷ []) goes.grows.0 in

@@ -32,11 +32,10 @@ new_trail steps trail are nodes failed = record {
 
 pub is_dead-requires-clause-config : goal.is_dead-requires-clause-config
 is_dead-requires-clause-config c =
-    let first : Config = record { position = 0; values = c.in_ok-vec.field-0; slots = c.in_ok-vec-2.field-0 } in
     let values = c.in_ok-vec.ensures.items_if_clones_equal (λ y same. same) in
     let slots = c.in_ok-vec-2.ensures.items_if_clones_equal (λ y same. same) in
     let goes = rw c.requires.order at c.in_ok-at_end.ensures.goes_on in
-    goes.config (first_config c.args.trail.now.processes c.args.trail.now.words c.args.steps.now first refl values slots)
+    goes.config (first_config c.args.trail.now.processes c.args.trail.now.words c.args.steps.now _ refl values slots)
 
 pub returns-then-is_dead-clause-trail : goal.returns-then-is_dead-clause-trail
 returns-then-is_dead-clause-trail c = new_trail c.args.steps.now _ c.requires.steps c.requires.nodes c.requires.failed

@@ -12,10 +12,10 @@ use Rattle.snap_runs.specs.Run.{Run, item, state}
 use Rattle.snap_runs.proofs.Embedding.{next_state}
 use Rattle.snap_machine.specs.Configuration.{Configuration}
 use Rattle.snap_walk.specs.Walk.{Passes, Way}
-use Rattle.snap_walk.proofs.Ways.{all_items, items_more}
+use Rattle.snap_walk.proofs.Ways.{items_more}
 use Rattle.snap_walk.specs.declared.passed.Passed.{Passed}
 use Rattle.snap_acts.specs.Tells.{Tells}
-use Rattle.snap_acts.specs.Trace.{act_of, line_number, intent_of, step_of, steps_of, trace_of}
+use Rattle.snap_acts.specs.Trace.{act_of, line_number, intent_of, step_of, steps_of}
 use Rattle.snap_acts.specs.declared.act.Act.{Act}
 use Rattle.snap_acts.specs.declared.act.TraceStep.{TraceStep}
 use Rattle.snap_acts.specs.declared.intent.Intent.{Intent}
@@ -45,10 +45,6 @@ steps_more r t below =
     ap (steps_of s n (initial s n) 1) (items_more r t below)
     ∙ steps_last s n (initial s n) 1 (take t r.items) (item r (suc t))
     ∙ ap (λ k. steps_to r t ++ step_of s n (state r t) k (item r (suc t)) ∷ []) number
-
--- what all of them did
-pub all_steps : (r : Run) (t : ℕ) → t ≡ length r.items → steps_to r t ≡ trace_of r
-all_steps r t end = ap (steps_of r.source r.shape (initial r.source r.shape) 1) (all_items r t end)
 
 -- What is told of the item that was passed is what it did, from the state before it and the state after it.
 pub passed_is : (w w' : Way) (p : Passed) (x : Item) (i line : ℕ) (S S' : State) (m : Configuration) (intent : Intent)

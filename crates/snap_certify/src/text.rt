@@ -22,9 +22,9 @@ ghost use Rattle.snap_run_judge.specs.RunHistory.{history_of};
 ghost use Rattle.snap_run_judge.specs.RunJudgement.{IsRunJudgement, most_configurations};
 ghost use Rattle.snap_run_judge.specs.VerdictText.{verdict_text};
 
+use crate::found::{Lack, Missing};
 use crate::order::{in_order, point_item};
 use crate::{Certification, UpdateWrite, certify};
-use crate::found::{Lack, Missing};
 use snap_record::Record;
 use snap_run_judge::{MOST_CONFIGURATIONS, judge_record, push_verdict};
 use snap_runs::Verdict;

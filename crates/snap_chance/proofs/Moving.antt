@@ -139,63 +139,42 @@ there_ordered p n (suc i) s le =
     there_with n ((next_u64 before.1).0 % (i + 1)) (record { process = i + 1; left = share p }) before.0
     (there_ordered p n i s (omega arith)) (omega arith, omega arith)
 
-moves_there : (p : Plan) (k t left : ℕ) (changes : List ℕ) (order : List Mover) (s : Stream) →
-    0 < p.shape.n → AreThere p.shape.n order
-    → AllByRecursion (λ x. IsOneOf p.shape.n (who x)) (moves_from p k t left changes order s)
-moves_there p k t zero changes order s some h = tt
-moves_there p k t (suc left) changes order s some h =
-    let now = lowered_at t changes order in
-    let here = there_lowered p.shape.n t changes order h in
-    all_more (IsOneOf p.shape.n) (move_items p k t now (draws s).0)
-    (moves_from p k (t + 1) left changes (passed now) (draws s).1)
-    (are_move p k t now (draws s).0 some here).there
-    (moves_there p k (t + 1) left changes (passed now) (draws s).1 some (there_passed p.shape.n now here))
-
-moves_few : (p : Plan) (k t left : ℕ) (changes : List ℕ) (order : List Mover) (s : Stream) →
-    0 < p.shape.n → AreThere p.shape.n order
-    → length (moves_from p k t left changes order s) ≤ left * 129
-moves_few p k t zero changes order s some h = omega arith
-moves_few p k t (suc left) changes order s some h =
-    let now = lowered_at t changes order in
-    let there = there_lowered p.shape.n t changes order h in
-    let here = (are_move p k t now (draws s).0 some there).few in
-    let rest = moves_few p k (t + 1) left changes (passed now) (draws s).1 some (there_passed p.shape.n now there) in
-    omega (
-      arith,
-      length-append (move_items p k t now (draws s).0) (moves_from p k (t + 1) left changes (passed now) (draws s).1),
-      here,
-      rest,
-    )
-
--- the turns of drawn processes
-turns_there : (p : Plan) (k t left : ℕ) (s : Stream) → 0 < p.shape.n →
-    AllByRecursion (λ x. IsOneOf p.shape.n (who x)) (turns_from p k t left s)
-turns_there p k t zero s some = tt
-turns_there p k t (suc left) s some =
-    all_more (IsOneOf p.shape.n) (turn_items p k t (draws s).0) (turns_from p k (t + 1) left (draws s).1)
-    (are_turn p k t (draws s).0 some).there
-    (turns_there p k (t + 1) left (draws s).1 some)
-
-turns_few : (p : Plan) (k t left : ℕ) (s : Stream) → 0 < p.shape.n → length (turns_from p k t left s) ≤ left * 129
-turns_few p k t zero s some = omega arith
-turns_few p k t (suc left) s some =
-    let here = (are_turn p k t (draws s).0 some).few in
-    let rest = turns_few p k (t + 1) left (draws s).1 some in
-    omega (arith, length-append (turn_items p k t (draws s).0) (turns_from p k (t + 1) left (draws s).1), here, rest)
-
 -- the items of a run are few, and of processes that are there
 pub record AreItems (n turns : ℕ) (xs : List Item) : Type 0 where
   pub there : AllByRecursion (λ x. IsOneOf n (who x)) xs
   pub few : length xs ≤ turns * 129
 
+no_items : (n : ℕ) → AreItems n 0 []
+no_items n = record { there = tt; few = omega arith }
+
+-- the items of a turn, and those of the turns that are left
+turn_first : (n left : ℕ) (xs ys : List Item) → AreTurn n xs → AreItems n left ys → AreItems n (suc left) (xs ++ ys)
+turn_first n left xs ys turn are = record {
+  there = all_more (IsOneOf n) xs ys turn.there are.there;
+  few = (let here = turn.few in let rest = are.few in omega (arith, length-append xs ys, here, rest));
+}
+
+moves_are : (p : Plan) (k t left : ℕ) (changes : List ℕ) (order : List Mover) (s : Stream) → 0 < p.shape.n →
+    AreThere p.shape.n order → AreItems p.shape.n left (moves_from p k t left changes order s)
+moves_are p k t zero changes order s some h = no_items p.shape.n
+moves_are p k t (suc left) changes order s some h =
+    let now = lowered_at t changes order in
+    let here = there_lowered p.shape.n t changes order h in
+    turn_first p.shape.n left (move_items p k t now (draws s).0)
+    (moves_from p k (t + 1) left changes (passed now) (draws s).1) (are_move p k t now (draws s).0 some here)
+    (moves_are p k (t + 1) left changes (passed now) (draws s).1 some (there_passed p.shape.n now here))
+
+-- the turns of drawn processes
+turns_are : (p : Plan) (k t left : ℕ) (s : Stream) → 0 < p.shape.n → AreItems p.shape.n left (turns_from p k t left s)
+turns_are p k t zero s some = no_items p.shape.n
+turns_are p k t (suc left) s some =
+    turn_first p.shape.n left (turn_items p k t (draws s).0) (turns_from p k (t + 1) left (draws s).1)
+    (are_turn p k t (draws s).0 some) (turns_are p k (t + 1) left (draws s).1 some)
+
 pub are_items : (o : Option ℕ) (p : Plan) (k : ℕ) (s : Stream) → 0 < p.shape.n →
     AreItems p.shape.n p.turns (items_by o p k s)
-are_items None p k s some = record { there = turns_there p k 1 p.turns s some; few = turns_few p k 1 p.turns s some }
+are_items None p k s some = turns_are p k 1 p.turns s some
 are_items (Some depth) p k s some =
     let order = order_of p p.shape.n s in
     let changes = changes_of p (depth - 1) order.1 in
-    let there = there_ordered p p.shape.n p.shape.n s (omega arith) in
-    record {
-      there = moves_there p k 1 p.turns changes.0 order.0 changes.1 some there;
-      few = moves_few p k 1 p.turns changes.0 order.0 changes.1 some there;
-    }
+    moves_are p k 1 p.turns changes.0 order.0 changes.1 some (there_ordered p p.shape.n p.shape.n s (omega arith))

@@ -1,7 +1,7 @@
 -- Turns of processes that are drawn, in schedules that chance makes: each is of a process that exists, and has at
 -- most 128 steps (`IsTurn`).
 use Rattle.std.proofs.Common.{◌≡◌, ℕ, zero, suc, ◌+◌, ◌-◌, ◌/◌, ◌%◌, ◌^◌, ◌<◌, ◌≤◌, Bool, true, false, List, [], ◌∷◌}
-use Rattle.std.proofs.Common.{◌++◌, Option, Some, None, length, replicate, nat_eq, nat_lt, ◌||◌, if◌then◌else◌, refl, sym}
+use Rattle.std.proofs.Common.{◌++◌, Option, Some, None, length, replicate, nat_eq, nat_lt, ◌||◌, if◌then◌else◌, sym}
 use Rattle.std.proofs.Common.{ap, subst, ◌∙◌, append_assoc, arith}
 use Rattle.std.proofs.Math.Pow.{pow_mono}
 use Rattle.std.proofs.lemmas.List.{length-append, length-replicate}
@@ -101,12 +101,8 @@ round_is_turn p k t d some =
 
 extent_short : (g : Extent) (whole : ℕ) (d : Draws) → 24 ≤ whole → whole ≤ 128 → extent_of g whole d ≤ 128
 extent_short Whole whole d some few = few
-extent_short Early whole d some few =
-    let rest : d.length % (whole / 2) < whole / 2 = omega arith in
-    omega arith
-extent_short Late whole d some few =
-    let rest : d.length % (whole / 2) < whole / 2 = omega arith in
-    omega arith
+extent_short Early whole d some few = omega arith
+extent_short Late whole d some few = omega arith
 extent_short Part whole d some few = part_short d.length whole (omega arith) few
 extent_short Any whole d some few =
     either (λ x. x ≤ 128) (nat_eq (d.scale % 2) 0) (d.length % whole + 1) whole
@@ -185,11 +181,6 @@ pub still_there : (n : ℕ) (xs old new : List Item) → AreTurn n xs → new �
 still_there n xs old new turn is h =
     subst (AllByRecursion (λ x. IsOneOf n (who x))) (sym is) (all_more (IsOneOf n) old xs h turn.there)
 
--- the first of the turns that are left
-first_turn : (p : Plan) (k t left : ℕ) (s : Stream)
-    → turns_from p k t (suc left) s ≡ turn_items p k t (draws s).0 ++ turns_from p k (t + 1) left (draws s).1
-first_turn p k t left s = refl
-
 -- the turns so far, with one more, and those that are left
 pub one_more : (p : Plan) (k count t : ℕ) (s u : Stream) (d : Draws) (old new all : List Item) → t < count →
     (d, u) ≡ draws s
@@ -201,6 +192,5 @@ one_more p k count t s u d old new all below step put so_far =
     ap (λ (xs : List Item). xs ++ rest u) put
     ∙ append_assoc old (turn_items p k (t + 1) d) (rest u)
     ∙ ap (λ (x : Draws × Stream). old ++ (turn_items p k (t + 1) x.0 ++ rest x.1)) step
-    ∙ ap (λ (xs : List Item). old ++ xs) (sym (first_turn p k (t + 1) (count - (t + 1)) s))
     ∙ ap (λ (n : ℕ). old ++ turns_from p k (t + 1) n s) (sym e)
     ∙ so_far

@@ -28,52 +28,31 @@ use Rattle.snap_debug_commands.specs.declared.command.Command.TheVariants as com
 abbrev register : Bank → ℕ → ℕ → Address
 register bank i j = record { bank = bank; i = i; j = j }
 
-watch_again : (b : Bank) (i j : ℕ) → FitsSecond b j →
-    command_form (spelled_command (command.Watch (register b i j))) ≡ Some (command.Watch (register b i j))
-unfolding command_form moving_form marking_form showing_form register_form address_form place_form bit_form
-    keyword_form number_form numbers_form breakpoint_form
-watch_again R i j h = ap (λ (k : ℕ). let o : Option Command = Some (command.Watch (register R i k)) in o) (sym h)
-watch_again Q i j h = refl
-watch_again P i j h = refl
-watch_again V i j h = ap (λ (k : ℕ). let o : Option Command = Some (command.Watch (register V i k)) in o) (sym h)
+-- what spells a register is of its form
+address_again : (b : Bank) (i j : ℕ) → FitsSecond b j →
+    address_form (spelled_address (register b i j)) ≡ Some (register b i j)
+unfolding address_form place_form bit_form number_form numbers_form
+address_again R i j h = ap (λ (k : ℕ). let o : Option Address = Some (register R i k) in o) (sym h)
+address_again Q i j h = refl
+address_again P i j h = refl
+address_again V i j h = ap (λ (k : ℕ). let o : Option Address = Some (register V i k) in o) (sym h)
 
-unwatch_again : (b : Bank) (i j : ℕ) → FitsSecond b j →
-    command_form (spelled_command (command.Unwatch (register b i j))) ≡ Some (command.Unwatch (register b i j))
-unfolding command_form moving_form marking_form showing_form register_form address_form place_form bit_form
-    keyword_form number_form numbers_form breakpoint_form
-unwatch_again R i j h = ap (λ (k : ℕ). let o : Option Command = Some (command.Unwatch (register R i k)) in o) (sym h)
-unwatch_again Q i j h = refl
-unwatch_again P i j h = refl
-unwatch_again V i j h = ap (λ (k : ℕ). let o : Option Command = Some (command.Unwatch (register V i k)) in o) (sym h)
-
-show_again : (b : Bank) (i j : ℕ) → FitsSecond b j →
-    command_form (spelled_command (command.ShowRegister (register b i j)))
-    ≡ Some (command.ShowRegister (register b i j))
-unfolding command_form moving_form marking_form showing_form register_form address_form place_form bit_form
-    keyword_form number_form numbers_form breakpoint_form
-show_again R i j h = ap (λ (k : ℕ). let o : Option Command = Some (command.ShowRegister (register R i k)) in o) (sym h)
-show_again Q i j h = refl
-show_again P i j h = refl
-show_again V i j h = ap (λ (k : ℕ). let o : Option Command = Some (command.ShowRegister (register V i k)) in o) (sym h)
+registers_again : (a : Address) → address_form (spelled_address a) ≡ Some a →
+    (command_form (spelled_command (command.Watch a)) ≡ Some (command.Watch a))
+    × (command_form (spelled_command (command.Unwatch a)) ≡ Some (command.Unwatch a))
+    × (command_form (spelled_command (command.ShowRegister a)) ≡ Some (command.ShowRegister a))
+unfolding command_form moving_form marking_form showing_form register_form keyword_form number_form breakpoint_form
+    numbers_form
+registers_again a e = (rw e, rw e, rw e)
 
 -- what spells a command is of its form
 pub command_again : (c : Command) → FitsCommand c → command_form (spelled_command c) ≡ Some c
 unfolding command_form moving_form marking_form showing_form register_form address_form place_form bit_form
     keyword_form number_form numbers_form breakpoint_form
-command_again (command.Step k) h = refl
-command_again (command.Back k) h = refl
-command_again (command.Goto t) h = refl
-command_again command.Run h = refl
-command_again command.ReverseRun h = refl
-command_again (command.Break b) h = refl
-command_again (command.Clear b) h = refl
-command_again (command.Watch a) h = watch_again a.bank a.i a.j h.1
-command_again (command.Unwatch a) h = unwatch_again a.bank a.i a.j h.1
-command_again (command.ShowRegister a) h = show_again a.bank a.i a.j h.1
-command_again (command.ShowProcess i) h = refl
-command_again command.Values h = refl
-command_again command.Events h = refl
-command_again command.Where h = refl
+command_again (command.Watch a) h = (registers_again a (address_again a.bank a.i a.j h.1)).0
+command_again (command.Unwatch a) h = (registers_again a (address_again a.bank a.i a.j h.1)).1
+command_again (command.ShowRegister a) h = (registers_again a (address_again a.bank a.i a.j h.1)).2
+command_again _ h = refl
 
 line_again : (line : TextLine) (c : Command) → FitsCommand c →
     line.tokens ≡ Some (spelled_command c) → command_at line ≡ Ok c
@@ -125,17 +104,13 @@ command_stands : (c : Command) → FitsCommand c → IsSoundLine (spelled_comman
 command_stands (command.Step k) h = (refl, ((omega arith, refl), (h, tt)))
 command_stands (command.Back k) h = (refl, ((omega arith, refl), (h, tt)))
 command_stands (command.Goto t) h = (refl, ((omega arith, refl), (h, tt)))
-command_stands command.Run h = (refl, ((omega arith, refl), tt))
-command_stands command.ReverseRun h = (refl, ((omega arith, refl), tt))
 command_stands (command.Break b) h = (refl, ((omega arith, refl), (h.0, (h.1, tt))))
 command_stands (command.Clear b) h = (refl, ((omega arith, refl), (h.0, (h.1, tt))))
 command_stands (command.Watch a) h = (refl, ((omega arith, refl), register_stands a.bank a.i a.j h.0 h.1))
 command_stands (command.Unwatch a) h = (refl, ((omega arith, refl), register_stands a.bank a.i a.j h.0 h.1))
 command_stands (command.ShowRegister a) h = (refl, ((omega arith, refl), register_stands a.bank a.i a.j h.0 h.1))
 command_stands (command.ShowProcess i) h = (refl, ((omega arith, refl), (h, tt)))
-command_stands command.Values h = (refl, ((omega arith, refl), tt))
-command_stands command.Events h = (refl, ((omega arith, refl), tt))
-command_stands command.Where h = (refl, ((omega arith, refl), tt))
+command_stands _ h = (refl, ((omega arith, refl), tt))
 
 commands_stand : (cs : List Command) → AllByRecursion FitsCommand cs →
     AllByRecursion IsSoundLine (map spelled_command cs)

@@ -5,6 +5,7 @@ use Rattle.std.proofs.Common.{if◌then◌else◌, refl, sym, ap, ◌∙◌, ari
 use Rattle.std.proofs.lemmas.Bool.{leb-false, ltb-false}
 use Rattle.std.specs.List.{AllByRecursion}
 use Rattle.snap_words.specs.declared.address.Address.{Address}
+use Rattle.snap_words.specs.declared.address.Bank.{Bank}
 use Rattle.snap_words.specs.declared.address.Bank.TheVariants.{R, Q, P, V}
 use Rattle.snap_semantics.specs.declared.refusal.CommandRefusal.{CommandRefusal}
 use Rattle.snap_semantics.specs.declared.refusal.CommandRefusal.TheVariants as refusal
@@ -19,7 +20,7 @@ use Rattle.snap_debug_commands.specs.CommandForms.{keyword_form, number_form, nu
 use Rattle.snap_debug_commands.specs.CommandForms.{address_form, breakpoint_form, register_form, moving_form}
 use Rattle.snap_debug_commands.specs.CommandForms.{marking_form, showing_form, command_form, spelled_address}
 use Rattle.snap_debug_commands.specs.CommandForms.{spelled_breakpoint, spelled_command}
-use Rattle.snap_debug_commands.specs.CommandLaws.{FitsAddress, FitsBreakpoint, FitsCommand, Spells}
+use Rattle.snap_debug_commands.specs.CommandLaws.{FitsSecond, FitsAddress, FitsBreakpoint, FitsCommand, Spells}
 use Rattle.snap_debug_commands.specs.Commands.{command_at, commands_of_lines, commands_of}
 use Rattle.snap_debug_commands.specs.declared.command.Breakpoint.{Breakpoint}
 use Rattle.snap_debug_commands.specs.declared.command.Command.{Command}
@@ -79,57 +80,42 @@ numbers_form_found w ts at e =
 abbrev IsRegister : List Token → Address → Type 0
 IsRegister ts a = (ts ≡ spelled_address a) × (Sounds ts → FitsAddress a)
 
-register_is : (ts : List Token) (x a : Address) → x ≡ a → IsRegister ts x → IsRegister ts a
-register_is ts x a e h = subst (IsRegister ts) e h
-
 -- the tokens behind a keyword
 sound_behind : (t : Token) (ts us : List Token) → us ≡ t ∷ ts → Sounds us → Sounds ts
 sound_behind t ts us e h = (subst Sounds e h).1
 
-word_place_found : (ts : List Token) (a : Address) → place_form (codes "r") R ts ≡ Some a → IsRegister ts a
+-- a register with one index, and with two, by how it is spelled
+place_found : (w : List ℕ) (b : Bank) →
+    ((i : ℕ) → spelled_address (record { bank = b; i = i; j = 0 }) ≡ Identifier w ∷ Number i ∷ []) → FitsSecond b 0 →
+    (ts : List Token) (a : Address) → place_form w b ts ≡ Some a → IsRegister ts a
 unfolding place_form
-word_place_found ts a e =
-    let i = bind_found (number_form (codes "r") ts) _ a e in
-    let t = number_form_found (codes "r") ts i.0 i.1 in
-    register_is ts (record { bank = R; i = i.0; j = 0 }) a (some_is (record { bank = R; i = i.0; j = 0 }) a i.2)
-    (t, λ h. ((subst Sounds t h).1.0, refl))
+place_found w b spelled second ts a e =
+    let i = bind_found (number_form w ts) _ a e in
+    let t = number_form_found w ts i.0 i.1 in
+    subst (IsRegister ts) (some_is (record { bank = b; i = i.0; j = 0 }) a i.2)
+    (t ∙ sym (spelled i.0), λ h. ((subst Sounds t h).1.0, second))
 
-view_place_found : (ts : List Token) (a : Address) → place_form (codes "v") V ts ≡ Some a → IsRegister ts a
-unfolding place_form
-view_place_found ts a e =
-    let i = bind_found (number_form (codes "v") ts) _ a e in
-    let t = number_form_found (codes "v") ts i.0 i.1 in
-    register_is ts (record { bank = V; i = i.0; j = 0 }) a (some_is (record { bank = V; i = i.0; j = 0 }) a i.2)
-    (t, λ h. ((subst Sounds t h).1.0, refl))
-
-scanner_bit_found : (ts : List Token) (a : Address) → bit_form (codes "q") Q ts ≡ Some a → IsRegister ts a
+bit_found : (w : List ℕ) (b : Bank) →
+    ((i j : ℕ) → spelled_address (record { bank = b; i = i; j = j }) ≡ Identifier w ∷ Number i ∷ Number j ∷ []) →
+    ((j : ℕ) → j < 2 ^ 64 → FitsSecond b j) → (ts : List Token) (a : Address) → bit_form w b ts ≡ Some a →
+    IsRegister ts a
 unfolding bit_form
-scanner_bit_found ts a e =
-    let at = bind_found (numbers_form (codes "q") ts) _ a e in
-    let t = numbers_form_found (codes "q") ts at.0 at.1 in
-    register_is ts (record { bank = Q; i = at.0.0; j = at.0.1 }) a
-    (some_is (record { bank = Q; i = at.0.0; j = at.0.1 }) a at.2)
-    (t, λ h. ((subst Sounds t h).1.0, (subst Sounds t h).1.1.0))
-
-updater_bit_found : (ts : List Token) (a : Address) → bit_form (codes "p") P ts ≡ Some a → IsRegister ts a
-unfolding bit_form
-updater_bit_found ts a e =
-    let at = bind_found (numbers_form (codes "p") ts) _ a e in
-    let t = numbers_form_found (codes "p") ts at.0 at.1 in
-    register_is ts (record { bank = P; i = at.0.0; j = at.0.1 }) a
-    (some_is (record { bank = P; i = at.0.0; j = at.0.1 }) a at.2)
-    (t, λ h. ((subst Sounds t h).1.0, (subst Sounds t h).1.1.0))
+bit_found w b spelled second ts a e =
+    let at = bind_found (numbers_form w ts) _ a e in
+    let t = numbers_form_found w ts at.0 at.1 in
+    subst (IsRegister ts) (some_is (record { bank = b; i = at.0.0; j = at.0.1 }) a at.2)
+    (t ∙ sym (spelled at.0.0 at.0.1), λ h. ((subst Sounds t h).1.0, second at.0.1 (subst Sounds t h).1.1.0))
 
 address_found : (ts : List Token) (a : Address) → address_form ts ≡ Some a → IsRegister ts a
 unfolding address_form
 address_found ts a e =
     either (place_form (codes "r") R ts)
     (or_else (bit_form (codes "q") Q ts) (or_else (bit_form (codes "p") P ts) (place_form (codes "v") V ts))) a
-    (IsRegister ts a) (word_place_found ts a)
+    (IsRegister ts a) (place_found (codes "r") R (λ i. refl) refl ts a)
     (either (bit_form (codes "q") Q ts) (or_else (bit_form (codes "p") P ts) (place_form (codes "v") V ts)) a
-    (IsRegister ts a) (scanner_bit_found ts a)
+    (IsRegister ts a) (bit_found (codes "q") Q (λ i j. refl) (λ j h. h) ts a)
     (either (bit_form (codes "p") P ts) (place_form (codes "v") V ts) a (IsRegister ts a)
-    (updater_bit_found ts a) (view_place_found ts a)))
+    (bit_found (codes "p") P (λ i j. refl) (λ j h. h) ts a) (place_found (codes "v") V (λ i. refl) refl ts a)))
     e
 
 breakpoint_found : (w : List ℕ) (ts : List Token) (b : Breakpoint) → breakpoint_form w ts ≡ Some b →
@@ -247,10 +233,11 @@ AreSpelled count lines cs =
 ok_is : (xs ys : List Command) → (let r : Result (List Command) CommandRefusal = Ok xs in r) ≡ Ok ys → xs ≡ ys
 ok_is xs ys e = cc
 
-room_by : (count : ℕ) (b : Bool) (r : Result (List Command) CommandRefusal) (cs : List Command) →
-    nat_le 10000 count ≡ b → (if b then Err refusal.TooLong else r) ≡ Ok cs → (count < 10000) × (r ≡ Ok cs)
-room_by count true r cs e h = absurd cc
-room_by count false r cs e h = (leb-false 10000 count e, h)
+-- what is not too long
+not_refused : (b : Bool) (r : Result (List Command) CommandRefusal) (cs : List Command) →
+    (if b then Err refusal.TooLong else r) ≡ Ok cs → (b ≡ false) × (r ≡ Ok cs)
+not_refused true r cs e = absurd cc
+not_refused false r cs e = (refl, e)
 
 one_more : (count : ℕ) (line : TextLine) (lines : List TextLine) (c : Command) (cs : List Command) →
     (line.tokens ≡ Some (spelled_command c)) × FitsCommand c → AreSpelled (count + 1) lines cs →
@@ -268,23 +255,17 @@ lines_found : (count : ℕ) (lines : List TextLine) (cs : List Command) →
     commands_of_lines count lines ≡ Ok cs → AreSpelled count lines cs
 lines_found count [] cs room s e = subst (AreSpelled count []) (ok_is [] cs e) (omega (arith, room), tt, refl)
 lines_found count (line ∷ lines) cs room s e =
-    let spare = room_by count (nat_le 10000 count) _ cs refl e in
-    let left = spare.0 in
+    let spare = not_refused (nat_le 10000 count) _ cs e in
+    let left = leb-false 10000 count spare.0 in
     let c = then_found (command_at line) _ cs spare.1 in
     let more = then_found (commands_of_lines (count + 1) lines) _ cs c.2 in
     subst (AreSpelled count (line ∷ lines)) (ok_is (c.0 ∷ more.0) cs more.2)
     (one_more count line lines c.0 more.0 (line_found (refusal.BadCommand line.number) line.tokens c.0 s.0 c.1)
     (lines_found (count + 1) lines more.0 (omega (arith, left)) s.1 more.1))
 
-short_by : (text : List ℕ) (b : Bool) (r : Result (List Command) CommandRefusal) (cs : List Command) →
-    nat_lt 1048576 (length text) ≡ b → (if b then Err refusal.TooLong else r) ≡ Ok cs →
-    (length text ≤ 1048576) × (r ≡ Ok cs)
-short_by text true r cs e h = absurd cc
-short_by text false r cs e h = (ltb-false 1048576 (length text) e, h)
-
 pub read_is_spelled : (text : List ℕ) (cs : List Command) → commands_of text ≡ Ok cs → Spells text cs
 read_is_spelled text cs e =
-    let short = short_by text (nat_lt 1048576 (length text)) (commands_of_lines 0 (text_lines text)) cs refl e in
+    let short = not_refused (nat_lt 1048576 (length text)) (commands_of_lines 0 (text_lines text)) cs e in
     let h = lines_found 0 (text_lines text) cs (omega arith) (lines_sound text) short.1 in
     let few = h.0 in
-    (short.0, (omega (arith, few), h.1), h.2)
+    (ltb-false 1048576 (length text) short.0, (omega (arith, few), h.1), h.2)

@@ -19,7 +19,7 @@ ghost use Rattle.snap_explanation.specs.Views.{view_declared};
 
 use crate::pieces::PlacedToken;
 use crate::tests::{is_identifier, is_word};
-use snap_listing::is_reserved;
+use snap_listing::{is_reserved, same_word};
 use snap_text::{TextLines, Token, TokenLine};
 use std::alloc::{AllocError, Global};
 

@@ -1,7 +1,6 @@
 -- What is read is a history.
-use Rattle.std.proofs.Common.{◌≡◌, ℕ, ◌-◌, ◌<◌, Bool, true, false, List, [], ◌∷◌, length}
-use Rattle.std.proofs.Common.{Result, Ok, Err, nat_lt, if◌then◌else◌, ◌==◌, refl, ap, ◌∙◌, arith, subst}
-use Rattle.std.proofs.Common.{replicate, slice_index_or, slice_set}
+use Rattle.std.proofs.Common.{◌≡◌, ℕ, ◌-◌, ◌<◌, Bool, true, false, List, [], ◌∷◌, length, Ok, Err, nat_lt}
+use Rattle.std.proofs.Common.{if◌then◌else◌, ◌==◌, refl, ap, ◌∙◌, arith, subst, replicate, slice_index_or, slice_set}
 use Rattle.std.proofs.lemmas.Bool.{eqb-true, eqb-false}
 use Rattle.std.proofs.lemmas.List.{get_or-replicate, get_or-set_same, get_or-set_other, length-replicate, length-set}
 use Rattle.std.proofs.lemmas.List.Elements.{All-cons}
@@ -9,16 +8,14 @@ use Rattle.std.proofs.lemmas.List.Kept.{AllPairs-cons}
 use Rattle.std.specs.List.{All, AllPairs}
 use Rattle.snap_words.specs.Shape.{Counts, IsOneOf}
 use Rattle.snap_semantics.specs.declared.event.Event.{Event}
-use Rattle.snap_semantics.specs.Answers.{◌>>=◌}
 use Rattle.snap_semantics.specs.Rules.{form_or}
 use Rattle.snap_semantics.specs.ScheduleForms.{shape_form}
 use Rattle.snap_semantics.specs.Token.{TextLine, text_lines}
 use Rattle.snap_judge.specs.History.{Caller, Free, History, IsHistory, MayCome, MayFollow, caller_after, with_caller}
 use Rattle.snap_history_text.specs.HistoryText.{caller_at, callers_behind, line_event, events_of, history_of_lines}
 use Rattle.snap_history_text.specs.HistoryLaws.{ReadsHistories}
-use Rattle.snap_history_text.specs.declared.refusal.HistoryRefusal.{HistoryRefusal}
 use Rattle.snap_history_text.specs.declared.refusal.HistoryRefusal.TheVariants as refusal
-use Rattle.snap_history_text.proofs.Reading.{IsNextEvent, line_known}
+use Rattle.snap_history_text.proofs.Reading.{IsNextEvent, line_known, ok_parts}
 
 -- Each process is at the same in the list and in the function.
 pub record Same (n : ℕ) (callers : List Caller) (at : ℕ → Caller) : Type 0 where
@@ -28,27 +25,18 @@ pub record Same (n : ℕ) (callers : List Caller) (at : ℕ → Caller) : Type 0
 pub same_free : (n : ℕ) → Same n (replicate n Free) (λ i. Free)
 same_free n = record {
   each = length-replicate n Free;
-  same = λ j there.
-      let low = there.0 in
-      let high = there.1 in
-      get_or-replicate n (j - 1) Free Free (omega arith);
+  same = λ j there. get_or-replicate n (j - 1) Free Free (omega (arith, there.0, there.1));
 }
 
 same_place : (n i j : ℕ) (callers : List Caller) (at : ℕ → Caller) (c : Caller) (b : Bool) → (j == i) ≡ b →
     IsOneOf n i → IsOneOf n j → Same n callers at →
     caller_at (slice_set callers (i - 1) c) j ≡ (if b then c else at j)
 same_place n i j callers at c true e there here h =
-    let is : j ≡ i = eqb-true j i e in
-    let each = h.each in
-    let low = there.0 in
-    let high = there.1 in
-    ap (λ (k : ℕ). caller_at (slice_set callers (i - 1) c) k) is
-    ∙ get_or-set_same callers (i - 1) c Free (omega arith)
+    ap (λ (k : ℕ). caller_at (slice_set callers (i - 1) c) k) (eqb-true j i e)
+    ∙ get_or-set_same callers (i - 1) c Free (omega (arith, h.each, there.0, there.1))
 same_place n i j callers at c false e there here h =
-    let low = there.0 in
-    let first = here.0 in
     get_or-set_other callers (i - 1) (j - 1) c Free
-    (λ (is : j - 1 ≡ i - 1). let k : j ≡ i = omega arith in eqb-false j i e k) ∙ h.same j here
+    (λ (is : j - 1 ≡ i - 1). eqb-false j i e (omega (arith, there.0, here.0))) ∙ h.same j here
 
 pub same_behind : (n : ℕ) (callers : List Caller) (at : ℕ → Caller) (e : Event) → IsOneOf n e.process →
     Same n callers at → Same n (callers_behind callers e) (with_caller at e.process (caller_after e.what))
@@ -70,48 +58,17 @@ no_pairs i j d lt short = absurd (omega arith)
 one_follows : (shape : Counts) (last : ℕ) (callers : List Caller) (at : ℕ → Caller) (e : Event) (es : List Event) →
     IsNextEvent shape last callers e → Same shape.n callers at →
     Follow shape e.item (with_caller at e.process (caller_after e.what)) es → Follow shape last at (e ∷ es)
-one_follows shape last callers at e es known same h =
-    let rises = known.rises in
-    record {
-      above =
-          All-cons (λ (x : Event). last < x.item) e es rises
-          (λ k d short. let more : e.item < (slice_index_or es k d).item = h.above k d short in omega arith);
-      rising = AllPairs-cons (λ (a b : Event). a.item < b.item) e es h.above h.rising;
-      follow = (
-        known.process,
-        subst (λ (c : Caller). MayCome shape c e.what) (same.same e.process known.process) known.turn,
-        h.follow,
-      );
-    }
-
--- what is known of the events of the lines behind the first one
-abbrev RestFollows : Counts → List Caller → (ℕ → Caller) → List TextLine → Type 0
-RestFollows shape callers at lines =
-    (e : Event) (es : List Event) → IsOneOf shape.n e.process →
-    events_of shape e.item (callers_behind callers e) lines ≡ Ok es →
-    Follow shape e.item (with_caller at e.process (caller_after e.what)) es
-
-rest_follows : (shape : Counts) (last : ℕ) (callers : List Caller) (at : ℕ → Caller) (line : TextLine)
-    (lines : List TextLine) (es : List Event) (e : Event) (r : Result (List Event) HistoryRefusal) →
-    Same shape.n callers at → RestFollows shape callers at lines → line_event shape last callers line ≡ Ok e →
-    events_of shape e.item (callers_behind callers e) lines ≡ r →
-    (r >>= λ xs. let y : Result (List Event) HistoryRefusal = Ok (e ∷ xs) in y) ≡ Ok es → Follow shape last at es
-rest_follows shape last callers at line lines es e (Err x) same behind is left all = absurd cc
-rest_follows shape last callers at line lines es e (Ok xs) same behind is left all =
-    let known = line_known shape last callers line e is in
-    let added : e ∷ xs ≡ es = cc in
-    subst (λ (ys : List Event). Follow shape last at ys) added
-    (one_follows shape last callers at e xs known same (behind e xs known.process left))
-
-first_follows : (shape : Counts) (last : ℕ) (callers : List Caller) (at : ℕ → Caller) (line : TextLine)
-    (lines : List TextLine) (es : List Event) (r : Result Event HistoryRefusal) →
-    Same shape.n callers at → RestFollows shape callers at lines → line_event shape last callers line ≡ r →
-    (r >>= λ e. events_of shape e.item (callers_behind callers e) lines >>= λ xs.
-    let y : Result (List Event) HistoryRefusal = Ok (e ∷ xs) in y) ≡ Ok es → Follow shape last at es
-first_follows shape last callers at line lines es (Err x) same behind is all = absurd cc
-first_follows shape last callers at line lines es (Ok e) same behind is all =
-    rest_follows shape last callers at line lines es e (events_of shape e.item (callers_behind callers e) lines)
-    same behind is refl all
+one_follows shape last callers at e es known same h = record {
+  above =
+      All-cons (λ (x : Event). last < x.item) e es known.rises
+      (λ k d short. let more : e.item < (slice_index_or es k d).item = h.above k d short in omega (arith, known.rises));
+  rising = AllPairs-cons (λ (a b : Event). a.item < b.item) e es h.above h.rising;
+  follow = (
+    known.process,
+    subst (λ (c : Caller). MayCome shape c e.what) (same.same e.process known.process) known.turn,
+    h.follow,
+  );
+}
 
 pub events_follow : (shape : Counts) (last : ℕ) (callers : List Caller) (at : ℕ → Caller) (lines : List TextLine)
     (es : List Event) → Same shape.n callers at → events_of shape last callers lines ≡ Ok es →
@@ -121,10 +78,16 @@ events_follow shape last callers at [] es same h =
     subst (λ (xs : List Event). Follow shape last at xs) none
     (record { above = λ k d short. absurd (omega arith); rising = no_pairs; follow = tt })
 events_follow shape last callers at (line ∷ lines) es same h =
-    first_follows shape last callers at line lines es (line_event shape last callers line) same
-    (λ e xs there left. events_follow shape e.item (callers_behind callers e)
-    (with_caller at e.process (caller_after e.what)) lines xs (same_behind shape.n callers at e there same) left)
-    refl h
+    let first = ok_parts (line_event shape last callers line) _ es h in
+    let e = first.0 in
+    let others = ok_parts (events_of shape e.item (callers_behind callers e) lines) _ es first.2 in
+    let known = line_known shape last callers line e first.1 in
+    let all = others.2 in
+    let added : e ∷ others.0 ≡ es = cc in
+    subst (λ (ys : List Event). Follow shape last at ys) added
+    (one_follows shape last callers at e others.0 known same
+    (events_follow shape e.item (callers_behind callers e) (with_caller at e.process (caller_after e.what)) lines
+    others.0 (same_behind shape.n callers at e known.process same) others.1))
 
 -- the events of all lines are a history
 pub whole_history : (shape : Counts) (lines : List TextLine) (es : List Event) →
@@ -134,26 +97,15 @@ whole_history shape lines es h =
     let known = events_follow shape 0 (replicate shape.n Free) (λ i. Free) lines es (same_free shape.n) h in
     record { rising = known.rising; follow = known.follow }
 
-history_by : (shape : Counts) (lines : List TextLine) (r : Result (List Event) HistoryRefusal) (h : History) →
-    events_of shape 0 (replicate shape.n Free) lines ≡ r →
-    (r >>= λ es. let y : Result History HistoryRefusal = Ok (record { shape = shape; events = es }) in y) ≡ Ok h →
-    IsHistory h
-history_by shape lines (Err x) h is all = absurd cc
-history_by shape lines (Ok es) h is all =
-    let made : History = record { shape = shape; events = es } in
-    let same : made ≡ h = cc in
-    subst IsHistory same (whole_history shape lines es is)
-
-shape_by : (lines : List TextLine) (r : Result Counts HistoryRefusal) (h : History) →
-    (r >>= λ shape. events_of shape 0 (replicate shape.n Free) lines >>= λ es.
-    let y : Result History HistoryRefusal = Ok (record { shape = shape; events = es }) in y) ≡ Ok h → IsHistory h
-shape_by lines (Err x) h all = absurd cc
-shape_by lines (Ok shape) h all =
-    history_by shape lines (events_of shape 0 (replicate shape.n Free) lines) h refl all
-
 lines_by : (lines : List TextLine) (h : History) → history_of_lines lines ≡ Ok h → IsHistory h
 lines_by [] h all = absurd cc
-lines_by (line ∷ lines) h all = shape_by lines (form_or refusal.BadShape shape_form line.tokens) h all
+lines_by (line ∷ lines) h all =
+    let shape = ok_parts (form_or refusal.BadShape shape_form line.tokens) _ h all in
+    let events = ok_parts (events_of shape.0 0 (replicate shape.0.n Free) lines) _ h shape.2 in
+    let made : History = record { shape = shape.0; events = events.0 } in
+    let is = events.2 in
+    let same : made ≡ h = cc in
+    subst IsHistory same (whole_history shape.0 lines events.0 events.1)
 
 text_by : (b : Bool) (lines : List TextLine) (h : History) →
     (if b then Err refusal.TooLong else history_of_lines lines) ≡ Ok h → IsHistory h

@@ -51,16 +51,12 @@ what_stands : (w : Happening) → FitsHappening w → AllByRecursion IsSound (sp
 what_stands (what.Call op.Scan) h = ((omega arith, refl), tt)
 what_stands (what.Call (op.Update word value)) h = ((omega arith, refl), (h.0, (h.1, tt)))
 what_stands (what.Answer view) h = ((omega arith, refl), numbers_stand view h)
-what_stands what.Done h = ((omega arith, refl), tt)
-what_stands what.Crash h = ((omega arith, refl), tt)
+what_stands _ h = ((omega arith, refl), tt)
 
 pub event_stands : (n : ℕ) (e : Event) → n ≤ 64 → IsOneOf n e.process → FitsEvent e → IsSoundLine (spelled_event e)
 event_stands n e few there h =
-    let within = there.1 in
-    (refl, ((omega arith, refl), (h.1, (omega (arith, within, few), what_stands e.what h.2))))
+    (refl, ((omega arith, refl), (h.1, (omega (arith, there.1, few), what_stands e.what h.2))))
 
 pub shape_stands : (s : Counts) → IsShape s.n s.w → IsSoundLine (spelled_shape s)
 shape_stands s h =
-    let n = h.0.1 in
-    let w = h.1.1 in
-    (refl, ((omega arith, refl), (omega (arith, n), (omega (arith, w), tt))))
+    (refl, ((omega arith, refl), (omega (arith, h.0.1), (omega (arith, h.1.1), tt))))

@@ -1,8 +1,6 @@
 -- What the processes are at: as the code keeps it, and one process after another.
-use Rattle.std.proofs.Common.{◌≡◌, ℕ, ◌+◌, ◌-◌, List, [], ◌∷◌, ◌++◌, length, replicate}
-use Rattle.std.proofs.Common.{sym, ap, ◌∙◌, slice_set}
-use Rattle.std.proofs.lemmas.List.{length-map, length-set, map-append, map-set}
-use Rattle.std.proofs.lemmas.List.{replicate-append-replicate}
+use Rattle.std.proofs.Common.{◌≡◌, ℕ, ◌+◌, ◌-◌, List, [], ◌∷◌, ◌++◌, length, replicate, sym, ap, ◌∙◌, slice_set}
+use Rattle.std.proofs.lemmas.List.{length-map, length-set, map-append, map-set, replicate-append-replicate}
 use Rattle.snap_semantics.specs.declared.event.Event.{Event}
 use Rattle.snap_judge.specs.History.{Caller, caller_after}
 use Rattle.snap_history_text.specs.HistoryText.{callers_behind}

@@ -26,17 +26,11 @@ prefixed_more before e (Ok es) =
     ap (λ (xs : List Event). let r : Result (List Event) HistoryRefusal = Ok xs in r) (append_assoc before (e ∷ []) es)
 prefixed_more before e (Err x) = refl
 
--- what the next event tells of the first line
-first_by : (r : Result Event HistoryRefusal) (ls rest : List TextLine) (e : Event) →
-    (r >>= λ x. let y : Result (Option (Event × List TextLine)) HistoryRefusal = Ok (Some (x, ls)) in y)
-    ≡ Ok (Some (e, rest)) → (r ≡ Ok e) × (ls ≡ rest)
-first_by (Ok x) ls rest e h =
-    let same : (let p : Event × List TextLine = (x, ls) in p) ≡ (e, rest) = cc in
-    let event : x ≡ e = ap (λ (p : Event × List TextLine). p.0) same in (
-      ap (λ (y : Event). let r : Result Event HistoryRefusal = Ok y in r) event,
-      ap (λ (p : Event × List TextLine). p.1) same,
-    )
-first_by (Err x) ls rest e h = absurd cc
+-- what two steps came to, of which the second takes what the first one gave
+pub ok_parts : {A B E : Type 0} (r : Result A E) (f : A → Result B E) (y : B) → (r >>= f) ≡ Ok y →
+    (x : A) × (r ≡ Ok x) × (f x ≡ Ok y)
+ok_parts (Ok x) f y e = (x, refl, e)
+ok_parts (Err d) f y e = absurd cc
 
 -- The lines begin with one that is this event.
 pub record BeginsWith (shape : Counts) (last : ℕ) (callers : List Caller) (lines : List TextLine) (e : Event)
@@ -50,8 +44,14 @@ begins_by : (shape : Counts) (last : ℕ) (callers : List Caller) (lines : List 
     BeginsWith shape last callers lines e rest
 begins_by shape last callers [] e rest h = absurd cc
 begins_by shape last callers (line ∷ ls) e rest h =
-    let parts = first_by (line_event shape last callers line) ls rest e h in
-    record { line = line; stands = ap (λ (xs : List TextLine). line ∷ xs) parts.1; event = parts.0 }
+    let found = ok_parts (line_event shape last callers line) _ _ h in
+    let is = found.2 in
+    let same : (let p : Event × List TextLine = (found.0, ls) in p) ≡ (e, rest) = cc in
+    record {
+      line = line;
+      stands = ap (λ (p : Event × List TextLine). line ∷ p.1) same;
+      event = found.1 ∙ ap (λ (p : Event × List TextLine). let r : Result Event HistoryRefusal = Ok p.0 in r) same;
+    }
 
 pub begins : (shape : Counts) (last : ℕ) (callers : List Caller) (lines : List TextLine) (o : Option Event) (e : Event)
     (rest : List TextLine) → next_event shape last callers lines ≡ Ok (option_map (λ x. (x, rest)) o) → o ≡ Some e →
@@ -93,9 +93,7 @@ next_rises last t false h = absurd cc
 told_rises : (last u t : ℕ) (b : Bool) → nat_lt last u ≡ b →
     (let o : Option ℕ = if b then Some u else None in o) ≡ Some t → last < t
 told_rises last u t true e h =
-    let same : u ≡ t = cc in
-    let less = ltb-true last u e in
-    omega arith
+    let same : u ≡ t = cc in let less = ltb-true last u e in omega arith
 told_rises last u t false e h = absurd cc
 
 number_rises : (last : ℕ) (number : Option ℕ) (t : ℕ) → number_behind last number ≡ Some t → last < t
@@ -111,17 +109,15 @@ right_turn : (shape : Counts) (line : ℕ) (caller : Caller) (happening : Happen
     wrong_turn shape line caller happening ≡ None → MayCome shape caller happening
 right_turn shape line Free (what.Call op.Scan) word h = tt
 right_turn shape line Free (what.Call (op.Update k x)) word h = is_place_there shape.w k word
-right_turn shape line Free (what.Answer view) word h = absurd cc
-right_turn shape line Free what.Done word h = absurd cc
 right_turn shape line Free what.Crash word h = tt
-right_turn shape line (Busy o) (what.Call p) word h = absurd cc
+right_turn shape line Free _ word h = absurd cc
 right_turn shape line (Busy op.Scan) (what.Answer view) word h =
     eqb-true (length view) shape.w (right_view line (nat_eq (length view) shape.w) h)
-right_turn shape line (Busy (op.Update k x)) (what.Answer view) word h = absurd cc
-right_turn shape line (Busy op.Scan) what.Done word h = absurd cc
-right_turn shape line (Busy (op.Update k x)) what.Done word h = tt
 right_turn shape line (Busy op.Scan) what.Crash word h = tt
-right_turn shape line (Busy (op.Update k x)) what.Crash word h = tt
+right_turn shape line (Busy op.Scan) _ word h = absurd cc
+right_turn shape line (Busy (op.Update k x)) (what.Call p) word h = absurd cc
+right_turn shape line (Busy (op.Update k x)) (what.Answer view) word h = absurd cc
+right_turn shape line (Busy (op.Update k x)) _ word h = tt
 right_turn shape line Gone happening word h = absurd cc
 
 event_by : (shape : Counts) (last : ℕ) (callers : List Caller) (line : ℕ) (form : EventForm) (e : Event)
@@ -155,12 +151,8 @@ event_known shape last callers line form e h =
     (number_behind last form.number) (wrong_turn shape line (caller_at callers form.process) form.what)
     refl refl refl refl h
 
-line_by : (shape : Counts) (last : ℕ) (callers : List Caller) (line : ℕ) (r : Result EventForm HistoryRefusal)
-    (e : Event) → (r >>= event_of shape last callers line) ≡ Ok e → IsNextEvent shape last callers e
-line_by shape last callers line (Ok form) e h = event_known shape last callers line form e h
-line_by shape last callers line (Err x) e h = absurd cc
-
 pub line_known : (shape : Counts) (last : ℕ) (callers : List Caller) (line : TextLine) (e : Event) →
     line_event shape last callers line ≡ Ok e → IsNextEvent shape last callers e
 line_known shape last callers line e h =
-    line_by shape last callers line.number (form_or (refusal.BadEvent line.number) event_form line.tokens) e h
+    let found = ok_parts (form_or (refusal.BadEvent line.number) event_form line.tokens) _ e h in
+    event_known shape last callers line.number found.0 e found.2

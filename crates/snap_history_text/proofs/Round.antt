@@ -34,14 +34,11 @@ place_again count k h = and_from (nat_lt 0 k) (nat_le k count) (lt-ltb 0 k h.0) 
 
 word_again : (shape : Counts) (caller : Caller) (happening : Happening) → MayCome shape caller happening →
     has_word shape happening ≡ true
-word_again shape caller (what.Call op.Scan) h = refl
 word_again shape Free (what.Call (op.Update k x)) h = place_again shape.w k h
 word_again shape (Busy op.Scan) (what.Call (op.Update k x)) h = absurd h
 word_again shape (Busy (op.Update j y)) (what.Call (op.Update k x)) h = absurd h
 word_again shape Gone (what.Call (op.Update k x)) h = absurd h
-word_again shape caller (what.Answer view) h = refl
-word_again shape caller what.Done h = refl
-word_again shape caller what.Crash h = refl
+word_again shape caller happening h = refl
 
 view_again : (line : ℕ) (b : Bool) → b ≡ true →
     (let o : Option HistoryRefusal = if b then None else Some (refusal.BadView line) in o) ≡ None
@@ -51,22 +48,17 @@ view_again line false e = absurd cc
 turn_again : (shape : Counts) (line : ℕ) (caller : Caller) (happening : Happening) → MayCome shape caller happening →
     wrong_turn shape line caller happening ≡ None
 turn_again shape line Free (what.Call o) h = refl
-turn_again shape line Free (what.Answer view) h = absurd h
-turn_again shape line Free what.Done h = absurd h
 turn_again shape line Free what.Crash h = refl
-turn_again shape line (Busy op.Scan) (what.Call o) h = absurd h
-turn_again shape line (Busy (op.Update k x)) (what.Call o) h = absurd h
+turn_again shape line Free _ h = absurd h
 turn_again shape line (Busy op.Scan) (what.Answer view) h =
     view_again line (nat_eq (length view) shape.w) (eq-eqb (length view) shape.w h)
-turn_again shape line (Busy (op.Update k x)) (what.Answer view) h = absurd h
-turn_again shape line (Busy op.Scan) what.Done h = absurd h
-turn_again shape line (Busy (op.Update k x)) what.Done h = refl
 turn_again shape line (Busy op.Scan) what.Crash h = refl
-turn_again shape line (Busy (op.Update k x)) what.Crash h = refl
+turn_again shape line (Busy op.Scan) _ h = absurd h
+turn_again shape line (Busy (op.Update k x)) (what.Call o) h = absurd h
+turn_again shape line (Busy (op.Update k x)) (what.Answer view) h = absurd h
+turn_again shape line (Busy (op.Update k x)) _ h = refl
 turn_again shape line Gone (what.Call o) h = absurd h
-turn_again shape line Gone (what.Answer view) h = absurd h
-turn_again shape line Gone what.Done h = absurd h
-turn_again shape line Gone what.Crash h = absurd h
+turn_again shape line Gone _ h = absurd h
 
 form_by : (line : ℕ) (e : Event) (there less word : Bool) (wrong : Option HistoryRefusal) → there ≡ true →
     less ≡ true → word ≡ true → wrong ≡ None → (let r : Result Event HistoryRefusal =
@@ -74,11 +66,7 @@ form_by : (line : ℕ) (e : Event) (there less word : Bool) (wrong : Option Hist
     found_or (refusal.NotRising line) (if less then Some e.item else None) >>= λ t.
     if not word then Err (refusal.NoSuchWord line) else
     unless wrong (record { item = t; process = e.process; what = e.what }) in r) ≡ Ok e
-form_by line e true true true None p l w n = refl
-form_by line e false less word wrong p l w n = absurd cc
-form_by line e true false word wrong p l w n = absurd cc
-form_by line e true true false wrong p l w n = absurd cc
-form_by line e true true true (Some x) p l w n = absurd cc
+form_by line e there less word wrong p l w n = rw (p, l, w, n)
 
 form_again : (shape : Counts) (last : ℕ) (callers : List Caller) (line : ℕ) (e : Event) → IsOneOf shape.n e.process →
     last < e.item → MayCome shape (caller_at callers e.process) e.what →

@@ -6,7 +6,7 @@ use Rattle.snap_semantics.specs.declared.event.Happening.{Happening}
 use Rattle.snap_semantics.specs.declared.event.Happening.TheVariants as what
 use Rattle.snap_semantics.specs.declared.process.Op.{Op}
 use Rattle.snap_semantics.specs.declared.process.Op.TheVariants as op
-use Rattle.snap_semantics.specs.Rules.{or_else, number_at, keyword_at, end_at}
+use Rattle.snap_semantics.specs.Rules.{◌>>=◌, or_else, number_at, keyword_at, end_at}
 use Rattle.snap_semantics.specs.Token.{Token, Identifier, Number, Sign}
 use Rattle.snap_history_text.specs.declared.event_form.EventForm.{EventForm}
 

@@ -6,8 +6,8 @@ ghost use Rattle.snap_history_text.specs.HistoryForms.{spelled_event};
 ghost use Rattle.snap_history_text.specs.HistoryText.{history_text};
 
 use snap_judge::History;
-use snap_semantics::{Event, Happening, Op};
 use snap_sched::push_shape;
+use snap_semantics::{Event, Happening, Op};
 use snap_text::{Token, push_laid_out};
 use std::alloc::{AllocError, Global};
 

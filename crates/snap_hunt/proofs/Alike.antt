@@ -1,11 +1,10 @@
 -- What is found in a run is found in it too where nothing of another kind is asked for.
 use Rattle.std.proofs.Common.{◌≡◌, ◌⊎◌, inl, inr, ℕ, zero, suc, Bool, true, false, List, [], ◌∷◌, Option, Some, None}
-use Rattle.std.proofs.Common.{length, is_none, nat_lt, if◌then◌else◌, refl, sym, ap, subst, ◌∙◌}
+use Rattle.std.proofs.Common.{length, is_none, nat_lt, if◌then◌else◌, refl, sym, ap, arith, subst, ◌∙◌}
 use Rattle.std.specs.Prelude.{◌&&◌}
 use Rattle.snap_semantics.specs.Rules.{or_else}
 use Rattle.snap_semantics.specs.State.{State, process_at}
 use Rattle.snap_semantics.specs.declared.process.Status.{Status}
-use Rattle.snap_semantics.specs.declared.process.Status.TheVariants.{Idle, Busy, Trapped, Crashed}
 use Rattle.snap_runs.specs.Audit.{audit}
 use Rattle.snap_runs.specs.Run.{Run, state}
 use Rattle.snap_runs.specs.declared.verdict.Verdict.{Verdict}
@@ -57,10 +56,7 @@ collects most (v ∷ vs) f e =
     (collects most vs f) e
 
 trap : (i : ℕ) (s : Status) (f : Failure) → trap_of i s ≡ Some f → kind_of f ≡ kind.Trap
-trap i Idle f e = of_none f kind.Trap e
-trap i (Busy a) f e = of_none f kind.Trap e
-trap i (Trapped cause a) f e = of_one f (failure.Trapped i a.line cause) kind.Trap refl e
-trap i (Crashed a) f e = of_none f kind.Trap e
+trap i s f e = grind arith
 
 traps : (S : State) (i more : ℕ) (f : Failure) → first_trap S i more ≡ Some f → kind_of f ≡ kind.Trap
 traps S i zero f e = of_none f kind.Trap e
@@ -104,40 +100,24 @@ unfolding Alike
 of_kind w r f k e h = subst (λ j. Finds (with_only j w) r (Some f)) (sym e) h
 
 seen : (w : Wanted) (r : Run) (f : Failure) → first_seen w r ≡ Some f → Alike w r f
-seen w r f e = first (one_of (of_points w (audit r)) _ f e) where
-  by_points : of_points w (audit r) ≡ Some f → Finds (with_only kind.Point w) r (Some f)
-  by_points h = record { judged = None; is_judged = refl; is = ap (λ o. or_else o None) (sym h) }
-
-  by_traps : of_traps w (state r (length r.items)) r.shape.n ≡ Some f → Finds (with_only kind.Trap w) r (Some f)
-  by_traps h = record { judged = None; is_judged = refl; is = ap (λ o. or_else o None) (sym h) }
-
-  by_steps : of_steps w r ≡ Some f → Finds (with_only kind.Steps w) r (Some f)
-  by_steps h = record { judged = None; is_judged = refl; is = ap (λ o. or_else o None) (sym h) }
-
-  by_collects : of_collects w (audit r) ≡ Some f → Finds (with_only kind.Collects w) r (Some f)
-  by_collects h = record { judged = None; is_judged = refl; is = sym h }
-
-  fourth : of_collects w (audit r) ≡ Some f → Alike w r f
-  fourth h = of_kind w r f kind.Collects (many (audit r) w.collects f h) (by_collects h)
-
-  third : (of_steps w r ≡ Some f) ⊎ (of_collects w (audit r) ≡ Some f) → Alike w r f
-  third (inl h) = of_kind w r f kind.Steps (long r w.steps f h) (by_steps h)
-  third (inr h) = fourth h
-
-  second : (of_traps w (state r (length r.items)) r.shape.n ≡ Some f)
-      ⊎ (or_else (of_steps w r) (of_collects w (audit r)) ≡ Some f) → Alike w r f
-  second (inl h) =
-      of_kind w r f kind.Trap
-      (traps (state r (length r.items)) 1 r.shape.n f
-      (where_asked w.trap (first_trap (state r (length r.items)) 1 r.shape.n) f h)) (by_traps h)
-  second (inr h) = third (one_of (of_steps w r) (of_collects w (audit r)) f h)
-
-  first : (of_points w (audit r) ≡ Some f)
-      ⊎ (or_else (of_traps w (state r (length r.items)) r.shape.n)
-      (or_else (of_steps w r) (of_collects w (audit r))) ≡ Some f) → Alike w r f
-  first (inl h) =
-      of_kind w r f kind.Point (points (audit r) f (where_asked w.point (no_point (audit r)) f h)) (by_points h)
-  first (inr h) = second (one_of (of_traps w (state r (length r.items)) r.shape.n) _ f h)
+seen w r f e =
+    let vs = audit r in
+    let S = state r (length r.items) in
+    elim (one_of (of_points w vs) _ f e) [
+      | inl is ↦ of_kind w r f kind.Point (points vs f (where_asked w.point (no_point vs) f is))
+          (record { judged = None; is_judged = refl; is = ap (λ o. or_else o None) (sym is) })
+      | inr later ↦ elim (one_of (of_traps w S r.shape.n) _ f later) [
+        | inl is ↦ of_kind w r f kind.Trap
+            (traps S 1 r.shape.n f (where_asked w.trap (first_trap S 1 r.shape.n) f is))
+            (record { judged = None; is_judged = refl; is = ap (λ o. or_else o None) (sym is) })
+        | inr last ↦ elim (one_of (of_steps w r) (of_collects w vs) f last) [
+          | inl is ↦ of_kind w r f kind.Steps (long r w.steps f is)
+              (record { judged = None; is_judged = refl; is = ap (λ o. or_else o None) (sym is) })
+          | inr is ↦ of_kind w r f kind.Collects (many vs w.collects f is)
+              (record { judged = None; is_judged = refl; is = sym is })
+        ]
+      ]
+    ]
 
 judged_kind : (b : Bool) (r : Run) (g : Failure) → IsJudgedIf b r (Some g) → kind_of g ≡ kind.Linearizable
 judged_kind true r g h = ap kind_of h.2

@@ -1,7 +1,6 @@
 -- `HasCounted`: the steps of a run and its busy processes, after one item more.
 use Rattle.std.proofs.Common.{◌≡◌, ℕ, suc, ◌+◌, ◌-◌, ◌<◌, ◌≤◌, ◌&&◌, Bool, true, false, List, ◌∷◌, inl, inr, length}
-use Rattle.std.proofs.Common.{drop, get_or}
-use Rattle.std.proofs.Common.{Option, None, Some, [], refl, sym, ap, subst, ◌∙◌, arith}
+use Rattle.std.proofs.Common.{drop, get_or, Option, None, Some, [], refl, sym, ap, subst, ◌∙◌, arith}
 use Rattle.std.specs.Iterator.{YieldsFirst}
 use Rattle.std.specs.Prelude.{slice_set}
 use Rattle.std.proofs.Math.Seq.{drop-cons}
@@ -109,8 +108,7 @@ module _ (r : Run) (most t : ℕ) (quiet : List Bool) (c : StepCounter) (h : Has
       let y = item r (suc t) in
       let o = outcome r (suc t) in
       let i = who y in
-      let runs' : (is_step y && is_busy (process_at (state r t) i).status) ≡ true =
-      subst (λ z. (is_step z && is_busy (process_at (state r t) (who z)).status) ≡ true) is runs in
+      let runs' = rw is at runs in
       let taken : is_taken y Stepped ≡ is_taken y o =
       stepped_taken y ∙ (both (is_step y) _ runs').0 ∙ sym runs' ∙ sym facts.1 in
       let same : (own : OwnSteps) → noted own (suc t) y Stepped ≡ noted own (suc t) y o =
@@ -118,16 +116,10 @@ module _ (r : Run) (most t : ℕ) (quiet : List Bool) (c : StepCounter) (h : Has
       ∙ ap (λ b. noted_if (is_called o) b own (suc t) y) taken in
       let set' : (d : OwnSteps) → owns' ≡ slice_set c.owns.items (i - 1)
       (noted (get_or c.owns.items (i - 1) d) (suc t) y Stepped) =
-      λ d. subst (λ z. owns' ≡ slice_set c.owns.items (who z - 1)
-      (noted (get_or c.owns.items (who z - 1) d) (suc t) z Stepped)) is
-      (subst (λ n. owns' ≡ slice_set c.owns.items (who x - 1)
-      (noted (get_or c.owns.items (who x - 1) d) n x Stepped)) number (set d)) in
+      λ d. rw (number, is) at (set d) in
       let over' : (d : OwnSteps) →
       later ≡ overrun_by most (suc t) y Stepped (noted (get_or c.owns.items (i - 1) d) (suc t) y Stepped) =
-      λ d. subst (λ z. later ≡ overrun_by most (suc t) z Stepped
-      (noted (get_or c.owns.items (who z - 1) d) (suc t) z Stepped)) is
-      (subst (λ n. later ≡ overrun_by most n x Stepped (noted (get_or c.owns.items (who x - 1) d) n x Stepped)) number
-      (over d)) in
+      λ d. rw (number, is) at (over d) in
       watches_next r most t c.owns.items owns' c.overrun later u.process
       (λ d. set' d ∙ ap (slice_set c.owns.items (i - 1)) (same (get_or c.owns.items (i - 1) d)))
       (λ d. over' d
@@ -176,14 +168,10 @@ pub up_to_told : (w w' : Way) (p : Passed) (quiet : List Bool) (most : ℕ) (c n
     HasCounted tells.between.run most tells.between.at next
 up_to_told w w' p quiet most c next h tells counted =
     let v = tells.between in
-    let number = tells.passes.number in
-    let order = tells.over.order in
-    let done = h.done in
-    let before : p.number - 1 ≡ v.at = omega (arith, number) in
+    let before : p.number - 1 ≡ v.at = omega arith in
     let so : HasCounted w.run most (p.number - 1) next =
-    counted w.run quiet (subst (λ k. HasCounted w.run most k c) (sym done) h)
-    (λ t low high. tells.over.untold t (omega (arith, done, low)) (omega (arith, before, high)))
-    (omega (arith, done, before, order)) in
+    counted w.run quiet (subst (λ k. HasCounted w.run most k c) (sym h.done) h)
+    (λ t low high. tells.over.untold t (omega arith) (omega arith)) (omega arith) in
     subst (λ (r : Run). HasCounted r most v.at next) (sym tells.over.run)
     (subst (λ k. HasCounted w.run most k next) before so)
 
@@ -195,18 +183,14 @@ pub busy_told : (v w' : Way) (p : Passed) (most : ℕ) (c : StepCounter) (b : Bo
     ≡ is_busy (process_at (state v.run (suc v.at)) j).status
 busy_told v w' p most c b h is stands j one d =
     let i = who p.item in
-    let first = is.process.0 in
-    let last = is.process.1 in
-    let low = one.0 in
-    let count = h.count in
     elim (cases_eq i j) [
       | inl same ↦
-          get_or-set_at c.busy.items (i - 1) (j - 1) b d (ap (λ m. m - 1) (sym same)) (omega (arith, first, last, count))
+          get_or-set_at c.busy.items (i - 1) (j - 1) b d (ap (λ m. m - 1) (sym same)) (omega arith)
           ∙ stands
           ∙ ap (λ (u : Way). is_busy (process_at (state u.run u.at) i).status) is.way
           ∙ ap (λ m. is_busy (process_at (state v.run (suc v.at)) m).status) same
       | inr other ↦
-          get_or-set_other c.busy.items (i - 1) (j - 1) b d (λ same. other (omega (arith, same, first, low)))
+          get_or-set_other c.busy.items (i - 1) (j - 1) b d (λ same. other (omega arith))
           ∙ h.busy j one d
           ∙ sym (busy_beside v.run v.at j h.valid is.left one (λ same. other (ap who is.item ∙ same)))
     ]
@@ -241,15 +225,10 @@ module _ (w w' : Way) (quiet : List Bool) (most until : ℕ) (c : StepCounter) (
       subst (λ m. HasCounted w.run m c.done c) (sym h.most_is) (subst (λ t. HasCounted w.run most t c) (sym h.done) h)
 
   all_untold : AreUntold quiet w.run c.done until
-  all_untold = λ t low high.
-      let done = h.done in
-      none.over.untold t (omega (arith, done, low)) (omega (arith, high, end))
+  all_untold = λ t low high. none.over.untold t (omega arith) (omega arith)
 
   end_later : c.done ≤ until
-  end_later =
-      let done = h.done in
-      let order = none.over.order in
-      omega (arith, done, end, order)
+  end_later = omega arith
 
   -- what a counter asks for that is to pass over the others
   pub to_be_passed :

@@ -1,9 +1,9 @@
 -- Leaving items out of a failing schedule (`without`) leaves a shorter schedule; and steps of `Shrinks` and
 -- `IsShrunk` follow one another.
 use Rattle.std.proofs.Common.{◌≡◌, ℕ, zero, suc, ◌+◌, ◌-◌, ◌<◌, ◌≤◌, List, [], ◌∷◌, ◌++◌, Bool, true, false, Option, Some}
-use Rattle.std.proofs.Common.{None, is_some, drop, get_or, length, take, refl, sym, ap, subst, ◌∙◌, arith}
+use Rattle.std.proofs.Common.{None, is_some, drop, get_or, length, take, sym, ap, subst, ◌∙◌, arith}
 use Rattle.std.specs.Prelude.{IsTrue}
-use Rattle.std.proofs.lemmas.List.{length-append, length-drop}
+use Rattle.std.proofs.lemmas.List.{drop_all, length-append, length-drop, length-take-le}
 use Rattle.std.specs.List.{AllByRecursion}
 use Rattle.snap_words.specs.Shape.{Counts, IsOneOf}
 use Rattle.snap_semantics.specs.declared.process.Item.{Item}
@@ -69,29 +69,16 @@ all_without : (P : Item → Type 0) (at count : ℕ) (xs : List Item) → AllByR
 all_without P at count xs h =
     all_both P (take at xs) (drop (at + count) xs) (all_taken P at xs h) (all_left P (at + count) xs h)
 
-taken_few : (n : ℕ) (xs : List Item) → length (take n xs) + length (drop n xs) ≡ length xs
-taken_few zero xs = omega arith
-taken_few (suc n) [] = refl
-taken_few (suc n) (x ∷ xs) =
-    let rest = taken_few n xs in
-    omega (arith, rest)
-
 -- nothing is behind the end
 pub past_end : (n : ℕ) (xs : List Item) → length xs ≤ n → drop n xs ≡ []
-past_end zero [] le = refl
-past_end (suc n) [] le = refl
-past_end zero (x ∷ xs) le = absurd (omega arith)
-past_end (suc n) (x ∷ xs) le =
-    let rest : length xs ≤ n = omega arith in
-    past_end n xs rest
+past_end n xs le = drop_all n xs le
 
 -- how many are left
 pub length_without : (at count : ℕ) (xs : List Item) → at ≤ length xs →
     length (without at count xs) ≡ at + (length xs - (at + count))
 length_without at count xs le =
-    let front = taken_few at xs in
-    omega
-    (arith, length-append (take at xs) (drop (at + count) xs), length-drop (at + count) xs, length-drop at xs, front)
+    let front = length-take-le at xs le in
+    omega (arith, length-append (take at xs) (drop (at + count) xs), length-drop (at + count) xs, front)
 
 -- what is left of a schedule is one
 pub still_schedule : (shape : Counts) (at count : ℕ) (xs : List Item) → at ≤ length xs →

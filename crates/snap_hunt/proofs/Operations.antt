@@ -85,13 +85,7 @@ step_of i (Call k o) h = absurd cc
 step_of i (Crash k) h = absurd cc
 
 called_is : (o : Outcome) → is_called o ≡ true → o ≡ outcomes.Called
-called_is outcomes.Called h = refl
-called_is outcomes.Stepped h = absurd cc
-called_is (outcomes.Answered view) h = absurd cc
-called_is outcomes.Finished h = absurd cc
-called_is (outcomes.Trapped cause) h = absurd cc
-called_is outcomes.Crashed h = absurd cc
-called_is (outcomes.Skipped why) h = absurd cc
+called_is o h = grind arith
 
 -- an item by which an operation is called is a call
 CallItem : Item → Type 0

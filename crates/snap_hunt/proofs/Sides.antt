@@ -1,12 +1,12 @@
 -- What is found in the runs of a block stands at their places, whichever thread found it and when; and the first of
 -- them in which something is found.
-use Rattle.std.proofs.Common.{◌≡◌, ◌⊎◌, inl, inr, ℕ, zero, suc, ◌+◌, ◌-◌, ◌<◌, ◌≤◌, Bool, true, false, List, [], ◌∷◌}
-use Rattle.std.proofs.Common.{Option, Some, None, option_map, is_some, length, map, nat_lt, Vec, Result, Ok, Err, Bor, refl, sym, ap, subst, arith}
+use Rattle.std.proofs.Common.{◌≡◌, inl, inr, ℕ, zero, suc, ◌+◌, ◌-◌, ◌<◌, ◌≤◌, true, false, List, [], ◌∷◌}
+use Rattle.std.proofs.Common.{Option, Some, None, option_map, is_some, length, map, Vec, Result, Ok, Err, Bor, refl, sym, ap, subst, arith}
 use Rattle.std.specs.Prelude.{IfOk, MatchResult, slice_index_or}
 use Rattle.std.specs.List.{AllZip, Contains, range_with_len}
 use Rattle.std.specs.Global.{Global}
 use Rattle.rayon.proofs.ToStd.{slice-AllZip}
-use Rattle.snap_runs.proofs.Computing.{lt_from, not_lt}
+use Rattle.std.proofs.lemmas.Bool.{cases_lt}
 use Rattle.snap_semantics.specs.Source.{Source}
 use Rattle.snap_chance.specs.Plan.{Plan}
 use Rattle.snap_hunt.specs.Finding.{Finds}
@@ -14,12 +14,6 @@ use Rattle.snap_hunt.specs.declared.failures.Failure.{Failure}
 use Rattle.snap_hunt.specs.declared.failures.Wanted.{Wanted}
 use Rattle.snap_hunt.specs.Hunt.{IsFirst, IsFirstIn, NothingBefore, run_of}
 use Rattle.snap_hunt.specs.declared.found.Found.{Found}
-
-below_or_not : (j from : ℕ) → (j < from) ⊎ (from ≤ j)
-below_or_not j from = if_so (nat_lt j from) refl where
-  if_so : (b : Bool) → nat_lt j from ≡ b → (j < from) ⊎ (from ≤ j)
-  if_so true e = inl (lt_from j from e)
-  if_so false e = inr (not_lt j from e)
 
 -- where each answer is a value that is right for what stands at its place, so is each of the values
 in_order : {S R : Type 0} (E : Type 0) (Q : S → R → Type 0) (xs : List S) (ys : List R) →
@@ -80,9 +74,7 @@ nothing_at : (l : Source) (p : Plan) (w : Wanted) (seed from count : ℕ) (found
     → slice_index_or found (j - from) None ≡ None → Finds w (run_of l p seed j) None
 nothing_at l p w seed from count found j h le lt none =
     let e : from + (j - from) ≡ j = omega arith in
-    subst (λ (k : ℕ). Finds w (run_of l p seed k) None) e
-    (subst (λ (o : Option Failure). Finds w (run_of l p seed (from + (j - from))) o) none
-    (at_place (λ k o. Finds w (run_of l p seed k) o) from count found (j - from) h lt))
+    rw (e, none) at (at_place (λ k o. Finds w (run_of l p seed k) o) from count found (j - from) h lt)
 
 -- the first of them that is a failure is the first run of the block that fails
 pub first_of_block : (l : Source) (p : Plan) (w : Wanted) (seed from count : ℕ) (runs : List ℕ)
@@ -106,19 +98,17 @@ first_of_block l p w seed from count runs found (Some x) is all first =
           let sooner : j - from < k = omega (arith, at, le, lt) in
           let below : j - from < length found = omega (arith, sooner, there) in
           nothing_at l p w seed from count found j h le below (first.4 (j - from) sooner),
-      subst (λ (m : ℕ). Finds w (run_of l p seed m) (Some x.failure)) (sym at)
-          (subst (λ (o : Option Failure). Finds w (run_of l p seed (from + k)) o) first.3
-          (at_place (λ m o. Finds w (run_of l p seed m) o) from count found k h there)),
+      rw (at, ← first.3) (at_place (λ m o. Finds w (run_of l p seed m) o) from count found k h there),
     )
 
 -- nothing before a block and nothing in it is nothing before its end
 pub none_more : (l : Source) (p : Plan) (w : Wanted) (seed from to : ℕ) (r : Option Found) →
     NothingBefore l p w seed 0 from → IsFirst l p w seed from to r → is_some r ≡ false → NothingBefore l p w seed 0 to
 none_more l p w seed from to (Some x) none first is = absurd cc
-none_more l p w seed from to None none first is = λ j le lt. decide j lt (below_or_not j from) where
-  decide : (j : ℕ) → j < to → (j < from) ⊎ (from ≤ j) → Finds w (run_of l p seed j) None
-  decide j lt (inl below) = none j (omega arith) below
-  decide j lt (inr after) = first j after lt
+none_more l p w seed from to None none first is = λ j le lt. elim (cases_lt j from) [
+  | inl below ↦ none j (omega arith) below
+  | inr after ↦ first j after lt
+]
 
 -- the first failure of a block, with nothing before it, is the first of all
 pub found_first : (l : Source) (p : Plan) (w : Wanted) (seed from to end : ℕ) (r : Option Found) → to ≤ end →
@@ -129,12 +119,12 @@ found_first l p w seed from to end (Some x) inside none first some =
     let lt : x.run < to = first.1 in (
       omega arith,
       omega (arith, lt, inside),
-      λ j zero_le below. decide j below (below_or_not j from),
+      λ j zero_le below. elim (cases_lt j from) [
+        | inl before ↦ none j (omega arith) before
+        | inr after ↦ first.2 j after below
+      ],
       first.3,
-    ) where
-      decide : (j : ℕ) → j < x.run → (j < from) ⊎ (from ≤ j) → Finds w (run_of l p seed j) None
-      decide j below (inl before) = none j (omega arith) before
-      decide j below (inr after) = first.2 j after below
+    )
 
 -- one run alone, in which something is found or nothing
 pub alone : (l : Source) (p : Plan) (w : Wanted) (seed k : ℕ) (found : Option Failure) →

@@ -1,13 +1,11 @@
 -- `OwnSteps`: the steps that each process has taken since its last call, for failures of too many, after one item
 -- more.
-use Rattle.std.proofs.Common.{◌≡◌, ℕ, zero, suc, ◌+◌, ◌-◌, ◌^◌, ◌<◌, ◌≤◌, Bool, true, false, ◌&&◌, List}
-use Rattle.std.proofs.Common.{length, get_or, Option, Some, None, if◌then◌else◌, nat_eq}
-use Rattle.std.proofs.Common.{nat_lt, refl, sym, ap, subst, ◌∙◌, arith}
+use Rattle.std.proofs.Common.{◌≡◌, ℕ, zero, suc, ◌+◌, ◌-◌, ◌^◌, ◌<◌, ◌≤◌, Bool, true, false, ◌&&◌, List, length, get_or}
+use Rattle.std.proofs.Common.{Option, Some, None, if◌then◌else◌, nat_eq, nat_lt, refl, sym, ap, subst, ◌∙◌, arith}
 use Rattle.std.specs.Prelude.{slice_set}
 use Rattle.std.proofs.lemmas.Bool.{eqb-true, eqb-false}
 use Rattle.std.proofs.lemmas.Grind.{get_or-set_at}
-use Rattle.std.proofs.lemmas.List.{get_or-set_other}
-use Rattle.std.proofs.lemmas.List.{length-set}
+use Rattle.std.proofs.lemmas.List.{get_or-set_other, length-set}
 use Rattle.snap_words.specs.Shape.{IsOneOf}
 use Rattle.snap_semantics.specs.Rules.{or_else}
 use Rattle.snap_semantics.specs.Table.{who}
@@ -161,18 +159,13 @@ watches_next r most t owns owns' found later one set over h =
     at_place i his d true e =
         let k = who (item r (suc t)) in
         let same : k ≡ i = eqb-true k i e in
-        let low = one.0 in
-        let high = one.1 in
-        let count = h.count in
-        get_or-set_at owns (k - 1) (i - 1) _ d (ap (λ m. m - 1) (sym same)) (omega (arith, low, high, count))
+        get_or-set_at owns (k - 1) (i - 1) _ d (ap (λ m. m - 1) (sym same)) (omega arith)
         ∙ ap (λ m. noted (steps_since_call r m t) (suc t) (item r (suc t)) (outcome r (suc t))) same
         ∙ sym (own r i t e)
     at_place i his d false e =
         let k = who (item r (suc t)) in
         let differ : (k ≡ i) → ⊥ = eqb-false k i e in
-        let low = one.0 in
-        let first = his.0 in
-        get_or-set_other owns (k - 1) (i - 1) _ d (λ same. differ (omega (arith, same, low, first)))
+        get_or-set_other owns (k - 1) (i - 1) _ d (λ same. differ (omega arith))
         ∙ h.each i his d
         ∙ sym (beside r i t e)
 
@@ -202,23 +195,9 @@ pub steps_passed : (w w' : Way) (p : Passed) (most : ℕ) (owns owns' : List Own
 steps_passed w w' p most owns owns' found later found' is set over first h =
     let r = w.run in
     let t = w.at in
-    let sets : (k : ℕ) (y : Item) (c : Outcome) → Type 0 =
-    λ k y c. (d : OwnSteps) → owns' ≡ slice_set owns (who y - 1) (noted (get_or owns (who y - 1) d) k y c) in
-    let overs : (k : ℕ) (y : Item) (c : Outcome) → Type 0 =
-    λ k y c. (d : OwnSteps) → later ≡ overrun_by most k y c (noted (get_or owns (who y - 1) d) k y c) in
-    let set' : sets (suc t) (item r (suc t)) (outcome r (suc t)) =
-    subst (λ k. sets k (item r (suc t)) (outcome r (suc t))) is.number
-    (subst (λ y. sets p.number y (outcome r (suc t))) is.item
-    (subst (λ c. sets p.number p.item c) is.outcome set)) in
-    let over' : overs (suc t) (item r (suc t)) (outcome r (suc t)) =
-    subst (λ k. overs k (item r (suc t)) (outcome r (suc t))) is.number
-    (subst (λ y. overs p.number y (outcome r (suc t))) is.item
-    (subst (λ c. overs p.number p.item c) is.outcome over)) in
-    let there : IsOneOf r.shape.n (who (item r (suc t))) =
-    subst (λ y. IsOneOf r.shape.n (who y)) is.item is.process in
-    subst (λ (v : Way). CountsSteps v.run most v.at owns' found') (sym is.way)
-    (subst (λ f. CountsSteps r most (suc t) owns' f) (sym first)
-    (watches_next r most t owns owns' found later there set' over' h))
+    rw (is.way, first)
+    (watches_next r most t owns owns' found later (rw is.item at is.process)
+    (λ d. rw (is.outcome, is.item, is.number) at (set d)) (λ d. rw (is.outcome, is.item, is.number) at (over d)) h)
 
 -- Where nothing is found later, what was found stays.
 pub none_later : (found : Option Failure) → found ≡ or_else found None

@@ -1,9 +1,10 @@
 -- What an image says is read from it again: indices, terms, expressions and conditions.
-use Rattle.std.proofs.Common.{◌≡◌, ℕ, Bool, true, false, ◌&&◌, List, [], ◌∷◌, ◌++◌, Option, Some, None, nat_eq}
-use Rattle.std.proofs.Common.{nat_le, if◌then◌else◌, refl, sym, ap, ◌∙◌, subst}
+use Rattle.std.proofs.Common.{◌≡◌, ℕ, Bool, true, false, ◌&&◌, List, [], ◌∷◌, ◌++◌, Option, Some, None, nat_eq, nat_le}
+use Rattle.std.proofs.Common.{if◌then◌else◌, refl, sym, ap, subst}
 use Rattle.std.specs.Int.{w64, to_be_bytes}
 use Rattle.snap_words.specs.declared.kind.Field.{Field}
 use Rattle.snap_words.specs.declared.kind.Field.TheVariants as field
+use Rattle.snap_image.specs.declared.image.ExprTag.{ExprTag}
 use Rattle.snap_image.specs.declared.image.ExprTag.TheVariants as etag
 use Rattle.snap_image.specs.declared.image.TermTag.{TermTag}
 use Rattle.snap_image.specs.declared.image.TermTag.TheVariants as tag
@@ -23,23 +24,31 @@ use Rattle.snap_semantics.specs.declared.instr.Term.TheVariants as term
 use Rattle.snap_image.specs.Image.{slot, index_image, field_tag, term_image, expr_image, comparison_image}
 use Rattle.snap_image.specs.Image.{condition_image, where_image}
 use Rattle.snap_image.specs.ImageCodes.{of_code, terms, exprs, relations, joins}
-use Rattle.snap_image.specs.ImageCodes.{term_code, relation_code, join_code}
-use Rattle.snap_image.specs.ImageForms.{Rest, byte_in, code_in, allowed, number_index}
-use Rattle.snap_image.specs.ImageForms.{scalar_index, index_of_tag, index_in, row_term, field_term}
-use Rattle.snap_image.specs.ImageForms.{handshake_term, index_term, term_of_tag, term_in, plain_expr, sum_expr}
-use Rattle.snap_image.specs.ImageForms.{not_expr, expr_in, comparison_in, two_in, three_in, four_in, one_in}
-use Rattle.snap_image.specs.ImageForms.{comparisons_in, count_in, condition_in}
-use Rattle.snap_image.specs.ImageForms.{flag_in, where_of_flag, where_in}
+use Rattle.snap_image.specs.ImageCodes.{expr_code, term_code, relation_code, join_code}
+use Rattle.snap_image.specs.ImageForms.{Rest, expr_of_tag, byte_in, number_index, scalar_index, index_of_tag, index_in}
+use Rattle.snap_image.specs.ImageForms.{row_term, field_term, handshake_term, index_term, term_of_tag, term_in}
+use Rattle.snap_image.specs.ImageForms.{plain_expr, sum_expr, not_expr, expr_in, comparison_in, two_in, three_in}
+use Rattle.snap_image.specs.ImageForms.{four_in, one_in, comparisons_in, count_in, condition_in, flag_in, where_of_flag}
+use Rattle.snap_image.specs.ImageForms.{where_in}
 use Rattle.snap_semantics.specs.IsListing.{HasIndex, HasTerm, HasExpr, HasComparison, HasCondition, HasWhere}
 use Rattle.snap_semantics.specs.Listing.{with_lines}
 use Rattle.snap_semantics.specs.RightUses.{IsRight}
-use Rattle.snap_semantics.specs.Source.{Source}
+use Rattle.snap_semantics.specs.Source.{Name, Source}
 use Rattle.snap_semantics.specs.Uses.{Use, FieldUse, HandshakeUse, index_uses, term_uses, expr_uses, comparison_uses}
 use Rattle.snap_semantics.specs.Uses.{condition_uses, where_uses}
-use Rattle.snap_image.proofs.AgainParts.{Gives, then_gives, then_done, gives_if, Again, of_one_again, of_two_again}
-use Rattle.snap_image.proofs.AgainParts.{of_three_again, of_four_again, byte_again, a_long, known_again}
-use Rattle.snap_image.proofs.AgainParts.{code_again, a_code, a_scalar, a_row, some_words, Right, allowed_again}
+use Rattle.snap_image.proofs.AgainParts.{Gives, then_gives, gives_if, Again, one_again, two_again, three_again}
+use Rattle.snap_image.proofs.AgainParts.{four_again, byte_again, a_long, known_again, a_code, coded_again, a_scalar}
+use Rattle.snap_image.proofs.AgainParts.{a_row, some_words, Right, allowed_then, nothing_again, then_again}
+use Rattle.snap_image.proofs.SaidForms.{flag_byte}
 use Rattle.snap_listing.proofs.Alls.{all_first, all_rest}
+
+count_again : (n : ℕ) → (nat_le 1 n && nat_le n 4) ≡ true → (after : List ℕ) (r : Rest) →
+    r.bytes ≡ n ∷ after → Gives (count_in r) n after
+unfolding count_in
+count_again n few after r e =
+    then_gives n after (byte_in r) _ n after (byte_again n after r e)
+    (λ t p. known_again r.passed t (if nat_le 1 n && nat_le n 4 then Some n else None) n after
+    (ap (λ (b : Bool). if b then Some n else None) few) p)
 
 -- what stands before the lines of a listing; with it they are read
 abbrev pub head : Source → Source
@@ -58,8 +67,7 @@ term_coded _ = refl
 
 relation_coded : (k : Relation) → of_code relations (relation_code k) ≡ Some k
 relation_coded relation.Equal = refl
-relation_coded relation.Different = refl
-relation_coded relation.Less = refl
+relation_coded _ = refl
 
 join_coded : (j : Join) → of_code joins (join_code j) ≡ Some j
 join_coded join.And = refl
@@ -77,208 +85,142 @@ index_tag (index.Scalar x) = tag.Scalar
 
 abbrev index_said : Source → Index → List ℕ
 index_said g (index.Number k) = to_be_bytes w64 k
-index_said g index.Processes = []
-index_said g index.Words = []
-index_said g index.Me = []
-index_said g index.Word = []
-index_said g index.Place = []
 index_said g (index.Scalar x) = slot g.scalars x ∷ []
+index_said g _ = []
 
 index_parts : (g : Source) (i : Index) → index_image g i ≡ term_code (index_tag i) ∷ index_said g i
 index_parts g (index.Number k) = refl
-index_parts g index.Processes = refl
-index_parts g index.Words = refl
-index_parts g index.Me = refl
-index_parts g index.Word = refl
-index_parts g index.Place = refl
-index_parts g (index.Scalar x) = refl
+index_parts g _ = refl
 
--- an index behind its tag
-tagged_again : (g : Source) (line : ℕ) (q : Bool) (at : ℕ) (i : Index) (after : List ℕ) (r : Rest) →
-    HasIndex q i → Right g (index_uses i) →
-    r.bytes ≡ index_said g i ++ after → Gives (index_of_tag (head g) line q at (index_tag i) r) i after
-unfolding number_index scalar_index
-tagged_again g line q at (index.Number k) after r h uses e =
-    of_one_again index.Number (a_long k h) after r e
-tagged_again g line q at index.Processes after r h uses e = (r, refl, e)
-tagged_again g line q at index.Words after r h uses e = (r, refl, e)
-tagged_again g line q at index.Me after r h uses e = (r, refl, e)
-tagged_again g line q at index.Word after r h uses e = (r, refl, e)
-tagged_again g line q at index.Place after r h uses e = gives_if q _ _ index.Place after h (r, refl, e)
-tagged_again g line q at (index.Scalar x) after r h uses e =
-    of_one_again index.Scalar (a_scalar g line x uses.0) after r e
+module _ (g : Source) (line : ℕ) (q : Bool) where
+  -- an index behind its tag
+  tagged : (at : ℕ) (i : Index) → HasIndex q i → Right g (index_uses i) →
+      Again i (index_said g i) (index_of_tag (head g) line q at (index_tag i))
+  unfolding number_index scalar_index
+  tagged at (index.Number k) h uses = one_again index.Number (a_long k h)
+  tagged at (index.Scalar x) h uses = one_again index.Scalar (a_scalar g line x uses.0)
+  tagged at index.Place h uses = record { again = λ after r e. gives_if q _ _ index.Place after h (r, refl, e) }
+  tagged at i h uses = nothing_again i
 
-a_tagged : (g : Source) (line : ℕ) (q : Bool) (at : ℕ) (i : Index) → HasIndex q i → Right g (index_uses i) →
-    Again i (index_said g i) (index_of_tag (head g) line q at (index_tag i))
-a_tagged g line q at i h uses = record { again = λ after r e. tagged_again g line q at i after r h uses e }
+  pub an_index : (i : Index) → HasIndex q i → Right g (index_uses i) →
+      Again i (index_image g i) (index_in (head g) line q)
+  unfolding index_in
+  an_index i h uses =
+      subst (λ (z : List ℕ). Again i z (index_in (head g) line q)) (sym (index_parts g i))
+      (coded_again terms (index_tag i) i (index_said g i) (λ at t r. index_of_tag (head g) line q at t r)
+      (term_coded (index_tag i)) (λ at. tagged at i h uses))
 
--- the tag, and what stands behind it
-index_bytes : (g : Source) (i : Index) (after : List ℕ) (r : Rest) → r.bytes ≡ index_image g i ++ after →
-    r.bytes ≡ term_code (index_tag i) ∷ (index_said g i ++ after)
-index_bytes g i after r e = e ∙ ap (λ (z : List ℕ). z ++ after) (index_parts g i)
+  -- a term behind its tag
+  in_term : (t : TermTag) (x : Term) (image : List ℕ) →
+      ((at : ℕ) → Again x image (term_of_tag (head g) line q at t)) →
+      Again x (term_code t ∷ image) (term_in (head g) line q)
+  unfolding term_in
+  in_term t x image h = coded_again terms t x image (λ at u r. term_of_tag (head g) line q at u r) (term_coded t) h
 
-pub an_index : (g : Source) (line : ℕ) (q : Bool) (i : Index) → HasIndex q i → Right g (index_uses i) →
-    Again i (index_image g i) (index_in (head g) line q)
-unfolding index_in
-an_index g line q i h uses = record {
-  again = λ after r e.
-      let said : List ℕ = index_said g i ++ after in
-      then_gives (index_tag i) said (code_in terms r) _ i after
-      (code_again terms (index_tag i) (term_coded (index_tag i)) said r (index_bytes g i after r e))
-      (λ t p. tagged_again g line q r.passed i after t h uses p);
-}
+  index_term_again : (at : ℕ) (i : Index) → HasIndex q i → Right g (index_uses i) →
+      Again (term.Index i) (index_said g i) (term_of_tag (head g) line q at (index_tag i))
+  unfolding index_term
+  index_term_again at (index.Number k) h uses = one_again term.Index (tagged at (index.Number k) h uses)
+  index_term_again at i h uses = one_again term.Index (tagged at i h uses)
 
-index_tagged : (s : Source) (line : ℕ) (q : Bool) (at : ℕ) (i : Index) (r : Rest) →
-    term_of_tag s line q at (index_tag i) r ≡ index_term s line q at (index_tag i) r
-index_tagged s line q at (index.Number k) r = refl
-index_tagged s line q at index.Processes r = refl
-index_tagged s line q at index.Words r = refl
-index_tagged s line q at index.Me r = refl
-index_tagged s line q at index.Word r = refl
-index_tagged s line q at index.Place r = refl
-index_tagged s line q at (index.Scalar x) r = refl
+  a_field : (at : ℕ) (f : Field) (x : Name) (i : Index) → HasIndex q i → Right g (term_uses (term.Field f x i)) →
+      Again (term.Field f x i) (slot g.words x ∷ index_image g i) (field_term (head g) line q f)
+  unfolding field_term
+  a_field at f x i h uses =
+      allowed_then (head g) line (FieldUse f ∷ []) (uses.0, tt)
+      (two_again (term.Field f) (some_words g line x uses.1.0) (an_index i h uses.1.1))
 
-field_tagged : (s : Source) (line : ℕ) (q : Bool) (at : ℕ) (f : Field) (r : Rest) →
-    term_of_tag s line q at (field_tag f) r ≡ field_term s line q f r
-field_tagged s line q at field.Seq r = refl
-field_tagged s line q at field.Datum r = refl
-field_tagged s line q at field.Toggle r = refl
-field_tagged s line q at field.Id r = refl
+  field_again : (at : ℕ) (f : Field) (x : Name) (i : Index) → HasIndex q i → Right g (term_uses (term.Field f x i)) →
+      Again (term.Field f x i) (slot g.words x ∷ index_image g i) (term_of_tag (head g) line q at (field_tag f))
+  field_again at field.Seq x i h uses = a_field at field.Seq x i h uses
+  field_again at f x i h uses = a_field at f x i h uses
 
-term_again : (g : Source) (line : ℕ) (q : Bool) (t : Term) (after : List ℕ) (r : Rest) → HasTerm q t →
-    Right g (term_uses t) → r.bytes ≡ term_image g t ++ after → Gives (term_in (head g) line q r) t after
-unfolding term_in index_term row_term field_term handshake_term
-term_again g line q (term.Index i) after r h uses e =
-    let said : List ℕ = index_said g i ++ after in
-    then_gives (index_tag i) said (code_in terms r) _ (term.Index i) after
-    (code_again terms (index_tag i) (term_coded (index_tag i)) said r (index_bytes g i after r e))
-    (λ u p. subst (λ m. Gives m (term.Index i) after) (sym (index_tagged (head g) line q r.passed i u))
-    (of_one_again term.Index (a_tagged g line q r.passed i h uses) after u p))
-term_again g line q term.Arg after r h uses e =
-    then_gives tag.Arg after (code_in terms r) _ term.Arg after
-    (code_again terms tag.Arg refl after r e) (λ u p. (u, refl, p))
-term_again g line q (term.Row x i) after r h uses e =
-    let said : List ℕ = slot g.rows x ∷ (index_image g i ++ after) in
-    then_gives tag.Row said (code_in terms r) _ (term.Row x i) after (code_again terms tag.Row refl said r e)
-    (λ u p. of_two_again term.Row (a_row g line x uses.0) (an_index g line q i h uses.1) after u p)
-term_again g line q (term.Field f x i) after r h uses e =
-    let said : List ℕ = slot g.words x ∷ (index_image g i ++ after) in
-    let t = term.Field f x i in
-    then_gives (field_tag f) said (code_in terms r) _ t after
-    (code_again terms (field_tag f) (term_coded (field_tag f)) said r e)
-    (λ u p. subst (λ m. Gives m t after) (sym (field_tagged (head g) line q r.passed f u))
-    (then_done tt (allowed (head g) line (FieldUse f ∷ [])) _ t after
-    (allowed_again (head g) line (FieldUse f ∷ []) (uses.0, tt))
-    (of_two_again (term.Field f) (some_words g line x uses.1.0) (an_index g line q i h uses.1.1) after u p)))
-term_again g line q (term.Handshake x i j) after r h uses e =
-    let said : List ℕ = slot g.words x ∷ ((index_image g i ++ index_image g j) ++ after) in
-    let t = term.Handshake x i j in
-    then_gives tag.Handshake said (code_in terms r) _ t after (code_again terms tag.Handshake refl said r e)
-    (λ u p. then_done tt (allowed (head g) line (HandshakeUse ∷ [])) _ t after
-    (allowed_again (head g) line (HandshakeUse ∷ []) (uses.0, tt))
-    (of_three_again term.Handshake (some_words g line x uses.1.0) (an_index g line q i h.0 (first g _ _ uses.1.1))
-    (an_index g line q j h.1 (rest g _ _ uses.1.1)) after u p))
+  a_term : (t : Term) → HasTerm q t → Right g (term_uses t) → Again t (term_image g t) (term_in (head g) line q)
+  unfolding row_term handshake_term
+  a_term (term.Index i) h uses =
+      subst (λ (z : List ℕ). Again (term.Index i) z (term_in (head g) line q)) (sym (index_parts g i))
+      (in_term (index_tag i) (term.Index i) (index_said g i) (λ at. index_term_again at i h uses))
+  a_term term.Arg h uses = in_term tag.Arg term.Arg [] (λ at. nothing_again term.Arg)
+  a_term (term.Row x i) h uses =
+      in_term tag.Row _ _ (λ at. two_again term.Row (a_row g line x uses.0) (an_index i h uses.1))
+  a_term (term.Field f x i) h uses = in_term (field_tag f) _ _ (λ at. field_again at f x i h uses)
+  a_term (term.Handshake x i j) h uses =
+      in_term tag.Handshake _ _ (λ at. allowed_then (head g) line (HandshakeUse ∷ []) (uses.0, tt)
+      (three_again term.Handshake (some_words g line x uses.1.0) (an_index i h.0 (first g _ _ uses.1.1))
+      (an_index j h.1 (rest g _ _ uses.1.1))))
 
-a_term : (g : Source) (line : ℕ) (q : Bool) (t : Term) → HasTerm q t → Right g (term_uses t) →
-    Again t (term_image g t) (term_in (head g) line q)
-a_term g line q t h uses = record { again = λ after r e. term_again g line q t after r h uses e }
+  -- an expression behind its tag
+  in_expr : (t : ExprTag) (x : Expr) (image : List ℕ) → of_code exprs (expr_code t) ≡ Some t →
+      Again x image (expr_of_tag (head g) line q t) → Again x (expr_code t ∷ image) (expr_in (head g) line q)
+  unfolding expr_in
+  in_expr t x image coded h =
+      coded_again exprs t x image (λ at u r. expr_of_tag (head g) line q u r) coded (λ at. h)
 
-expr_again : (g : Source) (line : ℕ) (q : Bool) (x : Expr) (after : List ℕ) (r : Rest) → HasExpr q x →
-    Right g (expr_uses x) → r.bytes ≡ expr_image g x ++ after → Gives (expr_in (head g) line q r) x after
-unfolding expr_in plain_expr sum_expr not_expr
-expr_again g line q (expr.Term t) after r h uses e =
-    let said : List ℕ = term_image g t ++ after in
-    then_gives etag.Term said (code_in exprs r) _ (expr.Term t) after (code_again exprs etag.Term refl said r e) (λ a p.
-    of_one_again expr.Term (a_term g line q t h uses) after a p)
-expr_again g line q (expr.Sum t u) after r h uses e =
-    let said : List ℕ = (term_image g t ++ term_image g u) ++ after in
-    then_gives etag.Sum said (code_in exprs r) _ (expr.Sum t u) after (code_again exprs etag.Sum refl said r e) (λ a p.
-    of_two_again expr.Sum (a_term g line q t h.0 (first g _ _ uses))
-    (a_term g line q u h.1 (rest g _ _ uses)) after a p)
-expr_again g line q (expr.Not t) after r h uses e =
-    let said : List ℕ = term_image g t ++ after in
-    then_gives etag.Not said (code_in exprs r) _ (expr.Not t) after (code_again exprs etag.Not refl said r e) (λ a p.
-    of_one_again expr.Not (a_term g line q t h uses) after a p)
+  pub an_expr : (x : Expr) → HasExpr q x → Right g (expr_uses x) →
+      Again x (expr_image g x) (expr_in (head g) line q)
+  unfolding plain_expr sum_expr not_expr
+  an_expr (expr.Term t) h uses = in_expr etag.Term _ _ refl (one_again expr.Term (a_term t h uses))
+  an_expr (expr.Sum t u) h uses =
+      in_expr etag.Sum _ _ refl
+      (two_again expr.Sum (a_term t h.0 (first g _ _ uses)) (a_term u h.1 (rest g _ _ uses)))
+  an_expr (expr.Not t) h uses = in_expr etag.Not _ _ refl (one_again expr.Not (a_term t h uses))
 
-pub an_expr : (g : Source) (line : ℕ) (q : Bool) (x : Expr) → HasExpr q x → Right g (expr_uses x) →
-    Again x (expr_image g x) (expr_in (head g) line q)
-an_expr g line q x h uses = record { again = λ after r e. expr_again g line q x after r h uses e }
+  a_comparison : (k : Comparison) → HasComparison q k → Right g (comparison_uses k) →
+      Again k (comparison_image g k) (comparison_in (head g) line q)
+  unfolding comparison_in
+  a_comparison k h uses =
+      three_again (λ k t u. let c : Comparison = record { left = t; relation = k; right = u } in c)
+      (a_code relations k.relation (relation_coded k.relation)) (a_term k.left h.0 (first g _ _ uses))
+      (a_term k.right h.1 (rest g _ _ uses))
 
-a_comparison : (g : Source) (line : ℕ) (q : Bool) (k : Comparison) → HasComparison q k →
-    Right g (comparison_uses k) → Again k (comparison_image g k) (comparison_in (head g) line q)
-unfolding comparison_in
-a_comparison g line q k h uses = record {
-  again = λ after r e.
-      of_three_again (λ k t u. let c : Comparison =
-      record { left = t; relation = k; right = u } in c)
-      (a_code relations k.relation (relation_coded k.relation)) (a_term g line q k.left h.0 (first g _ _ uses))
-      (a_term g line q k.right h.1 (rest g _ _ uses)) after r e;
-}
+  -- the count and the join stand before the comparisons
+  opened : (n : ℕ) (j : Join) (x : Condition) (image : List ℕ) → (nat_le 1 n && nat_le n 4) ≡ true →
+      ((at : ℕ) → Again x image (comparisons_in (head g) line q at n j)) →
+      Again x (n ∷ join_code j ∷ image) (condition_in (head g) line q)
+  unfolding condition_in
+  opened n j x image few h = record {
+    again = λ after r e.
+        then_gives n _ (count_in r) _ x after (count_again n few (join_code j ∷ (image ++ after)) r e) (λ a p.
+        (coded_again joins j x image (λ at k t. comparisons_in (head g) line q at n k t) (join_coded j) h).again after
+        a p);
+  }
 
-count_again : (n : ℕ) → (nat_le 1 n && nat_le n 4) ≡ true → (after : List ℕ) (r : Rest) →
-    r.bytes ≡ n ∷ after → Gives (count_in r) n after
-unfolding count_in
-count_again n few after r e =
-    then_gives n after (byte_in r) _ n after (byte_again n after r e)
-    (λ t p. known_again r.passed t (if nat_le 1 n && nat_le n 4 then Some n else None) n after
-    (ap (λ (b : Bool). if b then Some n else None) few) p)
+  pub a_condition : (x : Condition) → HasCondition q x → Right g (condition_uses x) →
+      Again x (condition_image g x) (condition_in (head g) line q)
+  unfolding one_in two_in three_in four_in
+  a_condition (One k) h uses = opened 1 join.And _ _ refl (λ at. one_again One (a_comparison k h uses))
+  a_condition (Two j k l) h uses =
+      opened 2 j _ _ refl (λ at.
+      two_again (Two j) (a_comparison k h.0 (first g _ _ uses)) (a_comparison l h.1 (rest g _ _ uses)))
+  a_condition (Three j k l m) h uses =
+      let more : Right g (comparison_uses l ++ comparison_uses m) = rest g _ _ uses in
+      opened 3 j _ _ refl (λ at.
+      three_again (Three j) (a_comparison k h.0 (first g _ _ uses)) (a_comparison l h.1 (first g _ _ more))
+      (a_comparison m h.2 (rest g _ _ more)))
+  a_condition (Four j k l m o) h uses =
+      let more : Right g (comparison_uses l ++ (comparison_uses m ++ comparison_uses o)) = rest g _ _ uses in
+      let more1 : Right g (comparison_uses m ++ comparison_uses o) = rest g _ _ more in
+      opened 4 j _ _ refl (λ at.
+      four_again (Four j) (a_comparison k h.0 (first g _ _ uses)) (a_comparison l h.1 (first g _ _ more))
+      (a_comparison m h.2 (first g _ _ more1)) (a_comparison o h.3 (rest g _ _ more1)))
 
--- the count and the join stand before the comparisons
-opened_again : (g : Source) (line : ℕ) (q : Bool) (n : ℕ) (j : Join) (y : Condition) (mid after : List ℕ) (r : Rest) →
-    (nat_le 1 n && nat_le n 4) ≡ true →
-    r.bytes ≡ n ∷ join_code j ∷ mid →
-    ((at : ℕ) (t : Rest) → t.bytes ≡ mid → Gives (comparisons_in (head g) line q at n j t) y after) →
-    Gives (condition_in (head g) line q r) y after
-unfolding condition_in
-opened_again g line q n j y mid after r few e h =
-    then_gives n (join_code j ∷ mid) (count_in r) _ y after (count_again n few (join_code j ∷ mid) r e) (λ a p.
-    then_gives j mid (code_in joins a) _ y after (code_again joins j (join_coded j) mid a p) (λ b k. h a.passed b k))
+flag_known : (flag : Bool) → (let b = flag_byte flag in
+    (if nat_eq b 0 then Some false else if nat_eq b 1 then Some true else None) ≡ Some flag)
+flag_known false = refl
+flag_known true = refl
 
-condition_again : (g : Source) (line : ℕ) (q : Bool) (x : Condition) (after : List ℕ) (r : Rest) →
-    HasCondition q x → Right g (condition_uses x) →
-    r.bytes ≡ condition_image g x ++ after → Gives (condition_in (head g) line q r) x after
-unfolding one_in two_in three_in four_in
-condition_again g line q (One k) after r h uses e =
-    opened_again g line q 1 join.And (One k) _ after r refl e (λ at t p.
-    of_one_again One (a_comparison g line q k h uses) after t p)
-condition_again g line q (Two j k l) after r h uses e =
-    opened_again g line q 2 j (Two j k l) _ after r refl e (λ at t p.
-    of_two_again (Two j) (a_comparison g line q k h.0 (first g _ _ uses))
-    (a_comparison g line q l h.1 (rest g _ _ uses)) after t p)
-condition_again g line q (Three j k l m) after r h uses e =
-    let more : Right g (comparison_uses l ++ comparison_uses m) = rest g _ _ uses in
-    opened_again g line q 3 j (Three j k l m) _ after r refl e (λ at t p.
-    of_three_again (Three j) (a_comparison g line q k h.0 (first g _ _ uses))
-    (a_comparison g line q l h.1 (first g _ _ more)) (a_comparison g line q m h.2 (rest g _ _ more)) after t p)
-condition_again g line q (Four j k l m o) after r h uses e =
-    let more : Right g (comparison_uses l ++ (comparison_uses m ++ comparison_uses o)) = rest g _ _ uses in
-    let more1 : Right g (comparison_uses m ++ comparison_uses o) = rest g _ _ more in
-    opened_again g line q 4 j (Four j k l m o) _ after r refl e (λ at t p.
-    of_four_again (Four j) (a_comparison g line q k h.0 (first g _ _ uses))
-    (a_comparison g line q l h.1 (first g _ _ more)) (a_comparison g line q m h.2 (first g _ _ more1))
-    (a_comparison g line q o h.3 (rest g _ _ more1)) after t p)
-
-pub a_condition : (g : Source) (line : ℕ) (q : Bool) (x : Condition) → HasCondition q x →
-    Right g (condition_uses x) → Again x (condition_image g x) (condition_in (head g) line q)
-a_condition g line q x h uses = record { again = λ after r e. condition_again g line q x after r h uses e }
-
-pub flag_again : (flag : Bool) (b : ℕ) (after : List ℕ) (r : Rest) →
-    (if nat_eq b 0 then Some false else if nat_eq b 1 then Some true else None) ≡ Some flag →
-    r.bytes ≡ b ∷ after → Gives (flag_in r) flag after
+pub a_flag : (flag : Bool) → Again flag (flag_byte flag ∷ []) flag_in
 unfolding flag_in
-flag_again flag b after r known e =
-    then_gives b after (byte_in r) _ flag after (byte_again b after r e)
-    (λ t p. known_again r.passed t _ flag after known p)
-
-where_again : (g : Source) (line : ℕ) (k : Option Condition) (after : List ℕ) (r : Rest) → HasWhere k →
-    Right g (where_uses k) → r.bytes ≡ where_image g k ++ after → Gives (where_in (head g) line r) k after
-unfolding where_in where_of_flag
-where_again g line None after r h uses e =
-    then_gives false after (flag_in r) _ None after (flag_again false 0 after r refl e) (λ t p. (t, refl, p))
-where_again g line (Some k) after r h uses e =
-    then_gives true _ (flag_in r) _ (Some k) after (flag_again true 1 (condition_image g k ++ after) r refl e) (λ t p.
-    of_one_again (λ c. let o : Option Condition = Some c in o) (a_condition g line true k h uses) after t p)
+a_flag flag = record {
+  again = λ after r e.
+      then_gives (flag_byte flag) after (byte_in r) _ flag after (byte_again (flag_byte flag) after r e)
+      (λ t p. known_again r.passed t _ flag after (flag_known flag) p);
+}
 
 pub a_where : (g : Source) (line : ℕ) (k : Option Condition) → HasWhere k → Right g (where_uses k) →
     Again k (where_image g k) (where_in (head g) line)
-a_where g line k h uses = record { again = λ after r e. where_again g line k after r h uses e }
+unfolding where_in where_of_flag
+a_where g line None h uses = then_again (where_of_flag (head g) line) (a_flag false) (nothing_again None)
+a_where g line (Some k) h uses =
+    then_again (where_of_flag (head g) line) (a_flag true)
+    (one_again (λ c. let o : Option Condition = Some c in o) (a_condition g line true k h uses))

@@ -10,6 +10,7 @@ use Rattle.snap_words.specs.declared.kind.KindTag.{KindTag}
 use Rattle.snap_words.specs.declared.kind.KindTag.TheVariants as kind
 use Rattle.snap_image.specs.declared.image.ImageVersion.{ImageVersion}
 use Rattle.snap_image.specs.declared.image.ImageVersion.TheVariants as version
+use Rattle.snap_semantics.specs.declared.instr.Instr.{Instr}
 use Rattle.snap_semantics.specs.declared.instr.Line.{Line}
 use Rattle.snap_semantics.specs.declared.refusal.ImageRefusal.{ImageRefusal}
 use Rattle.snap_semantics.specs.declared.refusal.ImageRefusal.TheVariants.{Invalid}
@@ -17,10 +18,10 @@ use Rattle.snap_semantics.specs.declared.refusal.ListingRefusal.{ListingRefusal}
 use Rattle.snap_semantics.specs.declared.refusal.ListingRefusal.TheVariants as refusal
 use Rattle.snap_semantics.specs.Answers.{◌>>=◌, refused_as}
 use Rattle.snap_semantics.specs.Comments.{Comment, Commented, IsComment, IsCommented, no_comment}
-use Rattle.snap_image.specs.Image.{line_image, behind_line, lines_image, names_image, table_image, signature}
-use Rattle.snap_image.specs.Image.{head_image, image_in, is_number_in, CanSay}
+use Rattle.snap_image.specs.Image.{line_image, lines_image, names_image, table_image, signature, head_image, image_in}
+use Rattle.snap_image.specs.Image.{is_number_in, CanSay}
 use Rattle.snap_image.specs.ImageCodes.{of_code, kinds, kind_code}
-use Rattle.snap_image.specs.ImageForms.{Rest, Read, byte_in, short_in, code_in}
+use Rattle.snap_image.specs.ImageForms.{Rest, Read, of_one, byte_in, short_in, code_in}
 use Rattle.snap_image.specs.ImageInstrs.{instr_in}
 use Rattle.snap_image.specs.ImageListing.{signature_in, version_in, letter, letters_in, length_in, new_name}
 use Rattle.snap_image.specs.ImageListing.{name_in, names_in, few_names, table_in, line_count_in, head_in}
@@ -33,11 +34,11 @@ use Rattle.snap_semantics.specs.Token.{is_letter}
 use Rattle.snap_semantics.specs.Uses.{is_among}
 use Rattle.snap_image.specs.Widths.{HasShortTargets, HasShortNumbers}
 use Rattle.snap_image.specs.Laws.{DecodesAllImages, RefusesMore}
-use Rattle.snap_image.proofs.AgainComments.{version_again, behind_again}
+use Rattle.snap_image.proofs.AgainComments.{version_again, a_behind}
+use Rattle.snap_image.proofs.AgainParts.{Gives, Again, then_gives, then_done, then_again, part_then, test_then}
+use Rattle.snap_image.proofs.AgainParts.{gives_if, nothing_again, one_again, byte_again, a_byte, a_short, code_again}
 use Rattle.snap_image.proofs.AgainForms.{head}
-use Rattle.snap_image.proofs.InstrLaws.{instr_again}
-use Rattle.snap_image.proofs.AgainParts.{regrouped, Gives, then_gives, then_done, gives_if}
-use Rattle.snap_image.proofs.AgainParts.{byte_again, short_again, code_again}
+use Rattle.snap_image.proofs.InstrLaws.{an_instr}
 use Rattle.snap_image.proofs.SaidComments.{IsSayable}
 use Rattle.snap_image.proofs.Shorts.{short_number, short_lines}
 use Rattle.snap_image.proofs.Slots.{name_same, distinct_first, apart}
@@ -60,17 +61,16 @@ accepted true true d e g h = absurd cc
 accepted true false d e g h = refl
 accepted false c d e g h = absurd cc
 
-line_again : (g : Source) (v : ImageVersion) (place last : ℕ) (x : Line) (after : List ℕ) (r : Rest) → IsLine g x →
-    is_number_in v x.number ≡ true → last < x.number → HasShortTargets x.instr → r.bytes ≡ line_image g x ++ after →
-    Gives (line_in (head g) v place last r) x after
+a_line : (g : Source) (v : ImageVersion) (place last : ℕ) (x : Line) → IsLine g x → is_number_in v x.number ≡ true →
+    last < x.number → HasShortTargets x.instr → Again x (line_image g x) (line_in (head g) v place last)
 unfolding line_in
-line_again g v place last x after r h number rising shorts e =
-    then_gives x.number _ (short_in r) _ x after (short_again x.number (short_number x.number h.number) _ r e) (λ a p.
-    then_done tt (new_number v place last x.number) _ x after
+a_line g v place last x h number rising shorts =
+    let made : ℕ → Instr → Line = λ n i. record { number = n; instr = i } in
+    then_again (λ n r. new_number v place last n >>= λ done. of_one (instr_in (head g) place) (made n) r)
+    (a_short x.number (short_number x.number h.number))
+    (test_then (new_number v place last x.number)
     (accepted (is_number_in v x.number) (nat_le x.number last) _ _ number (lt-leb x.number last rising))
-    (then_gives x.instr after (instr_in (head g) place a) _ x after
-    (instr_again g place x.instr after a h.form h.uses shorts p)
-    (λ b q. (b, refl, q))))
+    (one_again (made x.number) (an_instr g place x.instr h.form h.uses shorts)))
 
 -- lines behind line number `last`, with their comments, that a version can say
 record AreSayable (g : Source) (v : ImageVersion) (last : ℕ) (xs : List Line) (cs : List Comment) : Type 0 where
@@ -82,16 +82,13 @@ record AreSayable (g : Source) (v : ImageVersion) (last : ℕ) (xs : List Line) 
   comments : AllByRecursion IsComment cs
   sayable : AllByRecursion (IsSayable v) cs
 
-lines_again : (g : Source) (v : ImageVersion) (place last : ℕ) (xs : List Line) (cs : List Comment)
-    (after : List ℕ) (r : Rest) → AreSayable g v last xs cs → r.bytes ≡ lines_image v g xs cs ++ after →
-    Gives (lines_in (head g) v (length xs) place last r) (xs, cs) after
+some_lines : (g : Source) (v : ImageVersion) (place last : ℕ) (xs : List Line) (cs : List Comment) →
+    AreSayable g v last xs cs → Again (xs, cs) (lines_image v g xs cs) (lines_in (head g) v (length xs) place last)
 unfolding lines_in
-lines_again g v place last [] [] after r h e = (r, refl, e)
-lines_again g v place last [] (c ∷ cs) after r h e = let n = h.each_line in absurd cc
-lines_again g v place last (x ∷ xs) [] after r h e = let n = h.each_line in absurd cc
-lines_again g v place last (x ∷ xs) (c ∷ cs) after r h e =
-    let behind = behind_line v c in
-    let others = lines_image v g xs cs in
+some_lines g v place last [] [] h = nothing_again ([], [])
+some_lines g v place last [] (c ∷ cs) h = let n = h.each_line in absurd cc
+some_lines g v place last (x ∷ xs) [] h = let n = h.each_line in absurd cc
+some_lines g v place last (x ∷ xs) (c ∷ cs) h =
     let later : AreSayable g v x.number xs cs = record {
       lines = h.lines.1;
       numbers = h.numbers.1;
@@ -101,14 +98,14 @@ lines_again g v place last (x ∷ xs) (c ∷ cs) after r h e =
       comments = h.comments.1;
       sayable = h.sayable.1;
     } in
-    let y : List Line × List Comment = (x ∷ xs, c ∷ cs) in
-    then_gives x _ (line_in (head g) v place last r) _ y after
-    (line_again g v place last x _ r h.lines.0 h.numbers.0 h.rising.0 h.shorts.0.1
-    (regrouped (line_image g x) (behind ++ others) after r.bytes e)) (λ a p.
-    then_gives c _ (behind_line_in v a) _ y after
-    (behind_again v c _ a h.comments.0 h.sayable.0 (regrouped behind others after a.bytes p)) (λ b q.
-    then_gives (xs, cs) after (lines_in (head g) v (length xs) (place + 1) x.number b) _ y after
-    (lines_again g v (place + 1) x.number xs cs after b later q) (λ d s. (d, refl, s))))
+    let made : Line → Comment → (List Line × List Comment) → (List Line × List Comment) =
+    λ x c ys. (x ∷ ys.0, c ∷ ys.1) in
+    let others = λ (x : Line) (c : Comment) (r : Rest).
+    of_one (lines_in (head g) v (length xs) (place + 1) x.number) (made x c) r in
+    then_again (λ x r. behind_line_in v r >>= λ c. others x c.0 c.1)
+    (a_line g v place last x h.lines.0 h.numbers.0 h.rising.0 h.shorts.0.1)
+    (then_again (others x) (a_behind v c h.comments.0 h.sayable.0)
+    (one_again (made x c) (some_lines g v (place + 1) x.number xs cs later)))
 
 -- the first version says no comments, and the second any
 none_sayable : (lines : List Line) → AllByRecursion (IsSayable version.First) (map no_comment lines)
@@ -153,71 +150,62 @@ lines_of version.Second c h say = record {
 letter_again : (b : ℕ) → is_letter b ≡ true → letter b ≡ Ok tt
 letter_again b e = ap (λ (t : Bool). let m : Checked = if t then Ok tt else Err (Invalid (refusal.BadName 0)) in m) e
 
-letters_again : (x : Name) (after : List ℕ) (r : Rest) → list_all is_letter x ≡ true → r.bytes ≡ x ++ after →
-    Gives (letters_in (length x) r) x after
+some_letters : (x : Name) → list_all is_letter x ≡ true → Again x x (letters_in (length x))
 unfolding letters_in
-letters_again [] after r h e = (r, refl, e)
-letters_again (b ∷ x) after r h e =
+some_letters [] h = nothing_again []
+some_letters (b ∷ x) h =
     let letters = and_parts (is_letter b) (list_all is_letter x) h in
-    then_gives b (x ++ after) (byte_in r) _ (b ∷ x) after (byte_again b (x ++ after) r e) (λ a p.
-    then_done tt (letter b) _ (b ∷ x) after (letter_again b letters.0)
-    (then_gives x after (letters_in (length x) a) _ (b ∷ x) after
-    (letters_again x after a letters.1 p) (λ c q. (c, refl, q))))
+    then_again (λ b r. letter b >>= λ good. of_one (letters_in (length x)) (λ y. b ∷ y) r) (a_byte b)
+    (test_then (letter b) (letter_again b letters.0) (one_again (λ y. b ∷ y) (some_letters x letters.1)))
 
-length_again : (n : ℕ) (after : List ℕ) (r : Rest) → (nat_le 1 n && nat_le n 8) ≡ true →
-    r.bytes ≡ n ∷ after → Gives (length_in r) n after
+a_length : (n : ℕ) → (nat_le 1 n && nat_le n 8) ≡ true → Again n (n ∷ []) length_in
 unfolding length_in
-length_again n after r few e =
-    then_gives n after (byte_in r) _ n after (byte_again n after r e)
-    (λ a p. gives_if (nat_le 1 n && nat_le n 8) _ _ n after few (a, refl, p))
+a_length n few = record {
+  again = λ after r e. then_gives n after (byte_in r) _ n after (byte_again n after r e)
+      (λ a p. gives_if (nat_le 1 n && nat_le n 8) _ _ n after few (a, refl, p));
+}
 
-name_again : (known : List Name) (x : Name) (after : List ℕ) (r : Rest) → IsName x → is_among x known ≡ false →
-    r.bytes ≡ length x ∷ (x ++ after) → Gives (name_in known r) x after
+a_name : (known : List Name) (x : Name) → IsName x → is_among x known ≡ false →
+    Again x (length x ∷ x) (name_in known)
 unfolding name_in
-name_again known x after r named new e =
+a_name known x named new =
     let good = or_parts (nat_lt 8 (length x)) (is_reserved x) named.1 in
     let some : 0 < length x = named.0.0 in
     let short : nat_lt 8 (length x) ≡ false = good.0 in
     let few : (nat_le 1 (length x) && nat_le (length x) 8) ≡ true =
     and_from (nat_le 1 (length x)) (nat_le (length x) 8) (grind (arith, some)) (grind (arith, short)) in
-    then_gives (length x) (x ++ after) (length_in r) _ x after (length_again (length x) (x ++ after) r few e) (λ a p.
-    then_gives x after (letters_in (length x) a) _ x after (letters_again x after a named.0.1 p) (λ b q.
-    then_done tt (new_name known x) _ x after (passes (is_reserved x) (is_among x known) _ _ good.1 new) (b, refl, q)))
+    then_again (λ n r. letters_in n r >>= λ x. new_name known x.0 >>= λ new. Ok x) (a_length (length x) few) (record {
+      again = λ after r e.
+          then_gives x after (letters_in (length x) r) _ x after ((some_letters x named.0.1).again after r e) (λ t p.
+          then_done tt (new_name known x) _ x after (passes (is_reserved x) (is_among x known) _ _ good.1 new)
+          (t, refl, p));
+    })
 
-names_again : (known names : List Name) (after : List ℕ) (r : Rest) →
-    AllByRecursion IsName names → AreDistinct (known ++ names) →
-    r.bytes ≡ names_image names ++ after → Gives (names_in (length names) known r) names after
+some_names : (known names : List Name) → AllByRecursion IsName names → AreDistinct (known ++ names) →
+    Again names (names_image names) (names_in (length names) known)
 unfolding names_in
-names_again known [] after r h d e = (r, refl, e)
-names_again known (x ∷ xs) after r h d e =
+some_names known [] h d = nothing_again []
+some_names known (x ∷ xs) h d =
     let new = apart known (x ∷ xs) x d (or_left (bytes_eq x x) (is_among x xs) (name_same x x refl)) in
     let later : AreDistinct ((known ++ x ∷ []) ++ xs) = subst AreDistinct (sym (append_assoc known (x ∷ []) xs)) d in
-    let bytes : r.bytes ≡ length x ∷ (x ++ (names_image xs ++ after)) =
-    e ∙ ap (λ (z : List ℕ). length x ∷ z) (append_assoc x (names_image xs) after) in
-    then_gives x _ (name_in known r) _ (x ∷ xs) after (name_again known x _ r h.0 new bytes) (λ a p.
-    then_gives xs after (names_in (length xs) (known ++ x ∷ []) a) _ (x ∷ xs) after
-    (names_again (known ++ x ∷ []) xs after a h.1 later p)
-    (λ b q. (b, refl, q)))
+    then_again (λ x r. of_one (names_in (length xs) (known ++ x ∷ [])) (λ ys. x ∷ ys) r) (a_name known x h.0 new)
+    (one_again (λ ys. x ∷ ys) (some_names (known ++ x ∷ []) xs h.1 later))
 
 few_again : (known : List Name) (count : ℕ) → length known + count ≤ 32 → few_names known count ≡ Ok tt
 few_again known count few =
     ap (λ (t : Bool). let m : Checked = if t then Err (Invalid (refusal.TooMany 0)) else Ok tt in m)
     (le-ltb 32 (length known + count) few)
 
-table_again : (known xs : List Name) (after : List ℕ) (r : Rest) →
-    AllByRecursion IsName xs → AreDistinct (known ++ xs) →
-    length known + length xs ≤ 32 → r.bytes ≡ table_image xs ++ after → Gives (table_in known r) xs after
+a_table : (known xs : List Name) → AllByRecursion IsName xs → AreDistinct (known ++ xs) →
+    length known + length xs ≤ 32 → Again xs (table_image xs) (table_in known)
 unfolding table_in
-table_again known xs after r named d few e =
-    then_gives (length xs) (names_image xs ++ after) (byte_in r) _ xs after
-    (byte_again (length xs) (names_image xs ++ after) r e) (λ a p.
-    then_done tt (few_names known (length xs)) _ xs after (few_again known (length xs) few)
-    (names_again known xs after a named d p))
+a_table known xs named d few =
+    then_again (λ n r. few_names known n >>= λ few. names_in n known r) (a_byte (length xs))
+    (test_then (few_names known (length xs)) (few_again known (length xs) few) (some_names known xs named d))
 
 kind_coded : (k : KindTag) → of_code kinds (kind_code k) ≡ Some k
 kind_coded kind.Seq = refl
-kind_coded kind.Bits = refl
-kind_coded kind.Multi = refl
+kind_coded _ = refl
 
 -- what a test of the next bytes leaves
 abbrev Leaves : Result Rest ImageRefusal → List ℕ → Type 0
@@ -230,7 +218,7 @@ count_again : (n : ℕ) (after : List ℕ) (r : Rest) → n ≤ 200 → r.bytes 
     Gives (line_count_in r) n after
 unfolding line_count_in
 count_again n after r few e =
-    then_gives n after (short_in r) _ n after (short_again n (omega (arith, few)) after r e)
+    then_gives n after (short_in r) _ n after ((a_short n (omega (arith, few))).again after r e)
     (λ a p. subst (λ (t : Bool).
     Gives (let m : Read ℕ = if t then Err (Invalid (refusal.TooMany 0)) else Ok (n, a) in m) n after)
     (sym (le-ltb 200 n few)) (a, refl, p))
@@ -252,21 +240,15 @@ sorts a b c d distinct few =
     let three : a ++ (b ++ (c ++ d)) ≡ ((a ++ b) ++ c) ++ d = two_lists ∙ sym (append_assoc (a ++ b) c d) in
     let four : a ++ (b ++ (c ++ d)) ≡ (a ++ (b ++ c)) ++ d =
     ap (λ (xs : List Name). a ++ xs) (sym (append_assoc b c d)) ∙ sym (append_assoc a (b ++ c) d) in
-    let p : length (a ++ (b ++ (c ++ d))) ≡ length a + length (b ++ (c ++ d)) = length-append a (b ++ (c ++ d)) in
-    let q : length (b ++ (c ++ d)) ≡ length b + length (c ++ d) = length-append b (c ++ d) in
-    let r : length (c ++ d) ≡ length c + length d = length-append c d in
-    let s : length (a ++ b) ≡ length a + length b = length-append a b in
-    let t : length (a ++ (b ++ c)) ≡ length a + length (b ++ c) = length-append a (b ++ c) in
-    let u : length (b ++ c) ≡ length b + length c = length-append b c in
     record {
       distinct_scalars = distinct_first a (b ++ (c ++ d)) distinct;
       distinct_rows = distinct_first (a ++ b) (c ++ d) (subst AreDistinct two_lists distinct);
       distinct_words = distinct_first ((a ++ b) ++ c) d (subst AreDistinct three distinct);
       distinct_views = subst AreDistinct four distinct;
-      few_scalars = omega (arith, few, p);
-      few_rows = omega (arith, few, p, q);
-      few_words = omega (arith, few, p, q, r, s);
-      few_views = omega (arith, few, p, q, r, t, u);
+      few_scalars = omega (arith, few, length-append {A = Name});
+      few_rows = omega (arith, few, length-append {A = Name});
+      few_words = omega (arith, few, length-append {A = Name});
+      few_views = omega (arith, few, length-append {A = Name});
     }
 
 head_again : (v : ImageVersion) (g : Source) → IsListing g → (after bytes : List ℕ) → bytes ≡ head_image v g ++ after →
@@ -284,19 +266,13 @@ head_again v g h after bytes e =
     then_done opened.0 (signature_in bytes) _ y after opened.1
     (then_gives v _ (version_in opened.0) _ y after (version_again v _ opened.0 opened.2) (λ w ew.
     then_gives g.kind _ (code_in kinds w) _ y after (code_again kinds g.kind (kind_coded g.kind) _ w ew) (λ r0 e0.
-    then_gives a _ (table_in [] r0) _ y after (table_again [] a _ r0 t.scalars.1 s.distinct_scalars s.few_scalars
-    (regrouped (table_image a) _ _ _ e0)) (λ r1 e1.
-    then_gives b _ (table_in a r1) _ y after
-    (table_again a b _ r1 t.rows.1 s.distinct_rows s.few_rows (regrouped (table_image b) _ _ _ e1))
-    (λ r2 e2.
-    then_gives c _ (table_in (a ++ b) r2) _ y after
-    (table_again (a ++ b) c _ r2 t.words.1 s.distinct_words s.few_words (regrouped (table_image c) _ _ _ e2)) (λ r3 e3.
-    then_gives d _ (table_in (a ++ (b ++ c)) r3) _ y after
-    (table_again (a ++ (b ++ c)) d _ r3 t.views.1 s.distinct_views s.few_views
-    (regrouped (table_image d) _ _ _ e3)) (λ r4 e4.
-    then_gives g.scan _ (short_in r4) _ y after (short_again g.scan (short_number g.scan h.scan) _ r4 e4) (λ r5 e5.
+    part_then _ y _ after r0 (a_table [] a t.scalars.1 s.distinct_scalars s.few_scalars) e0 (λ r1 e1.
+    part_then _ y _ after r1 (a_table a b t.rows.1 s.distinct_rows s.few_rows) e1 (λ r2 e2.
+    part_then _ y _ after r2 (a_table (a ++ b) c t.words.1 s.distinct_words s.few_words) e2 (λ r3 e3.
+    part_then _ y _ after r3 (a_table (a ++ (b ++ c)) d t.views.1 s.distinct_views s.few_views) e3 (λ r4 e4.
+    then_gives g.scan _ (short_in r4) _ y after ((a_short g.scan (short_number g.scan h.scan)).again _ r4 e4) (λ r5 e5.
     then_gives g.update _ (short_in r5) _ y after
-    (short_again g.update (short_number g.update h.update) _ r5 e5) (λ r6 e6.
+    ((a_short g.update (short_number g.update h.update)).again _ r5 e5) (λ r6 e6.
     then_gives (length g.lines) after (line_count_in r6) _ y after
     (count_again (length g.lines) after r6 h.few_lines e6)
     (λ r7 e7. (r7, refl, e7)))))))))))
@@ -324,7 +300,7 @@ with_more v c h say after =
     let bytes = image_in v c ++ after in
     let said = lines_image v s s.lines c.comments in
     let a = head_again v s h.listing (said ++ after) bytes (append_assoc (head_image v s) said after) in
-    let b = lines_again s v 1 0 s.lines c.comments after a.0 (lines_of v c h say) a.2 in
+    let b = (some_lines s v 1 0 s.lines c.comments (lines_of v c h say)).again after a.0 a.2 in
     let ks = s.scan ∷ s.update ∷ line_targets s.lines in
     let all = ended after >>= λ end. (let m : Result Commented ImageRefusal = Ok c in m) in
     then_is (head_in bytes) ((v, head s, length s.lines), a.0) _ all a.1

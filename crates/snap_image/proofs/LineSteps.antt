@@ -18,58 +18,16 @@ use Rattle.snap_image.specs.DecoderSteps.{CommentedList, added_line, onto_lines,
 abbrev Added : Type 0
 Added = Result (ℕ × CommentedList × Rest) ImageRefusal
 
--- a line and its comment, with what was read behind them
-abbrev led_by : Line → Comment → Read CommentedList → Read CommentedList
-led_by x c m = m >>= λ xs. Ok ((x ∷ xs.0.0, c ∷ xs.0.1), xs.1)
-
 onto_led : (before : CommentedList) (x : Line) (c : Comment) (m : Read CommentedList) →
-    onto_lines before (led_by x c m) ≡ onto_lines (with_line before x c) m
-onto_led before x c (Ok xs) =
-    ap (λ (ls : List Line). let a : Read CommentedList = Ok ((ls, before.1 ++ c ∷ xs.0.1), xs.1) in a)
-    (sym (append_assoc before.0 (x ∷ []) xs.0.0))
-    ∙ ap (λ (cs : List Comment). let a : Read CommentedList = Ok (((before.0 ++ x ∷ []) ++ xs.0.0, cs), xs.1) in a)
-    (sym (append_assoc before.1 (c ∷ []) xs.0.1))
+    onto_lines before (m >>= λ xs. Ok ((x ∷ xs.0.0, c ∷ xs.0.1), xs.1)) ≡ onto_lines (with_line before x c) m
+onto_led before x c (Ok xs) = rw (append_assoc before.0 (x ∷ []) xs.0.0, append_assoc before.1 (c ∷ []) xs.0.1)
 onto_led before x c (Err e) = refl
 
--- a line and the lines behind it, where its comment is read so
-abbrev behind_first : Source → ImageVersion → ℕ → ℕ → Line → Read Comment → Read CommentedList
-behind_first s v n at x m = m >>= λ c. led_by x c.0 (lines_in s v n at x.number c.1)
-
--- what is added for a line whose comment is read so
-abbrev added_behind : CommentedList → Line → Read Comment → Added
-added_behind before x m = m >>= λ c. Ok (x.number, with_line before x c.0, c.1)
-
-comment_step : (s : Source) (v : ImageVersion) (n at number : ℕ) (before after : CommentedList) (r' : Rest)
-    (x : Line) (m : Read Comment) → added_behind before x m ≡ Ok (number, after, r') →
-    onto_lines after (lines_in s v n at number r') ≡ onto_lines before (behind_first s v n at x m)
-comment_step s v n at number before after r' x (Ok c) e =
-    let p : (x.number, with_line before x c.0, c.1) ≡ (number, after, r') = cc in
-    ap (λ (y : ℕ × CommentedList × Rest). onto_lines y.1 (lines_in s v n at y.0 y.2)) (sym p)
-    ∙ sym (onto_led before x c.0 (lines_in s v n at x.number c.1))
-comment_step s v n at number before after r' x (Err d) e = absurd cc
-
-comment_stop : (s : Source) (v : ImageVersion) (n at : ℕ) (before : CommentedList) (d : ImageRefusal) (x : Line)
-    (m : Read Comment) → added_behind before x m ≡ Err d → onto_lines before (behind_first s v n at x m) ≡ Err d
-comment_stop s v n at before d x (Ok c) e = absurd cc
-comment_stop s v n at before d x (Err f) e =
-    let p : f ≡ d = cc in
-    ap (λ (y : ImageRefusal). let a : Read CommentedList = Err y in a) p
-
-step_by : (s : Source) (v : ImageVersion) (n at number : ℕ) (before after : CommentedList) (r' : Rest) (m : Read Line) →
-    (m >>= λ x. added_behind before x.0 (behind_line_in v x.1)) ≡ Ok (number, after, r') →
-    onto_lines after (lines_in s v n at number r')
-    ≡ onto_lines before (m >>= λ x. behind_first s v n at x.0 (behind_line_in v x.1))
-step_by s v n at number before after r' (Ok x) e =
-    comment_step s v n at number before after r' x.0 (behind_line_in v x.1) e
-step_by s v n at number before after r' (Err d) e = absurd cc
-
-stop_by : (s : Source) (v : ImageVersion) (n at : ℕ) (before : CommentedList) (d : ImageRefusal) (m : Read Line) →
-    (m >>= λ x. added_behind before x.0 (behind_line_in v x.1)) ≡ Err d →
-    onto_lines before (m >>= λ x. behind_first s v n at x.0 (behind_line_in v x.1)) ≡ Err d
-stop_by s v n at before d (Ok x) e = comment_stop s v n at before d x.0 (behind_line_in v x.1) e
-stop_by s v n at before d (Err c) e =
-    let p : c ≡ d = cc in
-    ap (λ (x : ImageRefusal). let a : Read CommentedList = Err x in a) p
+-- what two steps came to, of which the second takes what the first one gave
+ok_parts : {A B : Type 0} (m : Result A ImageRefusal) (f : A → Result B ImageRefusal) (y : B) → (m >>= f) ≡ Ok y →
+    (x : A) × (m ≡ Ok x) × (f x ≡ Ok y)
+ok_parts (Ok x) f y e = (x, refl, e)
+ok_parts (Err d) f y e = absurd cc
 
 -- one line further
 pub lines_step : (s : Source) (v : ImageVersion) (count k last number : ℕ) (before after : CommentedList)
@@ -79,18 +37,33 @@ pub lines_step : (s : Source) (v : ImageVersion) (count k last number : ℕ) (be
 unfolding lines_in
 lines_step s v count k last number before after r r' lt e =
     let n : count - k ≡ suc (count - (k + 1)) = omega arith in
-    step_by s v (count - (k + 1)) (k + 1 + 1) number before after r' (line_in s v (k + 1) last r) e
-    ∙ ap (λ (m : ℕ). onto_lines before (lines_in s v m (k + 1) last r)) (sym n)
+    let x = ok_parts (line_in s v (k + 1) last r) _ _ e in
+    let c = ok_parts (behind_line_in v x.0.1) _ _ x.2 in
+    let is = c.2 in
+    let p : (x.0.0.number, with_line before x.0.0 c.0.0, c.0.1) ≡ (number, after, r') = cc in
+    rw (n, x.1, c.1)
+    (ap (λ (y : ℕ × CommentedList × Rest). onto_lines y.1 (lines_in s v (count - (k + 1)) (k + 1 + 1) y.0 y.2)) (sym p)
+    ∙ sym (onto_led before x.0.0 c.0.0 (lines_in s v (count - (k + 1)) (k + 1 + 1) x.0.0.number c.0.1)))
 
--- a line that is refused
+-- a line that is refused: what comes behind it does not count
+stopped : {A B C : Type 0} (m : Result A ImageRefusal) (n : A → Result B ImageRefusal)
+    (f : A → B → Result C ImageRefusal) (g : A → B → Read CommentedList) (before : CommentedList) (d : ImageRefusal) →
+    ((x : A) (y : B) → f x y ≡ Err d → ⊥) → (m >>= λ x. n x >>= λ y. f x y) ≡ Err d →
+    onto_lines before (m >>= λ x. n x >>= λ y. g x y) ≡ Err d
+stopped (Err c) n f g before d none e = let is : c ≡ d = cc in rw is
+stopped {B = B} (Ok x) n f g before d none e = within (n x) e
+  where
+    within : (o : Result B ImageRefusal) → (o >>= λ y. f x y) ≡ Err d → onto_lines before (o >>= λ y. g x y) ≡ Err d
+    within (Err c) e = let is : c ≡ d = cc in rw is
+    within (Ok y) e = absurd (none x y e)
+
 line_refused : (s : Source) (v : ImageVersion) (count k last : ℕ) (before : CommentedList)
     (r : Rest) (d : ImageRefusal) → k < count →
     added_line s v (k + 1) last before r ≡ Err d → onto_lines before (lines_in s v (count - k) (k + 1) last r) ≡ Err d
 unfolding lines_in
 line_refused s v count k last before r d lt e =
     let n : count - k ≡ suc (count - (k + 1)) = omega arith in
-    ap (λ (m : ℕ). onto_lines before (lines_in s v m (k + 1) last r)) n
-    ∙ stop_by s v (count - (k + 1)) (k + 1 + 1) before d (line_in s v (k + 1) last r) e
+    rw n (stopped (line_in s v (k + 1) last r) (λ x. behind_line_in v x.1) _ _ before d (λ x y h. absurd cc) e)
 
 -- the fault of a line is the fault of the lines
 pub fault_stops : (s : Source) (v : ImageVersion) (count k last : ℕ) (before : CommentedList)

@@ -1,5 +1,5 @@
 -- The images of terms, expressions, conditions and tuples are lists of bytes, all below 256.
-use Rattle.std.proofs.Common.{ℕ, ◌<◌, List, ◌++◌, arith, Option, Some, None, ◌∷◌, []}
+use Rattle.std.proofs.Common.{ℕ, ◌<◌, List, ◌++◌, arith, Option, Some, None}
 use Rattle.std.specs.Int.{w16, to_be_bytes, w64}
 use Rattle.snap_words.specs.declared.kind.Field.{Field}
 use Rattle.snap_words.specs.declared.kind.Field.TheVariants as field
@@ -17,7 +17,7 @@ use Rattle.snap_semantics.specs.declared.instr.Expr.{Expr}
 use Rattle.snap_semantics.specs.declared.instr.Expr.TheVariants as expr
 use Rattle.snap_semantics.specs.declared.instr.Comparison.{Comparison}
 use Rattle.snap_semantics.specs.declared.instr.Condition.{Condition}
-use Rattle.snap_semantics.specs.declared.instr.Condition.TheVariants.{One, Two, Three, Four}
+use Rattle.snap_semantics.specs.declared.instr.Condition.TheVariants.{One}
 use Rattle.snap_semantics.specs.declared.instr.Tuple.{Tuple}
 use Rattle.snap_semantics.specs.declared.instr.Tuple.TheVariants as tuple
 use Rattle.snap_semantics.specs.Source.{Name, Source}
@@ -37,21 +37,17 @@ pub appended : (x y : List ℕ) → AreBytes x → AreBytes y → AreBytes (x ++
 appended x y g h = all_both IsByte x y g h
 
 pub short_bytes : (k : ℕ) → AreBytes (to_be_bytes w16 k)
-short_bytes k = (omega arith, (omega arith, tt))
+short_bytes k = search arith
 
 long_bytes : (k : ℕ) → AreBytes (to_be_bytes w64 k)
-long_bytes k = (
-  omega arith,
-  (omega arith, (omega arith, (omega arith, (omega arith, (omega arith, (omega arith, (omega arith, tt))))))),
-)
+long_bytes k = search arith parts 8
 
 pub slot_is_byte : (names : List Name) (x : Name) → IsTable names → IsByte (slot names x)
 slot_is_byte names x tables = let within = slot_within names x in omega (arith, within, tables.0)
 
 relation_is_byte : (k : Relation) → IsByte (relation_code k)
 relation_is_byte relation.Equal = omega arith
-relation_is_byte relation.Different = omega arith
-relation_is_byte relation.Less = omega arith
+relation_is_byte _ = omega arith
 
 join_is_byte : (j : Join) → IsByte (join_code j)
 join_is_byte join.And = omega arith
@@ -63,80 +59,33 @@ range_is_byte range.Words = omega arith
 
 field_is_byte : (f : Field) → IsByte (term_code (field_tag f))
 field_is_byte field.Seq = omega arith
-field_is_byte field.Datum = omega arith
-field_is_byte field.Toggle = omega arith
-field_is_byte field.Id = omega arith
+field_is_byte _ = omega arith
+
+ruleset parts_are_bytes = (appended, slot_is_byte, long_bytes, relation_is_byte, join_is_byte, field_is_byte, arith)
 
 pub index_bytes : (g : Source) → Tables g → (i : Index) → AreBytes (index_image g i)
 index_bytes g tables (index.Number k) = (omega arith, long_bytes k)
-index_bytes g tables index.Processes = (omega arith, tt)
-index_bytes g tables index.Words = (omega arith, tt)
-index_bytes g tables index.Me = (omega arith, tt)
-index_bytes g tables index.Word = (omega arith, tt)
-index_bytes g tables index.Place = (omega arith, tt)
-index_bytes g tables (index.Scalar x) = (omega arith, (slot_is_byte g.scalars x tables.scalars, tt))
+index_bytes g tables _ = search parts_are_bytes
 
 term_bytes : (g : Source) → Tables g → (t : Term) → AreBytes (term_image g t)
 term_bytes g tables (term.Index i) = index_bytes g tables i
-term_bytes g tables term.Arg = (omega arith, tt)
-term_bytes g tables (term.Row x i) = (omega arith, (slot_is_byte g.rows x tables.rows, index_bytes g tables i))
-term_bytes g tables (term.Field f x i) =
-    (field_is_byte f, (slot_is_byte g.words x tables.words, index_bytes g tables i))
-term_bytes g tables (term.Handshake x i j) = (
-  omega arith,
-  (
-    slot_is_byte g.words x tables.words,
-    appended (index_image g i) (index_image g j) (index_bytes g tables i)
-        (index_bytes g tables j),
-  ),
-)
+term_bytes g tables _ = search (index_bytes, parts_are_bytes)
 
 pub expr_bytes : (g : Source) → Tables g → (x : Expr) → AreBytes (expr_image g x)
 expr_bytes g tables (expr.Term t) = (omega arith, term_bytes g tables t)
-expr_bytes g tables (expr.Sum t u) =
-    (omega arith, appended (term_image g t) (term_image g u) (term_bytes g tables t) (term_bytes g tables u))
-expr_bytes g tables (expr.Not t) = (omega arith, term_bytes g tables t)
+expr_bytes g tables _ = search (term_bytes, parts_are_bytes)
 
 comparison_bytes : (g : Source) → Tables g → (k : Comparison) → AreBytes (comparison_image g k)
-comparison_bytes g tables k = (
-  relation_is_byte k.relation,
-  appended (term_image g k.left) (term_image g k.right) (term_bytes g tables k.left)
-      (term_bytes g tables k.right),
-)
-
--- two comparisons, three and four
-two_bytes : (g : Source) → Tables g → (k l : Comparison) → AreBytes (comparison_image g k ++ comparison_image g l)
-two_bytes g tables k l =
-    appended (comparison_image g k) (comparison_image g l) (comparison_bytes g tables k) (comparison_bytes g tables l)
-
-three_bytes : (g : Source) → Tables g → (k l m : Comparison) →
-    AreBytes (comparison_image g k ++ (comparison_image g l ++ comparison_image g m))
-three_bytes g tables k l m =
-    appended (comparison_image g k) (comparison_image g l ++ comparison_image g m)
-    (comparison_bytes g tables k) (two_bytes g tables l m)
+comparison_bytes g tables k = search (term_bytes, parts_are_bytes)
 
 pub condition_bytes : (g : Source) → Tables g → (k : Condition) → AreBytes (condition_image g k)
 condition_bytes g tables (One k) = (omega arith, (omega arith, comparison_bytes g tables k))
-condition_bytes g tables (Two j k l) = (omega arith, (join_is_byte j, two_bytes g tables k l))
-condition_bytes g tables (Three j k l m) = (omega arith, (join_is_byte j, three_bytes g tables k l m))
-condition_bytes g tables (Four j k l m o) =
-    let last_three = three_bytes g tables l m o in
-    (omega arith, (join_is_byte j, appended (comparison_image g k) _ (comparison_bytes g tables k) last_three))
+condition_bytes g tables _ = search (comparison_bytes, parts_are_bytes)
 
 pub where_bytes : (g : Source) → Tables g → (k : Option Condition) → AreBytes (where_image g k)
 where_bytes g tables None = (omega arith, tt)
 where_bytes g tables (Some k) = (omega arith, condition_bytes g tables k)
 
 pub tuple_bytes : (g : Source) → Tables g → (t : Tuple) → AreBytes (tuple_image g t)
-tuple_bytes g tables (tuple.Seq m n v) =
-    let last_two =
-    appended (expr_image g n) (slot g.views v ∷ []) (expr_bytes g tables n) (slot_is_byte g.views v tables.views, tt) in
-    appended (expr_image g m) (expr_image g n ++ slot g.views v ∷ []) (expr_bytes g tables m) last_two
-tuple_bytes g tables (tuple.Bits m x n v) =
-    let last_two =
-    appended (expr_image g n) (slot g.views v ∷ []) (expr_bytes g tables n) (slot_is_byte g.views v tables.views, tt) in
-    appended (expr_image g m) (slot g.rows x ∷ (expr_image g n ++ slot g.views v ∷ [])) (expr_bytes g tables m)
-    (slot_is_byte g.rows x tables.rows, last_two)
-tuple_bytes g tables (tuple.Multi m n o) =
-    let last_two = appended (expr_image g n) (expr_image g o) (expr_bytes g tables n) (expr_bytes g tables o) in
-    appended (expr_image g m) (expr_image g n ++ expr_image g o) (expr_bytes g tables m) last_two
+tuple_bytes g tables (tuple.Multi m n o) = search (expr_bytes, appended)
+tuple_bytes g tables _ = search (expr_bytes, parts_are_bytes) depth 9

@@ -12,9 +12,8 @@ use Rattle.snap_semantics.specs.declared.text.Sort.{Sort}
 use Rattle.snap_semantics.specs.Answers.{◌>>=◌}
 use Rattle.snap_image.specs.Image.{slot}
 use Rattle.snap_image.specs.ImageCodes.{Codes, coded, of_code}
-use Rattle.snap_image.specs.ImageForms.{of_one, of_two, of_three, of_four}
-use Rattle.snap_image.specs.ImageForms.{Rest, Read, byte_from, byte_in, bytes_in, short_in, long_in, known_code}
-use Rattle.snap_image.specs.ImageForms.{code_in, known_name, slot_in}
+use Rattle.snap_image.specs.ImageForms.{of_one, of_two, of_three, of_four, Rest, Read, byte_from, byte_in, bytes_in}
+use Rattle.snap_image.specs.ImageForms.{short_in, long_in, known_code, code_in, known_name, slot_in}
 use Rattle.snap_semantics.specs.RightUses.{IsRight}
 use Rattle.snap_semantics.specs.Source.{Name, Source}
 use Rattle.snap_semantics.specs.Uses.{Use, Named}
@@ -54,24 +53,27 @@ holds_if P false r t g h = h refl
 pub record Says {A : Type 0} (P : Rest → (A × Rest) → Type 0) (read : Rest → Read A) : Type 0 where
   pub said : (r : Rest) → Holds (P r) (read r)
 
+pub then_said : {A B : Type 0} {P : Rest → (A × Rest) → Type 0} {f : Rest → Read A} (O : B → Type 0)
+    (g : (A × Rest) → Result B ImageRefusal) → Says P f → (r : Rest) → ((a : A × Rest) → P r a → Holds O (g a)) →
+    Holds O (f r >>= g)
+then_said {P = P} {f = f} O g p r h = then_with (P r) O (f r) g (p.said r) h
+
 -- what is made of one part, and of so many that stand behind one another
 pub of_one_said : {A X : Type 0} {P : Rest → (A × Rest) → Type 0} {f : Rest → Read A} (O : (X × Rest) → Type 0)
     (make : A → X) → Says P f → (r : Rest) → ((a : A × Rest) → P r a → O (make a.0, a.1)) → Holds O (of_one f make r)
-of_one_said {A} {X} {P} {f} O make p r h = then_with (P r) O (f r) _ (p.said r) h
+of_one_said O make p r h = then_said O _ p r h
 
 pub of_two_said : {A B X : Type 0} {P : Rest → (A × Rest) → Type 0} {Q : Rest → (B × Rest) → Type 0} {f : Rest → Read A}
     {g : Rest → Read B} (O : (X × Rest) → Type 0) (make : A → B → X) → Says P f → Says Q g → (r : Rest) →
     ((a : A × Rest) → P r a → (b : B × Rest) → Q a.1 b → O (make a.0 b.0, b.1)) → Holds O (of_two f g make r)
-of_two_said {A} {B} {X} {P} {Q} {f} {g} O make p q r h =
-    then_with (P r) O (f r) _ (p.said r) (λ a pa. of_one_said O (make a.0) q a.1 (h a pa))
+of_two_said O make p q r h = then_said O _ p r (λ a pa. of_one_said O (make a.0) q a.1 (h a pa))
 
 pub of_three_said : {A B C X : Type 0} {P : Rest → (A × Rest) → Type 0} {Q : Rest → (B × Rest) → Type 0}
     {R : Rest → (C × Rest) → Type 0} {f : Rest → Read A} {g : Rest → Read B} {i : Rest → Read C}
     (O : (X × Rest) → Type 0) (make : A → B → C → X) → Says P f → Says Q g → Says R i → (r : Rest) →
     ((a : A × Rest) → P r a → (b : B × Rest) → Q a.1 b → (c : C × Rest) → R b.1 c → O (make a.0 b.0 c.0, c.1)) →
     Holds O (of_three f g i make r)
-of_three_said {A} {B} {C} {X} {P} {Q} {R} {f} {g} {i} O make p q s r h =
-    then_with (P r) O (f r) _ (p.said r) (λ a pa. of_two_said O (make a.0) q s a.1 (h a pa))
+of_three_said O make p q s r h = then_said O _ p r (λ a pa. of_two_said O (make a.0) q s a.1 (h a pa))
 
 pub of_four_said : {A B C D X : Type 0} {P : Rest → (A × Rest) → Type 0} {Q : Rest → (B × Rest) → Type 0}
     {R : Rest → (C × Rest) → Type 0} {S : Rest → (D × Rest) → Type 0} {f : Rest → Read A} {g : Rest → Read B}
@@ -79,8 +81,7 @@ pub of_four_said : {A B C D X : Type 0} {P : Rest → (A × Rest) → Type 0} {Q
     Says Q g → Says R i → Says S j → (r : Rest) → ((a : A × Rest) → P r a → (b : B × Rest) → Q a.1 b →
     (c : C × Rest) → R b.1 c → (d : D × Rest) → S c.1 d → O (make a.0 b.0 c.0 d.0, d.1)) →
     Holds O (of_four f g i j make r)
-of_four_said {A} {B} {C} {D} {X} {P} {Q} {R} {S} {f} {g} {i} {j} O make p q s t r h =
-    then_with (P r) O (f r) _ (p.said r) (λ a pa. of_three_said O (make a.0) q s t a.1 (h a pa))
+of_four_said O make p q s t r h = then_said O _ p r (λ a pa. of_three_said O (make a.0) q s t a.1 (h a pa))
 
 -- What the bytes `before` say: `said`, with `after` behind it, in a form that can be said; what it
 -- speaks of is right in the listing.
@@ -151,8 +152,8 @@ byte_from_is : (passed : ℕ) (bytes : List ℕ) → Holds (λ x. bytes ≡ x.0 
 byte_from_is passed [] = tt
 byte_from_is passed (b ∷ bytes) = refl
 
-pub byte_is : (r : Rest) → Holds (ByteIs r) (byte_in r)
-byte_is r = byte_from_is r.passed r.bytes
+pub a_byte : Says ByteIs byte_in
+a_byte = record { said = λ r. byte_from_is r.passed r.bytes }
 
 -- a code that is found is that of the byte
 abbrev pub Known : {A : Type 0} → (A → Type 0) → Option A → Type 0
@@ -176,14 +177,12 @@ known_is : {A : Type 0} (codes : Codes A) (r after : Rest) (b : ℕ) (o : Option
 known_is codes r after b None e h = tt
 known_is codes r after b (Some x) e h = e ∙ ap (λ (k : ℕ). k ∷ after.bytes) (sym h)
 
-pub code_is : {A : Type 0} (codes : Codes A) (r : Rest) → Holds (CodeIs codes r) (code_in codes r)
-unfolding code_in
-code_is codes r =
-    then_with (ByteIs r) (CodeIs codes r) (byte_in r) _ (byte_is r)
-    (λ b e. known_is codes r b.1 b.0 (of_code codes b.0) e (coded_is codes.code codes.all b.0))
-
 pub a_code : {A : Type 0} (codes : Codes A) → Says (CodeIs codes) (code_in codes)
-a_code codes = record { said = λ r. code_is codes r }
+unfolding code_in
+a_code codes = record {
+  said = λ r. then_said (CodeIs codes r) _ a_byte r
+      (λ b e. known_is codes r b.1 b.0 (of_code codes b.0) e (coded_is codes.code codes.all b.0));
+}
 
 -- what the names of a sort give for a slot
 abbrev pub HasSlots : Source → List Name → Sort → Type 0
@@ -202,12 +201,13 @@ name_is s names wanted line r after b (Some x) h g e =
     let q : r.bytes ≡ slot names x ∷ after.bytes = e ∙ ap (λ (k : ℕ). k ∷ after.bytes) (sym p.0) in
     record { bytes = λ small. (q, one_less r.bytes after.bytes (slot names x) q small, tt); uses = (p.1, tt) }
 
-pub slot_is : (s : Source) (names : List Name) (wanted : Sort) → HasSlots s names wanted → (line : ℕ) (r : Rest) →
-    Holds (SlotIs s names wanted r) (slot_in line names r)
+pub a_slot : (s : Source) (names : List Name) (wanted : Sort) → HasSlots s names wanted → (line : ℕ) →
+    Says (SlotIs s names wanted) (slot_in line names)
 unfolding slot_in
-slot_is s names wanted h line r =
-    then_with (ByteIs r) (SlotIs s names wanted r) (byte_in r) _ (byte_is r)
-    (λ b e. name_is s names wanted line r b.1 b.0 (slice_get names b.0) h refl e)
+a_slot s names wanted h line = record {
+  said = λ r. then_said (SlotIs s names wanted r) _ a_byte r
+      (λ b e. name_is s names wanted line r b.1 b.0 (slice_get names b.0) h refl e);
+}
 
 small_take : (n : ℕ) (bytes : List ℕ) → AreBytes bytes → AreBytes (take n bytes)
 small_take zero bytes h = tt
@@ -225,70 +225,59 @@ small_at (b ∷ bytes) h zero = h.0
 small_at (b ∷ bytes) h (suc i) = small_at bytes h.1 i
 
 -- this many bytes, and those behind them
-abbrev pub BytesAre : ℕ → Rest → (List ℕ × Rest) → Type 0
+abbrev BytesAre : ℕ → Rest → (List ℕ × Rest) → Type 0
 BytesAre n r x =
     (length x.0 ≡ n) × (r.bytes ≡ x.0 ++ x.1.bytes) × (AreBytes r.bytes → AreBytes x.0 × AreBytes x.1.bytes)
 
-pub bytes_are : (n : ℕ) (r : Rest) → Holds (BytesAre n r) (bytes_in n r)
-bytes_are n r =
-    holds_if (BytesAre n r) (nat_le n (length r.bytes)) _ _
-    (λ e. let le : n ≤ length r.bytes = grind arith in (
-      length-take-le n r.bytes le,
-      sym (take-append-drop n r.bytes),
-      λ small. (small_take n r.bytes small, small_drop n r.bytes small),
-    ))
-    (λ e. tt)
+some_bytes : (n : ℕ) → Says (BytesAre n) (bytes_in n)
+some_bytes n = record {
+  said = λ r. holds_if (BytesAre n r) (nat_le n (length r.bytes)) _ _
+      (λ e. let le : n ≤ length r.bytes = grind arith in (
+        length-take-le n r.bytes le,
+        sym (take-append-drop n r.bytes),
+        λ small. (small_take n r.bytes small, small_drop n r.bytes small),
+      ))
+      (λ e. tt);
+}
 
-below_16 : (bs : List ℕ) → ((i : ℕ) → get_or bs i 0 < 256) → from_be_bytes w16 bs < 2 ^ 16
-below_16 bs small = let a = small 0 in let b = small 1 in omega arith
+-- a number that bytes say
+number_is : {s : Source} {F : Type 0} (n : ℕ) (r : Rest) (x : List ℕ × Rest) (said : List ℕ) → BytesAre n r x →
+    (((i : ℕ) → get_or x.0 i 0 < 256) → (said ≡ x.0) × F) → Part s r.bytes said x.1.bytes [] F
+number_is n r x said h k = record {
+  bytes = λ small.
+      let t = h.2 small in
+      let w = k (small_at x.0 t.0) in
+      (h.1 ∙ ap (λ (z : List ℕ). z ++ x.1.bytes) (sym w.0), t.1, w.1);
+  uses = tt;
+}
 
 abbrev pub ShortFits : Source → Rest → (ℕ × Rest) → Type 0
 ShortFits s r x = Part s r.bytes (to_be_bytes w16 x.0) x.1.bytes [] (x.0 < 2 ^ 16)
 
-pub short_fits : (s : Source) (r : Rest) → Holds (ShortFits s r) (short_in r)
+pub a_short : (s : Source) → Says (ShortFits s) short_in
 unfolding short_in
-short_fits s r =
-    then_with (BytesAre 2 r) (ShortFits s r) (bytes_in 2 r) _ (bytes_are 2 r) (λ x h. record {
-      bytes = λ small.
-          let t = h.2 small in
-          let w : to_be_bytes w16 (from_be_bytes w16 x.0) ≡ x.0 =
-          be_bytes_2 x.0 (from_be_bytes w16 x.0) h.0 (small_at x.0 t.0) refl in
-          (h.1 ∙ ap (λ (z : List ℕ). z ++ x.1.bytes) (sym w), t.1, below_16 x.0 (small_at x.0 t.0));
-      uses = tt;
-    })
+a_short s = record {
+  said = λ r. then_said (ShortFits s r) _ (some_bytes 2) r (λ x h. number_is 2 r x _ h (λ small.
+      (be_bytes_2 x.0 (from_be_bytes w16 x.0) h.0 small refl, omega (arith, small 0, small 1))));
+}
 
 abbrev pub ShortIs : Source → Rest → (ℕ × Rest) → Type 0
 ShortIs s r x = Part s r.bytes (to_be_bytes w16 x.0) x.1.bytes [] U
 
-pub short_is : (s : Source) (r : Rest) → Holds (ShortIs s r) (short_in r)
-short_is s r = holds_as (ShortFits s r) (ShortIs s r) (short_in r) (short_fits s r) (λ x p. reformed (λ f. tt) p)
-
-below_64 : (bs : List ℕ) → ((i : ℕ) → get_or bs i 0 < 256) → from_be_bytes w64 bs < 2 ^ 64
-below_64 bs small =
-    let a = small 0 in
-    let b = small 1 in
-    let c = small 2 in
-    let d = small 3 in
-    let e = small 4 in
-    let f = small 5 in
-    let g = small 6 in
-    let h = small 7 in
-    omega arith
+-- a number of two bytes, of which its size says nothing
+pub a_number : (s : Source) → Says (ShortIs s) short_in
+a_number s = record {
+  said = λ r. holds_as (ShortFits s r) (ShortIs s r) (short_in r) ((a_short s).said r) (λ x p. reformed (λ f. tt) p);
+}
 
 abbrev pub LongIs : Source → Rest → (ℕ × Rest) → Type 0
 LongIs s r x = Part s r.bytes (to_be_bytes w64 x.0) x.1.bytes [] (x.0 < 2 ^ 64)
 
-long_is : (s : Source) (r : Rest) → Holds (LongIs s r) (long_in r)
-unfolding long_in
-long_is s r =
-    then_with (BytesAre 8 r) (LongIs s r) (bytes_in 8 r) _ (bytes_are 8 r) (λ x h. record {
-      bytes = λ small.
-          let t = h.2 small in
-          let w : to_be_bytes w64 (from_be_bytes w64 x.0) ≡ x.0 =
-          be_bytes_8 x.0 (from_be_bytes w64 x.0) h.0 (small_at x.0 t.0) refl in
-          (h.1 ∙ ap (λ (z : List ℕ). z ++ x.1.bytes) (sym w), t.1, below_64 x.0 (small_at x.0 t.0));
-      uses = tt;
-    })
-
 pub a_long : (s : Source) → Says (LongIs s) long_in
-a_long s = record { said = λ r. long_is s r }
+unfolding long_in
+a_long s = record {
+  said = λ r. then_said (LongIs s r) _ (some_bytes 8) r (λ x h. number_is 8 r x _ h (λ small. (
+    be_bytes_8 x.0 (from_be_bytes w64 x.0) h.0 small refl,
+    omega (arith, small 0, small 1, small 2, small 3, small 4, small 5, small 6, small 7),
+  )));
+}

@@ -19,12 +19,11 @@ use Rattle.snap_semantics.specs.Answers.{refused_as}
 use Rattle.snap_semantics.specs.Comments.{Comment, Commented, IsComment, IsCommented, no_comment}
 use Rattle.snap_image.specs.Image.{line_image, lines_image, names_image, table_image, signature, image_in}
 use Rattle.snap_image.specs.Image.{is_number_in, CanSay, IsImageOf}
-use Rattle.snap_image.specs.ImageCodes.{kinds, kind_code, versions, version_code}
-use Rattle.snap_image.specs.ImageForms.{Rest, byte_in, short_in, code_in}
-use Rattle.snap_image.specs.ImageInstrs.{instr_in}
-use Rattle.snap_image.specs.ImageListing.{signature_in, version_in, letter, letters_in, length_in, new_name}
-use Rattle.snap_image.specs.ImageListing.{name_in, names_in, few_names, table_in, line_count_in, head_in}
-use Rattle.snap_image.specs.ImageListing.{new_number, behind_line_in, line_in, lines_in, ended, commented_in}
+use Rattle.snap_image.specs.ImageCodes.{kinds, kind_code, version_code}
+use Rattle.snap_image.specs.ImageForms.{Rest}
+use Rattle.snap_image.specs.ImageListing.{signature_in, letter, letters_in, length_in, new_name, name_in, names_in}
+use Rattle.snap_image.specs.ImageListing.{few_names, table_in, line_count_in, head_in, new_number, line_in, lines_in}
+use Rattle.snap_image.specs.ImageListing.{ended, commented_in}
 use Rattle.snap_semantics.specs.IsListing.{IsName, AreDistinct, AreRising, IsLine, IsListing}
 use Rattle.snap_semantics.specs.Listing.{all_names, has_line, checked_targets, line_targets, with_lines}
 use Rattle.snap_semantics.specs.ListingForms.{is_reserved}
@@ -33,12 +32,12 @@ use Rattle.snap_semantics.specs.Token.{is_letter}
 use Rattle.snap_semantics.specs.Uses.{is_among}
 use Rattle.snap_image.specs.Laws.{AreBytes, DecodesOnlyImages}
 use Rattle.snap_listing.proofs.Alls.{all_both}
-use Rattle.snap_image.proofs.Parts.{Holds, then_with, holds_as, holds_of, holds_if, Part, U, both, skip}
-use Rattle.snap_image.proofs.Parts.{reformed, ByteIs, byte_is, CodeIs, code_is, ShortIs, short_is}
+use Rattle.snap_image.proofs.Parts.{Holds, then_with, holds_as, holds_of, holds_if, Says, then_said, Part, U, both}
+use Rattle.snap_image.proofs.Parts.{skip, reformed, none, a_byte, a_code, ShortIs, a_number}
 use Rattle.snap_image.proofs.Distinct.{head_distinct}
-use Rattle.snap_image.proofs.SaidComments.{version_is, IsSayable, BehindIs, behind_is}
-use Rattle.snap_image.proofs.SaidForms.{Slots, behind}
-use Rattle.snap_image.proofs.InstrLaws.{InstrIs, instr_is}
+use Rattle.snap_image.proofs.SaidComments.{a_version, IsSayable, a_behind}
+use Rattle.snap_image.proofs.SaidForms.{Begun, whole, behind}
+use Rattle.snap_image.proofs.InstrLaws.{instr_said}
 use Rattle.snap_image.proofs.Shorts.{number_within, numbered}
 use Rattle.snap_image.proofs.Slots.{slots_of}
 
@@ -56,21 +55,22 @@ number_ok v line last number =
 abbrev IsSaid : Source → ImageVersion → ℕ → Line → Type 0
 IsSaid g v last line = IsLine g line × (is_number_in v line.number ≡ true) × (last < line.number)
 
-abbrev LineIs : List Line → Source → ImageVersion → ℕ → Rest → (Line × Rest) → Type 0
-LineIs ls s v last r x = let g = with_lines ls s in Part g r.bytes (line_image g x.0) x.1.bytes [] (IsSaid g v last x.0)
+abbrev LineIs : Source → ImageVersion → ℕ → Rest → (Line × Rest) → Type 0
+LineIs g v last r x = Part g r.bytes (line_image g x.0) x.1.bytes [] (IsSaid g v last x.0)
 
-line_is : (ls : List Line) (s : Source) → Slots (with_lines ls s) → (v : ImageVersion) (line last : ℕ) (r : Rest) →
-    Holds (LineIs ls s v last r) (line_in s v line last r)
+a_line : (l : Begun) (v : ImageVersion) (line last : ℕ) → Says (LineIs (whole l) v last) (line_in l.source v line last)
 unfolding line_in
-line_is ls s h v line last r =
-    let g = with_lines ls s in
-    let L = LineIs ls s v last r in
-    then_with (ShortIs g r) L (short_in r) _ (short_is g r) (λ n pn.
-    then_with (NumberIs v last n.0) L (new_number v line last n.0) _ (number_ok v line last n.0) (λ done k.
-    then_with (InstrIs ls s n.1) L (instr_in s line n.1) _ (instr_is ls s h line n.1) (λ i pi.
-    let p =
-    reformed (λ f. (record { number = number_within v n.0 k.0; form = f; uses = pi.uses }, k.0, k.1)) (skip pn pi) in
-    record { bytes = p.bytes; uses = tt })))
+a_line l v line last = record {
+  said = λ r.
+      let L = LineIs (whole l) v last r in
+      then_said L _ (a_number (whole l)) r (λ n pn.
+      then_with (NumberIs v last n.0) L (new_number v line last n.0) _ (number_ok v line last n.0) (λ done k.
+      then_said L _ (instr_said l line) n.1 (λ i pi.
+      let p =
+      reformed (λ f. (record { number = number_within v n.0 k.0; form = f; uses = pi.uses }, k.0, k.1))
+      (skip pn pi) in
+      record { bytes = p.bytes; uses = tt })));
+}
 
 -- a listing with these lines and comments
 abbrev with_comments : Source → List Line → List Comment → Commented
@@ -109,38 +109,32 @@ one_more_line g v last count x c xs cs line comment h = record {
   sayable = one_more_sayable g v x c xs cs line.1 comment.1 h.sayable;
 }
 
-abbrev LinesAre : List Line → Source → ImageVersion → ℕ → ℕ → Rest → ((List Line × List Comment) × Rest) → Type 0
-LinesAre ls s v count last r x =
-    let g = with_lines ls s in
+abbrev LinesAre : Source → ImageVersion → ℕ → ℕ → Rest → ((List Line × List Comment) × Rest) → Type 0
+LinesAre g v count last r x =
     Part g r.bytes (lines_image v g x.0.0 x.0.1) x.1.bytes [] (AreLines g v last count x.0.0 x.0.1)
 
-lines_are : (ls : List Line) (s : Source) → Slots (with_lines ls s) → (v : ImageVersion) (count line last : ℕ)
-    (r : Rest) → Holds (LinesAre ls s v count last r) (lines_in s v count line last r)
+some_lines : (l : Begun) (v : ImageVersion) (count line last : ℕ) →
+    Says (LinesAre (whole l) v count last) (lines_in l.source v count line last)
 unfolding lines_in
-lines_are ls s h v zero line last r =
-    let g = with_lines ls s in record {
-      bytes = λ small. (
-        refl,
-        small,
-        record {
-          lines = tt;
-          rising = tt;
-          count = refl;
-          each_line = refl;
-          comments = tt;
-          sayable = nothing_sayable g v;
-        },
-      );
-      uses = tt;
-    }
-lines_are ls s h v (suc count) line last r =
-    let g = with_lines ls s in
-    let L = LinesAre ls s v (suc count) last r in
-    then_with (LineIs ls s v last r) L (line_in s v line last r) _ (line_is ls s h v line last r) (λ x p.
-    then_with (BehindIs g v x.1) L (behind_line_in v x.1) _ (behind_is g v x.1) (λ c q.
-    then_with (LinesAre ls s v count x.0.number c.1) L (lines_in s v count (line + 1) x.0.number c.1) _
-    (lines_are ls s h v count (line + 1) x.0.number c.1) (λ xs k.
-    reformed (λ f. one_more_line g v last count x.0 c.0 xs.0.0 xs.0.1 f.0 f.1.0 f.1.1) (both p (both q k)))))
+some_lines l v zero line last = record {
+  said = λ r. reformed (λ f. record {
+    lines = tt;
+    rising = tt;
+    count = refl;
+    each_line = refl;
+    comments = tt;
+    sayable = nothing_sayable (whole l) v;
+  }) (none (whole l) r.bytes);
+}
+some_lines l v (suc count) line last = record {
+  said = λ r.
+      let L = LinesAre (whole l) v (suc count) last r in
+      then_said L _ (a_line l v line last) r (λ x p.
+      then_said L _ (a_behind (whole l) v) x.1 (λ c q.
+      then_said L _ (some_lines l v count (line + 1) x.0.number) c.1 (λ xs k.
+      reformed (λ f. one_more_line (whole l) v last count x.0 c.0 xs.0.0 xs.0.1 f.0 f.1.0 f.1.1)
+      (both p (both q k)))));
+}
 
 small_after : (xs ys : List ℕ) → AreBytes (xs ++ ys) → AreBytes ys
 small_after [] ys h = h
@@ -160,29 +154,30 @@ IsLetter b done = is_letter b ≡ true
 letter_is : (b : ℕ) → Holds (IsLetter b) (letter b)
 letter_is b = holds_if (IsLetter b) (is_letter b) _ _ (λ e. e) (λ e. tt)
 
-letters_are : (count : ℕ) (r : Rest) → Holds (LettersAre count r) (letters_in count r)
+some_letters : (count : ℕ) → Says (LettersAre count) (letters_in count)
 unfolding letters_in
-letters_are zero r = (refl, refl, refl)
-letters_are (suc count) r =
-    let P = LettersAre (suc count) r in
-    then_with (ByteIs r) P (byte_in r) _ (byte_is r) (λ b e.
-    then_with (IsLetter b.0) P (letter b.0) _ (letter_is b.0) (λ done good.
-    then_with (LettersAre count b.1) P (letters_in count b.1) _ (letters_are count b.1) (λ x h. (
-      ap (λ (n : ℕ). suc n) h.0,
-      e ∙ ap (λ (z : List ℕ). b.0 ∷ z) h.1,
-      and_from (is_letter b.0) (list_all is_letter x.0) good h.2,
-    ))))
+some_letters zero = record { said = λ r. (refl, refl, refl) }
+some_letters (suc count) = record {
+  said = λ r.
+      let P = LettersAre (suc count) r in
+      then_said P _ a_byte r (λ b e.
+      then_with (IsLetter b.0) P (letter b.0) _ (letter_is b.0) (λ done good.
+      then_said P _ (some_letters count) b.1 (λ x h. (
+        ap (λ (n : ℕ). suc n) h.0,
+        e ∙ ap (λ (z : List ℕ). b.0 ∷ z) h.1,
+        and_from (is_letter b.0) (list_all is_letter x.0) good h.2,
+      ))));
+}
 
 abbrev LengthIs : Rest → (ℕ × Rest) → Type 0
 LengthIs r x = (r.bytes ≡ x.0 ∷ x.1.bytes) × (0 < x.0) × (x.0 ≤ 8)
 
-length_is : (r : Rest) → Holds (LengthIs r) (length_in r)
+a_length : Says LengthIs length_in
 unfolding length_in
-length_is r =
-    let P = LengthIs r in
-    then_with (ByteIs r) P (byte_in r) _ (byte_is r) (λ b e.
-    holds_if P (nat_le 1 b.0 && nat_le b.0 8) _ _
-    (λ f. let some : 0 < b.0 = grind arith in let few : b.0 ≤ 8 = grind arith in (e, some, few)) (λ f. tt))
+a_length = record {
+  said = λ r. then_said (LengthIs r) _ a_byte r (λ b e.
+      holds_if (LengthIs r) (nat_le 1 b.0 && nat_le b.0 8) _ _ (λ f. (e, grind arith, grind arith)) (λ f. tt));
+}
 
 abbrev NotReserved : Name → Unit {0} → Type 0
 NotReserved x done = is_reserved x ≡ false
@@ -200,35 +195,35 @@ named x some few letters e =
     let short : nat_lt 8 (length x) ≡ false = grind arith in
     ((some, letters), or_from (nat_lt 8 (length x)) (is_reserved x) short e)
 
-name_is : (known : List Name) (r : Rest) → Holds (NameIs r) (name_in known r)
+a_name : (known : List Name) → Says NameIs (name_in known)
 unfolding name_in
-name_is known r =
-    let P = NameIs r in
-    then_with (LengthIs r) P (length_in r) _ (length_is r) (λ n e.
-    then_with (LettersAre n.0 n.1) P (letters_in n.0 n.1) _ (letters_are n.0 n.1) (λ x h.
-    then_with (NotReserved x.0) P (new_name known x.0) _ (new_is known x.0) (λ done f.
-    let some : 0 < length x.0 = subst (λ (k : ℕ). 0 < k) (sym h.0) e.1 in
-    let few : length x.0 ≤ 8 = subst (λ (k : ℕ). k ≤ 8) (sym h.0) e.2 in (
-      e.0 ∙ ap (λ (z : List ℕ). n.0 ∷ z) h.1 ∙ ap (λ (k : ℕ). k ∷ (x.0 ++ x.1.bytes)) (sym h.0),
-      named x.0 some few h.2 f,
-    ))))
+a_name known = record {
+  said = λ r.
+      then_said (NameIs r) _ a_length r (λ n e.
+      then_said (NameIs r) _ (some_letters n.0) n.1 (λ x h.
+      then_with (NotReserved x.0) (NameIs r) (new_name known x.0) _ (new_is known x.0) (λ done f. (
+        e.0 ∙ ap (λ (z : List ℕ). n.0 ∷ z) h.1 ∙ ap (λ (k : ℕ). k ∷ (x.0 ++ x.1.bytes)) (sym h.0),
+        named x.0 (omega (arith, h.0, e.1)) (omega (arith, h.0, e.2)) h.2 f,
+      ))));
+}
 
 abbrev NamesAre : ℕ → Rest → (List Name × Rest) → Type 0
 NamesAre count r x = (r.bytes ≡ names_image x.0 ++ x.1.bytes) × (length x.0 ≡ count) × AllByRecursion IsName x.0
 
-names_are : (count : ℕ) (known : List Name) (r : Rest) → Holds (NamesAre count r) (names_in count known r)
+some_names : (count : ℕ) (known : List Name) → Says (NamesAre count) (names_in count known)
 unfolding names_in
-names_are zero known r = (refl, refl, tt)
-names_are (suc count) known r =
-    let P = NamesAre (suc count) r in
-    then_with (NameIs r) P (name_in known r) _ (name_is known r) (λ x e.
-    then_with (NamesAre count x.1) P (names_in count (known ++ x.0 ∷ []) x.1) _
-    (names_are count (known ++ x.0 ∷ []) x.1) (λ xs h. (
-      e.0 ∙ ap (λ (z : List ℕ). length x.0 ∷ (x.0 ++ z)) h.0
-          ∙ ap (λ (z : List ℕ). length x.0 ∷ z) (sym (append_assoc x.0 (names_image xs.0) xs.1.bytes)),
-      ap (λ (n : ℕ). suc n) h.1,
-      (e.1, h.2),
-    )))
+some_names zero known = record { said = λ r. (refl, refl, tt) }
+some_names (suc count) known = record {
+  said = λ r.
+      let P = NamesAre (suc count) r in
+      then_said P _ (a_name known) r (λ x e.
+      then_said P _ (some_names count (known ++ x.0 ∷ [])) x.1 (λ xs h. (
+        e.0 ∙ ap (λ (z : List ℕ). length x.0 ∷ (x.0 ++ z)) h.0
+            ∙ ap (λ (z : List ℕ). length x.0 ∷ z) (sym (append_assoc x.0 (names_image xs.0) xs.1.bytes)),
+        ap (λ (n : ℕ). suc n) h.1,
+        (e.1, h.2),
+      )));
+}
 
 abbrev AreFew : List Name → ℕ → Unit {0} → Type 0
 AreFew known count done = length known + count ≤ 32
@@ -240,17 +235,19 @@ abbrev TableIs : List Name → Rest → (List Name × Rest) → Type 0
 TableIs known r x =
     (r.bytes ≡ table_image x.0 ++ x.1.bytes) × AllByRecursion IsName x.0 × (length known + length x.0 ≤ 32)
 
-table_is : (known : List Name) (r : Rest) → Holds (TableIs known r) (table_in known r)
+a_table : (known : List Name) → Says (TableIs known) (table_in known)
 unfolding table_in
-table_is known r =
-    let P = TableIs known r in
-    then_with (ByteIs r) P (byte_in r) _ (byte_is r) (λ n e.
-    then_with (AreFew known n.0) P (few_names known n.0) _ (few_ok known n.0) (λ done few.
-    holds_as (NamesAre n.0 n.1) P (names_in n.0 known n.1) (names_are n.0 known n.1) (λ x h. (
-      e ∙ ap (λ (z : List ℕ). n.0 ∷ z) h.0 ∙ ap (λ (k : ℕ). k ∷ (names_image x.0 ++ x.1.bytes)) (sym h.1),
-      h.2,
-      subst (λ (k : ℕ). length known + k ≤ 32) (sym h.1) few,
-    ))))
+a_table known = record {
+  said = λ r.
+      let P = TableIs known r in
+      then_said P _ a_byte r (λ n e.
+      then_with (AreFew known n.0) P (few_names known n.0) _ (few_ok known n.0) (λ done few.
+      holds_as (NamesAre n.0 n.1) P (names_in n.0 known n.1) ((some_names n.0 known).said n.1) (λ x h. (
+        e ∙ ap (λ (z : List ℕ). n.0 ∷ z) h.0 ∙ ap (λ (k : ℕ). k ∷ (names_image x.0 ++ x.1.bytes)) (sym h.1),
+        h.2,
+        omega (arith, few, h.1),
+      ))));
+}
 
 signature_if : (bytes : List ℕ) → bytes_eq (take 4 bytes) signature ≡ true → bytes ≡ signature ++ drop 4 bytes
 signature_if bytes e =
@@ -266,11 +263,12 @@ signature_is bytes =
 abbrev CountIs : Source → Rest → (ℕ × Rest) → Type 0
 CountIs g r x = ShortIs g r x × (x.0 ≤ 200)
 
-count_is : (g : Source) (r : Rest) → Holds (CountIs g r) (line_count_in r)
+a_count : (g : Source) → Says (CountIs g) line_count_in
 unfolding line_count_in
-count_is g r =
-    then_with (ShortIs g r) (CountIs g r) (short_in r) _ (short_is g r) (λ n p.
-    holds_if (CountIs g r) (nat_lt 200 n.0) _ _ (λ f. tt) (λ f. let few : n.0 ≤ 200 = grind arith in (p, few)))
+a_count g = record {
+  said = λ r. then_said (CountIs g r) _ (a_number g) r
+      (λ n p. holds_if (CountIs g r) (nat_lt 200 n.0) _ _ (λ f. tt) (λ f. (p, grind arith)));
+}
 
 -- what stands before so many lines
 abbrev head_said : ImageVersion → Source → ℕ → List ℕ
@@ -289,29 +287,22 @@ abbrev HeadIs : Source → List ℕ → (Head × Rest) → Type 0
 HeadIs g bytes x = Part g bytes (head_said x.0.0 x.0.1 x.0.2) x.1.bytes [] (HeadForm x)
 
 four_few : (a b c d : List Name) → length (a ++ (b ++ c)) + length d ≤ 32 → length (a ++ (b ++ (c ++ d))) ≤ 32
-four_few a b c d h =
-    let p : length (a ++ (b ++ c)) ≡ length a + length (b ++ c) = length-append a (b ++ c) in
-    let q : length (b ++ c) ≡ length b + length c = length-append b c in
-    let r : length (a ++ (b ++ (c ++ d))) ≡ length a + length (b ++ (c ++ d)) = length-append a (b ++ (c ++ d)) in
-    let s : length (b ++ (c ++ d)) ≡ length b + length (c ++ d) = length-append b (c ++ d) in
-    let t : length (c ++ d) ≡ length c + length d = length-append c d in
-    omega (arith, h, p, q, r, s, t)
+four_few a b c d h = omega (arith, h, length-append {A = Name})
 
 head_is : (g : Source) (bytes : List ℕ) → Holds (HeadIs g bytes) (head_in bytes)
 unfolding head_in
 head_is g bytes =
     let H = HeadIs g bytes in
     then_with (SignatureIs bytes) H (signature_in bytes) _ (signature_is bytes) (λ s es.
-    then_with (CodeIs versions s) H (version_in s) _ (version_is s) (λ v ev.
-    then_with (CodeIs kinds v.1) H (code_in kinds v.1) _ (code_is kinds v.1) (λ k ek.
-    then_with (TableIs [] k.1) H (table_in [] k.1) _ (table_is [] k.1) (λ a ea.
-    then_with (TableIs a.0 a.1) H (table_in a.0 a.1) _ (table_is a.0 a.1) (λ b eb.
-    then_with (TableIs (a.0 ++ b.0) b.1) H (table_in (a.0 ++ b.0) b.1) _ (table_is (a.0 ++ b.0) b.1) (λ c ec.
-    then_with (TableIs (a.0 ++ (b.0 ++ c.0)) c.1) H (table_in (a.0 ++ (b.0 ++ c.0)) c.1) _
-    (table_is (a.0 ++ (b.0 ++ c.0)) c.1) (λ d ed.
-    then_with (ShortIs g d.1) H (short_in d.1) _ (short_is g d.1) (λ scan p.
-    then_with (ShortIs g scan.1) H (short_in scan.1) _ (short_is g scan.1) (λ update q.
-    then_with (CountIs g update.1) H (line_count_in update.1) _ (count_is g update.1) (λ n m.
+    then_said H _ a_version s (λ v ev.
+    then_said H _ (a_code kinds) v.1 (λ k ek.
+    then_said H _ (a_table []) k.1 (λ a ea.
+    then_said H _ (a_table a.0) a.1 (λ b eb.
+    then_said H _ (a_table (a.0 ++ b.0)) b.1 (λ c ec.
+    then_said H _ (a_table (a.0 ++ (b.0 ++ c.0))) c.1 (λ d ed.
+    then_said H _ (a_number g) d.1 (λ scan p.
+    then_said H _ (a_number g) scan.1 (λ update q.
+    then_said H _ (a_count g) update.1 (λ n m.
     reformed
     (λ f. (
       all_both IsName a.0 (b.0 ++ (c.0 ++ d.0)) ea.1
@@ -374,11 +365,12 @@ holds_and P Q (Ok x) g h = (g, h)
 holds_and P Q (Err e) g h = tt
 
 -- the parts of an image make it up
-whole : (bytes : List ℕ) → AreBytes bytes → (v : ImageVersion) (s : Source) (count : ℕ) (r after : Rest)
+put_together : (bytes : List ℕ) → AreBytes bytes → (v : ImageVersion) (s : Source) (count : ℕ) (r after : Rest)
     (lines : List Line) (comments : List Comment) → HeadIs blank bytes ((v, s, count), r) →
-    AreDistinct (all_names s) → LinesAre lines s v count 0 r ((lines, comments), after) → after.bytes ≡ [] →
-    TargetsAre lines (s.scan ∷ s.update ∷ line_targets lines) tt → IsImage bytes (with_comments s lines comments)
-whole bytes small v s count r after lines comments hd d ln end t =
+    AreDistinct (all_names s) → LinesAre (with_lines lines s) v count 0 r ((lines, comments), after) →
+    after.bytes ≡ [] → TargetsAre lines (s.scan ∷ s.update ∷ line_targets lines) tt →
+    IsImage bytes (with_comments s lines comments)
+put_together bytes small v s count r after lines comments hd d ln end t =
     let g = with_lines lines s in
     let hb = hd.bytes small in
     let lb = ln.bytes hb.1 in
@@ -410,14 +402,16 @@ commented_is bytes small =
     let v = h.0.0 in
     let s = h.0.1 in
     let count = h.0.2 in
-    then_with (λ x. (ls : List Line) → LinesAre ls s v count 0 h.1 x) I (lines_in s v count 1 0 h.1) _
-    (holds_all (λ ls x. LinesAre ls s v count 0 h.1 x) (lines_in s v count 1 0 h.1)
-    (λ ls. lines_are ls s (slots_of (with_lines ls s) e.1) v count 1 0 h.1)) (λ ls f.
+    let P : List Line → ((List Line × List Comment) × Rest) → Type 0 = λ ls. LinesAre (with_lines ls s) v count 0 h.1 in
+    then_with (λ x. (ls : List Line) → P ls x) I (lines_in s v count 1 0 h.1) _
+    (holds_all P (lines_in s v count 1 0 h.1) (λ ls.
+    (some_lines (record { lines = ls; source = s; slots = slots_of (with_lines ls s) e.1 }) v count 1 0).said h.1))
+    (λ ls f.
     then_with (EndIs ls.1.bytes) I (ended ls.1.bytes) _ (end_is ls.1.bytes) (λ end z.
     let ks = s.scan ∷ s.update ∷ line_targets ls.0.0 in
     then_with (TargetsAre ls.0.0 ks) I (refused_as Invalid (checked_targets ls.0.0 ks)) _
     (targets_are ls.0.0 ks) (λ done t.
-    whole bytes small v s count h.1 ls.1 ls.0.0 ls.0.1 e.0 e.1 (f ls.0.0) z t))))
+    put_together bytes small v s count h.1 ls.1 ls.0.0 ls.0.1 e.0 e.1 (f ls.0.0) z t))))
 
 pub decodes_only : DecodesOnlyImages
 decodes_only bytes c small e = holds_of (IsImage bytes) (commented_in bytes) c (commented_is bytes small) e

@@ -80,26 +80,16 @@ sorted a b c d =
     else if d then Some sort.View else None
 
 rows_sorted : (a b c d : Bool) → a ≡ false → b ≡ true → sorted a b c d ≡ Some sort.Row
-rows_sorted true b c d e f = absurd cc
-rows_sorted false true c d e f = refl
-rows_sorted false false c d e f = absurd cc
+rows_sorted a b c d e f = rw (e, f)
 
 words_sorted : (a b c d : Bool) → a ≡ false → b ≡ false → c ≡ true → sorted a b c d ≡ Some sort.Words
-words_sorted true b c d e f g = absurd cc
-words_sorted false true c d e f g = absurd cc
-words_sorted false false true d e f g = refl
-words_sorted false false false d e f g = absurd cc
+words_sorted a b c d e f g = rw (e, f, g)
 
 views_sorted : (a b c d : Bool) → a ≡ false → b ≡ false → c ≡ false → d ≡ true → sorted a b c d ≡ Some sort.View
-views_sorted true b c d e f g h = absurd cc
-views_sorted false true c d e f g h = absurd cc
-views_sorted false false true d e f g h = absurd cc
-views_sorted false false false true e f g h = refl
-views_sorted false false false false e f g h = absurd cc
+views_sorted a b c d e f g h = rw (e, f, g, h)
 
 scalars_sorted : (a b c d : Bool) → a ≡ true → sorted a b c d ≡ Some sort.Scalar
-scalars_sorted true b c d e = refl
-scalars_sorted false b c d e = absurd cc
+scalars_sorted a b c d e = rw e
 
 among_left : (x : Name) (xs ys : List Name) → is_among x xs ≡ true → is_among x (xs ++ ys) ≡ true
 among_left x xs ys t = list_any-append (bytes_eq x) xs ys ∙ or_left (is_among x xs) (is_among x ys) t

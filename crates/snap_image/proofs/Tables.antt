@@ -1,5 +1,5 @@
 -- The names of each sort of a listing fit a table of an image: at most 32 names, of at most eight letters.
-use Rattle.std.proofs.Common.{◌≡◌, ◌+◌, ◌≤◌, List, ◌++◌, length, nat_lt, arith, false}
+use Rattle.std.proofs.Common.{◌≡◌, ◌≤◌, List, ◌++◌, length, nat_lt, arith, false}
 use Rattle.std.proofs.lemmas.Bool.{or_parts}
 use Rattle.std.proofs.lemmas.List.{length-append}
 use Rattle.snap_semantics.specs.IsListing.{IsName, IsListing}
@@ -9,14 +9,10 @@ use Rattle.snap_image.specs.Widths.{IsTable}
 use Rattle.snap_listing.proofs.Alls.{all_first, all_rest}
 
 table_first : (xs ys : List Name) → IsTable (xs ++ ys) → IsTable xs
-table_first xs ys h =
-    let both : length (xs ++ ys) ≡ length xs + length ys = length-append xs ys in
-    (omega (arith, h.0, both), all_first IsName xs ys h.1)
+table_first xs ys h = (omega (arith, h.0, length-append {A = Name}), all_first IsName xs ys h.1)
 
 table_rest : (xs ys : List Name) → IsTable (xs ++ ys) → IsTable ys
-table_rest xs ys h =
-    let both : length (xs ++ ys) ≡ length xs + length ys = length-append xs ys in
-    (omega (arith, h.0, both), all_rest IsName xs ys h.1)
+table_rest xs ys h = (omega (arith, h.0, length-append {A = Name}), all_rest IsName xs ys h.1)
 
 pub scalars_table : (s : Source) → IsListing s → IsTable s.scalars
 scalars_table s h = table_first s.scalars (s.rows ++ (s.words ++ s.views)) (h.few_names, h.names)

@@ -3,7 +3,7 @@ use Rattle.std.proofs.Common.{◌≡◌, ℕ, suc, ◌-◌, ◌<◌, ◌≤◌, 
 use Rattle.std.proofs.Common.{refl, sym, ◌∙◌, ap, subst, arith, map}
 use Rattle.std.proofs.lemmas.List.{get_or_past}
 use Rattle.snap_words.specs.Shape.{IsOneOf}
-use Rattle.snap_runs.specs.Operation.{Action, Sets, Sees, Operation}
+use Rattle.snap_runs.specs.Operation.{Sets, Sees, Operation}
 use Rattle.snap_judge.specs.declared.config.Step.{Step as KeptStep}
 use Rattle.snap_judge.specs.declared.config.Step.TheVariants as kept_step
 use Rattle.snap_judge.specs.declared.config.Slot.{Slot as KeptSlot}
@@ -15,42 +15,32 @@ use Rattle.snap_judge.specs.Steps.{Free, Open, Taken}
 use Rattle.snap_judge.specs.Kept.{AreSteps, IsSettled, called_at, slot_of, action_of, HasWord, IsStepOf}
 use Rattle.snap_judge.specs.Kept.{called_by, step_of_kept}
 use Rattle.snap_judge.specs.Choices.{IsAlone, IsUnwanted, NotNowAt, Scans, Updates, Wants}
-use Rattle.snap_judge.proofs.SearchSlots.{at, one_open, open_not_free, open_not_taken}
-use Rattle.snap_judge.proofs.SearchSlots.{sets_not_sees}
+use Rattle.snap_judge.proofs.SearchSlots.{at, one_open}
 use Rattle.snap_judge.proofs.Goes.{slot_at, kept_not_free}
 
 -- What is open as the definitions have it is open as the program keeps it.
 open_kept : (steps : List KeptStep) (s : KeptSlot) (o : Operation) → slot_of steps s ≡ Open o →
     (j : ℕ) × (s ≡ kept_slot.Open j) × (called_at steps j ≡ o)
-open_kept steps kept_slot.Free o e = absurd (open_not_free Free o e refl)
+open_kept steps kept_slot.Free o e = absurd (let no : Free ≡ Open o = e in cc)
 open_kept steps (kept_slot.Open j) o e = (j, refl, one_open (Open (called_at steps j)) (called_at steps j) o refl e)
-open_kept steps (kept_slot.Taken j) o e =
-    absurd (open_not_taken (Taken (called_at steps j)) o (called_at steps j) e refl)
+open_kept steps (kept_slot.Taken j) o e = absurd (let no : Taken (called_at steps j) ≡ Open o = e in cc)
 
 pub kept_at : (steps : List KeptStep) (slots : List KeptSlot) (q : ℕ) (o : Operation) →
     at (map (slot_of steps) slots) q ≡ Open o →
     (j : ℕ) × (get_or slots q kept_slot.Free ≡ kept_slot.Open j) × (called_at steps j ≡ o)
 kept_at steps slots q o e = open_kept steps (get_or slots q kept_slot.Free) o (sym (slot_at steps slots q) ∙ e)
 
-word_of : Action → ℕ → ℕ
-word_of (Sets word value) d = word
-word_of (Sees view) d = d
-
-pub one_word : (word word' value value' : ℕ) → Sets word value ≡ Sets word' value' → word ≡ word'
-unfolding word_of
-one_word word word' value value' e = ap (λ (a : Action). word_of a word) e
-
 -- a word that is set is there
 word_is : (n w : ℕ) (a : KeptAction) (word value : ℕ) → HasWord w a → action_of a ≡ Sets word value → IsOneOf w word
 word_is n w (kept_action.Sets word' value') word value has e =
-    subst (IsOneOf w) (one_word word' word value' value e) has
-word_is n w (kept_action.Sees view) word value has e = absurd (sets_not_sees (Sees view.now) word value view.now e refl)
+    let both : Sets word' value' ≡ Sets word value = e in let same : word' ≡ word = cc in subst (IsOneOf w) same has
+word_is n w (kept_action.Sees view) word value has e = absurd (let no : Sees view.now ≡ Sets word value = e in cc)
 
 step_word : (n w : ℕ) (x : KeptStep) (word value : ℕ) → IsStepOf n w x →
     (called_by (step_of_kept x)).action ≡ Sets word value → IsOneOf w word
 step_word n w (kept_step.Calls o) word value is e = word_is n w o.action word value is.1 e
-step_word n w (kept_step.Ends i) word value is e = absurd (sets_not_sees (Sees []) word value [] e refl)
-step_word n w kept_step.Waits word value is e = absurd (sets_not_sees (Sees []) word value [] e refl)
+step_word n w (kept_step.Ends i) word value is e = absurd (let no : Sees [] ≡ Sets word value = e in cc)
+step_word n w kept_step.Waits word value is e = absurd (let no : Sees [] ≡ Sets word value = e in cc)
 
 pub set_word : (n w : ℕ) (steps : List KeptStep) (j word value : ℕ) → AreSteps n w steps →
     (called_at steps j).action ≡ Sets word value → IsOneOf w word
@@ -62,7 +52,8 @@ pub update_waits : (steps : List KeptStep) (c : Config) (ending p j word value :
     get_or c.slots.items p kept_slot.Free ≡ kept_slot.Open j → (called_at steps j).action ≡ Sets word value →
     (p ≡ ending → ⊥) → IsAlone steps c p word → IsUnwanted steps c word value → NotNowAt steps c ending p
 update_waits steps c ending p j word value are is act apart alone unwanted j' is' =
-    Updates word value (subst (λ (m : ℕ). (called_at steps m).action ≡ Sets word value) (one_index (sym is ∙ is')) act)
+    let index : j ≡ j' = cc in
+    Updates word value (subst (λ (m : ℕ). (called_at steps m).action ≡ Sets word value) index act)
     (λ e. apart (let same : p ≡ suc ending - 1 = e in omega (arith, same)))
     (record {
       is_word = set_word (length c.slots.items) (length c.values.items) steps j word value are act;
@@ -78,14 +69,6 @@ update_waits steps c ending p j word value are is act apart alone unwanted j' is
           (let k = kept_at steps c.slots.items q s at_q in
           unwanted q k.0 k.1 (subst (Wants (word - 1) value) (sym k.2) wants));
     })
-  where
-    index_of : KeptSlot → ℕ
-    index_of kept_slot.Free = 0
-    index_of (kept_slot.Open m) = m
-    index_of (kept_slot.Taken m) = 0
-
-    one_index : {a b : ℕ} → kept_slot.Open a ≡ kept_slot.Open b → a ≡ b
-    one_index e = ap index_of e
 
 -- A scan waits, since each that could take place has.
 pub scan_waits : (steps : List KeptStep) (c : Config) (ending p : ℕ) → IsSettled steps c →

@@ -1,6 +1,6 @@
 -- Operations that may be taken from some event on, are all, are in order in time, and are run by the object, are taken
 -- by some moves.
-use Rattle.std.proofs.Common.{◌≡◌, ℕ, ◌-◌, ◌<◌, List, [], ◌∷◌, refl, ap, sym, subst, arith, inl, inr, ◌∙◌}
+use Rattle.std.proofs.Common.{◌≡◌, ℕ, ◌-◌, ◌<◌, List, [], ◌∷◌, refl, ap, subst, arith, inl, inr}
 use Rattle.std.proofs.Common.{slice_index_or, slice_set}
 use Rattle.std.specs.List.{Contains}
 use Rattle.std.proofs.lemmas.Bool.{cases_lt}
@@ -80,26 +80,20 @@ module _ (h : History) (sound : AreSound h) where
       SlotsAt h p slots → Runs h p slots values left → AreTaken (Ends i ∷ xs) values slots left
   take_until [] p q i xs values slots t then s r =
       let x = t.stops i refl in
-      elim (s.live x.operation x.live) [
-        | inr held ↦ then values slots [] s r
+      elim (r.fits.has x.operation x.at x.live.operation x.end (x.live.going x.at x.end)) [
+        | inl held ↦ then values slots [] s r
             (x.operation, subst (λ j. slice_index_or slots (j - 1) Free ≡ Taken x.operation) x.process held)
-        | inl free ↦ elim (r.fits.has x.operation x.at x.live.operation x.end (x.live.going x.at x.end)) [
-          | inl held ↦ absurd (let wrong : Open x.operation ≡ Taken x.operation = sym free ∙ held in cc)
-          | inr has ↦ absurd (contains_none x.operation has)
-        ]
+        | inr has ↦ absurd (contains_none x.operation has)
       ]
   take_until (o ∷ left) p q i xs values slots t then s r =
       let x = t.stops i refl in
-      elim (s.live x.operation x.live) [
-        | inr held ↦ then values slots (o ∷ left) s r
+      elim (r.fits.has x.operation x.at x.live.operation x.end (x.live.going x.at x.end)) [
+        | inl held ↦ then values slots (o ∷ left) s r
             (x.operation, subst (λ j. slice_index_or slots (j - 1) Free ≡ Taken x.operation) x.process held)
-        | inl free ↦ elim (r.fits.has x.operation x.at x.live.operation x.end (x.live.going x.at x.end)) [
-          | inl held ↦ absurd (let wrong : Open x.operation ≡ Taken x.operation = sym free ∙ held in cc)
-          | inr has ↦ (let is = is_open p q i o values slots left t s r x has in
-              take_first o (Ends i ∷ xs) values slots left is r.runs
-              (take_until left p q i xs (after values o.action) (slice_set slots (o.process - 1) (Taken o)) t then
-              (take_slots h sound p o slots s is) (taken_runs p o values slots left s is r)))
-        ]
+        | inr has ↦ (let is = is_open p q i o values slots left t s r x has in
+            take_first o (Ends i ∷ xs) values slots left is r.runs
+            (take_until left p q i xs (after values o.action) (slice_set slots (o.process - 1) (Taken o)) t then
+            (take_slots h sound p o slots s is) (taken_runs p o values slots left s is r)))
       ]
 
   -- An event that may be passed is passed, and the rest is taken behind it.

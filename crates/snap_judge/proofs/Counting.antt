@@ -2,19 +2,18 @@
 use Rattle.std.proofs.Common.{◌≡◌, ℕ, zero, suc, ◌+◌, ◌-◌, ◌<◌, List, [], ◌∷◌, length, get_or, refl, sym, ◌∙◌, ap}
 use Rattle.std.proofs.Common.{subst, arith}
 use Rattle.std.proofs.Math.ListN.{set}
-use Rattle.std.proofs.lemmas.List.{length-set, length-map}
+use Rattle.std.proofs.lemmas.List.{length-set, length-map, length-replicate}
 use Rattle.std.specs.Prelude.{replicate}
-use Rattle.std.proofs.lemmas.List.{length-replicate}
 use Rattle.snap_runs.specs.Operation.{Operation}
 use Rattle.snap_judge.specs.declared.config.Step.{Step as KeptStep}
 use Rattle.snap_judge.specs.declared.config.Step.TheVariants as kept_step
 use Rattle.snap_judge.specs.Steps.{Step, Calls, Ends, Waits, Slot, Free, Open, Taken, MayPass, passed, Move, Take, Pass, taken}
 use Rattle.snap_judge.specs.Configurations.{Configuration, Leads}
-use Rattle.snap_judge.specs.Kept.{AreSteps, called_at, first, IsReached, IsStepOf, seen_as, step_of_kept, steps_kept}
+use Rattle.snap_judge.specs.Kept.{AreSteps, called_at, first, IsStepOf, operation_of, seen_as}
+use Rattle.snap_judge.specs.Kept.{step_of_kept, steps_kept}
 use Rattle.snap_judge.specs.declared.config.Config.{Config}
-use Rattle.snap_judge.specs.Nodes.{HasCounts}
+use Rattle.snap_judge.specs.Nodes.{HasCounts, IsMet}
 use Rattle.snap_judge.proofs.SearchSlots.{at, open_within, taken_within}
-use Rattle.snap_judge.proofs.SearchSlots.{ends_not_call, one_call, waits_not_call}
 use Rattle.snap_judge.proofs.Passing.{step_at}
 
 pub open_here : Slot → ℕ
@@ -57,7 +56,7 @@ pass_counts n (Calls o) xs S len are may =
 pass_counts n (Ends i) xs S len are may =
     let more = opens_set S (i - 1) Free (taken_within S (i - 1) may.0 may.1) in
     let none : open_here (at S (i - 1)) ≡ 0 = ap open_here may.1 in omega (arith, more, none)
-pass_counts n Waits xs S len are may = let e : calls xs + opens S ≡ (0 + calls xs) + opens S = omega arith in e
+pass_counts n Waits xs S len are may = omega arith
 
 length_passed : (x : Step) (S : List Slot) → length (passed S x) ≡ length S
 length_passed (Calls o) S = length-set S (o.process - 1) (Open o)
@@ -68,7 +67,7 @@ pub counts : (n : ℕ) (ms : List Move) (c c' : Configuration) → length c.slot
     length (taken ms) + calls c'.left + opens c'.slots ≡ calls c.left + opens c.slots
 unfolding open_here
 counts n [] c c' len are l =
-    ap (λ (x : Configuration). 0 + calls x.left + opens x.slots) (sym l) ∙ (let e : 0 + calls c.left + opens c.slots ≡ calls c.left + opens c.slots = omega arith in e)
+    let same = ap (λ (x : Configuration). calls x.left + opens x.slots) l in omega (arith, same)
 counts n (Take o ∷ ms) c c' len are l =
     let more = opens_set c.slots (o.process - 1) (Taken o) (open_within c.slots (o.process - 1) o l.0) in
     let one : open_here (at c.slots (o.process - 1)) ≡ 1 = ap open_here l.0 in
@@ -83,34 +82,39 @@ counts n (Pass ∷ ms) c c' len are l =
 -- The steps are of n processes.
 within_by : (n w : ℕ) (x : KeptStep) (o : Operation) → IsStepOf n w x → step_of_kept x ≡ Calls o → o.process - 1 < n
 within_by n w (kept_step.Calls o') o is e =
-    let same : o'.process ≡ o.process = ap (λ (y : Operation). y.process) (one_call _ o e) in
+    let both : Calls (operation_of o') ≡ Calls o = e in let one : operation_of o' ≡ o = cc in
+    let same : o'.process ≡ o.process = ap (λ (y : Operation). y.process) one in
     let low = is.0.0 in let high = is.0.1 in omega (arith, same, low, high)
-within_by n w (kept_step.Ends i) o is e = absurd (ends_not_call i o e)
-within_by n w kept_step.Waits o is e = absurd (waits_not_call o e)
+within_by n w (kept_step.Ends i) o is e = absurd (let no : Ends i ≡ Calls o = e in cc)
+within_by n w kept_step.Waits o is e = absurd (let no : Waits ≡ Calls o = e in cc)
 
 are_within : (n w : ℕ) (steps : List KeptStep) → AreSteps n w steps → AreWithin n (steps_kept steps)
 are_within n w steps are t o e = within_by n w (get_or steps t kept_step.Waits) o (are t) (sym (step_at steps t) ∙ e)
 
+-- What has such numbers of slots and values is reached from the first configuration that has them.
+pub led_from : (n w : ℕ) (steps : List KeptStep) (c : Config) (ms : List Move) → HasCounts n w c →
+    Leads ms (first (length c.slots.items) (length c.values.items) steps) (seen_as steps c) →
+    Leads ms (first n w steps) (seen_as steps c)
+led_from n w steps c ms has led = rw (has.0, has.1) at led
+
 -- The same configuration is reached by orders of the same length.
-pub same_length : (n w : ℕ) (steps : List KeptStep) (order order' : List ℕ) (c c' : Config) → AreSteps n w steps →
-    HasCounts n w c → HasCounts n w c' → IsReached steps order c → IsReached steps order' c' →
-    seen_as steps c ≡ seen_as steps c' → length order ≡ length order'
-same_length n w steps order order' c c' are has has' r r' same =
-    let one = led order c has r in
-    let other = led order' c' has' r' in
+pub same_length : {n w : ℕ} {steps : List KeptStep} {c c' : Config} → AreSteps n w steps → (m : IsMet n w steps c)
+    (m' : IsMet n w steps c') → seen_as steps c ≡ seen_as steps c' → length m.order ≡ length m'.order
+same_length {n} {w} {steps} {c} {c'} are m m' same =
+    let one = led c m in
+    let other = led c' m' in
     let calls_same : calls (seen_as steps c).left ≡ calls (seen_as steps c').left =
     ap (λ (x : Configuration). calls x.left) same in
     let opens_same : opens (seen_as steps c).slots ≡ opens (seen_as steps c').slots =
     ap (λ (x : Configuration). opens x.slots) same in
     omega (arith, one, other, calls_same, opens_same)
   where
-    led : (os : List ℕ) (x : Config) → HasCounts n w x → IsReached steps os x →
-        length os + calls (seen_as steps x).left + opens (seen_as steps x).slots
+    led : (x : Config) (met : IsMet n w steps x) →
+        length met.order + calls (seen_as steps x).left + opens (seen_as steps x).slots
         ≡ calls (steps_kept steps) + opens (replicate n Free)
-    led os x has r =
-        let start : Leads r.0 (first n w steps) (seen_as steps x) =
-        subst (λ (m : ℕ). Leads r.0 (first n m steps) (seen_as steps x)) has.1
-        (subst (λ (m : ℕ). Leads r.0 (first m (length x.values.items) steps) (seen_as steps x)) has.0 r.1) in
-        let all = counts n r.0 (first n w steps) (seen_as steps x) (length-replicate n Free) (are_within n w steps are) start in
-        let long : length (taken r.0) ≡ length os = ap length r.2 ∙ length-map os (called_at steps) in
+    led x met =
+        let r = met.reached in
+        let all = counts n r.0 (first n w steps) (seen_as steps x) (length-replicate n Free) (are_within n w steps are)
+        (led_from n w steps x r.0 met.counts r.1) in
+        let long : length (taken r.0) ≡ length met.order = ap length r.2 ∙ length-map met.order (called_at steps) in
         omega (arith, all, long)

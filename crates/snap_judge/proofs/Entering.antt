@@ -1,32 +1,25 @@
 -- What a search has come to from a node.
-use Rattle.std.proofs.Common.{◌≡◌, ℕ, suc, ◌-◌, ◌+◌, ◌<◌, ◌≤◌, List, [], ◌∷◌, ◌++◌, length, get_or, refl, sym, ◌∙◌, ap, subst, arith}
-use Rattle.std.proofs.Common.{Bool, if◌then◌else◌, map, take, drop, true, false}
-use Rattle.std.proofs.Math.ListN.{set}
+use Rattle.std.proofs.Common.{◌≡◌, ℕ, suc, ◌-◌, ◌+◌, ◌<◌, ◌≤◌, List, ◌∷◌, ◌++◌, length, get_or, sym, ◌∙◌, ap}
+use Rattle.std.proofs.Common.{subst, arith, Bool, if◌then◌else◌, take, drop, true, false, ◌⊎◌, inl, inr}
+use Rattle.std.proofs.Math.Seq.{take-append_seam}
 use Rattle.std.proofs.lemmas.List.{length-append, length-take-le}
-use Rattle.snap_runs.specs.Linearization.{after}
 use Rattle.snap_judge.specs.declared.config.Step.{Step as KeptStep}
-use Rattle.snap_judge.specs.declared.config.Slot.{Slot as KeptSlot}
 use Rattle.snap_judge.specs.declared.config.Slot.TheVariants as kept_slot
 use Rattle.snap_judge.specs.declared.config.Config.{Config}
 use Rattle.snap_judge.specs.declared.config.Node.{Node}
 use Rattle.snap_judge.specs.declared.config.Entered.{Entered}
-use Rattle.snap_judge.specs.Steps.{CanBeExplained, Taken}
+use Rattle.snap_judge.specs.Steps.{CanBeExplained, Taken, Ends, Step, Open}
 use Rattle.snap_judge.specs.Kept.{Can, GoesOn, Grows, IsConfig, IsReached, IsSameConfig, IsSettled, IsStuck, KeepsCounts}
-use Rattle.snap_judge.specs.Kept.{called_at, rest_of, slot_of, slots_of, steps_kept}
+use Rattle.snap_judge.specs.Kept.{called_at, rest_of, slots_of, steps_kept}
 use Rattle.snap_judge.specs.Choices.{CanTaking, HasTaken, IsChoice, NotNow, NotNowAt}
 use Rattle.snap_judge.specs.declared.config.OpenUpdate.{OpenUpdate}
 use Rattle.snap_judge.specs.declared.config.Step.TheVariants as kept_step
-use Rattle.snap_judge.specs.Steps.{Ends, Step}
 use Rattle.snap_runs.specs.Operation.{Operation}
-use Rattle.std.proofs.Common.{◌⊎◌, inl, inr}
 use Rattle.std.proofs.lemmas.Bool.{cases_eq, cases_lt}
 use Rattle.snap_judge.proofs.Choosing.{kept_at}
 use Rattle.snap_judge.proofs.SearchSlots.{at}
 use Rattle.snap_judge.proofs.SearchLater.{Fails, nothing_explains}
-use Rattle.snap_judge.proofs.Passing.{step_at}
-use Rattle.std.proofs.Common.{drop-cons}
-use Rattle.std.proofs.lemmas.List.{length-map}
-use Rattle.snap_judge.specs.Steps.{Waits, Open}
+use Rattle.snap_judge.proofs.Passing.{rest_at}
 use Rattle.snap_judge.specs.Kept.{MayNotPass, step_of_kept}
 use Rattle.snap_judge.specs.Nodes.{HasEntered, HasTried, IsEntered, IsNode, IsTried, IsTriedAt, tries_left}
 use Rattle.snap_judge.proofs.Goes.{grown, same_goes}
@@ -34,16 +27,8 @@ use Rattle.snap_judge.proofs.Goes.{grown, same_goes}
 -- what can be explained with it taken, of a copy
 pub same_taking : (steps : List KeptStep) (c c' : Config) (p : ℕ) → IsSameConfig c c' → CanTaking steps c p →
     CanTaking steps c' p
-same_taking steps c c' p same can = (
-  can.0,
-  ap (λ (l : List KeptSlot). get_or l p kept_slot.Free) same.slots ∙ can.1,
-  subst (λ (n : ℕ). CanBeExplained (drop n (steps_kept steps)) (after c'.values.items (called_at steps can.0).action)
-      (set (slots_of steps c') p (Taken (called_at steps can.0)))) (sym same.position)
-      (subst (λ (W : List ℕ). CanBeExplained (rest_of steps c) (after W (called_at steps can.0).action)
-      (set (slots_of steps c') p (Taken (called_at steps can.0)))) (sym same.values)
-      (subst (λ (l : List KeptSlot). CanBeExplained (rest_of steps c) (after c.values.items (called_at steps can.0).action)
-      (set (map (slot_of steps) l) p (Taken (called_at steps can.0)))) (sym same.slots) can.2)),
-)
+same_taking steps c c' p same can =
+    (can.0, rw same.slots can.1, rw (same.position, same.values, same.slots) can.2)
 
 -- the beginning of an order that has been cut and has grown
 pub same_prefix : (order order' : List ℕ) (d : ℕ) → d ≤ length order → Grows (take d order) order' →
@@ -51,98 +36,76 @@ pub same_prefix : (order order' : List ℕ) (d : ℕ) → d ≤ length order →
 same_prefix order order' d le g =
     let cut : length (take d order) ≡ d = length-take-le d order le in
     ap (take d) g.1
-    ∙ subst (λ (n : ℕ). take n (take d order ++ g.0) ≡ take d order) cut (front (take d order) g.0)
-  where
-    front : (xs ys : List ℕ) → take (length xs) (xs ++ ys) ≡ xs
-    front [] ys = refl
-    front (x ∷ xs) ys = ap (λ (l : List ℕ). x ∷ l) (front xs ys)
+    ∙ subst (λ (n : ℕ). take n (take d order ++ g.0) ≡ take d order) cut (take-append_seam (take d order) g.0)
 
 -- From a copy of the node's configuration an update is taken, and then steps are passed.
 pub has_entered : (steps : List KeptStep) (node : Node) (p : ℕ) (order mid order' : List ℕ) (copy taken c : Config)
-    (at_end : Entered) →
+    (shut : Bool) →
     IsNode (length node.config.slots.items) (length node.config.values.items) steps order node →
     IsSameConfig node.config copy → HasTaken steps p (take node.depth order) copy mid taken →
     GoesOn steps mid taken order' c → KeepsCounts copy taken → KeepsCounts taken c → IsSettled steps c →
-    at_end.config ≡ c → (at_end.at_end ≡ true → c.position ≡ length steps) →
-    (at_end.at_end ≡ false → IsStuck steps c) → HasEntered steps node p order order' at_end
-has_entered steps node p order mid order' copy taken c e is_node same took goes kept kept' settled is end stuck = record {
+    (shut ≡ true → c.position ≡ length steps) → (shut ≡ false → IsStuck steps c) →
+    HasEntered steps node p order order' (record { config = c; at_end = shut })
+has_entered steps node p order mid order' copy taken c shut is same took goes kept kept' settled end stuck = record {
   entered = record {
-    counts = subst (λ (x : Config). (length x.slots.items ≡ length node.config.slots.items)
-        × (length x.values.items ≡ length node.config.values.items)) (sym is)
-        (kept'.slots ∙ kept.slots ∙ ap length same.slots, kept'.values ∙ kept.values ∙ ap length same.values);
-    config = subst (IsConfig steps) (sym is) (goes.config (took.config copied.0));
-    settled = subst (IsSettled steps) (sym is) settled;
-    reached = subst (IsReached steps order') (sym is) (goes.reached (took.config copied.0) (took.reached copied.0 copied.1));
-    at_end = λ x. subst (λ (y : Config). y.position ≡ length steps) (sym is) (end x);
-    stuck = λ x. subst (IsStuck steps) (sym is) (stuck x);
+    counts = (kept'.slots ∙ kept.slots ∙ ap length same.slots, kept'.values ∙ kept.values ∙ ap length same.values);
+    config = goes.config (took.config copied.0);
+    settled = settled;
+    reached = goes.reached (took.config copied.0) (took.reached copied.0 copied.1);
+    at_end = end;
+    stuck = stuck;
   };
   prefix = cut;
   deep = (let long : length order' ≡ length (mid ++ goes.grows.0) = ap length goes.grows.1 in
       let all = length-append mid goes.grows.0 in
       let more = took.longer in
-      let cut_off = length-take-le node.depth order is_node.depth in omega (arith, long, all, more, cut_off));
-  tried = λ can. subst (Can steps) (sym is) (goes.explained (took.config copied.0)
-      (took.explained copied.0 (same_taking steps node.config copy p same can)));
+      let cut_off = length-take-le node.depth order is.depth in omega (arith, long, all, more, cut_off));
+  tried = λ can. goes.explained (took.config copied.0)
+      (took.explained copied.0 (same_taking steps node.config copy p same can));
 }
   where
     copied : IsConfig steps copy × IsReached steps (take node.depth order) copy
     copied =
         let goes = same_goes steps (take node.depth order) node.config copy same in
-        (goes.config is_node.config, goes.reached is_node.config is_node.reached)
+        (goes.config is.config, goes.reached is.config is.reached)
 
     cut : take node.depth order' ≡ take node.depth order
-    cut = same_prefix order order' node.depth is_node.depth (grown (take node.depth order) mid order' took.grows goes.grows)
+    cut = same_prefix order order' node.depth is.depth (grown (take node.depth order) mid order' took.grows goes.grows)
 
 -- Where each place of a node has been tried, nothing explains the rest.
 pub all_tried : (n w : ℕ) (steps : List KeptStep) (order : List ℕ) (node : Node) → IsNode n w steps order node →
     ((p : ℕ) → IsTriedAt steps node.config node.ending p) → Can steps node.config → ⊥
 all_tried n w steps order node is_node tried can =
     nothing_explains (suc node.ending) (drop (suc c.position) (steps_kept steps)) c.values.items (slots_of steps c)
-    never each (subst (λ (xs : List Step). CanBeExplained xs c.values.items (slots_of steps c)) rest can)
+    (rw is_node.ending at is_node.stuck.1) each
+    (subst (λ (xs : List Step). CanBeExplained xs c.values.items (slots_of steps c)) rest can)
   where
     c : Config
     c = node.config
 
-    never : (o : Operation) → at (slots_of steps c) (suc node.ending - 1) ≡ Taken o → ⊥
-    never o held =
-        subst (λ (x : KeptStep). MayNotPass (slots_of steps c) (step_of_kept x)) is_node.ending is_node.stuck.1 o held
-
     rest : rest_of steps c ≡ Ends (suc node.ending) ∷ drop (suc c.position) (steps_kept steps)
     rest =
-        drop-cons (steps_kept steps) c.position Waits
-        (subst (λ (m : ℕ). c.position < m) (sym (length-map steps step_of_kept)) is_node.stuck.0)
-        ∙ ap (λ (y : Step). y ∷ drop (suc c.position) (steps_kept steps))
-        (step_at steps c.position ∙ ap step_of_kept is_node.ending)
+        rest_at steps c is_node.stuck.0
+        ∙ ap (λ (y : KeptStep). step_of_kept y ∷ drop (suc c.position) (steps_kept steps)) is_node.ending
 
     each : (p : ℕ) (o : Operation) → at (slots_of steps c) p ≡ Open o → o.process - 1 ≡ p →
         Fails (Ends (suc node.ending) ∷ drop (suc c.position) (steps_kept steps)) c.values.items (slots_of steps c) p o
         ⊎ NotNow (suc node.ending) c.values.items (slots_of steps c) p o
-    each p o is place = by_try (kept_at steps c.slots.items p o is) (tried p)
-      where
-        by_try : (j : ℕ) × (get_or c.slots.items p kept_slot.Free ≡ kept_slot.Open j) × (called_at steps j ≡ o) →
-            IsTriedAt steps c node.ending p →
-            Fails (Ends (suc node.ending) ∷ drop (suc c.position) (steps_kept steps)) c.values.items (slots_of steps c) p o
-            ⊎ NotNow (suc node.ending) c.values.items (slots_of steps c) p o
-        by_try k (inl fails) =
-            inl (λ e. fails (
-              k.0,
-              k.1,
-              subst (λ (y : Operation). CanBeExplained (rest_of steps c) (after c.values.items y.action)
-                  (set (slots_of steps c) p (Taken y))) (sym k.2)
-                  (subst (λ (xs : List Step). CanBeExplained xs (after c.values.items o.action) (set (slots_of steps c) p (Taken o)))
-                  (sym rest) e),
-            ))
-        by_try k (inr waits) = inr (subst (NotNow (suc node.ending) c.values.items (slots_of steps c) p) k.2 (waits k.0 k.1))
+    each p o is place =
+        let k = kept_at steps c.slots.items p o is in
+        elim (tried p) [
+          | inl fails ↦ inl (λ e. fails (k.0, k.1, rw (k.2, rest) e))
+          | inr waits ↦ inr (subst (NotNow (suc node.ending) c.values.items (slots_of steps c) p) k.2 (waits k.0 k.1))
+        ]
 
 -- each place is tried, or waits
 pub rest_waits : (steps : List KeptStep) (node : Node) → IsTried steps node →
     ((p : ℕ) → node.next ≤ p → NotNowAt steps node.config node.ending p) → (p : ℕ) →
     IsTriedAt steps node.config node.ending p
-rest_waits steps node tried waits p = by_place (cases_lt p node.next)
-  where
-    by_place : (p < node.next) ⊎ (node.next ≤ p) → IsTriedAt steps node.config node.ending p
-    by_place (inl lt) = tried p lt
-    by_place (inr le) = inr (waits p le)
+rest_waits steps node tried waits p = elim (cases_lt p node.next) [
+  | inl lt ↦ tried p lt
+  | inr le ↦ inr (waits p le)
+]
 
 -- whether the place that ends is left to try, as a number
 abbrev left_at : Bool → ℕ
@@ -162,8 +125,7 @@ module _ (steps : List KeptStep) (node node' : Node) (order order' : List ℕ) (
   still_node : node'.next ≤ length node.config.slots.items →
       IsNode (length node.config.slots.items) (length node.config.values.items) steps order' node'
   still_node next = record {
-    counts = subst (λ (x : Config). (length x.slots.items ≡ length node.config.slots.items)
-        × (length x.values.items ≡ length node.config.values.items)) (sym config) (refl, refl);
+    counts = (ap (λ (x : Config). length x.slots.items) config, ap (λ (x : Config). length x.values.items) config);
     config = subst (IsConfig steps) (sym config) is_node.config;
     settled = subst (IsSettled steps) (sym config) is_node.settled;
     stuck = subst (IsStuck steps) (sym config) is_node.stuck;
@@ -171,9 +133,7 @@ module _ (steps : List KeptStep) (node node' : Node) (order order' : List ℕ) (
         ∙ ap (λ (k : ℕ). kept_step.Ends (suc k)) (sym ending);
     next = next;
     depth = (let deep = has.deep in omega (arith, deep));
-    reached = subst (λ (x : Config). IsReached steps (take node'.depth order') x) (sym config)
-        (subst (λ (k : ℕ). IsReached steps (take k order') node.config) (sym depth)
-        (subst (λ (os : List ℕ). IsReached steps os node.config) (sym prefix) is_node.reached));
+    reached = rw (config, depth, prefix) is_node.reached;
   }
 
   tried_more : node'.next ≤ length node.config.slots.items → tries_left node' < tries_left node →
@@ -187,8 +147,7 @@ module _ (steps : List KeptStep) (node node' : Node) (order order' : List ℕ) (
     entered = subst (λ (x : Config). IsEntered (length x.slots.items) (length x.values.items) steps order' e) config has.entered;
     prefix = prefix;
     deep = deep;
-    tried = λ fails q lt. subst (λ (x : Config). IsTriedAt steps x node'.ending q) (sym config)
-        (subst (λ (k : ℕ). IsTriedAt steps node.config k q) (sym ending) (tried fails q lt));
+    tried = λ fails q lt. rw (config, ending) (tried fails q lt);
   }
 
   same_slots : length node'.config.slots.items ≡ length node.config.slots.items
@@ -207,12 +166,10 @@ has_tried steps node node' order order' u e is_node tried choice le waits config
     (let same = same_slots steps node node' order order' u.place e is_node config depth ending has in
     let none : left_at node'.begun ≡ 0 = ap left_at begun in
     let lt = choice.within in omega (arith, same, none, le, next, lt))
-    (λ fails p below. by_place fails p (cases_lt p node.next) (cases_eq p u.place) below)
-  where
-    by_place : (Can steps e.config → ⊥) → (p : ℕ) → (p < node.next) ⊎ (node.next ≤ p) →
-        (p ≡ u.place) ⊎ (p ≡ u.place → ⊥) → p < node'.next → IsTriedAt steps node.config node.ending p
-    by_place fails p (inl lt) at_place below = tried p lt
-    by_place fails p (inr more) (inl same) below =
-        inl (λ can. fails (has.tried (subst (λ (x : Config). CanTaking steps x u.place) (sym config)
-        (subst (CanTaking steps node.config) same can))))
-    by_place fails p (inr more) (inr differ) below = inr (waits p more (omega (arith, below, next, differ)))
+    (λ fails p below. elim (cases_lt p node.next) [
+      | inl lt ↦ tried p lt
+      | inr more ↦ elim (cases_eq p u.place) [
+        | inl same ↦ inl (λ can. fails (has.tried (rw (config, ← same) can)))
+        | inr differ ↦ inr (waits p more (omega (arith, below, next, differ)))
+      ]
+    ])

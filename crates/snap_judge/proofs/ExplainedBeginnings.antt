@@ -1,8 +1,7 @@
 -- `LinearizableFromTheBeginning`: of a linearization the operations up to the first one that is called later, without
 -- the scans that have not been answered yet, and without the ends that come later.
-use Rattle.std.proofs.Common.{◌≡◌, ℕ, zero, suc, ◌<◌, ◌≤◌, ◌⊎◌, List, [], ◌∷◌, refl, ap, sym, subst, arith, ◌∙◌}
-use Rattle.std.proofs.Common.{inl, inr}
-use Rattle.std.proofs.Common.{Option, Some, None, max, replicate, take}
+use Rattle.std.proofs.Common.{◌≡◌, ℕ, zero, suc, ◌<◌, ◌≤◌, ◌⊎◌, List, [], ◌∷◌, refl, ap, sym, subst, arith, ◌∙◌, inl}
+use Rattle.std.proofs.Common.{inr, Option, Some, None, max, replicate, take}
 use Rattle.std.specs.List.{AllByRecursion, AllPairs, Contains}
 use Rattle.std.proofs.lemmas.Bool.{cases_lt}
 use Rattle.std.proofs.lemmas.List.Elements.{All-from_recursion, recursion_from_All}
@@ -72,81 +71,82 @@ record IsLate (p : ℕ) (o : Operation) : Type 0 where
   sees : o.action ≡ Sees view
   later : (t : ℕ) → o.end ≡ Some t → p ≤ t
 
+-- Operation y has the call of one of os, and the end of that one, if any.
+abbrev IsFrom : List Operation → Operation → Type 0
+IsFrom os y = (o : Operation) × Contains os o × (y.call ≡ o.call) × ((t : ℕ) → y.end ≡ Some t → o.end ≡ Some t)
+
+from_more : (o : Operation) (os ys : List Operation) → AllByRecursion (IsFrom os) ys →
+    AllByRecursion (IsFrom (o ∷ os)) ys
+from_more o os ys from =
+    each_weaker (IsFrom os) (IsFrom (o ∷ os)) ys (λ y f. (f.0, contains_tail o f.0 os f.1, f.2, f.3)) from
+
 -- The operations ys are the first ones of os, as the first k events tell of them.
 record IsBeginning (h : History) (k p : ℕ) (values : List ℕ) (os ys : List Operation) : Type 0 where
   each : AllByRecursion (IsOperationOf (up_to k h)) ys
   pairs : Pairs Apart ys
   runs : RunsFrom values ys
-  from : AllByRecursion (λ (y : Operation).
-      (o : Operation) × Contains os o × (y.call ≡ o.call) × ((t : ℕ) → y.end ≡ Some t → o.end ≡ Some t)) ys
+  from : AllByRecursion (IsFrom os) ys
   has : (o : Operation) (t : ℕ) → Contains os o → o.end ≡ Some t → t < p → Contains ys o
 
 module _ (h : History) (k p : ℕ) (c : IsCut h.events k p) where
-  kept_or_late : (o : Operation) → IsOperationOf h o → o.call < p →
-      ((y : Operation) × IsKept h k p o y) ⊎ IsLate p o
-  kept_or_late o is before = decided o.end o.action refl refl
-    where
-      called : Contains (take k h.events) (event o.process o.call (what.Call (called_as o.action)))
-      called = c.within (event o.process o.call (what.Call (called_as o.action))) is.called before
+  abbrev KeptOrLate : Operation → Type 0
+  KeptOrLate o = ((y : Operation) × IsKept h k p o y) ⊎ IsLate p o
 
-      whole : CameToEnd (take k h.events) o.process o.call o.end o.action →
-          ((y : Operation) × IsKept h k p o y) ⊎ IsLate p o
-      whole came = inl (
-        o,
-        record {
-          operation = record { called = called; came = came };
-          call = refl;
-          action = refl;
-          end = λ t e. e;
-          same = λ t e lt. refl;
-        },
-      )
+  called_there : (o : Operation) → IsOperationOf h o → o.call < p →
+      Contains (take k h.events) (event o.process o.call (what.Call (called_as o.action)))
+  called_there o is before = c.within (event o.process o.call (what.Call (called_as o.action))) is.called before
 
-      decided : (end : Option ℕ) (a : Action) → o.end ≡ end → o.action ≡ a →
-          ((y : Operation) × IsKept h k p o y) ⊎ IsLate p o
-      decided (Some t) a at acts = elim (cases_lt t p) [
-        | inl less ↦ whole (subst (λ (n : Option ℕ). CameToEnd (take k h.events) o.process o.call n o.action) (sym at) (
-          came.0,
-          c.within (event o.process t (ends_as o.action)) came.1 less,
-          λ e has its after early. came.2 e (c.below e has).0 its after early,
-        ))
-        | inr later ↦ late a acts later
-      ]
-        where
-          came : CameToEnd h.events o.process o.call (Some t) o.action
-          came = subst (λ (n : Option ℕ). CameToEnd h.events o.process o.call n o.action) at is.came
+  kept_whole : (o : Operation) → IsOperationOf h o → o.call < p →
+      CameToEnd (take k h.events) o.process o.call o.end o.action → KeptOrLate o
+  kept_whole o is before came = inl (
+    o,
+    record {
+      operation = record { called = called_there o is before; came = came };
+      call = refl;
+      action = refl;
+      end = λ t e. e;
+      same = λ t e lt. refl;
+    },
+  )
 
-          none_ends : (u : ℕ) → p ≤ t → o.end ≡ Some u → p ≤ u
-          none_ends u later end = let both : Some t ≡ Some u = sym at ∙ end in let one : t ≡ u = cc in omega arith
+  -- An operation that ends later is kept without its end, if it is no scan.
+  ended_later : (i n t : ℕ) (a : Action) →
+      IsOperationOf h (record { process = i; call = n; end = Some t; action = a }) → n < p → p ≤ t →
+      KeptOrLate (record { process = i; call = n; end = Some t; action = a })
+  ended_later i n t (Sees view) is before later = inr (record {
+    view = view;
+    sees = refl;
+    later = λ u end. let both : Some t ≡ Some u = end in let one : t ≡ u = cc in omega arith;
+  })
+  ended_later i n t (Sets word value) is before later = inl (
+    record { process = i; call = n; end = None; action = Sets word value },
+    record {
+      operation = record {
+        called = called_there _ is before;
+        came = λ e has its after. let b = c.below e has in let lt : e.item < p = b.1 in
+            absurd (is.came.2 e b.0 its after (omega arith));
+      };
+      call = refl;
+      action = refl;
+      end = λ u e. absurd (let no : ◌≡◌ {A = Option ℕ} None (Some u) = e in cc);
+      same = λ u e lt. let both : Some t ≡ Some u = e in let one : t ≡ u = cc in absurd (omega arith);
+    },
+  )
 
-          late : (b : Action) → o.action ≡ b → p ≤ t → ((y : Operation) × IsKept h k p o y) ⊎ IsLate p o
-          late (Sets word value) acts later = inl (
-            record { process = o.process; call = o.call; end = None; action = o.action },
-            record {
-              operation = record {
-                called = called;
-                came = subst (CameToEnd (take k h.events) o.process o.call None) (sym acts)
-                    (λ e has its after. let b = c.below e has in let lt : e.item < p = b.1 in
-                    absurd (came.2 e b.0 its after (omega arith)));
-              };
-              call = refl;
-              action = refl;
-              end = λ u e. absurd (let no : ◌≡◌ {A = Option ℕ} None (Some u) = e in cc);
-              same = λ u e lt. let le : p ≤ u = none_ends u later e in absurd (omega arith);
-            },
-          )
-          late (Sees view) acts later =
-              inr (record { view = view; sees = acts; later = λ u end. none_ends u later end })
-      decided None (Sets word value) at acts =
-          let came : CameToEnd h.events o.process o.call None (Sets word value) =
-          subst (CameToEnd h.events o.process o.call None) acts
-          (subst (λ (n : Option ℕ). CameToEnd h.events o.process o.call n o.action) at is.came) in
-          whole (subst (λ (n : Option ℕ). CameToEnd (take k h.events) o.process o.call n o.action) (sym at)
-          (subst (CameToEnd (take k h.events) o.process o.call None) (sym acts)
-          (λ e has its after. came e (c.below e has).0 its after)))
-      decided None (Sees view) at acts =
-          absurd (subst (CameToEnd h.events o.process o.call None) acts
-          (subst (λ (n : Option ℕ). CameToEnd h.events o.process o.call n o.action) at is.came))
+  kept_or_late : (i n : ℕ) (end : Option ℕ) (a : Action) →
+      IsOperationOf h (record { process = i; call = n; end = end; action = a }) → n < p →
+      KeptOrLate (record { process = i; call = n; end = end; action = a })
+  kept_or_late i n (Some t) a is before = elim (cases_lt t p) [
+    | inl less ↦ kept_whole _ is before (
+      is.came.0,
+      c.within (event i t (ends_as a)) is.came.1 less,
+      λ e has its after early. is.came.2 e (c.below e has).0 its after early,
+    )
+    | inr later ↦ ended_later i n t a is before later
+  ]
+  kept_or_late i n None (Sets word value) is before =
+      kept_whole _ is before (λ e has its after. is.came e (c.below e has).0 its after)
+  kept_or_late i n None (Sees view) is before = absurd is.came
 
   -- An operation that is called later, and all behind it, are left out.
   none_left : (values : List ℕ) (o : Operation) (os : List Operation) → IsOperationOf h o → p ≤ o.call →
@@ -171,12 +171,7 @@ module _ (h : History) (k p : ℕ) (c : IsCut h.events k p) where
     each = b.each;
     pairs = b.pairs;
     runs = subst (λ (a : Action). RunsFrom (after values a) ys) late.sees b.runs;
-    from = each_weaker
-        (λ (y : Operation).
-        (x : Operation) × Contains os x × (y.call ≡ x.call) × ((t : ℕ) → y.end ≡ Some t → x.end ≡ Some t))
-        (λ (y : Operation).
-        (x : Operation) × Contains (o ∷ os) x × (y.call ≡ x.call) × ((t : ℕ) → y.end ≡ Some t → x.end ≡ Some t)) ys
-        (λ y f. (f.0, contains_tail o f.0 os f.1, f.2, f.3)) b.from;
+    from = from_more o os ys b.from;
     has = λ x t has end lt. elim (contains_cases o x os has) [
       | inl same ↦ (let le : p ≤ t = late.later t (subst (λ (z : Operation). z.end ≡ Some t) (sym same) end) in
           absurd (omega arith))
@@ -191,10 +186,7 @@ module _ (h : History) (k p : ℕ) (c : IsCut h.events k p) where
   one_kept values o y os ys kept apart runs b = record {
     each = (kept.operation, b.each);
     pairs = (
-      each_weaker
-          (λ (z : Operation).
-          (x : Operation) × Contains os x × (z.call ≡ x.call) × ((t : ℕ) → z.end ≡ Some t → x.end ≡ Some t))
-          (Apart y) ys
+      each_weaker (IsFrom os) (Apart y) ys
           (λ z f. let a = each_contained (Apart o) f.0 os apart f.1 in (
             λ same. a.0 (sym kept.call ∙ same ∙ f.2),
             λ ended. let lt : ended.0 < y.call = ended.2 in let one : y.call ≡ o.call = kept.call in
@@ -203,15 +195,7 @@ module _ (h : History) (k p : ℕ) (c : IsCut h.events k p) where
       b.pairs,
     );
     runs = subst (λ (a : Action). RunsFrom values (record y { action = a } ∷ ys)) (sym kept.action) (runs.0, b.runs);
-    from = (
-      (o, contains_head o os, kept.call, kept.end),
-      each_weaker
-          (λ (z : Operation).
-          (x : Operation) × Contains os x × (z.call ≡ x.call) × ((t : ℕ) → z.end ≡ Some t → x.end ≡ Some t))
-          (λ (z : Operation).
-          (x : Operation) × Contains (o ∷ os) x × (z.call ≡ x.call) × ((t : ℕ) → z.end ≡ Some t → x.end ≡ Some t)) ys
-          (λ z f. (f.0, contains_tail o f.0 os f.1, f.2, f.3)) b.from,
-    );
+    from = ((o, contains_head o os, kept.call, kept.end), from_more o os ys b.from);
     has = λ x t has end lt. elim (contains_cases o x os has) [
       | inl same ↦ (let one : o ≡ y =
           kept.same t (subst (λ (z : Operation). z.end ≡ Some t) (sym same) end) lt in
@@ -236,7 +220,7 @@ module _ (h : History) (k p : ℕ) (c : IsCut h.events k p) where
       let rest = beginning (after values o.action) os each.1 pairs.1 runs.1 in
       elim (cases_lt o.call p) [
         | inr le ↦ ([], none_left values o os each.0 le pairs.0)
-        | inl before ↦ elim (kept_or_late o each.0 before) [
+        | inl before ↦ elim (kept_or_late o.process o.call o.end o.action each.0 before) [
           | inl kept ↦ (kept.0 ∷ rest.0, one_kept values o kept.0 os rest.0 kept.1 pairs.0 runs rest.1)
           | inr late ↦ (rest.0, scan_left values o os rest.0 late rest.1)
         ]
@@ -245,12 +229,12 @@ module _ (h : History) (k p : ℕ) (c : IsCut h.events k p) where
   -- An operation of the first k events that has ended there is one of the whole history.
   of_whole : (o : Operation) (t : ℕ) → IsOperationOf (up_to k h) o → o.end ≡ Some t → IsOperationOf h o × (t < p)
   of_whole o t is end =
-      let came = subst (λ (n : Option ℕ). CameToEnd (take k h.events) o.process o.call n o.action) end is.came in
+      let came = rw end at is.came in
       let at = c.below (event o.process t (ends_as o.action)) came.1 in
       let lt : t < p = at.1 in (
         record {
           called = (c.below (event o.process o.call (what.Call (called_as o.action))) is.called).0;
-          came = subst (λ (n : Option ℕ). CameToEnd h.events o.process o.call n o.action) (sym end) (
+          came = rw end (
             came.0,
             at.0,
             λ e has its after early. came.2 e (c.within e has (omega arith)) its after early,

@@ -47,8 +47,7 @@ first_suffix h is = record {
 
 -- No end is a call, and the step of an end is that end.
 no_call : (a : Action) (o : Op) → ends_as a ≡ what.Call o → ⊥
-no_call (Sets word value) o is = let no : what.Done ≡ what.Call o = is in cc
-no_call (Sees view) o is = let no : what.Answer view ≡ what.Call o = is in cc
+no_call a o is = grind arith
 
 end_step : (i t : ℕ) (a : Action) (es : List Event) → step_of i t (ends_as a) es ≡ Ends i
 end_step i t (Sets word value) es = refl
@@ -56,15 +55,10 @@ end_step i t (Sees view) es = refl
 
 -- the step of a call is no end
 answered_not_end : (i c t j : ℕ) (w : Happening) → answered_step i c t w ≡ Ends j → ⊥
-answered_not_end i c t j (what.Call o) is = let no : Waits ≡ Ends j = is in cc
-answered_not_end i c t j (what.Answer view) is =
-    let no : Calls (record { process = i; call = c; end = Some t; action = Sees view }) ≡ Ends j = is in cc
-answered_not_end i c t j what.Done is = let no : Waits ≡ Ends j = is in cc
-answered_not_end i c t j what.Crash is = let no : Waits ≡ Ends j = is in cc
+answered_not_end i c t j w is = grind arith
 
 scan_not_end : (i c j : ℕ) (n : Option Event) → scan_step i c n ≡ Ends j → ⊥
-scan_not_end i c j None is = let no : Waits ≡ Ends j = is in cc
-scan_not_end i c j (Some e) is = answered_not_end i c e.item j e.what is
+scan_not_end i c j n is = grind (arith, answered_not_end)
 
 -- The operation is the one that such an event of process i calls.
 record IsCalled (h : History) (i c : ℕ) (w : Happening) (o : Operation) : Type 0 where
@@ -123,8 +117,7 @@ module _ (h : History) (p : ℕ) (callers : ℕ → Caller) (e : Event) (es : Li
           record {
             call = e.item;
             before = omega arith;
-            called = subst (λ j. Contains h.events (event j e.item (what.Call o))) (sym same)
-                (subst (λ (w : Happening). Contains h.events (event e.process e.item w)) call among);
+            called = rw (same, ← call) among;
             quiet = λ x has its lt. lt;
           })
       | inr other ↦ (let b = s.busy i o (sym (with_other callers e.process i (caller_after e.what) other) ∙ is) in
@@ -177,8 +170,7 @@ module _ (h : History) (p : ℕ) (callers : ℕ → Caller) (e : Event) (es : Li
       let next = next_some i es x tail_rises is in
       let f = from_behind x next.there in (
         f.1,
-        subst (λ j. Contains h.events (event j x.item (ends_as a))) next.its
-            (subst (λ (y : Happening). Contains h.events (event x.process x.item y)) w f.0),
+        rw (← next.its, ← w) f.0,
         λ z has its lt less. next.first z (behind z has lt) its less,
       )
 
@@ -206,12 +198,8 @@ module _ (h : History) (p : ℕ) (callers : ℕ → Caller) (e : Event) (es : Li
   update_came word value call (Some x) is =
       elim (update_next h.shape (with_caller callers e.process (caller_after e.what)) es e.process word value x
       (with_same callers e.process e.process (caller_after e.what) refl ∙ ap caller_after call) s.follow.2 is) [
-        | inl done ↦ subst (λ (w : Happening).
-            CameToEnd h.events e.process e.item (end_number x.item w) (Sets word value)) (sym done)
-            (came_to e.process x (Sets word value) is done)
-        | inr crash ↦ subst (λ (w : Happening).
-            CameToEnd h.events e.process e.item (end_number x.item w) (Sets word value)) (sym crash.0)
-            (λ z has its lt. crash.1 z (behind z has lt) its)
+        | inl done ↦ rw done (came_to e.process x (Sets word value) is done)
+        | inr crash ↦ rw crash.0 (λ z has its lt. crash.1 z (behind z has lt) its)
       ]
 
   is_called : (w : Happening) (o : Operation) → e.what ≡ w → step_of e.process e.item w es ≡ Calls o →
@@ -244,11 +232,8 @@ module _ (h : History) (p : ℕ) (callers : ℕ → Caller) (e : Event) (es : Li
       let at : o.call ≡ e.item = c.call in
       record {
         operation = record {
-          called = subst (λ i. Contains h.events (event i o.call (what.Call (called_as o.action)))) (sym c.process)
-              (subst (λ t. Contains h.events (event e.process t (what.Call (called_as o.action)))) (sym c.call)
-              (subst (λ (w : Happening). Contains h.events (event e.process e.item w)) c.called among));
-          came = subst (λ i. CameToEnd h.events i o.call o.end o.action) (sym c.process)
-              (subst (λ t. CameToEnd h.events e.process t o.end o.action) (sym c.call) c.came);
+          called = rw (c.process, c.call, ← c.called) among;
+          came = rw (c.process, c.call) c.came;
         };
         from = omega arith;
         before = omega arith;
@@ -257,8 +242,7 @@ module _ (h : History) (p : ℕ) (callers : ℕ → Caller) (e : Event) (es : Li
             (sym (same ∙ c.process)) (omega arith) c.called
             (λ t end. let le' : p ≤ t = l.going t end in elim (cases_lt e.item t) [
               | inl less ↦ less
-              | inr more ↦ absurd (let came =
-                  subst (λ (n : Option ℕ). CameToEnd h.events y.process y.call n y.action) end l.operation.came in
+              | inr more ↦ absurd (let came = rw end at l.operation.came in
                   let one = here (event y.process t (ends_as y.action)) came.1 le' (omega arith) in
                   no_call y.action (called_as o.action)
                   (sym (ap (λ (z : Event). z.what) one) ∙ c.called))
@@ -319,18 +303,13 @@ module _ (h : History) (p : ℕ) (callers : ℕ → Caller) (e : Event) (es : Li
         later = omega arith;
         calls = λ y is from lt.
             let one = here (event y.process y.call (what.Call (called_as y.action))) is.called from lt in
-            let at : e.item ≡ y.call = ap (λ (z : Event). z.item) one in
-            subst (λ (z : Event). step_of z.process z.item z.what es ≡ Calls y) (sym one)
-            (subst (λ c. step_of y.process c (what.Call (called_as y.action)) es
-            ≡ Calls (record { process = y.process; call = c; end = y.end; action = y.action })) at
-            (call_step y.process y.end y.action
-            (subst (λ c. CameToEnd h.events y.process c y.end y.action) (sym at) is.came)));
+            let number : e.item ≡ y.call = ap (λ (z : Event). z.item) one in
+            rw one (rw number at (call_step y.process y.end y.action (rw number is.came)));
         begins = begins;
         ends = λ y t is end from lt.
-            let came = subst (λ (n : Option ℕ). CameToEnd h.events y.process y.call n y.action) end is.came in
+            let came = rw end at is.came in
             let one = here (event y.process t (ends_as y.action)) came.1 from lt in
-            subst (λ (z : Event). step_of z.process z.item z.what es ≡ Ends y.process) (sym one)
-            (end_step y.process t y.action es);
+            rw one (end_step y.process t y.action es);
         stops = λ i it. stops i e.what refl it;
       }
 
@@ -343,8 +322,7 @@ over h p callers s = record {
   ];
   ended = λ y t is end. elim (cases_lt t p) [
     | inl less ↦ less
-    | inr le ↦ (let came =
-        subst (λ (n : Option ℕ). CameToEnd h.events y.process y.call n y.action) end is.came in
+    | inr le ↦ (let came = rw end at is.came in
         let c = event y.process t (ends_as y.action) in absurd (contains_none c (s.all c came.1 le)))
   ];
 }
@@ -373,7 +351,7 @@ same_from h (x ∷ xs) p g a b ha hb same le = elim (cases_lt a.call g.0) [
 
 -- An operation ends after its call.
 pub ends_later : (h : History) (o : Operation) (t : ℕ) → IsOperationOf h o → o.end ≡ Some t → o.call < t
-ends_later h o t its end = (subst (λ (n : Option ℕ). CameToEnd h.events o.process o.call n o.action) end its.came).0
+ends_later h o t its end = (rw end at its.came).0
 
 pub are_sound : (h : History) → IsHistory h → AreSound h
 are_sound h is = record {

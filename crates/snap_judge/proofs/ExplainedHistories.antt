@@ -1,15 +1,13 @@
 -- `HistoriesAreExplained`: from what holds along the events to linearizations of the whole history.
-use Rattle.std.proofs.Common.{◌≡◌, ◌-◌, ◌<◌, List, sym, arith, inl, inr, ◌∙◌}
-use Rattle.std.proofs.Common.{replicate}
+use Rattle.std.proofs.Common.{◌≡◌, ◌-◌, ◌<◌, List, sym, arith, inl, inr, ◌∙◌, replicate}
 use Rattle.std.specs.List.{AllByRecursion}
 use Rattle.std.proofs.lemmas.List.Elements.{All-from_recursion, recursion_from_All}
 use Rattle.snap_runs.specs.Operation.{EndedBefore, Operation}
 use Rattle.snap_runs.proofs.Order.{Apart, all_pairs, keeps_order}
 use Rattle.snap_judge.specs.History.{History, IsHistory}
 use Rattle.snap_judge.specs.Linearizable.{IsLinearizationOf, IsOperationOf}
-use Rattle.snap_judge.specs.Steps.{ExplainsHistory, Free, HistoriesAreExplained, Move, Taken, steps_of}
-use Rattle.snap_judge.specs.Steps.{taken}
-use Rattle.snap_judge.proofs.ExplainedLists.{all_free, each_weaker, pairs_apart, pairs_by_recursion}
+use Rattle.snap_judge.specs.Steps.{ExplainsHistory, Free, HistoriesAreExplained, Move, Taken, steps_of, taken}
+use Rattle.snap_judge.proofs.ExplainedLists.{each_weaker, pairs_apart, pairs_by_recursion, replicated}
 use Rattle.snap_judge.proofs.ExplainedTurns.{AreSound, first_slots}
 use Rattle.snap_judge.proofs.ExplainedPasses.{MayBeTaken}
 use Rattle.snap_judge.proofs.ExplainedEvents.{are_sound, goes}
@@ -35,7 +33,7 @@ sound h is moves e =
       took_place = All-from_recursion (IsOperationOf h) (taken moves) each;
       once = λ i j d lt short. (all_pairs Apart (taken moves) r.pairs i j d lt short).0;
       complete = λ o its ended. elim (r.fits.has o ended.0 its ended.1 (omega arith)) [
-        | inl held ↦ absurd (let no : Free ≡ Taken o = sym (all_free h.shape.n (o.process - 1)) ∙ held in cc)
+        | inl held ↦ absurd (let no : Free ≡ Taken o = sym (replicated Free h.shape.n (o.process - 1)) ∙ held in cc)
         | inr has ↦ has
       ];
       order = keeps_order (taken moves)

@@ -1,9 +1,10 @@
 -- Lists: what they contain, pairs of their elements, and the places of slots.
 use Rattle.std.proofs.Common.{◌≡◌, ℕ, zero, suc, ◌<◌, ◌⊎◌, List, [], ◌∷◌, length, refl, sym, subst, ◌∙◌}
-use Rattle.std.proofs.Common.{inl, inr, arith, slice_index_or, slice_set, replicate}
+use Rattle.std.proofs.Common.{ap, inl, inr, arith, get_or, slice_index_or, slice_set, replicate, ◌≤◌}
+use Rattle.std.proofs.Math.ListN.{set}
 use Rattle.std.specs.List.{AllByRecursion, AllPairs, Contains}
-use Rattle.std.proofs.lemmas.Bool.{cases_eq}
-use Rattle.std.proofs.lemmas.List.{get_or-set_same, get_or-set_other}
+use Rattle.std.proofs.lemmas.Bool.{cases_eq, cases_lt}
+use Rattle.std.proofs.lemmas.List.{get_or_past, get_or-set_same, get_or-set_other, set_past}
 use Rattle.std.proofs.lemmas.List.Elements.{recursion_from_All}
 use Rattle.snap_runs.specs.Operation.{Operation}
 use Rattle.snap_runs.specs.Linearization.{KeepsOrder}
@@ -90,7 +91,26 @@ pub set_other : (slots : List Slot) (j k : ℕ) (s v : Slot) → (k ≡ j → �
     slice_index_or (slice_set slots j s) k Free ≡ v
 set_other slots j k s v other is = get_or-set_other slots j k s Free other ∙ is
 
-pub all_free : (n k : ℕ) → slice_index_or (replicate n Free) k Free ≡ Free
-all_free zero k = refl
-all_free (suc n) zero = refl
-all_free (suc n) (suc k) = all_free n k
+pub replicated : {X : Type 0} (x : X) (n k : ℕ) → get_or (replicate n x) k x ≡ x
+replicated x zero zero = refl
+replicated x zero (suc k) = refl
+replicated x (suc n) zero = refl
+replicated x (suc n) (suc k) = replicated x n k
+
+-- what is not what a list tells past its end is within the list
+pub within_if : {X : Type 0} (d : X) (xs : List X) (p : ℕ) → (get_or xs p d ≡ d → ⊥) → p < length xs
+within_if d xs p used = elim (cases_lt p (length xs)) [
+  | inl lt ↦ lt
+  | inr past ↦ absurd (used (get_or_past xs p d past))
+]
+
+-- What is read of a list of which one element has changed: it is that one, or what was there before.
+pub set_tells : {X : Type 0} (P : X → Type 0) (d : X) (xs : List X) (p q : ℕ) (s : X) → P (get_or (set xs p s) q d) →
+    ((q ≡ p) × P s) ⊎ P (get_or xs q d)
+set_tells {X} P d xs p q s h = elim (cases_eq q p) [
+  | inr apart ↦ inr (subst P (get_or-set_other xs p q s d apart) h)
+  | inl here ↦ elim (cases_lt p (length xs)) [
+    | inl lt ↦ inl (here, subst P (ap (λ r. get_or (set xs p s) r d) here ∙ get_or-set_same xs p s d lt) h)
+    | inr past ↦ inr (subst (λ (l : List X). P (get_or l q d)) (set_past xs p s past) h)
+  ]
+]

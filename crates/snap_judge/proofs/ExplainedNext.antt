@@ -86,11 +86,7 @@ next_none i (e ∷ es) is z has its = elim (cases_eq e.process i) [
 
 -- a crashed process comes to nothing
 gone_stays : (shape : Counts) (w : Happening) → MayCome shape Gone w → ⊥
-gone_stays shape (what.Call op.Scan) h = h
-gone_stays shape (what.Call (op.Update word value)) h = h
-gone_stays shape (what.Answer view) h = h
-gone_stays shape what.Done h = h
-gone_stays shape what.Crash h = h
+gone_stays shape w h = grind arith
 
 none_gone : (shape : Counts) (callers : ℕ → Caller) (es : List Event) (i : ℕ) → callers i ≡ Gone →
     MayFollow shape callers es → (z : Event) → Contains es z → z.process ≡ i → ⊥
@@ -108,11 +104,7 @@ none_gone shape callers (e ∷ es) i is f z has its = elim (cases_eq i e.process
 -- an update is done, or its process crashes
 update_ends : (shape : Counts) (word value : ℕ) (w : Happening) → MayCome shape (Busy (op.Update word value)) w →
     (w ≡ what.Done) ⊎ (w ≡ what.Crash)
-update_ends shape word value (what.Call op.Scan) h = absurd h
-update_ends shape word value (what.Call (op.Update word' value')) h = absurd h
-update_ends shape word value (what.Answer view) h = absurd h
-update_ends shape word value what.Done h = inl refl
-update_ends shape word value what.Crash h = inr refl
+update_ends shape word value w h = grind arith
 
 pub update_next : (shape : Counts) (callers : ℕ → Caller) (es : List Event) (i word value : ℕ) (x : Event) →
     callers i ≡ Busy (op.Update word value) → MayFollow shape callers es → next_of i es ≡ Some x →
@@ -151,10 +143,7 @@ update_next shape callers (e ∷ es) i word value x is f next = elim (cases_eq i
 
 -- what a process was at that answers or is done, and what it does that is at an operation afterwards
 pub answers_scan : (shape : Counts) (c : Caller) (view : List ℕ) → MayCome shape c (what.Answer view) → c ≡ Busy op.Scan
-answers_scan shape Free view h = absurd h
-answers_scan shape (Busy op.Scan) view h = refl
-answers_scan shape (Busy (op.Update word value)) view h = absurd h
-answers_scan shape Gone view h = absurd h
+answers_scan shape c view h = grind arith
 
 pub done_update : (shape : Counts) (c : Caller) → MayCome shape c what.Done →
     (word : ℕ) × (value : ℕ) × (c ≡ Busy (op.Update word value))
@@ -164,10 +153,7 @@ done_update shape (Busy (op.Update word value)) h = (word, value, refl)
 done_update shape Gone h = absurd h
 
 pub busy_after_call : (w : Happening) (o : Op) → caller_after w ≡ Busy o → w ≡ what.Call o
-busy_after_call (what.Call o') o is = let both : Busy o' ≡ Busy o = is in let same : o' ≡ o = cc in ap what.Call same
-busy_after_call (what.Answer view) o is = absurd (let no : Free ≡ Busy o = is in cc)
-busy_after_call what.Done o is = absurd (let no : Free ≡ Busy o = is in cc)
-busy_after_call what.Crash o is = absurd (let no : Gone ≡ Busy o = is in cc)
+busy_after_call w o is = grind arith
 
 -- each event is one of a process that there is
 pub process_of : (shape : Counts) (callers : ℕ → Caller) (es : List Event) → MayFollow shape callers es →

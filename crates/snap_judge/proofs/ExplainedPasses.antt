@@ -10,8 +10,8 @@ use Rattle.snap_judge.specs.Linearizable.{IsOperationOf}
 use Rattle.snap_judge.specs.Steps.{Calls, Ends, Free, MayPass, Open, Slot, Step, Taken, Waits, passed}
 use Rattle.snap_judge.proofs.ExplainedLists.{contains_cases, contains_head, contains_tail, each_both, each_weaker}
 use Rattle.snap_judge.proofs.ExplainedLists.{set_cases, set_other, set_same}
-use Rattle.snap_judge.proofs.ExplainedTurns.{AreSound, Fits, Live, SlotsAt, Turned, gone, in_slot, place_within}
-use Rattle.snap_judge.proofs.ExplainedTurns.{same_place, take_slots}
+use Rattle.snap_judge.proofs.ExplainedTurns.{AreSound, Fits, Live, SlotsAt, Turned, begun, pass_slots, place_within}
+use Rattle.snap_judge.proofs.ExplainedTurns.{still, stop_within, take_slots}
 
 -- The operation may be taken from this number on: it is called there, or is open now.
 abbrev pub MayBeTaken : History → ℕ → List Slot → Operation → Type 0
@@ -19,73 +19,61 @@ MayBeTaken h p slots y =
     IsOperationOf h y × ((p ≤ y.call) ⊎ (slice_index_or slots (y.process - 1) Free ≡ Open y))
 
 module _ (h : History) (sound : AreSound h) where
+  -- What a slot that is not free holds behind an event it held before it, unless the event is its call.
+  slot_before : (p q : ℕ) (x : Step) (slots : List Slot) (k : ℕ) (v : Slot) → Turned h p q x → SlotsAt h p slots →
+      (Free ≡ v → ⊥) → slice_index_or (passed slots x) k Free ≡ v →
+      (slice_index_or slots k Free ≡ v) ⊎ ((o : Operation) × (x ≡ Calls o) × (Open o ≡ v))
+  slot_before p q (Calls o) slots k v t s used now =
+      elim (set_cases slots (o.process - 1) k (Open o) v
+      (place_within h sound o slots (t.begins o refl).operation s.count) now) [
+        | inl here ↦ inr (o, refl, here.1)
+        | inr other ↦ inl other.1
+      ]
+  slot_before p q (Ends i) slots k v t s used now =
+      elim (set_cases slots (i - 1) k Free v (stop_within h sound p q i slots (t.stops i refl) s) now) [
+        | inl here ↦ absurd (used here.1)
+        | inr other ↦ inl other.1
+      ]
+  slot_before p q Waits slots k v t s used now = inl now
+
   -- What may be taken behind an event may be so before it.
-  may_before : (p q : ℕ) (x : Step) (slots : List Slot) → Turned h p q x → SlotsAt h p slots → MayPass slots x →
-      (y : Operation) → MayBeTaken h q (passed slots x) y → MayBeTaken h p slots y
-  may_before p q (Calls o) slots t s may y (is, inl le) = let later : p ≤ q = t.later in (is, inl (omega arith))
-  may_before p q (Calls o) slots t s may y (is, inr now) =
-      let b = t.begins o refl in
-      elim (set_cases slots (o.process - 1) (y.process - 1) (Open o) (Open y)
-      (place_within h sound o slots b.operation s.count) now) [
-        | inl here ↦ (let e : Open o ≡ Open y = here.1 in let same : o ≡ y = cc in
-            (is, inl (subst (λ (z : Operation). p ≤ z.call) same b.from)))
-        | inr other ↦ (is, inr other.1)
+  may_before : (p q : ℕ) (x : Step) (slots : List Slot) → Turned h p q x → SlotsAt h p slots → (y : Operation) →
+      MayBeTaken h q (passed slots x) y → MayBeTaken h p slots y
+  may_before p q x slots t s y (is, inl le) = let later : p ≤ q = t.later in (is, inl (omega arith))
+  may_before p q x slots t s y (is, inr now) =
+      elim (slot_before p q x slots (y.process - 1) (Open y) t s (λ no. cc) now) [
+        | inl before ↦ (is, inr before)
+        | inr call ↦ (let both = call.2 in let same : call.0 ≡ y = cc in
+            (is, inl (subst (λ (z : Operation). p ≤ z.call) same (t.begins call.0 call.1).from)))
       ]
-  may_before p q (Ends i) slots t s may y (is, inl le) = let later : p ≤ q = t.later in (is, inl (omega arith))
-  may_before p q (Ends i) slots t s may y (is, inr now) =
-      let x = t.stops i refl in
-      elim (set_cases slots (i - 1) (y.process - 1) Free (Open y)
-      (subst (λ j. j - 1 < length slots) x.process
-      (place_within h sound x.operation slots x.live.operation s.count)) now) [
-        | inl here ↦ absurd (let e : Free ≡ Open y = here.1 in cc)
-        | inr other ↦ (is, inr other.1)
-      ]
-  may_before p q Waits slots t s may y (is, inl le) = let later : p ≤ q = t.later in (is, inl (omega arith))
-  may_before p q Waits slots t s may y (is, inr now) = (is, inr now)
 
   -- What has ended behind an event, and had been taken there, had been so before it.
   taken_before : (p q : ℕ) (x : Step) (slots : List Slot) → Turned h p q x → SlotsAt h p slots →
       (y : Operation) → slice_index_or (passed slots x) (y.process - 1) Free ≡ Taken y →
       slice_index_or slots (y.process - 1) Free ≡ Taken y
-  taken_before p q (Calls o) slots t s y now =
-      let b = t.begins o refl in
-      elim (set_cases slots (o.process - 1) (y.process - 1) (Open o) (Taken y)
-      (place_within h sound o slots b.operation s.count) now) [
-        | inl here ↦ absurd (let e : Open o ≡ Taken y = here.1 in cc)
-        | inr other ↦ other.1
+  taken_before p q x slots t s y now =
+      elim (slot_before p q x slots (y.process - 1) (Taken y) t s (λ no. cc) now) [
+        | inl before ↦ before
+        | inr call ↦ absurd (let no : Open call.0 ≡ Taken y = call.2 in cc)
       ]
-  taken_before p q (Ends i) slots t s y now =
-      let x = t.stops i refl in
-      elim (set_cases slots (i - 1) (y.process - 1) Free (Taken y)
-      (subst (λ j. j - 1 < length slots) x.process
-      (place_within h sound x.operation slots x.live.operation s.count)) now) [
-        | inl here ↦ absurd (let e : Free ≡ Taken y = here.1 in cc)
-        | inr other ↦ other.1
-      ]
-  taken_before p q Waits slots t s y now = now
 
   -- What ends by an event had been taken before it.
-  taken_at_end : (p q : ℕ) (x : Step) (slots : List Slot) → Turned h p q x → SlotsAt h p slots → MayPass slots x →
-      (y : Operation) (t : ℕ) → IsOperationOf h y → y.end ≡ Some t → p ≤ t → t < q → x ≡ Ends y.process →
+  taken_at_end : (p q : ℕ) (slots : List Slot) (y : Operation) (e : ℕ) → Turned h p q (Ends y.process) →
+      SlotsAt h p slots → MayPass slots (Ends y.process) → IsOperationOf h y → y.end ≡ Some e → p ≤ e → e < q →
       slice_index_or slots (y.process - 1) Free ≡ Taken y
-  taken_at_end p q (Calls o) slots t s may y e is end le lt it = absurd (let no : Calls o ≡ Ends y.process = it in cc)
-  taken_at_end p q Waits slots t s may y e is end le lt it = absurd (let no : Waits ≡ Ends y.process = it in cc)
-  taken_at_end p q (Ends i) slots t s may y e is end le lt it =
-      let same : i ≡ y.process = (let both : Ends i ≡ Ends y.process = it in cc) in
+  taken_at_end p q slots y e t s may is end le lt =
       let early : y.call < e = sound.ends_later y e is end in
       let l : Live h p y = record {
         operation = is;
         called = elim (cases_lt y.call p) [
           | inl less ↦ less
-          | inr more ↦ absurd (let no : Ends i ≡ Calls y = t.calls y is more (omega arith) in cc)
+          | inr more ↦ absurd (let no : Ends y.process ≡ Calls y = t.calls y is more (omega arith) in cc)
         ];
         going = λ u ends. let one : e ≡ u = (let both : Some e ≡ Some u = sym end ∙ ends in cc) in omega arith;
       } in
-      let held : slice_index_or slots (y.process - 1) Free ≡ Taken may.0 =
-      subst (λ j. slice_index_or slots (j - 1) Free ≡ Taken may.0) same may.1 in
-      elim (in_slot h sound p slots y (Taken may.0) s l held) [
-        | inl free ↦ absurd (let wrong : Open y ≡ Taken may.0 = free in cc)
-        | inr same ↦ held ∙ sym same
+      elim (s.live y l) [
+        | inl free ↦ absurd (let no : Open y ≡ Taken may.0 = sym free ∙ may.1 in cc)
+        | inr now ↦ now
       ]
 
   -- What is left to be taken behind an event is left to be taken before it.
@@ -93,9 +81,10 @@ module _ (h : History) (sound : AreSound h) where
       SlotsAt h p slots → MayPass slots x → Fits h q (passed slots x) left → Fits h p slots left
   fits_before p q x slots left t s may f = record {
     each = each_weaker (MayBeTaken h q (passed slots x)) (MayBeTaken h p slots) left
-        (may_before p q x slots t s may) f.each;
+        (may_before p q x slots t s) f.each;
     has = λ y e is end le. elim (cases_lt e q) [
-      | inl lt ↦ inl (taken_at_end p q x slots t s may y e is end le lt (t.ends y e is end le lt))
+      | inl lt ↦ (let it = t.ends y e is end le lt in
+          inl (taken_at_end p q slots y e (rw it at t) s (rw it at may) is end le lt))
       | inr more ↦ elim (f.has y e is end more) [
         | inl now ↦ inl (taken_before p q x slots t s y now)
         | inr here ↦ inr here
@@ -107,56 +96,45 @@ module _ (h : History) (sound : AreSound h) where
   open_behind : (p q : ℕ) (x : Step) (slots : List Slot) → Turned h p q x → SlotsAt h p slots → MayPass slots x →
       (y : Operation) → slice_index_or slots (y.process - 1) Free ≡ Open y →
       slice_index_or (passed slots x) (y.process - 1) Free ≡ Open y
-  open_behind p q (Calls o) slots t s may y now =
-      let b = t.begins o refl in let l = s.opened (y.process - 1) y now in
-      set_other slots (o.process - 1) (y.process - 1) (Open o) (Open y)
-      (λ e. b.alone y l.0 (same_place h sound y o l.0.operation b.operation e)) now
-  open_behind p q (Ends i) slots t s may y now =
-      set_other slots (i - 1) (y.process - 1) Free (Open y)
-      (λ e. let no : Open y ≡ Taken may.0 =
-      sym now ∙ subst (λ k. slice_index_or slots k Free ≡ Taken may.0) (sym e) may.1 in cc) now
-  open_behind p q Waits slots t s may y now = now
+  open_behind p q x slots t s may y now =
+      let l' = still h sound p q x y t (s.opened (y.process - 1) y now).0
+      (λ e. let m = rw e at may in let no : Open y ≡ Taken m.0 = sym now ∙ m.1 in cc) in
+      elim ((pass_slots h sound p q x slots t s).live y l') [
+        | inl is ↦ is
+        | inr is ↦ absurd (let no : Open y ≡ Taken y = sym now ∙ taken_before p q x slots t s y is in cc)
+      ]
 
   may_behind : (p q : ℕ) (x : Step) (slots : List Slot) → Turned h p q x → SlotsAt h p slots → MayPass slots x →
       (y : Operation) → MayBeTaken h p slots y → MayBeTaken h q (passed slots x) y
   may_behind p q x slots t s may y (is, inr now) = (is, inr (open_behind p q x slots t s may y now))
-  may_behind p q x slots t s may y (is, inl le) =
-      elim (cases_lt y.call q) [
-        | inl lt ↦ (is, inr (called x t s (t.calls y is le lt)))
-        | inr more ↦ (is, inl more)
-      ]
-    where
-      called : (z : Step) → Turned h p q z → SlotsAt h p slots → z ≡ Calls y →
-          slice_index_or (passed slots z) (y.process - 1) Free ≡ Open y
-      called (Calls o) t s it =
-          let same : o ≡ y = (let e : Calls o ≡ Calls y = it in cc) in
-          set_same slots (o.process - 1) (y.process - 1) (Open o)
-          (place_within h sound o slots (t.begins o refl).operation s.count)
-          (ap (λ (z : Operation). z.process - 1) (sym same)) ∙ ap Open same
-      called (Ends i) t s it = absurd (let e : Ends i ≡ Calls y = it in cc)
-      called Waits t s it = absurd (let e : Waits ≡ Calls y = it in cc)
+  may_behind p q x slots t s may y (is, inl le) = elim (cases_lt y.call q) [
+    | inl lt ↦ (let l = begun h sound p q y (rw (t.calls y is le lt) at t) in
+        elim ((pass_slots h sound p q x slots t s).live y l) [
+          | inl now ↦ (is, inr now)
+          | inr held ↦ absurd (let early : y.call < p =
+              (s.took (y.process - 1) y (taken_before p q x slots t s y held)).0.called in omega arith)
+        ])
+    | inr more ↦ (is, inl more)
+  ]
 
   taken_behind : (p q : ℕ) (x : Step) (slots : List Slot) → Turned h p q x → SlotsAt h p slots →
       (y : Operation) (e : ℕ) → y.end ≡ Some e → q ≤ e → slice_index_or slots (y.process - 1) Free ≡ Taken y →
       slice_index_or (passed slots x) (y.process - 1) Free ≡ Taken y
-  taken_behind p q (Calls o) slots t s y e end more now =
-      let b = t.begins o refl in let l = s.took (y.process - 1) y now in
-      set_other slots (o.process - 1) (y.process - 1) (Open o) (Taken y)
-      (λ same. b.alone y l.0 (same_place h sound y o l.0.operation b.operation same)) now
-  taken_behind p q (Ends i) slots t s y e end more now =
-      let l = s.took (y.process - 1) y now in
-      let x = t.stops i refl in
-      let later : p ≤ q = t.later in let before : y.call < p = l.0.called in
+  taken_behind p q x slots t s y e end more now =
+      let l = (s.took (y.process - 1) y now).0 in
+      let later : p ≤ q = t.later in let before : y.call < p = l.called in
       let l' : Live h q y = record {
-        operation = l.0.operation;
+        operation = l.operation;
         called = omega arith;
         going = λ u ends. let one : e ≡ u = (let both : Some e ≡ Some u = sym end ∙ ends in cc) in omega arith;
       } in
-      set_other slots (i - 1) (y.process - 1) Free (Taken y)
-      (λ same. gone h sound p q i slots y t s l.0 l'
-      (same_place h sound y x.operation l.0.operation x.live.operation (same ∙ ap (λ j. j - 1) (sym x.process))
-      ∙ x.process)) now
-  taken_behind p q Waits slots t s y e end more now = now
+      elim ((pass_slots h sound p q x slots t s).live y l') [
+        | inl is ↦ absurd (elim (may_before p q x slots t s y (l.operation, inr is)).1 [
+          | inl le ↦ omega arith
+          | inr was ↦ (let no : Open y ≡ Taken y = sym was ∙ now in cc)
+        ])
+        | inr is ↦ is
+      ]
 
   pub fits_behind : (p q : ℕ) (x : Step) (slots : List Slot) (left : List Operation) → Turned h p q x →
       SlotsAt h p slots → MayPass slots x → Fits h p slots left → Fits h q (passed slots x) left

@@ -10,7 +10,7 @@ use Rattle.snap_runs.specs.Operation.{Operation}
 use Rattle.snap_judge.specs.History.{History}
 use Rattle.snap_judge.specs.Linearizable.{IsOperationOf}
 use Rattle.snap_judge.specs.Steps.{Calls, Ends, Free, Open, Slot, Step, Taken, Waits, passed}
-use Rattle.snap_judge.proofs.ExplainedLists.{all_free, set_cases, set_other, set_same}
+use Rattle.snap_judge.proofs.ExplainedLists.{replicated, set_cases, set_other, set_same}
 
 -- The operation was called before this number, and has no end before it.
 pub record Live (h : History) (p : ℕ) (o : Operation) : Type 0 where
@@ -79,8 +79,8 @@ pub first_slots : (h : History) → SlotsAt h 0 (replicate h.shape.n Free)
 first_slots h = record {
   count = length-replicate h.shape.n Free;
   live = λ y l. let lt : y.call < 0 = l.called in absurd (omega arith);
-  opened = λ k y is. absurd (let none : Free ≡ Open y = sym (all_free h.shape.n k) ∙ is in cc);
-  took = λ k y is. absurd (let none : Free ≡ Taken y = sym (all_free h.shape.n k) ∙ is in cc);
+  opened = λ k y is. absurd (let none : Free ≡ Open y = sym (replicated Free h.shape.n k) ∙ is in cc);
+  took = λ k y is. absurd (let none : Free ≡ Taken y = sym (replicated Free h.shape.n k) ∙ is in cc);
 }
 
 module _ (h : History) (sound : AreSound h) where
@@ -96,6 +96,10 @@ module _ (h : History) (sound : AreSound h) where
   place_within o slots ho count =
       let x = sound.of_process o ho in
       let x0 : 0 < o.process = x.0 in let x1 : o.process ≤ h.shape.n = x.1 in omega (arith, count)
+
+  pub stop_within : (p q i : ℕ) (slots : List Slot) → Stops h p q i → SlotsAt h p slots → i - 1 < length slots
+  stop_within p q i slots x s =
+      subst (λ j. j - 1 < length slots) x.process (place_within x.operation slots x.live.operation s.count)
 
   -- An operation that goes on does so after a step that is not its end.
   pub still : (p q : ℕ) (x : Step) (y : Operation) → Turned h p q x → Live h p y → (x ≡ Ends y.process → ⊥) → Live h q y
@@ -124,7 +128,7 @@ module _ (h : History) (sound : AreSound h) where
       }
 
   -- An operation that begins at a step goes on behind it.
-  begun : (p q : ℕ) (o : Operation) → Turned h p q (Calls o) → Live h q o
+  pub begun : (p q : ℕ) (o : Operation) → Turned h p q (Calls o) → Live h q o
   begun p q o t =
       let b = t.begins o refl in
       let from : p ≤ o.call = b.from in
@@ -138,69 +142,52 @@ module _ (h : History) (sound : AreSound h) where
         ];
       }
 
-  pass_call : (p q : ℕ) (o : Operation) (slots : List Slot) → Turned h p q (Calls o) → SlotsAt h p slots →
-      SlotsAt h q (slice_set slots (o.process - 1) (Open o))
-  pass_call p q o slots t s =
-      let b = t.begins o refl in
-      let lt = place_within o slots b.operation s.count in
-      record {
-        count = length-set slots (o.process - 1) (Open o) ∙ s.count;
-        live = λ y l. elim (cases_lt y.call p) [
-          | inl less ↦ (let l' : Live h p y = was p q (Calls o) y t l (λ is. let e : o ≡ y = cc in
-              let le : p ≤ o.call = b.from in
-              let same : o.call ≡ y.call = ap (λ (z : Operation). z.call) e in omega arith) in
-              let apart : y.process - 1 ≡ o.process - 1 → ⊥ =
-              λ e. b.alone y l' (same_place y o l'.operation b.operation e) in
-              elim (s.live y l') [
-                | inl is ↦ inl (set_other slots (o.process - 1) (y.process - 1) (Open o) (Open y) apart is)
-                | inr is ↦ inr (set_other slots (o.process - 1) (y.process - 1) (Open o) (Taken y) apart is)
-              ])
-          | inr le ↦ (let e : Calls o ≡ Calls y = t.calls y l.operation le l.called in
-              let same : o ≡ y = cc in
-              inl (set_same slots (o.process - 1) (y.process - 1) (Open o) lt
-              (ap (λ (z : Operation). z.process - 1) (sym same)) ∙ ap Open same))
-        ];
-        opened = λ k y is. elim (set_cases slots (o.process - 1) k (Open o) (Open y) lt is) [
-          | inl here ↦ (let e : Open o ≡ Open y = here.1 in let same : o ≡ y = cc in
-              subst (λ (z : Operation). Live h q z × (z.process - 1 ≡ k)) same (begun p q o t, sym here.0))
-          | inr other ↦ (let was' = s.opened k y other.1 in
-              (still p q (Calls o) y t was'.0 (λ no. cc), was'.1))
-        ];
-        took = λ k y is. elim (set_cases slots (o.process - 1) k (Open o) (Taken y) lt is) [
-          | inl here ↦ absurd (let e : Open o ≡ Taken y = here.1 in cc)
-          | inr other ↦ (let was' = s.took k y other.1 in
-              (still p q (Calls o) y t was'.0 (λ no. cc), was'.1))
-        ];
-      }
-
-  -- The slot of an operation that goes on holds that operation, so that no other one of its process goes on.
-  pub in_slot : (p : ℕ) (slots : List Slot) (y : Operation) (s : Slot) → SlotsAt h p slots → Live h p y →
-      slice_index_or slots (y.process - 1) Free ≡ s → (Open y ≡ s) ⊎ (Taken y ≡ s)
-  in_slot p slots y s at l is =
-      elim (at.live y l) [
-        | inl free ↦ inl (sym free ∙ is)
-        | inr held ↦ inr (sym held ∙ is)
+  -- Where one slot has changed, and tells which operation of its process goes on, the slots tell which ones do.
+  set_slots : (p q j : ℕ) (s : Slot) (slots : List Slot) → j < length slots → SlotsAt h p slots →
+      ((y : Operation) → Live h q y →
+      ((y.process - 1 ≡ j) × ((s ≡ Open y) ⊎ (s ≡ Taken y))) ⊎ ((y.process - 1 ≡ j → ⊥) × Live h p y)) →
+      ((y : Operation) → (s ≡ Open y) ⊎ (s ≡ Taken y) → Live h q y × (y.process - 1 ≡ j)) →
+      ((y : Operation) → (y.process - 1 ≡ j → ⊥) → Live h p y → Live h q y) → SlotsAt h q (slice_set slots j s)
+  set_slots p q j s slots lt at here put stays = record {
+    count = length-set slots j s ∙ at.count;
+    live = λ y l. elim (here y l) [
+      | inl same ↦ elim same.1 [
+        | inl is ↦ inl (set_same slots j (y.process - 1) s lt same.0 ∙ is)
+        | inr is ↦ inr (set_same slots j (y.process - 1) s lt same.0 ∙ is)
       ]
+      | inr other ↦ elim (at.live y other.1) [
+        | inl is ↦ inl (set_other slots j (y.process - 1) s (Open y) other.0 is)
+        | inr is ↦ inr (set_other slots j (y.process - 1) s (Taken y) other.0 is)
+      ]
+    ];
+    opened = λ k y is. elim (set_cases slots j k s (Open y) lt is) [
+      | inl same ↦ (let l = put y (inl same.1) in (l.0, l.1 ∙ sym same.0))
+      | inr other ↦ (let l = at.opened k y other.1 in (stays y (λ e. other.0 (sym l.1 ∙ e)) l.0, l.1))
+    ];
+    took = λ k y is. elim (set_cases slots j k s (Taken y) lt is) [
+      | inl same ↦ (let l = put y (inr same.1) in (l.0, l.1 ∙ sym same.0))
+      | inr other ↦ (let l = at.took k y other.1 in (stays y (λ e. other.0 (sym l.1 ∙ e)) l.0, l.1))
+    ];
+  }
 
-  pub only_one : (p : ℕ) (slots : List Slot) (a b : Operation) → SlotsAt h p slots → Live h p a → Live h p b →
+  -- No other operation of the process of one that goes on goes on.
+  only_one : (p : ℕ) (slots : List Slot) (a b : Operation) → SlotsAt h p slots → Live h p a → Live h p b →
       a.process ≡ b.process → a ≡ b
   only_one p slots a b at la lb same =
-      let place : a.process - 1 ≡ b.process - 1 = ap (λ i. i - 1) same in
-      elim (at.live b lb) [
-        | inl is ↦ elim (in_slot p slots a (Open b) at la
-            (subst (λ k. slice_index_or slots k Free ≡ Open b) (sym place) is)) [
-              | inl e ↦ cc
-              | inr e ↦ absurd (let no : Taken a ≡ Open b = e in cc)
-            ]
-        | inr is ↦ elim (in_slot p slots a (Taken b) at la
-            (subst (λ k. slice_index_or slots k Free ≡ Taken b) (sym place) is)) [
-              | inl e ↦ absurd (let no : Open a ≡ Taken b = e in cc)
-              | inr e ↦ cc
-            ]
+      let place = ap (λ i. slice_index_or slots (i - 1) Free) same in
+      elim (at.live a la) [
+        | inl is ↦ elim (at.live b lb) [
+          | inl is' ↦ cc
+          | inr is' ↦ cc
+        ]
+        | inr is ↦ elim (at.live b lb) [
+          | inl is' ↦ cc
+          | inr is' ↦ cc
+        ]
       ]
 
   -- Where an operation of the process ends, none of that process goes on behind it.
-  pub gone : (p q i : ℕ) (slots : List Slot) (y : Operation) → Turned h p q (Ends i) → SlotsAt h p slots →
+  gone : (p q i : ℕ) (slots : List Slot) (y : Operation) → Turned h p q (Ends i) → SlotsAt h p slots →
       Live h p y → Live h q y → y.process ≡ i → ⊥
   gone p q i slots y t at l l' same =
       let x = t.stops i refl in
@@ -209,79 +196,64 @@ module _ (h : History) (sound : AreSound h) where
       let le : q ≤ x.at = l'.going x.at end in
       let lt : x.at < q = x.before in omega arith
 
-  pass_end : (p q i : ℕ) (slots : List Slot) → Turned h p q (Ends i) → SlotsAt h p slots →
-      SlotsAt h q (slice_set slots (i - 1) Free)
-  pass_end p q i slots t s =
+  -- The slots behind an event tell which operations go on there.
+  pub pass_slots : (p q : ℕ) (x : Step) (slots : List Slot) → Turned h p q x → SlotsAt h p slots →
+      SlotsAt h q (passed slots x)
+  pass_slots p q (Calls o) slots t s =
+      let b = t.begins o refl in
+      set_slots p q (o.process - 1) (Open o) slots (place_within o slots b.operation s.count) s
+      (λ y l. elim (cases_lt y.call p) [
+        | inl less ↦ (let l' : Live h p y = was p q (Calls o) y t l (λ is. let e : o ≡ y = cc in
+            let le : p ≤ o.call = b.from in
+            let same : o.call ≡ y.call = ap (λ (z : Operation). z.call) e in omega arith) in
+            inr (λ e. b.alone y l' (same_place y o l'.operation b.operation e), l'))
+        | inr le ↦ (let e : Calls o ≡ Calls y = t.calls y l.operation le l.called in let same : o ≡ y = cc in
+            inl (ap (λ (z : Operation). z.process - 1) (sym same), inl (ap Open same)))
+      ])
+      (λ y is. elim is [
+        | inl e ↦ (let same : o ≡ y = cc in
+            subst (λ (z : Operation). Live h q z × (z.process - 1 ≡ o.process - 1)) same (begun p q o t, refl))
+        | inr e ↦ absurd cc
+      ])
+      (λ y apart l. still p q (Calls o) y t l (λ no. cc))
+  pass_slots p q (Ends i) slots t s =
       let x = t.stops i refl in
-      let lt : i - 1 < length slots =
-      subst (λ j. j - 1 < length slots) x.process (place_within x.operation slots x.live.operation s.count) in
-      record {
-        count = length-set slots (i - 1) Free ∙ s.count;
-        live = λ y l'. let l : Live h p y = was p q (Ends i) y t l' (λ no. cc) in
-            let apart : y.process - 1 ≡ i - 1 → ⊥ = λ e.
-            gone p q i slots y t s l l'
-            (same_place y x.operation l.operation x.live.operation (e ∙ ap (λ j. j - 1) (sym x.process)) ∙ x.process) in
-            elim (s.live y l) [
-              | inl is ↦ inl (set_other slots (i - 1) (y.process - 1) Free (Open y) apart is)
-              | inr is ↦ inr (set_other slots (i - 1) (y.process - 1) Free (Taken y) apart is)
-            ];
-        opened = λ k y is. elim (set_cases slots (i - 1) k Free (Open y) lt is) [
-          | inl here ↦ absurd (let e : Free ≡ Open y = here.1 in cc)
-          | inr other ↦ (let w = s.opened k y other.1 in (
-            still p q (Ends i) y t w.0 (λ no. let e : i ≡ y.process = cc in
-                other.0 (sym w.1 ∙ ap (λ j. j - 1) (sym e))),
-            w.1,
-          ))
-        ];
-        took = λ k y is. elim (set_cases slots (i - 1) k Free (Taken y) lt is) [
-          | inl here ↦ absurd (let e : Free ≡ Taken y = here.1 in cc)
-          | inr other ↦ (let w = s.took k y other.1 in (
-            still p q (Ends i) y t w.0 (λ no. let e : i ≡ y.process = cc in
-                other.0 (sym w.1 ∙ ap (λ j. j - 1) (sym e))),
-            w.1,
-          ))
-        ];
-      }
-
-  pass_wait : (p q : ℕ) (slots : List Slot) → Turned h p q Waits → SlotsAt h p slots → SlotsAt h q slots
-  pass_wait p q slots t s = record {
+      set_slots p q (i - 1) Free slots (stop_within p q i slots x s) s
+      (λ y l'. let l : Live h p y = was p q (Ends i) y t l' (λ no. cc) in
+      inr (
+        λ e. gone p q i slots y t s l l'
+            (same_place y x.operation l.operation x.live.operation (e ∙ ap (λ j. j - 1) (sym x.process)) ∙ x.process),
+        l,
+      ))
+      (λ y is. absurd (elim is [
+        | inl e ↦ cc
+        | inr e ↦ cc
+      ]))
+      (λ y apart l. still p q (Ends i) y t l (λ no. let e : i ≡ y.process = cc in apart (ap (λ j. j - 1) (sym e))))
+  pass_slots p q Waits slots t s = record {
     count = s.count;
     live = λ y l. s.live y (was p q Waits y t l (λ no. cc));
     opened = λ k y is. let w = s.opened k y is in (still p q Waits y t w.0 (λ no. cc), w.1);
     took = λ k y is. let w = s.took k y is in (still p q Waits y t w.0 (λ no. cc), w.1);
   }
 
-  -- The slots behind an event tell which operations go on there.
-  pub pass_slots : (p q : ℕ) (x : Step) (slots : List Slot) → Turned h p q x → SlotsAt h p slots →
-      SlotsAt h q (passed slots x)
-  pass_slots p q (Calls o) slots t s = pass_call p q o slots t s
-  pass_slots p q (Ends i) slots t s = pass_end p q i slots t s
-  pass_slots p q Waits slots t s = pass_wait p q slots t s
-
   -- The slots once an open operation has been taken.
   pub take_slots : (p : ℕ) (o : Operation) (slots : List Slot) → SlotsAt h p slots →
       slice_index_or slots (o.process - 1) Free ≡ Open o → SlotsAt h p (slice_set slots (o.process - 1) (Taken o))
   take_slots p o slots s is =
       let l = s.opened (o.process - 1) o is in
-      let lt = place_within o slots l.0.operation s.count in
-      record {
-        count = length-set slots (o.process - 1) (Taken o) ∙ s.count;
-        live = λ y ly. elim (cases_eq (y.process - 1) (o.process - 1)) [
-          | inl same ↦ (let e : o ≡ y =
-              only_one p slots o y s l.0 ly (same_place o y l.0.operation ly.operation (sym same)) in
-              inr (set_same slots (o.process - 1) (y.process - 1) (Taken o) lt same ∙ ap Taken e))
-          | inr apart ↦ elim (s.live y ly) [
-            | inl at ↦ inl (set_other slots (o.process - 1) (y.process - 1) (Taken o) (Open y) apart at)
-            | inr at ↦ inr (set_other slots (o.process - 1) (y.process - 1) (Taken o) (Taken y) apart at)
-          ]
-        ];
-        opened = λ k y at. elim (set_cases slots (o.process - 1) k (Taken o) (Open y) lt at) [
-          | inl here ↦ absurd (let e : Taken o ≡ Open y = here.1 in cc)
-          | inr other ↦ s.opened k y other.1
-        ];
-        took = λ k y at. elim (set_cases slots (o.process - 1) k (Taken o) (Taken y) lt at) [
-          | inl here ↦ (let e : Taken o ≡ Taken y = here.1 in let same : o ≡ y = cc in
-              subst (λ (z : Operation). Live h p z × (z.process - 1 ≡ k)) same (l.0, sym here.0))
-          | inr other ↦ s.took k y other.1
-        ];
-      }
+      set_slots p p (o.process - 1) (Taken o) slots (place_within o slots l.0.operation s.count) s
+      (λ y ly. elim (cases_eq (y.process - 1) (o.process - 1)) [
+        | inl same ↦ inl (
+          same,
+          inr (ap Taken
+              (only_one p slots o y s l.0 ly (same_place o y l.0.operation ly.operation (sym same)))),
+        )
+        | inr apart ↦ inr (apart, ly)
+      ])
+      (λ y now. elim now [
+        | inl e ↦ absurd cc
+        | inr e ↦ (let same : o ≡ y = cc in
+            subst (λ (z : Operation). Live h p z × (z.process - 1 ≡ o.process - 1)) same (l.0, refl))
+      ])
+      (λ y apart ly. ly)

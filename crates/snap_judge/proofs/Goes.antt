@@ -6,16 +6,14 @@ use Rattle.std.proofs.lemmas.Bool.{cases_eq, cases_lt}
 use Rattle.std.proofs.lemmas.List.{get_or-set_same, get_or-set_other, length-set, map-set, map-append, set_past, get_or_default, get_or_past, append-nil}
 use Rattle.snap_runs.specs.Operation.{Action, Sets, Sees, Operation}
 use Rattle.snap_runs.specs.Linearization.{Allows, after}
-use Rattle.snap_judge.specs.Steps.{Step, Slot, Open, Taken}
-use Rattle.snap_judge.specs.Steps.{Take, CanBeExplained}
+use Rattle.snap_judge.specs.Steps.{Open, Taken, Take, CanBeExplained}
 use Rattle.snap_judge.specs.declared.config.Step.{Step as KeptStep}
 use Rattle.snap_judge.specs.declared.config.Slot.{Slot as KeptSlot}
 use Rattle.snap_judge.specs.declared.config.Slot.TheVariants as kept_slot
 use Rattle.snap_judge.specs.declared.config.Config.{Config}
-use Rattle.snap_judge.specs.Kept.{Can, GoesOn, Grows, IsConfig, IsReached, called_at, rest_of, slot_of, slots_of, steps_kept}
-use Rattle.snap_judge.specs.Kept.{first, IsCallOf, seen_as, TellsOf}
-use Rattle.snap_judge.specs.Configurations.{Configuration, Leads}
-use Rattle.snap_judge.specs.Kept.{IsSameConfig}
+use Rattle.snap_judge.specs.Kept.{Can, GoesOn, Grows, IsConfig, IsReached, called_at, rest_of, slot_of, slots_of}
+use Rattle.snap_judge.specs.Kept.{steps_kept, first, IsCallOf, seen_as, TellsOf, IsSameConfig}
+use Rattle.snap_judge.proofs.ExplainedLists.{set_tells, within_if}
 use Rattle.snap_judge.proofs.SearchSlots.{at}
 use Rattle.snap_judge.proofs.SearchMoves.{scan_earlier}
 use Rattle.snap_judge.proofs.Leading.{leads_on, made, same_parts, taken_on}
@@ -42,67 +40,33 @@ there slots p s s' lt is same = get_or_default slots p kept_slot.Free s lt ∙ s
 -- the slot at a place, as the definitions have it
 pub slot_at : (steps : List KeptStep) (slots : List KeptSlot) (p : ℕ) →
     at (map (slot_of steps) slots) p ≡ slot_of steps (get_or slots p kept_slot.Free)
-slot_at steps [] p = slot_none steps p
-  where
-    slot_none : (steps : List KeptStep) (p : ℕ) → at (map (slot_of steps) []) p ≡ slot_of steps (get_or [] p kept_slot.Free)
-    slot_none steps zero = refl
-    slot_none steps (suc p) = refl
+slot_at steps [] zero = refl
+slot_at steps [] (suc p) = refl
 slot_at steps (s ∷ slots) zero = refl
 slot_at steps (s ∷ slots) (suc p) = slot_at steps slots p
 
-is_open : KeptSlot → Type 0
-is_open kept_slot.Free = ⊥
-is_open (kept_slot.Open j) = Unit {0}
-is_open (kept_slot.Taken j) = ⊥
-
 pub kept_not_free : (s : KeptSlot) (j : ℕ) → s ≡ kept_slot.Open j → s ≡ kept_slot.Free → ⊥
-unfolding is_open
-kept_not_free s j e e' = subst is_open (sym e ∙ e') tt
+kept_not_free s j e e' = cc
 
 -- What is open where a slot has changed to one that is not open was open before.
-was_open : (slots : List KeptSlot) (p q j : ℕ) (s : KeptSlot) → (is_open s → ⊥) →
-    (q ≡ p) ⊎ (q ≡ p → ⊥) → (p < length slots) ⊎ (length slots ≤ p) →
+pub was_open : (slots : List KeptSlot) (p q j : ℕ) (s : KeptSlot) → (s ≡ kept_slot.Open j → ⊥) →
     get_or (set slots p s) q kept_slot.Free ≡ kept_slot.Open j → get_or slots q kept_slot.Free ≡ kept_slot.Open j
-unfolding is_open
-was_open slots p q j s shut (inr apart) in_range e = sym (get_or-set_other slots p q s kept_slot.Free apart) ∙ e
-was_open slots p q j s shut (inl here) (inl lt) e =
-    absurd (shut (subst is_open (sym e ∙ ap (λ (r : ℕ). get_or (set slots p s) r kept_slot.Free) here
-    ∙ get_or-set_same slots p s kept_slot.Free lt) tt))
-was_open slots p q j s shut (inl here) (inr past) e =
-    ap (λ (l : List KeptSlot). get_or l q kept_slot.Free) (sym (set_past slots p s past)) ∙ e
+was_open slots p q j s shut e =
+    elim (set_tells (λ (x : KeptSlot). x ≡ kept_slot.Open j) kept_slot.Free slots p q s e) [
+      | inl here ↦ absurd (shut here.1)
+      | inr before ↦ before
+    ]
 
-pub was_open_taken : (slots : List KeptSlot) (p q j k : ℕ) →
-    get_or (set slots p (kept_slot.Taken k)) q kept_slot.Free ≡ kept_slot.Open j →
-    get_or slots q kept_slot.Free ≡ kept_slot.Open j
-unfolding is_open
-was_open_taken slots p q j k e =
-    was_open slots p q j (kept_slot.Taken k) (λ h. h) (cases_eq q p) (cases_lt p (length slots)) e
-
-pub was_open_freed : (slots : List KeptSlot) (p q j : ℕ) →
-    get_or (set slots p kept_slot.Free) q kept_slot.Free ≡ kept_slot.Open j →
-    get_or slots q kept_slot.Free ≡ kept_slot.Open j
-unfolding is_open
-was_open_freed slots p q j e =
-    was_open slots p q j kept_slot.Free (λ h. h) (cases_eq q p) (cases_lt p (length slots)) e
-
--- What a slot tells of where one has changed: it is that one, or tells what it told before.
-pub tells_set : (slots : List KeptSlot) (p q k : ℕ) (s : KeptSlot) →
-    TellsOf (get_or (set slots p s) q kept_slot.Free) k →
-    ((q ≡ p) × TellsOf s k) ⊎ TellsOf (get_or slots q kept_slot.Free) k
-tells_set slots p q k s h = by_place (cases_eq q p) (cases_lt p (length slots))
-  where
-    by_place : (q ≡ p) ⊎ (q ≡ p → ⊥) → (p < length slots) ⊎ (length slots ≤ p) →
-        ((q ≡ p) × TellsOf s k) ⊎ TellsOf (get_or slots q kept_slot.Free) k
-    by_place (inr apart) in_range =
-        inr (subst (λ (x : KeptSlot). TellsOf x k) (get_or-set_other slots p q s kept_slot.Free apart) h)
-    by_place (inl here) (inl lt) =
-        inl (
-          here,
-          subst (λ (x : KeptSlot). TellsOf x k) (ap (λ (r : ℕ). get_or (set slots p s) r kept_slot.Free) here
-              ∙ get_or-set_same slots p s kept_slot.Free lt) h,
-        )
-    by_place (inl here) (inr past) =
-        inr (subst (λ (l : List KeptSlot). TellsOf (get_or l q kept_slot.Free) k) (set_past slots p s past) h)
+-- What a slot tells of where one has changed: that one tells it, or it was told before.
+pub tells_after : (steps : List KeptStep) (c : Config) (p : ℕ) (s : KeptSlot) (slots : List KeptSlot) →
+    IsConfig steps c → slots ≡ set c.slots.items p s → ((k : ℕ) → TellsOf s k → IsCallOf steps k p) →
+    (q k : ℕ) → TellsOf (get_or slots q kept_slot.Free) k → IsCallOf steps k q
+tells_after steps c p s slots fits is own q k h =
+    elim (set_tells (λ (x : KeptSlot). TellsOf x k) kept_slot.Free c.slots.items p q s
+    (subst (λ (l : List KeptSlot). TellsOf (get_or l q kept_slot.Free) k) is h)) [
+      | inl here ↦ subst (IsCallOf steps k) (sym here.0) (own k here.1)
+      | inr before ↦ fits.tells q k before
+    ]
 
 -- An operation at place p, of process suc p, has taken place, and left these values.
 module _ (steps : List KeptStep) (order : List ℕ) (c c' : Config) (p j : ℕ)
@@ -143,11 +107,9 @@ module _ (steps : List KeptStep) (order : List ℕ) (c c' : Config) (p j : ℕ)
   pub took : Allows c.values.items o.action → IsReached steps order c → IsReached steps (order ++ j ∷ []) c'
   took allows r = (
     r.0 ++ Take o ∷ [],
-    subst (λ (n : ℕ). Leads (r.0 ++ Take o ∷ []) (first (length c'.slots.items) n steps) (seen_as steps c')) (sym same_width)
-        (subst (λ (n : ℕ). Leads (r.0 ++ Take o ∷ []) (first n (length c.values.items) steps) (seen_as steps c'))
-        (sym same_counts)
+    rw (same_width, same_counts)
         (leads_on r.0 (Take o ∷ []) (first (length c.slots.items) (length c.values.items) steps) (seen_as steps c)
-        (seen_as steps c') r.1 (ap (at (slots_of steps c)) place ∙ open_now, allows, seen_now))),
+        (seen_as steps c') r.1 (ap (at (slots_of steps c)) place ∙ open_now, allows, seen_now)),
     taken_on r.0 (Take o ∷ []) ∙ ap (λ (os : List Operation). os ++ o ∷ []) r.2
         ∙ sym (map-append (called_at steps) order (j ∷ [])),
   )
@@ -155,26 +117,17 @@ module _ (steps : List KeptStep) (order : List ℕ) (c c' : Config) (p j : ℕ)
   pub still_config : IsConfig steps c'
   still_config = record {
     within = subst (λ (n : ℕ). n ≤ length steps) (sym position) fits.within;
-    placed = λ q k e. fits.placed q k (was_open_taken c.slots.items p q k j
+    placed = λ q k e. fits.placed q k (was_open c.slots.items p q k (kept_slot.Taken j) (λ no. cc)
         (ap (λ (l : List KeptSlot). get_or l q kept_slot.Free) (sym slots) ∙ e));
-    tells = λ q k h. told q k (tells_set c.slots.items p q k (kept_slot.Taken j)
-        (subst (λ (l : List KeptSlot). TellsOf (get_or l q kept_slot.Free) k) slots h));
+    tells = tells_after steps c p (kept_slot.Taken j) c'.slots.items fits slots
+        (λ k e. subst (λ (m : ℕ). IsCallOf steps m p) e
+        (fits.tells p j (subst (λ (s : KeptSlot). TellsOf s j) (sym is) refl)));
   }
-    where
-      told : (q k : ℕ) → ((q ≡ p) × (j ≡ k)) ⊎ TellsOf (get_or c.slots.items q kept_slot.Free) k → IsCallOf steps k q
-      told q k (inl here) =
-          subst (λ (m : ℕ). IsCallOf steps m q) here.1
-          (subst (λ (r : ℕ). IsCallOf steps j r) (sym here.0)
-          (fits.tells p j (subst (λ (s : KeptSlot). TellsOf s j) (sym is) refl)))
-      told q k (inr before) = fits.tells q k before
 
   -- what can be explained with it taken can be explained from there
   pub taken_can : CanBeExplained (rest_of steps c) (after c.values.items o.action) (set (slots_of steps c) p (Taken o)) →
       Can steps c'
-  taken_can e =
-      subst (λ (xs : List Step). CanBeExplained xs c'.values.items (slots_of steps c')) (sym rest_now)
-      (subst (λ (W : List ℕ). CanBeExplained (rest_of steps c) W (slots_of steps c')) (sym values)
-      (subst (λ (T : List Slot). CanBeExplained (rest_of steps c) (after c.values.items o.action) T) (sym slots_now) e))
+  taken_can e = rw (rest_now, values, slots_now) e
 
   -- a scan that sees what is there
   pub scan_taken : (order' : List ℕ) → order' ≡ order ++ j ∷ [] → o.action ≡ Sees c.values.items →
@@ -183,34 +136,19 @@ module _ (steps : List KeptStep) (order : List ℕ) (c c' : Config) (p j : ℕ)
     config = λ k. still_config;
     reached = λ k r. subst (λ (os : List ℕ). IsReached steps os c') (sym more)
         (took (subst (Allows c.values.items) (sym sees) refl) r);
-    explained = λ k e.
-        subst (λ (xs : List Step). CanBeExplained xs c'.values.items (slots_of steps c')) (sym rest_now)
-        (subst (λ (W : List ℕ). CanBeExplained (rest_of steps c) W (slots_of steps c'))
-        (sym (values ∙ ap (after c.values.items) sees))
-        (subst (λ (T : List Slot). CanBeExplained (rest_of steps c) c.values.items T) (sym slots_now)
-        (scan_earlier p o (c.values.items, sees) (rest_of steps c) c.values.items (slots_of steps c) open_now e)));
+    explained = λ k e. taken_can (subst (λ (W : List ℕ). CanBeExplained (rest_of steps c) W
+        (set (slots_of steps c) p (Taken o))) (sym (ap (after c.values.items) sees))
+        (scan_earlier p o (c.values.items, sees) (rest_of steps c) c.values.items (slots_of steps c) open_now e));
     grows = (j ∷ [], more);
   }
 
-is_taken : KeptSlot → Type 0
-is_taken kept_slot.Free = ⊥
-is_taken (kept_slot.Open j) = ⊥
-is_taken (kept_slot.Taken j) = Unit {0}
-
 pub kept_taken_not_free : (j : ℕ) → kept_slot.Taken j ≡ kept_slot.Free → ⊥
-unfolding is_taken
-kept_taken_not_free j e = subst is_taken e tt
-
-kept_within_by : (slots : List KeptSlot) (p j : ℕ) → (p < length slots) ⊎ (length slots ≤ p) →
-    get_or slots p kept_slot.Free ≡ kept_slot.Open j → p < length slots
-kept_within_by slots p j (inl lt) is = lt
-kept_within_by slots p j (inr past) is =
-    absurd (kept_not_free (get_or slots p kept_slot.Free) j is (get_or_past slots p kept_slot.Free past))
+kept_taken_not_free j e = cc
 
 -- what is open is within the list
 pub kept_open_within : (slots : List KeptSlot) (p j : ℕ) → get_or slots p kept_slot.Free ≡ kept_slot.Open j →
     p < length slots
-kept_open_within slots p j is = kept_within_by slots p j (cases_lt p (length slots)) is
+kept_open_within slots p j is = within_if kept_slot.Free slots p (λ free. kept_not_free _ j is free)
 
 -- A copy is as good.
 pub same_goes : (steps : List KeptStep) (order : List ℕ) (c c' : Config) → IsSameConfig c c' → GoesOn steps order c order c'
@@ -220,22 +158,8 @@ same_goes steps order c c' same = record {
     placed = λ p j e. k.placed p j (ap (λ (l : List KeptSlot). get_or l p kept_slot.Free) (sym same.slots) ∙ e);
     tells = λ p j h. k.tells p j (subst (λ (l : List KeptSlot). TellsOf (get_or l p kept_slot.Free) j) same.slots h);
   };
-  reached = λ k r. (
-    r.0,
-    subst (λ (x : Configuration). Leads r.0 (first (length c'.slots.items) (length c'.values.items) steps) x)
-        (same_parts (seen_as steps c) (seen_as steps c')
-        (ap (λ (n : ℕ). drop n (steps_kept steps)) (sym same.position)) (sym same.values)
-        (ap (map (slot_of steps)) (sym same.slots)))
-        (subst (λ (n : ℕ). Leads r.0 (first (length c'.slots.items) n steps) (seen_as steps c)) (sym (ap length same.values))
-        (subst (λ (n : ℕ). Leads r.0 (first n (length c.values.items) steps) (seen_as steps c)) (sym (ap length same.slots))
-        r.1)),
-    r.2,
-  );
-  explained = λ k e.
-      subst (λ (n : ℕ). CanBeExplained (drop n (steps_kept steps)) c'.values.items (slots_of steps c')) (sym same.position)
-      (subst (λ (W : List ℕ). CanBeExplained (rest_of steps c) W (slots_of steps c')) (sym same.values)
-      (subst (λ (l : List KeptSlot). CanBeExplained (rest_of steps c) c.values.items (map (slot_of steps) l))
-      (sym same.slots) e));
+  reached = λ k r. (r.0, rw (same.position, same.values, same.slots) r.1, r.2);
+  explained = λ k e. rw (same.position, same.values, same.slots) e;
   grows = ([], sym (append-nil order));
 }
 

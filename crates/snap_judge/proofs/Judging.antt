@@ -1,5 +1,5 @@
 -- From what a search has found to what is said of a history.
-use Rattle.std.proofs.Common.{◌≡◌, ℕ, ◌≤◌, List, Vec, Global, ap, length, map, replicate, sym, subst}
+use Rattle.std.proofs.Common.{◌≡◌, ℕ, ◌≤◌, List, Vec, Global, ap, length, map, sym, subst}
 use Rattle.std.proofs.lemmas.List.{take_all}
 use Rattle.snap_semantics.specs.declared.event.Event.{Event}
 use Rattle.snap_judge.specs.declared.config.Step.{Step as KeptStep}
@@ -15,34 +15,23 @@ use Rattle.snap_judge.specs.Configurations.{beginning, MeetsMoreThan}
 use Rattle.snap_judge.specs.Kept.{AreNumbered, AreSteps, called_at, operation_of}
 use Rattle.snap_judge.specs.Linearizable.{IsLinearizationOf, IsLinearizableHistory, up_to}
 use Rattle.snap_judge.specs.Nodes.{HasFound, IsFound}
-use Rattle.snap_judge.specs.Steps.{Explains, Free, Step}
 use Rattle.snap_judge.proofs.ExplainedHistories.{histories_are_explained}
-use Rattle.snap_judge.proofs.Leading.{made}
 
 -- The operations of an order that explains the steps of a history are a linearization of it.
 pub explained_decides : (most : ℕ) (h : History) (steps : List KeptStep) (order : Vec ℕ Global) → IsHistory h →
     HasFound most h steps (found.Explained order) → IsLinearizationOf h (map (called_at steps) order.items)
 explained_decides most h steps order is f =
-    subst (IsLinearizationOf h) f.found.2
-    ((histories_are_explained h is).sound f.found.0
-    (subst (λ (xs : List Step). Explains f.found.0 xs (replicate h.shape.w 0) (replicate h.shape.n Free)) f.steps
-    f.found.1))
+    rw f.found.2 at ((histories_are_explained h is).sound f.found.0 (rw f.steps at f.found.1))
 
 -- A history whose steps nothing explains is not linearizable.
 pub unexplained_decides : (most : ℕ) (h : History) (steps : List KeptStep) → IsHistory h →
     HasFound most h steps found.Unexplained → IsLinearizableHistory h → ⊥
 unexplained_decides most h steps is f l =
-    let m = (histories_are_explained h is).complete l.0 l.1 in
-    f.found (
-      m.0,
-      subst (λ (xs : List Step). Explains m.0 xs (replicate h.shape.w 0) (replicate h.shape.n Free)) (sym f.steps) m.1,
-    )
+    let m = (histories_are_explained h is).complete l.0 l.1 in f.found (m.0, rw f.steps m.1)
 
 -- What is known of equal steps.
 pub same_steps : (n m w v : ℕ) (xs ys : List KeptStep) → m ≡ n → v ≡ w → ys ≡ xs → AreSteps n w xs → AreSteps m v ys
-same_steps n m w v xs ys en ew ex are =
-    subst (λ (k : ℕ). AreSteps k v ys) (sym en)
-    (subst (λ (k : ℕ). AreSteps n k ys) (sym ew) (subst (λ (zs : List KeptStep). AreSteps n w zs) (sym ex) are))
+same_steps n m w v xs ys en ew ex are = rw (en, ew, ex) are
 
 pub same_numbered : (xs ys : List KeptStep) → ys ≡ xs → AreNumbered xs → AreNumbered ys
 same_numbered xs ys ex are = subst AreNumbered (sym ex) are
@@ -50,16 +39,12 @@ same_numbered xs ys ex are = subst AreNumbered (sym ex) are
 pub same_found : (most n m w v : ℕ) (xs ys : List KeptStep) (f g : Found) → m ≡ n → v ≡ w → ys ≡ xs → f ≡ g →
     IsFound most m v ys f → IsFound most n w xs g
 same_found most n m w v xs ys f g en ew ex ef is =
-    subst (λ (k : ℕ). IsFound most k w xs g) en
-    (subst (λ (k : ℕ). IsFound most m k xs g) ew
-    (subst (λ (zs : List KeptStep). IsFound most m v zs g) ex (subst (IsFound most m v ys) ef is)))
+    rw (en, ew, ex, ef) at is
 
 -- What is met of the steps of a history is met of it.
 pub undecided_decides : (most : ℕ) (h : History) (steps : List KeptStep) → HasFound most h steps found.Undecided →
     MeetsMoreThan most (beginning h)
-undecided_decides most h steps f =
-    subst (λ (xs : List Step). MeetsMoreThan most (made xs (replicate h.shape.w 0) (replicate h.shape.n Free))) f.steps
-    f.found
+undecided_decides most h steps f = rw f.steps at f.found
 
 -- A judgement that is so says where the history fails.
 pub fails_so : (most : ℕ) (h : History) (j : Judgement) → IsJudgement most h j → IsFailing most h (failing_of j)

@@ -15,13 +15,12 @@ use Rattle.snap_judge.specs.declared.operation.Action.{Action as KeptAction}
 use Rattle.snap_judge.specs.declared.operation.Action.TheVariants as kept_action
 use Rattle.snap_judge.specs.declared.config.Step.{Step as KeptStep}
 use Rattle.snap_judge.specs.declared.config.Step.TheVariants as kept_step
-use Rattle.snap_judge.specs.History.{Busy, Caller, Free, Gone, History, IsHistory, MayCome, MayFollow, caller_after}
+use Rattle.snap_judge.specs.History.{Caller, Free, History, IsHistory, MayCome, MayFollow, caller_after}
 use Rattle.snap_judge.specs.History.{with_caller}
 use Rattle.snap_judge.specs.Kept.{AreNumbered, AreSteps, HasWord, IsStepOf, action_of, operation_of, step_of_kept, steps_kept}
 use Rattle.snap_judge.specs.Linearizable.{up_to}
 use Rattle.snap_judge.specs.Steps.{Calls, Ends, Step, Waits, answered_step, next_of, scan_step, step_of, steps_of}
 use Rattle.snap_judge.proofs.Passing.{step_at}
-use Rattle.snap_judge.proofs.SearchSlots.{ends_not_call, one_call, waits_not_call}
 
 -- The next event of a process, where it is the one at place k.
 pub found_here : (i k : ℕ) (es : List Event) (e : Event) → k < length es → e ≡ get_or es k e → e.process ≡ i →
@@ -82,10 +81,7 @@ good_scan n w i c (Some e) is = good_answer n w i c e.item e.what is
 
 word_there : (shape : Counts) (caller : Caller) (word value : ℕ) → MayCome shape caller (what.Call (op.Update word value)) →
     IsOneOf shape.w word
-word_there shape Free word value h = h
-word_there shape (Busy op.Scan) word value h = absurd h
-word_there shape (Busy (op.Update x y)) word value h = absurd h
-word_there shape Gone word value h = absurd h
+word_there shape caller word value h = grind arith
 
 good_step : (shape : Counts) (caller : Caller) (i c : ℕ) (a : Happening) (es : List Event) → IsOneOf shape.n i →
     MayCome shape caller a → IsGood shape.n shape.w (step_of i c a es)
@@ -114,29 +110,18 @@ steps_of_history h xs is kept =
 
 -- A step calls an operation by the number of its event.
 number_of_answer : (i c t : ℕ) (a : Happening) (o : Operation) → answered_step i c t a ≡ Calls o → o.call ≡ c
-number_of_answer i c t (what.Call x) o e = absurd (waits_not_call o e)
-number_of_answer i c t (what.Answer view) o e = sym (ap (λ (y : Operation). y.call) (one_call _ o e))
-number_of_answer i c t what.Done o e = absurd (waits_not_call o e)
-number_of_answer i c t what.Crash o e = absurd (waits_not_call o e)
+number_of_answer i c t a o e = grind arith
 
 number_of_scan : (i c : ℕ) (x : Option Event) (o : Operation) → scan_step i c x ≡ Calls o → o.call ≡ c
-number_of_scan i c None o e = absurd (waits_not_call o e)
-number_of_scan i c (Some x) o e = number_of_answer i c x.item x.what o e
+number_of_scan i c x o e = grind (arith, number_of_answer)
 
 number_of_step : (i c : ℕ) (a : Happening) (es : List Event) (o : Operation) → step_of i c a es ≡ Calls o → o.call ≡ c
-number_of_step i c (what.Call op.Scan) es o e = number_of_scan i c (next_of i es) o e
-number_of_step i c (what.Call (op.Update word value)) es o e = sym (ap (λ (y : Operation). y.call) (one_call _ o e))
-number_of_step i c (what.Answer view) es o e = absurd (ends_not_call i o e)
-number_of_step i c what.Done es o e = absurd (ends_not_call i o e)
-number_of_step i c what.Crash es o e = absurd (waits_not_call o e)
-
-no_call : (t : ℕ) (o : Operation) → get_or [] t Waits ≡ Calls o → ⊥
-no_call zero o e = waits_not_call o e
-no_call (suc t) o e = waits_not_call o e
+number_of_step i c a es o e = grind (arith, number_of_scan)
 
 numbers : (es : List Event) (t : ℕ) (o : Operation) (d : Event) → get_or (steps_of es) t Waits ≡ Calls o →
     (t < length es) × ((get_or es t d).item ≡ o.call)
-numbers [] t o d is = absurd (no_call t o is)
+numbers [] zero o d is = absurd (let no : Waits ≡ Calls o = is in cc)
+numbers [] (suc t) o d is = absurd (let no : Waits ≡ Calls o = is in cc)
 numbers (e ∷ es) zero o d is = (omega arith, sym (number_of_step e.process e.item e.what es o is))
 numbers (e ∷ es) (suc t) o d is = let rest = numbers es t o d is in (let lt = rest.0 in omega (arith, lt), rest.1)
 
@@ -178,9 +163,7 @@ follow_up_to shape callers (suc k) (e ∷ es) f =
 pairs_up_to : (R : Event → Event → Type 0) (k : ℕ) (es : List Event) → AllPairs R es → AllPairs R (take k es)
 pairs_up_to R k es pairs i j d lt short =
     let least = length-take k es in
-    subst (λ (x : Event). R x (get_or (take k es) j d)) (sym (get_or-take k es i d (omega arith)))
-    (subst (λ (x : Event). R (get_or es i d) x) (sym (get_or-take k es j d (omega arith)))
-    (pairs i j d lt (omega arith)))
+    rw (get_or-take k es i d (omega arith), get_or-take k es j d (omega arith)) (pairs i j d lt (omega arith))
 
 -- A history is one up to each of its events.
 pub history_up_to : (h : History) (k : ℕ) → IsHistory h → IsHistory (up_to k h)

@@ -1,17 +1,17 @@
 -- The configurations that a search keeps are different ones.
 use Rattle.std.proofs.Common.{◌≡◌, ℕ, suc, ◌+◌, ◌<◌, ◌≤◌, ◌⊎◌, inl, inr, List, [], ◌∷◌, ◌++◌, length, get_or}
-use Rattle.std.proofs.Common.{refl, sym, ◌∙◌, ap, subst, arith, map, drop, take, drop-cons, true, false, Bool, not}
+use Rattle.std.proofs.Common.{refl, sym, ◌∙◌, ap, subst, arith, map, drop, take, true, false, Bool, not}
 use Rattle.std.specs.List.{All, AllByRecursion, AllPairs, Contains, IsDistinct, list_any}
 use Rattle.std.specs.Bool.{Decides}
 use Rattle.std.proofs.lemmas.Bool.Decides.{Decides-and, Decides-eqb, Decides-like, Decides-or}
 use Rattle.std.proofs.lemmas.Slice.Eq.{bytes_eq-Decides, slice_eq-Decides}
-use Rattle.std.proofs.lemmas.List.{ext_get_or, get_or_append_left, length-append, length-drop, length-map, length-take-le}
-use Rattle.std.proofs.Math.Seq.{get_or-append_seam}
+use Rattle.std.proofs.lemmas.List.{ext_get_or, length-append, length-drop, length-map, length-take-le}
 use Rattle.std.specs.List.Sorted.{IsPermutation}
 use Rattle.std.specs.HashSet.{HashSet, PutsKey}
 use Rattle.std.proofs.lemmas.List.Sorted.{Contains-permutation, IsPermutation-sym}
 use Rattle.snap_judge.proofs.Leading.{same_parts}
-use Rattle.std.proofs.lemmas.List.Elements.{All-append, All-cons, All-contains, All-head, All-map, All-tail, All-weaker}
+use Rattle.std.proofs.lemmas.List.Elements.{All-append, All-cons, All-contains, All-contains_itself}
+use Rattle.std.proofs.lemmas.List.Elements.{All-head, All-map, All-tail, All-weaker}
 use Rattle.std.proofs.lemmas.List.Kept.{AllPairs-cons}
 use Rattle.snap_judge.specs.declared.config.Step.{Step as KeptStep}
 use Rattle.snap_judge.specs.declared.config.Step.TheVariants as kept_step
@@ -22,30 +22,31 @@ use Rattle.snap_judge.specs.declared.config.Node.{Node}
 use Rattle.snap_judge.specs.contracts.config.ConfigPartialEq.TheImpl as config_eq
 use Rattle.snap_judge.specs.contracts.config.SlotPartialEq.TheImpl as slot_eq
 use Rattle.snap_runs.specs.Operation.{Operation}
-use Rattle.snap_judge.specs.Steps.{Step, Calls, Ends, Waits, Slot, Free, Open, Taken, MayPass}
-use Rattle.snap_judge.specs.Configurations.{Configuration, HasToChoose, IsMetFrom, Leads, MeetsMoreThan}
+use Rattle.snap_judge.specs.Steps.{Step, Calls, Ends, Waits, Slot, Free, MayPass}
+use Rattle.snap_judge.specs.Configurations.{Configuration, HasToChoose, IsMetFrom, MeetsMoreThan}
 use Rattle.snap_judge.specs.Kept.{AreNumbered, AreSteps, called_at, called_by, first, IsCallOf, IsConfig, IsSameConfig}
 use Rattle.snap_judge.specs.Kept.{IsStuck, MayNotPass, operation_of, seen_as, slot_of, slots_of, step_of_kept, steps_kept, TellsOf, rest_of}
-use Rattle.snap_judge.specs.Nodes.{HasSame, IsAt, IsMet, IsNode, IsTrail, kept_by}
+use Rattle.snap_judge.specs.Nodes.{AreNodes, HasSame, IsAt, IsMet, IsNode, IsTrail, kept_by}
 use Rattle.snap_judge.specs.declared.config.Entered.{Entered}
 use Rattle.snap_judge.specs.declared.search.Trail.{Trail}
 use Rattle.snap_judge.proofs.SearchSlots.{one_open, one_taken, open_not_free, open_not_taken, taken_not_free}
 use Rattle.snap_judge.proofs.ExplainedLists.{contains_cases, contains_head, contains_none, contains_tail, pairs_head, pairs_tail}
-use Rattle.snap_judge.proofs.Counting.{same_length}
-use Rattle.snap_judge.proofs.Passing.{step_at}
+use Rattle.snap_judge.proofs.Counting.{led_from, same_length}
+use Rattle.snap_judge.proofs.Passing.{rest_at}
+use Rattle.snap_judge.proofs.Searching.{are_front, below_last, last_is}
 use Rattle.snap_judge.proofs.Goes.{slot_at}
 
 -- What `==` says of slots and of configurations.
 slot_decides : (s s' : KeptSlot) → Decides ((slot_eq.ghosts).eq s s') (s ≡ s')
 slot_decides kept_slot.Free kept_slot.Free = (λ e. refl, λ e. refl)
-slot_decides kept_slot.Free (kept_slot.Open k) = (λ e. absurd (let no : ⊥ = cc in no), λ e. absurd (let no : ⊥ = cc in no))
-slot_decides kept_slot.Free (kept_slot.Taken k) = (λ e. absurd (let no : ⊥ = cc in no), λ e. absurd (let no : ⊥ = cc in no))
-slot_decides (kept_slot.Open j) kept_slot.Free = (λ e. absurd (let no : ⊥ = cc in no), λ e. absurd (let no : ⊥ = cc in no))
+slot_decides kept_slot.Free (kept_slot.Open k) = (λ e. absurd cc, λ e. absurd cc)
+slot_decides kept_slot.Free (kept_slot.Taken k) = (λ e. absurd cc, λ e. absurd cc)
+slot_decides (kept_slot.Open j) kept_slot.Free = (λ e. absurd cc, λ e. absurd cc)
 slot_decides (kept_slot.Open j) (kept_slot.Open k) =
     Decides-like _ (ap kept_slot.Open) (λ e. let same : j ≡ k = cc in same) (Decides-eqb j k)
-slot_decides (kept_slot.Open j) (kept_slot.Taken k) = (λ e. absurd (let no : ⊥ = cc in no), λ e. absurd (let no : ⊥ = cc in no))
-slot_decides (kept_slot.Taken j) kept_slot.Free = (λ e. absurd (let no : ⊥ = cc in no), λ e. absurd (let no : ⊥ = cc in no))
-slot_decides (kept_slot.Taken j) (kept_slot.Open k) = (λ e. absurd (let no : ⊥ = cc in no), λ e. absurd (let no : ⊥ = cc in no))
+slot_decides (kept_slot.Open j) (kept_slot.Taken k) = (λ e. absurd cc, λ e. absurd cc)
+slot_decides (kept_slot.Taken j) kept_slot.Free = (λ e. absurd cc, λ e. absurd cc)
+slot_decides (kept_slot.Taken j) (kept_slot.Open k) = (λ e. absurd cc, λ e. absurd cc)
 slot_decides (kept_slot.Taken j) (kept_slot.Taken k) =
     Decides-like _ (ap kept_slot.Taken) (λ e. let same : j ≡ k = cc in same) (Decides-eqb j k)
 
@@ -66,12 +67,11 @@ same_decides (x ∷ xs) k = Decides-like _ to from (Decides-or _ _ (config_decid
     to (inl same) = (x, contains_head x xs, same)
     to (inr has) = (has.0, contains_tail x has.0 xs has.1, has.2)
 
-    from_by : (y : Config) → IsSameConfig y k → (x ≡ y) ⊎ Contains xs y → IsSameConfig x k ⊎ HasSame xs k
-    from_by y same (inl here) = inl (subst (λ (c : Config). IsSameConfig c k) (sym here) same)
-    from_by y same (inr there) = inr (y, there, same)
-
     from : HasSame (x ∷ xs) k → IsSameConfig x k ⊎ HasSame xs k
-    from has = from_by has.0 has.2 (contains_cases x has.0 xs has.1)
+    from has = elim (contains_cases x has.0 xs has.1) [
+      | inl here ↦ inl (rw here has.2)
+      | inr there ↦ inr (has.0, there, has.2)
+    ]
 
 -- Configurations that are seen as the same one are the same.
 module _ (steps : List KeptStep) (numbered : AreNumbered steps) where
@@ -88,22 +88,16 @@ module _ (steps : List KeptStep) (numbered : AreNumbered steps) where
   same_slot : (p : ℕ) (s s' : KeptSlot) → ((j : ℕ) → TellsOf s j → IsCallOf steps j p) →
       ((j : ℕ) → TellsOf s' j → IsCallOf steps j p) → slot_of steps s ≡ slot_of steps s' → s ≡ s'
   same_slot p kept_slot.Free kept_slot.Free calls calls' e = refl
-  same_slot p kept_slot.Free (kept_slot.Open k) calls calls' e = absurd (open_not_free Free (called_at steps k) e refl)
-  same_slot p kept_slot.Free (kept_slot.Taken k) calls calls' e = absurd (taken_not_free Free (called_at steps k) e refl)
-  same_slot p (kept_slot.Open j) kept_slot.Free calls calls' e =
-      absurd (open_not_free (Open (called_at steps j)) (called_at steps j) refl e)
+  same_slot p kept_slot.Free (kept_slot.Open k) calls calls' e = absurd (open_not_free _ _ e refl)
+  same_slot p kept_slot.Free (kept_slot.Taken k) calls calls' e = absurd (taken_not_free _ _ e refl)
+  same_slot p (kept_slot.Open j) kept_slot.Free calls calls' e = absurd (open_not_free _ _ refl e)
   same_slot p (kept_slot.Open j) (kept_slot.Open k) calls calls' e =
-      ap kept_slot.Open (same_call j k p p (calls j refl) (calls' k refl)
-      (one_open (Open (called_at steps j)) (called_at steps j) (called_at steps k) refl e))
-  same_slot p (kept_slot.Open j) (kept_slot.Taken k) calls calls' e =
-      absurd (open_not_taken (Open (called_at steps j)) (called_at steps j) (called_at steps k) refl e)
-  same_slot p (kept_slot.Taken j) kept_slot.Free calls calls' e =
-      absurd (taken_not_free (Taken (called_at steps j)) (called_at steps j) refl e)
-  same_slot p (kept_slot.Taken j) (kept_slot.Open k) calls calls' e =
-      absurd (open_not_taken (Taken (called_at steps j)) (called_at steps k) (called_at steps j) e refl)
+      ap kept_slot.Open (same_call j k p p (calls j refl) (calls' k refl) (one_open _ _ _ refl e))
+  same_slot p (kept_slot.Open j) (kept_slot.Taken k) calls calls' e = absurd (open_not_taken _ _ _ refl e)
+  same_slot p (kept_slot.Taken j) kept_slot.Free calls calls' e = absurd (taken_not_free _ _ refl e)
+  same_slot p (kept_slot.Taken j) (kept_slot.Open k) calls calls' e = absurd (open_not_taken _ _ _ e refl)
   same_slot p (kept_slot.Taken j) (kept_slot.Taken k) calls calls' e =
-      ap kept_slot.Taken (same_call j k p p (calls j refl) (calls' k refl)
-      (one_taken (Taken (called_at steps j)) (called_at steps j) (called_at steps k) refl e))
+      ap kept_slot.Taken (same_call j k p p (calls j refl) (calls' k refl) (one_taken _ _ _ refl e))
 
   pub same_config : (c c' : Config) → IsConfig steps c → IsConfig steps c' → seen_as steps c ≡ seen_as steps c' →
       IsSameConfig c c'
@@ -149,15 +143,13 @@ chooses steps c stuck =
     let x = step_of_kept (get_or steps c.position kept_step.Waits) in (
       x,
       drop (suc c.position) (steps_kept steps),
-      drop-cons (steps_kept steps) c.position Waits
-          (subst (λ (m : ℕ). c.position < m) (sym (length-map steps step_of_kept)) stuck.0)
-          ∙ ap (λ (y : Step). y ∷ drop (suc c.position) (steps_kept steps)) (step_at steps c.position),
+      rest_at steps c stuck.0,
       may_not (slots_of steps c) x stuck.1,
     )
 
-pub node_met : (n w : ℕ) (steps : List KeptStep) (order : List ℕ) (node : Node) → IsNode n w steps order node →
+abbrev pub node_met : {n w : ℕ} {steps : List KeptStep} {order : List ℕ} (node : Node) → IsNode n w steps order node →
     IsMet n w steps node.config
-node_met n w steps order node is = record {
+node_met {order = order} node is = record {
   counts = is.counts;
   config = is.config;
   stuck = is.stuck;
@@ -175,9 +167,7 @@ module _ (n w : ℕ) (steps : List KeptStep) (are : AreSteps n w steps) (numbere
   is_met : (c : Config) → IsMet n w steps c → IsMetFrom (first n w steps) (seen_as steps c)
   is_met c met = record {
     moves = met.reached.0;
-    leads = subst (λ (m : ℕ). Leads met.reached.0 (first n m steps) (seen_as steps c)) met.counts.1
-        (subst (λ (m : ℕ). Leads met.reached.0 (first m (length c.values.items) steps) (seen_as steps c)) met.counts.0
-        met.reached.1);
+    leads = led_from n w steps c met.reached.0 met.counts met.reached.1;
     chooses = chooses steps c met.stuck;
   }
 
@@ -215,8 +205,8 @@ module _ (n w : ℕ) (steps : List KeptStep) (are : AreSteps n w steps) (numbere
   nodes_pairs order (x ∷ xs) rest all rising out pairs =
       AllPairs-cons Differ (seen_node x) (map seen_node xs ++ rest)
       (All-append (Differ (seen_node x)) (map seen_node xs) rest
-      (All-map (Differ (seen_node x)) seen_node xs (from_node xs (All-tail (IsNode n w steps order) x xs all)
-      (λ y there. pairs_head Deeper x y xs rising there)))
+      (All-map (Differ (seen_node x)) seen_node xs
+      (All-weaker (Contains xs) (λ (y : Node). Differ (seen_node x) (seen_node y)) later xs (All-contains_itself xs)))
       (out x (contains_head x xs)))
       (nodes_pairs order xs rest (All-tail (IsNode n w steps order) x xs all) (pairs_tail Deeper x xs rising)
       (λ node there. out node (contains_tail x node xs there)) pairs)
@@ -224,19 +214,13 @@ module _ (n w : ℕ) (steps : List KeptStep) (are : AreSteps n w steps) (numbere
       is_x : IsNode n w steps order x
       is_x = All-head (IsNode n w steps order) x xs all
 
-      from_node : (ys : List Node) → All (IsNode n w steps order) ys → ((y : Node) → Contains ys y → Deeper x y) →
-          All (λ (y : Node). Differ (seen_node x) (seen_node y)) ys
-      from_node [] all below = λ k d lt. absurd (omega (arith, lt))
-      from_node (y ∷ ys) all below =
-          All-cons (λ (z : Node). Differ (seen_node x) (seen_node z)) y ys
-          (λ same. let is_y = All-head (IsNode n w steps order) y ys all in
-          let equal = same_length n w steps (take x.depth order) (take y.depth order) x.config y.config are is_x.counts
-          is_y.counts is_x.reached is_y.reached same in
+      later : (y : Node) → Contains xs y → Differ (seen_node x) (seen_node y)
+      later y there same =
+          let is_y = All-contains (IsNode n w steps order) xs y (All-tail (IsNode n w steps order) x xs all) there in
+          let equal = same_length are (node_met x is_x) (node_met y is_y) same in
           let one = length-take-le x.depth order is_x.depth in
           let other = length-take-le y.depth order is_y.depth in
-          let less = below y (contains_head y ys) in
-          let no : ⊥ = omega (arith, equal, one, other, less) in no)
-          (from_node ys (All-tail (IsNode n w steps order) y ys all) (λ z there. below z (contains_tail y z ys there)))
+          let less = pairs_head Deeper x y xs rising there in omega (arith, equal, one, other, less)
 
   -- What the search has come to, its nodes, and what has failed: these are different ones.
   module _ (order : List ℕ) (nodes : List Node) (failed : List Config) (c : Config)
@@ -249,49 +233,38 @@ module _ (n w : ℕ) (steps : List KeptStep) (are : AreSteps n w steps) (numbere
     abbrev pub all_met : List Configuration
     all_met = seen c ∷ (map seen_node nodes ++ map seen failed)
 
-    new_to : (x : Config) → IsMet n w steps x → (HasSame failed x → ⊥) → (ys : List Config) →
-        ((y : Config) → Contains ys y → Contains failed y) → All (Differ (seen x)) (map seen ys)
-    new_to x is new [] inside = λ k d lt. absurd (omega (arith, lt))
-    new_to x is new (y ∷ ys) inside =
-        All-cons (Differ (seen x)) (seen y) (map seen ys)
-        (λ same. let there = inside y (contains_head y ys) in
-        new (
+    new_to : (x : Config) → IsMet n w steps x → (HasSame failed x → ⊥) → All (Differ (seen x)) (map seen failed)
+    new_to x is new =
+        All-map (Differ (seen x)) seen failed
+        (All-weaker (Contains failed) (λ (y : Config). Differ (seen x) (seen y)) (λ y there same. new (
           y,
           there,
           same_config steps numbered y x (All-contains (IsMet n w steps) failed y are_failed there).config
               is.config (sym same),
-        ))
-        (new_to x is new ys (λ z there. inside z (contains_tail y z ys there)))
+        )) failed (All-contains_itself failed))
 
-    past_nodes : (ys : List Node) → ((y : Node) → Contains ys y → Contains nodes y) →
-        All (λ (y : Node). Differ (seen c) (seen_node y)) ys
-    past_nodes [] inside = λ k d lt. absurd (omega (arith, lt))
-    past_nodes (y ∷ ys) inside =
-        All-cons (λ (z : Node). Differ (seen c) (seen_node z)) y ys
-        (λ same. let there = inside y (contains_head y ys) in
+    past_nodes : (y : Node) → Contains nodes y → Differ (seen c) (seen_node y)
+    past_nodes y there same =
         let is_y = All-contains (IsNode n w steps order) nodes y are_nodes there in
-        let equal = same_length n w steps met.order (take y.depth order) c y.config are met.counts is_y.counts met.reached
-        is_y.reached same in
+        let equal = same_length are met (node_met y is_y) same in
         let other = length-take-le y.depth order is_y.depth in
         let whole : length met.order ≡ length order = ap length here in
         let less : (get_or nodes there.0 y).depth < length order = deeper there.0 y there.1 in
-        let at_y : (get_or nodes there.0 y).depth ≡ y.depth = depth_there y there in
-        let no : ⊥ = omega (arith, equal, other, whole, less, at_y) in no)
-        (past_nodes ys (λ z there. inside z (contains_tail y z ys there)))
-      where
-        depth_there : (z : Node) (there : Contains nodes z) → (get_or nodes there.0 z).depth ≡ z.depth
-        depth_there z there = ap (λ (node : Node). node.depth) there.2
+        let at_y = ap (λ (node : Node). node.depth) there.2 in
+        omega (arith, equal, other, whole, less, at_y)
 
     pub all_differ : AllPairs (λ (x y : Configuration). x ≡ y → ⊥) all_met
     all_differ =
         AllPairs-cons Differ (seen c) (map seen_node nodes ++ map seen failed)
         (All-append (Differ (seen c)) (map seen_node nodes) (map seen failed)
-        (All-map (Differ (seen c)) seen_node nodes (past_nodes nodes (λ y there. there)))
-        (new_to c met fresh failed (λ y there. there)))
+        (All-map (Differ (seen c)) seen_node nodes
+        (All-weaker (Contains nodes) (λ (y : Node). Differ (seen c) (seen_node y)) past_nodes nodes
+        (All-contains_itself nodes)))
+        (new_to c met fresh))
         (nodes_pairs order nodes (map seen failed) are_nodes rising
         (λ node there. new_to node.config
-        (node_met n w steps order node (All-contains (IsNode n w steps order) nodes node are_nodes there))
-        (All-contains (λ (x : Node). HasSame failed x.config → ⊥) nodes node apart there) failed (λ y inside. inside))
+        (node_met node (All-contains (IsNode n w steps order) nodes node are_nodes there))
+        (All-contains (λ (x : Node). HasSame failed x.config → ⊥) nodes node apart there))
         (failed_pairs failed are_failed distinct))
 
     each_met : All (IsMetFrom (first n w steps)) all_met
@@ -300,7 +273,7 @@ module _ (n w : ℕ) (steps : List KeptStep) (are : AreSteps n w steps) (numbere
         (All-append (IsMetFrom (first n w steps)) (map seen_node nodes) (map seen failed)
         (All-map (IsMetFrom (first n w steps)) seen_node nodes
         (All-weaker (IsNode n w steps order) (λ (y : Node). IsMetFrom (first n w steps) (seen_node y))
-        (λ y is. is_met y.config (node_met n w steps order y is)) nodes are_nodes))
+        (λ y is. is_met y.config (node_met y is)) nodes are_nodes))
         (All-map (IsMetFrom (first n w steps)) seen failed
         (All-weaker (IsMet n w steps) (λ (y : Config). IsMetFrom (first n w steps) (seen y)) (λ y is. is_met y is) failed
         are_failed)))
@@ -348,49 +321,22 @@ pub moved_key : {S : Type 0} (s s' : HashSet Config S) (k k' : Config) (added : 
     IsPermutation (k' ∷ s.keys) s'.keys
 moved_key s s' k k' added e puts is new =
     subst (λ (x : Config). IsPermutation (x ∷ s.keys) s'.keys) e
-    (put_moved added puts (is_added s.keys k added (λ has. new (subst (HasSame s.keys) e has)) is))
-  where
-    put_moved : (b : Bool) → PutsKey s s' k b → b ≡ true → IsPermutation (k ∷ s.keys) s'.keys
-    put_moved true puts is = puts
-    put_moved false puts is = absurd (let no : ⊥ = cc in no)
+    (rw (is_added s.keys k added (λ has. new (subst (HasSame s.keys) e has)) is) at puts)
 
 -- no node before it is the same as it, or as what had failed
-pub still_apart : (n w : ℕ) (steps : List KeptStep) (order : List ℕ) (front : List Node) (node : Node)
-    (ks ks' : List Config) → AreSteps n w steps → All (IsNode n w steps order) (front ++ node ∷ []) →
-    AllPairs (λ (a b : Node). a.depth < b.depth) (front ++ node ∷ []) → IsPermutation (node.config ∷ ks) ks' →
-    All (λ (x : Node). HasSame ks x.config → ⊥) front → All (λ (x : Node). HasSame ks' x.config → ⊥) front
-still_apart n w steps order front node ks ks' are nodes rising moved apart t d lt has =
-    by_key (contains_cases node.config has.0 ks
-    (Contains-permutation ks' (node.config ∷ ks) has.0 (IsPermutation-sym (node.config ∷ ks) ks' moved) has.1))
-  where
-    long : length (front ++ node ∷ []) ≡ suc (length front)
-    long = let both = length-append front (node ∷ []) in omega (arith, both)
-
-    here : get_or (front ++ node ∷ []) t d ≡ get_or front t d
-    here = get_or_append_left front (node ∷ []) d t lt
-
-    is_here : IsNode n w steps order (get_or front t d)
-    is_here = subst (IsNode n w steps order) here (nodes t d (omega (arith, lt, long)))
-
-    seam : get_or (front ++ node ∷ []) (length front) d ≡ node
-    seam = get_or-append_seam front node [] d
-
-    is_last : IsNode n w steps order node
-    is_last = subst (IsNode n w steps order) seam (nodes (length front) d (omega (arith, long)))
-
-    below : (get_or front t d).depth < node.depth
-    below =
-        let up = rising t (length front) d lt (omega (arith, long)) in
-        let one = ap (λ (x : Node). x.depth) here in
-        let other = ap (λ (x : Node). x.depth) seam in omega (arith, up, one, other)
-
-    by_key : (node.config ≡ has.0) ⊎ Contains ks has.0 → ⊥
-    by_key (inr there) = apart t d lt (has.0, there, has.2)
-    by_key (inl same) =
-        let equal = same_length n w steps (take node.depth order) (take (get_or front t d).depth order) node.config
-        (get_or front t d).config are is_last.counts is_here.counts is_last.reached is_here.reached
-        (same_seen steps node.config (get_or front t d).config
-        (subst (λ (c : Config). IsSameConfig c (get_or front t d).config) (sym same) has.2)) in
-        let one = length-take-le node.depth order is_last.depth in
-        let other = length-take-le (get_or front t d).depth order is_here.depth in
-        omega (arith, equal, one, other, below)
+pub still_apart : {n w : ℕ} {steps : List KeptStep} {order : List ℕ} (front : List Node) (node : Node)
+    (ks ks' : List Config) → AreSteps n w steps → AreNodes n w steps order (front ++ node ∷ []) →
+    IsPermutation (node.config ∷ ks) ks' → All (λ (x : Node). HasSame ks x.config → ⊥) front →
+    All (λ (x : Node). HasSame ks' x.config → ⊥) front
+still_apart {steps = steps} {order} front node ks ks' are nodes moved apart t d lt has =
+    elim (contains_cases node.config has.0 ks
+    (Contains-permutation ks' (node.config ∷ ks) has.0 (IsPermutation-sym (node.config ∷ ks) ks' moved) has.1)) [
+      | inr there ↦ apart t d lt (has.0, there, has.2)
+      | inl same ↦ (let is_here = (are_front front node nodes).each t d lt in
+          let is_last = last_is front node nodes in
+          let equal = same_length are (node_met node is_last) (node_met (get_or front t d) is_here)
+          (same_seen steps node.config (get_or front t d).config (rw same has.2)) in
+          let one = length-take-le node.depth order is_last.depth in
+          let other = length-take-le (get_or front t d).depth order is_here.depth in
+          let below = below_last front node nodes t d lt in omega (arith, equal, one, other, below))
+    ]

@@ -6,21 +6,19 @@ use Rattle.std.proofs.lemmas.Bool.{cases_eq}
 use Rattle.std.proofs.lemmas.List.{get_or-set_same, get_or-set_other, length-set, map-set, length-map, append-nil}
 use Rattle.snap_runs.specs.Operation.{Operation}
 use Rattle.snap_judge.specs.Steps.{Step, Calls, Ends, Waits, Slot, Free, Open, Taken, MayPass, passed}
-use Rattle.snap_judge.specs.Steps.{Pass, Explains, CanBeExplained, taken}
+use Rattle.snap_judge.specs.Steps.{Pass, Explains, taken}
 use Rattle.snap_judge.specs.declared.config.Step.{Step as KeptStep}
 use Rattle.snap_judge.specs.declared.config.Step.TheVariants as kept_step
 use Rattle.snap_judge.specs.declared.config.Slot.{Slot as KeptSlot}
 use Rattle.snap_judge.specs.declared.config.Slot.TheVariants as kept_slot
 use Rattle.snap_judge.specs.declared.config.Config.{Config}
-use Rattle.snap_judge.specs.Kept.{GoesOn, IsConfig, called_at, rest_of, slot_of, slots_of, steps_kept}
-use Rattle.snap_judge.specs.Kept.{step_of_kept, IsCallOf, IsStuck, MayNotPass, called_by, operation_of}
+use Rattle.snap_judge.specs.Kept.{GoesOn, IsConfig, called_at, rest_of, slot_of, slots_of, steps_kept, step_of_kept}
+use Rattle.snap_judge.specs.Kept.{IsCallOf, IsStuck, MayNotPass, called_by, operation_of, first, seen_as, TellsOf}
 use Rattle.snap_judge.specs.declared.operation.Operation.{Operation as KeptOperation}
 use Rattle.snap_judge.proofs.SearchSlots.{at, open_not_free, open_not_taken}
 use Rattle.snap_judge.proofs.SearchPass.{IsClear, pass_now}
-use Rattle.snap_judge.proofs.Goes.{slot_at, tells_set, was_open_freed}
+use Rattle.snap_judge.proofs.Goes.{slot_at, tells_after, was_open}
 use Rattle.snap_judge.proofs.Leading.{leads_on, made, same_parts, taken_on}
-use Rattle.snap_judge.specs.Kept.{first, seen_as, TellsOf}
-use Rattle.snap_judge.specs.Configurations.{Leads}
 
 -- the step at a place, as the definitions have it
 pub step_at : (steps : List KeptStep) (t : ℕ) →
@@ -29,6 +27,14 @@ step_at [] zero = refl
 step_at [] (suc t) = refl
 step_at (s ∷ steps) zero = refl
 step_at (s ∷ steps) (suc t) = step_at steps t
+
+-- what is left of the steps, the next one by itself
+pub rest_at : (steps : List KeptStep) (c : Config) → c.position < length steps →
+    rest_of steps c
+    ≡ step_of_kept (get_or steps c.position kept_step.Waits) ∷ drop (suc c.position) (steps_kept steps)
+rest_at steps c lt =
+    drop-cons (steps_kept steps) c.position Waits (rw (length-map steps step_of_kept) lt)
+    ∙ ap (λ (y : Step). y ∷ drop (suc c.position) (steps_kept steps)) (step_at steps c.position)
 
 -- What may pass is clear of what is open.
 pub clear_if : (x : Step) (S : List Slot) → MayPass S x → IsClear x S
@@ -44,8 +50,8 @@ module _ (steps : List KeptStep) (order : List ℕ) (c c' : Config) (x : KeptSte
     (may : MayPass (slots_of steps c) (step_of_kept x)) where
   rest : rest_of steps c ≡ step_of_kept x ∷ rest_of steps c'
   rest =
-      drop-cons (steps_kept steps) c.position Waits (subst (λ (n : ℕ). c.position < n) (sym (length-map steps step_of_kept)) lt)
-      ∙ ap (λ (y : Step). y ∷ drop (suc c.position) (steps_kept steps)) (step_at steps c.position ∙ ap step_of_kept next)
+      rest_at steps c lt
+      ∙ ap (λ (y : KeptStep). step_of_kept y ∷ drop (suc c.position) (steps_kept steps)) next
       ∙ ap (λ (n : ℕ). step_of_kept x ∷ drop n (steps_kept steps)) (sym position)
 
   seen_now : made (rest_of steps c') c.values.items (passed (slots_of steps c) (step_of_kept x)) ≡ seen_as steps c'
@@ -56,21 +62,16 @@ module _ (steps : List KeptStep) (order : List ℕ) (c c' : Config) (x : KeptSte
     config = λ k. fits;
     reached = λ k r. (
       r.0 ++ Pass ∷ [],
-      subst (λ (n : ℕ). Leads (r.0 ++ Pass ∷ []) (first (length c'.slots.items) n steps) (seen_as steps c'))
-          (sym (ap length values))
-          (subst (λ (n : ℕ). Leads (r.0 ++ Pass ∷ []) (first n (length c.values.items) steps) (seen_as steps c')) (sym count)
+      rw (ap length values, count)
           (leads_on r.0 (Pass ∷ []) (first (length c.slots.items) (length c.values.items) steps) (seen_as steps c)
-          (seen_as steps c') r.1 (step_of_kept x, rest_of steps c', rest, may, seen_now))),
+          (seen_as steps c') r.1 (step_of_kept x, rest_of steps c', rest, may, seen_now)),
       taken_on r.0 (Pass ∷ []) ∙ append-nil (taken r.0) ∙ r.2,
     );
     grows = ([], sym (append-nil order));
     explained = λ k e.
-        subst (λ (T : List Slot). CanBeExplained (rest_of steps c') c'.values.items T) (sym slots)
-        (subst (λ (W : List ℕ). CanBeExplained (rest_of steps c') W (passed (slots_of steps c) (step_of_kept x)))
-        (sym values)
-        (pass_now e.0 (step_of_kept x) (rest_of steps c') c.values.items (slots_of steps c)
+        rw (slots, values) (pass_now e.0 (step_of_kept x) (rest_of steps c') c.values.items (slots_of steps c)
         (clear_if (step_of_kept x) (slots_of steps c) may)
-        (subst (λ (xs : List Step). Explains e.0 xs c.values.items (slots_of steps c)) rest e.1)));
+        (subst (λ (xs : List Step). Explains e.0 xs c.values.items (slots_of steps c)) rest e.1));
   }
 
 place_again : (place : ℕ) → suc place - 1 ≡ place
@@ -91,15 +92,10 @@ module _ (steps : List KeptStep) (order : List ℕ) (c c' : Config) (place j : �
   ended_config : IsConfig steps c'
   ended_config = record {
     within = subst (λ (n : ℕ). n ≤ length steps) (sym position) lt;
-    placed = λ q k e. fits.placed q k (was_open_freed c.slots.items place q k
+    placed = λ q k e. fits.placed q k (was_open c.slots.items place q k kept_slot.Free (λ no. cc)
         (ap (λ (l : List KeptSlot). get_or l q kept_slot.Free) (sym slots) ∙ e));
-    tells = λ q k h. told q k (tells_set c.slots.items place q k kept_slot.Free
-        (subst (λ (l : List KeptSlot). TellsOf (get_or l q kept_slot.Free) k) slots h));
+    tells = tells_after steps c place kept_slot.Free c'.slots.items fits slots (λ k no. absurd no);
   }
-    where
-      told : (q k : ℕ) → ((q ≡ place) × ⊥) ⊎ TellsOf (get_or c.slots.items q kept_slot.Free) k → IsCallOf steps k q
-      told q k (inl here) = absurd here.1
-      told q k (inr before) = fits.tells q k before
 
   pub end_passes : GoesOn steps order c order c'
   end_passes =
@@ -135,22 +131,15 @@ module _ (steps : List KeptStep) (order : List ℕ) (c c' : Config) (place : ℕ
       get_or (set c.slots.items place (kept_slot.Open c.position)) q kept_slot.Free ≡ kept_slot.Open k →
       ((called_at steps k).process ≡ suc q) × (k < length steps)
   placed q k (inl same) e =
-      let here : c.position ≡ k =
-      one_place (sym (get_or-set_same c.slots.items place (kept_slot.Open c.position) kept_slot.Free within)
-      ∙ ap (λ (r : ℕ). get_or (set c.slots.items place (kept_slot.Open c.position)) r kept_slot.Free) (sym same) ∙ e) in
+      let both : kept_slot.Open c.position ≡ kept_slot.Open k =
+      sym (get_or-set_same c.slots.items place (kept_slot.Open c.position) kept_slot.Free within)
+      ∙ ap (λ (r : ℕ). get_or (set c.slots.items place (kept_slot.Open c.position)) r kept_slot.Free) (sym same) ∙ e in
+      let here : c.position ≡ k = cc in
       subst (λ (m : ℕ). ((called_at steps m).process ≡ suc q) × (m < length steps)) here (
         let at_call : (called_at steps c.position).process ≡ o.process = ap (λ (x : Operation). x.process) called in
             at_call ∙ is_call.2 ∙ ap suc (sym same),
         lt,
       )
-    where
-      index_of : KeptSlot → ℕ
-      index_of kept_slot.Free = 0
-      index_of (kept_slot.Open m) = m
-      index_of (kept_slot.Taken m) = 0
-
-      one_place : {a b : ℕ} → kept_slot.Open a ≡ kept_slot.Open b → a ≡ b
-      one_place e = ap index_of e
   placed q k (inr differ) e =
       fits.placed q k (sym (get_or-set_other c.slots.items place q (kept_slot.Open c.position) kept_slot.Free differ) ∙ e)
 
@@ -158,16 +147,9 @@ module _ (steps : List KeptStep) (order : List ℕ) (c c' : Config) (place : ℕ
   called_config = record {
     within = subst (λ (n : ℕ). n ≤ length steps) (sym position) lt;
     placed = λ q k e. placed q k (cases_eq q place) (ap (λ (l : List KeptSlot). get_or l q kept_slot.Free) (sym slots) ∙ e);
-    tells = λ q k h. told q k (tells_set c.slots.items place q k (kept_slot.Open c.position)
-        (subst (λ (l : List KeptSlot). TellsOf (get_or l q kept_slot.Free) k) slots h));
+    tells = tells_after steps c place (kept_slot.Open c.position) c'.slots.items fits slots
+        (λ k e. subst (λ (m : ℕ). IsCallOf steps m place) e is_call);
   }
-    where
-      told : (q k : ℕ) → ((q ≡ place) × (c.position ≡ k)) ⊎ TellsOf (get_or c.slots.items q kept_slot.Free) k →
-          IsCallOf steps k q
-      told q k (inl here) =
-          subst (λ (m : ℕ). IsCallOf steps m q) here.1
-          (subst (λ (r : ℕ). IsCallOf steps c.position r) (sym here.0) is_call)
-      told q k (inr before) = fits.tells q k before
 
   pub call_passes : GoesOn steps order c order c'
   call_passes =
@@ -185,15 +167,10 @@ end_stuck steps c place lt next never = (
       (sym (slot_at steps c.slots.items place) ∙ ap (at (slots_of steps c)) (sym (place_again place)) ∙ held)),
 )
   where
-    is_taken : Slot → Type 0
-    is_taken Free = ⊥
-    is_taken (Open o) = ⊥
-    is_taken (Taken o) = Unit {0}
-
     kept_taken : (s : KeptSlot) (o : Operation) → get_or c.slots.items place kept_slot.Free ≡ s →
         slot_of steps s ≡ Taken o → ⊥
-    kept_taken kept_slot.Free o is e = subst is_taken (sym e) tt
-    kept_taken (kept_slot.Open j) o is e = subst is_taken (sym e) tt
+    kept_taken kept_slot.Free o is e = let no : Free ≡ Taken o = e in cc
+    kept_taken (kept_slot.Open j) o is e = let no : Open (called_at steps j) ≡ Taken o = e in cc
     kept_taken (kept_slot.Taken j) o is e = never j is
 
 -- A step that changes nothing passes.

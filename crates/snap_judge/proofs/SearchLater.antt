@@ -52,10 +52,7 @@ module _ (p : ℕ) (o : Operation) (word value : ℕ) (act : o.action ≡ Sets w
         ap (at (set S (i - 1) Free)) place ∙ get_or-set_other S (i - 1) p Free Free apart ∙ is,
         subst (Allows V) (sym act) h.is_word,
         subst (λ (W : List ℕ). Explains ms rest W (set (set S (i - 1) Free) (o.process - 1) (Taken o)))
-            (sym (ap (after V) act))
-            (subst (λ (q : ℕ). Explains ms rest (set V (word - 1) value) (set (set S (i - 1) Free) q (Taken o))) (sym place)
-            (subst (λ (T : List Slot). Explains ms rest (set V (word - 1) value) T)
-            (set_comm S p (i - 1) (Taken o) Free apart) e)),
+            (sym (ap (after V) act)) (rw place (rw (set_comm S p (i - 1) (Taken o) Free apart) at e)),
       ),
     ),
     refl,
@@ -107,10 +104,11 @@ module _ (p : ℕ) (o : Operation) (word value : ℕ) (act : o.action ≡ Sets w
           next (set V (word' - 1) value') (set S q (Taken o'))
           (get_or-set_other S q p (Taken o') Free (turned not_here) ∙ is)
           (subst (λ (b : Action). MayWait p word value (after V b) (set S q (Taken o'))) act' (waits_on q o' V S h))
-          (subst (λ (W : List ℕ). Explains ms (Ends i ∷ rest) W (set (set S q (Taken o')) p (Taken o)))
-          (set_comm V (word - 1) (word' - 1) value value' differ)
-          (subst (λ (T : List Slot). Explains ms (Ends i ∷ rest) (set (set V (word - 1) value) (word' - 1) value') T)
-          (set_comm S p q (Taken o) (Taken o') (turned not_here)) e))
+          (rw (
+            set_comm V (word - 1) (word' - 1) value value' differ,
+            set_comm S p q (Taken o) (Taken o')
+                (turned not_here),
+          ) at e)
 
   -- The update takes place behind the end, and one operation fewer before it.
   pub later : (ms : List Move) (V : List ℕ) (S : List Slot) → o.process - 1 ≡ p → at S p ≡ Open o →

@@ -1,6 +1,5 @@
 -- An event that may be passed is passed at once; and one that cannot be passed is never passed.
-use Rattle.std.proofs.Common.{◌≡◌, ℕ, ◌-◌, ◌⊎◌, inl, inr, List, [], ◌∷◌}
-use Rattle.std.proofs.Common.{sym, ◌∙◌, ap, subst}
+use Rattle.std.proofs.Common.{◌≡◌, ℕ, ◌-◌, inl, inr, List, [], ◌∷◌, sym, ◌∙◌, ap, subst}
 use Rattle.std.proofs.Math.ListN.{set}
 use Rattle.std.proofs.lemmas.Bool.{cases_eq}
 use Rattle.std.proofs.lemmas.List.{get_or-set_same, get_or-set_other}
@@ -43,16 +42,9 @@ pub never_called : (ms : List Move) (o : Operation) (xs : List Step) (V : List �
 never_called [] o xs V S busy e = e
 never_called (Pass ∷ ms) o xs V S busy e = busy e.0
 never_called (Take o' ∷ ms) o xs V S busy e =
-    never_called ms o xs (after V o'.action) (set S (o'.process - 1) (Taken o')) still e.2
-  where
-    still_by : (o.process - 1 ≡ o'.process - 1) ⊎ (o.process - 1 ≡ o'.process - 1 → ⊥) →
-        at (set S (o'.process - 1) (Taken o')) (o.process - 1) ≡ Free → ⊥
-    still_by (inl here) free =
-        taken_not_free (at (set S (o'.process - 1) (Taken o')) (o.process - 1)) o'
-        (ap (at (set S (o'.process - 1) (Taken o'))) here
-        ∙ get_or-set_same S (o'.process - 1) (Taken o') Free (open_within S (o'.process - 1) o' e.0)) free
-    still_by (inr apart) free =
-        busy (sym (get_or-set_other S (o'.process - 1) (o.process - 1) (Taken o') Free apart) ∙ free)
-
-    still : slot (set S (o'.process - 1) (Taken o')) o.process ≡ Free → ⊥
-    still = still_by (cases_eq (o.process - 1) (o'.process - 1))
+    let q = o'.process - 1 in
+    never_called ms o xs (after V o'.action) (set S q (Taken o')) (λ free. elim (cases_eq (o.process - 1) q) [
+      | inl here ↦ taken_not_free (at (set S q (Taken o')) (o.process - 1)) o' (ap (at (set S q (Taken o'))) here
+          ∙ get_or-set_same S q (Taken o') Free (open_within S q o' e.0)) free
+      | inr apart ↦ busy (sym (get_or-set_other S q (o.process - 1) (Taken o') Free apart) ∙ free)
+    ]) e.2

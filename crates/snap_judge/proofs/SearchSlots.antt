@@ -1,67 +1,39 @@
--- Slots by their places, counted from 0, and what passing an event does to them; and steps that differ.
+-- Slots by their places, counted from 0, and what passing an event does to them.
 use Rattle.std.proofs.Common.{◌≡◌, ℕ, ◌-◌, ◌<◌, ◌≤◌, ◌⊎◌, inl, inr, List, length, get_or, refl, sym, ◌∙◌, ap}
-use Rattle.std.proofs.Common.{subst, Option, Some, None}
 use Rattle.std.proofs.Math.ListN.{set}
 use Rattle.std.proofs.lemmas.Bool.{cases_eq, cases_lt}
 use Rattle.std.proofs.lemmas.List.{get_or-set_same, get_or-set_other, get_or_past, set_past, set_comm}
-use Rattle.snap_runs.specs.Operation.{Action, Sets, Sees, Operation}
+use Rattle.snap_runs.specs.Operation.{Operation}
+use Rattle.snap_judge.proofs.ExplainedLists.{set_tells, within_if}
 use Rattle.snap_judge.specs.Steps.{Step, Calls, Ends, Waits, Slot, Free, Open, Taken, MayPass, passed}
 
 -- the slot at a place
 abbrev pub at : List Slot → ℕ → Slot
 at slots p = get_or slots p Free
 
--- what is open in a slot, and what has been taken there
-pub open_in : Slot → Option Operation
-open_in Free = None
-open_in (Open o) = Some o
-open_in (Taken o) = None
-
-pub taken_in : Slot → Option Operation
-taken_in Free = None
-taken_in (Open o) = None
-taken_in (Taken o) = Some o
-
-some_is : {A : Type 0} → Option A → A → A
-some_is None x = x
-some_is (Some y) x = y
-
-none_or : {A : Type 0} → Option A → Type 0
-none_or None = ⊥
-none_or (Some x) = Unit {0}
-
 -- a slot is open with one operation
 pub one_open : (s : Slot) (o o' : Operation) → s ≡ Open o → s ≡ Open o' → o ≡ o'
-unfolding open_in some_is
-one_open s o o' e e' = ap (λ (x : Slot). some_is (open_in x) o) (sym e ∙ e')
+one_open s o o' e e' = cc
 
 pub one_taken : (s : Slot) (o o' : Operation) → s ≡ Taken o → s ≡ Taken o' → o ≡ o'
-unfolding taken_in some_is
-one_taken s o o' e e' = ap (λ (x : Slot). some_is (taken_in x) o) (sym e ∙ e')
+one_taken s o o' e e' = cc
 
 -- an open one is not taken, and not free
 pub open_not_taken : (s : Slot) (o o' : Operation) → s ≡ Open o → s ≡ Taken o' → ⊥
-unfolding open_in none_or
-open_not_taken s o o' e e' = subst (λ (x : Slot). none_or (open_in x)) (sym e ∙ e') tt
+open_not_taken s o o' e e' = cc
 
 pub open_not_free : (s : Slot) (o : Operation) → s ≡ Open o → s ≡ Free → ⊥
-unfolding open_in none_or
-open_not_free s o e e' = subst (λ (x : Slot). none_or (open_in x)) (sym e ∙ e') tt
+open_not_free s o e e' = cc
 
 pub taken_not_free : (s : Slot) (o : Operation) → s ≡ Taken o → s ≡ Free → ⊥
-unfolding taken_in none_or
-taken_not_free s o e e' = subst (λ (x : Slot). none_or (taken_in x)) (sym e ∙ e') tt
-
-within_by : (S : List Slot) (p : ℕ) → (p < length S) ⊎ (length S ≤ p) → (at S p ≡ Free → ⊥) → p < length S
-within_by S p (inl lt) used = lt
-within_by S p (inr past) used = absurd (used (get_or_past S p Free past))
+taken_not_free s o e e' = cc
 
 -- what is not free is within the list
 pub open_within : (S : List Slot) (p : ℕ) (o : Operation) → at S p ≡ Open o → p < length S
-open_within S p o e = within_by S p (cases_lt p (length S)) (open_not_free (at S p) o e)
+open_within S p o e = within_if Free S p (open_not_free (at S p) o e)
 
 pub taken_within : (S : List Slot) (p : ℕ) (o : Operation) → at S p ≡ Taken o → p < length S
-taken_within S p o e = within_by S p (cases_lt p (length S)) (taken_not_free (at S p) o e)
+taken_within S p o e = within_if Free S p (taken_not_free (at S p) o e)
 
 -- An event is of another place than p, or of this one.
 abbrev pub Apart : Step → ℕ → Type 0
@@ -112,44 +84,8 @@ nothing_passes (Ends i) S p o there is may = open_not_taken (at S p) o may.0 is 
 nothing_passes Waits S p o there is may = there
 
 -- What is open behind a taking was open before it.
-still_by : (S : List Slot) (q p : ℕ) (o' o : Operation) → (p ≡ q) ⊎ (p ≡ q → ⊥) → (q < length S) ⊎ (length S ≤ q) →
-    at (set S q (Taken o')) p ≡ Open o → at S p ≡ Open o
-still_by S q p o' o (inr apart) in_range e = sym (get_or-set_other S q p (Taken o') Free apart) ∙ e
-still_by S q p o' o (inl here) (inl lt) e =
-    absurd (open_not_taken (at (set S q (Taken o')) q) o o' (ap (at (set S q (Taken o'))) (sym here) ∙ e)
-    (get_or-set_same S q (Taken o') Free lt))
-still_by S q p o' o (inl here) (inr past) e = ap (λ (T : List Slot). at T p) (sym (set_past S q (Taken o') past)) ∙ e
-
 pub still_open : (S : List Slot) (q p : ℕ) (o' o : Operation) → at (set S q (Taken o')) p ≡ Open o → at S p ≡ Open o
-still_open S q p o' o e = still_by S q p o' o (cases_eq p q) (cases_lt q (length S)) e
-
--- A call is one call, and no other step; and what writes a word sees none.
-call_of : Step → Operation → Operation
-call_of (Calls o) d = o
-call_of (Ends i) d = d
-call_of Waits d = d
-
-is_call : Step → Type 0
-is_call (Calls o) = Unit {0}
-is_call (Ends i) = ⊥
-is_call Waits = ⊥
-
-pub one_call : (o o' : Operation) → Calls o ≡ Calls o' → o ≡ o'
-unfolding call_of
-one_call o o' e = ap (λ (x : Step). call_of x o) e
-
-pub waits_not_call : (o : Operation) → Waits ≡ Calls o → ⊥
-unfolding is_call
-waits_not_call o e = subst is_call (sym e) tt
-
-pub ends_not_call : (i : ℕ) (o : Operation) → Ends i ≡ Calls o → ⊥
-unfolding is_call
-ends_not_call i o e = subst is_call (sym e) tt
-
-is_sets : Action → Type 0
-is_sets (Sets word value) = Unit {0}
-is_sets (Sees view) = ⊥
-
-pub sets_not_sees : (a : Action) (word value : ℕ) (view : List ℕ) → a ≡ Sets word value → a ≡ Sees view → ⊥
-unfolding is_sets
-sets_not_sees a word value view e e' = subst is_sets (sym e ∙ e') tt
+still_open S q p o' o e = elim (set_tells (λ (s : Slot). s ≡ Open o) Free S q p (Taken o') e) [
+  | inl here ↦ absurd (let no : Taken o' ≡ Open o = here.1 in cc)
+  | inr before ↦ before
+]

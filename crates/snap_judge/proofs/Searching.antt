@@ -1,15 +1,16 @@
 -- What a search keeps of its nodes.
 use Rattle.std.proofs.Common.{◌≡◌, ℕ, zero, suc, ◌<◌, ◌≤◌, ◌⊎◌, inl, inr, List, [], ◌∷◌, ◌++◌, length, get_or}
-use Rattle.std.proofs.Common.{refl, sym, ◌∙◌, ap, subst, arith, map, take, drop, drop-cons, true, false, Bool}
+use Rattle.std.proofs.Common.{refl, sym, ◌∙◌, ap, subst, arith, map, take, drop, true, false, Bool}
 use Rattle.std.specs.Prelude.{replicate}
 use Rattle.std.specs.List.{All}
 use Rattle.std.specs.HashSet.{HashSet, PutsKey}
 use Rattle.std.proofs.lemmas.Bool.{cases_lt}
-use Rattle.std.proofs.lemmas.List.{length-append, length-map, get_or_append_left, take-take, take_all, drop_all, get_or_past}
-use Rattle.std.proofs.lemmas.List.{length-replicate, get_or-replicate}
+use Rattle.std.proofs.lemmas.List.{length-append, length-map, get_or_append_left, take-take, take_all, drop_all}
+use Rattle.std.proofs.lemmas.List.{length-replicate}
 use Rattle.std.proofs.Math.Seq.{get_or-append_seam}
 use Rattle.std.proofs.lemmas.List.Sorted.{All-permutation}
-use Rattle.std.proofs.lemmas.List.Elements.{All-cons, All-contains}
+use Rattle.std.proofs.lemmas.List.Elements.{All-cons, All-contains, All-push}
+use Rattle.std.proofs.lemmas.List.Quantifiers.{all_pairs_push}
 use Rattle.snap_judge.specs.declared.config.Step.{Step as KeptStep}
 use Rattle.snap_judge.specs.declared.config.Step.TheVariants as kept_step
 use Rattle.snap_judge.specs.declared.config.Slot.{Slot as KeptSlot}
@@ -17,53 +18,52 @@ use Rattle.snap_judge.specs.declared.config.Slot.TheVariants as kept_slot
 use Rattle.snap_judge.specs.declared.config.Config.{Config}
 use Rattle.snap_judge.specs.declared.config.Node.{Node}
 use Rattle.snap_judge.specs.declared.config.Entered.{Entered}
-use Rattle.snap_judge.specs.Steps.{Step, Slot, Waits, Free, CanBeExplained, Explains, Move, taken}
+use Rattle.snap_judge.specs.Steps.{Step, Slot, Free, CanBeExplained, Explains, Move, taken}
 use Rattle.snap_judge.specs.Kept.{Can, GoesOn, IsConfig, IsReached, IsSettled, IsStuck, KeepsCounts, MayNotPass}
-use Rattle.snap_judge.specs.Kept.{first, seen_as, TellsOf}
+use Rattle.snap_judge.specs.Kept.{first, seen_as}
 use Rattle.snap_judge.specs.Kept.{called_at, operation_of, rest_of, slot_of, slots_of, step_of_kept, steps_kept}
 use Rattle.snap_judge.specs.Nodes.{AreNodes, FailsBehind, HasCounts, HasSame, HasTried, IsEntered, IsNode, IsTried, NothingExplains, OnlyNodesLeft}
+use Rattle.snap_judge.proofs.ExplainedLists.{replicated}
 use Rattle.snap_judge.proofs.SearchPass.{never_called}
 use Rattle.snap_judge.proofs.Leading.{explains_led, same_parts}
-use Rattle.snap_judge.proofs.Passing.{step_at}
+use Rattle.snap_judge.proofs.Passing.{rest_at}
 use Rattle.snap_judge.proofs.Goes.{kept_not_free, same_goes, same_turned}
 
 one_longer : (front : List Node) (node : Node) → length (front ++ node ∷ []) ≡ suc (length front)
 one_longer front node = omega (arith, length-append front (node ∷ []))
 
 -- What is known behind a node is so whatever nodes come after it.
-pub fails_front : (n w : ℕ) (steps : List KeptStep) (d : Node) (front more : List Node) (t : ℕ) → t ≤ length front →
-    FailsBehind n w steps d (front ++ more) t → FailsBehind n w steps d front t
-fails_front n w steps d front more zero le f = f
-fails_front n w steps d front more (suc t) le f =
-    subst (IsTried steps) (get_or_append_left front more d t (omega (arith, le))) f
-
-pub fails_more : (n w : ℕ) (steps : List KeptStep) (d : Node) (front more : List Node) (t : ℕ) → t ≤ length front →
-    FailsBehind n w steps d front t → FailsBehind n w steps d (front ++ more) t
-fails_more n w steps d front more zero le f = f
-fails_more n w steps d front more (suc t) le f =
-    subst (IsTried steps) (sym (get_or_append_left front more d t (omega (arith, le)))) f
+fails_same : (n w : ℕ) (steps : List KeptStep) (d : Node) (front more : List Node) (t : ℕ) → t ≤ length front →
+    FailsBehind n w steps d (front ++ more) t ≡ FailsBehind n w steps d front t
+fails_same n w steps d front more zero le = refl
+fails_same n w steps d front more (suc t) le =
+    ap (IsTried steps) (get_or_append_left front more d t (omega (arith, le)))
 
 -- behind the last one it is what that one has tried
-pub fails_last : (n w : ℕ) (steps : List KeptStep) (d : Node) (front : List Node) (node : Node) → IsTried steps node →
-    FailsBehind n w steps d (front ++ node ∷ []) (length (front ++ node ∷ []))
-fails_last n w steps d front node tried =
-    subst (FailsBehind n w steps d (front ++ node ∷ [])) (sym (one_longer front node))
-    (subst (IsTried steps) (sym (get_or-append_seam front node [] d)) tried)
-
-pub tried_last : (n w : ℕ) (steps : List KeptStep) (d : Node) (front : List Node) (node : Node) →
-    FailsBehind n w steps d (front ++ node ∷ []) (length (front ++ node ∷ [])) → IsTried steps node
-tried_last n w steps d front node fails =
-    subst (IsTried steps) (get_or-append_seam front node [] d)
-    (subst (FailsBehind n w steps d (front ++ node ∷ [])) (one_longer front node) fails)
+pub fails_last : (n w : ℕ) (steps : List KeptStep) (d : Node) (front : List Node) (node : Node) →
+    FailsBehind n w steps d (front ++ node ∷ []) (length (front ++ node ∷ [])) ≡ IsTried steps node
+fails_last n w steps d front node =
+    ap (FailsBehind n w steps d (front ++ node ∷ [])) (one_longer front node)
+    ∙ ap (IsTried steps) (get_or-append_seam front node [] d)
 
 -- what holds of all nodes holds of the last one, where there is a node at all
-pub left_of : (n w : ℕ) (steps : List KeptStep) (nodes : List Node) → Node →
+left_of : (n w : ℕ) (steps : List KeptStep) (nodes : List Node) → Node →
     ((d : Node) → FailsBehind n w steps d nodes (length nodes)) → OnlyNodesLeft n w steps nodes
 left_of n w steps nodes node behind =
     (λ none. subst (λ (l : List Node). FailsBehind n w steps node l (length l)) none (behind node), behind)
 
+-- what holds of all nodes, of those before the last one and of that one
+pub all_front : (P : Node → Type 0) (front : List Node) (node : Node) → All P (front ++ node ∷ []) →
+    All P front × P node
+all_front P front node all = (
+  λ k d lt. subst P (get_or_append_left front (node ∷ []) d k lt)
+      (all k d (let len = one_longer front node in omega (arith, lt, len))),
+  subst P (get_or-append_seam front node [] node)
+      (all (length front) node (let len = one_longer front node in omega (arith, len))),
+)
+
 -- The nodes before the last one.
-module _ (n w : ℕ) (steps : List KeptStep) (order : List ℕ) (front : List Node) (node : Node)
+module _ {n w : ℕ} {steps : List KeptStep} {order : List ℕ} (front : List Node) (node : Node)
     (are : AreNodes n w steps order (front ++ node ∷ [])) where
   before : (k : ℕ) → k < length front → k < length (front ++ node ∷ [])
   before k lt = let len = one_longer front node in omega (arith, lt, len)
@@ -77,21 +77,19 @@ module _ (n w : ℕ) (steps : List KeptStep) (order : List ℕ) (front : List No
 
   pub are_front : AreNodes n w steps order front
   are_front = record {
-    each = λ k d lt. subst (IsNode n w steps order) (get_or_append_left front (node ∷ []) d k lt)
-        (are.each k d (before k lt));
+    each = (all_front (IsNode n w steps order) front node are.each).0;
     rising = λ s t d le lt.
         (let below : s < length front = omega (arith, le, lt) in
         let up = are.rising s t d le (before t lt) in
         let one = depth_before s d below in
         let other = depth_before t d lt in
         omega (arith, up, one, other));
-    behind = λ t d lt fails. fails_front n w steps d front (node ∷ []) t (omega (arith, lt))
-        (are.behind t d (before t lt) (λ can. fails (subst (λ (x : Node). Can steps x.config)
-        (get_or_append_left front (node ∷ []) d t lt) can)));
+    behind = λ t d lt fails. rw (fails_same n w steps d front (node ∷ []) t (omega (arith, lt)))
+        at (are.behind t d (before t lt) (rw (get_or_append_left front (node ∷ []) d t lt) fails));
   }
 
   pub last_is : IsNode n w steps order node
-  last_is = subst (IsNode n w steps order) (get_or-append_seam front node [] node) (are.each (length front) node at_end)
+  last_is = (all_front (IsNode n w steps order) front node are.each).1
 
   pub below_last : (k : ℕ) (d : Node) → k < length front → (get_or front k d).depth < node.depth
   below_last k d lt =
@@ -103,78 +101,48 @@ module _ (n w : ℕ) (steps : List KeptStep) (order : List ℕ) (front : List No
 
   pub behind_last : (Can steps node.config → ⊥) → OnlyNodesLeft n w steps front
   behind_last fails = left_of n w steps front node (λ d.
-      fails_front n w steps d front (node ∷ []) (length front) (omega arith)
-      (are.behind (length front) d at_end (λ can. fails (subst (λ (x : Node). Can steps x.config)
-      (get_or-append_seam front node [] d) can))))
+      rw (fails_same n w steps d front (node ∷ []) (length front) (omega arith))
+      at (are.behind (length front) d at_end (rw (get_or-append_seam front node [] d) fails)))
 
 -- One more node, that is at least as deep.
-pub one_more : (n w : ℕ) (steps : List KeptStep) (order : List ℕ) (front : List Node) (node : Node) →
+pub one_more : {n w : ℕ} {steps : List KeptStep} {order : List ℕ} (front : List Node) (node : Node) →
     AreNodes n w steps order front → IsNode n w steps order node →
     ((k : ℕ) (d : Node) → k < length front → (get_or front k d).depth < node.depth) →
     ((Can steps node.config → ⊥) → (d : Node) → FailsBehind n w steps d front (length front)) →
     AreNodes n w steps order (front ++ node ∷ [])
-one_more n w steps order front node are is deeper behind = record {
-  each = λ k d lt. each_by k d lt (cases_lt k (length front));
-  rising = λ s t d le lt. rising_by s t d le lt (cases_lt s (length front)) (cases_lt t (length front));
+one_more {n} {w} {steps} {order} front node are is deeper behind = record {
+  each = All-push (IsNode n w steps order) front node are.each is;
+  rising = all_pairs_push (λ (a b : Node). a.depth < b.depth) front node are.rising deeper;
   behind = λ t d lt fails. behind_by t d lt fails (cases_lt t (length front));
 }
   where
-    len : length (front ++ node ∷ []) ≡ suc (length front)
-    len = one_longer front node
-
-    here : (k : ℕ) (d : Node) → k < length front → get_or (front ++ node ∷ []) k d ≡ get_or front k d
-    here k d lt = get_or_append_left front (node ∷ []) d k lt
-
-    last : (k : ℕ) (d : Node) → k < length (front ++ node ∷ []) → length front ≤ k → get_or (front ++ node ∷ []) k d ≡ node
-    last k d lt le =
-        let same : length front ≡ k = omega (arith, lt, le, len) in
-        subst (λ (m : ℕ). get_or (front ++ node ∷ []) m d ≡ node) same (get_or-append_seam front node [] d)
-
-    each_by : (k : ℕ) (d : Node) → k < length (front ++ node ∷ []) → (k < length front) ⊎ (length front ≤ k) →
-        IsNode n w steps order (get_or (front ++ node ∷ []) k d)
-    each_by k d lt (inl below) = subst (IsNode n w steps order) (sym (here k d below)) (are.each k d below)
-    each_by k d lt (inr le) = subst (IsNode n w steps order) (sym (last k d lt le)) is
-
-    rising_by : (s t : ℕ) (d : Node) → s < t → t < length (front ++ node ∷ []) →
-        (s < length front) ⊎ (length front ≤ s) → (t < length front) ⊎ (length front ≤ t) →
-        (get_or (front ++ node ∷ []) s d).depth < (get_or (front ++ node ∷ []) t d).depth
-    rising_by s t d below lt (inl inside) (inl inside') =
-        let one = ap (λ (x : Node). x.depth) (here s d inside) in
-        let other = ap (λ (x : Node). x.depth) (here t d inside') in
-        let up = are.rising s t d below inside' in
-        omega (arith, up, one, other)
-    rising_by s t d below lt (inl inside) (inr past) =
-        let one = ap (λ (x : Node). x.depth) (here s d inside) in
-        let other = ap (λ (x : Node). x.depth) (last t d lt past) in
-        let up = deeper s d inside in
-        omega (arith, up, one, other)
-    rising_by s t d below lt (inr past) at_t = absurd (omega (arith, below, lt, past, len))
-
     behind_by : (t : ℕ) (d : Node) → t < length (front ++ node ∷ []) →
         (Can steps (get_or (front ++ node ∷ []) t d).config → ⊥) → (t < length front) ⊎ (length front ≤ t) →
         FailsBehind n w steps d (front ++ node ∷ []) t
     behind_by t d lt fails (inl below) =
-        fails_more n w steps d front (node ∷ []) t (omega (arith, below))
-        (are.behind t d below (λ can. fails (subst (λ (x : Node). Can steps x.config) (sym (here t d below)) can)))
+        rw (fails_same n w steps d front (node ∷ []) t (omega (arith, below)))
+        (are.behind t d below (rw (get_or_append_left front (node ∷ []) d t below) at fails))
     behind_by t d lt fails (inr past) =
-        let same : length front ≡ t = omega (arith, lt, past, len) in
-        subst (FailsBehind n w steps d (front ++ node ∷ [])) same
-        (fails_more n w steps d front (node ∷ []) (length front) (omega arith)
-        (behind (λ can. fails (subst (λ (x : Node). Can steps x.config) (sym (last t d lt past)) can)) d))
+        let len = one_longer front node in
+        let same : t ≡ length front = omega (arith, lt, past, len) in
+        let here : get_or (front ++ node ∷ []) t d ≡ node =
+        ap (λ (k : ℕ). get_or (front ++ node ∷ []) k d) same ∙ get_or-append_seam front node [] d in
+        rw (same, fails_same n w steps d front (node ∷ []) (length front) (omega arith))
+        (behind (rw here at fails) d)
 
 -- No node.
-pub no_nodes : (n w : ℕ) (steps : List KeptStep) (order : List ℕ) → AreNodes n w steps order []
-no_nodes n w steps order = record {
+pub no_nodes : {n w : ℕ} {steps : List KeptStep} {order : List ℕ} → AreNodes n w steps order []
+no_nodes = record {
   each = λ k d lt. absurd (omega (arith, lt));
   rising = λ s t d le lt. absurd (omega (arith, lt));
   behind = λ t d lt fails. absurd (omega (arith, lt));
 }
 
 -- The order has been cut where the nodes do not reach, and has grown.
-pub other_order : (n w : ℕ) (steps : List KeptStep) (order order' : List ℕ) (D : ℕ) (nodes : List Node) →
+other_order : {n w : ℕ} {steps : List KeptStep} {order : List ℕ} (order' : List ℕ) (D : ℕ) (nodes : List Node) →
     AreNodes n w steps order nodes → take D order' ≡ take D order → D ≤ length order' →
     ((k : ℕ) (d : Node) → k < length nodes → (get_or nodes k d).depth ≤ D) → AreNodes n w steps order' nodes
-other_order n w steps order order' D nodes are same deep within = record {
+other_order {n} {w} {steps} {order} order' D nodes are same deep within = record {
   each = λ k d lt. each (get_or nodes k d) (within k d lt) (are.each k d lt);
   rising = are.rising;
   behind = are.behind;
@@ -192,67 +160,41 @@ other_order n w steps order order' D nodes are same deep within = record {
       ending = is.ending;
       next = is.next;
       depth = omega (arith, le, deep);
-      reached = subst (λ (os : List ℕ). IsReached steps os node.config) (sym (prefix node.depth le)) is.reached;
+      reached = rw (prefix node.depth le) is.reached;
     }
 
 -- The last node has tried what was next.
-module _ (n w : ℕ) (steps : List KeptStep) (order order' : List ℕ) (front : List Node) (node node' : Node) (e : Entered)
-    (are : AreNodes n w steps order (front ++ node ∷ [])) (has : HasTried steps node node' order order' e) where
-  was : IsNode n w steps order node
-  was = last_is n w steps order front node are
-
-  is_now : IsNode n w steps order' node'
-  is_now =
-      subst (λ (m : ℕ). IsNode m w steps order' node') was.counts.0
-      (subst (λ (m : ℕ). IsNode (length node.config.slots.items) m steps order' node') was.counts.1 has.is_node)
+module _ {n w : ℕ} {steps : List KeptStep} {order order' : List ℕ} {node node' : Node} {e : Entered}
+    (front : List Node) (are : AreNodes n w steps order (front ++ node ∷ []))
+    (has : HasTried steps node node' order order' e) where
+  counts : HasCounts n w node.config
+  counts = (last_is front node are).counts
 
   pub retried : AreNodes n w steps order' (front ++ node' ∷ [])
   retried =
-      one_more n w steps order' front node'
-      (other_order n w steps order order' node.depth front (are_front n w steps order front node are) has.prefix
+      one_more front node'
+      (other_order order' node.depth front (are_front front node are) has.prefix
       (let deep = has.deep in omega (arith, deep))
-      (λ k d lt. let below = below_last n w steps order front node are k d lt in omega (arith, below)))
-      is_now
-      (λ k d lt. let below = below_last n w steps order front node are k d lt in
+      (λ k d lt. let below = below_last front node are k d lt in omega (arith, below)))
+      (rw (counts.0, counts.1) at has.is_node)
+      (λ k d lt. let below = below_last front node are k d lt in
       let same = has.depth in omega (arith, below, same))
-      (λ fails. (behind_last n w steps order front node are
-      (λ can. fails (subst (Can steps) (sym has.config) can))).1)
+      (λ fails. (behind_last front node are (rw has.config at fails)).1)
 
   -- what it has come to is deeper than each node
-  pub retried_deeper : (k : ℕ) (d : Node) → k < length (front ++ node' ∷ []) →
-      (get_or (front ++ node' ∷ []) k d).depth < length order'
-  retried_deeper k d lt = by_place (cases_lt k (length front))
-    where
-      by_place : (k < length front) ⊎ (length front ≤ k) → (get_or (front ++ node' ∷ []) k d).depth < length order'
-      by_place (inl inside) =
-          let same = ap (λ (x : Node). x.depth) (get_or_append_left front (node' ∷ []) d k inside) in
-          let below = below_last n w steps order front node are k d inside in
-          let deep = has.deep in omega (arith, same, below, deep)
-      by_place (inr past) =
-          let here : length front ≡ k = (let len = one_longer front node' in omega (arith, lt, past, len)) in
-          let same : (get_or (front ++ node' ∷ []) k d).depth ≡ node'.depth =
-          subst (λ (m : ℕ). (get_or (front ++ node' ∷ []) m d).depth ≡ node'.depth) here
-          (ap (λ (x : Node). x.depth) (get_or-append_seam front node' [] d)) in
-          let deep = has.deep in let depth = has.depth in omega (arith, same, deep, depth)
+  pub retried_deeper : All (λ (x : Node). x.depth < length order') (front ++ node' ∷ [])
+  retried_deeper =
+      let deep = has.deep in let depth = has.depth in
+      All-push (λ (x : Node). x.depth < length order') front node'
+      (λ k d lt. let below = below_last front node are k d lt in omega (arith, below, deep))
+      (omega (arith, deep, depth))
 
   pub retried_entered : IsEntered n w steps order' e
-  retried_entered =
-      subst (λ (m : ℕ). IsEntered m w steps order' e) was.counts.0
-      (subst (λ (m : ℕ). IsEntered (length node.config.slots.items) m steps order' e) was.counts.1 has.entered)
+  retried_entered = rw (counts.0, counts.1) at has.entered
 
   pub retried_left : (Can steps e.config → ⊥) → OnlyNodesLeft n w steps (front ++ node' ∷ [])
   retried_left fails =
-      left_of n w steps (front ++ node' ∷ []) node' (λ d. fails_last n w steps d front node' (has.tried fails))
-
--- what holds of all nodes, of those before the last one and of that one
-pub all_front : (P : Node → Type 0) (front : List Node) (node : Node) → All P (front ++ node ∷ []) →
-    All P front × P node
-all_front P front node all = (
-  λ k d lt. subst P (get_or_append_left front (node ∷ []) d k lt)
-      (all k d (let len = one_longer front node in omega (arith, lt, len))),
-  subst P (get_or-append_seam front node [] node)
-      (all (length front) node (let len = one_longer front node in omega (arith, len))),
-)
+      left_of n w steps (front ++ node' ∷ []) node' (λ d. rw (fails_last n w steps d front node') (has.tried fails))
 
 -- One more key, of which the same holds.
 pub put_key : {K S : Type 0} (P : K → Type 0) (s s' : HashSet K S) (k : K) (added : Bool) → PutsKey s s' k added →
@@ -265,75 +207,41 @@ pub no_end : (steps : List KeptStep) (c : Config) → IsStuck steps c →
     ((i : ℕ) → get_or steps c.position kept_step.Waits ≡ kept_step.Ends i → ⊥) → Can steps c → ⊥
 no_end steps c stuck none can = by_step (get_or steps c.position kept_step.Waits) refl
   where
-    rest : (x : KeptStep) → get_or steps c.position kept_step.Waits ≡ x →
-        rest_of steps c ≡ step_of_kept x ∷ drop (suc c.position) (steps_kept steps)
-    rest x is =
-        drop-cons (steps_kept steps) c.position Waits
-        (subst (λ (m : ℕ). c.position < m) (sym (length-map steps step_of_kept)) stuck.0)
-        ∙ ap (λ (y : Step). y ∷ drop (suc c.position) (steps_kept steps)) (step_at steps c.position ∙ ap step_of_kept is)
-
     by_step : (x : KeptStep) → get_or steps c.position kept_step.Waits ≡ x → ⊥
     by_step (kept_step.Calls o) is =
         never_called can.0 (operation_of o) (drop (suc c.position) (steps_kept steps)) c.values.items (slots_of steps c)
-        (subst (λ (y : KeptStep). MayNotPass (slots_of steps c) (step_of_kept y)) is stuck.1)
-        (subst (λ (xs : List Step). Explains can.0 xs c.values.items (slots_of steps c)) (rest (kept_step.Calls o) is) can.1)
+        (rw is at stuck.1) (rw (rest_at steps c stuck.0, is) at can.1)
     by_step (kept_step.Ends i) is = none i is
-    by_step kept_step.Waits is = subst (λ (y : KeptStep). MayNotPass (slots_of steps c) (step_of_kept y)) is stuck.1
+    by_step kept_step.Waits is = rw is at stuck.1
 
 -- What the search has come to becomes a node that has tried nothing.
-module _ (n w : ℕ) (steps : List KeptStep) (order : List ℕ) (front : List Node) (e : Entered) (node : Node)
-    (are : AreNodes n w steps order front) (entered : IsEntered n w steps order e) (shut : e.at_end ≡ false)
-    (deeper : (k : ℕ) (d : Node) → k < length front → (get_or front k d).depth < length order)
-    (config : node.config ≡ e.config) (depth : node.depth ≡ length order) (next : node.next ≡ 0)
-    (ending : get_or steps e.config.position kept_step.Waits ≡ kept_step.Ends (suc node.ending)) where
-  is_new : IsNode n w steps order node
-  is_new = record {
-    counts = subst (HasCounts n w) (sym config) entered.counts;
-    config = subst (IsConfig steps) (sym config) entered.config;
-    settled = subst (IsSettled steps) (sym config) entered.settled;
-    stuck = subst (IsStuck steps) (sym config) (entered.stuck shut);
-    ending = ap (λ (c : Config). get_or steps c.position kept_step.Waits) config ∙ ending;
-    next = omega (arith, next);
-    depth = omega (arith, depth);
-    reached = subst (λ (os : List ℕ). IsReached steps os node.config)
-        (sym (take_all node.depth order (omega (arith, depth))))
-        (subst (IsReached steps order) (sym config) entered.reached);
-  }
-
-  pub entered_nodes : ((Can steps e.config → ⊥) → OnlyNodesLeft n w steps front) →
-      AreNodes n w steps order (front ++ node ∷ [])
-  entered_nodes left =
-      one_more n w steps order front node are is_new
-      (λ k d lt. let below = deeper k d lt in omega (arith, below, depth))
-      (λ fails. (left (λ can. fails (subst (Can steps) (sym config) can))).1)
+pub entered_nodes : {n w : ℕ} {steps : List KeptStep} {order : List ℕ} {e : Entered} (front : List Node)
+    (depth ending : ℕ) → AreNodes n w steps order front → IsEntered n w steps order e → e.at_end ≡ false →
+    ((k : ℕ) (d : Node) → k < length front → (get_or front k d).depth < length order) → depth ≡ length order →
+    get_or steps e.config.position kept_step.Waits ≡ kept_step.Ends (suc ending) →
+    ((Can steps e.config → ⊥) → OnlyNodesLeft n w steps front) →
+    AreNodes n w steps order
+    (front ++ record { config = e.config; depth = depth; begun = false; next = 0; ending = ending } ∷ [])
+entered_nodes {order = order} front depth ending are entered shut deeper whole ends left =
+    one_more front _ are
+    (record {
+      counts = entered.counts;
+      config = entered.config;
+      settled = entered.settled;
+      stuck = entered.stuck shut;
+      ending = ends;
+      next = omega arith;
+      depth = omega (arith, whole);
+      reached = rw (take_all depth order (omega (arith, whole))) entered.reached;
+    })
+    (λ k d lt. let below = deeper k d lt in omega (arith, below, whole)) (λ fails. (left fails).1)
 
 -- Without nodes, nothing explains the history.
 pub without_nodes : (n w n' w' : ℕ) (steps : List KeptStep) (nodes : List Node) → n' ≡ n → w' ≡ w →
     OnlyNodesLeft n' w' steps nodes → nodes ≡ [] → NothingExplains n w steps
-without_nodes n w n' w' steps nodes count width left none =
-    subst (λ (m : ℕ). NothingExplains m w steps) count
-    (subst (λ (m : ℕ). NothingExplains n' m steps) width (left.0 none))
+without_nodes n w n' w' steps nodes count width left none = rw (count, width) at (left.0 none)
 
 -- At the beginning nothing is open.
-none_open : (n p j : ℕ) → get_or (replicate n kept_slot.Free) p kept_slot.Free ≡ kept_slot.Open j → ⊥
-none_open n p j is = by_place (cases_lt p n)
-  where
-    by_place : (p < n) ⊎ (n ≤ p) → ⊥
-    by_place (inl lt) = kept_not_free _ j is (get_or-replicate n p kept_slot.Free kept_slot.Free lt)
-    by_place (inr le) =
-        kept_not_free _ j is (get_or_past (replicate n kept_slot.Free) p kept_slot.Free
-        (let len = length-replicate n kept_slot.Free in omega (arith, len, le)))
-
-none_told : (n p j : ℕ) → TellsOf (get_or (replicate n kept_slot.Free) p kept_slot.Free) j → ⊥
-none_told n p j h = by_place (cases_lt p n)
-  where
-    by_place : (p < n) ⊎ (n ≤ p) → ⊥
-    by_place (inl lt) =
-        subst (λ (s : KeptSlot). TellsOf s j) (get_or-replicate n p kept_slot.Free kept_slot.Free lt) h
-    by_place (inr le) =
-        subst (λ (s : KeptSlot). TellsOf s j) (get_or_past (replicate n kept_slot.Free) p kept_slot.Free
-        (let len = length-replicate n kept_slot.Free in omega (arith, len, le))) h
-
 all_free : (steps : List KeptStep) (n : ℕ) → map (slot_of steps) (replicate n kept_slot.Free) ≡ replicate n Free
 all_free steps zero = refl
 all_free steps (suc n) = ap (λ (l : List Slot). Free ∷ l) (all_free steps n)
@@ -343,9 +251,12 @@ module _ (n w : ℕ) (steps : List KeptStep) (c : Config) (position : c.position
   pub first_config : IsConfig steps c
   first_config = record {
     within = omega (arith, position);
-    placed = λ p j is. absurd (none_open n p j (ap (λ (l : List KeptSlot). get_or l p kept_slot.Free) (sym slots) ∙ is));
-    tells = λ p j h. absurd (none_told n p j (subst (λ (l : List KeptSlot). TellsOf (get_or l p kept_slot.Free) j) slots h));
+    placed = λ p j is. absurd (kept_not_free _ j is (free p));
+    tells = λ p j h. absurd (rw (free p) at h);
   }
+    where
+      free : (p : ℕ) → get_or c.slots.items p kept_slot.Free ≡ kept_slot.Free
+      free p = ap (λ (l : List KeptSlot). get_or l p kept_slot.Free) slots ∙ replicated kept_slot.Free n p
 
   first_slots : slots_of steps c ≡ replicate n Free
   first_slots = ap (map (slot_of steps)) slots ∙ all_free steps n
@@ -369,27 +280,23 @@ module _ (n w : ℕ) (steps : List KeptStep) (c : Config) (position : c.position
   )
 
   first_can : CanBeExplained (steps_kept steps) (replicate w 0) (replicate n Free) → Can steps c
-  first_can can =
-      subst (λ (xs : List Step). CanBeExplained xs c.values.items (slots_of steps c)) (sym first_rest)
-      (subst (λ (V : List ℕ). CanBeExplained (steps_kept steps) V (slots_of steps c)) (sym values)
-      (subst (CanBeExplained (steps_kept steps) (replicate w 0)) (sym first_slots) can))
+  first_can can = rw (first_rest, values, first_slots) can
 
-  module _ (c' : Config) (order : List ℕ) (e : Entered) (goes : GoesOn steps [] c order c') (kept : KeepsCounts c c')
-      (is : e.config ≡ c') where
-    pub started : IsSettled steps c' → (e.at_end ≡ true → c'.position ≡ length steps) →
-        (e.at_end ≡ false → IsStuck steps c') → IsEntered n w steps order e
-    started settled end stuck = record {
-      counts = subst (HasCounts n w) (sym is) (kept.slots ∙ first_count, kept.values ∙ first_width);
-      config = subst (IsConfig steps) (sym is) (goes.config first_config);
-      settled = subst (IsSettled steps) (sym is) settled;
-      reached = subst (IsReached steps order) (sym is) (goes.reached first_config first_reached);
-      at_end = λ x. subst (λ (y : Config). y.position ≡ length steps) (sym is) (end x);
-      stuck = λ x. subst (IsStuck steps) (sym is) (stuck x);
+  module _ (c' : Config) (order : List ℕ) (goes : GoesOn steps [] c order c') where
+    pub started : (at_end : Bool) → KeepsCounts c c' → IsSettled steps c' →
+        (at_end ≡ true → c'.position ≡ length steps) → (at_end ≡ false → IsStuck steps c') →
+        IsEntered n w steps order (record { config = c'; at_end = at_end })
+    started ended kept settled end stuck = record {
+      counts = (kept.slots ∙ first_count, kept.values ∙ first_width);
+      config = goes.config first_config;
+      settled = settled;
+      reached = goes.reached first_config first_reached;
+      at_end = end;
+      stuck = stuck;
     }
 
-    pub started_fails : (Can steps e.config → ⊥) → NothingExplains n w steps
-    started_fails fails can =
-        fails (subst (Can steps) (sym is) (goes.explained first_config (first_can can)))
+    pub started_fails : (Can steps c' → ⊥) → NothingExplains n w steps
+    started_fails fails can = fails (goes.explained first_config (first_can can))
 
 -- At the end, the order explains the history.
 pub explains_all : (n w n' w' : ℕ) (steps : List KeptStep) (order : List ℕ) (e : Entered) → n' ≡ n → w' ≡ w →
@@ -398,13 +305,10 @@ pub explains_all : (n w n' w' : ℕ) (steps : List KeptStep) (order : List ℕ) 
     × (taken moves ≡ map (called_at steps) order)
 explains_all n w n' w' steps order e count width entered end = (
   entered.reached.0,
-  subst (λ (m : ℕ). Explains entered.reached.0 (steps_kept steps) (replicate m 0) (replicate n Free))
-      (entered.counts.1 ∙ width)
-      (subst (λ (m : ℕ). Explains entered.reached.0 (steps_kept steps) (replicate (length e.config.values.items) 0)
-      (replicate m Free)) (entered.counts.0 ∙ count)
-      (explains_led entered.reached.0
+  rw (entered.counts.1, width, entered.counts.0, count)
+      at (explains_led entered.reached.0
       (first (length e.config.slots.items) (length e.config.values.items) steps) (seen_as steps e.config)
-      entered.reached.1 nothing_left)),
+      entered.reached.1 nothing_left),
   entered.reached.2,
 )
   where

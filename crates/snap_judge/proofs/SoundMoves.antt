@@ -1,7 +1,6 @@
 -- The operations that moves take from some event on may be taken there, are all, are in order in time, and are run by
 -- the object.
-use Rattle.std.proofs.Common.{ℕ, ◌-◌, ◌<◌, List, [], ◌∷◌, arith}
-use Rattle.std.proofs.Common.{slice_set}
+use Rattle.std.proofs.Common.{ℕ, ◌-◌, ◌<◌, List, [], ◌∷◌, arith, slice_set}
 use Rattle.snap_runs.specs.Operation.{Operation}
 use Rattle.snap_runs.specs.Linearization.{RunsFrom, after}
 use Rattle.snap_runs.proofs.Order.{Apart, Pairs}

@@ -6,22 +6,11 @@ use Rattle.snap_words.specs.Shape.{IsOneOf}
 use Rattle.snap_runs.specs.Operation.{Sets}
 use Rattle.snap_runs.specs.Linearization.{Allows, after}
 use Rattle.snap_judge.specs.declared.config.Step.{Step as KeptStep}
-use Rattle.snap_judge.specs.declared.config.Slot.{Slot as KeptSlot}
 use Rattle.snap_judge.specs.declared.config.Slot.TheVariants as kept_slot
 use Rattle.snap_judge.specs.declared.config.Config.{Config}
-use Rattle.snap_judge.specs.Steps.{CanBeExplained, Taken}
-use Rattle.snap_judge.specs.Kept.{GoesOn, IsConfig, called_at, rest_of, slots_of}
+use Rattle.snap_judge.specs.Kept.{GoesOn, IsConfig, called_at}
 use Rattle.snap_judge.specs.Choices.{HasTaken}
 use Rattle.snap_judge.proofs.Goes.{grown, still_config, taken_can, took}
-
-index_of : KeptSlot → ℕ
-index_of kept_slot.Free = 0
-index_of (kept_slot.Open m) = m
-index_of (kept_slot.Taken m) = 0
-
-pub one_index : {a b : ℕ} → kept_slot.Open a ≡ kept_slot.Open b → a ≡ b
-unfolding index_of
-one_index e = ap index_of e
 
 pub has_taken : (steps : List KeptStep) (order order' : List ℕ) (c mid c' : Config) (p j word value : ℕ) →
     mid.position ≡ c.position → mid.values.items ≡ set c.values.items (word - 1) value →
@@ -32,10 +21,9 @@ has_taken steps order order' c mid c' p j word value position values slots is_wo
   config = λ k. goes.config (mid_config k);
   reached = λ k r. goes.reached (mid_config k)
       (took steps order c mid p j position values' slots k is (subst (Allows c.values.items) (sym act) is_word) r);
-  explained = λ k can. goes.explained (mid_config k)
-      (taken_can steps order c mid p j position values' slots k is
-      (subst (λ (m : ℕ). CanBeExplained (rest_of steps c) (after c.values.items (called_at steps m).action)
-      (set (slots_of steps c) p (Taken (called_at steps m)))) (one_index (sym can.1 ∙ is)) can.2));
+  explained = λ k can. let both : kept_slot.Open can.0 ≡ kept_slot.Open j = sym can.1 ∙ is in
+      let index : can.0 ≡ j = cc in goes.explained (mid_config k)
+      (taken_can steps order c mid p j position values' slots k is (rw index at can.2));
   grows = grown order (order ++ j ∷ []) order' (j ∷ [], refl) goes.grows;
   longer = (let whole : length order' ≡ length ((order ++ j ∷ []) ++ goes.grows.0) = ap length goes.grows.1 in
       let last = length-append (order ++ j ∷ []) goes.grows.0 in

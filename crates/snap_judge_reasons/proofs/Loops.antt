@@ -2,15 +2,12 @@
 use Rattle.std.proofs.Common.{◌≡◌, ℕ, ◌+◌, ◌<◌, ◌≤◌, List, length, get_or, take, subst}
 use Rattle.std.specs.List.{All, Contains}
 use Rattle.std.proofs.lemmas.List.{take_all}
-use Rattle.std.proofs.lemmas.List.Elements.{All-more}
-
-pub all_contained : {X : Type 0} (P : X → Type 0) (x : X) (xs : List X) → All P xs → Contains xs x → P x
-all_contained P x xs all has = subst P has.2 (all has.0 x has.1)
+use Rattle.std.proofs.lemmas.List.Elements.{All-contains, All-more}
 
 -- What holds of each of the first elements holds of each, where there are no more.
 pub all_taken : {X : Type 0} (P : X → Type 0) (xs : List X) (i : ℕ) → length xs ≤ i → All P (take i xs) →
     (x : X) → Contains xs x → P x
-all_taken P xs i le all x has = all_contained P x xs (subst (All P) (take_all i xs le) all) has
+all_taken P xs i le all x has = All-contains P xs x (subst (All P) (take_all i xs le) all) has
 
 pub all_of : {X : Type 0} (P : X → Type 0) (xs : List X) (i : ℕ) → length xs ≤ i → All P (take i xs) → All P xs
 all_of P xs i le all = subst (All P) (take_all i xs le) all

@@ -51,9 +51,6 @@ abbrev pub Comes : List ℕ → List Operation → (j word x : ℕ) → Type 0
 Comes values os j word x =
     LastSet os j word x ⊎ (Untouched os j word × (slice_index_or values (word - 1) 0 ≡ x))
 
-one_word : (w y word x : ℕ) → Sets w y ≡ Sets word x → w ≡ word
-one_word w y word x same = cc
-
 -- One more operation in front, which sets the word, or does not.
 later_set : (o : Operation) (os : List Operation) (j word x : ℕ) → LastSet os j word x → LastSet (o ∷ os) (suc j) word x
 later_set o os j word x l = record {
@@ -102,7 +99,7 @@ before_others values o os j word x (Sets w y) positive acts allows rest is = eli
       ∙ ap (λ n. slice_index_or (slice_set values (w - 1) y) n 0) place ∙ is in
       inl (first_set o os j word x (acts ∙ ap (λ n. Sets n y) same ∙ ap (Sets word) value) rest))
   | inr other ↦ (let low : 0 < w = allows.0 in inr (
-    untouched_later o os j word (λ z sets. other (one_word w y word z (sym acts ∙ sets))) rest,
+    untouched_later o os j word (λ z sets. other (let both : Sets w y ≡ Sets word z = sym acts ∙ sets in cc)) rest,
     sym (get_or-set_other values (w - 1) (word - 1) y 0 (λ same. other (omega (arith, same)))) ∙ is,
   ))
 ]

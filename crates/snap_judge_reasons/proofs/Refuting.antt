@@ -17,7 +17,7 @@ use Rattle.snap_judge_reasons.specs.declared.reason.Reason.{Reason}
 use Rattle.snap_judge_reasons.specs.Reasons.{AreGrounds, CirclesRefute, FromAnUpdate, FromTheBeginning, HasMissed}
 use Rattle.snap_judge_reasons.specs.Reasons.{HasSeen, IsCircle, IsNeverSet, IsSetOnlyAt, IsChain, ShowsUnset}
 use Rattle.snap_judge_reasons.specs.Reasons.{StoodBefore}
-use Rattle.snap_judge_reasons.proofs.Loops.{all_contained}
+use Rattle.std.proofs.lemmas.List.Elements.{All-contains}
 use Rattle.snap_judge_reasons.proofs.Origins.{IsAt, LastSet, at_index, at_within, comes, index_at, one_at}
 
 zero_there : (n k : ℕ) → ◌≡◌ {A = ℕ} (slice_index_or (replicate n 0) k 0) 0
@@ -25,18 +25,13 @@ zero_there zero k = refl
 zero_there (suc n) zero = refl
 zero_there (suc n) (suc k) = zero_there n k
 
-sees_not_sets : (view : List ℕ) (word value : ℕ) (a : Action) → a ≡ Sees view → a ≡ Sets word value → ⊥
-sees_not_sets view word value a sees sets = let no : Sees view ≡ Sets word value = sym sees ∙ sets in cc
-
 -- A scan that a history tells of has ended.
 scan_ended : (h : History) (s : Operation) (view : List ℕ) → IsOperationOf h s → s.action ≡ Sees view → HasEnded s
-scan_ended h s view is sees = decided s.end refl
+scan_ended h s view is sees = decided s.end refl (rw sees at is.came)
   where
-    decided : (end : Option ℕ) → s.end ≡ end → HasEnded s
-    decided (Some t) at = (t, at)
-    decided None at =
-        absurd (subst (CameToEnd h.events s.process s.call None) sees
-        (subst (λ (n : Option ℕ). CameToEnd h.events s.process s.call n s.action) at is.came))
+    decided : (end : Option ℕ) → s.end ≡ end → CameToEnd h.events s.process s.call end (Sees view) → HasEnded s
+    decided (Some t) at came = (t, at)
+    decided None at came = absurd came
 
 -- Operation o stands before place k.
 abbrev StandsBefore : List Operation → ℕ → Operation → Type 0
@@ -57,23 +52,22 @@ module _ (h : History) (is : IsHistory h) (os : List Operation) (l : IsLineariza
   in_order : (j k : ℕ) (a b : Operation) → IsAt os j a → IsAt os k b → EndedBefore a b → j < k
   in_order j k a b at at' ended =
       l.order j k a (at_within os j a at) (at_within os k b at')
-      (subst (λ x. EndedBefore x (slice_index_or os k a)) (sym (at_index os j a a at))
-      (subst (λ x. EndedBefore a x) (sym (at_index os k b a at')) ended))
+      (rw (at_index os j a a at, at_index os k b a at') ended)
 
   -- The one operation that sets the word to the value.
   only_setter : (m : ℕ) (o u : Operation) (word value : ℕ) → IsAt os m o → o.action ≡ Sets word value →
       IsOperationOf h u → IsSetOnlyAt h.events u.call word value → o ≡ u
   only_setter m o u word value at sets its only =
       (are_sound h is).same_call o u (told m o at) its
-      (all_contained (λ (e : Event). e.what ≡ what.Call (op.Update word value) → e.item ≡ u.call)
-      (event o.process o.call (what.Call (called_as o.action))) h.events only (told m o at).called
+      (All-contains (λ (e : Event). e.what ≡ what.Call (op.Update word value) → e.item ≡ u.call) h.events
+      (event o.process o.call (what.Call (called_as o.action))) only (told m o at).called
       (ap (λ (a : Action). what.Call (called_as a)) sets))
 
   no_setter : (m : ℕ) (o : Operation) (word value : ℕ) → IsAt os m o → o.action ≡ Sets word value →
       IsNeverSet h.events word value → ⊥
   no_setter m o word value at sets never =
-      all_contained (λ (e : Event). e.what ≡ what.Call (op.Update word value) → ⊥)
-      (event o.process o.call (what.Call (called_as o.action))) h.events never (told m o at).called
+      All-contains (λ (e : Event). e.what ≡ what.Call (op.Update word value) → ⊥) h.events
+      (event o.process o.call (what.Call (called_as o.action))) never (told m o at).called
       (ap (λ (a : Action). what.Call (called_as a)) sets)
 
   -- An update that was seen stands before the scan.
@@ -124,9 +118,9 @@ module _ (h : History) (is : IsHistory h) (os : List Operation) (l : IsLineariza
   missed_before s u k its missed at =
       let here = stands s its (scan_ended h s missed.view its missed.sees) in
       elim (cases_order here.0 k) [
-        | inl same ↦ absurd (sees_not_sets missed.view missed.word missed.value u.action
-            (ap (λ (z : Operation). z.action)
-            (one_at os k u s at (subst (λ m. IsAt os m s) same here.1)) ∙ missed.sees) missed.sets)
+        | inl same ↦ absurd (let one : u ≡ s = one_at os k u s at (rw same at here.1) in
+            let no : Sees missed.view ≡ Sets missed.word missed.value =
+            sym missed.sees ∙ ap (λ (z : Operation). z.action) (sym one) ∙ missed.sets in cc)
         | inr rest ↦ elim rest [
           | inl less ↦ (here.0, here.1, less)
           | inr more ↦ absurd (not_before s u here.0 k missed here.1 at more)

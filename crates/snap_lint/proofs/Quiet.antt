@@ -57,8 +57,6 @@ sum_quiet : (x y : ℕ) → IsQuiet (checked_sum x y)
 sum_quiet x y = quiet_either (nat_lt (x + y) (2 ^ 64)) _ _ (quiet_ok _) (fault ℕ cause.Overflow refl)
 
 term_quiet : (c : Context) (t : Term) → IsQuiet (term_value c t)
-term_quiet c (term.Index i) = quiet_ok _
-term_quiet c term.Arg = quiet_ok _
 term_quiet c (term.Row x i) =
     quiet_then {A = ℕ} (place_in (places c.shape) (index_value c i)) _
     (place_quiet (places c.shape) (index_value c i)) (λ k. quiet_ok _)
@@ -70,6 +68,7 @@ term_quiet c (term.Handshake x i j) =
     (place_quiet (places c.shape) (index_value c i)) (λ k.
     quiet_then {A = ℕ} (place_in c.shape.n (index_value c j)) _
     (place_quiet c.shape.n (index_value c j)) (λ h. quiet_ok _))
+term_quiet c _ = quiet_ok _
 
 pub expr_quiet : (c : Context) (e : Expr) → IsQuiet (expr_value c e)
 expr_quiet c (expr.Term t) = term_quiet c t

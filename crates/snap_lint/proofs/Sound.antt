@@ -40,10 +40,9 @@ use Rattle.snap_lint.proofs.Warned.{warning_at}
 
 -- a process is where control may come and updates no word of another one, or it has trapped where that is warned of
 abbrev IsInFlow : Source → (who : ℕ) → Status → Type 0
-IsInFlow s who Idle = Unit {0}
 IsInFlow s who (Busy a) = MayStand s a.op a.link a.line × OwnsWord s.kind who a.op
 IsInFlow s who (Trapped why a) = IsWarnedOf s a.line why
-IsInFlow s who (Crashed was) = Unit {0}
+IsInFlow s who _ = Unit {0}
 
 -- each of some processes is, by its number
 abbrev AreInFlow : Source → List Process → Type 0
@@ -107,16 +106,13 @@ module _ (s : Source) (listing : IsListing s) (shape : Counts) where
       OwnsWord s.kind (suc (i - 1)) a.op → Keeps s a.line a.op r → StateInFlow s (leave S i a l r).0
   unfolding Keeps
   leave_keeps S i a l (Ok (Goes m k link line)) h owns keeps = set_in s S.processes (i - 1) _ (keeps, owns) h
-  leave_keeps S i a l (Ok (Answers v)) h owns keeps = set_in s S.processes (i - 1) _ tt h
-  leave_keeps S i a l (Ok Finishes) h owns keeps = set_in s S.processes (i - 1) _ tt h
   leave_keeps S i a l (Err e) h owns keeps = set_in s S.processes (i - 1) _ keeps h
+  leave_keeps S i a l _ h owns keeps = set_in s S.processes (i - 1) _ tt h
 
   step_keeps : (S : State) (i : ℕ) (p : Process) (status : Status) → IsOneOf shape.n i → StateInFlow s S →
       IsInFlow s (suc (i - 1)) status → StateInFlow s (step s shape S i p status).0
-  step_keeps S i p Idle one h own = h
-  step_keeps S i p (Trapped why a) one h own = h
-  step_keeps S i p (Crashed was) one h own = h
   step_keeps S i p (Busy a) one h own = leave_keeps S i a p.locals _ h own.1 (taken i p a S.memory one own)
+  step_keeps S i p _ one h own = h
 
   entry_comes : (o : Op) → MayStand s o None (entry s o)
   entry_comes Scan = record { here = scan_begins s listing.targets.0; after_call = tt }
@@ -124,9 +120,8 @@ module _ (s : Source) (listing : IsListing s) (shape : Counts) where
 
   -- a call that is not skipped is of no update of another process's word
   by_owner : (k : KindTag) (i word : ℕ) → owner_skip k i word ≡ None → has_owners k ≡ true → word ≡ i
-  by_owner kind.Seq i word is has = eqb-true word i (either_none (nat_eq word i) _ is)
-  by_owner kind.Bits i word is has = eqb-true word i (either_none (nat_eq word i) _ is)
   by_owner kind.Multi i word is has = absurd (let e : false ≡ true = has in cc)
+  by_owner _ i word is has = eqb-true word i (either_none (nat_eq word i) _ is)
 
   call_owns : (i : ℕ) (o : Op) → call_skip s.kind shape i o ≡ None → OwnsWord s.kind i o
   call_owns i Scan is = tt
@@ -142,17 +137,14 @@ module _ (s : Source) (listing : IsListing s) (shape : Counts) where
 
   call_keeps : (S : State) (i : ℕ) (o : Op) (p : Process) (status : Status) → IsOneOf shape.n i → StateInFlow s S →
       StateInFlow s (call s shape S i o p status).0
-  call_keeps S i o p (Trapped e a) one h = h
-  call_keeps S i o p (Crashed was) one h = h
-  call_keeps S i o p (Busy a) one h = h
   call_keeps S i o p Idle one h = called_keeps S i p o (call_skip s.kind shape i o) one refl h
+  call_keeps S i o p _ one h = h
 
   crash_keeps : (S : State) (i : ℕ) (p : Process) (status : Status) → StateInFlow s S →
       StateInFlow s (crash S i p status).0
-  crash_keeps S i p (Trapped e a) h = h
-  crash_keeps S i p (Crashed was) h = h
   crash_keeps S i p (Busy a) h = set_in s S.processes (i - 1) _ tt h
   crash_keeps S i p Idle h = set_in s S.processes (i - 1) _ tt h
+  crash_keeps S i p _ h = h
 
   done_keeps : (S : State) (x : Item) → IsOneOf shape.n (who x) → StateInFlow s S → StateInFlow s (done s shape S x).0
   done_keeps S (Step i) one h = step_keeps S i (process_at S i) (process_at S i).status one h (process_in S h i)
@@ -172,9 +164,8 @@ module _ (s : Source) (listing : IsListing s) (shape : Counts) where
 
   -- the first items are of processes
   front_of : (t : ℕ) (items : List Item) → AreOfProcesses shape items → AreOfProcesses shape (take t items)
-  front_of zero items all = tt
-  front_of (suc t) [] all = tt
   front_of (suc t) (x ∷ xs) all = (all.0, front_of t xs all.1)
+  front_of _ _ all = tt
 
   state_in : (items : List Item) (t : ℕ) → AreOfProcesses shape items →
       StateInFlow s (state (run_of_items s shape items) t)
@@ -199,11 +190,9 @@ module _ (s : Source) (listing : IsListing s) (shape : Counts) where
 
   step_trap : (S : State) (i : ℕ) (p : Process) (status : Status) (why : Cause) → IsOneOf shape.n i →
       IsInFlow s (suc (i - 1)) status → (step s shape S i p status).1 ≡ outcome.Trapped why → WarnedSomewhere why
-  step_trap S i p Idle why one own is = absurd (cc)
-  step_trap S i p (Trapped e a) why one own is = absurd (cc)
-  step_trap S i p (Crashed was) why one own is = absurd (cc)
   step_trap S i p (Busy a) why one own is =
       (a.line, left_trap S i a p.locals _ why (taken i p a S.memory one own) is)
+  step_trap S i p _ why one own is = absurd (cc)
 
   called_trap : (S : State) (i : ℕ) (p : Process) (o : Op) (skip : Option Reason) (why : Cause) →
       (called s S i p o skip).1 ≡ outcome.Trapped why → WarnedSomewhere why
@@ -212,17 +201,13 @@ module _ (s : Source) (listing : IsListing s) (shape : Counts) where
 
   call_trap : (S : State) (i : ℕ) (o : Op) (p : Process) (status : Status) (why : Cause) →
       (call s shape S i o p status).1 ≡ outcome.Trapped why → WarnedSomewhere why
-  call_trap S i o p (Trapped e a) why is = absurd (cc)
-  call_trap S i o p (Crashed was) why is = absurd (cc)
-  call_trap S i o p (Busy a) why is = absurd (cc)
   call_trap S i o p Idle why is = called_trap S i p o (call_skip s.kind shape i o) why is
+  call_trap S i o p _ why is = absurd (cc)
 
   crash_trap : (S : State) (i : ℕ) (p : Process) (status : Status) (why : Cause) →
       (crash S i p status).1 ≡ outcome.Trapped why → WarnedSomewhere why
   crash_trap S i p (Trapped e a) why is = absurd (cc)
-  crash_trap S i p (Crashed was) why is = absurd (cc)
-  crash_trap S i p (Busy a) why is = absurd (cc)
-  crash_trap S i p Idle why is = absurd (cc)
+  crash_trap S i p _ why is = absurd (cc)
 
   item_trap : (S : State) (x : Item) (why : Cause) → IsOneOf shape.n (who x) → StateInFlow s S →
       (done s shape S x).1 ≡ outcome.Trapped why → WarnedSomewhere why

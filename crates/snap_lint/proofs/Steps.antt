@@ -84,9 +84,8 @@ pub record MayStand (s : Source) (o : Op) (link : Option ℕ) (line : ℕ) : Typ
 -- what a step at line k leaves is as it may be
 unfoldable pub Keeps : Source → ℕ → Op → Result Effect Cause → Type 0
 Keeps s k o (Ok (Goes m l link line)) = MayStand s o link line
-Keeps s k o (Ok (Answers v)) = Unit {0}
-Keeps s k o (Ok Finishes) = Unit {0}
 Keeps s k o (Err e) = IsWarnedOf s k e
+Keeps s k o _ = Unit {0}
 
 -- the lines at which control begins in a mode
 abbrev starts : Source → Mode → List ℕ
@@ -97,9 +96,7 @@ starts s mode.UpdateCall = callees s.lines (reach_of s).update
 
 reached_in : (s : Source) (m : Mode) → lines_in (reach_of s) m ≡ reached s.lines (edges s.lines (way_of m)) (starts s m)
 reached_in s mode.Scan = refl
-reached_in s mode.ScanCall = refl
-reached_in s mode.Update = refl
-reached_in s mode.UpdateCall = refl
+reached_in s _ = refl
 
 -- the mode of a call in a mode
 abbrev call_of : Mode → Mode
@@ -173,39 +170,21 @@ same n = eq-eqb n n refl
 
 -- a process may write a register of its own
 own : (k : KindTag) (b : Bank) (n : ℕ) → may_write k n b n ≡ true
-own kind.Seq b n = same n
-own kind.Bits b n = same n
 own kind.Multi bank.R n = refl
-own kind.Multi bank.Q n = same n
-own kind.Multi bank.P n = same n
-own kind.Multi bank.V n = same n
+own _ _ n = same n
 
 shared : (k : KindTag) (b : Bank) (who n : ℕ) → is_shared k b ≡ true → may_write k who b n ≡ true
-shared kind.Seq b who n is = absurd (let e : false ≡ true = is in cc)
-shared kind.Bits b who n is = absurd (let e : false ≡ true = is in cc)
 shared kind.Multi bank.R who n is = refl
-shared kind.Multi bank.Q who n is = absurd (let e : false ≡ true = is in cc)
-shared kind.Multi bank.P who n is = absurd (let e : false ≡ true = is in cc)
-shared kind.Multi bank.V who n is = absurd (let e : false ≡ true = is in cc)
+shared _ _ who n is = absurd (let e : false ≡ true = is in cc)
 
 mine : (k : KindTag) (c : Context) (b : Bank) (x : Index) → is_me x ≡ true → may_write k c.me b (index_value c x) ≡ true
-mine k c b (index.Number n) is = absurd (let e : false ≡ true = is in cc)
-mine k c b index.Processes is = absurd (let e : false ≡ true = is in cc)
-mine k c b index.Words is = absurd (let e : false ≡ true = is in cc)
 mine k c b index.Me is = own k b c.me
-mine k c b index.Word is = absurd (let e : false ≡ true = is in cc)
-mine k c b index.Place is = absurd (let e : false ≡ true = is in cc)
-mine k c b (index.Scalar x) is = absurd (let e : false ≡ true = is in cc)
+mine k c b _ is = absurd (let e : false ≡ true = is in cc)
 
 -- the index `word`
 the_word : (c : Context) (x : Index) → is_word x ≡ true → index_value c x ≡ word_of c.op
-the_word c (index.Number n) is = absurd (let e : false ≡ true = is in cc)
-the_word c index.Processes is = absurd (let e : false ≡ true = is in cc)
-the_word c index.Words is = absurd (let e : false ≡ true = is in cc)
-the_word c index.Me is = absurd (let e : false ≡ true = is in cc)
 the_word c index.Word is = refl
-the_word c index.Place is = absurd (let e : false ≡ true = is in cc)
-the_word c (index.Scalar x) is = absurd (let e : false ≡ true = is in cc)
+the_word c _ is = absurd (let e : false ≡ true = is in cc)
 
 of_update : (k : KindTag) (who : ℕ) (o : Op) (link : Option ℕ) → OwnsWord k who o → has_owners k ≡ true →
     is_in_update (mode_of o link) ≡ true → word_of o ≡ who
@@ -214,9 +193,8 @@ of_update k who op.Scan (Some link) owns has is = absurd (let e : false ≡ true
 of_update k who (op.Update word value) link owns has is = owns has
 
 written : (k : KindTag) (who n : ℕ) (b : Bank) → has_owners k ≡ true → n ≡ who → may_write k who b n ≡ true
-written kind.Seq who n b has is = eq-eqb n who is
-written kind.Bits who n b has is = eq-eqb n who is
 written kind.Multi who n b has is = absurd (let e : false ≡ true = has in cc)
+written _ who n b has is = eq-eqb n who is
 
 module _ (k : KindTag) (c : Context) (o : Op) (link : Option ℕ) (same_op : c.op ≡ o) (owns : OwnsWord k c.me o) where
   own_word : (b : Bank) (x : Index) → is_own_word k (mode_of o link) x ≡ true →
@@ -248,9 +226,7 @@ outside (op.Update word value) target = refl
 -- no mode ends at a write
 writes_on : (m : Mode) (x : Index) (t : Tuple) → may_go_on (way_of m) (Put x t) ≡ true
 writes_on mode.Scan x t = refl
-writes_on mode.ScanCall x t = refl
-writes_on mode.Update x t = refl
-writes_on mode.UpdateCall x t = refl
+writes_on _ x t = refl
 
 module _ (s : Source) (listing : IsListing s) (k : ℕ) (i : Instr) (here : instr_at s.lines k ≡ Some i) (o : Op) where
   there : AllByRecursion (λ n. has_line s.lines n ≡ true) (instr_targets i)
@@ -349,10 +325,9 @@ module _ (s : Source) (k : ℕ) (x : Name) (here : instr_at s.lines k ≡ Some (
   returns : (o : Op) (m : Memory) (l : Locals) (v : List ℕ) (link : Option ℕ) → MayStand s o link k →
       Keeps s k o (return_goes m l v o link)
   unfolding Keeps
-  returns op.Scan m l v (Some link) stand = record { here = stand.after_call; after_call = tt }
-  returns (op.Update word value) m l v (Some link) stand = record { here = stand.after_call; after_call = tt }
   returns op.Scan m l v None stand = tt
   returns (op.Update word value) m l v None stand = bad_end_warned s k (Return x) here mode.Update stand.here refl
+  returns _ m l v (Some link) stand = record { here = stand.after_call; after_call = tt }
 
 module _ (s : Source) (k : ℕ) (here : instr_at s.lines k ≡ Some Finish) where
   finishes : (o : Op) (link : Option ℕ) → MayStand s o link k → Keeps s k o (finish_goes o link)

@@ -31,8 +31,7 @@ words_again (w ∷ ws) =
 pub kind_again : (k : KindTag) → kind_form (spelled_kind k) ≡ Some k
 unfolding kind_form
 kind_again kind.Seq = refl
-kind_again kind.Bits = refl
-kind_again kind.Multi = refl
+kind_again _ = refl
 
 pub names_again : (keyword : List ℕ) (names : List Name) → names_form keyword (spelled_names keyword names) ≡ Some names
 unfolding names_form

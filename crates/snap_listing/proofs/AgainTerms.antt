@@ -33,18 +33,13 @@ use Rattle.snap_semantics.specs.Source.{Name}
 use Rattle.snap_semantics.specs.Spelling.{in_brackets, spelled_index, spelled_place, field_keyword, spelled_term}
 use Rattle.snap_semantics.specs.Spelling.{spelled_expr, spelled_relation, spelled_comparison, spelled_condition}
 use Rattle.snap_semantics.specs.Token.{Token, Identifier, Sign}
-use Rattle.snap_semantics.specs.Uses.{Use, Named, BankUse, FieldUse, HandshakeUse, ViewUse, TupleUse, index_uses}
-use Rattle.snap_semantics.specs.Uses.{term_uses, expr_uses, comparison_uses, condition_uses}
+use Rattle.snap_semantics.specs.Uses.{Use, Named, index_uses, term_uses, expr_uses, comparison_uses, condition_uses}
 use Rattle.snap_listing.proofs.Alls.{all_first, all_rest}
 
 -- what a use names is a name
 abbrev pub IsNamed : Use → Type 0
 IsNamed (Named wanted x) = IsName x
-IsNamed (BankUse b) = Unit {0}
-IsNamed (FieldUse f) = Unit {0}
-IsNamed HandshakeUse = Unit {0}
-IsNamed ViewUse = Unit {0}
-IsNamed (TupleUse k) = Unit {0}
+IsNamed _ = Unit {0}
 
 abbrev pub Names : List Use → Type 0
 Names us = AllByRecursion IsNamed us
@@ -56,26 +51,26 @@ pub names_rest : (us vs : List Use) → Names (us ++ vs) → Names vs
 names_rest us vs h = all_rest IsNamed us vs h
 
 -- a rule finds x, and the next rule goes on from there
-pub then_is : {A B : Type 0} (o : Option A) (x : A) (f : A → Option B) (r : Option B) →
-    o ≡ Some x → f x ≡ r → (o >>= f) ≡ r
-then_is {A = A} o x f r e g = ap (λ (p : Option A). p >>= f) e ∙ g
+pub then_is : {A B : Type 0} {o : Option A} {x : A} {r : Option B} (f : A → Option B) → o ≡ Some x → f x ≡ r →
+    (o >>= f) ≡ r
+then_is {A = A} f e g = ap (λ (p : Option A). p >>= f) e ∙ g
 
-pub then_none : {A B : Type 0} (o : Option A) (f : A → Option B) → o ≡ None → (o >>= f) ≡ None
-then_none {A = A} o f e = ap (λ (p : Option A). p >>= f) e
+pub then_none : {A B : Type 0} {o : Option A} (f : A → Option B) → o ≡ None → (o >>= f) ≡ None
+then_none {A = A} f e = ap (λ (p : Option A). p >>= f) e
 
-pub or_first : {A : Type 0} (o p : Option A) (x : A) → o ≡ Some x → or_else o p ≡ Some x
-or_first {A = A} o p x e = ap (λ (y : Option A). or_else y p) e
+pub or_first : {A : Type 0} {o : Option A} {x : A} (p : Option A) → o ≡ Some x → or_else o p ≡ Some x
+or_first {A = A} p e = ap (λ (y : Option A). or_else y p) e
 
-pub or_second : {A : Type 0} (o p r : Option A) → o ≡ None → p ≡ r → or_else o p ≡ r
-or_second {A = A} o p r e g = ap (λ (y : Option A). or_else y p) e ∙ g
+pub or_second : {A : Type 0} {o p r : Option A} → o ≡ None → p ≡ r → or_else o p ≡ r
+or_second {A = A} {p = p} e g = ap (λ (y : Option A). or_else y p) e ∙ g
 
-pub if_not : {A : Type 0} (b : Bool) (o p r : Option A) → b ≡ false → p ≡ r → (if b then o else p) ≡ r
-if_not true o p r e g = absurd cc
-if_not false o p r e g = g
+pub if_not : {A : Type 0} {b : Bool} {p r : Option A} (o : Option A) → b ≡ false → p ≡ r → (if b then o else p) ≡ r
+if_not {b = true} o e g = absurd cc
+if_not {b = false} o e g = g
 
-pub if_yes : {A : Type 0} (b : Bool) (o p r : Option A) → b ≡ true → o ≡ r → (if b then o else p) ≡ r
-if_yes true o p r e g = g
-if_yes false o p r e g = absurd cc
+pub if_yes : {A : Type 0} {b : Bool} {o r : Option A} (p : Option A) → b ≡ true → o ≡ r → (if b then o else p) ≡ r
+if_yes {b = true} p e g = g
+if_yes {b = false} p e g = absurd cc
 
 free_name : (x : Name) → IsName x → is_reserved x ≡ false
 free_name x h = (or_parts (nat_lt 8 (length x)) (is_reserved x) h.1).1
@@ -93,25 +88,25 @@ no_word x w h g = not_by x w (bytes_eq x w) refl (free_name x h) g
 
 pub no_keyword : (x : Name) (w : List ℕ) (rest : List Token) → IsName x → is_reserved w ≡ true →
     keyword_at w (Identifier x ∷ rest) ≡ None
-no_keyword x w rest h g = if_not (bytes_eq x w) _ _ _ (no_word x w h g) refl
+no_keyword x w rest h g = if_not _ (no_word x w h g) refl
 
 pub name_again : (x : Name) → IsName x → name_of_identifier x ≡ Some x
 name_again x h =
     let n = short_name x h in let m : length x ≤ 9 = omega (arith, n) in
-    if_not (is_reserved x) _ _ _ (free_name x h)
+    if_not _ (free_name x h)
     (ap (λ (y : List ℕ). let o : Option Name = Some y in o) (take_all 9 x m))
 
 pub name_read : (x : Name) (rest : List Token) → IsName x → name_at (Identifier x ∷ rest) ≡ Some (x, rest)
 unfolding name_at
-name_read x rest h = then_is (name_of_identifier x) x _ _ (name_again x h) refl
+name_read x rest h = then_is _ (name_again x h) refl
 
 index_of_name : (x : Name) → IsName x → index_of_identifier x ≡ Some (index.Scalar x)
 index_of_name x h =
-    if_not (bytes_eq x (codes "n")) _ _ _ (no_word x (codes "n") h refl)
-    (if_not (bytes_eq x (codes "w")) _ _ _ (no_word x (codes "w") h refl)
-    (if_not (bytes_eq x (codes "me")) _ _ _ (no_word x (codes "me") h refl)
-    (if_not (bytes_eq x (codes "word")) _ _ _ (no_word x (codes "word") h refl)
-    (then_is (name_of_identifier x) x _ _ (name_again x h) refl))))
+    if_not _ (no_word x (codes "n") h refl)
+    (if_not _ (no_word x (codes "w") h refl)
+    (if_not _ (no_word x (codes "me") h refl)
+    (if_not _ (no_word x (codes "word") h refl)
+    (then_is _ (name_again x h) refl))))
 
 place_read : (q : Bool) (rest : List Token) → q ≡ true → index_at q (Sign symbol.At ∷ rest) ≡ Some (index.Place, rest)
 unfolding index_at number_index place_index identifier_index
@@ -121,35 +116,29 @@ place_read false rest h = absurd cc
 scalar_read : (q : Bool) (x : Name) (rest : List Token) → IsName x →
     index_at q (Identifier x ∷ rest) ≡ Some (index.Scalar x, rest)
 unfolding index_at number_index place_index identifier_index
-scalar_read q x rest h = then_is (index_of_identifier x) (index.Scalar x) _ _ (index_of_name x h) refl
+scalar_read q x rest h = then_is _ (index_of_name x h) refl
 
 pub index_again : (q : Bool) (i : Index) (rest : List Token) → HasIndex q i → Names (index_uses i) →
     index_at q (spelled_index i ++ rest) ≡ Some (i, rest)
 unfolding index_at number_index place_index identifier_index
-index_again q (index.Number k) rest h names = refl
-index_again q index.Processes rest h names = refl
-index_again q index.Words rest h names = refl
-index_again q index.Me rest h names = refl
-index_again q index.Word rest h names = refl
-index_again q index.Place rest h names = place_read q rest h
-index_again q (index.Scalar x) rest h names = scalar_read q x rest names.0
+index_again q index.Place rest h names = place_read q _ h
+index_again q (index.Scalar x) rest h names = scalar_read q x _ names.0
+index_again q _ rest h names = refl
 
 pub bracket_again : (q : Bool) (i : Index) (rest : List Token) → HasIndex q i → Names (index_uses i) →
     place_at q (in_brackets (spelled_index i) ++ rest) ≡ Some (i, rest)
 unfolding place_at
 bracket_again q i rest h names =
     let close : List Token = Sign symbol.CloseBracket ∷ [] in
-    then_is (index_at q ((spelled_index i ++ close) ++ rest)) (i, Sign symbol.CloseBracket ∷ rest) _ _
-    (ap (λ (ts : List Token). index_at q ts) (append_assoc (spelled_index i) close rest)
+    then_is _ (ap (λ (ts : List Token). index_at q ts) (append_assoc (spelled_index i) close rest)
     ∙ index_again q i (Sign symbol.CloseBracket ∷ rest) h names) refl
 
 pub place_again : (q : Bool) (x : Name) (i : Index) (rest : List Token) → HasIndex q i → IsName x →
     Names (index_uses i) → named_place_at q (spelled_place x i ++ rest) ≡ Some ((x, i), rest)
 unfolding named_place_at
 place_again q x i rest h name names =
-    let tail : List Token = in_brackets (spelled_index i) ++ rest in
-    then_is (name_at (Identifier x ∷ tail)) (x, tail) _ _ (name_read x tail name)
-    (then_is (place_at q tail) (i, rest) _ _ (bracket_again q i rest h names) refl)
+    then_is _ (name_read x _ name)
+    (then_is _ (bracket_again q i rest h names) refl)
 
 -- what stands behind a term is no bracket
 abbrev pub NoBracket : List Token → Type 0
@@ -157,65 +146,60 @@ NoBracket rest = symbol_at symbol.OpenBracket rest ≡ None
 
 no_place : (q : Bool) (rest : List Token) → NoBracket rest → place_at q rest ≡ None
 unfolding place_at
-no_place q rest e = then_none (symbol_at symbol.OpenBracket rest) _ e
+no_place q rest e = then_none _ e
 
 no_named_place : (q : Bool) (x : Name) (rest : List Token) → IsName x → NoBracket rest →
     named_place_at q (Identifier x ∷ rest) ≡ None
 unfolding named_place_at
 no_named_place q x rest h e =
-    then_is (name_at (Identifier x ∷ rest)) (x, rest) _ _ (name_read x rest h)
-    (then_none (place_at q rest) _ (no_place q rest e))
+    then_is _ (name_read x _ h)
+    (then_none _ (no_place q rest e))
 
 no_arg : (x : Name) (rest : List Token) → IsName x → arg_term (Identifier x ∷ rest) ≡ None
 unfolding arg_term
-no_arg x rest h = then_none (keyword_at (codes "arg") (Identifier x ∷ rest)) _ (no_keyword x (codes "arg") rest h refl)
+no_arg x rest h = then_none _ (no_keyword x (codes "arg") _ h refl)
 
 no_row : (q : Bool) (x : Name) (rest : List Token) → IsName x → NoBracket rest → row_term q (Identifier x ∷ rest) ≡ None
 unfolding row_term
-no_row q x rest h e = then_none (named_place_at q (Identifier x ∷ rest)) _ (no_named_place q x rest h e)
+no_row q x rest h e = then_none _ (no_named_place q x _ h e)
 
 no_field_word : (x : Name) → IsName x → field_of_keyword x ≡ None
 no_field_word x h =
-    if_not (bytes_eq x (codes "seq")) _ _ _ (no_word x (codes "seq") h refl)
-    (if_not (bytes_eq x (codes "data")) _ _ _ (no_word x (codes "data") h refl)
-    (if_not (bytes_eq x (codes "toggle")) _ _ _ (no_word x (codes "toggle") h refl)
-    (if_not (bytes_eq x (codes "id")) _ _ _ (no_word x (codes "id") h refl) refl)))
+    if_not _ (no_word x (codes "seq") h refl)
+    (if_not _ (no_word x (codes "data") h refl)
+    (if_not _ (no_word x (codes "toggle") h refl)
+    (if_not _ (no_word x (codes "id") h refl) refl)))
 
 no_field : (q : Bool) (x : Name) (rest : List Token) → IsName x → field_term q (Identifier x ∷ rest) ≡ None
 unfolding field_term
-no_field q x rest h = then_none (field_of_keyword x) _ (no_field_word x h)
+no_field q x rest h = then_none _ (no_field_word x h)
 
 no_handshake : (q : Bool) (x : Name) (rest : List Token) → IsName x → handshake_term q (Identifier x ∷ rest) ≡ None
 unfolding handshake_term
-no_handshake q x rest h =
-    then_none (keyword_at (codes "hand") (Identifier x ∷ rest)) _ (no_keyword x (codes "hand") rest h refl)
+no_handshake q x rest h = then_none _ (no_keyword x (codes "hand") _ h refl)
 
 scalar_term : (q : Bool) (x : Name) (rest : List Token) → IsName x → NoBracket rest →
     term_at q (Identifier x ∷ rest) ≡ Some (term.Index (index.Scalar x), rest)
 unfolding term_at index_term
 scalar_term q x rest h e =
-    or_second (arg_term (Identifier x ∷ rest)) _ _ (no_arg x rest h)
-    (or_second (row_term q (Identifier x ∷ rest)) _ _ (no_row q x rest h e)
-    (or_second (field_term q (Identifier x ∷ rest)) _ _ (no_field q x rest h)
-    (or_second (handshake_term q (Identifier x ∷ rest)) _ _ (no_handshake q x rest h)
-    (then_is (index_at q (Identifier x ∷ rest)) (index.Scalar x, rest) _ _ (scalar_read q x rest h) refl))))
+    or_second (no_arg x _ h)
+    (or_second (no_row q x _ h e)
+    (or_second (no_field q x _ h)
+    (or_second (no_handshake q x _ h)
+    (then_is _ (scalar_read q x _ h) refl))))
 
 place_term : (q : Bool) (rest : List Token) → q ≡ true →
     term_at q (Sign symbol.At ∷ rest) ≡ Some (term.Index index.Place, rest)
 unfolding term_at arg_term row_term named_place_at name_at field_term handshake_term index_term
-place_term q rest h = then_is (index_at q (Sign symbol.At ∷ rest)) (index.Place, rest) _ _ (place_read q rest h) refl
+place_term q rest h = then_is _ (place_read q _ h) refl
 
 index_term_again : (q : Bool) (i : Index) (rest : List Token) → HasIndex q i → Names (index_uses i) → NoBracket rest →
     term_at q (spelled_index i ++ rest) ≡ Some (term.Index i, rest)
 unfolding term_at arg_term row_term named_place_at name_at field_term handshake_term index_term index_at
     number_index place_index identifier_index
-index_term_again q (index.Number k) rest h names e = refl
-index_term_again q index.Processes rest h names e = refl
-index_term_again q index.Words rest h names e = refl
-index_term_again q index.Me rest h names e = refl
-index_term_again q index.Word rest h names e = refl
 index_term_again q index.Place rest h names e = place_term q rest h
 index_term_again q (index.Scalar x) rest h names e = scalar_term q x rest names.0 e
+index_term_again q _ rest h names e = refl
 
 arg_term_again : (q : Bool) (rest : List Token) → term_at q (Identifier (codes "arg") ∷ rest) ≡ Some (term.Arg, rest)
 unfolding term_at arg_term
@@ -225,10 +209,8 @@ row_term_again : (q : Bool) (x : Name) (i : Index) (rest : List Token) → HasIn
     Names (index_uses i) → term_at q (spelled_place x i ++ rest) ≡ Some (term.Row x i, rest)
 unfolding term_at row_term
 row_term_again q x i rest h name names =
-    let ts : List Token = spelled_place x i ++ rest in
-    or_second (arg_term ts) _ _ (no_arg x (in_brackets (spelled_index i) ++ rest) name)
-    (or_first (row_term q ts) _ _
-    (then_is (named_place_at q ts) ((x, i), rest) _ _ (place_again q x i rest h name names) refl))
+    or_second (no_arg x _ name)
+    (or_first _ (then_is _ (place_again q x i rest h name names) refl))
 
 -- what stands in parentheses, and the tokens behind
 pub inside : (sp rest : List Token) →
@@ -246,42 +228,31 @@ place_inside q x i rest h name names =
 field_no_row : (q : Bool) (f : Field) (rest : List Token) → row_term q (Identifier (field_keyword f) ∷ rest) ≡ None
 unfolding row_term named_place_at name_at
 field_no_row q field.Datum rest = refl
-field_no_row q field.Seq rest = refl
-field_no_row q field.Id rest = refl
-field_no_row q field.Toggle rest = refl
+field_no_row q _ rest = refl
 
 field_no_arg : (f : Field) (rest : List Token) → arg_term (Identifier (field_keyword f) ∷ rest) ≡ None
 unfolding arg_term
 field_no_arg field.Datum rest = refl
-field_no_arg field.Seq rest = refl
-field_no_arg field.Id rest = refl
-field_no_arg field.Toggle rest = refl
+field_no_arg _ rest = refl
 
 field_word_again : (f : Field) → field_of_keyword (field_keyword f) ≡ Some f
 field_word_again field.Datum = refl
-field_word_again field.Seq = refl
-field_word_again field.Id = refl
-field_word_again field.Toggle = refl
+field_word_again _ = refl
 
 field_read : (q : Bool) (f : Field) (x : Name) (i : Index) (rest : List Token) → HasIndex q i → IsName x →
     Names (index_uses i) → field_term q (spelled_term (term.Field f x i) ++ rest) ≡ Some (term.Field f x i, rest)
 unfolding field_term
 field_read q f x i rest h name names =
-    let ts : List Token = (spelled_place x i ++ Sign symbol.CloseParenthesis ∷ []) ++ rest in
-    then_is (field_of_keyword (field_keyword f)) f _ _ (field_word_again f)
-    (then_is (named_place_at q ts) ((x, i), Sign symbol.CloseParenthesis ∷ rest) _ _
-    (place_inside q x i rest h name names) refl)
+    then_is _ (field_word_again f)
+    (then_is _ (place_inside q x i rest h name names) refl)
 
 field_again : (q : Bool) (f : Field) (x : Name) (i : Index) (rest : List Token) → HasIndex q i → IsName x →
     Names (index_uses i) → term_at q (spelled_term (term.Field f x i) ++ rest) ≡ Some (term.Field f x i, rest)
 unfolding term_at
 field_again q f x i rest h name names =
-    let behind : List Token =
-    Sign symbol.OpenParenthesis ∷ ((spelled_place x i ++ Sign symbol.CloseParenthesis ∷ []) ++ rest) in
-    let ts : List Token = Identifier (field_keyword f) ∷ behind in
-    or_second (arg_term ts) _ _ (field_no_arg f behind)
-    (or_second (row_term q ts) _ _ (field_no_row q f behind)
-    (or_first (field_term q ts) _ _ (field_read q f x i rest h name names)))
+    or_second (field_no_arg f _)
+    (or_second (field_no_row q f _)
+    (or_first _ (field_read q f x i rest h name names)))
 
 -- two parts with a comma between them and a bracket behind, grouped as they are read
 pub pair_tokens : (a b : List Token) (close : Token) (rest : List Token) →
@@ -298,10 +269,9 @@ handshake_read q x i j rest g h name ni nj =
     let place = spelled_place x i in
     let last = spelled_index j in
     let behind : List Token = Sign symbol.Comma ∷ (last ++ close ∷ rest) in
-    then_is (named_place_at q (((place ++ Sign symbol.Comma ∷ last) ++ close ∷ []) ++ rest)) ((x, i), behind) _ _
-    (ap (λ (ts : List Token). named_place_at q ts) (pair_tokens place last close rest)
+    then_is _ (ap (λ (ts : List Token). named_place_at q ts) (pair_tokens place last close rest)
     ∙ place_again q x i behind g name ni)
-    (then_is (index_at q (last ++ close ∷ rest)) (j, close ∷ rest) _ _ (index_again q j (close ∷ rest) h nj) refl)
+    (then_is _ (index_again q j (close ∷ rest) h nj) refl)
 
 handshake_no_arg : (rest : List Token) → arg_term (Identifier (codes "hand") ∷ rest) ≡ None
 unfolding arg_term
@@ -320,13 +290,10 @@ handshake_again : (q : Bool) (x : Name) (i j : Index) (rest : List Token) → Ha
     term_at q (spelled_term (term.Handshake x i j) ++ rest) ≡ Some (term.Handshake x i j, rest)
 unfolding term_at
 handshake_again q x i j rest g h name ni nj =
-    let inner : List Token = spelled_place x i ++ Sign symbol.Comma ∷ spelled_index j in
-    let behind : List Token = Sign symbol.OpenParenthesis ∷ ((inner ++ Sign symbol.CloseParenthesis ∷ []) ++ rest) in
-    let ts : List Token = Identifier (codes "hand") ∷ behind in
-    or_second (arg_term ts) _ _ (handshake_no_arg behind)
-    (or_second (row_term q ts) _ _ (handshake_no_row q behind)
-    (or_second (field_term q ts) _ _ (handshake_no_field q behind)
-    (or_first (handshake_term q ts) _ _ (handshake_read q x i j rest g h name ni nj))))
+    or_second (handshake_no_arg _)
+    (or_second (handshake_no_row q _)
+    (or_second (handshake_no_field q _)
+    (or_first _ (handshake_read q x i j rest g h name ni nj))))
 
 pub term_again : (q : Bool) (t : Term) (rest : List Token) → HasTerm q t → Names (term_uses t) → NoBracket rest →
     term_at q (spelled_term t ++ rest) ≡ Some (t, rest)
@@ -344,39 +311,28 @@ NoPlus rest = symbol_at symbol.Plus rest ≡ None
 
 index_no_not : (i : Index) (rest : List Token) → Names (index_uses i) →
     keyword_at (codes "not") (spelled_index i ++ rest) ≡ None
-index_no_not (index.Number k) rest names = refl
-index_no_not index.Processes rest names = refl
-index_no_not index.Words rest names = refl
-index_no_not index.Me rest names = refl
-index_no_not index.Word rest names = refl
-index_no_not index.Place rest names = refl
-index_no_not (index.Scalar x) rest names = no_keyword x (codes "not") rest names.0 refl
+index_no_not (index.Scalar x) rest names = no_keyword x (codes "not") _ names.0 refl
+index_no_not _ rest names = refl
 
 term_no_not : (q : Bool) (t : Term) (rest : List Token) → HasTerm q t → Names (term_uses t) →
     keyword_at (codes "not") (spelled_term t ++ rest) ≡ None
 term_no_not q (term.Index i) rest h names = index_no_not i rest names
-term_no_not q term.Arg rest h names = refl
-term_no_not q (term.Row x i) rest h names =
-    no_keyword x (codes "not") (in_brackets (spelled_index i) ++ rest) names.0 refl
+term_no_not q (term.Row x i) rest h names = no_keyword x (codes "not") _ names.0 refl
 term_no_not q (term.Field field.Datum x i) rest h names = refl
-term_no_not q (term.Field field.Seq x i) rest h names = refl
-term_no_not q (term.Field field.Id x i) rest h names = refl
-term_no_not q (term.Field field.Toggle x i) rest h names = refl
-term_no_not q (term.Handshake x i j) rest h names = refl
+term_no_not q _ rest h names = refl
 
 no_not : (q : Bool) (ts : List Token) → keyword_at (codes "not") ts ≡ None → not_expr q ts ≡ None
 unfolding not_expr
-no_not q ts e = then_none (keyword_at (codes "not") ts) _ e
+no_not q ts e = then_none _ e
 
 no_plus : (q : Bool) (t : Term) (rest : List Token) → NoPlus rest → plus_expr q t rest ≡ None
 unfolding plus_expr
-no_plus q t rest e = then_none (symbol_at symbol.Plus rest) _ e
+no_plus q t rest e = then_none _ e
 
 plus_again : (q : Bool) (t u : Term) (rest : List Token) → HasTerm q u → Names (term_uses u) → NoBracket rest →
     plus_expr q t (Sign symbol.Plus ∷ (spelled_term u ++ rest)) ≡ Some (expr.Sum t u, rest)
 unfolding plus_expr
-plus_again q t u rest h names e =
-    then_is (term_at q (spelled_term u ++ rest)) (u, rest) _ _ (term_again q u rest h names e) refl
+plus_again q t u rest h names e = then_is _ (term_again q u rest h names e) refl
 
 -- a term, and the expression that it begins
 term_begun : (q : Bool) (t : Term) (x : Expr) (behind rest : List Token) → HasTerm q t → Names (term_uses t) →
@@ -385,42 +341,38 @@ term_begun : (q : Bool) (t : Term) (x : Expr) (behind rest : List Token) → Has
 unfolding expr_at term_expr
 term_begun q t x behind rest h names e g =
     let ts : List Token = spelled_term t ++ behind in
-    or_second (not_expr q ts) _ _ (no_not q ts (term_no_not q t behind h names))
-    (then_is (term_at q ts) (t, behind) _ _ (term_again q t behind h names e) g)
+    or_second (no_not q ts (term_no_not q t behind h names))
+    (then_is _ (term_again q t behind h names e) g)
 
 not_again : (q : Bool) (t : Term) (rest : List Token) → HasTerm q t → Names (term_uses t) → NoBracket rest →
     not_expr q (Identifier (codes "not") ∷ (spelled_term t ++ rest)) ≡ Some (expr.Not t, rest)
 unfolding not_expr
-not_again q t rest h names e =
-    then_is (term_at q (spelled_term t ++ rest)) (t, rest) _ _ (term_again q t rest h names e) refl
+not_again q t rest h names e = then_is _ (term_again q t rest h names e) refl
 
 not_begun : (q : Bool) (t : Term) (rest : List Token) → HasTerm q t → Names (term_uses t) → NoBracket rest →
     expr_at q (Identifier (codes "not") ∷ (spelled_term t ++ rest)) ≡ Some (expr.Not t, rest)
 unfolding expr_at
-not_begun q t rest h names e =
-    or_first (not_expr q (Identifier (codes "not") ∷ (spelled_term t ++ rest))) _ _ (not_again q t rest h names e)
+not_begun q t rest h names e = or_first _ (not_again q t rest h names e)
 
 pub expr_again : (q : Bool) (x : Expr) (rest : List Token) → HasExpr q x → Names (expr_uses x) → NoBracket rest →
     NoPlus rest → expr_at q (spelled_expr x ++ rest) ≡ Some (x, rest)
 expr_again q (expr.Term t) rest h names e p =
-    term_begun q t (expr.Term t) rest rest h names e (or_second (plus_expr q t rest) _ _ (no_plus q t rest p) refl)
+    term_begun q t (expr.Term t) rest rest h names e (or_second (no_plus q t rest p) refl)
 expr_again q (expr.Sum t u) rest h names e p =
     let us : List Token = Sign symbol.Plus ∷ (spelled_term u ++ rest) in
     ap (λ (ts : List Token). expr_at q ts) (append_assoc (spelled_term t) (Sign symbol.Plus ∷ spelled_term u) rest)
     ∙ term_begun q t (expr.Sum t u) us rest h.0 (names_first (term_uses t) (term_uses u) names) refl
-    (or_first (plus_expr q t us) _ _ (plus_again q t u rest h.1 (names_rest (term_uses t) (term_uses u) names) e))
+    (or_first _ (plus_again q t u rest h.1 (names_rest (term_uses t) (term_uses u) names) e))
 expr_again q (expr.Not t) rest h names e p = not_begun q t rest h names e
 
 relation_again : (r : Relation) (rest : List Token) → relation_at (spelled_relation r ∷ rest) ≡ Some (r, rest)
 unfolding relation_at
 relation_again relation.Equal rest = refl
-relation_again relation.Different rest = refl
-relation_again relation.Less rest = refl
+relation_again _ rest = refl
 
 relation_no_bracket : (r : Relation) (rest : List Token) → NoBracket (spelled_relation r ∷ rest)
 relation_no_bracket relation.Equal rest = refl
-relation_no_bracket relation.Different rest = refl
-relation_no_bracket relation.Less rest = refl
+relation_no_bracket _ rest = refl
 
 pub comparison_again : (q : Bool) (k : Comparison) (rest : List Token) → HasComparison q k →
     Names (comparison_uses k) → NoBracket rest → comparison_at q (spelled_comparison k ++ rest) ≡ Some (k, rest)
@@ -430,12 +382,10 @@ comparison_again q k rest h names e =
     let behind : List Token = spelled_relation k.relation ∷ right in
     ap (λ (ts : List Token). comparison_at q ts)
     (append_assoc (spelled_term k.left) (spelled_relation k.relation ∷ spelled_term k.right) rest)
-    ∙ then_is (term_at q (spelled_term k.left ++ behind)) (k.left, behind) _ _
-    (term_again q k.left behind h.0 (names_first (term_uses k.left) (term_uses k.right) names)
+    ∙ then_is _ (term_again q k.left behind h.0 (names_first (term_uses k.left) (term_uses k.right) names)
     (relation_no_bracket k.relation right))
-    (then_is (relation_at behind) (k.relation, right) _ _ (relation_again k.relation right)
-    (then_is (term_at q right) (k.right, rest) _ _
-    (term_again q k.right rest h.1 (names_rest (term_uses k.left) (term_uses k.right) names) e) refl))
+    (then_is _ (relation_again k.relation _)
+    (then_is _ (term_again q k.right rest h.1 (names_rest (term_uses k.left) (term_uses k.right) names) e) refl))
 
 -- what stands behind a condition
 abbrev pub NoJoin : List Token → Type 0
@@ -451,8 +401,7 @@ joined_again : (q : Bool) (j : Join) (k : Comparison) (rest : List Token) →
     joined_at q j (Identifier (join_keyword j) ∷ (spelled_comparison k ++ rest)) ≡ Some (k, rest)
 unfolding joined_at
 joined_again q j k rest h names e =
-    let ts : List Token = spelled_comparison k ++ rest in
-    then_is (keyword_at (join_keyword j) (Identifier (join_keyword j) ∷ ts)) ts _ _ (join_keyword_again j ts)
+    then_is _ (join_keyword_again j _)
     (comparison_again q k rest h names e)
 
 no_join_word : (j : Join) (rest : List Token) → NoJoin rest → keyword_at (join_keyword j) rest ≡ None
@@ -461,36 +410,29 @@ no_join_word Or rest h = h.2
 
 no_joined : (q : Bool) (j : Join) (rest : List Token) → NoJoin rest → joined_at q j rest ≡ None
 unfolding joined_at
-no_joined q j rest h = then_none (keyword_at (join_keyword j) rest) _ (no_join_word j rest h)
-
-join_no_bracket : (j : Join) (rest : List Token) → NoBracket (Identifier (join_keyword j) ∷ rest)
-join_no_bracket j rest = refl
+no_joined q j rest h = then_none _ (no_join_word j rest h)
 
 third_more : (q : Bool) (j : Join) (k l m o : Comparison) (rest : List Token) →
     HasComparison q o → Names (comparison_uses o) → NoJoin rest →
     third_on q j k l m (Identifier (join_keyword j) ∷ (spelled_comparison o ++ rest)) ≡ Some (Four j k l m o, rest)
 unfolding third_on
-third_more q j k l m o rest h names e =
-    let ts : List Token = Identifier (join_keyword j) ∷ (spelled_comparison o ++ rest) in
-    or_first _ _ _ (then_is (joined_at q j ts) (o, rest) _ _ (joined_again q j o rest h names e.0) refl)
+third_more q j k l m o rest h names e = or_first _ (then_is _ (joined_again q j o rest h names e.0) refl)
 
 third_end : (q : Bool) (j : Join) (k l m : Comparison) (rest : List Token) → NoJoin rest →
     third_on q j k l m rest ≡ Some (Three j k l m, rest)
 unfolding third_on
-third_end q j k l m rest e = or_second _ _ _ (then_none (joined_at q j rest) _ (no_joined q j rest e)) refl
+third_end q j k l m rest e = or_second (then_none _ (no_joined q j rest e)) refl
 
 second_more : (q : Bool) (j : Join) (k l m : Comparison) (x : Condition) (behind rest : List Token) →
     HasComparison q m → Names (comparison_uses m) → NoBracket behind → third_on q j k l m behind ≡ Some (x, rest) →
     second_on q j k l (Identifier (join_keyword j) ∷ (spelled_comparison m ++ behind)) ≡ Some (x, rest)
 unfolding second_on
-second_more q j k l m x behind rest h names e g =
-    let ts : List Token = Identifier (join_keyword j) ∷ (spelled_comparison m ++ behind) in
-    or_first _ _ _ (then_is (joined_at q j ts) (m, behind) _ _ (joined_again q j m behind h names e) g)
+second_more q j k l m x behind rest h names e g = or_first _ (then_is _ (joined_again q j m behind h names e) g)
 
 second_end : (q : Bool) (j : Join) (k l : Comparison) (rest : List Token) → NoJoin rest →
     second_on q j k l rest ≡ Some (Two j k l, rest)
 unfolding second_on
-second_end q j k l rest e = or_second _ _ _ (then_none (joined_at q j rest) _ (no_joined q j rest e)) refl
+second_end q j k l rest e = or_second (then_none _ (no_joined q j rest e)) refl
 
 or_no_and : (q : Bool) (rest : List Token) → joined_at q And (Identifier (codes "or") ∷ rest) ≡ None
 unfolding joined_at
@@ -500,27 +442,23 @@ first_more : (q : Bool) (j : Join) (k l : Comparison) (x : Condition) (behind re
     HasComparison q l → Names (comparison_uses l) → NoBracket behind → second_on q j k l behind ≡ Some (x, rest) →
     first_on q k (Identifier (join_keyword j) ∷ (spelled_comparison l ++ behind)) ≡ Some (x, rest)
 unfolding first_on
-first_more q And k l x behind rest h names e g =
-    let ts : List Token = Identifier (codes "and") ∷ (spelled_comparison l ++ behind) in
-    or_first _ _ _ (then_is (joined_at q And ts) (l, behind) _ _ (joined_again q And l behind h names e) g)
+first_more q And k l x behind rest h names e g = or_first _ (then_is _ (joined_again q And l behind h names e) g)
 first_more q Or k l x behind rest h names e g =
-    let ts : List Token = Identifier (codes "or") ∷ (spelled_comparison l ++ behind) in
-    or_second _ _ _ (then_none (joined_at q And ts) _ (or_no_and q (spelled_comparison l ++ behind)))
-    (or_first _ _ _ (then_is (joined_at q Or ts) (l, behind) _ _ (joined_again q Or l behind h names e) g))
+    or_second (then_none _ (or_no_and q (spelled_comparison l ++ behind)))
+    (or_first _ (then_is _ (joined_again q Or l behind h names e) g))
 
 first_end : (q : Bool) (k : Comparison) (rest : List Token) → NoJoin rest → first_on q k rest ≡ Some (One k, rest)
 unfolding first_on
 first_end q k rest e =
-    or_second _ _ _ (then_none (joined_at q And rest) _ (no_joined q And rest e))
-    (or_second _ _ _ (then_none (joined_at q Or rest) _ (no_joined q Or rest e)) refl)
+    or_second (then_none _ (no_joined q And rest e))
+    (or_second (then_none _ (no_joined q Or rest e)) refl)
 
 -- a comparison, and the condition that it begins
 condition_begun : (q : Bool) (k : Comparison) (x : Condition) (behind rest : List Token) →
     HasComparison q k → Names (comparison_uses k) → NoBracket behind →
     first_on q k behind ≡ Some (x, rest) → condition_at q (spelled_comparison k ++ behind) ≡ Some (x, rest)
 unfolding condition_at
-condition_begun q k x behind rest h names e g =
-    then_is (comparison_at q (spelled_comparison k ++ behind)) (k, behind) _ _ (comparison_again q k behind h names e) g
+condition_begun q k x behind rest h names e g = then_is _ (comparison_again q k behind h names e) g
 
 two_tokens : (k l : List Token) (t : Token) (rest : List Token) → (k ++ t ∷ l) ++ rest ≡ k ++ t ∷ (l ++ rest)
 two_tokens k l t rest = append_assoc k (t ∷ l) rest

@@ -50,13 +50,8 @@ pub alone : (s : Source) (line : ℕ) (u : Use) → checked_use s line u ≡ che
 alone s line u = then_nothing (checked_use s line u)
 
 pub index_checks : (s : Source) (line : ℕ) (i : Index) → checked_index s line i ≡ checked_uses s line (index_uses i)
-index_checks s line (index.Number k) = refl
-index_checks s line index.Processes = refl
-index_checks s line index.Words = refl
-index_checks s line index.Me = refl
-index_checks s line index.Word = refl
-index_checks s line index.Place = refl
 index_checks s line (index.Scalar x) = alone s line (scalar x)
+index_checks s line _ = refl
 
 pub indexes_checks : (s : Source) (line : ℕ) (i j : Index) →
     checked_indexes s line i j ≡ checked_uses s line (index_uses i ++ index_uses j)

@@ -1,6 +1,6 @@
 -- What a line names is declared, and so it is a name.
-use Rattle.std.proofs.Common.{◌≡◌, ◌||◌, ◌++◌, Bool, true, false, List, [], ◌∷◌, Some, None}
-use Rattle.std.proofs.Common.{bytes_eq, if◌then◌else◌, refl, sym, subst}
+use Rattle.std.proofs.Common.{◌≡◌, ◌||◌, ◌++◌, Bool, true, false, List, [], ◌∷◌, Some, None, bytes_eq, if◌then◌else◌}
+use Rattle.std.proofs.Common.{refl, sym, subst}
 use Rattle.std.specs.Cmp.Lexicographic.{same_text}
 use Rattle.std.specs.List.{AllByRecursion}
 use Rattle.snap_semantics.specs.declared.text.Sort.{Sort}
@@ -9,7 +9,7 @@ use Rattle.snap_semantics.specs.IsListing.{IsName}
 use Rattle.snap_semantics.specs.Listing.{all_names}
 use Rattle.snap_semantics.specs.RightUses.{IsRight}
 use Rattle.snap_semantics.specs.Source.{Name, Source}
-use Rattle.snap_semantics.specs.Uses.{Use, Named, BankUse, FieldUse, HandshakeUse, ViewUse, TupleUse, is_among, sort_of}
+use Rattle.snap_semantics.specs.Uses.{Use, Named, is_among, sort_of}
 use Rattle.snap_listing.proofs.AgainTerms.{IsNamed, Names}
 use Rattle.snap_listing.proofs.Alls.{all_first, all_rest}
 
@@ -45,11 +45,7 @@ declared_name s wanted x all e =
 
 use_named : (s : Source) (u : Use) → AllByRecursion IsName (all_names s) → IsRight s u → IsNamed u
 use_named s (Named wanted x) all e = declared_name s wanted x all e
-use_named s (BankUse b) all e = tt
-use_named s (FieldUse f) all e = tt
-use_named s HandshakeUse all e = tt
-use_named s ViewUse all e = tt
-use_named s (TupleUse k) all e = tt
+use_named s _ all e = tt
 
 pub uses_named : (s : Source) (us : List Use) → AllByRecursion IsName (all_names s) →
     AllByRecursion (IsRight s) us → Names us

@@ -88,15 +88,12 @@ let_again : (x : Name) (e : Expr) → HasExpr false e → IsName x → Names (ex
     let_form (Identifier x ∷ Sign symbol.Equal ∷ spelled_expr e) ≡ Some (instr.Let x e)
 unfolding let_form
 let_again x e h name names =
-    let ts : List Token = Sign symbol.Equal ∷ spelled_expr e in
-    then_is (name_at (Identifier x ∷ ts)) (x, ts) _ _ (name_read x ts name)
-    (then_is (expr_at false (spelled_expr e)) (e, []) _ _ (last_expr false e h names) refl)
+    then_is _ (name_read x _ name)
+    (then_is _ (last_expr false e h names) refl)
 
 no_let : (x : Name) (rest : List Token) → IsName x → let_form (Identifier x ∷ Sign symbol.OpenBracket ∷ rest) ≡ None
 unfolding let_form
-no_let x rest name =
-    let ts : List Token = Sign symbol.OpenBracket ∷ rest in
-    then_is (name_at (Identifier x ∷ ts)) (x, ts) _ _ (name_read x ts name) refl
+no_let x rest name = then_is _ (name_read x _ name) refl
 
 let_place_again : (x : Name) (i : Index) (e : Expr) → HasIndex false i →
     HasExpr false e → IsName x → Names (index_uses i) → Names (expr_uses e) →
@@ -104,8 +101,8 @@ let_place_again : (x : Name) (i : Index) (e : Expr) → HasIndex false i →
 unfolding let_place_form
 let_place_again x i e g h name ni ne =
     let ts : List Token = Sign symbol.Equal ∷ spelled_expr e in
-    then_is (named_place_at false (spelled_place x i ++ ts)) ((x, i), ts) _ _ (place_again false x i ts g name ni)
-    (then_is (expr_at false (spelled_expr e)) (e, []) _ _ (last_expr false e h ne) refl)
+    then_is _ (place_again false x i ts g name ni)
+    (then_is _ (last_expr false e h ne) refl)
 
 get_again : (x : Name) (i j : Index) → HasIndex false i → HasIndex false j →
     IsName x → Names (index_uses i) → Names (index_uses j) →
@@ -114,8 +111,8 @@ get_again : (x : Name) (i j : Index) → HasIndex false i → HasIndex false j �
 unfolding get_form
 get_again x i j g h name ni nj =
     let ts : List Token = Sign symbol.Equal ∷ Identifier (codes "r") ∷ in_brackets (spelled_index j) in
-    then_is (named_place_at false (spelled_place x i ++ ts)) ((x, i), ts) _ _ (place_again false x i ts g name ni)
-    (then_is (place_at false (in_brackets (spelled_index j))) (j, []) _ _ (last_bracket false j h nj) refl)
+    then_is _ (place_again false x i ts g name ni)
+    (then_is _ (last_bracket false j h nj) refl)
 
 bank_again : (b : BitBank) (rest : List Token) → bit_bank_at (Identifier (bank_keyword b) ∷ rest) ≡ Some (b, rest)
 unfolding bit_bank_at
@@ -130,11 +127,9 @@ pair_again i j rest g h ni nj =
     let first = spelled_index i in
     let second = spelled_index j in
     let behind : List Token = Sign symbol.Comma ∷ (second ++ close ∷ rest) in
-    then_is (index_at false (((first ++ Sign symbol.Comma ∷ second) ++ close ∷ []) ++ rest)) (i, behind) _ _
-    (ap (λ (ts : List Token). index_at false ts) (pair_tokens first second close rest)
+    then_is _ (ap (λ (ts : List Token). index_at false ts) (pair_tokens first second close rest)
     ∙ index_again false i behind g ni)
-    (then_is (index_at false (second ++ close ∷ rest)) (j, close ∷ rest) _ _
-    (index_again false j (close ∷ rest) h nj) refl)
+    (then_is _ (index_again false j (close ∷ rest) h nj) refl)
 
 last_pair : (i j : Index) → HasIndex false i → HasIndex false j → Names (index_uses i) → Names (index_uses j) →
     pair_at (spelled_pair i j) ≡ Some ((i, j), [])
@@ -147,20 +142,17 @@ bit_again : (x : Name) (b : BitBank) (i j : Index) → HasIndex false i →
     ≡ Some (instr.Bit x b i j)
 unfolding bit_form
 bit_again x b i j g h name ni nj =
-    let pair = spelled_pair i j in
-    let ts : List Token = Sign symbol.Equal ∷ Identifier (bank_keyword b) ∷ pair in
-    then_is (name_at (Identifier x ∷ ts)) (x, ts) _ _ (name_read x ts name)
-    (then_is (bit_bank_at (Identifier (bank_keyword b) ∷ pair)) (b, pair) _ _ (bank_again b pair)
-    (then_is (pair_at pair) ((i, j), []) _ _ (last_pair i j g h ni nj) refl))
+    then_is _ (name_read x _ name)
+    (then_is _ (bank_again b _)
+    (then_is _ (last_pair i j g h ni nj) refl))
 
 look_again : (x : Name) (i : Index) → HasIndex false i → IsName x → Names (index_uses i) →
     look_form (Identifier x ∷ Sign symbol.Equal ∷ Identifier (codes "v") ∷ in_brackets (spelled_index i))
     ≡ Some (instr.Look x i)
 unfolding look_form
 look_again x i h name names =
-    let ts : List Token = Sign symbol.Equal ∷ Identifier (codes "v") ∷ in_brackets (spelled_index i) in
-    then_is (name_at (Identifier x ∷ ts)) (x, ts) _ _ (name_read x ts name)
-    (then_is (place_at false (in_brackets (spelled_index i))) (i, []) _ _ (last_bracket false i h names) refl)
+    then_is _ (name_read x _ name)
+    (then_is _ (last_bracket false i h names) refl)
 
 -- what ends a tuple
 abbrev closing : List Token
@@ -202,13 +194,10 @@ unfolding seq_tuple_at
 seq_tuple_again d q s g h nd nq name =
     let third : List Token = Sign symbol.Comma ∷ Identifier s ∷ closing in
     let second : List Token = Sign symbol.Comma ∷ (spelled_expr q ++ third) in
-    then_is (expr_at false
-    ((spelled_expr d ++ Sign symbol.Comma ∷ (spelled_expr q ++ Sign symbol.Comma ∷ Identifier s ∷ [])) ++ closing))
-    (d, second) _ _
-    (ap (λ (ts : List Token). expr_at false ts) (seq_tokens (spelled_expr d) (spelled_expr q) s)
+    then_is _ (ap (λ (ts : List Token). expr_at false ts) (seq_tokens (spelled_expr d) (spelled_expr q) s)
     ∙ expr_again false d second g nd refl refl)
-    (then_is (expr_at false (spelled_expr q ++ third)) (q, third) _ _ (expr_again false q third h nq refl refl)
-    (then_is (name_at (Identifier s ∷ closing)) (s, closing) _ _ (name_read s closing name) refl))
+    (then_is _ (expr_again false q third h nq refl refl)
+    (then_is _ (name_read s _ name) refl))
 
 bits_tuple_again : (d t : Expr) (x s : Name) → HasExpr false d → HasExpr false t →
     Names (expr_uses d) → Names (expr_uses t) → IsName x → IsName s →
@@ -218,14 +207,11 @@ bits_tuple_again d t x s g h nd nt nx ns =
     let fourth : List Token = Sign symbol.Comma ∷ Identifier s ∷ closing in
     let third : List Token = Sign symbol.Comma ∷ (spelled_expr t ++ fourth) in
     let second : List Token = Sign symbol.Comma ∷ Identifier x ∷ third in
-    then_is (expr_at false ((spelled_expr d ++ Sign symbol.Comma ∷ Identifier x ∷ Sign symbol.Comma
-    ∷ (spelled_expr t ++ Sign symbol.Comma ∷ Identifier s ∷ [])) ++ closing))
-    (d, second) _ _
-    (ap (λ (ts : List Token). expr_at false ts) (bits_tokens (spelled_expr d) (spelled_expr t) x s)
+    then_is _ (ap (λ (ts : List Token). expr_at false ts) (bits_tokens (spelled_expr d) (spelled_expr t) x s)
     ∙ expr_again false d second g nd refl refl)
-    (then_is (name_at (Identifier x ∷ third)) (x, third) _ _ (name_read x third nx)
-    (then_is (expr_at false (spelled_expr t ++ fourth)) (t, fourth) _ _ (expr_again false t fourth h nt refl refl)
-    (then_is (name_at (Identifier s ∷ closing)) (s, closing) _ _ (name_read s closing ns) refl)))
+    (then_is _ (name_read x _ nx)
+    (then_is _ (expr_again false t fourth h nt refl refl)
+    (then_is _ (name_read s _ ns) refl)))
 
 multi_tuple_again : (d i t : Expr) → HasExpr false d → HasExpr false i → HasExpr false t →
     Names (expr_uses d) → Names (expr_uses i) → Names (expr_uses t) →
@@ -234,14 +220,11 @@ unfolding multi_tuple_at
 multi_tuple_again d i t f g h nd ni nt =
     let third : List Token = Sign symbol.Comma ∷ (spelled_expr t ++ closing) in
     let second : List Token = Sign symbol.Comma ∷ (spelled_expr i ++ third) in
-    then_is (expr_at false
-    ((spelled_expr d ++ Sign symbol.Comma ∷ (spelled_expr i ++ Sign symbol.Comma ∷ spelled_expr t)) ++ closing))
-    (d, second) _ _
+    then_is _
     (ap (λ (ts : List Token). expr_at false ts) (multi_tokens (spelled_expr d) (spelled_expr i) (spelled_expr t))
     ∙ expr_again false d second f nd refl refl)
-    (then_is (expr_at false (spelled_expr i ++ third)) (i, third) _ _ (expr_again false i third g ni refl refl)
-    (then_is (expr_at false (spelled_expr t ++ closing)) (t, closing) _ _
-    (expr_again false t closing h nt refl refl) refl))
+    (then_is _ (expr_again false i third g ni refl refl)
+    (then_is _ (expr_again false t closing h nt refl refl) refl))
 
 -- what follows a name: nothing is found behind one that stands alone, nor where no comma follows
 abbrev Stops : {B : Type 0} → ((Name × List Token) → Option B) → Type 0
@@ -250,28 +233,18 @@ Stops f = (x : Name) (ts : List Token) → symbol_at symbol.Comma ts ≡ None �
 index_stops : {B : Type 0} (i : Index) (rest : List Token) (f : (Name × List Token) → Option B) → Names (index_uses i) →
     ((x : Name) → f (x, rest) ≡ None) → (name_at (spelled_index i ++ rest) >>= f) ≡ None
 unfolding name_at
-index_stops (index.Number k) rest f names g = refl
-index_stops index.Processes rest f names g = refl
-index_stops index.Words rest f names g = refl
-index_stops index.Me rest f names g = refl
-index_stops index.Word rest f names g = refl
-index_stops index.Place rest f names g = refl
-index_stops (index.Scalar x) rest f names g =
-    then_is (name_at (Identifier x ∷ rest)) (x, rest) f None (name_read x rest names.0) (g x)
+index_stops (index.Scalar x) rest f names g = then_is f (name_read x _ names.0) (g x)
+index_stops _ rest f names g = refl
 
 term_stops : {B : Type 0} (t : Term) (rest : List Token) (f : (Name × List Token) → Option B) → Names (term_uses t) →
     ((x : Name) → f (x, rest) ≡ None) → Stops f → (name_at (spelled_term t ++ rest) >>= f) ≡ None
 unfolding name_at
 term_stops (term.Index i) rest f names g h = index_stops i rest f names g
-term_stops term.Arg rest f names g h = refl
 term_stops (term.Row x i) rest f names g h =
     let ts : List Token = in_brackets (spelled_index i) ++ rest in
-    then_is (name_at (Identifier x ∷ ts)) (x, ts) f None (name_read x ts names.0) (h x ts refl)
+    then_is f (name_read x _ names.0) (h x ts refl)
 term_stops (term.Field field.Datum x i) rest f names g h = refl
-term_stops (term.Field field.Seq x i) rest f names g h = refl
-term_stops (term.Field field.Id x i) rest f names g h = refl
-term_stops (term.Field field.Toggle x i) rest f names g h = refl
-term_stops (term.Handshake x i j) rest f names g h = refl
+term_stops _ rest f names g h = refl
 
 expr_stops : {B : Type 0} (e : Expr) (rest : List Token) (f : (Name × List Token) → Option B) → Names (expr_uses e) →
     ((x : Name) → f (x, rest) ≡ None) → Stops f → (name_at (spelled_expr e ++ rest) >>= f) ≡ None
@@ -291,9 +264,9 @@ unfolding bits_tuple_at
 no_bits d e x third g nd ne found =
     let behind : List Token = Sign symbol.Comma ∷ third in
     let second : List Token = Sign symbol.Comma ∷ (spelled_expr e ++ behind) in
-    then_is (expr_at false (spelled_expr d ++ second)) (d, second) _ None (expr_again false d second g nd refl refl)
-    (expr_stops e behind _ ne (λ y. then_is (expr_at false third) (x, closing) _ None found refl)
-    (λ y ts none. then_none (symbol_at symbol.Comma ts) _ none))
+    then_is _ (expr_again false d second g nd refl refl)
+    (expr_stops e behind _ ne (λ y. then_is _ found refl)
+    (λ y ts none. then_none _ none))
 
 in_round : (ts us : List Token) → ts ≡ us → bits_tuple_at (Sign symbol.OpenParenthesis ∷ us) ≡ None →
     bits_tuple_at (Sign symbol.OpenParenthesis ∷ ts) ≡ None
@@ -315,7 +288,7 @@ multi_no_bits d i t g h nd ni nt =
 seq_triple : (k : KindTag) (ts : List Token) (t : Tuple) → same_kind k kind.Seq ≡ true →
     seq_tuple_at ts ≡ Some (t, []) → triple_at k ts ≡ Some (t, [])
 unfolding triple_at
-seq_triple kind.Seq ts t e h = or_first (seq_tuple_at ts) _ _ h
+seq_triple kind.Seq ts t e h = or_first _ h
 seq_triple kind.Bits ts t e h = absurd cc
 seq_triple kind.Multi ts t e h = absurd cc
 
@@ -336,22 +309,21 @@ tuple_again s (tuple.Seq d q x) h right names =
     let nq = names_first (expr_uses q) us later in
     let last = names_rest (expr_uses q) us later in
     let t = tuple.Seq d q x in
-    or_second (bits_tuple_at (spelled_tuple t)) _ _ (seq_no_bits d q x h.0 nd nq last.0)
+    or_second (seq_no_bits d q x h.0 nd nq last.0)
     (seq_triple s.kind (spelled_tuple t) t right.0 (seq_tuple_again d q x h.0 h.1 nd nq last.0))
 tuple_again s (tuple.Bits d y t x) h right names =
     let us : List Use = view x ∷ [] in
     let nd = names_first (expr_uses d) (row y ∷ (expr_uses t ++ us)) names.1 in
     let later = names_rest (expr_uses d) (row y ∷ (expr_uses t ++ us)) names.1 in
     let last = names_rest (expr_uses t) us later.1 in
-    or_first (bits_tuple_at (spelled_tuple (tuple.Bits d y t x))) _ _
-    (bits_tuple_again d t y x h.0 h.1 nd (names_first (expr_uses t) us later.1) later.0 last.0)
+    or_first _ (bits_tuple_again d t y x h.0 h.1 nd (names_first (expr_uses t) us later.1) later.0 last.0)
 tuple_again s (tuple.Multi d i t) h right names =
     let nd = names_first (expr_uses d) (expr_uses i ++ expr_uses t) names.1 in
     let later = names_rest (expr_uses d) (expr_uses i ++ expr_uses t) names.1 in
     let ni = names_first (expr_uses i) (expr_uses t) later in
     let nt = names_rest (expr_uses i) (expr_uses t) later in
     let whole = tuple.Multi d i t in
-    or_second (bits_tuple_at (spelled_tuple whole)) _ _ (multi_no_bits d i t h.0 h.2 nd ni nt)
+    or_second (multi_no_bits d i t h.0 h.2 nd ni nt)
     (multi_triple s.kind (spelled_tuple whole) whole right.0 (multi_tuple_again d i t h.0 h.1 h.2 nd ni nt))
 
 put_again : (s : Source) (i : Index) (t : Tuple) → HasIndex false i → HasTuple t →
@@ -361,8 +333,8 @@ put_again : (s : Source) (i : Index) (t : Tuple) → HasIndex false i → HasTup
 unfolding put_form
 put_again s i t g h right ni nt =
     let ts : List Token = Sign symbol.Equal ∷ spelled_tuple t in
-    then_is (place_at false (in_brackets (spelled_index i) ++ ts)) (i, ts) _ _ (bracket_again false i ts g ni)
-    (then_is (tuple_at s.kind (spelled_tuple t)) (t, []) _ _ (tuple_again s t h right nt) refl)
+    then_is _ (bracket_again false i ts g ni)
+    (then_is _ (tuple_again s t h right nt) refl)
 
 put_bit_again : (b : BitBank) (i j : Index) (e : Expr) → HasIndex false i → HasIndex false j →
     HasExpr false e → Names (index_uses i) → Names (index_uses j) → Names (expr_uses e) →
@@ -371,10 +343,9 @@ put_bit_again : (b : BitBank) (i j : Index) (e : Expr) → HasIndex false i → 
 unfolding put_bit_form
 put_bit_again b i j e f g h ni nj ne =
     let behind : List Token = Sign symbol.Equal ∷ spelled_expr e in
-    let ts : List Token = spelled_pair i j ++ behind in
-    then_is (bit_bank_at (Identifier (bank_keyword b) ∷ ts)) (b, ts) _ _ (bank_again b ts)
-    (then_is (pair_at ts) ((i, j), behind) _ _ (pair_again i j behind f g ni nj)
-    (then_is (expr_at false (spelled_expr e)) (e, []) _ _ (last_expr false e h ne) refl))
+    then_is _ (bank_again b _)
+    (then_is _ (pair_again i j behind f g ni nj)
+    (then_is _ (last_expr false e h ne) refl))
 
 put_view_again : (i : Index) (x : Name) → HasIndex false i → Names (index_uses i) → IsName x →
     put_view_form (Identifier (codes "v") ∷ (in_brackets (spelled_index i) ++ Sign symbol.Equal ∷ Identifier x ∷ []))
@@ -382,8 +353,8 @@ put_view_again : (i : Index) (x : Name) → HasIndex false i → Names (index_us
 unfolding put_view_form
 put_view_again i x h names name =
     let ts : List Token = Sign symbol.Equal ∷ Identifier x ∷ [] in
-    then_is (place_at false (in_brackets (spelled_index i) ++ ts)) (i, ts) _ _ (bracket_again false i ts h names)
-    (then_is (name_at (Identifier x ∷ [])) (x, []) _ _ (name_read x [] name) refl)
+    then_is _ (bracket_again false i ts h names)
+    (then_is _ (name_read x _ name) refl)
 
 bank_no_put : (k : KindTag) (b : BitBank) (rest : List Token) → put_form k (Identifier (bank_keyword b) ∷ rest) ≡ None
 unfolding put_form
@@ -403,18 +374,13 @@ view_data_again : (x y : Name) → IsName x → IsName y →
     ≡ Some (instr.ViewData x y)
 unfolding view_data_form
 view_data_again x y nx ny =
-    let end : List Token = Sign symbol.CloseParenthesis ∷ [] in
-    let ts : List Token =
-    Sign symbol.Equal ∷ Identifier (codes "data") ∷ Sign symbol.OpenParenthesis ∷ Identifier y ∷ end in
-    then_is (name_at (Identifier x ∷ ts)) (x, ts) _ _ (name_read x ts nx)
-    (then_is (name_at (Identifier y ∷ end)) (y, end) _ _ (name_read y end ny) refl)
+    then_is _ (name_read x _ nx)
+    (then_is _ (name_read y _ ny) refl)
 
 no_view_data : (x : Name) (rest : List Token) → IsName x →
     view_data_form (Identifier x ∷ Sign symbol.Equal ∷ Identifier (codes "view") ∷ rest) ≡ None
 unfolding view_data_form
-no_view_data x rest name =
-    let ts : List Token = Sign symbol.Equal ∷ Identifier (codes "view") ∷ rest in
-    then_is (name_at (Identifier x ∷ ts)) (x, ts) _ _ (name_read x ts name) refl
+no_view_data x rest name = then_is _ (name_read x _ name) refl
 
 view_of_again : (x y : Name) (i : Index) → HasIndex false i → IsName x → IsName y → Names (index_uses i) →
     view_of_form (Identifier x ∷ Sign symbol.Equal ∷ Identifier (codes "view") ∷ in_parentheses (spelled_place y i))
@@ -422,18 +388,14 @@ view_of_again : (x y : Name) (i : Index) → HasIndex false i → IsName x → I
 unfolding view_of_form
 view_of_again x y i h nx ny ni =
     let end : List Token = Sign symbol.CloseParenthesis ∷ [] in
-    let ts : List Token = Sign symbol.Equal ∷ Identifier (codes "view") ∷ in_parentheses (spelled_place y i) in
-    then_is (name_at (Identifier x ∷ ts)) (x, ts) _ _ (name_read x ts nx)
-    (then_is (named_place_at false (spelled_place y i ++ end)) ((y, i), end) _ _
-    (place_again false y i end h ny ni) refl)
+    then_is _ (name_read x _ nx)
+    (then_is _ (place_again false y i end h ny ni) refl)
 
 some_where : (k : Condition) → HasCondition true k → Names (condition_uses k) →
     where_at (spelled_where (Some k)) ≡ Some (Some k, [])
 unfolding where_at
 some_where k h names =
-    or_first _ _ _
-    (then_is (condition_at true (spelled_condition k)) (k, []) _ _
-    (ap (λ (ts : List Token). condition_at true ts) (sym (append-nil (spelled_condition k)))
+    or_first _ (then_is _ (ap (λ (ts : List Token). condition_at true ts) (sym (append-nil (spelled_condition k)))
     ∙ condition_again true k [] h names (refl, refl, refl)) refl)
 
 no_where : where_at [] ≡ Some (None, [])
@@ -456,14 +418,10 @@ each_again : (g : Range) (x : Name) (e : Expr) (k : Option Condition) → HasExp
     ≡ Some (instr.Each g x e k)
 unfolding each_form
 each_again g x e k h c name ne nk =
-    let body : List Token = spelled_expr e ++ spelled_where k in
-    let place : List Token =
-    Sign symbol.OpenBracket ∷ Sign symbol.At ∷ Sign symbol.CloseBracket ∷ Sign symbol.Equal ∷ body in
-    let ts : List Token = Sign symbol.Colon ∷ Identifier x ∷ place in
-    then_is (range_at (spelled_range g ∷ ts)) (g, ts) _ _ (range_again g ts)
-    (then_is (name_at (Identifier x ∷ place)) (x, place) _ _ (name_read x place name)
-    (then_is (expr_at true body) (e, spelled_where k) _ _ (where_expr e k h ne)
-    (then_is (where_at (spelled_where k)) (k, []) _ _ (where_again k c nk) refl)))
+    then_is _ (range_again g _)
+    (then_is _ (name_read x _ name)
+    (then_is _ (where_expr e k h ne)
+    (then_is _ (where_again k c nk) refl)))
 
 -- a condition before `goto N`
 goto_condition : (q : Bool) (k : Condition) (target : ℕ) → HasCondition q k → Names (condition_uses k) →
@@ -476,30 +434,25 @@ first_again : (x : Name) (g : Range) (k : Condition) (target : ℕ) →
     ≡ Some (instr.First x g k target)
 unfolding first_form
 first_again x g k target h name names =
-    let body : List Token = spelled_condition k ++ spelled_target target in
-    let colon : List Token = Sign symbol.Colon ∷ body in
-    let ts : List Token = spelled_range g ∷ colon in
-    then_is (name_at (Identifier x ∷ ts)) (x, ts) _ _ (name_read x ts name)
-    (then_is (range_at ts) (g, colon) _ _ (range_again g colon)
-    (then_is (condition_at true body) (k, spelled_target target) _ _ (goto_condition true k target h names)
-    (then_is (target_at (spelled_target target)) (target, []) _ _ (target_again target) refl)))
+    then_is _ (name_read x _ name)
+    (then_is _ (range_again g _)
+    (then_is _ (goto_condition true k target h names)
+    (then_is _ (target_again target) refl)))
 
 next_again : (x : Name) (g : Range) (target : ℕ) → IsName x →
     next_form (Identifier x ∷ spelled_range g ∷ spelled_target target) ≡ Some (instr.Next x g target)
 unfolding next_form
 next_again x g target name =
-    let ts : List Token = spelled_range g ∷ spelled_target target in
-    then_is (name_at (Identifier x ∷ ts)) (x, ts) _ _ (name_read x ts name)
-    (then_is (range_at ts) (g, spelled_target target) _ _ (range_again g (spelled_target target))
-    (then_is (target_at (spelled_target target)) (target, []) _ _ (target_again target) refl))
+    then_is _ (name_read x _ name)
+    (then_is _ (range_again g _)
+    (then_is _ (target_again target) refl))
 
 if_again : (k : Condition) (target : ℕ) → HasCondition false k → Names (condition_uses k) →
     if_form (spelled_condition k ++ spelled_target target) ≡ Some (instr.If k target)
 unfolding if_form
 if_again k target h names =
-    then_is (condition_at false (spelled_condition k ++ spelled_target target)) (k, spelled_target target) _ _
-    (goto_condition false k target h names)
-    (then_is (target_at (spelled_target target)) (target, []) _ _ (target_again target) refl)
+    then_is _ (goto_condition false k target h names)
+    (then_is _ (target_again target) refl)
 
 -- `all` begins no condition
 no_if : (rest : List Token) → if_form (Identifier (codes "all") ∷ rest) ≡ None
@@ -513,15 +466,13 @@ if_all_again : (g : Range) (k : Condition) (target : ℕ) → HasCondition true 
     ≡ Some (instr.IfAll g k target)
 unfolding if_all_form
 if_all_again g k target h names =
-    let body : List Token = spelled_condition k ++ spelled_target target in
-    let colon : List Token = Sign symbol.Colon ∷ body in
-    then_is (range_at (spelled_range g ∷ colon)) (g, colon) _ _ (range_again g colon)
-    (then_is (condition_at true body) (k, spelled_target target) _ _ (goto_condition true k target h names)
-    (then_is (target_at (spelled_target target)) (target, []) _ _ (target_again target) refl))
+    then_is _ (range_again g _)
+    (then_is _ (goto_condition true k target h names)
+    (then_is _ (target_again target) refl))
 
 return_again : (x : Name) → IsName x → return_form (Identifier x ∷ []) ≡ Some (instr.Return x)
 unfolding return_form
-return_again x name = then_is (name_at (Identifier x ∷ [])) (x, []) _ _ (name_read x [] name) refl
+return_again x name = then_is _ (name_read x _ name) refl
 
 goto_again : (k : ℕ) → goto_form (Number k ∷ []) ≡ Some (instr.Goto k)
 unfolding goto_form
@@ -542,11 +493,9 @@ instr_form g ts = identifier_at ts >>= λ (w : List ℕ × List Token). form_of_
 instr_again : (s : Source) (i : Instr) → HasForm i → HasRightUses s i → Names (instr_uses i) →
     instr_form s.kind (spelled_instr i) ≡ Some i
 unfolding form_of_keyword
-instr_again s (instr.Let x e) h right names =
-    or_first (let_form (Identifier x ∷ Sign symbol.Equal ∷ spelled_expr e)) _ _ (let_again x e h names.0 names.1)
+instr_again s (instr.Let x e) h right names = or_first _ (let_again x e h names.0 names.1)
 instr_again s (instr.LetPlace x i e) h right names =
-    let ts : List Token = spelled_place x i ++ Sign symbol.Equal ∷ spelled_expr e in
-    or_second (let_form ts) _ _
+    or_second
     (no_let x ((spelled_index i ++ Sign symbol.CloseBracket ∷ []) ++ Sign symbol.Equal ∷ spelled_expr e) names.0)
     (let_place_again x i e h.0 h.1 names.0 (names_first (index_uses i) (expr_uses e) names.1)
     (names_rest (index_uses i) (expr_uses e) names.1))
@@ -558,45 +507,36 @@ instr_again s (instr.Bit x b i j) h right names =
     (names_rest (index_uses i) (index_uses j) names.1.1)
 instr_again s (instr.Look x i) h right names = look_again x i h names.0 names.1.1
 instr_again s (instr.Put i t) h right names =
-    or_first (put_form s.kind
-    (Identifier (codes "r") ∷ (in_brackets (spelled_index i) ++ Sign symbol.Equal ∷ spelled_tuple t))) _ _
-    (put_again s i t h.0 h.1 (all_rest (IsRight s) (index_uses i) (tuple_uses t) right)
+    or_first _ (put_again s i t h.0 h.1 (all_rest (IsRight s) (index_uses i) (tuple_uses t) right)
     (names_first (index_uses i) (tuple_uses t) names)
     (names_rest (index_uses i) (tuple_uses t) names))
 instr_again s (instr.PutBit b i j e) h right names =
     let behind : List Token = spelled_pair i j ++ Sign symbol.Equal ∷ spelled_expr e in
     let later = names_rest (index_uses i) (index_uses j ++ expr_uses e) names.1 in
-    or_second (put_form s.kind (Identifier (bank_keyword b) ∷ behind)) _ _ (bank_no_put s.kind b behind)
-    (or_first (put_bit_form (Identifier (bank_keyword b) ∷ behind)) _ _
-    (put_bit_again b i j e h.0 h.1 h.2 (names_first (index_uses i) (index_uses j ++ expr_uses e) names.1)
+    or_second (bank_no_put s.kind b behind)
+    (or_first _ (put_bit_again b i j e h.0 h.1 h.2 (names_first (index_uses i) (index_uses j ++ expr_uses e) names.1)
     (names_first (index_uses j) (expr_uses e) later)
     (names_rest (index_uses j) (expr_uses e) later)))
 instr_again s (instr.PutView i x) h right names =
     let us : List Use = view x ∷ [] in
     let behind : List Token = in_brackets (spelled_index i) ++ Sign symbol.Equal ∷ Identifier x ∷ [] in
     let last = names_rest (index_uses i) us names.1 in
-    or_second (put_form s.kind (Identifier (codes "v") ∷ behind)) _ _ (view_no_put s.kind behind)
-    (or_second (put_bit_form (Identifier (codes "v") ∷ behind)) _ _ (view_no_put_bit behind)
+    or_second (view_no_put s.kind behind)
+    (or_second (view_no_put_bit behind)
     (put_view_again i x h (names_first (index_uses i) us names.1) last.0))
-instr_again s (instr.ViewData x y) h right names =
-    or_first
-    (view_data_form (Identifier x ∷ Sign symbol.Equal ∷ Identifier (codes "data") ∷ in_parentheses (Identifier y ∷ [])))
-    _ _ (view_data_again x y names.0 names.1.0)
+instr_again s (instr.ViewData x y) h right names = or_first _ (view_data_again x y names.0 names.1.0)
 instr_again s (instr.ViewOf x y i) h right names =
-    or_second (view_data_form
-    (Identifier x ∷ Sign symbol.Equal ∷ Identifier (codes "view") ∷ in_parentheses (spelled_place y i))) _ _
-    (no_view_data x (in_parentheses (spelled_place y i)) names.0)
+    or_second (no_view_data x (in_parentheses (spelled_place y i)) names.0)
     (view_of_again x y i h names.0 names.1.1.0 names.1.1.1)
 instr_again s (instr.Each g x e k) h right names =
     each_again g x e k h.0 h.1 names.0 (names_first (expr_uses e) (where_uses k) names.1)
     (names_rest (expr_uses e) (where_uses k) names.1)
 instr_again s (instr.First x g k target) h right names = first_again x g k target h names.0 names.1
 instr_again s (instr.Next x g target) h right names = next_again x g target names.0
-instr_again s (instr.If k target) h right names =
-    or_first (if_form (spelled_condition k ++ spelled_target target)) _ _ (if_again k target h names)
+instr_again s (instr.If k target) h right names = or_first _ (if_again k target h names)
 instr_again s (instr.IfAll g k target) h right names =
     let ts : List Token = spelled_range g ∷ Sign symbol.Colon ∷ (spelled_condition k ++ spelled_target target) in
-    or_second (if_form (Identifier (codes "all") ∷ ts)) _ _ (no_if ts) (if_all_again g k target h names)
+    or_second (no_if ts) (if_all_again g k target h names)
 instr_again s (instr.Goto target) h right names = goto_again target
 instr_again s (instr.Call target) h right names = call_again target
 instr_again s (instr.Return x) h right names = return_again x names.0
@@ -606,7 +546,7 @@ instr_again s instr.Finish h right names = finish_again
 then_both : {A B C : Type 0} (o : Option A) (f : A → Option B) (g : B → Option C) (x : B) (r : Option C) →
     (o >>= f) ≡ Some x → g x ≡ r → (o >>= λ (y : A). f y >>= g) ≡ r
 then_both {A = A} None f g x r e h = absurd cc
-then_both {A = A} (Some y) f g x r e h = then_is (f y) x g r e h
+then_both {A = A} (Some y) f g x r e h = then_is g e h
 
 pub line_again : (s : Source) (line : Line) → is_line_number line.number ≡ true → HasForm line.instr →
     HasRightUses s line.instr → Names (instr_uses line.instr) → line_form s.kind (spelled_line line) ≡ Some line
@@ -614,7 +554,7 @@ unfolding line_form
 line_again s line number form right names =
     then_both (identifier_at (spelled_instr line.instr))
     (λ (w : List ℕ × List Token). form_of_keyword s.kind w.0 w.1) _ line.instr _
-    (instr_again s line.instr form right names) (if_yes (is_line_number line.number) _ _ _ number refl)
+    (instr_again s line.instr form right names) (if_yes _ number refl)
 
 pub instr_sound : (i : Instr) → HasForm i → Names (instr_uses i) →
     AllByRecursion IsLong (instr_targets i) → Sounds (spelled_instr i)
@@ -716,7 +656,5 @@ instr_checks s line (First x g k target) = first_then s line (scalar x) (conditi
 instr_checks s line (Next x g target) = alone s line (scalar x)
 instr_checks s line (If k target) = condition_checks s line k
 instr_checks s line (IfAll g k target) = condition_checks s line k
-instr_checks s line (Goto target) = refl
-instr_checks s line (Call target) = refl
 instr_checks s line (Return x) = alone s line (view x)
-instr_checks s line Finish = refl
+instr_checks s line _ = refl

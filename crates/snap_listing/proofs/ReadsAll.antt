@@ -42,9 +42,7 @@ done = Ok tt
 
 sort_again : (line : ℕ) (k : Sort) → use_of_sort line k (Some k) ≡ done
 sort_again line sort.Scalar = refl
-sort_again line sort.Row = refl
-sort_again line sort.Words = refl
-sort_again line sort.View = refl
+sort_again line _ = refl
 
 there_by : (b : Bool) (r : Checked) (e : ListingRefusal) → b ≡ true → r ≡ done → (if b then r else Err e) ≡ done
 there_by true r e p h = h
@@ -125,13 +123,6 @@ body_again again s texts h e =
 listing_again : LineAgain → (after : ℕ) (texts : List TextLine) (s : Source) → IsListing s →
     line_tokens texts ≡ map some_line (spelled_source s) → listing_of_lines after texts ≡ Ok s
 unfolding listing_of_lines
-listing_again again after [] s h e = absurd cc
-listing_again again after (i ∷ []) s h e = absurd cc
-listing_again again after (i ∷ j ∷ []) s h e = absurd cc
-listing_again again after (i ∷ j ∷ k ∷ []) s h e = absurd cc
-listing_again again after (i ∷ j ∷ k ∷ l ∷ []) s h e = absurd cc
-listing_again again after (i ∷ j ∷ k ∷ l ∷ m ∷ []) s h e = absurd cc
-listing_again again after (i ∷ j ∷ k ∷ l ∷ m ∷ n ∷ []) s h e = absurd cc
 listing_again again after (i ∷ j ∷ k ∷ l ∷ m ∷ n ∷ o ∷ texts) s h e =
     let e1 = tails _ _ _ _ e in
     let e2 = tails _ _ _ _ e1 in
@@ -147,6 +138,7 @@ listing_again again after (i ∷ j ∷ k ∷ l ∷ m ∷ n ∷ o ∷ texts) s h 
     (bind_by (numbered_lines (with_lines [] s) 0 0 texts) s.lines _ (Ok s) (body_again again s texts h e7)
     (bind_by (checked_targets s.lines (s.scan ∷ s.update ∷ line_targets s.lines)) tt _ (Ok s)
     (targets_again s.lines (s.scan ∷ s.update ∷ line_targets s.lines) h.targets) refl))
+listing_again again after _ s h e = absurd cc
 
 -- every listing is read from every text that spells it, where every line is
 pub reads_all_spelled_by : LineAgain → ReadsAllSpelled

@@ -36,21 +36,10 @@ ok_same Q P (Err e) h f = tt
 
 same_sorts : (a b : Sort) → same_sort a b ≡ true → b ≡ a
 same_sorts sort.Scalar sort.Scalar e = refl
-same_sorts sort.Scalar sort.Row e = absurd cc
-same_sorts sort.Scalar sort.Words e = absurd cc
-same_sorts sort.Scalar sort.View e = absurd cc
-same_sorts sort.Row sort.Scalar e = absurd cc
 same_sorts sort.Row sort.Row e = refl
-same_sorts sort.Row sort.Words e = absurd cc
-same_sorts sort.Row sort.View e = absurd cc
-same_sorts sort.Words sort.Scalar e = absurd cc
-same_sorts sort.Words sort.Row e = absurd cc
 same_sorts sort.Words sort.Words e = refl
-same_sorts sort.Words sort.View e = absurd cc
-same_sorts sort.View sort.Scalar e = absurd cc
-same_sorts sort.View sort.Row e = absurd cc
-same_sorts sort.View sort.Words e = absurd cc
 same_sorts sort.View sort.View e = refl
+same_sorts _ _ e = absurd cc
 
 abbrev pub WhenDone : Type 0 → Unit {0} → Type 0
 WhenDone P done = P
@@ -91,11 +80,7 @@ uses_ok s line (u ∷ us) =
 -- a listing's lines don't say what it has
 relined_use : (s : Source) (lines : List Line) (u : Use) → IsRight s u → IsRight (with_lines lines s) u
 relined_use s lines (Named wanted x) h = h
-relined_use s lines (BankUse b) h = h
-relined_use s lines (FieldUse f) h = h
-relined_use s lines HandshakeUse h = h
-relined_use s lines ViewUse h = h
-relined_use s lines (TupleUse k) h = h
+relined_use s lines _ h = h
 
 pub relined_uses : (s : Source) (lines : List Line) (us : List Use) → AllByRecursion (IsRight s) us →
     AllByRecursion (IsRight (with_lines lines s)) us

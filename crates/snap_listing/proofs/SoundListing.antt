@@ -57,8 +57,7 @@ lines_sound s (line ∷ lines) all h fit =
 
 kind_sound : (k : KindTag) → IsIdentifier (kind_keyword k)
 kind_sound kind.Seq = (omega arith, refl)
-kind_sound kind.Bits = (omega arith, refl)
-kind_sound kind.Multi = (omega arith, refl)
+kind_sound _ = (omega arith, refl)
 
 names_sound : (names : List Name) → AllByRecursion IsName names → Sounds (map (λ (x : Name). Identifier x) names)
 names_sound [] h = tt

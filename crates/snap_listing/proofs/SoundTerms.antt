@@ -57,12 +57,9 @@ parentheses_sound ts h = (tt, all_both IsSound ts (Sign symbol.CloseParenthesis 
 
 index_sound : (q : Bool) (i : Index) → HasIndex q i → Names (index_uses i) → Sounds (spelled_index i)
 index_sound q (index.Number k) h names = (h, tt)
-index_sound q index.Processes h names = ((omega arith, refl), tt)
-index_sound q index.Words h names = ((omega arith, refl), tt)
-index_sound q index.Me h names = ((omega arith, refl), tt)
-index_sound q index.Word h names = ((omega arith, refl), tt)
 index_sound q index.Place h names = (tt, tt)
 index_sound q (index.Scalar x) h names = (names.0.0, tt)
+index_sound q _ h names = ((omega arith, refl), tt)
 
 pub bracket_sound : (q : Bool) (i : Index) → HasIndex q i → Names (index_uses i) →
     Sounds (in_brackets (spelled_index i))
@@ -74,9 +71,7 @@ place_sound q x i name h names = (name.0, bracket_sound q i h names)
 
 field_sound : (f : Field) → IsIdentifier (field_keyword f)
 field_sound field.Datum = (omega arith, refl)
-field_sound field.Seq = (omega arith, refl)
-field_sound field.Id = (omega arith, refl)
-field_sound field.Toggle = (omega arith, refl)
+field_sound _ = (omega arith, refl)
 
 term_sound : (q : Bool) (t : Term) → HasTerm q t → Names (term_uses t) → Sounds (spelled_term t)
 term_sound q (term.Index i) h names = index_sound q i h names
@@ -101,8 +96,7 @@ expr_sound q (expr.Not t) h names = ((omega arith, refl), term_sound q t h names
 
 relation_sound : (r : Relation) → IsSound (spelled_relation r)
 relation_sound relation.Equal = tt
-relation_sound relation.Different = tt
-relation_sound relation.Less = tt
+relation_sound _ = tt
 
 comparison_sound : (q : Bool) (k : Comparison) → HasComparison q k →
     Names (comparison_uses k) → Sounds (spelled_comparison k)

@@ -1,71 +1,63 @@
 -- What is read from a text is a listing, and the text spells it: for each numbered line, and then for the whole text.
 use Rattle.std.proofs.Common.{◌≡◌, ℕ, ◌+◌, ◌<◌, ◌≤◌, Bool, true, false, List, [], ◌∷◌, length, map, Option, Some}
-use Rattle.std.proofs.Common.{None, Result, Ok, Err, nat_lt, nat_le, codes}
-use Rattle.std.proofs.Common.{if◌then◌else◌, refl, ap, ◌∙◌, subst, arith}
+use Rattle.std.proofs.Common.{None, Result, Ok, Err, nat_lt, nat_le, codes, if◌then◌else◌, refl, ap, ◌∙◌, arith}
 use Rattle.std.proofs.lemmas.Bool.{leb-false}
 use Rattle.std.specs.List.{AllByRecursion}
 use Rattle.snap_words.specs.declared.kind.KindTag.{KindTag}
 use Rattle.snap_semantics.specs.declared.instr.Line.{Line}
 use Rattle.snap_semantics.specs.declared.refusal.ListingRefusal.{ListingRefusal}
 use Rattle.snap_semantics.specs.declared.refusal.ListingRefusal.TheVariants as refusal
-use Rattle.snap_semantics.specs.IsListing.{IsName, AreRising, IsLine, IsListing}
+use Rattle.snap_semantics.specs.IsListing.{IsName, AreRising, IsLine, IsListing, HasForm}
 use Rattle.snap_semantics.specs.Rules.{found_or, form_or}
 use Rattle.snap_semantics.specs.Listing.{checked_line, numbered_lines, has_line, checked_targets, line_targets}
 use Rattle.snap_semantics.specs.Listing.{all_names, header_of, with_lines, listing_of_lines, listing_of}
-use Rattle.snap_semantics.specs.ListingForms.{line_form}
+use Rattle.snap_semantics.specs.ListingForms.{line_form, is_line_number}
 use Rattle.snap_semantics.specs.RightUses.{HasRightUses}
 use Rattle.snap_semantics.specs.Source.{Source}
-use Rattle.snap_semantics.specs.Spelling.{spelled_names, spelled_entry, spelled_instr, spelled_line, spelled_source}
+use Rattle.snap_semantics.specs.Spelling.{spelled_names, spelled_entry, spelled_line, spelled_source}
 use Rattle.snap_semantics.specs.Token.{Token, TextLine, text_lines, lines_of}
-use Rattle.snap_semantics.specs.Uses.{Use, Named, BankUse, FieldUse, HandshakeUse, ViewUse}
-use Rattle.snap_semantics.specs.Uses.{TupleUse, instr_uses, checked_uses}
+use Rattle.snap_semantics.specs.Uses.{Use, Named, instr_uses, checked_uses}
 use Rattle.snap_text.specs.Lines.{line_tokens}
 use Rattle.snap_text.proofs.Sound.{AreSound, lines_sound}
 use Rattle.snap_listing.specs.Laws.{Spells}
 use Rattle.snap_listing.proofs.AgainTerms.{IsNamed, Names, short_name}
 use Rattle.snap_listing.proofs.Declared.{uses_named}
-use Rattle.snap_listing.proofs.HasTerms.{Holds, Sounds}
-use Rattle.snap_listing.proofs.FoundForms.{LineFound, line_has}
-use Rattle.snap_listing.proofs.RightSources.{HoldsOk, holds_ok, ok_with, ok_same}
-use Rattle.snap_listing.proofs.RightSources.{WhenDone, uses_ok, relined_uses}
-use Rattle.snap_listing.proofs.FoundForms.{LineIs, line_is}
+use Rattle.snap_listing.proofs.HasTerms.{Finds}
+use Rattle.snap_listing.proofs.FoundForms.{LineFound, line_found}
+use Rattle.snap_listing.proofs.RightSources.{HoldsOk, holds_ok, ok_with, ok_same, WhenDone, uses_ok, relined_uses}
 use Rattle.snap_listing.proofs.SpelledTerms.{IsShort, Shorts}
-use Rattle.snap_listing.proofs.SpelledHeader.{ok_when, some_line, spelled_kind}
-use Rattle.snap_listing.proofs.SpelledHeader.{AreSoundTexts, HeaderOk, header_ok}
+use Rattle.snap_listing.proofs.SpelledHeader.{ok_when, some_line, spelled_kind, AreSoundTexts, HeaderOk, header_ok}
 
 use_short : (u : Use) → IsNamed u → IsShort u
 use_short (Named wanted x) h = short_name x h
-use_short (BankUse b) h = tt
-use_short (FieldUse f) h = tt
-use_short HandshakeUse h = tt
-use_short ViewUse h = tt
-use_short (TupleUse k) h = tt
+use_short _ h = tt
 
 -- names are short
 names_short : (us : List Use) → Names us → Shorts us
 names_short [] h = tt
 names_short (u ∷ us) h = (use_short u h.0, names_short us h.1)
 
+abbrev FormOk : Option (List Token) → Line → Type 0
+FormOk tokens line =
+    (Shorts (instr_uses line.instr) → tokens ≡ some_line (spelled_line line)) × (is_line_number line.number ≡ true)
+    × (AreSound tokens → HasForm line.instr)
+
 -- a line as it has to be, and its tokens
 record LineOk (s : Source) (last count : ℕ) (tokens : Option (List Token)) (line : Line) : Type 0 where
-  found : LineFound line
-  spelled : Shorts (instr_uses line.instr) → tokens ≡ some_line (spelled_line line)
+  found : FormOk tokens line
   rising : last < line.number
   few : count < 200
   right : HasRightUses s line.instr
 
-abbrev FormOk : Option (List Token) → Line → Type 0
-FormOk tokens line = LineFound line × (Shorts (instr_uses line.instr) → tokens ≡ some_line (spelled_line line))
-
-form_by : (e : ListingRefusal) (ts : List Token) (o : Option Line) → Holds LineFound o → Holds (LineIs ts) o →
+form_by : (e : ListingRefusal) (ts : List Token) (o : Option Line) → Finds (LineFound ts) o →
     HoldsOk (FormOk (Some ts)) (found_or e o)
-form_by e ts None h g = tt
-form_by e ts (Some line) h g = (h, λ short. ap some_line (g short))
+form_by e ts None h = tt
+form_by e ts (Some line) h = (λ short. ap some_line (h.holds.0 short), h.holds.1, h.holds.2)
 
 form_ok : (g : KindTag) (e : ListingRefusal) (tokens : Option (List Token)) →
     HoldsOk (FormOk tokens) (form_or e (line_form g) tokens)
 form_ok g e None = tt
-form_ok g e (Some ts) = form_by e ts (line_form g ts) (line_has g ts) (line_is g ts)
+form_ok g e (Some ts) = form_by e ts (line_form g ts) (line_found g ts)
 
 checked_ok : (s : Source) (at last count : ℕ) (tokens : Option (List Token)) (line : Line) → FormOk tokens line →
     HoldsOk (LineOk s last count tokens) (checked_line s at last count line)
@@ -75,8 +67,7 @@ checked_ok s at last count tokens line h =
     ok_with (WhenDone (HasRightUses s line.instr)) P (checked_uses s at (instr_uses line.instr)) _
     (uses_ok s at (instr_uses line.instr)) (λ done g.
     record {
-      found = h.0;
-      spelled = h.1;
+      found = h;
       rising = leb-false line.number last above;
       few = leb-false 200 count room;
       right = g;
@@ -91,11 +82,6 @@ record LinesOk (s : Source) (last count : ℕ) (texts : List TextLine) (lines : 
   few : count ≤ 200 → count + length lines ≤ 200
   tokens : line_tokens texts ≡ spelled_lines lines
 
--- the tokens of an instruction's line can stand in a text
-instr_sound : (line : Line) (tokens : Option (List Token)) → tokens ≡ some_line (spelled_line line) →
-    AreSound tokens → Sounds (spelled_instr line.instr)
-instr_sound line tokens e h = let sound : Sounds (spelled_line line) = subst AreSound e h in sound.1.1
-
 lines_ok : (s : Source) (last count : ℕ) (texts : List TextLine) → AllByRecursion IsName (all_names s) →
     AreSoundTexts texts → HoldsOk (LinesOk s last count texts) (numbered_lines s last count texts)
 lines_ok s last count [] all sound = record { good = tt; rising = tt; few = λ h. omega arith; tokens = refl }
@@ -108,10 +94,10 @@ lines_ok s last count (text ∷ texts) all sound =
     ok_with (LinesOk s line.number (count + 1) texts) P (numbered_lines s line.number (count + 1) texts) _
     (lines_ok s line.number (count + 1) texts all sound.1) (λ lines k.
     let room : count < 200 = h.few in
-    let token = h.spelled (names_short (instr_uses line.instr) (uses_named s (instr_uses line.instr) all h.right)) in
+    let token = h.found.0 (names_short (instr_uses line.instr) (uses_named s (instr_uses line.instr) all h.right)) in
     record {
       good = (
-        record { number = h.found.0; form = h.found.1 (instr_sound line text.tokens token sound.0); uses = h.right },
+        record { number = h.found.1; form = h.found.2 sound.0; uses = h.right },
         k.good,
       );
       rising = (h.rising, k.rising);

@@ -14,10 +14,9 @@ ghost use Rattle.snap_semantics.specs.ListingForms.{finish_form, form_of_keyword
 ghost use Rattle.snap_text.specs.Tokens.{Finds, view_tokens};
 
 use crate::behind::{every_place, expr_behind, index_behind, name_behind};
-use crate::terms::same_word;
-use crate::tuples::tuple_at;
 use crate::conditions::{condition_at, range_at, target_at, where_at};
-use crate::terms::{name_at, named_place_at, place_at};
+use crate::terms::{name_at, named_place_at, place_at, same_word};
+use crate::tuples::tuple_at;
 use snap_semantics::{BitBank, Index, Instr, Line, Symbol};
 use snap_text::{Token, end_at, identifier_at, keyword_at, number_at, symbol_at};
 use snap_words::KindTag;

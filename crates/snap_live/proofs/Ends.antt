@@ -40,7 +40,7 @@ nobody_served base next serving count id v views at idle every g q i u ati = is_
     let f = q.few in
     let same : i ≡ id =
     q.differ i id u v ati at some_process.0 some_process.1 (every some_process.0 b.0 (omega arith)) in
-    let e : u ≡ v = one_view views id u v (subst (λ (k : ℕ). At views k u) same ati) at in
+    let e : u ≡ v = one_view views same ati at in
     let clash : true ≡ false = sym yes' ∙ ap (λ (x : SeatState). is_served x.stage) e ∙ ap is_served idle in
     absurd (cc))
 

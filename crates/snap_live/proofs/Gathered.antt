@@ -58,9 +58,6 @@ has_at p k [] d lt e = absurd (omega arith)
 has_at p zero (s ∷ ss) d lt e = inl (sym e)
 has_at p (suc k) (s ∷ ss) d lt e = inr (has_at p k ss d (omega arith) e)
 
-next : (k : ℕ) → suc (k + 1) ≡ suc k + 1
-next k = omega arith
-
 pub up_to : (n : ℕ) (P : ℕ → Type 0) → ((p : ℕ) → 1 ≤ p → p ≤ n → P p) → P (n + 1) → (p : ℕ) → 1 ≤ p → p ≤ n + 1 → P p
 up_to n P below here p one le =
     dite (ℕ_discrete p (n + 1)) (λ e. subst P (sym e) here) (λ ne. below p one (omega arith))

@@ -1,7 +1,6 @@
 -- What a look tells a seat whose ticket is served (`Taken`), and the slot that a seat holds with all of the record
 -- (`front`).
-use Rattle.std.proofs.Common.{◌≡◌, ℕ, List, ◌∷◌, refl, sym, ap, ◌∙◌, subst, Bool, Option, Some}
-use Rattle.std.proofs.Common.{eqb, eq-eqb, ne_eqb}
+use Rattle.std.proofs.Common.{◌≡◌, ℕ, List, ◌∷◌, refl, sym, ap, ◌∙◌, subst, Bool, Option, Some, eqb, eq-eqb, ne_eqb}
 use mathlib.Core.Logic.{dite}
 use mathlib.Core.List.{IsPrefix}
 use native.Mathlib.Decide.{ℕ_discrete}

@@ -49,12 +49,7 @@ due_of sequel.Skipped os = busy os
 
 step_due : (o : Outcome) (os : List Op) → after_step o os ≡ due_of (sequel_of o) os
 step_due outcome.Called os = refl
-step_due outcome.Stepped os = refl
-step_due (outcome.Answered v) os = refl
-step_due outcome.Finished os = refl
-step_due (outcome.Trapped e) os = refl
-step_due outcome.Crashed os = refl
-step_due (outcome.Skipped r) os = refl
+step_due _ os = refl
 
 -- what is due after a call, as the worker reads it
 abbrev pub due_called : Sequel → List Op → Due
@@ -65,12 +60,7 @@ due_called sequel.Skipped os = rest os
 
 call_due : (o : Outcome) (os : List Op) → after_call o os ≡ due_called (sequel_of o) os
 call_due outcome.Called os = refl
-call_due outcome.Stepped os = refl
-call_due (outcome.Answered v) os = refl
-call_due outcome.Finished os = refl
-call_due (outcome.Trapped e) os = refl
-call_due outcome.Crashed os = refl
-call_due (outcome.Skipped r) os = refl
+call_due _ os = refl
 
 made_asked : (b a : SeatView) (x : Item) (m : Sequel) → Made b a x m → b.asked ≡ length b.own → a.asked ≡ length a.own
 made_asked b a x m d e =
@@ -134,10 +124,8 @@ pub begun_left : (script : Script) (ts : List OwnTurn) (at : ℕ) → at < lengt
 begun_left script ts at lt p = (rest (drop at script.operations), p, left_is_due script.operations at lt)
 
 goes_on : (m : Sequel) (os : List Op) → (m ≡ sequel.Skipped → ⊥) → due_called m os ≡ busy os
-goes_on sequel.Goes os ne = refl
-goes_on sequel.Ended os ne = refl
-goes_on sequel.Trapped os ne = refl
 goes_on sequel.Skipped os ne = absurd (ne refl)
+goes_on _ os ne = refl
 
 -- a call of the operation at this place
 pub calls_at : (script : Script) (l : List Op) (at : ℕ) (o : Op) (b a : SeatView) (i : ℕ) (m : Sequel)

@@ -1,6 +1,6 @@
 -- The turns of a process (`turns_of`) in a desk's history with one more item; and laws of prefixes of lists of items.
 use Rattle.std.proofs.Common.{◌≡◌, ◌≢◌, ℕ, suc, ◌+◌, ◌≤◌, List, [], ◌∷◌, ◌++◌, length, refl, sym, ap, ◌∙◌, subst}
-use Rattle.std.proofs.Common.{arith, Bool, true, false, append_assoc, ne_eqb, eq-eqb, nat_eq}
+use Rattle.std.proofs.Common.{arith, Bool, true, false, append_assoc, append-nil, ne_eqb, eq-eqb, nat_eq}
 use Rattle.std.proofs.lemmas.List.{take_all}
 use mathlib.Core.List.{IsPrefix}
 use Rattle.snap_semantics.specs.declared.process.Item.{Item}
@@ -66,10 +66,6 @@ turns_of-mine base p xs x e =
     ∙ ap (λ (m : ℕ). turns_of base p xs ++ own_turn m x o ∷ []) (zeroes (length (xs ++ x ∷ [])))
     ∙ ap (λ (o : Outcome). turns_of base p xs ++ own_turn (length (xs ++ x ∷ [])) x o ∷ []) (sym (last-push base xs x))
 
-empty_end : (ts : List OwnTurn) → ts ++ [] ≡ ts
-empty_end [] = refl
-empty_end (t ∷ ts) = ap (λ (us : List OwnTurn). t ∷ us) (empty_end ts)
-
 -- a turn of another
 pub turns_of-other : (base : Setting) (p : ℕ) (xs : List Item) (x : Item) → p ≢ who x →
     turns_of base p (xs ++ x ∷ []) ≡ turns_of base p xs
@@ -79,11 +75,10 @@ turns_of-other base p xs x ne =
     ∙ ap (λ (b : Bool). turns_of base p xs ++ put_if b
     (own_turn (0 + length (xs ++ x ∷ [])) x (done base.source base.shape (after base.source base.shape S xs) x).1) [])
     (ne_eqb p (who x) ne)
-    ∙ empty_end (turns_of base p xs)
+    ∙ append-nil (turns_of base p xs)
 
 pub prefix_same : (xs : List Item) → IsPrefix xs xs
-prefix_same [] = ([], refl)
-prefix_same (x ∷ xs) = let r = prefix_same xs in (r.0, ap (λ (l : List Item). x ∷ l) r.1)
+prefix_same xs = ([], append-nil xs)
 
 pub prefix_more : (xs ys zs : List Item) → IsPrefix xs ys → IsPrefix xs (ys ++ zs)
 prefix_more xs ys zs p = (p.0 ++ zs, sym (append_assoc xs p.0 zs) ∙ ap (λ (l : List Item). l ++ zs) p.1)

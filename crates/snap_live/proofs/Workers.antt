@@ -4,6 +4,7 @@ use Rattle.std.proofs.Common.{◌≡◌, ◌⊎◌, ℕ, zero, suc, ◌+◌, ◌
 use Rattle.std.proofs.Common.{get_or, refl, sym, ap, ◌∙◌, subst, ⊎_elim, inl, inr, arith, Bool, true, false, Option}
 use Rattle.std.proofs.Common.{Some, None, eq-eqb, length-append}
 use Rattle.std.specs.Prelude.{All, nat_eq}
+use Rattle.std.proofs.lemmas.List.{get_or_append_left, get_or_default, get_or_push, length-map}
 use Rattle.std.specs.List.{AllByRecursion}
 use mathlib.Core.Logic.{dite}
 use native.Mathlib.Decide.{ℕ_discrete}
@@ -32,7 +33,7 @@ use Rattle.snap_live.specs.LiveRun.{turns_at, Played, IsLive, IsPart, GivesUp, M
 use Rattle.snap_live.specs.LiveRun.{then_first, fault_of, AllWorked}
 use Rattle.snap_live.proofs.Joins.{prefix_length}
 use Rattle.snap_live.proofs.Gathered.{has_at}
-use Rattle.snap_live.proofs.Handles.{at_last, at_left, map_at, map_length, any_default}
+use Rattle.snap_live.proofs.Handles.{map_at}
 
 -- new seats
 
@@ -49,9 +50,10 @@ seats_at d (suc n) k s lt =
     (λ e.
     let at : k ≡ length (seats_of d n) = e ∙ sym len in
     ap (λ (j : ℕ). get_or (seats_of d n ++ seat_of d (suc n) ∷ []) j s) at
-    ∙ at_last (seats_of d n) (seat_of d (suc n)) s
+    ∙ get_or_push (seats_of d n) (seat_of d (suc n)) s _ refl
     ∙ ap (seat_of d) (let m : suc n ≡ k + 1 = omega arith in m))
-    (λ ne. at_left (seats_of d n) (seat_of d (suc n)) k s (omega arith) ∙ seats_at d n k s (omega arith))
+    (λ ne.
+    get_or_append_left (seats_of d n) (seat_of d (suc n) ∷ []) s k (omega arith) ∙ seats_at d n k s (omega arith))
 
 -- what start_all asks of each seat
 pub new_seats : (d : DeskView) (n : ℕ) (ss : List SeatView) → ss ≡ seats_of d n →
@@ -60,8 +62,7 @@ new_seats d n ss e k s lt =
     let len : length ss ≡ n = ap (λ (l : List SeatView). length l) e ∙ seats_length d n in
     let at : get_or ss k s ≡ seat_of d (k + 1) =
     ap (λ (l : List SeatView). get_or l k s) e ∙ seats_at d n k s (omega arith) in
-    subst (λ (v : SeatView). (v ≡ seat_of d v.process) × IsOneOf n v.process) (sym at)
-    (refl, (omega arith, omega arith))
+    rw at (refl, (omega arith, omega arith))
 
 -- what the handles promise of all workers, as their handles' parts say it
 pub workers_of : {H M : Type 0} (seat_in : H → SeatView) (script_in : H → Script) (gate_in : H → M) (limit_in : H → ℕ)
@@ -79,7 +80,7 @@ workers_of {H = H} {M = M} seat_in script_in gate_in limit_in may desk scripts l
     script gates limits len each =
     let n : ℕ = length scripts in
     let handles : length hs ≡ n =
-    sym (map_length seat_in hs) ∙ ap (λ (l : List SeatView). length l) (seats ∙ new) ∙ seats_length desk n in
+    sym (length-map hs seat_in) ∙ ap (λ (l : List SeatView). length l) (seats ∙ new) ∙ seats_length desk n in
     record {
       each_process = len ∙ handles;
       worked = λ k w lt.
@@ -91,24 +92,19 @@ workers_of {H = H} {M = M} seat_in script_in gate_in limit_in may desk scripts l
           ∙ ap (λ (l : List SeatView). get_or l k (seat_in h)) (seats ∙ new) ∙ seats_at desk n k (seat_in h) lt in
           let of_script : SeatView → Script = λ s. script_at scripts (s.process - 1) in
           let in_seats : k < length (map of_script ss) =
-          (let a = map_length of_script ss in let b =
+          (let a = length-map ss of_script in let b =
           ap (λ (l : List SeatView). length l) new in let c = seats_length desk n in omega arith) in
           let x : SeatView = seat_of desk 0 in
           let same : (k + 1) - 1 ≡ k = omega arith in
           let script_is : script_in h ≡ script_at scripts k =
           ap script_in r.1 ∙ sym (map_at script_in hs k h) ∙ ap (λ (l : List Script). get_or l k (script_in h)) script
-          ∙ any_default (map of_script ss) k (script_in h) (of_script x) in_seats
+          ∙ get_or_default (map of_script ss) k (script_in h) (of_script x) in_seats
           ∙ map_at of_script ss k x
           ∙ ap of_script (ap (λ (l : List SeatView). get_or l k x) new ∙ seats_at desk n k x lt)
           ∙ ap (script_at scripts) same in
           let gate_is : gate_in h ≡ gate = ap gate_in r.1 ∙ gates k h below in
           let limit_is : limit_in h ≡ limit = ap limit_in r.1 ∙ limits k h below in
-          let v = get_or ws k w in
-          subst (λ (m : M). IsWorked (may m) desk (k + 1) (script_at scripts k) limit v) gate_is
-          (subst (λ (l : ℕ). IsWorked (may (gate_in h)) desk (k + 1) (script_at scripts k) l v) limit_is
-          (subst (λ (t : Script). IsWorked (may (gate_in h)) desk (k + 1) t (limit_in h) v) script_is
-          (subst
-          (λ (s : SeatView). IsWorked (may (gate_in h)) s.desk s.process (script_in h) (limit_in h) v) seat r.2)));
+          rw (seat, script_is, limit_is, gate_is) at r.2;
     }
 
 -- the first stop
@@ -290,175 +286,142 @@ module _ (may : ℕ → ℕ → Bool → Type 0) (desk : DeskView) (scripts : Li
   seat_at k d = map_at seat_in ws k (idle d)
 
   seat_count : length (map seat_in ws) ≡ length scripts
-  seat_count = map_length seat_in ws ∙ workers_joined.each_process
+  seat_count = length-map ws seat_in ∙ workers_joined.each_process
 
   pub at_desk : All (λ (s : SeatView). s.desk ≡ desk) (map seat_in ws)
   at_desk k d lt =
-      let w = get_or ws k (idle d) in
-      let n = seat_count in
-      subst (λ (s : SeatView). s.desk ≡ desk) (sym (seat_at k d))
-      (workers_joined.worked k (idle d) (omega arith)).kept.at_desk
+      let n = seat_count in rw (seat_at k d) (workers_joined.worked k (idle d) (omega arith)).kept.at_desk
+
+  -- stands where there is no worker
+  abbrev no_worker : WorkedView
+  no_worker = idle (seat_of desk 0)
+
+  abbrev worker : ℕ → WorkedView
+  worker k = get_or ws k no_worker
+
+  worked_at : (k : ℕ) → k < length scripts → IsWorked may desk (k + 1) (script_at scripts k) limit (worker k)
+  worked_at k lt = workers_joined.worked k no_worker lt
 
   pub everybody : (p : ℕ) → IsOneOf (length scripts) p → HasSeat p (map seat_in ws)
   everybody p one =
       let k : ℕ = p - 1 in
-      let d : SeatView = seat_of desk 0 in
       let n = seat_count in
       let a = one.0 in let b = one.1 in
-      let lt : k < length scripts = omega arith in
       let same : k + 1 ≡ p = omega arith in
-      has_at p k (map seat_in ws) d (omega arith)
-      (ap (λ (s : SeatView). s.process) (seat_at k d) ∙ (workers_joined.worked k (idle d) lt).kept.of_process ∙ same)
+      has_at p k (map seat_in ws) (seat_of desk 0) (omega arith)
+      (ap (λ (s : SeatView). s.process) (seat_at k (seat_of desk 0)) ∙ (worked_at k (omega arith)).kept.of_process
+      ∙ same)
 
   module _ (items : List Item) (keeps : All (Keeps desk.base items) (map seat_in ws)) where
+    kept_at : (k : ℕ) → k < length scripts → Keeps desk.base items (worker k).seat
+    kept_at k lt = let n = seat_count in rw (seat_at k (seat_of desk 0)) at (keeps k (seat_of desk 0) (omega arith))
+
     -- the turns of worker k are the items of its process
-    own_is : (k : ℕ) (d : SeatView) → k < length scripts →
-        turns_of desk.base (k + 1) items ≡ (get_or ws k (idle d)).seat.own
-    own_is k d lt =
-        let w = get_or ws k (idle d) in
-        let n = seat_count in
-        let h : Keeps desk.base items w.seat =
-        subst (λ (s : SeatView). Keeps desk.base items s) (seat_at k d) (keeps k d (omega arith)) in
-        ap (λ (p : ℕ). turns_of desk.base p items) (sym (workers_joined.worked k (idle d) lt).kept.of_process) ∙ h.1
+    own_is : (k : ℕ) → k < length scripts → turns_of desk.base (k + 1) items ≡ (worker k).seat.own
+    own_is k lt =
+        ap (λ (p : ℕ). turns_of desk.base p items) (sym (worked_at k lt).kept.of_process) ∙ (kept_at k lt).1
+
+    -- the turns of a worker that came to the end of its script
+    whole_at : (k : ℕ) → k < length scripts → (worker k).stop ≡ None →
+        IsPlay (script_at scripts k) (turns_of desk.base (k + 1) items)
+    whole_at k lt none =
+        let ended : Ended may (script_at scripts k) limit (worker k).seat None = rw none at (worked_at k lt).ended in
+        rw (own_is k lt) ended
+
+    let_on_at : (k : ℕ) → k < length scripts → IsLetOn may (k + 1) (length (turns_of desk.base (k + 1) items))
+    let_on_at k lt = rw (own_is k lt) (worked_at k lt).kept.let_on
+
+    few_at : (k : ℕ) → k < length scripts → length (turns_of desk.base (k + 1) items) ≤ limit
+    few_at k lt = rw (own_is k lt) (worked_at k lt).kept.few
 
     few_own : (p : ℕ) → IsOneOf (length scripts) p → length (turns_of desk.base p items) ≤ limit
     few_own p one =
-        let k : ℕ = p - 1 in
-        let d : SeatView = seat_of desk 0 in
         let a = one.0 in let b = one.1 in
-        let lt : k < length scripts = omega arith in
-        let same : k + 1 ≡ p = omega arith in
-        let e = ap (λ (l : List OwnTurn). length l) (own_is k d lt) in
-        let few = (workers_joined.worked k (idle d) lt).kept.few in
-        subst (λ (q : ℕ). length (turns_of desk.base q items) ≤ limit) same (omega arith)
-
-    -- the turns of a worker that came to the end of its script
-    whole_at : (k : ℕ) (d : SeatView) → k < length scripts → (get_or ws k (idle d)).stop ≡ None →
-        IsPlay (script_at scripts k) (turns_of desk.base (k + 1) items)
-    whole_at k d lt none =
-        let w = get_or ws k (idle d) in
-        let r = workers_joined.worked k (idle d) lt in
-        let ended : Ended may (script_at scripts k) limit w.seat None =
-        subst (λ (o : Option Stop). Ended may (script_at scripts k) limit w.seat o) none r.ended in
-        subst (λ (l : List OwnTurn). IsPlay (script_at scripts k) l) (sym (own_is k d lt)) ended
-
-    let_on_at : (k : ℕ) → k < length scripts → IsLetOn may (k + 1) (length (turns_of desk.base (k + 1) items))
-    let_on_at k lt =
-        let d : SeatView = seat_of desk 0 in
-        subst (λ (l : List OwnTurn). IsLetOn may (k + 1) (length l)) (sym (own_is k d lt))
-        (workers_joined.worked k (idle d) lt).kept.let_on
-
-    few_at : (k : ℕ) → k < length scripts → length (turns_of desk.base (k + 1) items) ≤ limit
-    few_at k lt =
-        let d : SeatView = seat_of desk 0 in
-        subst (λ (l : List OwnTurn). length l ≤ limit) (sym (own_is k d lt))
-        (workers_joined.worked k (idle d) lt).kept.few
+        let same : (p - 1) + 1 ≡ p = omega arith in
+        rw same at (few_at (p - 1) (omega arith))
 
     pub plays_all : first_stop ws ≡ None → (k : ℕ) → k < length scripts →
         Played may desk.base items (k + 1) (script_at scripts k) limit (turns_at (map turns_told ws) k)
     plays_all none k lt =
-        let d : SeatView = seat_of desk 0 in
-        let r = workers_joined.worked k (idle d) lt in
         let n = workers_joined.each_process in record {
-          told = map_at turns_told ws k (idle d) ∙ r.kept.told ∙ ap (map shown) (sym (own_is k d lt));
-          plays = whole_at k d lt (no_stop ws k (idle d) none (omega arith));
+          told = map_at turns_told ws k no_worker ∙ (worked_at k lt).kept.told ∙ ap (map shown) (sym (own_is k lt));
+          plays = whole_at k lt (no_stop ws k no_worker none (omega arith));
           few = few_at k lt;
           let_on = let_on_at k lt;
         }
 
     part_at : (k : ℕ) → k < length scripts → IsPart may desk.base items (k + 1) (script_at scripts k) limit
     part_at k lt =
-        let d : SeatView = seat_of desk 0 in
-        let w = get_or ws k (idle d) in
-        let r = workers_joined.worked k (idle d) lt in record {
+        let w = worker k in record {
           plays =
-              subst (λ (l : List OwnTurn). IsPlay (script_at scripts k) l ⊎ IsBegun (script_at scripts k) l)
-              (sym (own_is k d lt)) (whole_or_begun may (script_at scripts k) limit w.seat w.stop r.ended);
+              rw (own_is k lt) (whole_or_begun may (script_at scripts k) limit w.seat w.stop (worked_at k lt).ended);
           few = few_at k lt;
           let_on = let_on_at k lt;
         }
 
-    -- how the worker at fault stopped
-    stopped_at : (pf : ℕ × Stop) (at : Stopping ws pf) (d : SeatView) →
-        Stopped may (script_at scripts at.at) limit (get_or ws at.at (idle d)).seat pf.1
-    stopped_at pf at d =
-        let n = workers_joined.each_process in
-        let k = at.at in
-        let lt : k < length scripts = (let l = at.there in omega arith) in
-        subst (λ (o : Option Stop). Ended may (script_at scripts k) limit (get_or ws k (idle d)).seat o)
-        (at.stop (idle d)) (workers_joined.worked k (idle d) lt).ended
+    module _ (pf : ℕ × Stop) (at : Stopping ws pf) where
+      stop_below : at.at < length scripts
+      stop_below = let n = workers_joined.each_process in let l = at.there in omega arith
 
-    gives_up : length scripts ≡ desk.base.shape.n → IsValidRun (run_of desk.base items) → length items ≤ 1000000 →
-        (pf : ℕ × Stop) → Stopping ws pf → GivesUp may desk.base scripts limit pf.0 items
-    gives_up n fits short pf at =
-        let d : SeatView = seat_of desk 0 in
-        let k = at.at in
-        let many = workers_joined.each_process in
-        let lt : k < length scripts = (let l = at.there in omega arith) in
-        let process : pf.0 ≡ k + 1 =
-        sym (at.process (idle d)) ∙ (workers_joined.worked k (idle d) lt).kept.of_process in
-        let back : pf.0 - 1 ≡ k = omega arith in
-        let begun : IsBegun (script_at scripts k) (turns_of desk.base (k + 1) items) =
-        subst (λ (l : List OwnTurn). IsBegun (script_at scripts k) l) (sym (own_is k d lt))
-        (stopped_at pf at d).begun in
-        record {
-          fits = fits;
-          short = short;
-          parts = λ j below. part_at j (omega arith);
-          one = (omega arith, omega arith);
-          begun =
-              subst (λ (p : ℕ). IsBegun (script_at scripts (pf.0 - 1)) (turns_of desk.base p items)) (sym process)
-              (subst (λ (j : ℕ). IsBegun (script_at scripts j) (turns_of desk.base (k + 1) items)) (sym back) begun);
-          whole = λ j below. whole_at j d (omega arith) (at.before j (idle d) (omega arith));
-        }
+      stop_process : pf.0 ≡ at.at + 1
+      stop_process = sym (at.process no_worker) ∙ (worked_at at.at stop_below).kept.of_process
 
-    -- what the worker at fault knows of its turns, said of those in the record
-    of_record : (T : ℕ → ℕ → Type 0) (pf : ℕ × Stop) (at : Stopping ws pf) (d : SeatView)
-        → T (get_or ws at.at (idle d)).seat.process (length (get_or ws at.at (idle d)).seat.own) →
-        T pf.0 (length (turns_of desk.base pf.0 items))
-    of_record T pf at d h =
-        let k = at.at in
-        let many = workers_joined.each_process in
-        let lt : k < length scripts = (let l = at.there in omega arith) in
-        let process : pf.0 ≡ k + 1 =
-        sym (at.process (idle d)) ∙ (workers_joined.worked k (idle d) lt).kept.of_process in
-        let own : (get_or ws k (idle d)).seat.own ≡ turns_of desk.base pf.0 items =
-        sym (own_is k d lt) ∙ ap (λ (p : ℕ). turns_of desk.base p items) (sym process) in
-        subst (λ (l : List OwnTurn). T pf.0 (length l)) own
-        (subst (λ (p : ℕ). T p (length (get_or ws k (idle d)).seat.own)) (at.process (idle d)) h)
+      -- how the worker at fault stopped
+      stopped_at : Stopped may (script_at scripts at.at) limit (worker at.at).seat pf.1
+      stopped_at = rw (at.stop no_worker) at (worked_at at.at stop_below).ended
+
+      gives_up : length scripts ≡ desk.base.shape.n → IsValidRun (run_of desk.base items) → length items ≤ 1000000 →
+          GivesUp may desk.base scripts limit pf.0 items
+      gives_up n fits short =
+          let many = workers_joined.each_process in
+          let lt = stop_below in
+          let process = stop_process in
+          let back : pf.0 - 1 ≡ at.at = omega arith in
+          let begun : IsBegun (script_at scripts at.at) (turns_of desk.base (at.at + 1) items) =
+          rw (own_is at.at lt) stopped_at.begun in
+          record {
+            fits = fits;
+            short = short;
+            parts = λ j below. part_at j (omega arith);
+            one = (omega arith, omega arith);
+            begun = rw (back, process) begun;
+            whole = λ j below. whole_at j (omega arith) (at.before j no_worker (omega arith));
+          }
+
+      -- what the worker at fault knows of its turns, said of those in the record
+      of_record : (T : ℕ → ℕ → Type 0) → T (worker at.at).seat.process (length (worker at.at).seat.own) →
+          T pf.0 (length (turns_of desk.base pf.0 items))
+      of_record T h =
+          let own : turns_of desk.base pf.0 items ≡ (worker at.at).seat.own =
+          ap (λ (p : ℕ). turns_of desk.base p items) stop_process ∙ own_is at.at stop_below in
+          rw own (rw (at.process no_worker) at h)
 
     pub limit_fault : length scripts ≡ desk.base.shape.n → IsValidRun (run_of desk.base items) → length items ≤ 1000000
         → (p : ℕ) → first_stop ws ≡ Some (p, TurnLimit) →
         MayFault may desk.base scripts limit (fault.Refused (refusal.TurnLimit p))
     limit_fault n fits short p e =
-        let d : SeatView = seat_of desk 0 in
         let pf : ℕ × Stop = (p, TurnLimit) in
         let at = a_stop ws pf e in record {
           items = items;
-          given_up = gives_up n fits short pf at;
-          no_further = of_record (λ q made. MayNotGoOn may q made limit) pf at d (stopped_at pf at d).why;
+          given_up = gives_up pf at n fits short;
+          no_further = of_record pf at (λ q made. MayNotGoOn may q made limit) (stopped_at pf at).why;
         }
 
     pub full_fault : length scripts ≡ desk.base.shape.n → IsValidRun (run_of desk.base items) → length items ≤ 1000000
         → (p : ℕ) → first_stop ws ≡ Some (p, Full) →
         MayFault may desk.base scripts limit (fault.Refused (refusal.Full 1000000))
     full_fault n fits short p e =
-        let d : SeatView = seat_of desk 0 in
         let pf : ℕ × Stop = (p, Full) in
         let at = a_stop ws pf e in
-        let k = at.at in
-        let w = get_or ws k (idle d) in
-        let c = seat_count in
-        let lt : k < length scripts = (let l = at.there in let m = workers_joined.each_process in omega arith) in
-        let h : Keeps desk.base items w.seat =
-        subst (λ (s : SeatView). Keeps desk.base items s) (seat_at k d) (keeps k d (omega arith)) in
-        let longer : length w.seat.seen ≤ length items = prefix_length w.seat.seen items h.0 in
-        let why = (stopped_at pf at d).why in
+        let w = worker at.at in
+        let longer : length w.seat.seen ≤ length items =
+        prefix_length w.seat.seen items (kept_at at.at (stop_below pf at)).0 in
+        let why = (stopped_at pf at).why in
         let seen = why.0 in
         let all : length items ≡ 1000000 = omega arith in
-        let up = gives_up n fits short pf at in
+        let up = gives_up pf at n fits short in
         let goes_on : MayGoOn may p (length (turns_of desk.base p items)) limit =
-        of_record (λ q made. MayGoOn may q made limit) pf at d why.1 in
+        of_record pf at (λ q made. MayGoOn may q made limit) why.1 in
         let every : (q : ℕ) → IsOneOf desk.base.shape.n q → length (turns_of desk.base q items) ≤ limit =
         λ q one. few_own q (one.0, (let le = one.1 in omega arith)) in
         let few = few_items desk.base limit p items fits.all every up.one goes_on.fewer in (
@@ -477,32 +440,26 @@ module _ (may : ℕ → ℕ → Bool → Type 0) (desk : DeskView) (base : Setti
 
   nobody_least : (p : ℕ) → IsLeastMissing p desk.base.shape.n ss → ⊥
   nobody_least p m =
-      m.missing (subst (λ (l : List SeatView). HasSeat p l) (sym seats)
-      (everybody may desk scripts limit ws workers_joined p (subst (λ (k : ℕ). IsOneOf k p) (sym many) m.one)))
+      m.missing (rw seats (everybody may desk scripts limit ws workers_joined p (rw many m.one)))
 
   pub nobody_missing : (f : Fault LiveRefusal) → NamesMissing f desk.base.shape.n ss → ⊥
-  nobody_missing fault.Memory m = m
-  nobody_missing (fault.Refused (refusal.Full k)) m = m
-  nobody_missing (fault.Refused (refusal.TurnLimit p)) m = m
   nobody_missing (fault.Refused (refusal.SeatMissing p)) m = nobody_least p m
+  nobody_missing _ m = m
 
   module _ (kept : Run) (kept_base : setting_of kept ≡ desk.base) (keeps : All (Keeps desk.base kept.items) ss) where
     all_kept : All (Keeps desk.base kept.items) (map seat_in ws)
-    all_kept = subst (λ (l : List SeatView). All (Keeps desk.base kept.items) l) seats keeps
+    all_kept = rw seats at keeps
 
     pub run_ends : (turns : List (List Turn)) → turns ≡ map turns_told ws → first_stop ws ≡ None →
         IsLive may base scripts limit kept turns
     run_ends turns told none =
-        subst (λ (b : Setting). IsLive may b scripts limit kept turns) of_base (record {
+        rw (← of_base) (record {
           of_base = kept_base;
           each_process =
-              ap (λ (l : List (List Turn)). length l) told ∙ map_length turns_told ws
+              ap (λ (l : List (List Turn)). length l) told ∙ length-map ws turns_told
               ∙ workers_joined.each_process ∙ many;
           played = λ k lt.
-              subst (λ (l : List (List Turn)).
-              Played may desk.base kept.items (k + 1) (script_at scripts k) limit (turns_at l k)) (sym told)
-              (plays_all may desk scripts limit ws workers_joined kept.items all_kept none k
-              (subst (λ (m : ℕ). k < m) (sym many) lt));
+              rw told (plays_all may desk scripts limit ws workers_joined kept.items all_kept none k (rw many lt));
         })
 
     same_run : kept ≡ run_of desk.base kept.items
@@ -512,10 +469,8 @@ module _ (may : ℕ → ℕ → Bool → Type 0) (desk : DeskView) (base : Setti
         first_stop ws ≡ Some (p, f) → MayFault may base scripts limit (fault_of p f)
     run_faults valid short p Memory e = tt
     run_faults valid short p Full e =
-        subst (λ (b : Setting). MayFault may b scripts limit (fault.Refused (refusal.Full 1000000))) of_base
-        (full_fault may desk scripts limit ws workers_joined kept.items all_kept many
-        (subst (λ (r : Run). IsValidRun r) same_run valid) short p e)
+        rw (← of_base)
+        (full_fault may desk scripts limit ws workers_joined kept.items all_kept many (rw same_run at valid) short p e)
     run_faults valid short p TurnLimit e =
-        subst (λ (b : Setting). MayFault may b scripts limit (fault.Refused (refusal.TurnLimit p))) of_base
-        (limit_fault may desk scripts limit ws workers_joined kept.items all_kept many
-        (subst (λ (r : Run). IsValidRun r) same_run valid) short p e)
+        rw (← of_base)
+        (limit_fault may desk scripts limit ws workers_joined kept.items all_kept many (rw same_run at valid) short p e)

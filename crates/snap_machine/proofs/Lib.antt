@@ -1,5 +1,4 @@
 -- The proofs of snap_machine, by their modules.
-pub mod Owners
 pub mod States
 pub mod Values
 pub use Rattle.snap_machine.proofs.Sizes

@@ -1,18 +1,8 @@
 -- Two texts that differ in one part alone (`Differs`): the parts before it and behind it are the same.
-use Rattle.std.proofs.Common.{◌≡◌, ℕ, zero, suc, ◌+◌, Bool, true, false, List, [], ◌∷◌, ◌++◌, Option, Some, None}
-use Rattle.std.proofs.Common.{if◌then◌else◌, slice_get, slice_set, refl, sym, ap, ◌∙◌, append_assoc, append-nil, subst}
-use Rattle.std.specs.List.{AllByRecursion}
-use Rattle.snap_output.proofs.Wholes.{feeds}
-use Rattle.snap_output.proofs.Splits.{IsSplit, numbered, split}
-
--- an old text and a new one around a part, where all other parts are texts of a sort
-pub record IsOther (P : List ℕ → Type 0) (old new m m' : List ℕ) : Type 0 where
-  pub front : List ℕ
-  pub rest : List ℕ
-  pub front_is : P front
-  pub rest_is : P rest
-  pub old_is : old ≡ front ++ (m ++ rest)
-  pub new_is : new ≡ front ++ (m' ++ rest)
+use Rattle.std.proofs.Common.{◌≡◌, ℕ, ◌+◌, Bool, true, false, List, [], ◌++◌, Option, Some, None, if◌then◌else◌}
+use Rattle.std.proofs.Common.{slice_get, slice_set, refl, sym, ap, ◌∙◌, append_assoc, append-nil, subst}
+use Rattle.snap_output.proofs.Wholes.{feeds, feeds_both}
+use Rattle.snap_output.proofs.Splits.{AreJoined, IsSplit}
 
 -- parts with as many lines
 pub record IsLike (P : List ℕ → Type 0) (m m' : List ℕ) : Type 0 where
@@ -20,164 +10,102 @@ pub record IsLike (P : List ℕ → Type 0) (m m' : List ℕ) : Type 0 where
   pub mine' : P m'
   pub same : feeds m ≡ feeds m'
 
+-- an old text and a new one around a part, where all other parts are texts of a sort
 pub record Differs (P : List ℕ → Type 0) (old new m m' : List ℕ) : Type 0 where
-  pub other : IsOther P old new m m'
+  pub front : List ℕ
+  pub rest : List ℕ
+  pub front_is : P front
+  pub rest_is : P rest
+  pub old_is : old ≡ front ++ (m ++ rest)
+  pub new_is : new ≡ front ++ (m' ++ rest)
   pub alike : IsLike P m m'
 
--- a text without lines
-pub nothing : (P : List ℕ → Type 0) → P [] → Differs P [] [] [] []
-nothing P none = record {
-  other = record { front = []; rest = []; front_is = none; rest_is = none; old_is = refl; new_is = refl };
-  alike = record { mine = none; mine' = none; same = refl };
-}
-
--- nothing differs
-pub stays : (P : List ℕ → Type 0) (t : List ℕ) → P [] → P t → Differs P t t [] []
-stays P t none h = record {
-  other = record {
-    front = t;
-    rest = [];
-    front_is = h;
-    rest_is = none;
-    old_is = sym (append-nil t);
-    new_is = sym (append-nil t);
-  };
-  alike = record { mine = none; mine' = none; same = refl };
-}
+-- texts that differ in parts with as many lines have as many lines
+pub differ_feeds : {P : List ℕ → Type 0} {a a' m m' : List ℕ} → Differs P a a' m m' → feeds a ≡ feeds a'
+differ_feeds {m = m} {m' = m'} h =
+    ap feeds h.old_is
+    ∙ feeds_both h.front h.front (m ++ h.rest) (m' ++ h.rest) refl (feeds_both m m' h.rest h.rest h.alike.same refl)
+    ∙ sym (ap feeds h.new_is)
 
 -- the parts by other names
-pub differ_as : (P : List ℕ → Type 0) (a a' m m' n n' : List ℕ) → Differs P a a' m m' → m ≡ n → m' ≡ n' →
+pub differ_as : {P : List ℕ → Type 0} {a a' m m' n n' : List ℕ} → Differs P a a' m m' → m ≡ n → m' ≡ n' →
     Differs P a a' n n'
-differ_as P a a' m m' n n' h e e' =
-    subst (λ (t : List ℕ). Differs P a a' n t) e' (subst (λ (t : List ℕ). Differs P a a' t m') e h)
-
--- the texts by other names
-pub differ_of : (P : List ℕ → Type 0) (a a' b b' m m' : List ℕ) → Differs P a a' m m' → a ≡ b → a' ≡ b' →
-    Differs P b b' m m'
-differ_of P a a' b b' m m' h e e' =
-    subst (λ (t : List ℕ). Differs P b t m m') e' (subst (λ (t : List ℕ). Differs P t a' m m') e h)
+differ_as {P} {a} {a'} {m' = m'} {n = n} h e e' = subst (Differs P a a' n) e' (subst (λ t. Differs P a a' t m') e h)
 
 -- the element at a place, where there is one
 abbrev pub at : {A : Type 0} → (A → List ℕ) → Option A → List ℕ
 at f None = []
 at f (Some x) = f x
 
-chosen : {A : Type 0} (f : A → List ℕ) (b : Bool) (x : A) →
-    (if b then f x else []) ≡ at f (if b then Some x else None)
-chosen f true x = refl
-chosen f false x = refl
+module _ {P : List ℕ → Type 0} (joins : AreJoined P) where
+  -- one text in the place of another
+  pub itself : {m m' : List ℕ} → P m → P m' → feeds m ≡ feeds m' → Differs P m m' m m'
+  itself {m} {m'} h h' e = record {
+    front = [];
+    rest = [];
+    front_is = joins.none;
+    rest_is = joins.none;
+    old_is = sym (append-nil m);
+    new_is = sym (append-nil m');
+    alike = record { mine = h; mine' = h'; same = e };
+  }
 
--- whether there is such a place
-pub record IsThere {A : Type 0} (xs : List A) (j : ℕ) : Type 0 where
-  pub there : Bool
-  pub got : (y : A) → slice_get (slice_set xs j y) j ≡ (if there then Some y else None)
-
-pub is_there : {A : Type 0} (xs : List A) (j : ℕ) → IsThere xs j
-is_there [] j = record { there = false; got = λ y. refl }
-is_there (x ∷ xs) zero = record { there = true; got = λ y. refl }
-is_there {A} (x ∷ xs) (suc j) =
-    let more : IsThere xs j = is_there xs j in record { there = more.there; got = more.got }
-
-module _ (P : List ℕ → Type 0) (none : P []) (join : (a b : List ℕ) → P a → P b → P (a ++ b)) where
   -- a part of a part
-  pub differ_within : (a a' b b' c c' : List ℕ) → IsOther P a a' b b' → Differs P b b' c c' → Differs P a a' c c'
-  differ_within a a' b b' c c' h k = record {
-    other = record {
-      front = h.front ++ k.other.front;
-      rest = k.other.rest ++ h.rest;
-      front_is = join h.front k.other.front h.front_is k.other.front_is;
-      rest_is = join k.other.rest h.rest k.other.rest_is h.rest_is;
-      old_is =
-          h.old_is ∙ ap (λ t. h.front ++ (t ++ h.rest)) k.other.old_is
-          ∙ regroup h.front k.other.front c k.other.rest h.rest;
-      new_is =
-          h.new_is ∙ ap (λ t. h.front ++ (t ++ h.rest)) k.other.new_is
-          ∙ regroup h.front k.other.front c' k.other.rest h.rest;
-    };
-    alike = k.alike;
-  } where
-    regroup : (f e m r s : List ℕ) → f ++ ((e ++ (m ++ r)) ++ s) ≡ (f ++ e) ++ (m ++ (r ++ s))
-    regroup f e m r s = simp append_assoc
+  pub within : (f r : List ℕ) {a a' b b' c c' : List ℕ} → P f → P r → Differs P b b' c c' → a ≡ f ++ (b ++ r) →
+      a' ≡ f ++ (b' ++ r) → Differs P a a' c c'
+  within f r {c = c} {c' = c'} hf hr h e e' =
+      record {
+        front = f ++ h.front;
+        rest = h.rest ++ r;
+        front_is = joins.join hf h.front_is;
+        rest_is = joins.join h.rest_is hr;
+        old_is = e ∙ ap (λ t. f ++ (t ++ r)) h.old_is ∙ regroup h.front c h.rest;
+        new_is = e' ∙ ap (λ t. f ++ (t ++ r)) h.new_is ∙ regroup h.front c' h.rest;
+        alike = h.alike;
+      }
+    where
+      regroup : (x m y : List ℕ) → f ++ ((x ++ (m ++ y)) ++ r) ≡ (f ++ x) ++ (m ++ (y ++ r))
+      regroup x m y = simp append_assoc
+
+  -- nothing differs
+  pub stays : {t : List ℕ} → P t → Differs P t t [] []
+  stays {t} h = within t [] h joins.none (itself joins.none joins.none refl) (sym (append-nil t)) (sym (append-nil t))
 
   -- one of four parts
-  pub in_first : (a a' b c d : List ℕ) → P b → P c → P d →
-      IsOther P (((a ++ b) ++ c) ++ d) (((a' ++ b) ++ c) ++ d) a a'
-  in_first a a' b c d hb hc hd = record {
-    front = [];
-    rest = b ++ (c ++ d);
-    front_is = none;
-    rest_is = join b (c ++ d) hb (join c d hc hd);
-    old_is = simp append_assoc;
-    new_is = simp append_assoc;
-  }
+  pub in_first : {a a' b c d m m' : List ℕ} → P b → P c → P d → Differs P a a' m m' →
+      Differs P (((a ++ b) ++ c) ++ d) (((a' ++ b) ++ c) ++ d) m m'
+  in_first {b = b} {c = c} {d = d} hb hc hd h =
+      within [] (b ++ (c ++ d)) joins.none (joins.join hb (joins.join hc hd)) h
+      (simp append_assoc) (simp append_assoc)
 
-  pub in_second : (a b b' c d : List ℕ) → P a → P c → P d →
-      IsOther P (((a ++ b) ++ c) ++ d) (((a ++ b') ++ c) ++ d) b b'
-  in_second a b b' c d ha hc hd = record {
-    front = a;
-    rest = c ++ d;
-    front_is = ha;
-    rest_is = join c d hc hd;
-    old_is = simp append_assoc;
-    new_is = simp append_assoc;
-  }
+  pub in_second : {a b b' c d m m' : List ℕ} → P a → P c → P d → Differs P b b' m m' →
+      Differs P (((a ++ b) ++ c) ++ d) (((a ++ b') ++ c) ++ d) m m'
+  in_second {a} {c = c} {d = d} ha hc hd h =
+      within a (c ++ d) ha (joins.join hc hd) h (simp append_assoc) (simp append_assoc)
 
-  pub in_third : (a b c c' d : List ℕ) → P a → P b → P d →
-      IsOther P (((a ++ b) ++ c) ++ d) (((a ++ b) ++ c') ++ d) c c'
-  in_third a b c c' d ha hb hd = record {
-    front = a ++ b;
-    rest = d;
-    front_is = join a b ha hb;
-    rest_is = hd;
-    old_is = append_assoc (a ++ b) c d;
-    new_is = append_assoc (a ++ b) c' d;
-  }
+  pub in_third : {a b c c' d m m' : List ℕ} → P a → P b → P d → Differs P c c' m m' →
+      Differs P (((a ++ b) ++ c) ++ d) (((a ++ b) ++ c') ++ d) m m'
+  in_third {a} {b} {d = d} ha hb hd h =
+      within (a ++ b) d (joins.join ha hb) hd h (simp append_assoc) (simp append_assoc)
 
-  pub in_fourth : (a b c d d' : List ℕ) → P a → P b → P c →
-      IsOther P (((a ++ b) ++ c) ++ d) (((a ++ b) ++ c) ++ d') d d'
-  in_fourth a b c d d' ha hb hc = record {
-    front = (a ++ b) ++ c;
-    rest = [];
-    front_is = join (a ++ b) c (join a b ha hb) hc;
-    rest_is = none;
-    old_is = ap (λ t. ((a ++ b) ++ c) ++ t) (sym (append-nil d));
-    new_is = ap (λ t. ((a ++ b) ++ c) ++ t) (sym (append-nil d'));
-  }
+  pub in_fourth : {a b c d d' m m' : List ℕ} → P a → P b → P c → Differs P d d' m m' →
+      Differs P (((a ++ b) ++ c) ++ d) (((a ++ b) ++ c) ++ d') m m'
+  in_fourth {a} {b} {c} ha hb hc h =
+      within ((a ++ b) ++ c) [] (joins.join (joins.join ha hb) hc) joins.none h
+      (simp append-nil) (simp append-nil)
 
-  -- the part of an element that is there
-  pub if_there : {A : Type 0} (f h : A → List ℕ) (b : Bool) (v w : A) → Differs P (f v) (f w) (h v) (h w) →
-      Differs P (at f (if b then Some v else None)) (at f (if b then Some w else None))
-      (at h (if b then Some v else None)) (at h (if b then Some w else None))
-  if_there f h true v w d = d
-  if_there f h false v w d = nothing P none
-
-  -- one element of a list differs
-  pub one_differs : {A : Type 0} (f : ℕ → A → List ℕ) (Good : A → Type 0)
-      (each : (n : ℕ) (x : A) → Good x → P (f n x)) (n j : ℕ) (xs old new : List A) (v w : A) →
-      AllByRecursion Good xs → Good v → Good w → feeds (f (n + j) v) ≡ feeds (f (n + j) w) → old ≡ slice_set xs j v →
-      new ≡ slice_set xs j w → Differs P (numbered f n old) (numbered f n new)
-      (at (f (n + j)) (slice_get old j)) (at (f (n + j)) (slice_get new j))
-  one_differs {A} f Good each n j xs old new v w good gv gw count e e' =
-      differ_as P (numbered f n old) (numbered f n new)
-      (if sp.there then f (n + j) v else []) (if sp.there then f (n + j) w else [])
-      (at (f (n + j)) (slice_get old j)) (at (f (n + j)) (slice_get new j))
-      (record {
-        other = record {
-          front = sp.front;
-          rest = sp.rest;
-          front_is = sp.front_is;
-          rest_is = sp.rest_is;
-          old_is = ap (numbered f n) e ∙ sp.text v;
-          new_is = ap (numbered f n) e' ∙ sp.text w;
-        };
-        alike = like sp.there;
-      })
-      (chosen (f (n + j)) sp.there v ∙ ap (at (f (n + j))) (sym (ap (λ (zs : List A). slice_get zs j) e ∙ sp.got v)))
-      (chosen (f (n + j)) sp.there w ∙ ap (at (f (n + j))) (sym (ap (λ (zs : List A). slice_get zs j) e' ∙ sp.got w)))
+  -- one element of a list differs, in a part of it
+  pub one_differs : {A : Type 0} {f : ℕ → A → List ℕ} {F : ℕ → List A → List ℕ} (h : A → List ℕ) (n j : ℕ)
+      (xs : List A) {old new : List A} (v w : A) → IsSplit P f F n j xs → old ≡ slice_set xs j v →
+      new ≡ slice_set xs j w → Differs P (f (n + j) v) (f (n + j) w) (h v) (h w) →
+      Differs P (F n old) (F n new) (at h (slice_get old j)) (at h (slice_get new j))
+  one_differs {A} {f} {F} h n j xs v w sp e e' d =
+      within sp.front sp.rest sp.front_is sp.rest_is
+      (by_case sp.there _ _ (ap (λ (zs : List A). slice_get zs j) e ∙ sp.got v)
+      (ap (λ (zs : List A). slice_get zs j) e' ∙ sp.got w))
+      (ap (F n) e ∙ sp.text v) (ap (F n) e' ∙ sp.text w)
     where
-      sp : IsSplit P f n j xs
-      sp = split P none join f Good each n j xs good
-
-      like : (b : Bool) → IsLike P (if b then f (n + j) v else []) (if b then f (n + j) w else [])
-      like true = record { mine = each (n + j) v gv; mine' = each (n + j) w gw; same = count }
-      like false = record { mine = none; mine' = none; same = refl }
+      by_case : (b : Bool) (o o' : Option A) → o ≡ (if b then Some v else None) → o' ≡ (if b then Some w else None) →
+          Differs P (if b then f (n + j) v else []) (if b then f (n + j) w else []) (at h o) (at h o')
+      by_case true o o' is is' = differ_as d (ap (at h) (sym is)) (ap (at h) (sym is'))
+      by_case false o o' is is' = differ_as (stays joins.none) (ap (at h) (sym is)) (ap (at h) (sym is'))

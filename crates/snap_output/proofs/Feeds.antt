@@ -1,8 +1,9 @@
 -- How many line feeds the printed texts of a report have (`feeds`): numbers have none, and a line has one at its end.
-use Rattle.std.proofs.Common.{◌≡◌, ℕ, zero, suc, ◌+◌, ◌/◌, ◌%◌, Bool, true, false, List, [], ◌∷◌, ◌++◌, length}
+use Rattle.std.proofs.Common.{◌≡◌, ℕ, zero, suc, ◌+◌, ◌≤◌, ◌/◌, ◌%◌, Bool, true, false, List, [], ◌∷◌, ◌++◌, length}
 use Rattle.std.proofs.Common.{Option, Some, None, codes, decimal, nat_eq, nat_lt, if◌then◌else◌, refl, sym, ap, ◌∙◌}
-use Rattle.std.proofs.Common.{slice_index_or, slice_set, arith, length-set}
+use Rattle.std.proofs.Common.{slice_set, arith, length-set}
 use Rattle.std.proofs.lemmas.Bool.{ne_eqb}
+use Rattle.std.specs.List.{AllByRecursion}
 use Rattle.std.specs.Prelude.{bytes_eq, ◌==◌}
 use Rattle.std.specs.Fmt.{digit_glyph, digits, digits_onto}
 use Rattle.snap_words.specs.Word.{Word}
@@ -21,34 +22,39 @@ use Rattle.snap_semantics.specs.Report.{register_lines, row_lines, status_text, 
 use Rattle.snap_semantics.specs.Report.{view_lines, word_line, word_lines, word_local, word_text, words_local}
 use Rattle.snap_semantics.specs.Source.{Name}
 use Rattle.snap_semantics.specs.State.{Locals, Memory, NameMap, value_at, with_value}
-use Rattle.snap_output.proofs.Wholes.{feeds, feeds_append}
+use Rattle.snap_semantics.specs.Table.{with_bit_at}
+use Rattle.snap_output.proofs.Splits.{IsInOrder, places_order, views_order, words_order}
+use Rattle.snap_output.proofs.Wholes.{feeds, feeds_append, feeds_both}
 
-glyph_plain : (d : ℕ) → nat_eq (digit_glyph false d) 10 ≡ false
-glyph_plain d = by_case (nat_lt d 10)
+-- each digit of a number is one of the bytes from 48 on
+pub each_digit : (P : ℕ → Type 0) → ((b : ℕ) → 48 ≤ b → P b) → (n : ℕ) → AllByRecursion P (decimal n)
+unfolding digits
+each_digit P high n = digits_are 64 n [] tt
   where
-    by_case : (v : Bool) → nat_eq (if v then 48 + d else 87 + d) 10 ≡ false
-    by_case true = ne_eqb (48 + d) 10 (λ e. omega (arith, e))
-    by_case false = ne_eqb (87 + d) 10 (λ e. omega (arith, e))
+    glyph : (d : ℕ) (v : Bool) → P (if v then 48 + d else 87 + d)
+    glyph d true = high (48 + d) (omega arith)
+    glyph d false = high (87 + d) (omega arith)
 
-byte_plain : (b : ℕ) (t : List ℕ) → nat_eq b 10 ≡ false → feeds (b ∷ t) ≡ feeds t
-byte_plain b t e = rw e refl
+    digits_are : (k n : ℕ) (acc : List ℕ) → AllByRecursion P acc → AllByRecursion P (digits_onto k 10 false n acc)
+    digits_are zero n acc h = h
+    digits_are (suc k) n acc h = by_case (n / 10 == 0) (digits_are k (n / 10) (digit_glyph false (n % 10) ∷ acc) all)
+      where
+        all : AllByRecursion P (digit_glyph false (n % 10) ∷ acc)
+        all = (glyph (n % 10) (nat_lt (n % 10) 10), h)
 
-digits_plain : (k n : ℕ) (acc : List ℕ) → feeds (digits_onto k 10 false n acc) ≡ feeds acc
-digits_plain zero n acc = refl
-digits_plain (suc k) n acc =
-    by_case (n / 10 == 0) (byte_plain (digit_glyph false (n % 10)) acc (glyph_plain (n % 10)))
-    (digits_plain k (n / 10) (digit_glyph false (n % 10) ∷ acc))
-  where
-    by_case : (v : Bool) → feeds (digit_glyph false (n % 10) ∷ acc) ≡ feeds acc →
-        feeds (digits_onto k 10 false (n / 10) (digit_glyph false (n % 10) ∷ acc))
-        ≡ feeds (digit_glyph false (n % 10) ∷ acc) → feeds (if v then digit_glyph false (n % 10) ∷ acc
-        else digits_onto k 10 false (n / 10) (digit_glyph false (n % 10) ∷ acc)) ≡ feeds acc
-    by_case true first rest = first
-    by_case false first rest = rest ∙ first
+        by_case : (v : Bool) → AllByRecursion P (digits_onto k 10 false (n / 10) (digit_glyph false (n % 10) ∷ acc)) →
+            AllByRecursion P (if v then digit_glyph false (n % 10) ∷ acc
+            else digits_onto k 10 false (n / 10) (digit_glyph false (n % 10) ∷ acc))
+        by_case true more = all
+        by_case false more = more
+
+plain_bytes : (xs : List ℕ) → AllByRecursion (λ b. nat_eq b 10 ≡ false) xs → feeds xs ≡ 0
+plain_bytes [] h = refl
+plain_bytes (b ∷ xs) h = rw h.0 (plain_bytes xs h.1)
 
 pub decimal_plain : (n : ℕ) → feeds (decimal n) ≡ 0
-unfolding digits
-decimal_plain n = digits_plain 64 n []
+decimal_plain n =
+    plain_bytes (decimal n) (each_digit (λ b. nat_eq b 10 ≡ false) (λ b h. ne_eqb b 10 (λ e. omega (arith, h, e))) n)
 
 pub numbers_plain : (xs : List ℕ) → feeds (numbers_text xs) ≡ 0
 numbers_plain [] = refl
@@ -97,12 +103,6 @@ values_feeds xs = simp (feeds_append, numbers_plain)
 pub word_feeds : (g : KindTag) (k : ℕ) (x : Word) → feeds (word_line g k x) ≡ 1
 word_feeds g k x = simp (feeds_append, decimal_plain, word_plain)
 
-words_feeds : (g : KindTag) (k : ℕ) (xs : List Word) → feeds (word_lines g k xs) ≡ length xs
-words_feeds g k [] = refl
-words_feeds g k (x ∷ xs) =
-    feeds_append (word_line g k x) (word_lines g (k + 1) xs)
-    ∙ (let first = word_feeds g k x in let rest = words_feeds g (k + 1) xs in omega (arith, first, rest))
-
 pub bit_feeds : (bank : List ℕ) (i j x : ℕ) → feeds bank ≡ 0 → feeds (bit_line bank i j x) ≡ 1
 bit_feeds bank i j x h = simp (feeds_append, decimal_plain) (omega (arith, h))
 
@@ -115,57 +115,58 @@ row_feeds bank i j (x ∷ xs) h =
 pub view_feeds : (i : ℕ) (view : List ℕ) → feeds (view_line i view) ≡ 1
 view_feeds i view = simp (feeds_append, decimal_plain, numbers_plain)
 
-views_feeds : (i : ℕ) (views : List (List ℕ)) → feeds (view_lines i views) ≡ length views
-views_feeds i [] = refl
-views_feeds i (view ∷ views) =
-    feeds_append (view_line i view) (view_lines (i + 1) views)
-    ∙ (let first = view_feeds i view in let rest = views_feeds (i + 1) views in omega (arith, first, rest))
+-- lists of as many elements, each text of which has as many lines
+same_feeds : {A : Type 0} {f : ℕ → A → List ℕ} {F : ℕ → List A → List ℕ} → IsInOrder f F →
+    ((n : ℕ) (x y : A) → feeds (f n x) ≡ feeds (f n y)) → (n : ℕ) (xs ys : List A) → length xs ≡ length ys →
+    feeds (F n xs) ≡ feeds (F n ys)
+same_feeds order each n [] [] e = refl
+same_feeds order each n [] (y ∷ ys) e = absurd (omega (arith, e))
+same_feeds order each n (x ∷ xs) [] e = absurd (omega (arith, e))
+same_feeds {f = f} {F = F} order each n (x ∷ xs) (y ∷ ys) e =
+    ap feeds (order.more n x xs)
+    ∙ feeds_both (f n x) (f n y) (F (n + 1) xs) (F (n + 1) ys) (each n x y)
+    (same_feeds order each (n + 1) xs ys (omega (arith, e)))
+    ∙ sym (ap feeds (order.more n y ys))
 
 -- another word, another bit and another view, each in its place
 pub word_set : (g : KindTag) (ws : List Word) (k : ℕ) (x : Word) →
     feeds (word_lines g 1 (slice_set ws k x)) ≡ feeds (word_lines g 1 ws)
-word_set g ws k x = words_feeds g 1 (slice_set ws k x) ∙ length-set ws k x ∙ sym (words_feeds g 1 ws)
+word_set g ws k x =
+    same_feeds (words_order g) (λ n v w. word_feeds g n v ∙ sym (word_feeds g n w)) 1 (slice_set ws k x) ws
+    (length-set ws k x)
 
 pub view_set : (views : List (List ℕ)) (k : ℕ) (v : List ℕ) →
     feeds (view_lines 1 (slice_set views k v)) ≡ feeds (view_lines 1 views)
-view_set views k v = views_feeds 1 (slice_set views k v) ∙ length-set views k v ∙ sym (views_feeds 1 views)
+view_set views k v =
+    same_feeds views_order (λ n v w. view_feeds n v ∙ sym (view_feeds n w)) 1 (slice_set views k v) views
+    (length-set views k v)
 
-pub row_set : (bank : List ℕ) (i : ℕ) (rows : List (List ℕ)) (k : ℕ) (row : List ℕ) → feeds bank ≡ 0 →
-    length row ≡ length (slice_index_or rows k []) →
-    feeds (bank_lines bank i (slice_set rows k row)) ≡ feeds (bank_lines bank i rows)
-row_set bank i [] k row h e = refl
-row_set bank i (r ∷ rows) zero row h e =
-    feeds_append (row_lines bank i 1 row) (bank_lines bank (i + 1) rows)
-    ∙ ap (λ n. n + feeds (bank_lines bank (i + 1) rows)) (row_feeds bank i 1 row h ∙ e ∙ sym (row_feeds bank i 1 r h))
-    ∙ sym (feeds_append (row_lines bank i 1 r) (bank_lines bank (i + 1) rows))
-row_set bank i (r ∷ rows) (suc k) row h e =
-    feeds_append (row_lines bank i 1 r) (bank_lines bank (i + 1) (slice_set rows k row))
-    ∙ ap (λ n. feeds (row_lines bank i 1 r) + n) (row_set bank (i + 1) rows k row h e)
-    ∙ sym (feeds_append (row_lines bank i 1 r) (bank_lines bank (i + 1) rows))
+pub bit_set : (bank : List ℕ) (rows : List (List ℕ)) (i j x : ℕ) → feeds bank ≡ 0 →
+    feeds (bank_lines bank 1 (with_bit_at rows i j x)) ≡ feeds (bank_lines bank 1 rows)
+bit_set bank rows i j x h = set 1 rows i
+  where
+    set : (n : ℕ) (rows : List (List ℕ)) (i : ℕ) →
+        feeds (bank_lines bank n (with_bit_at rows i j x)) ≡ feeds (bank_lines bank n rows)
+    set n [] i = refl
+    set n (r ∷ rows) zero =
+        feeds_both (row_lines bank n 1 (slice_set r j x)) (row_lines bank n 1 r) (bank_lines bank (n + 1) rows)
+        (bank_lines bank (n + 1) rows)
+        (row_feeds bank n 1 (slice_set r j x) h ∙ length-set r j x ∙ sym (row_feeds bank n 1 r h)) refl
+    set n (r ∷ rows) (suc i) =
+        feeds_both (row_lines bank n 1 r) (row_lines bank n 1 r) (bank_lines bank (n + 1) (with_bit_at rows i j x))
+        (bank_lines bank (n + 1) rows) refl (set (n + 1) rows i)
 
 -- the registers, bank by bank
 pub registers_apart : (g : KindTag) (m : Memory) → feeds (register_lines g m)
     ≡ feeds (word_lines g 1 m.words) + feeds (bank_lines (codes "q") 1 m.q) + feeds (bank_lines (codes "p") 1 m.p)
     + feeds (view_lines 1 m.views)
-registers_apart g m =
-    let words = word_lines g 1 m.words in
-    let q = bank_lines (codes "q") 1 m.q in
-    let p = bank_lines (codes "p") 1 m.p in
-    feeds_append (words ++ q ++ p) (view_lines 1 m.views)
-    ∙ ap (λ n. n + feeds (view_lines 1 m.views))
-    (feeds_append (words ++ q) p ∙ ap (λ n. n + feeds p) (feeds_append words q))
+registers_apart g m = omega (arith, feeds_append)
 
 -- the locals, sort by sort
 pub locals_apart : (g : KindTag) (l : Locals) → feeds (locals_text g l)
     ≡ feeds (locals_lines number_local l.scalars) + feeds (locals_lines list_local l.rows)
     + feeds (locals_lines (λ x vs. words_local g x 1 vs) l.words) + feeds (locals_lines list_local l.views)
-locals_apart g l =
-    let scalars = locals_lines number_local l.scalars in
-    let rows = locals_lines list_local l.rows in
-    let words = locals_lines (λ x vs. words_local g x 1 vs) l.words in
-    feeds_append (scalars ++ rows ++ words) (locals_lines list_local l.views)
-    ∙ ap (λ n. n + feeds (locals_lines list_local l.views))
-    (feeds_append (scalars ++ rows) words ∙ ap (λ n. n + feeds words) (feeds_append scalars rows))
+locals_apart g l = omega (arith, feeds_append)
 
 pub number_feeds : (x : Name) (v : ℕ) → feeds (number_local x v) ≡ feeds x + 1
 number_feeds x v = simp (feeds_append, decimal_plain) (omega arith)
@@ -179,15 +180,8 @@ place_feeds g x p v = simp (feeds_append, decimal_plain, word_plain) (omega arit
 -- as many words under one name
 pub places_same : (g : KindTag) (x : Name) (p : ℕ) (vs ws : List Word) → length vs ≡ length ws →
     feeds (words_local g x p vs) ≡ feeds (words_local g x p ws)
-places_same g x p [] [] e = refl
-places_same g x p [] (w ∷ ws) e = absurd (omega (arith, e))
-places_same g x p (v ∷ vs) [] e = absurd (omega (arith, e))
-places_same g x p (v ∷ vs) (w ∷ ws) e =
-    let h : length vs ≡ length ws = omega (arith, e) in
-    feeds_append (word_local g x p v) (words_local g x (p + 1) vs)
-    ∙ ap (λ n. n + feeds (words_local g x (p + 1) vs)) (place_feeds g x p v ∙ sym (place_feeds g x p w))
-    ∙ ap (λ n. feeds (word_local g x p w) + n) (places_same g x (p + 1) vs ws h)
-    ∙ sym (feeds_append (word_local g x p w) (words_local g x (p + 1) ws))
+places_same g x p vs ws e =
+    same_feeds (places_order g x) (λ n v w. place_feeds g x n v ∙ sym (place_feeds g x n w)) p vs ws e
 
 -- another value of a name, with as many lines
 value_set : {A : Type 0} (f : Name → A → List ℕ) (d : A) (x : Name) (v : A) (es : NameMap A) →
@@ -202,11 +196,9 @@ value_set f d x v (e ∷ es) h = by_case (bytes_eq x e.0) h (value_set f d x v e
         feeds (locals_lines f (if b then (e.0, v) ∷ es else e ∷ with_value x v es))
         ≡ feeds (f e.0 e.1 ++ locals_lines f es)
     by_case true h rest =
-        feeds_append (f e.0 v) (locals_lines f es) ∙ ap (λ n. n + feeds (locals_lines f es)) (h e.0)
-        ∙ sym (feeds_append (f e.0 e.1) (locals_lines f es))
+        feeds_both (f e.0 v) (f e.0 e.1) (locals_lines f es) (locals_lines f es) (h e.0) refl
     by_case false h rest =
-        feeds_append (f e.0 e.1) (locals_lines f (with_value x v es)) ∙ ap (λ n. feeds (f e.0 e.1) + n) (rest h)
-        ∙ sym (feeds_append (f e.0 e.1) (locals_lines f es))
+        feeds_both (f e.0 e.1) (f e.0 e.1) (locals_lines f (with_value x v es)) (locals_lines f es) refl (rest h)
 
 pub number_set : (x : Name) (v : ℕ) (es : NameMap ℕ) →
     feeds (locals_lines number_local (with_value x v es)) ≡ feeds (locals_lines number_local es)

@@ -18,6 +18,7 @@ use Rattle.snap_output.specs.Between.{between, owned}
 use Rattle.snap_output.proofs.Wholes.{IsWhole, before, feeds, feeds_append, joined, new_line, no_text}
 use Rattle.snap_output.proofs.Changes as changes
 use Rattle.snap_output.proofs.Feeds.{decimal_plain, head_feeds, list_feeds, number_feeds, place_feeds}
+use Rattle.snap_output.proofs.Splits.{AreJoined, each_is, places_order}
 use Rattle.snap_output.proofs.Owned.{IsPlain, lines_plain, owned_feeds, owned_whole, taken_plain}
 
 abbrev IsIndentedLine : List ℕ → Type 0
@@ -29,20 +30,20 @@ pub record IsIndented (t : List ℕ) : Type 0 where
   pub whole : IsWhole t
   pub lines : AllByRecursion IsIndentedLine (lines_of t)
 
-pub none_indented : IsIndented []
-none_indented = record { whole = no_text; lines = tt }
-
 all_joined : {A : Type 0} (P : A → Type 0) (xs ys : List A) → AllByRecursion P xs → AllByRecursion P ys →
     AllByRecursion P (xs ++ ys)
 all_joined P [] ys h k = k
 all_joined P (x ∷ xs) ys h k = (h.0, all_joined P xs ys h.1 k)
 
-pub both_indented : (a b : List ℕ) → IsIndented a → IsIndented b → IsIndented (a ++ b)
-both_indented a b h k = record {
-  whole = joined a b h.whole k.whole;
-  lines =
-      subst (AllByRecursion IsIndentedLine) (sym (h.whole.apart b))
-      (all_joined IsIndentedLine (lines_of a) (lines_of b) h.lines k.lines);
+pub indented_join : AreJoined IsIndented
+indented_join = record {
+  none = record { whole = no_text; lines = tt };
+  join = λ {a} {b} h k. record {
+    whole = joined h.whole k.whole;
+    lines =
+        subst (AllByRecursion IsIndentedLine) (sym (h.whole.apart b))
+        (all_joined IsIndentedLine (lines_of a) (lines_of b) h.lines k.lines);
+  };
 }
 
 -- a text without a line feed, and one behind it
@@ -66,24 +67,30 @@ line_indented a e = record {
       subst (AllByRecursion IsIndentedLine) (sym (one_line (32 ∷ a) (plain_before (32 ∷ a) e))) (refl, tt);
 }
 
-pub number_indented : (x : Name) (v : ℕ) → IsPlain x → IsIndented (number_local x v)
-number_indented x v h =
-    line_indented (codes " " ++ x ++ codes " = " ++ decimal v) (number_feeds x v ∙ ap (λ n. n + 1) h)
+-- the line of a local, or none
+pub data IsLocalLine (t : List ℕ) : Type 0 where
+  no_line : t ≡ [] → IsLocalLine t
+  one_of : (a : List ℕ) → t ≡ (32 ∷ a) ++ codes "\n" → feeds ((32 ∷ a) ++ codes "\n") ≡ 1 → IsLocalLine t
 
-pub list_indented : (x : Name) (vs : List ℕ) → IsPlain x → IsIndented (list_local x vs)
-list_indented x vs h =
-    line_indented (codes " " ++ x ++ codes " =" ++ numbers_text vs) (list_feeds x vs ∙ ap (λ n. n + 1) h)
+pub number_line : (x : Name) (v : ℕ) → IsPlain x → IsLocalLine (number_local x v)
+number_line x v h =
+    one_of (codes " " ++ x ++ codes " = " ++ decimal v) refl (number_feeds x v ∙ ap (λ n. n + 1) h)
 
-pub place_indented : (g : KindTag) (x : Name) (p : ℕ) (v : Word) → IsPlain x → IsIndented (word_local g x p v)
-place_indented g x p v h =
-    line_indented (codes " " ++ x ++ codes " " ++ decimal p ++ codes " = " ++ word_text g v)
+pub list_line : (x : Name) (vs : List ℕ) → IsPlain x → IsLocalLine (list_local x vs)
+list_line x vs h =
+    one_of (codes " " ++ x ++ codes " =" ++ numbers_text vs) refl (list_feeds x vs ∙ ap (λ n. n + 1) h)
+
+pub place_line : (g : KindTag) (x : Name) (p : ℕ) (v : Word) → IsPlain x → IsLocalLine (word_local g x p v)
+place_line g x p v h =
+    one_of (codes " " ++ x ++ codes " " ++ decimal p ++ codes " = " ++ word_text g v) refl
     (place_feeds g x p v ∙ ap (λ n. n + 1) h)
 
+pub indented : {t : List ℕ} → IsLocalLine t → IsIndented t
+indented (no_line e) = subst IsIndented (sym e) indented_join.none
+indented (one_of a e feed) = subst IsIndented (sym e) (line_indented a feed)
+
 pub words_indented : (g : KindTag) (x : Name) (p : ℕ) (vs : List Word) → IsPlain x → IsIndented (words_local g x p vs)
-words_indented g x p [] h = none_indented
-words_indented g x p (v ∷ vs) h =
-    both_indented (word_local g x p v) (words_local g x (p + 1) vs) (place_indented g x p v h)
-    (words_indented g x (p + 1) vs h)
+words_indented g x p vs h = each_is indented_join (places_order g x) (λ n v. indented (place_line g x n v h)) p vs
 
 -- of whom lines speak that are indented, behind these
 abbrev pub owner_after : List ℕ → List (List ℕ) → List ℕ

@@ -1,20 +1,16 @@
 -- After an item a report has as many lines of registers and of locals as before it, so that a trace compares them
 -- line by line.
-use Rattle.std.proofs.Common.{◌≡◌, ℕ, ◌+◌, ◌-◌, List, [], Option, Some, None, Result, Ok, Err}
-use Rattle.std.proofs.Common.{codes, slice_index_or, slice_set, refl, sym, ap, ◌∙◌, length-set}
+use Rattle.std.proofs.Common.{◌≡◌, ℕ, ◌-◌, List, [], Option, Some, None, Result, Ok, Err, codes, slice_set, refl, sym}
+use Rattle.std.proofs.Common.{◌∙◌, arith}
 use Rattle.std.proofs.lemmas.List.{set-get_or}
 use Rattle.snap_words.specs.Shape.{Counts}
 use Rattle.snap_words.specs.declared.kind.KindTag.{KindTag}
-use Rattle.snap_semantics.specs.Report.{bank_lines, head_line, list_local, locals_lines, locals_text, number_local}
-use Rattle.snap_semantics.specs.Report.{process_lines, register_lines, view_lines, word_lines, words_local}
+use Rattle.snap_semantics.specs.Report.{head_line, locals_text, process_lines, register_lines}
 use Rattle.snap_semantics.specs.Source.{Name, Source, instr_at}
 use Rattle.snap_semantics.specs.State.{Locals, Memory, Process, State, nobody, process_at, value_at}
 use Rattle.snap_semantics.specs.State.{with_memory_words, with_row, with_scalar, with_view, with_words}
-use Rattle.snap_semantics.specs.Table.{Effect, Goes, Answers, Finishes}
-use Rattle.snap_semantics.specs.Table.{effect_at, leave, step, call, called}
-use Rattle.snap_semantics.specs.Table.{call_skip, crash, done}
-use Rattle.snap_semantics.specs.Table.{bits_of, who, with_bit_at}
-use Rattle.snap_semantics.specs.Table.{with_memory_bits, with_memory_views}
+use Rattle.snap_semantics.specs.Table.{Effect, Goes, Answers, Finishes, effect_at, leave, step, call, called, call_skip}
+use Rattle.snap_semantics.specs.Table.{crash, done, bits_of, who, with_bit_at, with_memory_bits, with_memory_views}
 use Rattle.snap_semantics.specs.Value.{Context}
 use Rattle.snap_words.specs.Word.{Word}
 use Rattle.snap_semantics.specs.declared.instr.BitBank.{BitBank}
@@ -30,8 +26,8 @@ use Rattle.snap_semantics.specs.declared.process.Status.{Status}
 use Rattle.snap_semantics.specs.declared.process.Status.TheVariants.{Idle, Busy, Trapped, Crashed}
 use Rattle.snap_runs.proofs.Effects.{Does, goes, Writes, nothing, sets_scalar, sets_row, sets_word, sets_view}
 use Rattle.snap_runs.proofs.Effects.{puts_word, puts_bit, puts_view, line_does}
-use Rattle.snap_output.proofs.Wholes.{feeds, feeds_append}
-use Rattle.snap_output.proofs.Feeds.{head_feeds, list_set, locals_apart, number_set, registers_apart, row_set}
+use Rattle.snap_output.proofs.Wholes.{feeds, feeds_both}
+use Rattle.snap_output.proofs.Feeds.{head_feeds, bit_set, list_set, locals_apart, number_set, registers_apart}
 use Rattle.snap_output.proofs.Feeds.{view_set, word_set, words_set}
 
 module _ (g : KindTag) (m0 : Memory) (l0 : Locals) where
@@ -43,90 +39,50 @@ module _ (g : KindTag) (m0 : Memory) (l0 : Locals) where
   scalar_kept : (m : Memory) (l : Locals) (x : Name) (v : ℕ) → Kept m l → Kept m (with_scalar x v l)
   scalar_kept m l x v h = record {
     registers = h.registers;
-    locals =
-        locals_apart g (with_scalar x v l)
-        ∙ ap (λ n. n + feeds (locals_lines list_local l.rows)
-        + feeds (locals_lines (λ y vs. words_local g y 1 vs) l.words) + feeds (locals_lines list_local l.views))
-        (number_set x v l.scalars)
-        ∙ sym (locals_apart g l) ∙ h.locals;
+    locals = omega (arith, locals_apart g, number_set x v l.scalars, h.locals);
   }
 
   row_kept : (m : Memory) (l : Locals) (x : Name) (v : List ℕ) → Kept m l → Kept m (with_row x v l)
   row_kept m l x v h = record {
     registers = h.registers;
-    locals =
-        locals_apart g (with_row x v l)
-        ∙ ap (λ n. feeds (locals_lines number_local l.scalars) + n
-        + feeds (locals_lines (λ y vs. words_local g y 1 vs) l.words) + feeds (locals_lines list_local l.views))
-        (list_set x v l.rows)
-        ∙ sym (locals_apart g l) ∙ h.locals;
+    locals = omega (arith, locals_apart g, list_set x v l.rows, h.locals);
   }
 
   view_kept : (m : Memory) (l : Locals) (x : Name) (v : List ℕ) → Kept m l → Kept m (with_view x v l)
   view_kept m l x v h = record {
     registers = h.registers;
-    locals =
-        locals_apart g (with_view x v l)
-        ∙ ap (λ n. feeds (locals_lines number_local l.scalars) + feeds (locals_lines list_local l.rows)
-        + feeds (locals_lines (λ y vs. words_local g y 1 vs) l.words) + n)
-        (list_set x v l.views)
-        ∙ sym (locals_apart g l) ∙ h.locals;
+    locals = omega (arith, locals_apart g, list_set x v l.views, h.locals);
   }
 
   word_kept : (m : Memory) (l : Locals) (x : Name) (k : ℕ) (w : Word) → Kept m l →
       Kept m (with_words x (slice_set (value_at x l.words []) k w) l)
   word_kept m l x k w h = record {
     registers = h.registers;
-    locals =
-        locals_apart g (with_words x (slice_set (value_at x l.words []) k w) l)
-        ∙ ap (λ n. feeds (locals_lines number_local l.scalars) + feeds (locals_lines list_local l.rows) + n
-        + feeds (locals_lines list_local l.views))
-        (words_set g x k w l.words)
-        ∙ sym (locals_apart g l) ∙ h.locals;
+    locals = omega (arith, locals_apart g, words_set g x k w l.words, h.locals);
   }
 
   register_kept : (m : Memory) (l : Locals) (k : ℕ) (w : Word) → Kept m l →
       Kept (with_memory_words (slice_set m.words k w) m) l
   register_kept m l k w h = record {
-    registers =
-        registers_apart g (with_memory_words (slice_set m.words k w) m)
-        ∙ ap (λ n. n + feeds (bank_lines (codes "q") 1 m.q) + feeds (bank_lines (codes "p") 1 m.p)
-        + feeds (view_lines 1 m.views)) (word_set g m.words k w)
-        ∙ sym (registers_apart g m) ∙ h.registers;
+    registers = omega (arith, registers_apart g, word_set g m.words k w, h.registers);
     locals = h.locals;
   }
 
   bit_kept : (b : BitBank) (m : Memory) (l : Locals) (i j x : ℕ) → Kept m l →
       Kept (with_memory_bits b (with_bit_at (bits_of b m) i j x) m) l
   bit_kept bits.Q m l i j x h = record {
-    registers =
-        registers_apart g (with_memory_bits bits.Q (with_bit_at m.q i j x) m)
-        ∙ ap (λ n.
-        feeds (word_lines g 1 m.words) + n + feeds (bank_lines (codes "p") 1 m.p) + feeds (view_lines 1 m.views))
-        (row_set (codes "q") 1 m.q i (slice_set (slice_index_or m.q i []) j x) refl
-        (length-set (slice_index_or m.q i []) j x))
-        ∙ sym (registers_apart g m) ∙ h.registers;
+    registers = omega (arith, registers_apart g, bit_set (codes "q") m.q i j x refl, h.registers);
     locals = h.locals;
   }
   bit_kept bits.P m l i j x h = record {
-    registers =
-        registers_apart g (with_memory_bits bits.P (with_bit_at m.p i j x) m)
-        ∙ ap (λ n.
-        feeds (word_lines g 1 m.words) + feeds (bank_lines (codes "q") 1 m.q) + n + feeds (view_lines 1 m.views))
-        (row_set (codes "p") 1 m.p i (slice_set (slice_index_or m.p i []) j x) refl
-        (length-set (slice_index_or m.p i []) j x))
-        ∙ sym (registers_apart g m) ∙ h.registers;
+    registers = omega (arith, registers_apart g, bit_set (codes "p") m.p i j x refl, h.registers);
     locals = h.locals;
   }
 
   views_kept : (m : Memory) (l : Locals) (k : ℕ) (v : List ℕ) → Kept m l →
       Kept (with_memory_views (slice_set m.views k v) m) l
   views_kept m l k v h = record {
-    registers =
-        registers_apart g (with_memory_views (slice_set m.views k v) m)
-        ∙ ap (λ n. feeds (word_lines g 1 m.words) + feeds (bank_lines (codes "q") 1 m.q)
-        + feeds (bank_lines (codes "p") 1 m.p) + n) (view_set m.views k v)
-        ∙ sym (registers_apart g m) ∙ h.registers;
+    registers = omega (arith, registers_apart g, view_set m.views k v, h.registers);
     locals = h.locals;
   }
 
@@ -182,9 +138,8 @@ stays g i S = record {
 status_feeds : (g : KindTag) (i : ℕ) (p q : Process) → feeds (locals_text g q.locals) ≡ feeds (locals_text g p.locals) →
     feeds (process_lines g i q) ≡ feeds (process_lines g i p)
 status_feeds g i p q h =
-    feeds_append (head_line i q.status) (locals_text g q.locals)
-    ∙ ap (λ n. n + feeds (locals_text g q.locals)) (head_feeds i q.status ∙ sym (head_feeds i p.status))
-    ∙ ap (λ n. feeds (head_line i p.status) + n) h ∙ sym (feeds_append (head_line i p.status) (locals_text g p.locals))
+    feeds_both (head_line i q.status) (head_line i p.status) (locals_text g q.locals) (locals_text g p.locals)
+    (head_feeds i q.status ∙ sym (head_feeds i p.status)) h
 
 stands : (g : KindTag) (i : ℕ) (S : State) (t : Status) →
     IsMove g i S (record {

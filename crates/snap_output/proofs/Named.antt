@@ -1,7 +1,7 @@
 -- The locals of a process by their slots: a value that a name has is set at the slot of the name.
-use Rattle.std.proofs.Common.{◌≡◌, ℕ, zero, suc, Bool, true, false, ◌||◌, ◌&&◌, List, [], ◌∷◌, ◌++◌, bytes_eq, slice_set, zip}
+use Rattle.std.proofs.Common.{◌≡◌, ℕ, zero, suc, Bool, true, false, List, [], ◌∷◌, ◌++◌, bytes_eq, slice_set, zip}
 use Rattle.std.proofs.Common.{if◌then◌else◌, nat_eq, refl, sym, ap, ◌∙◌, subst, append-nil}
-use Rattle.std.proofs.lemmas.Bool.{ne_eqb}
+use Rattle.std.proofs.lemmas.Bool.{and_parts, ne_eqb, or_parts}
 use Rattle.std.proofs.lemmas.Bool.Decides.{same_from_decides, Decides-like}
 use Rattle.std.proofs.lemmas.Slice.Eq.{bytes_eq-Decides}
 use Rattle.std.specs.List.{AllByRecursion, list_all}
@@ -52,16 +52,12 @@ bytes_eq-sym x y =
     same_from_decides _ _ (bytes_eq-Decides x y)
     (Decides-like _ (λ (e : y ≡ x). sym e) (λ (e : x ≡ y). sym e) (bytes_eq-Decides y x))
 
-neither : (b c : Bool) → (b || c) ≡ false → (b ≡ false) × (c ≡ false)
-neither true c e = absurd cc
-neither false c e = (refl, e)
-
 -- a name at a slot among these is not one that stands apart
 other_name : (ns : List Name) (k : ℕ) (n : Name) → is_among n ns ≡ false → bytes_eq [] n ≡ false →
     bytes_eq (name_at ns k) n ≡ false
 other_name [] k n h e = e
-other_name (y ∷ ns) zero n h e = bytes_eq-sym y n ∙ (neither (bytes_eq n y) (is_among n ns) h).0
-other_name (y ∷ ns) (suc k) n h e = other_name ns k n (neither (bytes_eq n y) (is_among n ns) h).1 e
+other_name (y ∷ ns) zero n h e = bytes_eq-sym y n ∙ (or_parts (bytes_eq n y) (is_among n ns) h).0
+other_name (y ∷ ns) (suc k) n h e = other_name ns k n (or_parts (bytes_eq n y) (is_among n ns) h).1 e
 
 -- the value of the name at a slot, set
 pub with_slot : {A : Type 0} (ns : List Name) (es : NameMap A) (k : ℕ) (v : A) → AreDistinct ns →
@@ -72,7 +68,7 @@ with_slot (n ∷ ns) (e ∷ es) zero v d z h =
     ap (λ b. if b then (e.0, v) ∷ es else e ∷ with_value n v es) ((bytes_eq-Decides n e.0).1 (sym h.0))
     ∙ ap (λ x. (x, v) ∷ es) h.0
 with_slot (n ∷ ns) (e ∷ es) (suc k) v d z h =
-    let apart = neither (bytes_eq [] n) (is_among [] ns) z in
+    let apart = or_parts (bytes_eq [] n) (is_among [] ns) z in
     ap (λ b. if b then (e.0, v) ∷ es else e ∷ with_value (name_at ns k) v es)
     (ap (bytes_eq (name_at ns k)) h.0 ∙ other_name ns k n d.0 apart.0)
     ∙ ap (λ fs. e ∷ fs) (with_slot ns es k v d.1 apart.1 h.1)
@@ -91,14 +87,10 @@ differ h = absurd cc
 letter_plain : (b : ℕ) → is_letter b ≡ true → nat_eq b 10 ≡ false
 letter_plain b h = ne_eqb b 10 (λ e. differ (subst (λ (c : ℕ). is_letter c ≡ true) e h))
 
-both : (b c : Bool) → (b && c) ≡ true → (b ≡ true) × (c ≡ true)
-both true c e = (refl, e)
-both false c e = absurd (differ e)
-
 letters_plain : (x : Name) → list_all is_letter x ≡ true → IsPlain x
 letters_plain [] h = refl
 letters_plain (b ∷ x) h =
-    let first = both (is_letter b) (list_all is_letter x) h in
+    let first = and_parts (is_letter b) (list_all is_letter x) h in
     ap (λ v. if v then suc (feeds x) else feeds x) (letter_plain b first.0) ∙ letters_plain x first.1
 
 names_plain : (xs ys : List Name) → AllByRecursion IsName (xs ++ ys) → AllByRecursion IsPlain xs
@@ -109,21 +101,26 @@ behind : (xs ys : List Name) → AllByRecursion IsName (xs ++ ys) → AllByRecur
 behind [] ys h = h
 behind (x ∷ xs) ys h = behind xs ys h.1
 
--- the names of a sort
-pub record AreGood (ns : List Name) : Type 0 where
+-- the names of a sort, and values that have the first ones of them
+pub record AreGood {A : Type 0} (ns : List Name) (es : NameMap A) : Type 0 where
   pub names : AreNames ns
   pub plain : AllByRecursion IsPlain ns
+  pub named : IsNamed ns es
 
--- the names of a listing by sort, and the locals that have them
+good_zip : {A : Type 0} (ns : List Name) (vs : List A) → AreNames ns → AllByRecursion IsPlain ns →
+    AreGood ns (zip ns vs)
+good_zip ns vs names plain = record { names = names; plain = plain; named = named_zip ns vs }
+
+good_before : {A : Type 0} (ns : List Name) (x : Name) (v : A) (es : NameMap A) → AreGood ns (with_value x v es) →
+    AreGood ns es
+good_before ns x v es h = record { names = h.names; plain = h.plain; named = named_before ns x v es h.named }
+
+-- the locals of a listing by sort
 pub record IsSorted (s : Source) (l : Locals) : Type 0 where
-  pub scalars : AreGood s.scalars
-  pub rows : AreGood s.rows
-  pub words : AreGood s.words
-  pub views : AreGood s.views
-  pub scalars_named : IsNamed s.scalars l.scalars
-  pub rows_named : IsNamed s.rows l.rows
-  pub words_named : IsNamed s.words l.words
-  pub views_named : IsNamed s.views l.views
+  pub scalars : AreGood s.scalars l.scalars
+  pub rows : AreGood s.rows l.rows
+  pub words : AreGood s.words l.words
+  pub views : AreGood s.views l.views
 
 sorted_as : (s : Source) (a : List ℕ) (b : List (List ℕ)) (c : List (List Word)) (d : List (List ℕ)) → IsListing s →
     IsSorted s
@@ -133,17 +130,12 @@ sorted_as s a b c d h =
     let of_words = behind s.rows _ of_rows in
     let of_views = behind s.words _ of_words in
     record {
-      scalars = record { names = names_of_scalars s h; plain = names_plain s.scalars _ h.names };
-      rows = record { names = names_of_rows s h; plain = names_plain s.rows _ of_rows };
-      words = record { names = names_of_words s h; plain = names_plain s.words _ of_words };
-      views = record {
-        names = names_of_views s h;
-        plain = names_plain s.views [] (subst (AllByRecursion IsName) (sym (append-nil s.views)) of_views);
-      };
-      scalars_named = named_zip s.scalars a;
-      rows_named = named_zip s.rows b;
-      words_named = named_zip s.words c;
-      views_named = named_zip s.views d;
+      scalars = good_zip s.scalars a (names_of_scalars s h) (names_plain s.scalars _ h.names);
+      rows = good_zip s.rows b (names_of_rows s h) (names_plain s.rows _ of_rows);
+      words = good_zip s.words c (names_of_words s h) (names_plain s.words _ of_words);
+      views =
+          good_zip s.views d (names_of_views s h)
+          (names_plain s.views [] (subst (AllByRecursion IsName) (sym (append-nil s.views)) of_views));
     }
 
 pub sorted : (s : Source) (l : Locals) → IsListing s → HasLocals s l → IsSorted s l
@@ -153,13 +145,9 @@ rows_before : (s : Source) (k : ℕ) (r : List ℕ) (l : Locals) → IsSorted s 
     IsSorted s l
 rows_before s k r l h = record {
   scalars = h.scalars;
-  rows = h.rows;
+  rows = good_before s.rows (name_at s.rows k) r l.rows h.rows;
   words = h.words;
   views = h.views;
-  scalars_named = h.scalars_named;
-  rows_named = named_before s.rows (name_at s.rows k) r l.rows h.rows_named;
-  words_named = h.words_named;
-  views_named = h.views_named;
 }
 
 -- before a place was put back
@@ -169,14 +157,10 @@ sorted_before s (WordRegister k x) l h = h
 sorted_before s (BitRegister b i j x) l h = h
 sorted_before s (ViewRegister i v) l h = h
 sorted_before s (Scalar k v) l h = record {
-  scalars = h.scalars;
+  scalars = good_before s.scalars (name_at s.scalars k) v l.scalars h.scalars;
   rows = h.rows;
   words = h.words;
   views = h.views;
-  scalars_named = named_before s.scalars (name_at s.scalars k) v l.scalars h.scalars_named;
-  rows_named = h.rows_named;
-  words_named = h.words_named;
-  views_named = h.views_named;
 }
 sorted_before s (Number k p v) l h =
     rows_before s k (slice_set (value_at (name_at s.rows k) l.rows []) p v) l h
@@ -184,29 +168,24 @@ sorted_before s (Row k r) l h = rows_before s k r l h
 sorted_before s (LocalWord k p x) l h = record {
   scalars = h.scalars;
   rows = h.rows;
-  words = h.words;
+  words =
+      good_before s.words (name_at s.words k) (slice_set (value_at (name_at s.words k) l.words []) p x) l.words h.words;
   views = h.views;
-  scalars_named = h.scalars_named;
-  rows_named = h.rows_named;
-  words_named =
-      named_before s.words (name_at s.words k) (slice_set (value_at (name_at s.words k) l.words []) p x) l.words
-      h.words_named;
-  views_named = h.views_named;
 }
 sorted_before s (LocalView k v) l h = record {
   scalars = h.scalars;
   rows = h.rows;
   words = h.words;
-  views = h.views;
-  scalars_named = h.scalars_named;
-  rows_named = h.rows_named;
-  words_named = h.words_named;
-  views_named = named_before s.views (name_at s.views k) v l.views h.views_named;
+  views = good_before s.views (name_at s.views k) v l.views h.views;
 }
 
 -- the names of locals have no line feeds
-pub entries_plain : {A : Type 0} (ns : List Name) (es : NameMap A) → AllByRecursion IsPlain ns → IsNamed ns es →
+pub entries_plain : {A : Type 0} (ns : List Name) (es : NameMap A) → AreGood ns es →
     AllByRecursion (λ (e : Name × A). IsPlain e.0) es
-entries_plain ns [] h k = tt
-entries_plain [] (e ∷ es) h k = absurd k
-entries_plain {A} (n ∷ ns) (e ∷ es) h k = (subst IsPlain (sym k.0) h.0, entries_plain ns es h.1 k.1)
+entries_plain ns es h = each ns es h.plain h.named
+  where
+    each : {A : Type 0} (ns : List Name) (es : NameMap A) → AllByRecursion IsPlain ns → IsNamed ns es →
+        AllByRecursion (λ (e : Name × A). IsPlain e.0) es
+    each ns [] h k = tt
+    each [] (e ∷ es) h k = absurd k
+    each {A} (n ∷ ns) (e ∷ es) h k = (subst IsPlain (sym k.0) h.0, each ns es h.1 k.1)

@@ -1,12 +1,11 @@
 -- The lines that an item can change, each with its owner (`owned`): those of registers, of a process and of events
 -- speak of themselves, and the line of a local gets its process in front.
-use Rattle.std.proofs.Common.{◌≡◌, ℕ, zero, suc, ◌+◌, ◌/◌, ◌%◌, Bool, true, false, List, [], ◌∷◌, ◌++◌, length}
-use Rattle.std.proofs.Common.{Option, Some, None, codes, decimal, nat_lt, if◌then◌else◌, option_map, slice_get, take}
-use Rattle.std.proofs.Common.{refl, sym, ap, ◌∙◌, append_assoc, append-nil, arith, subst}
+use Rattle.std.proofs.Common.{◌≡◌, ℕ, zero, suc, ◌+◌, false, List, [], ◌∷◌, ◌++◌, length, Option, Some, None, codes}
+use Rattle.std.proofs.Common.{decimal, if◌then◌else◌, option_map, slice_get, take, refl, sym, ap, ◌∙◌, append_assoc}
+use Rattle.std.proofs.Common.{append-nil, arith, subst}
 use Rattle.std.proofs.lemmas.Bool.{ne_eqb}
 use Rattle.std.proofs.lemmas.List.{length-append}
 use Rattle.std.proofs.Math.Seq.{take-length}
-use Rattle.std.specs.Fmt.{digit_glyph, digits, digits_onto}
 use Rattle.std.specs.List.{AllByRecursion}
 use Rattle.std.specs.Prelude.{◌==◌}
 use Rattle.snap_words.specs.Word.{Word}
@@ -16,30 +15,34 @@ use Rattle.snap_words.specs.declared.kind.KindTag.{KindTag}
 use Rattle.snap_semantics.specs.declared.event.Event.{Event}
 use Rattle.snap_semantics.specs.declared.event.Happening.{Happening}
 use Rattle.snap_semantics.specs.declared.event.Happening.TheVariants.{Call, Answer, Done, Crash}
-use Rattle.snap_semantics.specs.declared.instr.BitBank.TheVariants as bits
 use Rattle.snap_semantics.specs.declared.process.Status.{Status}
-use Rattle.snap_semantics.specs.Readers.{BitContents, Contents, NumberValue, RowValue, ViewContents, ViewValue}
-use Rattle.snap_semantics.specs.Readers.{WordContents, WordsValue, contents}
-use Rattle.snap_semantics.specs.Report.{event_line, event_lines, happening_text, head_line, list_local, number_local}
-use Rattle.snap_semantics.specs.Report.{numbers_text, status_text, values_line, word_local, word_text}
+use Rattle.snap_semantics.specs.Readers.{BitContents, Contents, LocalValue, NumberValue, RowValue, ViewContents}
+use Rattle.snap_semantics.specs.Readers.{ViewValue, WordContents, WordsValue, contents}
+use Rattle.snap_semantics.specs.Report.{event_line, event_lines, happening_text, head_line, numbers_text, status_text}
+use Rattle.snap_semantics.specs.Report.{word_text}
 use Rattle.snap_semantics.specs.Source.{Name, Source}
 use Rattle.snap_semantics.specs.State.{Locals, NameMap, State, process_at, values}
 use Rattle.snap_semantics.specs.Token.{lines_of}
 use Rattle.snap_text.specs.Owned.{owned_text, word_len}
 use Rattle.snap_machine.specs.WritePlace.{write_place_of}
+use Rattle.snap_machine.specs.declared.undo.WritePlace.{WritePlace}
+use Rattle.snap_machine.specs.declared.undo.WritePlace.TheVariants as written
 use Rattle.snap_machine.specs.Undo.{Place, Nowhere, WordRegister, BitRegister, ViewRegister, Scalar, Number, Row}
 use Rattle.snap_machine.specs.Undo.{LocalWord, LocalView}
-use Rattle.snap_report.specs.ReportLines.{register_line}
-use Rattle.snap_report.specs.WrittenLines.{named_lines, place_line, written_local, written_shared, word_there}
+use Rattle.snap_report.specs.ReportLines.{local_lines, register_line}
+use Rattle.snap_report.specs.WrittenLines.{values_of, named_lines, place_line, written_local, written_shared}
+use Rattle.snap_report.specs.WrittenLines.{word_there}
 use Rattle.snap_output.specs.Between.{owned}
 use Rattle.snap_output.specs.Touched.{of_process}
 use Rattle.snap_output.proofs.Wholes.{IsWhole, before, feeds, feeds_append, joined, new_line, no_text}
-use Rattle.snap_output.proofs.Feeds.{bit_feeds, decimal_plain, head_feeds, list_feeds, number_feeds, numbers_plain}
-use Rattle.snap_output.proofs.Feeds.{op_plain, place_feeds, values_feeds, view_feeds, word_feeds}
+use Rattle.snap_output.proofs.Feeds.{bit_feeds, decimal_plain, each_digit, head_feeds, numbers_plain}
+use Rattle.snap_output.proofs.Feeds.{op_plain, values_feeds, view_feeds, word_feeds}
 use Rattle.snap_output.proofs.Owned.{IsPlain}
-use Rattle.snap_output.proofs.Indented.{front_of, head_owner, head_whole, one_line, owned_apart}
-use Rattle.snap_output.proofs.Indented.{owner_after, owner_of, plain_before, take_front}
-use Rattle.snap_output.proofs.Named.{IsSorted, entries_plain}
+use Rattle.snap_output.proofs.Indented.{IsLocalLine, front_of, head_owner, head_whole, list_line, no_line, number_line}
+use Rattle.snap_output.proofs.Indented.{one_line, one_of, owned_apart, place_line as line_of_place, owner_after}
+use Rattle.snap_output.proofs.Indented.{owner_of, plain_before, take_front}
+use Rattle.snap_output.proofs.Splits.{AreJoined, each_is, events_order}
+use Rattle.snap_output.proofs.Named.{AreGood, IsSorted, entries_plain}
 use Rattle.snap_output.proofs.Locals.{local_differs}
 
 -- lines that speak of themselves
@@ -50,14 +53,17 @@ record IsOwn (t : List ℕ) : Type 0 where
 none_own : IsOwn []
 none_own = record { whole = no_text; own = λ owner. refl }
 
-both_own : (a b : List ℕ) → IsOwn a → IsOwn b → IsOwn (a ++ b)
-both_own a b h k = record {
-  whole = joined a b h.whole k.whole;
+both_own : {a b : List ℕ} → IsOwn a → IsOwn b → IsOwn (a ++ b)
+both_own {a} {b} h k = record {
+  whole = joined h.whole k.whole;
   own = λ owner.
       ap (owned_text owner) (h.whole.apart b) ∙ owned_apart owner (lines_of a) (lines_of b)
       ∙ ap (λ t. t ++ owned_text (owner_after owner (lines_of a)) (lines_of b)) (h.own owner)
       ∙ ap (λ t. a ++ t) (k.own (owner_after owner (lines_of a)));
 }
+
+own_joins : AreJoined IsOwn
+own_joins = record { none = none_own; join = both_own }
 
 line_own : (b : ℕ) (a : List ℕ) → (b == 32) ≡ false → feeds ((b ∷ a) ++ codes "\n") ≡ 1 →
     IsOwn ((b ∷ a) ++ codes "\n")
@@ -68,9 +74,6 @@ line_own b a s e = record {
       ∙ append-nil ((if b == 32 then owner ++ a else b ∷ a) ++ codes "\n")
       ∙ ap (λ v. (if v then owner ++ a else b ∷ a) ++ codes "\n") s;
 }
-
-values_own : (xs : List ℕ) → IsOwn (values_line xs)
-values_own xs = line_own 118 (codes "alues" ++ numbers_text xs) refl (values_feeds xs)
 
 bit_tail : ℕ → ℕ → ℕ → List ℕ
 bit_tail i j x = codes " " ++ decimal i ++ codes " " ++ decimal j ++ codes " = " ++ decimal x
@@ -87,19 +90,18 @@ register_own g bank.Q i j (Some (BitContents x)) = line_own 113 (bit_tail i j x)
 register_own g bank.P i j (Some (BitContents x)) = line_own 112 (bit_tail i j x) refl (bit_feeds (codes "p") i j x refl)
 register_own g bank.V i j (Some (BitContents x)) = line_own 118 (bit_tail i j x) refl (bit_feeds (codes "v") i j x refl)
 
-written_own : (g : KindTag) (S : State) (p : Place) → IsOwn (written_shared g S (write_place_of p))
-written_own g S Nowhere = none_own
-written_own g S (WordRegister k x) =
-    both_own (values_line (values S)) (register_line g bank.R k 0 (contents S.memory bank.R k 0))
-    (values_own (values S)) (register_own g bank.R k 0 (contents S.memory bank.R k 0))
-written_own g S (BitRegister bits.Q i j x) = register_own g bank.Q i j (contents S.memory bank.Q i j)
-written_own g S (BitRegister bits.P i j x) = register_own g bank.P i j (contents S.memory bank.P i j)
-written_own g S (ViewRegister i v) = register_own g bank.V i 0 (contents S.memory bank.V i 0)
-written_own g S (Scalar k v) = none_own
-written_own g S (Number k p v) = none_own
-written_own g S (Row k r) = none_own
-written_own g S (LocalWord k p x) = none_own
-written_own g S (LocalView k v) = none_own
+values_own : (b : Bank) (S : State) → IsOwn (values_of b S)
+values_own bank.R S = line_own 118 (codes "alues" ++ numbers_text (values S)) refl (values_feeds (values S))
+values_own bank.Q S = none_own
+values_own bank.P S = none_own
+values_own bank.V S = none_own
+
+written_own : (g : KindTag) (S : State) (written : WritePlace) → IsOwn (written_shared g S written)
+written_own g S (written.Register a) =
+    both_own (values_own a.bank S) (register_own g a.bank a.i a.j (contents S.memory a.bank a.i a.j))
+written_own g S written.Nowhere = none_own
+written_own g S (written.Local sort k) = none_own
+written_own g S (written.WordsPlace k p) = none_own
 
 head_own : (i : ℕ) (s : Status) → IsOwn (head_line i s)
 head_own i s = line_own 112 (codes "rocess " ++ decimal i ++ codes " " ++ status_text s) refl (head_feeds i s)
@@ -119,35 +121,14 @@ event_own e =
     ++ happening_text e.what) refl (event_feeds e)
 
 events_own : (es : List Event) → IsOwn (event_lines es)
-events_own [] = none_own
-events_own (e ∷ es) = both_own (event_line e) (event_lines es) (event_own e) (events_own es)
+events_own es = each_is own_joins events_order (λ n e. event_own e) 0 es
 
 -- digits are no spaces
 abbrev NoSpace : ℕ → Type 0
 NoSpace b = (b == 32) ≡ false
 
-glyph_apart : (d : ℕ) → NoSpace (digit_glyph false d)
-glyph_apart d = by_case (nat_lt d 10)
-  where
-    by_case : (v : Bool) → NoSpace (if v then 48 + d else 87 + d)
-    by_case true = ne_eqb (48 + d) 32 (λ e. omega (arith, e))
-    by_case false = ne_eqb (87 + d) 32 (λ e. omega (arith, e))
-
-digits_apart : (k n : ℕ) (acc : List ℕ) → AllByRecursion NoSpace acc →
-    AllByRecursion NoSpace (digits_onto k 10 false n acc)
-digits_apart zero n acc h = h
-digits_apart (suc k) n acc h =
-    by_case (n / 10 == 0) (digits_apart k (n / 10) (digit_glyph false (n % 10) ∷ acc) (glyph_apart (n % 10), h))
-  where
-    by_case : (v : Bool) → AllByRecursion NoSpace (digits_onto k 10 false (n / 10) (digit_glyph false (n % 10) ∷ acc)) →
-        AllByRecursion NoSpace (if v then digit_glyph false (n % 10) ∷ acc
-        else digits_onto k 10 false (n / 10) (digit_glyph false (n % 10) ∷ acc))
-    by_case true more = (glyph_apart (n % 10), h)
-    by_case false more = more
-
 decimal_apart : (n : ℕ) → AllByRecursion NoSpace (decimal n)
-unfolding digits
-decimal_apart n = digits_apart 64 n [] tt
+decimal_apart n = each_digit NoSpace (λ b h. ne_eqb b 32 (λ e. omega (arith, h, e))) n
 
 word_full : (xs : List ℕ) → AllByRecursion NoSpace xs → word_len (xs ++ codes " ") ≡ length xs
 word_full [] h = refl
@@ -174,63 +155,29 @@ line_told i a e =
     ∙ append-nil ((owner_of i ++ a) ++ codes "\n") ∙ append_assoc (owner_of i) a (codes "\n")
     ∙ ap (λ o. o ++ (a ++ codes "\n")) (owner_is i)
 
--- the line of a local, or none
-pub data IsLocalLine (t : List ℕ) : Type 0 where
-  no_line : t ≡ [] → IsLocalLine t
-  one_of : (a : List ℕ) → t ≡ (32 ∷ a) ++ codes "\n" → feeds ((32 ∷ a) ++ codes "\n") ≡ 1 → IsLocalLine t
-
 local_line_told : (i : ℕ) (t : List ℕ) → IsLocalLine t → IsTold i t
 local_line_told i t (no_line e) = subst (IsTold i) (sym e) refl
 local_line_told i t (one_of a e feed) = subst (IsTold i) (sym e) (line_told i a feed)
 
-number_line : (x : Name) (v : ℕ) → IsPlain x → IsLocalLine (number_local x v)
-number_line x v h =
-    one_of (codes " " ++ x ++ codes " = " ++ decimal v) refl (number_feeds x v ∙ ap (λ n. n + 1) h)
-
-list_line : (x : Name) (vs : List ℕ) → IsPlain x → IsLocalLine (list_local x vs)
-list_line x vs h =
-    one_of (codes " " ++ x ++ codes " =" ++ numbers_text vs) refl (list_feeds x vs ∙ ap (λ n. n + 1) h)
-
-place_is_line : (g : KindTag) (x : Name) (p : ℕ) (v : Word) → IsPlain x → IsLocalLine (word_local g x p v)
-place_is_line g x p v h =
-    one_of (codes " " ++ x ++ codes " " ++ decimal p ++ codes " = " ++ word_text g v) refl
-    (place_feeds g x p v ∙ ap (λ n. n + 1) h)
-
--- the name of an entry
-abbrev IsPlainEntry : {A : Type 0} → Option (Name × A) → Type 0
-IsPlainEntry None = Unit {0}
-IsPlainEntry (Some e) = IsPlain e.0
-
-entry_plain : {A : Type 0} (es : NameMap A) (k : ℕ) → AllByRecursion (λ (e : Name × A). IsPlain e.0) es →
-    IsPlainEntry (slice_get es k)
-entry_plain [] k h = tt
-entry_plain (e ∷ es) zero h = h.0
-entry_plain (e ∷ es) (suc k) h = entry_plain es k h.1
+-- the line of the entry at a slot
+entry_line : {A : Type 0} (f : Option (Name × A) → List ℕ) → IsLocalLine (f None) →
+    ((e : Name × A) → IsPlain e.0 → IsLocalLine (f (Some e))) → (es : NameMap A) (k : ℕ) →
+    AllByRecursion (λ (e : Name × A). IsPlain e.0) es → IsLocalLine (f (slice_get es k))
+entry_line f none some [] k h = none
+entry_line f none some (e ∷ es) zero h = some e h.0
+entry_line f none some (e ∷ es) (suc k) h = entry_line f none some es k h.1
 
 module _ (g : KindTag) where
-  scalar_line : (o : Option (Name × ℕ)) → IsPlainEntry o →
-      IsLocalLine (named_lines g (option_map (λ e. (e.0, NumberValue e.1)) o))
-  scalar_line None h = no_line refl
-  scalar_line (Some e) h = number_line e.0 e.1 h
-
-  row_line : (o : Option (Name × List ℕ)) → IsPlainEntry o →
-      IsLocalLine (named_lines g (option_map (λ e. (e.0, RowValue e.1)) o))
-  row_line None h = no_line refl
-  row_line (Some e) h = list_line e.0 e.1 h
-
-  view_is_line : (o : Option (Name × List ℕ)) → IsPlainEntry o →
-      IsLocalLine (named_lines g (option_map (λ e. (e.0, ViewValue e.1)) o))
-  view_is_line None h = no_line refl
-  view_is_line (Some e) h = list_line e.0 e.1 h
+  value_line : {A : Type 0} (value : A → LocalValue) →
+      ((x : Name) (v : A) → IsPlain x → IsLocalLine (local_lines g x (value v))) → (ns : List Name) (es : NameMap A)
+      (k : ℕ) → AreGood ns es → IsLocalLine (named_lines g (option_map (λ e. (e.0, value e.1)) (slice_get es k)))
+  value_line value line ns es k good =
+      entry_line (λ o. named_lines g (option_map (λ e. (e.0, value e.1)) o)) (no_line refl) (λ e h. line e.0 e.1 h) es k
+      (entries_plain ns es good)
 
   there_line : (x : Name) (p : ℕ) (o : Option Word) → IsPlain x → IsLocalLine (word_there g x p o)
   there_line x p None h = no_line refl
-  there_line x p (Some w) h = place_is_line g x (p + 1) w h
-
-  word_is_line : (p : ℕ) (o : Option (Name × List Word)) → IsPlainEntry o →
-      IsLocalLine (place_line g p (option_map (λ e. (e.0, WordsValue e.1)) o))
-  word_is_line p None h = no_line refl
-  word_is_line p (Some e) h = there_line e.0 p (slice_get e.1 p) h
+  there_line x p (Some w) h = line_of_place g x (p + 1) w h
 
   -- a place of a local has one line
   pub local_line : (s : Source) (l : Locals) (p : Place) → IsSorted s l →
@@ -239,19 +186,13 @@ module _ (g : KindTag) where
   local_line s l (WordRegister k x) h = no_line refl
   local_line s l (BitRegister b r c x) h = no_line refl
   local_line s l (ViewRegister r v) h = no_line refl
-  local_line s l (Scalar k v) h =
-      scalar_line (slice_get l.scalars k)
-      (entry_plain l.scalars k (entries_plain s.scalars l.scalars h.scalars.plain h.scalars_named))
-  local_line s l (Number k p v) h =
-      row_line (slice_get l.rows k) (entry_plain l.rows k (entries_plain s.rows l.rows h.rows.plain h.rows_named))
-  local_line s l (Row k r) h =
-      row_line (slice_get l.rows k) (entry_plain l.rows k (entries_plain s.rows l.rows h.rows.plain h.rows_named))
+  local_line s l (Scalar k v) h = value_line (λ v. NumberValue v) number_line s.scalars l.scalars k h.scalars
+  local_line s l (Number k p v) h = value_line (λ v. RowValue v) list_line s.rows l.rows k h.rows
+  local_line s l (Row k r) h = value_line (λ v. RowValue v) list_line s.rows l.rows k h.rows
   local_line s l (LocalWord k p x) h =
-      word_is_line p (slice_get l.words k)
-      (entry_plain l.words k (entries_plain s.words l.words h.words.plain h.words_named))
-  local_line s l (LocalView k v) h =
-      view_is_line (slice_get l.views k)
-      (entry_plain l.views k (entries_plain s.views l.views h.views.plain h.views_named))
+      entry_line (λ o. place_line g p (option_map (λ e. (e.0, WordsValue e.1)) o)) (no_line refl)
+      (λ e plain. there_line e.0 p (slice_get e.1 p) plain) l.words k (entries_plain s.words l.words h.words)
+  local_line s l (LocalView k v) h = value_line (λ v. ViewValue v) list_line s.views l.views k h.views
 
 -- all lines in order
 in_order : (i : ℕ) (s : Status) (a m e : List ℕ) → IsOwn a → IsWhole m → IsTold i m → IsOwn e →
@@ -291,7 +232,8 @@ pub told : (s : Source) (i : ℕ) (S : State) (p : Place) (es : List Event) → 
     ++ of_process i (written_local s.kind (process_at S i).locals (write_place_of p))) ++ event_lines es
 told s i S p es h =
     in_order i (process_at S i).status (written_shared s.kind S (write_place_of p))
-    (written_local s.kind (process_at S i).locals (write_place_of p)) (event_lines es) (written_own s.kind S p)
+    (written_local s.kind (process_at S i).locals (write_place_of p)) (event_lines es)
+    (written_own s.kind S (write_place_of p))
     (local_differs s.kind s (process_at S i).locals h p).alike.mine'.whole
     (local_line_told i (written_local s.kind (process_at S i).locals (write_place_of p))
     (local_line s.kind s (process_at S i).locals p h)) (events_own es)

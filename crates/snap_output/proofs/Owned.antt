@@ -74,8 +74,7 @@ pub owned_whole : (owner : List ℕ) (lines : List (List ℕ)) → IsWhole (owne
 owned_whole owner [] = no_text
 owned_whole owner (line ∷ lines) =
     let first = (before (owned_line owner line) (codes "\n") new_line).whole in
-    joined (owned_line owner line ++ codes "\n") (owned_text (next_owner owner line) lines) first
-    (owned_whole (next_owner owner line) lines)
+    joined first (owned_whole (next_owner owner line) lines)
 
 -- The first of these lines speaks of itself, or there is none.
 abbrev pub SpeaksFirst : List (List ℕ) → Type 0

@@ -1,13 +1,14 @@
 -- The parts of a report (`IsPart`): each is made of whole lines, the first of which names its own owner
 -- (`SpeaksFirst`).
-use Rattle.std.proofs.Common.{◌≡◌, ℕ, zero, suc, ◌+◌, ◌-◌, ◌<◌, Bool, true, false, not, ◌&&◌, List, [], ◌∷◌, ◌++◌}
-use Rattle.std.proofs.Common.{length, codes, decimal, nat_eq, if◌then◌else◌, refl, sym, ap, ◌∙◌, subst, append_assoc}
-use Rattle.std.proofs.Common.{append-nil, slice_index_or, slice_set, arith}
+use Rattle.std.proofs.Common.{◌≡◌, ℕ, ◌+◌, ◌-◌, ◌<◌, Bool, true, false, not, ◌&&◌, List, [], ◌∷◌, ◌++◌, length, codes}
+use Rattle.std.proofs.Common.{decimal, nat_eq, if◌then◌else◌, refl, sym, ap, ◌∙◌, subst, append_assoc, append-nil}
+use Rattle.std.proofs.Common.{slice_index_or, slice_set, arith}
 use Rattle.std.specs.Prelude.{◌==◌}
 use Rattle.std.proofs.lemmas.List.{get_or-set_same, set-get_or}
 use Rattle.snap_words.specs.Word.{Word}
 use Rattle.snap_words.specs.declared.kind.KindTag.{KindTag}
 use Rattle.snap_semantics.specs.declared.event.Event.{Event}
+use Rattle.snap_semantics.specs.declared.process.Status.{Status}
 use Rattle.snap_semantics.specs.Report.{bank_lines, bit_line, event_line, event_lines, happening_text, head_line}
 use Rattle.snap_semantics.specs.Report.{list_local, locals_lines, locals_text, number_local, numbers_text}
 use Rattle.snap_semantics.specs.Report.{process_lines, processes_lines, register_lines, row_lines, status_text}
@@ -19,12 +20,14 @@ use Rattle.snap_semantics.specs.Token.{lines_of, onto_line}
 use Rattle.snap_text.specs.Changes.{text_between}
 use Rattle.snap_text.specs.Owned.{owned_text}
 use Rattle.snap_output.specs.Between.{between, owned, process_text, state_text}
-use Rattle.snap_output.proofs.Wholes.{IsWhole, before, feeds, joined, new_line, no_text}
+use Rattle.snap_output.proofs.Wholes.{IsWhole, before, feeds, feeds_both, joined, new_line, no_text}
 use Rattle.snap_output.proofs.Changes as changes
 use Rattle.snap_output.proofs.Feeds.{values_feeds}
 use Rattle.snap_output.proofs.Owned.{SpeaksFirst, behind_lines, lines_plain, owned_feeds, owned_whole}
 use Rattle.snap_output.proofs.Kept.{IsMove}
-use Rattle.snap_output.proofs.Wholes as wholes
+use Rattle.snap_output.proofs.Splits.{AreJoined, IsSplit, bank_order, each_is, entries_order, events_order}
+use Rattle.snap_output.proofs.Splits.{places_order, processes_order, row_order, split_at, views_order, words_order}
+use Rattle.snap_output.proofs.Differs.{Differs, differ_feeds}
 
 pub record IsPart (t : List ℕ) : Type 0 where
   pub whole : IsWhole t
@@ -57,9 +60,9 @@ speaks_more ((b ∷ bs) ∷ xs) ys h k = h
 pub no_part : IsPart []
 no_part = record { whole = no_text; speaks = tt }
 
-pub part_joined : (a b : List ℕ) → IsPart a → IsPart b → IsPart (a ++ b)
-part_joined a b h k = record {
-  whole = joined a b h.whole k.whole;
+pub part_joined : {a b : List ℕ} → IsPart a → IsPart b → IsPart (a ++ b)
+part_joined {a} {b} h k = record {
+  whole = joined h.whole k.whole;
   speaks = subst SpeaksFirst (sym (h.whole.apart b)) (speaks_more (lines_of a) (lines_of b) h.speaks k.speaks);
 }
 
@@ -67,51 +70,52 @@ part_joined a b h k = record {
 pub ended : (x : List ℕ) → IsWhole (x ++ codes "\n")
 ended x = (before x (codes "\n") new_line).whole
 
-pub words_whole : (g : KindTag) (k : ℕ) (xs : List Word) → IsWhole (word_lines g k xs)
-words_whole g k [] = no_text
-words_whole g k (x ∷ xs) =
-    joined (word_line g k x) (word_lines g (k + 1) xs)
-    (ended (codes "r " ++ decimal k ++ codes " = " ++ word_text g x)) (words_whole g (k + 1) xs)
+pub parts_join : AreJoined IsPart
+parts_join = record { none = no_part; join = part_joined }
 
-row_whole : (bank : List ℕ) (i j : ℕ) (xs : List ℕ) → IsWhole (row_lines bank i j xs)
-row_whole bank i j [] = no_text
-row_whole bank i j (x ∷ xs) =
-    joined (bit_line bank i j x) (row_lines bank i (j + 1) xs)
-    (ended (bank ++ codes " " ++ decimal i ++ codes " " ++ decimal j ++ codes " = " ++ decimal x))
-    (row_whole bank i (j + 1) xs)
+-- a line that speaks of itself
+pub line_part : (x : List ℕ) → begins (x ++ codes "\n") ≡ true → IsPart (x ++ codes "\n")
+line_part x h = record { whole = ended x; speaks = speaks_text (x ++ codes "\n") h }
 
-bank_whole : (bank : List ℕ) (i : ℕ) (rows : List (List ℕ)) → IsWhole (bank_lines bank i rows)
-bank_whole bank i [] = no_text
-bank_whole bank i (row ∷ rows) =
-    joined (row_lines bank i 1 row) (bank_lines bank (i + 1) rows) (row_whole bank i 1 row)
-    (bank_whole bank (i + 1) rows)
+pub word_part : (g : KindTag) (k : ℕ) (x : Word) → IsPart (word_line g k x)
+word_part g k x = line_part (codes "r " ++ decimal k ++ codes " = " ++ word_text g x) refl
 
-views_whole : (i : ℕ) (views : List (List ℕ)) → IsWhole (view_lines i views)
-views_whole i [] = no_text
-views_whole i (view ∷ views) =
-    joined (view_line i view) (view_lines (i + 1) views)
-    (ended (codes "v " ++ decimal i ++ codes " =" ++ numbers_text view)) (views_whole (i + 1) views)
+pub view_part : (i : ℕ) (v : List ℕ) → IsPart (view_line i v)
+view_part i v = line_part (codes "v " ++ decimal i ++ codes " =" ++ numbers_text v) refl
 
-registers_whole : (g : KindTag) (m : Memory) → IsWhole (register_lines g m)
-registers_whole g m =
-    let words = word_lines g 1 m.words in
-    let q = bank_lines (codes "q") 1 m.q in
-    let p = bank_lines (codes "p") 1 m.p in
-    joined (words ++ q ++ p) (view_lines 1 m.views)
-    (joined (words ++ q) p (joined words q (words_whole g 1 m.words) (bank_whole (codes "q") 1 m.q))
-    (bank_whole (codes "p") 1 m.p))
-    (views_whole 1 m.views)
+pub bit_part : (bank : List ℕ) → begins bank ≡ true → (i j x : ℕ) → IsPart (bit_line bank i j x)
+bit_part [] h i j x = absurd cc
+bit_part (b ∷ bs) h i j x =
+    line_part ((b ∷ bs) ++ codes " " ++ decimal i ++ codes " " ++ decimal j ++ codes " = " ++ decimal x) h
+
+-- the registers
+pub words_part : (g : KindTag) (xs : List Word) → IsPart (word_lines g 1 xs)
+words_part g xs = each_is parts_join (words_order g) (word_part g) 1 xs
+
+pub row_part : (bank : List ℕ) → begins bank ≡ true → (i : ℕ) (xs : List ℕ) → IsPart (row_lines bank i 1 xs)
+row_part bank h i xs = each_is parts_join (row_order bank i) (bit_part bank h i) 1 xs
+
+pub bank_part : (bank : List ℕ) → begins bank ≡ true → (rows : List (List ℕ)) → IsPart (bank_lines bank 1 rows)
+bank_part bank h rows = each_is parts_join (bank_order bank) (row_part bank h) 1 rows
+
+pub views_part : (vs : List (List ℕ)) → IsPart (view_lines 1 vs)
+views_part vs = each_is parts_join views_order view_part 1 vs
+
+pub registers_part : (g : KindTag) (m : Memory) → IsPart (register_lines g m)
+registers_part g m =
+    part_joined (part_joined (part_joined (words_part g m.words) (bank_part (codes "q") refl m.q))
+    (bank_part (codes "p") refl m.p)) (views_part m.views)
+
+-- the locals of a process
+whole_joins : AreJoined IsWhole
+whole_joins = record { none = no_text; join = joined }
 
 sort_whole : {A : Type 0} (f : Name → A → List ℕ) (es : NameMap A) →
     ((x : Name) (v : A) → IsWhole (f x v)) → IsWhole (locals_lines f es)
-sort_whole f [] h = no_text
-sort_whole f (e ∷ es) h = joined (f e.0 e.1) (locals_lines f es) (h e.0 e.1) (sort_whole f es h)
+sort_whole f es h = each_is whole_joins (entries_order f) (λ n e. h e.0 e.1) 0 es
 
-places_whole : (g : KindTag) (x : Name) (p : ℕ) (vs : List Word) → IsWhole (words_local g x p vs)
-places_whole g x p [] = no_text
-places_whole g x p (v ∷ vs) =
-    joined (word_local g x p v) (words_local g x (p + 1) vs)
-    (ended (codes "  " ++ x ++ codes " " ++ decimal p ++ codes " = " ++ word_text g v)) (places_whole g x (p + 1) vs)
+place_whole : (g : KindTag) (x : Name) (p : ℕ) (v : Word) → IsWhole (word_local g x p v)
+place_whole g x p v = ended (codes "  " ++ x ++ codes " " ++ decimal p ++ codes " = " ++ word_text g v)
 
 number_whole : (x : Name) (v : ℕ) → IsWhole (number_local x v)
 number_whole x v = ended (codes "  " ++ x ++ codes " = " ++ decimal v)
@@ -121,39 +125,31 @@ list_whole x vs = ended (codes "  " ++ x ++ codes " =" ++ numbers_text vs)
 
 locals_whole : (g : KindTag) (l : Locals) → IsWhole (locals_text g l)
 locals_whole g l =
-    let scalars = locals_lines number_local l.scalars in
-    let rows = locals_lines list_local l.rows in
-    let words = locals_lines (λ x vs. words_local g x 1 vs) l.words in
-    joined (scalars ++ rows ++ words) (locals_lines list_local l.views)
-    (joined (scalars ++ rows) words
-    (joined scalars rows (sort_whole number_local l.scalars number_whole) (sort_whole list_local l.rows list_whole))
-    (sort_whole (λ x vs. words_local g x 1 vs) l.words (λ x vs. places_whole g x 1 vs)))
+    joined (joined
+    (joined (sort_whole number_local l.scalars number_whole) (sort_whole list_local l.rows list_whole))
+    (sort_whole (λ x vs. words_local g x 1 vs) l.words
+    (λ x vs. each_is whole_joins (places_order g x) (place_whole g x) 1 vs)))
     (sort_whole list_local l.views list_whole)
+
+pub head_part : (i : ℕ) (s : Status) → IsPart (head_line i s)
+head_part i s = line_part (codes "process " ++ decimal i ++ codes " " ++ status_text s) refl
 
 pub process_part : (g : KindTag) (i : ℕ) (p : Process) → IsPart (process_lines g i p)
 process_part g i p = record {
-  whole =
-      joined (head_line i p.status) (locals_text g p.locals)
-      (ended (codes "process " ++ decimal i ++ codes " " ++ status_text p.status))
-      (locals_whole g p.locals);
+  whole = joined (head_part i p.status).whole (locals_whole g p.locals);
   speaks = speaks_text (process_lines g i p) refl;
 }
 
-processes_part : (g : KindTag) (i : ℕ) (ps : List Process) → IsPart (processes_lines g i ps)
-processes_part g i [] = no_part
-processes_part g i (p ∷ ps) =
-    part_joined (process_lines g i p) (processes_lines g (i + 1) ps) (process_part g i p) (processes_part g (i + 1) ps)
+processes_part : (g : KindTag) (S : State) → IsPart (processes_lines g 1 S.processes)
+processes_part g S = each_is parts_join (processes_order g) (process_part g) 1 S.processes
 
 event_part : (e : Event) → IsPart (event_line e)
-event_part e = record {
-  whole =
-      ended (codes "event " ++ decimal e.item ++ codes " " ++ decimal e.process ++ codes " " ++ happening_text e.what);
-  speaks = speaks_text (event_line e) refl;
-}
+event_part e =
+    line_part (codes "event " ++ decimal e.item ++ codes " " ++ decimal e.process ++ codes " " ++ happening_text e.what)
+    refl
 
 pub events_part : (es : List Event) → IsPart (event_lines es)
-events_part [] = no_part
-events_part (e ∷ es) = part_joined (event_line e) (event_lines es) (event_part e) (events_part es)
+events_part es = each_is parts_join events_order (λ n e. event_part e) 0 es
 
 events_more : (es new : List Event) → event_lines (es ++ new) ≡ event_lines es ++ event_lines new
 events_more [] new = refl
@@ -165,17 +161,17 @@ events_more (e ∷ es) new =
 abbrev pub shared : KindTag → State → List ℕ
 shared g S = values_line (values S) ++ register_lines g S.memory
 
+pub values_whole : (xs : List ℕ) → IsWhole (values_line xs)
+values_whole xs = ended (codes "values" ++ numbers_text xs)
+
 pub shared_whole : (g : KindTag) (S : State) → IsWhole (shared g S)
 shared_whole g S =
-    joined (values_line (values S)) (register_lines g S.memory)
-    (ended (codes "values" ++ numbers_text (values S))) (registers_whole g S.memory)
+    joined (values_whole (values S)) (registers_part g S.memory).whole
 
 pub shared_feeds : (g : KindTag) (i : ℕ) (S S' : State) → IsMove g i S S' → feeds (shared g S) ≡ feeds (shared g S')
 shared_feeds g i S S' h =
-    wholes.feeds_append (values_line (values S)) (register_lines g S.memory)
-    ∙ ap (λ n. n + feeds (register_lines g S.memory)) (values_feeds (values S) ∙ sym (values_feeds (values S')))
-    ∙ ap (λ n. feeds (values_line (values S')) + n) (sym h.registers)
-    ∙ sym (wholes.feeds_append (values_line (values S')) (register_lines g S'.memory))
+    feeds_both (values_line (values S)) (values_line (values S')) (register_lines g S.memory)
+    (register_lines g S'.memory) (values_feeds (values S) ∙ sym (values_feeds (values S'))) (sym h.registers)
 
 -- lines with their owners, behind others
 owned_lines : (a b : List ℕ) → IsWhole a → IsPart b →
@@ -188,9 +184,9 @@ owned_lines a b h k =
 owned_count : (t : List ℕ) → IsWhole t → length (lines_of (owned t)) ≡ feeds t
 owned_count t h = (owned_whole [] (lines_of t)).count ∙ owned_feeds [] (lines_of t) refl (lines_plain t) ∙ h.count
 
-pub between_apart : (a a' b b' : List ℕ) → IsWhole a → IsWhole a' → IsPart b → IsPart b' → feeds a ≡ feeds a' →
+pub between_apart : {a a' b b' : List ℕ} → IsWhole a → IsWhole a' → IsPart b → IsPart b' → feeds a ≡ feeds a' →
     between (a ++ b) (a' ++ b') ≡ between a a' ++ between b b'
-between_apart a a' b b' h h' k k' e =
+between_apart {a} {a'} {b} {b'} h h' k k' e =
     ap (λ xs. text_between xs (lines_of (owned (a' ++ b')))) (owned_lines a b h k)
     ∙ ap (text_between (lines_of (owned a) ++ lines_of (owned b))) (owned_lines a' b' h' k')
     ∙ changes.apart (lines_of (owned a)) (lines_of (owned a')) (lines_of (owned b)) (lines_of (owned b'))
@@ -204,73 +200,27 @@ between_came a b h k =
     ap (text_between (lines_of (owned a))) (owned_lines a b h k)
     ∙ changes.came (lines_of (owned a)) (lines_of (owned b))
 
--- the processes before one, and those behind it
-record IsSplit (g : KindTag) (k j : ℕ) (ps : List Process) : Type 0 where
-  front : List ℕ
-  rest : List ℕ
-  front_part : IsPart front
-  rest_part : IsPart rest
-  text : (p : Process) → processes_lines g k (slice_set ps j p) ≡ front ++ (process_lines g (k + j) p ++ rest)
+-- what changed of a text around a part that differs
+pub around : {a a' m m' : List ℕ} → Differs IsPart a a' m m' → between a a' ≡ between m m'
+around {a' = a'} {m = m} {m' = m'} h =
+    let l = h.alike in
+    ap (λ t. between t a') h.old_is ∙ ap (between (h.front ++ (m ++ h.rest))) h.new_is
+    ∙ between_apart h.front_is.whole h.front_is.whole (part_joined l.mine h.rest_is) (part_joined l.mine' h.rest_is)
+    refl
+    ∙ ap (λ t. t ++ between (m ++ h.rest) (m' ++ h.rest)) (between_same h.front)
+    ∙ between_apart l.mine.whole l.mine'.whole h.rest_is h.rest_is l.same
+    ∙ ap (λ t. between m m' ++ t) (between_same h.rest) ∙ append-nil (between m m')
 
-split : (g : KindTag) (k j : ℕ) (ps : List Process) → j < length ps → IsSplit g k j ps
-split g k j [] h = absurd (omega (arith, h))
-split g k zero (q ∷ ps) h = record {
-  front = [];
-  rest = processes_lines g (k + 1) ps;
-  front_part = no_part;
-  rest_part = processes_part g (k + 1) ps;
-  text = λ p. (let e : k ≡ k + 0 = omega arith in ap (λ n. process_lines g n p ++ processes_lines g (k + 1) ps) e);
-}
-split g k (suc j) (q ∷ ps) h =
-    let more : IsSplit g (k + 1) j ps = split g (k + 1) j ps (omega (arith, h)) in
-    let e : k + 1 + j ≡ k + suc j = omega arith in
-    record {
-      front = process_lines g k q ++ more.front;
-      rest = more.rest;
-      front_part = part_joined (process_lines g k q) more.front (process_part g k q) more.front_part;
-      rest_part = more.rest_part;
-      text = λ p.
-          ap (λ t. process_lines g k q ++ t) (more.text p)
-          ∙ sym (append_assoc (process_lines g k q) more.front (process_lines g (k + 1 + j) p ++ more.rest))
-          ∙ ap (λ n. (process_lines g k q ++ more.front) ++ (process_lines g n p ++ more.rest)) e;
-    }
-
--- put together from the left, or from the right
-regroup : (x f p b e : List ℕ) → (x ++ (f ++ (p ++ b))) ++ e ≡ x ++ (f ++ (p ++ (b ++ e)))
-regroup x f p b e = simp append_assoc
-
--- what changed is of the values, the registers and one process, with the events that came
-parts_changed : (x x' f p p' b e n : List ℕ) → IsWhole x → IsWhole x' → IsPart f → IsPart p →
-    IsPart p' → IsPart b → IsPart e → IsPart n → feeds x ≡ feeds x' → feeds p ≡ feeds p' →
-    between ((x ++ (f ++ (p ++ b))) ++ e) ((x' ++ (f ++ (p' ++ b))) ++ (e ++ n)) ≡ between (x ++ p) ((x' ++ p') ++ n)
-parts_changed x x' f p p' b e n hx hx' hf hp hp' hb he hn sx sp =
-    ap (λ t. between t ((x' ++ (f ++ (p' ++ b))) ++ (e ++ n))) (regroup x f p b e)
-    ∙ ap (between (x ++ (f ++ (p ++ (b ++ e))))) (regroup x' f p' b (e ++ n))
-    ∙ between_apart x x' (f ++ (p ++ (b ++ e))) (f ++ (p' ++ (b ++ (e ++ n)))) hx hx'
-    (part_joined f (p ++ (b ++ e)) hf (part_joined p (b ++ e) hp be))
-    (part_joined f (p' ++ (b ++ (e ++ n))) hf (part_joined p' (b ++ (e ++ n)) hp' ben)) sx
-    ∙ ap (λ t. between x x' ++ t) (inner ∙ sym outer)
-    ∙ sym (between_apart x x' p (p' ++ n) hx hx' hp (part_joined p' n hp' hn) sx)
-    ∙ ap (between (x ++ p)) (sym (append_assoc x' p' n))
-  where
-    be : IsPart (b ++ e)
-    be = part_joined b e hb he
-
-    ben : IsPart (b ++ (e ++ n))
-    ben = part_joined b (e ++ n) hb (part_joined e n he hn)
-
-    inner : between (f ++ (p ++ (b ++ e))) (f ++ (p' ++ (b ++ (e ++ n)))) ≡ between p p' ++ between [] n
-    inner =
-        between_apart f f (p ++ (b ++ e)) (p' ++ (b ++ (e ++ n))) hf.whole hf.whole (part_joined p (b ++ e) hp be)
-        (part_joined p' (b ++ (e ++ n)) hp' ben) refl
-        ∙ ap (λ t. t ++ between (p ++ (b ++ e)) (p' ++ (b ++ (e ++ n)))) (between_same f)
-        ∙ between_apart p p' (b ++ e) (b ++ (e ++ n)) hp.whole hp'.whole be ben sp
-        ∙ ap (λ t. between p p' ++ between (b ++ e) t) (sym (append_assoc b e n))
-        ∙ ap (λ t. between p p' ++ t) (between_came (b ++ e) n be.whole hn)
-
-    outer : between p (p' ++ n) ≡ between p p' ++ between [] n
-    outer =
-        ap (λ t. between t (p' ++ n)) (sym (append-nil p)) ∙ between_apart p p' [] n hp.whole hp'.whole no_part hn sp
+-- what changed of three parts, where texts came behind the last one
+pub in_three : {a a' b b' e n : List ℕ} → IsWhole a → IsWhole a' → IsPart b → IsPart b' → IsPart e → IsPart n →
+    feeds a ≡ feeds a' → feeds b ≡ feeds b' →
+    between ((a ++ b) ++ e) ((a' ++ b') ++ (e ++ n)) ≡ between a a' ++ (between b b' ++ between [] n)
+in_three {a} {a'} {b} {b'} {e} {n} ha ha' hb hb' he hn sa sb =
+    ap (λ t. between t ((a' ++ b') ++ (e ++ n))) (append_assoc a b e)
+    ∙ ap (between (a ++ (b ++ e))) (append_assoc a' b' (e ++ n))
+    ∙ between_apart ha ha' (part_joined hb he) (part_joined hb' (part_joined he hn)) sa
+    ∙ ap (λ t. between a a' ++ t) (between_apart hb.whole hb'.whole he (part_joined he hn) sb
+    ∙ ap (λ t. between b b' ++ t) (between_came e n he.whole hn))
 
 -- A move of one process changes its own lines and those of the values and the registers, and
 -- events come behind the others.
@@ -278,26 +228,15 @@ pub narrowed : (g : KindTag) (i : ℕ) (S S' : State) (es new : List Event) → 
     IsMove g i S S' → between (state_text g S es) (state_text g S' (es ++ new))
     ≡ between (process_text g i S []) (process_text g i S' new)
 narrowed g i S S' es new one there h =
-    ap (λ t. between t (state_text g S' (es ++ new))) (ap (λ t. (shared g S ++ t) ++ event_lines es) old)
-    ∙ ap (between ((shared g S ++ (sp.front ++ (mine ++ sp.rest))) ++ event_lines es))
-    (ap (λ t. (shared g S' ++ t) ++ event_lines (es ++ new)) now
-    ∙ ap (λ t. (shared g S' ++ (sp.front ++ (moved ++ sp.rest))) ++ t) (events_more es new))
-    ∙ parts_changed (shared g S) (shared g S') sp.front mine moved sp.rest (event_lines es) (event_lines new)
-    (shared_whole g S) (shared_whole g S')
-    sp.front_part (process_part g i (process_at S i)) (process_part g i h.process) sp.rest_part
-    (events_part es) (events_part new)
-    (shared_feeds g i S S' h) (sym h.lines)
-    ∙ ap (λ t. between t ((shared g S' ++ moved) ++ event_lines new)) (sym (append-nil (shared g S ++ mine)))
-    ∙ ap (λ p. between (process_text g i S []) ((shared g S' ++ process_lines g i p) ++ event_lines new)) (sym own)
+    ap (λ t. between (state_text g S es) ((shared g S' ++ processes_lines g 1 S'.processes) ++ t)) (events_more es new)
+    ∙ in_three (shared_whole g S) (shared_whole g S') (processes_part g S) (processes_part g S') (events_part es)
+    (events_part new) (shared_feeds g i S S' h) processes_feeds
+    ∙ ap (λ t. between (shared g S) (shared g S') ++ (t ++ between [] (event_lines new))) (around moved)
+    ∙ sym (in_three (shared_whole g S) (shared_whole g S') (process_part g i (process_at S i))
+    (process_part g i (process_at S' i)) no_part (events_part new) (shared_feeds g i S S' h) moved.alike.same)
   where
-    sp : IsSplit g 1 (i - 1) S.processes
-    sp = split g 1 (i - 1) S.processes there
-
-    mine : List ℕ
-    mine = process_lines g i (process_at S i)
-
-    moved : List ℕ
-    moved = process_lines g i h.process
+    sp : IsSplit IsPart (process_lines g) (processes_lines g) 1 (i - 1) S.processes
+    sp = split_at parts_join (processes_order g) (process_part g) 1 S.processes (i - 1)
 
     number : 1 + (i - 1) ≡ i
     number = omega (arith, one)
@@ -307,12 +246,31 @@ narrowed g i S S' es new one there h =
         ap (λ ps. slice_index_or ps (i - 1) nobody) h.processes
         ∙ get_or-set_same S.processes (i - 1) h.process nobody there
 
-    old : processes_lines g 1 S.processes ≡ sp.front ++ (mine ++ sp.rest)
-    old =
-        ap (processes_lines g 1) (sym (set-get_or S.processes (i - 1) nobody)) ∙ sp.text (process_at S i)
-        ∙ ap (λ n. sp.front ++ (process_lines g n (process_at S i) ++ sp.rest)) number
+    with_process : (p : Process) →
+        processes_lines g 1 (slice_set S.processes (i - 1) p) ≡ sp.front ++ (process_lines g i p ++ sp.rest)
+    with_process p =
+        sp.text p
+        ∙ ap (λ b. sp.front ++ ((if b then process_lines g (1 + (i - 1)) p else []) ++ sp.rest)) (sp.inside there)
+        ∙ ap (λ n. sp.front ++ (process_lines g n p ++ sp.rest)) number
 
-    now : processes_lines g 1 S'.processes ≡ sp.front ++ (moved ++ sp.rest)
-    now =
-        ap (processes_lines g 1) h.processes ∙ sp.text h.process
-        ∙ ap (λ n. sp.front ++ (process_lines g n h.process ++ sp.rest)) number
+    moved : Differs IsPart (processes_lines g 1 S.processes) (processes_lines g 1 S'.processes)
+        (process_lines g i (process_at S i)) (process_lines g i (process_at S' i))
+    moved = record {
+      front = sp.front;
+      rest = sp.rest;
+      front_is = sp.front_is;
+      rest_is = sp.rest_is;
+      old_is =
+          ap (processes_lines g 1) (sym (set-get_or S.processes (i - 1) nobody)) ∙ with_process (process_at S i);
+      new_is =
+          ap (processes_lines g 1) h.processes ∙ with_process h.process
+          ∙ ap (λ p. sp.front ++ (process_lines g i p ++ sp.rest)) (sym own);
+      alike = record {
+        mine = process_part g i (process_at S i);
+        mine' = process_part g i (process_at S' i);
+        same = sym (ap (λ p. feeds (process_lines g i p)) own ∙ h.lines);
+      };
+    }
+
+    processes_feeds : feeds (processes_lines g 1 S.processes) ≡ feeds (processes_lines g 1 S'.processes)
+    processes_feeds = differ_feeds moved

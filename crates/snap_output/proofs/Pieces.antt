@@ -12,12 +12,12 @@ use Rattle.snap_semantics.specs.Token.{lines_of}
 use Rattle.snap_text.specs.Changes.{line_with, replaced_text, text_between}
 use Rattle.snap_text.proofs.Printing.{one_added, one_replaced}
 use Rattle.snap_output.specs.Touched.{came_text, changed_line, changed_local, of_process}
-use Rattle.snap_output.proofs.Wholes.{IsWhole, feeds, feeds_append, joined, no_text}
+use Rattle.snap_output.proofs.Wholes.{IsWhole, feeds, feeds_append, feeds_both, joined, no_text}
 use Rattle.snap_output.proofs.Changes.{apart}
 use Rattle.snap_output.proofs.Feeds.{decimal_plain, head_feeds}
 use Rattle.snap_output.proofs.Parts.{ended}
-use Rattle.snap_output.proofs.Indented.{one_line, plain_before}
-use Rattle.snap_output.proofs.Own.{IsLocalLine, event_feeds, no_line, one_of}
+use Rattle.snap_output.proofs.Indented.{IsLocalLine, no_line, one_line, one_of, plain_before}
+use Rattle.snap_output.proofs.Own.{event_feeds}
 
 tests_agree : (b c : Bool) → (b ≡ true → c ≡ true) → (c ≡ true → b ≡ true) → b ≡ c
 tests_agree true true f g = refl
@@ -125,28 +125,27 @@ came (e ∷ es) =
         codes "event " ++ decimal e.item ++ codes " " ++ decimal e.process ++ codes " " ++ happening_text e.what
 
 -- behind parts with as many lines
-both_apart : (x x' r r' : List ℕ) → IsWhole x → IsWhole x' → feeds x ≡ feeds x' →
+both_apart : {x x' : List ℕ} (r r' : List ℕ) → IsWhole x → IsWhole x' → feeds x ≡ feeds x' →
     text_between (lines_of (x ++ r)) (lines_of (x' ++ r'))
     ≡ text_between (lines_of x) (lines_of x') ++ text_between (lines_of r) (lines_of r')
-both_apart x x' r r' h h' e =
+both_apart {x} {x'} r r' h h' e =
     ap (λ ls. text_between ls (lines_of (x' ++ r'))) (h.apart r)
     ∙ ap (text_between (lines_of x ++ lines_of r)) (h'.apart r')
     ∙ apart (lines_of x) (lines_of x') (lines_of r) (lines_of r') (h.count ∙ e ∙ sym h'.count)
 
 -- the lines that an item can change, piece by piece
-pub in_pieces : (i : ℕ) (t t' : Status) (a a' l l' : List ℕ) (es : List Event) → IsWhole a → IsWhole a' →
-    feeds a ≡ feeds a' → IsLocalLine l → IsLocalLine l' → feeds l ≡ feeds l' →
+pub in_pieces : (i : ℕ) (t t' : Status) {a a' l l' : List ℕ} → IsWhole a → IsWhole a' →
+    feeds a ≡ feeds a' → IsLocalLine l → IsLocalLine l' → feeds l ≡ feeds l' → (es : List Event) →
     text_between (lines_of (((a ++ head_line i t) ++ of_process i l) ++ []))
     (lines_of (((a' ++ head_line i t') ++ of_process i l') ++ event_lines es))
     ≡ ((text_between (lines_of a) (lines_of a') ++ changed_line (head_line i t) (head_line i t'))
     ++ changed_local i l l') ++ came_text es
-in_pieces i t t' a a' l l' es ha ha' ea hl hl' el =
-    both_apart (ah ++ m) (ah' ++ m') [] (event_lines es)
-    (joined ah m whole (told_whole i l hl)) (joined ah' m' whole' (told_whole i l' hl'))
-    (feeds_append ah m ∙ ap (λ k. k + feeds m) count ∙ ap (λ k. feeds ah' + k) lines ∙ sym (feeds_append ah' m'))
+in_pieces i t t' {a} {a'} {l} {l'} ha ha' ea hl hl' el es =
+    both_apart [] (event_lines es) (joined whole (told_whole i l hl)) (joined whole' (told_whole i l' hl'))
+    (feeds_both ah ah' m m' count (told_feeds i l hl ∙ el ∙ sym (told_feeds i l' hl')))
     ∙ ap (λ c. c ++ text_between [] (lines_of (event_lines es)))
-    (both_apart ah ah' m m' whole whole' count
-    ∙ ap (λ c. c ++ text_between (lines_of m) (lines_of m')) (both_apart a a' h h' ha ha' ea
+    (both_apart m m' whole whole' count
+    ∙ ap (λ c. c ++ text_between (lines_of m) (lines_of m')) (both_apart h h' ha ha' ea
     ∙ ap (λ c. text_between (lines_of a) (lines_of a') ++ c)
     (line_change (words t) (words t') (head_feeds i t) (head_feeds i t')))
     ∙ ap (λ c. (text_between (lines_of a) (lines_of a') ++ changed_line h h') ++ c) (local_change i l l' hl hl' el))
@@ -174,15 +173,10 @@ in_pieces i t t' a a' l l' es ha ha' ea hl hl' el =
     ah' = a' ++ h'
 
     whole : IsWhole ah
-    whole = joined a h ha (ended (words t))
+    whole = joined ha (ended (words t))
 
     whole' : IsWhole ah'
-    whole' = joined a' h' ha' (ended (words t'))
+    whole' = joined ha' (ended (words t'))
 
     count : feeds ah ≡ feeds ah'
-    count =
-        feeds_append a h ∙ ap (λ k. k + feeds h) ea
-        ∙ ap (λ k. feeds a' + k) (head_feeds i t ∙ sym (head_feeds i t')) ∙ sym (feeds_append a' h')
-
-    lines : feeds m ≡ feeds m'
-    lines = told_feeds i l hl ∙ el ∙ sym (told_feeds i l' hl')
+    count = feeds_both a a' h h' ea (head_feeds i t ∙ sym (head_feeds i t'))

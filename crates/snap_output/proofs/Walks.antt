@@ -61,19 +61,13 @@ pub next_few : (r : Run) (texts : List NumberedText) (m : Configuration) (number
     (left : List Item) → Going r texts m number out left → number ≤ 1000000
 next_few r texts m number out left h = let e = h.count in let f = h.few in omega (arith, e, f)
 
--- the first of the items that are left
-first_is : (xs : List Item) (k : ℕ) (x : Item) (ys : List Item) → drop k xs ≡ x ∷ ys → slice_index_or xs k (Step 0) ≡ x
-first_is [] zero x ys e = absurd cc
-first_is [] (suc k) x ys e = absurd cc
-first_is (z ∷ xs) zero x ys e = cc
-first_is (z ∷ xs) (suc k) x ys e = first_is xs k x ys e
-
--- the items behind the first one that is left
-rest_is : (xs : List Item) (k : ℕ) (x : Item) (ys : List Item) → drop k xs ≡ x ∷ ys → drop (suc k) xs ≡ ys
-rest_is [] zero x ys e = absurd cc
-rest_is [] (suc k) x ys e = absurd cc
-rest_is (z ∷ xs) zero x ys e = cc
-rest_is (z ∷ xs) (suc k) x ys e = rest_is xs k x ys e
+-- the first of the items that are left, and those behind it
+next_is : (xs : List Item) (k : ℕ) (x : Item) (ys : List Item) → drop k xs ≡ x ∷ ys →
+    (slice_index_or xs k (Step 0) ≡ x) × (drop (suc k) xs ≡ ys)
+next_is [] zero x ys e = absurd cc
+next_is [] (suc k) x ys e = absurd cc
+next_is (z ∷ xs) zero x ys e = (cc, cc)
+next_is (z ∷ xs) (suc k) x ys e = next_is xs k x ys e
 
 -- one item more is done and told
 pub one_more : (r : Run) (texts : List NumberedText) (m m' : Configuration) (number : ℕ) (out out' : List ℕ)
@@ -90,7 +84,7 @@ one_more r texts m m' number out out' left left' x h next source shape state_is 
       processes =
           ap (λ (S : State). length S.processes) (next_state r number below)
           ∙ processes_kept r.source r.shape (state r number) (item r (suc number)) ∙ h.processes;
-      left_is = rest_is r.items number x left' (h.left_is ∙ next);
+      left_is = (next_is r.items number x left' (h.left_is ∙ next)).1;
       count = (let c = h.count in let l = ap length next in omega (arith, c, l));
       few = h.few;
       fits = (subst (λ xs. AllByRecursion (λ x. IsOneOf r.shape.n (who x)) xs) next h.fits).1;
@@ -101,7 +95,7 @@ one_more r texts m m' number out out' left left' x h next source shape state_is 
     below = let c = h.count in let l = ap length next in omega (arith, c, l)
 
     x_is : item r (suc number) ≡ x
-    x_is = first_is r.items number x left' (h.left_is ∙ next)
+    x_is = (next_is r.items number x left' (h.left_is ∙ next)).0
 
     own : IsOneOf r.shape.n (who x)
     own = (subst (λ xs. AllByRecursion (λ x. IsOneOf r.shape.n (who x)) xs) next h.fits).0

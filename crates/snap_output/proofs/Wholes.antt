@@ -19,6 +19,9 @@ feeds_append (x ∷ a) b = by_case (nat_eq x 10) (feeds_append a b)
     by_case true h = omega (arith, h)
     by_case false h = h
 
+pub feeds_both : (a a' b b' : List ℕ) → feeds a ≡ feeds a' → feeds b ≡ feeds b' → feeds (a ++ b) ≡ feeds (a' ++ b')
+feeds_both a a' b b' e f = omega (arith, feeds_append a b, feeds_append a' b', e, f)
+
 -- behind such a text a line begins, and each of its line feeds ends a line
 pub record IsWhole (t : List ℕ) : Type 0 where
   pub apart : (rest : List ℕ) → lines_of (t ++ rest) ≡ lines_of t ++ lines_of rest
@@ -27,14 +30,14 @@ pub record IsWhole (t : List ℕ) : Type 0 where
 pub no_text : IsWhole []
 no_text = record { apart = λ rest. refl; count = refl }
 
-pub joined : (a b : List ℕ) → IsWhole a → IsWhole b → IsWhole (a ++ b)
-joined a b h k = record {
+pub joined : {a b : List ℕ} → IsWhole a → IsWhole b → IsWhole (a ++ b)
+joined {a} {b} h k = record {
   apart = λ rest.
       ap lines_of (append_assoc a b rest) ∙ h.apart (b ++ rest) ∙ ap (λ ls. lines_of a ++ ls) (k.apart rest)
       ∙ sym (append_assoc (lines_of a) (lines_of b) (lines_of rest)) ∙ ap (λ ls. ls ++ lines_of rest) (sym (h.apart b));
   count =
-      ap length (h.apart b) ∙ length-append (lines_of a) (lines_of b) ∙ ap (λ n. n + length (lines_of b)) h.count
-      ∙ ap (λ n. feeds a + n) k.count ∙ sym (feeds_append a b);
+      ap length (h.apart b)
+      ∙ omega (arith, length-append (lines_of a) (lines_of b), h.count, k.count, feeds_append a b);
 }
 
 -- a text has at least one line

@@ -10,7 +10,7 @@ ghost use Rattle.snap_semantics.specs.Table.{who};
 ghost use Rattle.snap_runs.specs.Run.{state};
 ghost use Rattle.snap_listing.specs.LineTexts.{written};
 ghost use Rattle.snap_debug.specs.Session.{Obeys, at_position};
-ghost use Rattle.snap_prompt.specs.Changed.{outcome_line, item_text};
+ghost use Rattle.snap_prompt.specs.Changed.{item_text};
 ghost use Rattle.snap_prompt.specs.Changed.{line_run, ran};
 
 use snap_debug::{Command, Reply, Session};

@@ -105,11 +105,7 @@ shorts : (us : List Use) → Spoken us → Shorts us
 shorts [] n = tt
 shorts (Named wanted x ∷ us) n =
     (ltb-false 8 (length x) (or_parts (nat_lt 8 (length x)) (is_reserved x) n.0.1).0, shorts us n.1)
-shorts (BankUse b ∷ us) n = (tt, shorts us n.1)
-shorts (FieldUse f ∷ us) n = (tt, shorts us n.1)
-shorts (HandshakeUse ∷ us) n = (tt, shorts us n.1)
-shorts (ViewUse ∷ us) n = (tt, shorts us n.1)
-shorts (TupleUse k ∷ us) n = (tt, shorts us n.1)
+shorts (u ∷ us) n = (tt, shorts us n.1)
 
 found_line : (ts : List Token) (o : Option Line) (line : Line) → Holds (LineIs ts) o → o ≡ Some line → LineIs ts line
 found_line ts o line h e = let P : Option Line → Type 0 = Holds (LineIs ts) in subst P e h

@@ -2,7 +2,7 @@
 -- and so is the link of its process (`links`); and the operand at which it traps is the one that is told (`line_told`).
 use Rattle.std.proofs.Common.{◌≡◌, ℕ, ◌-◌, ◌<◌, ◌≤◌, rules, true, false, ◌&&◌, nat_lt, nat_le, Result, Ok, Err, []}
 use Rattle.std.proofs.Common.{if◌then◌else◌, refl, Bool, List, ap, ◌∙◌, Option, Some, None, get_or, length, slice_set}
-use Rattle.std.proofs.Common.{sym, subst, arith}
+use Rattle.std.proofs.Common.{sym, subst, arith, ◌++◌, append_assoc, ◌∷◌, codes}
 use Rattle.std.specs.List.{list_all}
 use Rattle.std.proofs.lemmas.List.Elements.{All-get_or}
 use Rattle.snap_words.specs.Word.{Word, no_word}
@@ -20,15 +20,13 @@ use Rattle.snap_semantics.specs.declared.process.Op.{Op}
 use Rattle.snap_semantics.specs.declared.process.Op.TheVariants as op
 use Rattle.snap_semantics.specs.declared.instr.Instr.{Instr}
 use Rattle.snap_semantics.specs.declared.instr.Instr.TheVariants.{Let, LetPlace, Get, Bit, Look, Put, PutBit, PutView}
-use Rattle.snap_semantics.specs.declared.instr.Instr.TheVariants.{ViewData, ViewOf, Each, First, Next, If, IfAll, Goto}
-use Rattle.snap_semantics.specs.declared.instr.Instr.TheVariants.{Call, Return, Finish}
-use Rattle.snap_semantics.specs.declared.instr.Instr.TheVariants as instr
-use Rattle.snap_semantics.specs.Value.{place_in, Context, expr_value, at_place, condition_holds, each_of, index_value}
+use Rattle.snap_semantics.specs.declared.instr.Instr.TheVariants.{ViewData, ViewOf, Each, First, Next, If, IfAll}
+use Rattle.snap_semantics.specs.declared.instr.Instr.TheVariants.{Return}
+use Rattle.snap_semantics.specs.Value.{place_in, Context, index_value, expr_value}
 use Rattle.snap_semantics.specs.Answers.{◌>>=◌}
 use Rattle.snap_semantics.specs.Table.{tuple_word, with_memory_bits, Effect, Goes, Answers, Finishes, call_goes}
-use Rattle.snap_semantics.specs.Table.{finish_goes, first_goes, on, return_goes, all_true, bank_of, bit_value, bits_of}
-use Rattle.snap_semantics.specs.Table.{conditions, each_value, effect, first_true, owned, places_to, range_end}
-use Rattle.snap_semantics.specs.Table.{with_bit_at, with_bits, with_memory_views}
+use Rattle.snap_semantics.specs.Table.{finish_goes, first_goes, on, return_goes, bank_of, bit_value, effect, owned}
+use Rattle.snap_semantics.specs.Table.{with_bits, with_memory_views}
 use Rattle.snap_semantics.specs.State.{Memory, Locals, value_at, with_scalar, State, with_memory_words, with_view}
 use Rattle.snap_semantics.specs.State.{with_words, process_at}
 use Rattle.snap_semantics.specs.Source.{Name, Source, following}
@@ -48,32 +46,22 @@ use Rattle.snap_why.specs.declared.trouble.Trouble.{Trouble}
 use Rattle.snap_reading_laws.specs.traps.Told.{IsTold}
 use Rattle.snap_reading_laws.proofs.traps.Values.{Takes, Gives, place_gives, takes, owner_gives, HaveOneSort, bit_gives}
 use Rattle.snap_reading_laws.proofs.traps.Values.{condition_takes, expr_gives, expr_takes}
-use Rattle.snap_why.specs.Troubles.{place_trouble, owner_trouble, bit_trouble, condition_trouble, conditions_trouble}
-use Rattle.snap_why.specs.Troubles.{context_of, expr_number, expr_trouble, line_trouble, tuple_trouble, values_trouble}
+use Rattle.snap_why.specs.Troubles.{place_trouble, owner_trouble, bit_trouble, context_of, line_trouble, expr_number}
+use Rattle.snap_why.specs.Troubles.{expr_trouble, tuple_trouble}
 use Rattle.snap_why.specs.declared.taker.Taker.{Taker}
 use Rattle.snap_reading_laws.proofs.traps.Places.{conditions_take, tuple_takes, values_take}
-use Rattle.std.proofs.Common.{◌++◌, append_assoc}
-use Rattle.std.proofs.Common.{◌∷◌}
-use Rattle.std.proofs.Common.{codes}
-use Rattle.snap_semantics.specs.declared.instr.Condition.{Condition}
-use Rattle.snap_semantics.specs.declared.instr.Expr.{Expr}
-use Rattle.snap_semantics.specs.declared.instr.Index.{Index}
-use Rattle.snap_semantics.specs.declared.instr.Range.{Range}
 use Rattle.snap_semantics.specs.declared.text.Sort.TheVariants as sort
 use Rattle.snap_semantics.specs.declared.text.Symbol.TheVariants as symbol
-use Rattle.snap_semantics.specs.Spelling.{in_parentheses, in_brackets, spelled_index, spelled_place}
-use Rattle.snap_semantics.specs.Spelling.{spelled_expr}
-use Rattle.snap_semantics.specs.Spelling.{spelled_condition, spelled_where, spelled_range, spelled_target}
-use Rattle.snap_semantics.specs.Spelling.{bank_keyword, spelled_pair, spelled_instr}
+use Rattle.snap_semantics.specs.Spelling.{in_parentheses, in_brackets, spelled_index, spelled_place, spelled_expr}
+use Rattle.snap_semantics.specs.Spelling.{spelled_condition, spelled_where, spelled_range, spelled_target, bank_keyword}
+use Rattle.snap_semantics.specs.Spelling.{spelled_pair, spelled_instr}
 use Rattle.snap_semantics.specs.Token.{Token, Identifier, Sign}
-use Rattle.snap_semantics.specs.Uses.{Use, Named, BankUse, ViewUse, view}
-use Rattle.snap_semantics.specs.Uses.{index_uses, expr_uses}
-use Rattle.snap_semantics.specs.Uses.{where_uses, instr_uses}
+use Rattle.snap_semantics.specs.Uses.{Use, Named, BankUse, ViewUse, view, index_uses, expr_uses, where_uses, instr_uses}
 use Rattle.snap_listing.proofs.Alls.{all_both}
 use Rattle.snap_reading_laws.specs.RefusedForToken.{SpeaksName}
 use Rattle.snap_explanation.specs.TokenUses.{token_uses}
 use Rattle.snap_explanation.specs.declared.token_uses.Slot.TheVariants as slot
-use Rattle.snap_reading_laws.proofs.SpokenTokens.{Spoken, first_of_both, second_of_both, close, lone_value, name_as, whole, bracket_reads, place_reads, inside_reads, value_open, expr_reads, where_open, where_reads, pair_reads, some_behind, bank_reads, range_reads, range_open, put_reads, last_expr, last_bracket, tested}
+use Rattle.snap_reading_laws.proofs.SpokenTokens.{name_then, one_more, Spoken, first_of_both, second_of_both, close, lone_value, name_as, whole, bracket_reads, place_reads, inside_reads, value_open, expr_reads, where_open, where_reads, pair_reads, some_behind, bank_reads, range_reads, range_open, put_reads, last_expr, last_bracket, tested}
 
 -- a place that a line takes is there
 pub record IsThere (count k r : ℕ) : Type 0 where
@@ -116,13 +104,8 @@ unfolding HasView
 made_of v word e = e
 
 tuple_view : (c : Context) (t : Tuple) → HasView (named_view c.locals (view_beside t)) (tuple_word c t)
-tuple_view c (tuple.Seq d q x) =
-    made _ (expr_value c d) _ (λ datum. made _ (expr_value c q) _ (λ seq. made_of _ _ refl))
-tuple_view c (tuple.Bits d h t x) =
-    made _ (expr_value c d) _ (λ datum. made _ (expr_value c t) _ (λ toggle. made_of _ _ refl))
-tuple_view c (tuple.Multi d i t) =
-    made _ (expr_value c d) _ (λ datum.
-    made _ (expr_value c i) _ (λ id. made _ (expr_value c t) _ (λ toggle. made_of _ _ refl)))
+tuple_view c (tuple.Seq d q x) = search (made, made_of)
+tuple_view c _ = search (made, made_of)
 
 view_of_made : (v : List ℕ) (r : Result Word Cause) (word : Word) → HasView v r → r ≡ Ok word → word.view ≡ v
 unfolding HasView
@@ -162,12 +145,20 @@ module _ (l : Locals) (m : Memory) where
   choice t back false x y h k = k
 
   -- a line that leaves all views and words
+  other : (m' : Memory) (l' : Locals) → m'.words ≡ m.words → m'.views ≡ m.views → l'.views ≡ l.views →
+      l'.words ≡ l.words → Went l m act.Other m' l'
+  other m' l' words views local_views local_words =
+      kept l l' m m' act.Other words views local_views local_words tt
+
   plain : Went l m act.Other m l
-  plain = kept l l m m act.Other refl refl refl refl tt
+  plain = other m l refl refl refl refl
+
+  test_leaves : (b : Bool) → Went l m (act.Test b) m l
+  test_leaves b = kept l l m m (act.Test b) refl refl refl refl tt
 
   -- an item sets a scalar
   scalar : (x : Name) (v : ℕ) → Went l m act.Other m (with_scalar x v l)
-  scalar x v = kept l (with_scalar x v l) m m act.Other refl refl refl refl tt
+  scalar x v = other m (with_scalar x v l) refl refl refl refl
 
   first_leaves : (s : Source) (a : Activity) (x : Name) (target : ℕ) (o : Option ℕ) →
       Leaves act.Other None (first_goes s a m l x target o)
@@ -191,21 +182,29 @@ module _ (l : Locals) (m : Memory) where
 
   finish_leaves : (o : Op) (link : Option ℕ) → Leaves act.Other None (finish_goes o link)
   finish_leaves (op.Update word value) None = tt
-  finish_leaves (op.Update word value) (Some line) = tt
-  finish_leaves op.Scan link = tt
+  finish_leaves _ link = tt
+
+ruleset leaving = (
+  bound,
+  onward,
+  choice,
+  plain,
+  scalar,
+  other,
+  test_leaves,
+  collected,
+  bits_words,
+  bits_views,
+  first_leaves,
+  call_leaves,
+  return_leaves,
+  finish_leaves,
+)
 
 -- each form of a line
 pub leaves : (s : Source) (S : State) (c : Context) (m : Memory) (a : Activity) (i : Instr) →
     AreSized s c.shape c.locals → HasSizes s c.shape m → HasRightUses s i →
     Leaves c.locals m (stepped (intent_of_line c i) S c.me) (returned (intent_of_line c i)) (effect s c m a i)
-leaves s S c m a (Let x e) h of right =
-    bound c.locals m act.Other None (expr_value c e) _ (λ v is.
-    onward c.locals m act.Other (following s.lines a.line) m _ a.link (scalar c.locals m x v))
-leaves s S c m a (LetPlace x i e) h of right =
-    bound c.locals m act.Other None (place_in (places c.shape) (index_value c i)) _ (λ k there.
-    bound c.locals m act.Other None (expr_value c e) _ (λ v is.
-    onward c.locals m act.Other (following s.lines a.line) m _ a.link
-    (kept c.locals _ m m act.Other refl refl refl refl tt)))
 leaves s S c m a (Get x i j) h of right =
     let t : Act = stepped (intent_of_line c (Get x i j)) S c.me in
     let old : List Word = value_at x c.locals.words [] in
@@ -222,10 +221,6 @@ leaves s S c m a (Get x i j) h of right =
     (subst (λ (n : ℕ). Went c.locals m t m
     (with_words x (slice_set old (index_value c i - 1) (get_or m.words n no_word)) c.locals)) from.is
     (got c.locals m x (index_value c i) (index_value c j) to.first from.first within)))))
-leaves s S c m a (Bit x b i j) h of right =
-    bound c.locals m act.Other None (place_in c.shape.n (index_value c i)) _ (λ k there.
-    bound c.locals m act.Other None (place_in c.shape.n (index_value c j)) _ (λ r read.
-    onward c.locals m act.Other (following s.lines a.line) m _ a.link (scalar c.locals m x _)))
 leaves s S c m a (Look x i) h of right =
     let t : Act = stepped (intent_of_line c (Look x i)) S c.me in
     bound c.locals m t None (place_in c.shape.n (index_value c i)) _ (λ k there.
@@ -257,16 +252,6 @@ leaves s S c m a (Put i parts_of) h of right =
     onward c.locals m t (following s.lines a.line) (with_memory_words (slice_set m.words r x) m) c.locals a.link
     (subst (λ (n : ℕ). Went c.locals m t (with_memory_words (slice_set m.words n x) m) c.locals) to.is
     (wrote c.locals m (index_value c i) _ (view_beside parts_of) x to.first within beside))))))
-leaves s S c m a (PutBit b i j e) h of right =
-    bound c.locals m act.Other None (place_in c.shape.n (index_value c i)) _ (λ k there.
-    bound c.locals m act.Other None (place_in c.shape.n (index_value c j)) _ (λ q column.
-    bound c.locals m act.Other None (expr_value c e) _ (λ v is.
-    bound c.locals m act.Other None (bit_value v) _ (λ bit tested.
-    bound c.locals m act.Other None (owned s.kind c (bank_of b) (index_value c i) bit) _ (λ x own.
-    let rows : List (List ℕ) = with_bit_at (bits_of b m) k q x in
-    onward c.locals m act.Other (following s.lines a.line) (with_memory_bits b rows m) c.locals a.link
-    (kept c.locals c.locals m (with_memory_bits b rows m) act.Other (bits_words b rows m) (bits_views b rows m)
-    refl refl tt))))))
 leaves s S c m a (PutView i x) h of right =
     let t : Act = stepped (intent_of_line c (PutView i x)) S c.me in
     bound c.locals m t None (place_in c.shape.n (index_value c i)) _ (λ k there.
@@ -282,8 +267,6 @@ leaves s S c m a (PutView i x) h of right =
     (subst (λ (w : List ℕ). Went c.locals m t
     (with_memory_views (slice_set m.views (index_value c i - 1) w) m) c.locals) (sym same)
     (published c.locals m (index_value c i) x to.first within)))))
-leaves s S c m a (ViewData x y) h of right =
-    onward c.locals m (act.Collect x) (following s.lines a.line) m _ a.link (collected c.locals m x _)
 leaves s S c m a (ViewOf x y i) h of right =
     let t : Act = stepped (intent_of_line c (ViewOf x y i)) S c.me in
     bound c.locals m t None (place_in (places c.shape) (index_value c i)) _ (λ k there.
@@ -301,32 +284,7 @@ leaves s S c m a (ViewOf x y i) h of right =
     onward c.locals m t (following s.lines a.line) m _ a.link
     (subst (λ (n : ℕ). Went c.locals m t m (with_view x (get_or words n no_word).view c.locals)) from.is
     (borrowed c.locals m x (spot_of c y i) from.first (own ∙ sym long))))
-leaves s S c m a (Each g x e k) h of right =
-    bound c.locals m act.Other None (each_of (λ p. each_value (at_place c p) x e k)
-    (places_to (range_end c.shape g))) _ (λ vs are.
-    onward c.locals m act.Other (following s.lines a.line) m _ a.link
-    (kept c.locals _ m m act.Other refl refl refl refl tt))
-leaves s S c m a (First x g k target) h of right =
-    bound c.locals m act.Other None (conditions c (range_end c.shape g) k) _
-    (λ bs are. first_leaves c.locals m s a x target (first_true 1 bs))
-leaves s S c m a (Next x g target) h of right =
-    choice c.locals m act.Other None (nat_lt (value_at x c.locals.scalars 0) (range_end c.shape g)) _ _
-    (scalar c.locals m x _)
-    (onward c.locals m act.Other (following s.lines a.line) m _ a.link (scalar c.locals m x 1))
-leaves s S c m a (If k target) h of right =
-    bound c.locals m act.Other None (condition_holds c k) _ (λ b is.
-    choice c.locals m act.Other None b _ _ (plain c.locals m)
-    (onward c.locals m act.Other (following s.lines a.line) m c.locals a.link (plain c.locals m)))
-leaves s S c m a (IfAll g k target) h of right =
-    let t : Act = stepped (intent_of_line c (IfAll g k target)) S c.me in
-    let stays : Went c.locals m t m c.locals = kept c.locals c.locals m m t refl refl refl refl tt in
-    bound c.locals m t None (conditions c (range_end c.shape g) k) _ (λ bs are.
-    choice c.locals m t None (all_true bs) _ _ stays
-    (onward c.locals m t (following s.lines a.line) m c.locals a.link stays))
-leaves s S c m a (Goto target) h of right = plain c.locals m
-leaves s S c m a (Call target) h of right = call_leaves c.locals m s a target a.link
-leaves s S c m a (Return x) h of right = return_leaves c.locals m x a.op a.link
-leaves s S c m a Finish h of right = finish_leaves c.locals m a.op a.link
+leaves s S c m a _ h of right = search leaving depth 11
 
 -- the links before and after an instruction
 abbrev pub IsLinked : Instr → Act → Option ℕ → Option ℕ → Type 0
@@ -380,81 +338,13 @@ finish_links i (op.Update word value) None = refl
 finish_links i (op.Update word value) (Some line) = tt
 finish_links i op.Scan link = tt
 
+ruleset linking = (after, passes, branch, first_links, call_links, return_links, finish_links)
+
 -- each form of a line
 pub links : (s : Source) (S : State) (c : Context) (m : Memory) (a : Activity) (i : Instr) →
     Links i (stepped (intent_of_line c i) S c.me) a.link (effect s c m a i)
-links s S c m a (Let x e) =
-    after (Let x e) act.Other a.link (expr_value c e) _
-    (λ v. passes (Let x e) act.Other a.link (following s.lines a.line) m _ a.link refl)
-links s S c m a (LetPlace x i e) =
-    let j = LetPlace x i e in
-    after j act.Other a.link (place_in (places c.shape) (index_value c i)) _ (λ k.
-    after j act.Other a.link (expr_value c e) _
-    (λ v. passes j act.Other a.link (following s.lines a.line) m _ a.link refl))
-links s S c m a (Get x i k) =
-    let j = Get x i k in
-    let t : Act = stepped (intent_of_line c j) S c.me in
-    after j t a.link (place_in (places c.shape) (index_value c i)) _ (λ p.
-    after j t a.link (place_in c.shape.w (index_value c k)) _
-    (λ r. passes j t a.link (following s.lines a.line) m _ a.link refl))
-links s S c m a (Bit x b i k) =
-    let j = Bit x b i k in
-    after j act.Other a.link (place_in c.shape.n (index_value c i)) _ (λ p.
-    after j act.Other a.link (place_in c.shape.n (index_value c k)) _
-    (λ r. passes j act.Other a.link (following s.lines a.line) m _ a.link refl))
-links s S c m a (Look x i) =
-    let j = Look x i in
-    let t : Act = stepped (intent_of_line c j) S c.me in
-    after j t a.link (place_in c.shape.n (index_value c i)) _
-    (λ p. passes j t a.link (following s.lines a.line) m _ a.link refl)
-links s S c m a (Put i u) =
-    let j = Put i u in
-    let t : Act = stepped (intent_of_line c j) S c.me in
-    after j t a.link (place_in c.shape.w (index_value c i)) _ (λ r. after j t a.link (tuple_word c u) _ (λ parts.
-    after j t a.link (with_bits parts) _ (λ word. after j t a.link (owned s.kind c bank.R (index_value c i) word) _
-    (λ x. passes j t a.link (following s.lines a.line) _ c.locals a.link refl))))
-links s S c m a (PutBit b i k e) =
-    let j = PutBit b i k e in
-    after j act.Other a.link (place_in c.shape.n (index_value c i)) _ (λ p.
-    after j act.Other a.link (place_in c.shape.n (index_value c k)) _ (λ q.
-    after j act.Other a.link (expr_value c e) _ (λ v. after j act.Other a.link (bit_value v) _ (λ bit.
-    after j act.Other a.link (owned s.kind c (bank_of b) (index_value c i) bit) _
-    (λ x. passes j act.Other a.link (following s.lines a.line) _ c.locals a.link refl)))))
-links s S c m a (PutView i x) =
-    let j = PutView i x in
-    let t : Act = stepped (intent_of_line c j) S c.me in
-    after j t a.link (place_in c.shape.n (index_value c i)) _ (λ p.
-    after j t a.link (owned s.kind c bank.V (index_value c i) (value_at x c.locals.views [])) _
-    (λ v. passes j t a.link (following s.lines a.line) _ c.locals a.link refl))
-links s S c m a (ViewData x y) =
-    passes (ViewData x y) (act.Collect x) a.link (following s.lines a.line) m _ a.link refl
-links s S c m a (ViewOf x y i) =
-    let j = ViewOf x y i in
-    let t : Act = stepped (intent_of_line c j) S c.me in
-    after j t a.link (place_in (places c.shape) (index_value c i)) _
-    (λ p. passes j t a.link (following s.lines a.line) m _ a.link refl)
-links s S c m a (Each g x e k) =
-    let j = Each g x e k in
-    after j act.Other a.link (each_of (λ p. each_value (at_place c p) x e k) (places_to (range_end c.shape g))) _
-    (λ vs. passes j act.Other a.link (following s.lines a.line) m _ a.link refl)
-links s S c m a (First x g k target) =
-    after (First x g k target) act.Other a.link (conditions c (range_end c.shape g) k) _
-    (λ bs. first_links (First x g k target) s a m c.locals x target (first_true 1 bs))
-links s S c m a (Next x g target) =
-    branch (Next x g target) act.Other a.link (nat_lt (value_at x c.locals.scalars 0) (range_end c.shape g)) _ _ refl
-    (passes (Next x g target) act.Other a.link (following s.lines a.line) m _ a.link refl)
-links s S c m a (If k target) =
-    after (If k target) act.Other a.link (condition_holds c k) _ (λ b. branch (If k target) act.Other a.link b _ _ refl
-    (passes (If k target) act.Other a.link (following s.lines a.line) m c.locals a.link refl))
-links s S c m a (IfAll g k target) =
-    let j = IfAll g k target in
-    let t : Act = stepped (intent_of_line c j) S c.me in
-    after j t a.link (conditions c (range_end c.shape g) k) _ (λ bs. branch j t a.link (all_true bs) _ _ refl
-    (passes j t a.link (following s.lines a.line) m c.locals a.link refl))
-links s S c m a (Goto target) = refl
-links s S c m a (Call target) = call_links (Call target) s a m c.locals target a.link tt
-links s S c m a (Return x) = return_links x m c.locals a.op a.link
-links s S c m a Finish = finish_links Finish a.op a.link
+links s S c m a (Let x e) = search linking
+links s S c m a _ = search linking depth 9
 
 -- an operand, and what comes after it
 tells_then : {A B : Type 0} (o p : Option Trouble) (found : Result A Cause) (f : A → Result B Cause) →
@@ -518,197 +408,123 @@ owner_takes : {A : Type 0} (kind : _) (c : Context) (b : _) (i j : ℕ) (x : A) 
     Takes (owner_trouble kind c b i j) (owned kind c b i x)
 owner_takes kind c b i j x = takes (owner_trouble kind c b i j) x _ (owner_gives kind c b i j x)
 
+bit_takes : (x : ℕ) → Takes (bit_trouble x) (bit_value x)
+bit_takes x = takes (bit_trouble x) x _ (bit_gives x)
+
+ruleset telling = (
+  tells_then,
+  tells_last,
+  on_tells,
+  goes_tells,
+  first_tells,
+  call_tells,
+  return_tells,
+  finish_tells,
+  place_takes,
+  owner_takes,
+  bit_takes,
+  expr_takes,
+  values_take,
+  conditions_take,
+  condition_takes,
+)
+
 -- each form of a line
 pub line_told : (l : Source) (shape : Counts) (S : State) (t : Taker) (m : Memory) (a : Activity) (i : Instr) →
     HaveOneSort (process_at S t.process).locals →
     IsTold (line_trouble l.kind shape S t i) (effect l (context_of shape S t) m a i)
-line_told l shape S t m a (instr.Let x e) h =
-    tells_last (expr_trouble (context_of shape S t) e) _ _ (expr_takes (context_of shape S t) e h) (λ v. on_tells _ _)
-line_told l shape S t m a (instr.LetPlace x i e) h =
-    tells_then (place_trouble (context_of shape S t) i (places shape)) _ _ _
-    (place_takes (context_of shape S t) i (places shape))
-    (λ k. tells_last (expr_trouble (context_of shape S t) e) _ _ (expr_takes (context_of shape S t) e h)
-    (λ v. on_tells _ _))
-line_told l shape S t m a (instr.Get x i j) h =
-    tells_then (place_trouble (context_of shape S t) i (places shape)) _ _ _
-    (place_takes (context_of shape S t) i (places shape))
-    (λ k. tells_last (place_trouble (context_of shape S t) j shape.w) _ _ (place_takes (context_of shape S t) j shape.w)
-    (λ r. on_tells _ _))
-line_told l shape S t m a (instr.Bit x b i j) h =
-    tells_then (place_trouble (context_of shape S t) i shape.n) _ _ _ (place_takes (context_of shape S t) i shape.n)
-    (λ k. tells_last (place_trouble (context_of shape S t) j shape.n) _ _ (place_takes (context_of shape S t) j shape.n)
-    (λ r. on_tells _ _))
-line_told l shape S t m a (instr.Look x i) h =
-    tells_last (place_trouble (context_of shape S t) i shape.n) _ _ (place_takes (context_of shape S t) i shape.n)
-    (λ k. on_tells _ _)
-line_told l shape S t m a (instr.Put i parts) h =
+line_told l shape S t m a (Put i parts) h =
     let c = context_of shape S t in
     tells_then (place_trouble c i shape.w) _ _ _ (place_takes c i shape.w)
     (λ r. tells_both (tuple_trouble c parts) _ (tuple_word c parts) with_bits _ (tuple_takes c parts h)
-    (λ word. tells_last (owner_trouble l.kind c bank.R (index_value c i) 0) _ _
-    (owner_takes l.kind c bank.R (index_value c i) 0 word) (λ x. on_tells _ _)))
-line_told l shape S t m a (instr.PutBit b i j e) h =
+    (λ word. search telling))
+line_told l shape S t m a (PutBit b i j e) h =
     let c = context_of shape S t in
     tells_then (place_trouble c i shape.n) _ _ _ (place_takes c i shape.n)
     (λ k. tells_then (place_trouble c j shape.n) _ _ _ (place_takes c j shape.n)
-    (λ r. tells_by (expr_trouble c e) _ (expr_number c e) (expr_value c e) _ (expr_gives c e h)
-    (tells_then (bit_trouble (expr_number c e)) _ _ _
-    (takes (bit_trouble (expr_number c e)) (expr_number c e) _ (bit_gives (expr_number c e)))
-    (λ bit. tells_last (owner_trouble l.kind c (bank_of b) (index_value c i) (index_value c j)) _ _
-    (owner_takes l.kind c (bank_of b) (index_value c i) (index_value c j) bit) (λ x. on_tells _ _)))))
-line_told l shape S t m a (instr.PutView i x) h =
-    let c = context_of shape S t in
-    tells_then (place_trouble c i shape.n) _ _ _ (place_takes c i shape.n)
-    (λ k. tells_last (owner_trouble l.kind c bank.V (index_value c i) 0) _ _
-    (owner_takes l.kind c bank.V (index_value c i) 0 (value_at x c.locals.views [])) (λ v. on_tells _ _))
-line_told l shape S t m a (instr.ViewData x y) h = on_tells _ _
-line_told l shape S t m a (instr.ViewOf x y i) h =
-    tells_last (place_trouble (context_of shape S t) i (places shape)) _ _
-    (place_takes (context_of shape S t) i (places shape)) (λ k. on_tells _ _)
-line_told l shape S t m a (instr.Each g x e k) h =
-    tells_last (values_trouble shape S t e k 1 (range_end shape g)) _ _
-    (values_take shape S t x e k 1 (range_end shape g) h) (λ vs. on_tells _ _)
-line_told l shape S t m a (instr.First x g k target) h =
-    tells_last (conditions_trouble shape S t k 1 (range_end shape g)) _ _
-    (conditions_take shape S t k 1 (range_end shape g) h)
-    (λ bs. first_tells l a m (context_of shape S t).locals x target (first_true 1 bs))
-line_told l shape S t m a (instr.Next x g target) h = goes_tells _ _ _ _
-line_told l shape S t m a (instr.If k target) h =
-    tells_last (condition_trouble (context_of shape S t) k) _ _ (condition_takes (context_of shape S t) k h)
-    (λ b. goes_tells b _ _ _)
-line_told l shape S t m a (instr.IfAll g k target) h =
-    tells_last (conditions_trouble shape S t k 1 (range_end shape g)) _ _
-    (conditions_take shape S t k 1 (range_end shape g) h) (λ bs. goes_tells (all_true bs) _ _ _)
-line_told l shape S t m a (instr.Goto target) h = tt
-line_told l shape S t m a (instr.Call target) h = call_tells l a m _ target a.link
-line_told l shape S t m a (instr.Return x) h = return_tells m _ _ a.op a.link
-line_told l shape S t m a instr.Finish h = finish_tells a.op a.link
+    (λ r. tells_by (expr_trouble c e) _ (expr_number c e) (expr_value c e) _ (expr_gives c e h) (search telling)))
+line_told l shape S t m a _ h = search telling depth 7
 
-let_place_reads : (x : Name) (j : Index) (e : Expr) → Spoken (instr_uses (LetPlace x j e)) →
-    token_uses (LetPlace x j e) slot.Value (spelled_instr (LetPlace x j e)) ≡ instr_uses (LetPlace x j e)
-let_place_reads x j e n =
+-- the tokens of an instruction speak of what it speaks of
+pub instr_reads : (i : Instr) → Spoken (instr_uses i) → token_uses i slot.Value (spelled_instr i) ≡ instr_uses i
+instr_reads (Let x e) n =
+    name_then (Let x e) slot.Value x (Sign symbol.Equal ∷ spelled_expr e) sort.Scalar n.0 refl
+    (last_expr (Let x e) e n.1 (λ us. refl) (λ f. refl))
+instr_reads (LetPlace x j e) n =
     let p = LetPlace x j e in
     place_reads p slot.Value x j (Sign symbol.Equal ∷ spelled_expr e) sort.Row n.0
     (first_of_both (index_uses j) (expr_uses e) n.1) (λ us. refl) refl
-    ∙ ap (λ (us : List Use). let vs : List Use = Named sort.Row x ∷ (index_uses j ++ us) in vs)
-    (last_expr p e (second_of_both (index_uses j) (expr_uses e) n.1) (λ us. refl) (λ f. refl))
-
-get_reads : (x : Name) (j k : Index) → Spoken (instr_uses (Get x j k)) →
-    token_uses (Get x j k) slot.Value (spelled_instr (Get x j k)) ≡ instr_uses (Get x j k)
-get_reads x j k n =
+    ∙ one_more (Named sort.Row x) (ap (λ (us : List Use). index_uses j ++ us)
+    (last_expr p e (second_of_both (index_uses j) (expr_uses e) n.1) (λ us. refl) (λ f. refl)))
+instr_reads (Get x j k) n =
     let p = Get x j k in
     place_reads p slot.Words x j
     (Sign symbol.Equal ∷ Identifier (codes "r") ∷ in_brackets (spelled_index k)) sort.Words n.0
     (first_of_both (index_uses j) (index_uses k) n.1) (λ us. refl) refl
-    ∙ ap (λ (us : List Use). let vs : List Use = Named sort.Words x ∷ (index_uses j ++ us) in vs)
-    (last_bracket p k (second_of_both (index_uses j) (index_uses k) n.1) (λ us. refl))
-
-bit_reads : (x : Name) (b : BitBank) (j k : Index) → Spoken (instr_uses (Bit x b j k)) →
-    token_uses (Bit x b j k) slot.Value (spelled_instr (Bit x b j k)) ≡ instr_uses (Bit x b j k)
-bit_reads x b j k n =
+    ∙ one_more (Named sort.Words x) (ap (λ (us : List Use). index_uses j ++ us)
+    (last_bracket p k (second_of_both (index_uses j) (index_uses k) n.1) (λ us. refl)))
+instr_reads (Bit x b j k) n =
     let p = Bit x b j k in
     let pair = spelled_pair j k in let both = index_uses j ++ index_uses k in
-    name_as p slot.Value x (Sign symbol.Equal ∷ Identifier (bank_keyword b) ∷ pair) sort.Scalar n.0 refl
-    ∙ ap (λ (us : List Use). let vs : List Use = Named sort.Scalar x ∷ us in vs)
-    (bank_reads p slot.Value b pair ∙ ap (λ (us : List Use). let vs : List Use = BankUse (bank_of b) ∷ us in vs)
+    name_then p slot.Value x (Sign symbol.Equal ∷ Identifier (bank_keyword b) ∷ pair) sort.Scalar n.0 refl
+    (bank_reads p slot.Value b pair ∙ one_more (BankUse (bank_of b))
     (whole p slot.Value pair both (pair_reads p slot.Value j k [] n.1.1 (λ us. refl))))
-
-put_bit_reads : (b : BitBank) (j k : Index) (e : Expr) → Spoken (instr_uses (PutBit b j k e)) →
-    token_uses (PutBit b j k e) slot.Value (spelled_instr (PutBit b j k e)) ≡ instr_uses (PutBit b j k e)
-put_bit_reads b j k e n =
+instr_reads (Look x j) n =
+    name_then (Look x j) slot.View x
+    (Sign symbol.Equal ∷ Identifier (codes "v") ∷ in_brackets (spelled_index j)) sort.View n.0 refl
+    (one_more (BankUse bank.V) (last_bracket (Look x j) j n.1.1 (λ us. refl)))
+instr_reads (Put j t) n = put_reads j t n
+instr_reads (PutBit b j k e) n =
     let p = PutBit b j k e in
     let uj = index_uses j in let uk = index_uses k in let ue = expr_uses e in
     let later = second_of_both uj (uk ++ ue) n.1 in
     let both = all_both SpeaksName uj uk (first_of_both uj (uk ++ ue) n.1) (first_of_both uk ue later) in
     bank_reads p slot.Value b (spelled_pair j k ++ Sign symbol.Equal ∷ spelled_expr e)
-    ∙ ap (λ (us : List Use). let vs : List Use = BankUse (bank_of b) ∷ us in vs)
+    ∙ one_more (BankUse (bank_of b))
     (pair_reads p slot.Value j k (Sign symbol.Equal ∷ spelled_expr e) both (λ us. refl)
     ∙ ap (λ (us : List Use). (uj ++ uk) ++ us) (last_expr p e (second_of_both uk ue later) (λ us. refl) (λ f. refl))
     ∙ append_assoc uj uk ue)
-
-put_view_reads : (j : Index) (x : Name) → Spoken (instr_uses (PutView j x)) →
-    token_uses (PutView j x) slot.Value (spelled_instr (PutView j x)) ≡ instr_uses (PutView j x)
-put_view_reads j x n =
+instr_reads (PutView j x) n =
     let p = PutView j x in
     let ux : List Use = view x ∷ [] in let last : List Token = Identifier x ∷ [] in
-    ap (λ (us : List Use). let vs : List Use = BankUse bank.V ∷ us in vs)
+    one_more (BankUse bank.V)
     (bracket_reads p slot.Value j (Sign symbol.Equal ∷ last) (first_of_both (index_uses j) ux n.1)
     (λ us. some_behind us (Sign symbol.Equal) last)
     ∙ ap (λ (us : List Use). index_uses j ++ us)
     (name_as p slot.Value x [] sort.View (second_of_both (index_uses j) ux n.1).0 refl))
-
-each_reads : (g : Range) (x : Name) (e : Expr) (k : Option Condition) → Spoken (instr_uses (Each g x e k)) →
-    token_uses (Each g x e k) slot.Value (spelled_instr (Each g x e k)) ≡ instr_uses (Each g x e k)
-each_reads g x e k n =
+instr_reads (ViewData x y) n =
+    name_then (ViewData x y) slot.View x
+    (Sign symbol.Equal ∷ Identifier (codes "data") ∷ in_parentheses (Identifier y ∷ [])) sort.View n.0 refl
+    (name_as (ViewData x y) slot.Words y close sort.Words n.1.0 refl)
+instr_reads (ViewOf x y j) n =
+    let p = ViewOf x y j in
+    let inside = spelled_place y j ++ close in
+    name_then p slot.View x
+    (Sign symbol.Equal ∷ Identifier (codes "view") ∷ Sign symbol.OpenParenthesis ∷ inside) sort.View n.0 refl
+    (one_more ViewUse (whole p slot.Words inside (Named sort.Words y ∷ index_uses j)
+    (inside_reads p y j [] n.1.1.0 n.1.1.1 (λ us. refl))))
+instr_reads (Each g x e k) n =
     let p = Each g x e k in
     let ue = expr_uses e in let uk = where_uses k in let rest = spelled_expr e ++ spelled_where k in
     let place = Sign symbol.OpenBracket ∷ Sign symbol.At ∷ Sign symbol.CloseBracket ∷ Sign symbol.Equal ∷ rest in
-    range_reads p g (Sign symbol.Colon ∷ Identifier x ∷ place) ∙ name_as p slot.Value x place sort.Row n.0 refl
-    ∙ ap (λ (us : List Use). let vs : List Use = Named sort.Row x ∷ us in vs)
+    range_reads p g (Sign symbol.Colon ∷ Identifier x ∷ place) ∙ name_then p slot.Value x place sort.Row n.0 refl
     (expr_reads p slot.Value e (spelled_where k) (first_of_both ue uk n.1) (value_open p)
     (lone_value p (spelled_where k) (where_open k) (λ us. refl)) (where_open k) (λ us. refl) (λ f. refl)
     ∙ ap (λ (us : List Use). ue ++ us) (where_reads p k (second_of_both ue uk n.1) (λ us. refl) (λ f. refl)))
-
-first_reads : (x : Name) (g : Range) (k : Condition) (target : ℕ) → Spoken (instr_uses (First x g k target)) →
-    token_uses (First x g k target) slot.Value (spelled_instr (First x g k target)) ≡ instr_uses (First x g k target)
-first_reads x g k target n =
+instr_reads (First x g k target) n =
     let p = First x g k target in
     let rest = Sign symbol.Colon ∷ (spelled_condition k ++ spelled_target target) in
-    name_as p slot.Value x (spelled_range g ∷ rest) sort.Scalar n.0
+    name_then p slot.Value x (spelled_range g ∷ rest) sort.Scalar n.0
     (lone_value p (spelled_range g ∷ rest) (range_open g rest) (λ us. refl))
-    ∙ ap (λ (us : List Use). let vs : List Use = Named sort.Scalar x ∷ us in vs)
     (range_reads p g rest ∙ tested p k target n.1 (λ us. refl) (λ f. refl))
-
-next_reads : (x : Name) (g : Range) (target : ℕ) → Spoken (instr_uses (Next x g target)) →
-    token_uses (Next x g target) slot.Value (spelled_instr (Next x g target)) ≡ instr_uses (Next x g target)
-next_reads x g target n =
+instr_reads (Next x g target) n =
     let p = Next x g target in
-    let rest = spelled_target target in
-    name_as p slot.Value x (spelled_range g ∷ rest) sort.Scalar n.0
-    (lone_value p (spelled_range g ∷ rest) (range_open g rest) (λ us. refl))
-    ∙ ap (λ (us : List Use). let vs : List Use = Named sort.Scalar x ∷ us in vs) (range_reads p g rest)
-
-view_of_reads : (x y : Name) (j : Index) → Spoken (instr_uses (ViewOf x y j)) →
-    token_uses (ViewOf x y j) slot.Value (spelled_instr (ViewOf x y j)) ≡ instr_uses (ViewOf x y j)
-view_of_reads x y j n =
-    let p = ViewOf x y j in
-    let inside = spelled_place y j ++ close in
-    name_as p slot.View x
-    (Sign symbol.Equal ∷ Identifier (codes "view") ∷ Sign symbol.OpenParenthesis ∷ inside) sort.View n.0 refl
-    ∙ ap (λ (us : List Use). let vs : List Use = view x ∷ ViewUse ∷ us in vs)
-    (whole p slot.Words inside (Named sort.Words y ∷ index_uses j) (inside_reads p y j [] n.1.1.0 n.1.1.1 (λ us. refl)))
-
--- the tokens of an instruction speak of what it speaks of
-pub instr_reads : (i : Instr) → Spoken (instr_uses i) → token_uses i slot.Value (spelled_instr i) ≡ instr_uses i
-instr_reads (Let x e) n =
-    name_as (Let x e) slot.Value x (Sign symbol.Equal ∷ spelled_expr e) sort.Scalar n.0 refl
-    ∙ ap (λ (us : List Use). let vs : List Use = Named sort.Scalar x ∷ us in vs)
-    (last_expr (Let x e) e n.1 (λ us. refl) (λ f. refl))
-instr_reads (LetPlace x j e) n = let_place_reads x j e n
-instr_reads (Get x j k) n = get_reads x j k n
-instr_reads (Bit x b j k) n = bit_reads x b j k n
-instr_reads (Look x j) n =
-    name_as (Look x j) slot.View x
-    (Sign symbol.Equal ∷ Identifier (codes "v") ∷ in_brackets (spelled_index j)) sort.View n.0 refl
-    ∙ ap (λ (us : List Use). let vs : List Use = view x ∷ BankUse bank.V ∷ us in vs)
-    (last_bracket (Look x j) j n.1.1 (λ us. refl))
-instr_reads (Put j t) n = put_reads j t n
-instr_reads (PutBit b j k e) n = put_bit_reads b j k e n
-instr_reads (PutView j x) n = put_view_reads j x n
-instr_reads (ViewData x y) n =
-    name_as (ViewData x y) slot.View x
-    (Sign symbol.Equal ∷ Identifier (codes "data") ∷ in_parentheses (Identifier y ∷ [])) sort.View n.0 refl
-    ∙ ap (λ (us : List Use). let vs : List Use = view x ∷ us in vs)
-    (name_as (ViewData x y) slot.Words y close sort.Words n.1.0 refl)
-instr_reads (ViewOf x y j) n = view_of_reads x y j n
-instr_reads (Each g x e k) n = each_reads g x e k n
-instr_reads (First x g k target) n = first_reads x g k target n
-instr_reads (Next x g target) n = next_reads x g target n
+    let rest = spelled_range g ∷ spelled_target target in
+    name_then p slot.Value x rest sort.Scalar n.0
+    (lone_value p rest (range_open g (spelled_target target)) (λ us. refl)) (range_reads p g (spelled_target target))
 instr_reads (If k target) n = tested (If k target) k target n (λ us. refl) (λ f. refl)
 instr_reads (IfAll g k target) n =
     range_reads (IfAll g k target) g (Sign symbol.Colon ∷ (spelled_condition k ++ spelled_target target))
     ∙ tested (IfAll g k target) k target n (λ us. refl) (λ f. refl)
-instr_reads (Goto target) n = refl
-instr_reads (Call target) n = refl
 instr_reads (Return x) n = name_as (Return x) slot.View x [] sort.View n.0 refl
-instr_reads Finish n = refl
+instr_reads _ n = refl

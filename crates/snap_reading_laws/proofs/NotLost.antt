@@ -1,7 +1,6 @@
 -- `not_lost` and `none_goes_on`: a line that has a form of its sort is not lost, and no line with a form goes on
 -- where another is lost.
-use Rattle.std.proofs.Common.{◌≡◌, true, false, List, ◌∷◌, ◌++◌, length}
-use Rattle.std.proofs.Common.{Some, None, codes, refl, arith}
+use Rattle.std.proofs.Common.{◌≡◌, true, false, List, ◌∷◌, ◌++◌, length, Some, None, codes, refl, arith}
 use Rattle.snap_semantics.specs.HeaderForms.{kind_form, names_form, entry_form}
 use Rattle.snap_semantics.specs.ScheduleForms.{shape_form, item_form}
 use Rattle.snap_semantics.specs.Token.{Token}

@@ -41,9 +41,8 @@ use Rattle.snap_semantics.specs.Spelling.{spelled_condition, spelled_where, spel
 use Rattle.snap_semantics.specs.Spelling.{spelled_tuple, bank_keyword, spelled_pair, spelled_instr}
 use Rattle.snap_semantics.specs.Table.{bank_of}
 use Rattle.snap_semantics.specs.Token.{Token, Identifier, Sign}
-use Rattle.snap_semantics.specs.Uses.{Use, Named, BankUse, FieldUse, HandshakeUse, TupleUse, view}
-use Rattle.snap_semantics.specs.Uses.{index_uses, term_uses, expr_uses, comparison_uses}
-use Rattle.snap_semantics.specs.Uses.{condition_uses, where_uses, tuple_uses}
+use Rattle.snap_semantics.specs.Uses.{Use, Named, BankUse, FieldUse, HandshakeUse, TupleUse, view, index_uses}
+use Rattle.snap_semantics.specs.Uses.{term_uses, expr_uses, comparison_uses, condition_uses, where_uses, tuple_uses}
 use Rattle.snap_listing.proofs.Alls.{all_first, all_rest}
 use Rattle.snap_reading_laws.specs.RefusedForToken.{SpeaksName}
 use Rattle.snap_explanation.specs.TokenUses.{opens_with, ends_with_view, lone_sort, sort_at, field_use, word_use}
@@ -105,10 +104,21 @@ name_is i s x ts h =
     ∙ ap (λ (y : Name). let us : List Use = Named (sort_at i s ts) y ∷ token_uses i slot.Value ts in us)
     (take_all 9 x few)
 
+-- one use more in front
+pub one_more : (u : Use) {us vs : List Use} → us ≡ vs → (let ws : List Use = u ∷ us in ws) ≡ u ∷ vs
+one_more u e = ap (λ (us : List Use). let ws : List Use = u ∷ us in ws) e
+
+-- a name of this sort, and what is behind it
+pub name_then : (i : Instr) (s : Slot) (x : Name) (ts : List Token) (k : Sort) {us : List Use} → IsName x →
+    sort_at i s ts ≡ k → token_uses i slot.Value ts ≡ us → token_uses i s (Identifier x ∷ ts) ≡ Named k x ∷ us
+name_then i s x ts k h e g =
+    name_is i s x ts h
+    ∙ ap (λ (wanted : Sort). let us : List Use = Named wanted x ∷ token_uses i slot.Value ts in us) e
+    ∙ one_more (Named k x) g
+
 pub name_as : (i : Instr) (s : Slot) (x : Name) (ts : List Token) (k : Sort) → IsName x → sort_at i s ts ≡ k →
     token_uses i s (Identifier x ∷ ts) ≡ Named k x ∷ token_uses i slot.Value ts
-name_as i s x ts k h e = name_is i s x ts h
-    ∙ ap (λ (wanted : Sort). let us : List Use = Named wanted x ∷ token_uses i slot.Value ts in us) e
+name_as i s x ts k h e = name_then i s x ts k h e refl
 
 -- What tokens speak of in front of others, behind which a scalar or a row is next.
 abbrev pub Reads : Instr → Slot → List Token → List Use → List Token → Type 0
@@ -130,13 +140,8 @@ whole i s ps us h = ap (λ (xs : List Token). token_uses i s xs) (sym (append-ni
 
 index_reads : (i : Instr) (s : Slot) (x : Index) (ts : List Token) → Spoken (index_uses x) →
     sort_at i s ts ≡ sort.Scalar → Reads i s (spelled_index x) (index_uses x) ts
-index_reads i s (index.Number k) ts n e = refl
-index_reads i s index.Processes ts n e = refl
-index_reads i s index.Words ts n e = refl
-index_reads i s index.Me ts n e = refl
-index_reads i s index.Word ts n e = refl
-index_reads i s index.Place ts n e = refl
 index_reads i s (index.Scalar x) ts n e = name_as i s x ts sort.Scalar n.0 e
+index_reads i s _ ts n e = refl
 
 pub bracket_reads : (i : Instr) (s : Slot) (x : Index) (ts : List Token) → Spoken (index_uses x) → NoView i ts →
     Reads i s (in_brackets (spelled_index x)) (index_uses x) ts
@@ -149,8 +154,7 @@ pub place_reads : (i : Instr) (s : Slot) (x : Name) (j : Index) (ts : List Token
     Spoken (index_uses j) → NoView i ts →
     sort_at i s (in_brackets (spelled_index j) ++ ts) ≡ k → Reads i s (spelled_place x j) (Named k x ∷ index_uses j) ts
 place_reads i s x j ts k h n v e =
-    name_as i s x (in_brackets (spelled_index j) ++ ts) k h e
-    ∙ ap (λ (us : List Use). let vs : List Use = Named k x ∷ us in vs) (bracket_reads i slot.Value j ts n v)
+    name_then i s x (in_brackets (spelled_index j) ++ ts) k h e (bracket_reads i slot.Value j ts n v)
 
 -- `(W[I])`, behind the bracket
 pub inside_reads : (i : Instr) (x : Name) (j : Index) (ts : List Token) → IsName x → Spoken (index_uses j) → NoView i ts →
@@ -167,9 +171,7 @@ Fields i = (f : Field) → field_use (Some f) i ≡ Some (FieldUse f)
 field_token : (i : Instr) (s : Slot) (f : Field) (ts : List Token) →
     token_uses i s (Identifier (field_keyword f) ∷ ts) ≡ with_use (field_use (Some f) i) (token_uses i slot.Words ts)
 field_token i s field.Datum ts = refl
-field_token i s field.Seq ts = refl
-field_token i s field.Id ts = refl
-field_token i s field.Toggle ts = refl
+field_token i s _ ts = refl
 
 field_reads : (i : Instr) (s : Slot) (f : Field) (x : Name) (j : Index) (ts : List Token) → IsName x →
     Spoken (index_uses j) → NoView i ts → Fields i →
@@ -177,7 +179,7 @@ field_reads : (i : Instr) (s : Slot) (f : Field) (x : Name) (j : Index) (ts : Li
 field_reads i s f x j ts h n v w =
     field_token i s f (in_parentheses (spelled_place x j) ++ ts)
     ∙ ap (λ (u : Option Use). with_use u (token_uses i slot.Words (in_parentheses (spelled_place x j) ++ ts))) (w f)
-    ∙ ap (λ (us : List Use). let vs : List Use = FieldUse f ∷ us in vs) (inside_reads i x j ts h n v)
+    ∙ one_more (FieldUse f) (inside_reads i x j ts h n v)
 
 handshake_reads : (i : Instr) (s : Slot) (x : Name) (j k : Index) (ts : List Token) → IsName x → Spoken (index_uses j) →
     Spoken (index_uses k) → NoView i ts →
@@ -191,8 +193,7 @@ handshake_reads i s x j k ts h m n v =
     (place_reads i slot.Words x j (comma ∷ (spelled_index k ++ shut)) sort.Words h m
     (deeper i (comma ∷ []) (spelled_index k ++ shut) (deeper i (spelled_index k) shut deep)) refl)
     refl (index_reads i slot.Part k shut n (lone i shut deep)) in
-    ap (λ (us : List Use). let vs : List Use = HandshakeUse ∷ us in vs)
-    (ap (λ (xs : List Token). token_uses i slot.Words xs)
+    one_more HandshakeUse (ap (λ (xs : List Token). token_uses i slot.Words xs)
     (append_assoc (spelled_place x j ++ comma ∷ spelled_index k) close ts) ∙ both)
 
 -- a slot in which `[` makes a row of a name, and `+` leaves it alone
@@ -236,14 +237,12 @@ expr_reads i s (expr.Not t) ts n o e b v w = term_reads i slot.Value t ts n (val
 -- comparisons and conditions
 relation_open : (r : Relation) (ts : List Token) → opens_with symbol.OpenBracket (spelled_relation r ∷ ts) ≡ false
 relation_open relation.Equal ts = refl
-relation_open relation.Different ts = refl
-relation_open relation.Less ts = refl
+relation_open _ ts = refl
 
 relation_reads : (i : Instr) (r : Relation) (ts : List Token) →
     token_uses i slot.Value (spelled_relation r ∷ ts) ≡ token_uses i slot.Value ts
 relation_reads i relation.Equal ts = refl
-relation_reads i relation.Different ts = refl
-relation_reads i relation.Less ts = refl
+relation_reads i _ ts = refl
 
 comparison_reads : (i : Instr) (k : Comparison) (ts : List Token) → Spoken (comparison_uses k) →
     opens_with symbol.OpenBracket ts ≡ false → NoView i ts → Fields i →
@@ -373,7 +372,7 @@ seq_reads i d q x n =
     let far : NoView p (comma ∷ (rest ++ close)) = λ us. long us comma rest shut [] in
     let near : NoView p (comma ∷ (last ++ close)) = λ us. long us comma last shut [] in
     let later = second_of_both ud (uq ++ ux) n.1 in
-    ap (λ (us : List Use). let vs : List Use = TupleUse kind.Seq ∷ us in vs)
+    one_more (TupleUse kind.Seq)
     (parted p slot.Value slot.Part (spelled_expr d) comma rest ud (uq ++ ux) close
     (expr_reads p slot.Value d (comma ∷ (rest ++ close)) (first_of_both ud (uq ++ ux) n.1) (value_open p)
     (lone_value p (comma ∷ (rest ++ close)) refl far) refl far (λ f. refl)) refl
@@ -400,13 +399,12 @@ bits_reads i d h t x n =
     let many : nat_lt 3 (length behind) ≡ true =
     ap (λ (xs : List Token). nat_lt 3 (length (comma ∷ xs))) (append_assoc (spelled_expr t) (comma ∷ last) close)
     ∙ longer comma (spelled_expr t) comma (Identifier x) shut in
-    ap (λ (us : List Use). let vs : List Use = TupleUse kind.Bits ∷ us in vs)
+    one_more (TupleUse kind.Bits)
     (parted p slot.Value slot.Part (spelled_expr d) comma rest ud uses close
     (expr_reads p slot.Value d (comma ∷ (rest ++ close)) (first_of_both ud uses n.1) (value_open p)
     (lone_value p (comma ∷ (rest ++ close)) refl far) refl far (λ f. refl)) refl
-    (name_as p slot.Part h behind sort.Row later.0
+    (name_then p slot.Part h behind sort.Row later.0
     (if_true (nat_lt 3 (length behind)) sort.Row (lone_sort p (length behind)) many)
-    ∙ ap (λ (us : List Use). let vs : List Use = Named sort.Row h ∷ us in vs)
     (parted p slot.Part slot.Part (spelled_expr t) comma last ut ux close
     (expr_reads p slot.Part t (comma ∷ (last ++ close)) (first_of_both ut ux later.1) (part_open p) refl refl near
     (λ f. refl)) refl
@@ -422,7 +420,7 @@ multi_reads i d e t n =
     let last = spelled_expr t in
     let rest = spelled_expr e ++ comma ∷ last in
     let later = second_of_both ud (ue ++ ut) n.1 in
-    ap (λ (us : List Use). let vs : List Use = TupleUse kind.Multi ∷ us in vs)
+    one_more (TupleUse kind.Multi)
     (parted p slot.Value slot.Part (spelled_expr d) comma rest ud (ue ++ ut) close
     (expr_reads p slot.Value d (comma ∷ (rest ++ close)) (first_of_both ud (ue ++ ut) n.1) (value_open p) refl refl
     (λ us. refl) (λ f. refl)) refl

@@ -11,14 +11,14 @@ use Rattle.snap_semantics.specs.State.{State, initial}
 use Rattle.snap_semantics.specs.Table.{done, who}
 use Rattle.snap_semantics.specs.declared.event.Event.{Event}
 use Rattle.snap_semantics.specs.declared.process.Item.{Item}
-use Rattle.snap_semantics.specs.declared.process.Item.TheVariants.{Step, Call, Crash}
+use Rattle.snap_semantics.specs.declared.process.Item.TheVariants.{Step, Call}
 use Rattle.snap_semantics.specs.declared.process.Outcome.{Outcome}
 use Rattle.snap_semantics.specs.declared.process.Outcome.TheVariants as outcomes
 use Rattle.snap_runs.specs.Run.{Run, IsValidRun, state, item, outcome, events_of}
 use Rattle.snap_runs.proofs.Embedding.{next_state}
 use Rattle.snap_record.specs.History.{IsRising, IsWithin}
 use Rattle.snap_record.proofs.Later.{events_after}
-use Rattle.snap_record.proofs.Longer.{join_all}
+use Rattle.snap_record.proofs.Longer.{event_has, join_all}
 
 -- the events of the items after item t
 abbrev pub events_from : Run → ℕ → List Event
@@ -65,15 +65,8 @@ all_events r =
 -- an event of an item that is one of so many
 event_within : (n u t : ℕ) (x : Item) (o : Outcome) → IsOneOf n (who x) → t ≤ u →
     AllByRecursion (IsWithin n u) (event_of t x o)
-event_within n u t (Step i) outcomes.Called one le = tt
-event_within n u t (Call i op) outcomes.Called one le = ((one, le), tt)
-event_within n u t (Crash i) outcomes.Called one le = tt
-event_within n u t x outcomes.Stepped one le = tt
-event_within n u t x (outcomes.Answered v) one le = ((one, le), tt)
-event_within n u t x outcomes.Finished one le = ((one, le), tt)
-event_within n u t x (outcomes.Trapped c) one le = tt
-event_within n u t x outcomes.Crashed one le = ((one, le), tt)
-event_within n u t x (outcomes.Skipped c) one le = tt
+event_within n u t x o one le =
+    event_has (IsWithin n u) t x o (λ e at whose. (rw whose one, omega (arith, le, at)))
 
 -- events of items, the first of which is item t
 events_within : (s : Source) (n : Counts) (S : State) (t u : ℕ) (xs : List Item) →
@@ -92,15 +85,11 @@ all_within_run r fits = events_within r.source r.shape (state r 0) 1 (length r.i
 -- one event at most, and then later ones
 event_rises : (t : ℕ) (x : Item) (o : Outcome) (es : List Event) → AllByRecursion (λ (e : Event). t ≤ e.item) es →
     IsRising es → IsRising (event_of t x o ++ es)
-event_rises t (Step i) outcomes.Called es later rises = rises
 event_rises t (Call i op) outcomes.Called es later rises = (later, rises)
-event_rises t (Crash i) outcomes.Called es later rises = rises
-event_rises t x outcomes.Stepped es later rises = rises
 event_rises t x (outcomes.Answered v) es later rises = (later, rises)
 event_rises t x outcomes.Finished es later rises = (later, rises)
-event_rises t x (outcomes.Trapped c) es later rises = rises
 event_rises t x outcomes.Crashed es later rises = (later, rises)
-event_rises t x (outcomes.Skipped c) es later rises = rises
+event_rises t x _ es later rises = rises
 
 -- the events of items rise
 events_rise : (s : Source) (n : Counts) (S : State) (t : ℕ) (xs : List Item) → IsRising (events s n S t xs)

@@ -1,5 +1,5 @@
 -- The first t + 1 items of a history are its first t and then the next one.
-use Rattle.std.proofs.Common.{◌≡◌, ℕ, ◌+◌, ◌-◌, ◌<◌, ◌++◌, true, List, [], ◌∷◌, Some, None, length, take, get_or}
+use Rattle.std.proofs.Common.{◌≡◌, ℕ, ◌+◌, ◌-◌, ◌<◌, ◌++◌, true, List, [], ◌∷◌, Some, length, take, get_or}
 use Rattle.std.proofs.Common.{nat_lt, ◌∙◌, sym, ap, arith}
 use Rattle.snap_runs.proofs.Computing.{lt_true}
 use Rattle.std.proofs.lemmas.List.{take_more}
@@ -14,10 +14,6 @@ next_is xs t below =
     let first : nat_lt 0 (t + 1) ≡ true = lt_true 0 (t + 1) (omega arith) in
     let behind : t + 1 - 1 ≡ t = omega arith in
     rw (first, behind) (slice_get-get_or xs t (Step 0) below)
-
--- there is one
-pub is_there : (xs : List Item) (t : ℕ) → t < length xs → nth (t + 1) xs ≡ None → ⊥
-is_there xs t below e = let is = next_is xs t below in cc
 
 -- the first t items and item t + 1 are the first t + 1
 pub one_more : (xs items : List Item) (t : ℕ) (x : Item) → t < length xs → nth (t + 1) xs ≡ Some x →

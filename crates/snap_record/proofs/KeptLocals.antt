@@ -9,10 +9,8 @@ use Rattle.snap_semantics.specs.Run.{after}
 use Rattle.snap_semantics.specs.Source.{Name, Source, instr_at}
 use Rattle.snap_semantics.specs.State.{Locals, Memory, Process, State, initial, initial_process, no_locals}
 use Rattle.snap_semantics.specs.State.{nobody, process_at, with_scalar, with_row, with_words, with_view}
-use Rattle.snap_semantics.specs.Table.{Effect, Goes, Answers, Finishes}
-use Rattle.snap_semantics.specs.Table.{effect_at, leave, step, call, called}
-use Rattle.snap_semantics.specs.Table.{call_skip, done}
-use Rattle.snap_semantics.specs.Table.{crash}
+use Rattle.snap_semantics.specs.Table.{Effect, Goes, Answers, Finishes, effect_at, leave, step, call, called, call_skip}
+use Rattle.snap_semantics.specs.Table.{done, crash}
 use Rattle.snap_semantics.specs.Value.{Context}
 use Rattle.snap_semantics.specs.declared.instr.Instr.{Instr}
 use Rattle.snap_semantics.specs.declared.process.Activity.{Activity}
@@ -22,7 +20,7 @@ use Rattle.snap_semantics.specs.declared.process.Item.TheVariants as item
 use Rattle.snap_semantics.specs.declared.process.Op.{Op}
 use Rattle.snap_semantics.specs.declared.process.Reason.{Reason}
 use Rattle.snap_semantics.specs.declared.process.Status.{Status}
-use Rattle.snap_semantics.specs.declared.process.Status.TheVariants.{Idle, Busy, Trapped, Crashed}
+use Rattle.snap_semantics.specs.declared.process.Status.TheVariants.{Idle, Busy}
 use Rattle.snap_runs.specs.Run.{Run, state}
 use Rattle.snap_runs.proofs.Effects.{Does, goes, Writes, sets_scalar, sets_row, sets_word, sets_view, line_does}
 
@@ -80,20 +78,16 @@ module _ (P : Locals → Type 0) (scalar : (y : Name) (v : ℕ) (l : Locals) →
       Keeps r → All (leave S i a l r).0.processes
   unfolding Keeps
   left S i a l (Ok (Goes m l' link line)) all h k = set_all S.processes _ _ all k
-  left S i a l (Ok (Answers v)) all h k = set_all S.processes _ _ all h
-  left S i a l (Ok Finishes) all h k = set_all S.processes _ _ all h
-  left S i a l (Err c) all h k = set_all S.processes _ _ all h
+  left S i a l _ all h k = set_all S.processes _ _ all h
 
   -- a step
   stepped : (s : Source) (n : Counts) (S : State) (i : ℕ) (p : Process) (t : Status) → All S.processes →
       P p.locals → All (step s n S i p t).0.processes
-  stepped s n S i p Idle all h = all
-  stepped s n S i p (Trapped c a) all h = all
-  stepped s n S i p (Crashed was) all h = all
   stepped s n S i p (Busy a) all h =
       let c : Context = record { shape = n; me = i; op = a.op; locals = p.locals; place = 0 } in
       left S i a p.locals (effect_at s c S.memory a (instr_at s.lines a.line)) all h
       (keeps_at s c S.memory a (instr_at s.lines a.line) h)
+  stepped s n S i p _ all h = all
 
   -- a call that may be skipped
   asked : (s : Source) (S : State) (i : ℕ) (p : Process) (o : Op) (r : Option Reason) → All S.processes →
@@ -105,17 +99,14 @@ module _ (P : Locals → Type 0) (scalar : (y : Name) (v : ℕ) (l : Locals) →
   calls : (s : Source) (n : Counts) (S : State) (i : ℕ) (o : Op) (p : Process) (t : Status) → All S.processes →
       P p.locals → All (call s n S i o p t).0.processes
   calls s n S i o p Idle all h = asked s S i p o (call_skip s.kind n i o) all h
-  calls s n S i o p (Busy a) all h = all
-  calls s n S i o p (Trapped c a) all h = all
-  calls s n S i o p (Crashed was) all h = all
+  calls s n S i o p _ all h = all
 
   -- an item that crashes
   crashes : (S : State) (i : ℕ) (p : Process) (t : Status) → All S.processes → P p.locals →
       All (crash S i p t).0.processes
   crashes S i p Idle all h = set_all S.processes _ _ all h
   crashes S i p (Busy a) all h = set_all S.processes _ _ all h
-  crashes S i p (Trapped c a) all h = all
-  crashes S i p (Crashed was) all h = all
+  crashes S i p _ all h = all
 
   -- any item
   after_item : (s : Source) (n : Counts) (S : State) (y : Item) → All S.processes →

@@ -8,22 +8,12 @@ use Rattle.snap_semantics.specs.State.{State}
 use Rattle.snap_semantics.specs.Table.{done}
 use Rattle.snap_semantics.specs.declared.event.Event.{Event}
 use Rattle.snap_semantics.specs.declared.process.Item.{Item}
-use Rattle.snap_semantics.specs.declared.process.Item.TheVariants.{Step, Call, Crash}
 use Rattle.snap_semantics.specs.declared.process.Outcome.{Outcome}
-use Rattle.snap_semantics.specs.declared.process.Outcome.TheVariants as outcomes
-use Rattle.snap_record.proofs.Longer.{join_all}
+use Rattle.snap_record.proofs.Longer.{event_has, join_all}
 
 -- an event of item t is not before it
 event_after : (t u : ℕ) (x : Item) (o : Outcome) → t ≤ u → AllByRecursion (λ (e : Event). t ≤ e.item) (event_of u x o)
-event_after t u (Step i) outcomes.Called le = tt
-event_after t u (Call i op) outcomes.Called le = (le, tt)
-event_after t u (Crash i) outcomes.Called le = tt
-event_after t u x outcomes.Stepped le = tt
-event_after t u x (outcomes.Answered v) le = (le, tt)
-event_after t u x outcomes.Finished le = (le, tt)
-event_after t u x (outcomes.Trapped c) le = tt
-event_after t u x outcomes.Crashed le = (le, tt)
-event_after t u x (outcomes.Skipped c) le = tt
+event_after t u x o le = event_has (λ (e : Event). t ≤ e.item) u x o (λ e at _. omega (arith, le, at))
 
 -- nor are the events of later items
 pub events_after : (s : Source) (n : Counts) (S : State) (t u : ℕ) (xs : List Item) → t ≤ u →

@@ -26,11 +26,8 @@ found_value x (e ∷ es) v h = by_name (bytes_eq x e.0) h (found_value x es v)
 among_views : (a : Option ℕ) (b : Option (List ℕ)) (c : Option (List Word)) (d : Option (List ℕ)) (v : List ℕ) →
     Some (ViewValue v) ≡ or_else (option_map (λ x. NumberValue x) a) (or_else (option_map (λ x. RowValue x) b)
     (or_else (option_map (λ x. WordsValue x) c) (option_map (λ x. ViewValue x) d))) → Some v ≡ d
-among_views (Some x) b c d v h = absurd cc
-among_views None (Some x) c d v h = absurd cc
-among_views None None (Some x) d v h = absurd cc
 among_views None None None (Some x) v h = cc
-among_views None None None None v h = absurd cc
+among_views _ _ _ _ v h = absurd cc
 
 -- what a name of a view has
 pub view_named : (l : Locals) (x : Name) (v : List ℕ) → Some (ViewValue v) ≡ local_value l x → value_at x l.views [] ≡ v

@@ -9,10 +9,12 @@ use Rattle.snap_words.specs.Shape.{Counts}
 use Rattle.snap_semantics.specs.Run.{after, events, event_of}
 use Rattle.snap_semantics.specs.Source.{Source}
 use Rattle.snap_semantics.specs.State.{State, initial}
-use Rattle.snap_semantics.specs.Table.{done}
+use Rattle.snap_semantics.specs.Table.{done, who}
 use Rattle.snap_semantics.specs.declared.event.Event.{Event}
 use Rattle.snap_semantics.specs.declared.process.Item.{Item}
-use Rattle.snap_semantics.specs.declared.process.Item.TheVariants.{Step}
+use Rattle.snap_semantics.specs.declared.process.Item.TheVariants.{Step, Call}
+use Rattle.snap_semantics.specs.declared.process.Outcome.{Outcome}
+use Rattle.snap_semantics.specs.declared.process.Outcome.TheVariants as outcomes
 use Rattle.snap_runs.specs.Run.{Run, state, before, item, outcome, events_of}
 use Rattle.snap_record.specs.Longer.{with_item}
 
@@ -21,6 +23,15 @@ pub after_append : (s : Source) (n : Counts) (S : State) (xs ys : List Item) →
     after s n S (xs ++ ys) ≡ after s n (after s n S xs) ys
 after_append s n S [] ys = refl
 after_append s n S (x ∷ xs) ys = after_append s n (done s n S x).0 xs ys
+
+-- what holds of each event of item t and of the item's process, holds of those that an outcome of the item leaves
+pub event_has : (P : Event → Type 0) (t : ℕ) (x : Item) (o : Outcome) →
+    ((e : Event) → e.item ≡ t → e.process ≡ who x → P e) → AllByRecursion P (event_of t x o)
+event_has P t (Call i op) outcomes.Called h = (h _ refl refl, tt)
+event_has P t x (outcomes.Answered v) h = (h _ refl refl, tt)
+event_has P t x outcomes.Finished h = (h _ refl refl, tt)
+event_has P t x outcomes.Crashed h = (h _ refl refl, tt)
+event_has P t x _ h = tt
 
 -- the events of items that are done one after the other
 pub events_append : (s : Source) (n : Counts) (S : State) (t : ℕ) (xs ys : List Item)

@@ -61,11 +61,9 @@ module _ (x : Name) where
           (if a then Some sort.Scalar else if b then Some sort.Row else if c then Some sort.Words
           else if is_among x s.views then Some sort.View else None)
           ≡ Some sort.View → Lacks x (initial_process s n).locals
-      by_sorts true b c ea eb ec e = absurd cc
-      by_sorts false true c ea eb ec e = absurd cc
-      by_sorts false false true ea eb ec e = absurd cc
       by_sorts false false false ea eb ec e =
           record { scalars = not_named _ s.scalars ea; rows = not_named _ s.rows eb; words = not_named _ s.words ec }
+      by_sorts _ _ _ ea eb ec e = absurd cc
 
 -- in each state of a run
 pub views_alone : (r : Run) (t : ℕ) → ViewsAlone r.source (state r t)

@@ -23,8 +23,7 @@ use Rattle.snap_record.specs.History.{IsWithin, collects_at}
 use Rattle.snap_record.specs.Searches.{collects_until, found_collects, scan_collects, scans}
 use Rattle.snap_record.proofs.Counts.{count_split}
 use Rattle.snap_record.proofs.Later.{events_after}
-use Rattle.snap_record.proofs.Events.{next_left, events_from, next_events}
-use Rattle.snap_record.proofs.Events.{no_events, all_events, all_within_run}
+use Rattle.snap_record.proofs.Events.{next_left, events_from, next_events, no_events, all_events, all_within_run}
 
 -- a choice that is not made
 pub and_false : {A : Type 0} (b : Bool) (x y : A) → (if b && false then x else y) ≡ y
@@ -47,10 +46,6 @@ module _ (r : Run) where
   until_item : (i t : ℕ) (x : Item) (o : Outcome) (es : List Event) →
       collects_until r i (event_of t x o ++ es)
       ≡ (if nat_eq (who x) i && is_answer o then double_collects r i 0 t else collects_until r i es)
-  until_item i t (Step k) outcomes.Called es =
-      sym (and_false (nat_eq k i) (double_collects r i 0 t) (collects_until r i es))
-  until_item i t (Crash k) outcomes.Called es =
-      sym (and_false (nat_eq k i) (double_collects r i 0 t) (collects_until r i es))
   until_item i t (Call k o) outcomes.Called es =
       and_false (nat_eq k i) (double_collects r k 0 t) (collects_until r i es)
       ∙ sym (and_false (nat_eq k i) (double_collects r i 0 t) (collects_until r i es))
@@ -58,14 +53,10 @@ module _ (r : Run) where
   until_item i t x outcomes.Finished es =
       and_false (nat_eq (who x) i) (double_collects r (who x) 0 t) (collects_until r i es)
       ∙ sym (and_false (nat_eq (who x) i) (double_collects r i 0 t) (collects_until r i es))
-  until_item i t x outcomes.Stepped es =
-      sym (and_false (nat_eq (who x) i) (double_collects r i 0 t) (collects_until r i es))
-  until_item i t x (outcomes.Trapped c) es =
-      sym (and_false (nat_eq (who x) i) (double_collects r i 0 t) (collects_until r i es))
   until_item i t x outcomes.Crashed es =
       and_false (nat_eq (who x) i) (double_collects r (who x) 0 t) (collects_until r i es)
       ∙ sym (and_false (nat_eq (who x) i) (double_collects r i 0 t) (collects_until r i es))
-  until_item i t x (outcomes.Skipped c) es =
+  until_item i t x _ es =
       sym (and_false (nat_eq (who x) i) (double_collects r i 0 t) (collects_until r i es))
 
   -- of a choice
@@ -136,19 +127,15 @@ module _ (r : Run) where
   -- an item before item c
   passed : (c t : ℕ) (x : Item) (o : Outcome) (es : List Event) → (t ≡ c → ⊥) →
       found_collects r c (event_of t x o ++ es) ≡ found_collects r c es
-  passed c t (Step k) outcomes.Called es differ = refl
-  passed c t (Crash k) outcomes.Called es differ = refl
   passed c t (Call k o) outcomes.Called es differ =
       other_event c (record { item = t; process = k; what = what.Call o }) es differ
-  passed c t x outcomes.Stepped es differ = refl
   passed c t x (outcomes.Answered v) es differ =
       other_event c (record { item = t; process = who x; what = what.Answer v }) es differ
   passed c t x outcomes.Finished es differ =
       other_event c (record { item = t; process = who x; what = what.Done }) es differ
   passed c t x outcomes.Crashed es differ =
       other_event c (record { item = t; process = who x; what = what.Crash }) es differ
-  passed c t x (outcomes.Trapped k) es differ = refl
-  passed c t x (outcomes.Skipped k) es differ = refl
+  passed c t x _ es differ = refl
 
   -- the item itself
   same_item : {A : Type 0} (c : ℕ) (x y : A) → (if nat_eq c c then x else y) ≡ x
@@ -157,16 +144,12 @@ module _ (r : Run) where
   -- item c itself
   here : (c : ℕ) (x : Item) (o : Outcome) → c ≤ length r.items →
       found_collects r c (event_of c x o ++ events_from r c) ≡ collects_from r c (scan_called o x)
-  here c (Step k) outcomes.Called le = none_later c
-  here c (Crash k) outcomes.Called le = none_later c
   here c (Call i op.Scan) outcomes.Called le = same_item c _ _ ∙ ap (λ k. Some k) (of_scan i c le)
   here c (Call i (op.Update word value)) outcomes.Called le = same_item c _ _
-  here c x outcomes.Stepped le = none_later c
   here c x (outcomes.Answered v) le = same_item c _ _
   here c x outcomes.Finished le = same_item c _ _
   here c x outcomes.Crashed le = same_item c _ _
-  here c x (outcomes.Trapped k) le = none_later c
-  here c x (outcomes.Skipped k) le = none_later c
+  here c x _ le = none_later c
 
   -- one of the items
   among_items : (c t before : ℕ) → suc t + before ≡ c → c ≤ length r.items →
@@ -185,12 +168,7 @@ module _ (r : Run) where
   -- a step calls no scan
   no_scan : (o : Outcome) (c k : ℕ) → collects_from r c (scan_called o (Step k)) ≡ None
   no_scan outcomes.Called c k = refl
-  no_scan outcomes.Stepped c k = refl
-  no_scan (outcomes.Answered v) c k = refl
-  no_scan outcomes.Finished c k = refl
-  no_scan (outcomes.Trapped x) c k = refl
-  no_scan outcomes.Crashed c k = refl
-  no_scan (outcomes.Skipped x) c k = refl
+  no_scan _ c k = refl
 
   -- behind the last item
   past_items : (c : ℕ) → length r.items < c → item r c ≡ Step 0
@@ -230,10 +208,7 @@ module _ (r : Run) where
 -- only a process's own call has it scan
 scans_itself : (p i : ℕ) (w : Happening) → Some i ≡ scans p w → p ≡ i
 scans_itself p i (what.Call op.Scan) h = cc
-scans_itself p i (what.Call (op.Update word value)) h = absurd cc
-scans_itself p i (what.Answer view) h = absurd cc
-scans_itself p i what.Done h = absurd cc
-scans_itself p i what.Crash h = absurd cc
+scans_itself p i _ h = absurd cc
 
 -- an event of a list
 event_there : (P : Event → Type 0) (es : List Event) (k : ℕ) (e : Event) → AllByRecursion P es →

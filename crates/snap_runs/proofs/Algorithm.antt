@@ -29,9 +29,8 @@ op_of (Updating word value) = Update word value
 
 -- the link of a mode, where an embedded scan leads back to this line
 abbrev pub link_of : ℕ → Mode → Option ℕ
-link_of back Scanning = None
 link_of back (Embedded word value) = Some back
-link_of back (Updating word value) = None
+link_of back _ = None
 
 -- the value of an update, and 0 in a scan
 abbrev pub value_of : Mode → ℕ
@@ -82,37 +81,30 @@ returning view k (Updating word value) m p = Finish
 
 -- a `call` line: an update begins a scan at this line
 abbrev pub embedding : {V P M : Type 0} → P → Mode → V → Move V P M
-embedding k Scanning p = Finish
-embedding k (Embedded word value) p = Finish
 embedding k (Updating word value) p = Begin (Embedded word value) p k
+embedding k _ p = Finish
 
 -- what holds of the mode, the variables and the line to which it leads
 abbrev pub LeadsTo : {V P M : Type 0} → (Mode → V → P → Type 0) → Move V P M → Type 0
 LeadsTo Holds (To d m p k) = Holds d p k
 LeadsTo Holds (Begin d p k) = Holds d p k
-LeadsTo Holds (Answer v) = Unit {0}
-LeadsTo Holds Finish = Unit {0}
+LeadsTo Holds _ = Unit {0}
 
 pub leads_to : {V P M : Type 0} (A B : Mode → V → P → Type 0) → ((d : Mode) (p : V) (k : P) → A d p k → B d p k) →
     (v : Move V P M) → LeadsTo A v → LeadsTo B v
 leads_to A B gives (To d m p k) h = gives d p k h
 leads_to A B gives (Begin d p k) h = gives d p k h
-leads_to A B gives (Answer v) h = tt
-leads_to A B gives Finish h = tt
+leads_to A B gives _ h = tt
 
 -- what holds of the next line, where a move goes on
 abbrev pub GoesOn : {V P M : Type 0} → (Mode → M → V → P → Type 0) → Move V P M → Type 0
 GoesOn Holds (To d m p k) = Holds d m p k
-GoesOn Holds (Begin d p k) = Unit {0}
-GoesOn Holds (Answer v) = Unit {0}
-GoesOn Holds Finish = Unit {0}
+GoesOn Holds _ = Unit {0}
 
 -- the memory after it
 abbrev pub memory_after : {V P M : Type 0} → M → Move V P M → M
 memory_after m (To d m' p k) = m'
-memory_after m (Begin d p k) = m
-memory_after m (Answer v) = m
-memory_after m Finish = m
+memory_after m _ = m
 
 -- what the proof remembers of a process, in numbers of items and counts
 pub record Auxiliary : Type 0 where

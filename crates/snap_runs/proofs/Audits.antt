@@ -32,11 +32,10 @@ uncalled o other h = refl
 -- numbers that are found to be equal
 equal_numbers : (xs ys : List ℕ) → bytes_eq xs ys ≡ true → xs ≡ ys
 equal_numbers [] [] h = refl
-equal_numbers [] (y ∷ ys) h = absurd cc
-equal_numbers (x ∷ xs) [] h = absurd cc
 equal_numbers (x ∷ xs) (y ∷ ys) h =
     let parts = both (nat_eq x y) (bytes_eq xs ys) h in
     ap (λ z. z ∷ xs) (eqb-true x y parts.0) ∙ ap (λ zs. y ∷ zs) (equal_numbers xs ys parts.1)
+equal_numbers _ _ h = absurd cc
 
 -- numbers are equal to themselves
 bytes_eq-refl : (xs : List ℕ) → bytes_eq xs xs ≡ true
@@ -57,17 +56,15 @@ one_before r view t more None other h = λ u low high e. elim (eq-or-lt_of_le lo
   | inl same ↦ other (subst (λ k. values (state r k) ≡ view) (sym same) e)
   | inr less ↦ h u less (omega (arith, high)) e
 ]
-one_before r view t more (Some p) other h =
-    let after : suc t ≤ p = h.0 in
-    let before : p < suc t + more = h.1 in (
-      omega (arith, after),
-      omega (arith, before),
-      h.2,
-      λ u low high e. elim (eq-or-lt_of_le low) [
-        | inl same ↦ other (subst (λ k. values (state r k) ≡ view) (sym same) e)
-        | inr less ↦ h.3 u less high e
-      ],
-    )
+one_before r view t more (Some p) other h = (
+  omega (arith, h.0),
+  omega (arith, h.1),
+  h.2,
+  λ u low high e. elim (eq-or-lt_of_le low) [
+    | inl same ↦ other (subst (λ k. values (state r k) ≡ view) (sym same) e)
+    | inr less ↦ h.3 u less high e
+  ],
+)
 
 -- the least point is the least
 least_of : (r : Run) (view : List ℕ) (t more : ℕ) → IsLeastOf r view t more (least_point r view t more)
@@ -93,12 +90,9 @@ least_of_scan : (r : Run) (view : List ℕ) (c e : ℕ) (o : Option ℕ) → c �
     IsLeastOf r view c (suc (e - c)) o → IsLeastPoint r c e view o
 unfolding IsLeastOf
 least_of_scan r view c e None order h = λ point.
-    let low : c ≤ point.0 = point.1 in
-    let high : point.0 ≤ e = point.2 in
-    h point.0 low (omega (arith, low, high)) point.3
+    h point.0 point.1 (omega (arith, point.1, point.2)) point.3
 least_of_scan r view c e (Some p) order h =
-    let high : p < c + suc (e - c) = h.1 in
-    (h.0, omega (arith, high, order), h.2, h.3)
+    (h.0, omega (arith, h.1, order), h.2, h.3)
 
 module _ (r : Run) (fits : IsValidRun r) where
   -- the last call of a process is the one whose operation has not ended
@@ -138,18 +132,11 @@ module _ (r : Run) (fits : IsValidRun r) where
   -- the verdict of an answered scan
   one_verdict : (t : ℕ) (o : Outcome) → t < length r.items → outcome_at r (suc t) ≡ o →
       AllByRecursion (IsOfScan r) (verdict_at r (suc t) o)
-  one_verdict t outcome.Called lt is = tt
-  one_verdict t outcome.Stepped lt is = tt
-  one_verdict t outcome.Finished lt is = tt
-  one_verdict t (outcome.Trapped c) lt is = tt
-  one_verdict t outcome.Crashed lt is = tt
-  one_verdict t (outcome.Skipped c) lt is = tt
   one_verdict t (outcome.Answered view) lt is =
       let i = who (item r (suc t)) in
       let found = answer_ends r fits t view lt is in
       let c = found.0 in
       let scan = found.1.scan in
-      let le : c < suc t = found.1.order in
       let before : last_call r i (suc t) ≡ c =
       ap (λ (y : Outcome). if nat_eq i i && is_called y then suc t else last_call r i t) is
       ∙ and_false (nat_eq i i) (suc t) (last_call r i t)
@@ -161,11 +148,12 @@ module _ (r : Run) (fits : IsValidRun r) where
         finished = found.1;
         point_is = refl;
         point_is_least =
-            least_of_scan r view c (suc t) (least_point r view c (suc (suc t - c))) (omega (arith, le))
+            least_of_scan r view c (suc t) (least_point r view c (suc (suc t - c))) (omega (arith, found.1.order))
             (least_of r view c (suc (suc t - c)));
         collects_are = refl;
       } in
       (subst (λ k. IsOfScan r (verdict_of r i k (suc t) view)) (sym before) verdict, tt)
+  one_verdict t _ lt is = tt
 
   -- of two lists
   join_all : (xs ys : List Verdict) → AllByRecursion (IsOfScan r) xs → AllByRecursion (IsOfScan r) ys →
@@ -205,10 +193,8 @@ found_by r view t u (suc more) low high h = elim (eq-or-lt_of_le low) [
 point_found : (r : Run) (v : Verdict) → HavePoints r → IsValidRun r → IsOfScan r v → HasFoundPoint v
 point_found r v points fits h =
     let p = points fits v.process None v.call v.answer h.view h.finished in
-    let from : v.call ≤ p.0 = p.1 in
-    let to : p.0 ≤ v.answer = p.2 in
     subst (λ (o : Option ℕ). IsSome o) (sym h.point_is)
-    (found_by r h.view v.call p.0 (suc (v.answer - v.call)) from (omega (arith, from, to)) p.3)
+    (found_by r h.view v.call p.0 (suc (v.answer - v.call)) p.1 (omega (arith, p.1, p.2)) p.3)
 
 -- of each verdict
 all_found : (r : Run) (vs : List Verdict) → HavePoints r → IsValidRun r → AllByRecursion (IsOfScan r) vs →

@@ -16,7 +16,7 @@ use Rattle.snap_runs.specs.Update.{executes}
 use Rattle.snap_runs.specs.Bounded.{WasAsked, IsValue, Limits, IsMemoryWithin, IsLocalsWithin, IsOpWithin, HasLine}
 use Rattle.snap_runs.specs.Bounded.{IsActivityWithin, IsStatusWithin, IsProcessWithin, IsStateWithin, StaysWithin}
 use Rattle.snap_runs.specs.Bounded.{sequence_numbers, one_more, CountsWrites}
-use Rattle.snap_runs.proofs.Algorithm.{Mode, Scanning, Embedded, Updating, op_of, value_of, link_of, op_is, Control}
+use Rattle.snap_runs.proofs.Algorithm.{Mode, Scanning, Embedded, op_of, value_of, link_of, op_is, Control}
 use Rattle.snap_runs.proofs.Algorithm.{Idle, At, WhenBusy, Move, To, Begin, Answer, Finish, TypedProcess, TypedState}
 use Rattle.snap_runs.proofs.Algorithm.{Algorithm, New, by_move, by_step, by_admission, by_call, typed_at, by_item}
 use Rattle.snap_runs.proofs.Algorithm.{changed, outcome_of, happens, item_at, typed_state, first_process, first_state}
@@ -51,8 +51,7 @@ module _ {V P M : Type 0} (a : Algorithm V P M) (m : Limits) (Value : ℕ → Ty
   -- the value that it writes, and 0 in a scan
   pub value_within : Value 0 → (d : Mode) → TaskWithin d → Value (value_of d)
   value_within zeroed Scanning h = zeroed
-  value_within zeroed (Embedded word value) h = h.1
-  value_within zeroed (Updating word value) h = h.1
+  value_within zeroed _ h = h.1
 
   pub record ProcessWithin (q : TypedProcess V P M) : Type 0 where
     pub variables : VariablesWithin q.variables
@@ -66,8 +65,7 @@ module _ {V P M : Type 0} (a : Algorithm V P M) (m : Limits) (Value : ℕ → Ty
   abbrev pub MoveWithin : Move V P M → Type 0
   MoveWithin (To d x p k) = MemoryWithin x × VariablesWithin p
   MoveWithin (Begin d p k) = VariablesWithin p
-  MoveWithin (Answer v) = Unit {0}
-  MoveWithin Finish = Unit {0}
+  MoveWithin _ = Unit {0}
 
   put_within : (x : TypedState V P M) (i : ℕ) (x' : M) (q : TypedProcess V P M) (o : Outcome) → MemoryWithin x' →
       ProcessWithin q → StateWithin x → StateWithin (changed x i (New x' q o))
@@ -238,9 +236,8 @@ module _ {V P M : Type 0} (a : Algorithm V P M) (limits : ℕ → Limits)
 
     -- in the words of the machine
     link_within : (d : Mode) → IfSome (link_of a.back d) (HasLine a.source)
-    link_within Scanning = tt
     link_within (Embedded word value) = back_lined
-    link_within (Updating word value) = tt
+    link_within _ = tt
 
     status_within : (t : ℕ) (control : Control P) → WhenBusy (λ d k. TaskNow t d) control →
         IsStatusWithin a.source a.shape (IsValue run t) (status_of a control)
@@ -271,11 +268,8 @@ module _ {V P M : Type 0} (a : Algorithm V P M) (limits : ℕ → Limits)
 -- With crashes.
 status_back : (source : Source) (s : Counts) (Value : ℕ → Type 0) (st : Status) →
     IsStatusWithin source s Value (uncrashed st) → IsStatusWithin source s Value st
-status_back source s Value IdleNow h = h
-status_back source s Value (Busy a) h = h
-status_back source s Value (Trapped cause a) h = h
 status_back source s Value (Crashed None) h = tt
-status_back source s Value (Crashed (Some a)) h = h
+status_back source s Value _ h = h
 
 module _ (r : Run) where
   asked_from : IsValidRun r → (t value : ℕ) → t ≤ length r.items → WasAsked (calm r) t value → WasAsked r t value
@@ -334,7 +328,7 @@ module _ (r : Run) where
       memory = memory_wider m m (as_wide m) r.shape (IsValue (calm r) t) Mine mine S.memory h.memory;
       processes = (
         let same = length-map S.processes revived in
-            let few : length (map revived S.processes) ≤ r.shape.n = h.processes.0 in omega arith,
+            omega arith,
         processes_from S.processes h.processes.1,
       );
     }

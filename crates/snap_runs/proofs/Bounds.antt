@@ -34,7 +34,6 @@ module _ {V P M : Type 0} (a : Algorithm V P M) (lines : Lines V P M) (listed : 
     bounds i link c zero scan = (omega arith, omega arith)
     bounds i link c (suc t) scan =
         let one = scan.process in
-        let last : suc t ≤ length items = scan.last in
         let lawful = scans.lawful a lines listed run in
         elim (eq-or-lt_of_le scan.order) [
           | inl same ↦ (let x =

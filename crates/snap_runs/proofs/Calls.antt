@@ -1,90 +1,30 @@
 -- The calls of a run, for any listing: under which one a process is, and that no two of a process are open at once.
-use Rattle.std.proofs.Common.{◌≡◌, ◌≢◌, ℕ, zero, suc, ◌-◌, ◌<◌, ◌≤◌, ◌⊎◌, true, List, length, Option, Some, None}
-use Rattle.std.proofs.Common.{Result, Ok, Err, slice_set, refl, sym, ◌∙◌, ap, subst, arith, inl, inr}
-use Rattle.std.proofs.lemmas.Bool.{cases_eq, cases_lt}
+use Rattle.std.proofs.Common.{◌≡◌, ◌≢◌, ℕ, zero, suc, ◌-◌, ◌<◌, ◌≤◌, true, List, length, None}
+use Rattle.std.proofs.Common.{refl, sym, ◌∙◌, ap, subst, arith, inl, inr}
+use Rattle.std.proofs.lemmas.Bool.{cases_eq}
 use Rattle.std.proofs.lemmas.List.Elements.{All-from_recursion}
-use Rattle.std.proofs.lemmas.List.{length-set, get_or-set_other, length-replicate, get_or-replicate}
+use Rattle.std.proofs.lemmas.List.{length-replicate, get_or-replicate}
 use Rattle.std.proofs.Math.Nat.{eq-or-lt_of_le}
-use Rattle.snap_runs.proofs.Common.{Counts, IsOneOf, Activity, Item, Step, Call, Crash, Op, Outcome, Called, Answered}
-use Rattle.snap_runs.proofs.Common.{Finished, Reason, Process, State, process_at, who, Run, IsValidRun, state, item}
-use Rattle.snap_runs.proofs.Common.{outcome}
-use Rattle.snap_semantics.specs.declared.process.Cause.{Cause}
+use Rattle.snap_runs.proofs.Common.{IsOneOf, Activity, Item, Step, Call, Op, Outcome, Called, Answered, Finished}
+use Rattle.snap_runs.proofs.Common.{Process, State, who, Run, IsValidRun, state, item, outcome}
 use Rattle.snap_semantics.specs.declared.process.Op.TheVariants as op
 use Rattle.snap_semantics.specs.declared.process.Status.{Status}
-use Rattle.snap_semantics.specs.declared.process.Status.TheVariants.{Idle, Busy, Trapped, Crashed}
-use Rattle.snap_semantics.specs.Source.{Source, instr_at}
-use Rattle.snap_semantics.specs.State.{Locals, Memory, nobody, initial_process}
-use Rattle.snap_semantics.specs.Table.{Effect, Goes, Answers, Finishes, effect_at, leave, step, call_skip, called, call}
-use Rattle.snap_semantics.specs.Table.{crash, done}
+use Rattle.snap_semantics.specs.declared.process.Status.TheVariants.{Idle, Busy}
+use Rattle.snap_semantics.specs.State.{nobody, initial_process}
+use Rattle.snap_semantics.specs.Table.{step, call}
 use Rattle.snap_runs.specs.Operation.{EndsAreOfOperations}
 use Rattle.snap_runs.specs.Scan.{FinishedScan, is_not_skipped}
 use Rattle.snap_runs.specs.Update.{PendingUpdate}
+use Rattle.snap_runs.proofs.Computing.{neither_less}
 use Rattle.snap_runs.proofs.Embedding.{next_state}
-use Rattle.snap_runs.proofs.Transitions.{MaySkip, Transition, skipped, calls, goes, answers}
-use Rattle.snap_runs.proofs.Transitions.{finishes, traps, crashes, status_of, own_turn}
-
--- An item leaves a state, or changes its process and perhaps the memory.
-abbrev pub Touches : State → ℕ → State → Type 0
-Touches S i S' =
-    ((m : Memory) × (p : Process) × (S' ≡ record { memory = m; processes = slice_set S.processes (i - 1) p }))
-    ⊎ (S' ≡ S)
-
-leave_touches : (S : State) (i : ℕ) (a : Activity) (l : Locals) (e : Result Effect Cause) →
-    Touches S i (leave S i a l e).0
-leave_touches S i a l (Ok (Goes m k link line)) = inl (m, _, refl)
-leave_touches S i a l (Ok (Answers v)) = inl (S.memory, _, refl)
-leave_touches S i a l (Ok Finishes) = inl (S.memory, _, refl)
-leave_touches S i a l (Err e) = inl (S.memory, _, refl)
-
-step_touches : (s : Source) (shape : Counts) (S : State) (i : ℕ) (p : Process) (status : Status) →
-    Touches S i (step s shape S i p status).0
-step_touches s shape S i p (Trapped e a) = inr refl
-step_touches s shape S i p (Crashed was) = inr refl
-step_touches s shape S i p Idle = inr refl
-step_touches s shape S i p (Busy a) = leave_touches S i a p.locals
-    (effect_at s (record { shape = shape; me = i; op = a.op; locals = p.locals; place = 0 }) S.memory a
-    (instr_at s.lines a.line))
-
-called_touches : (s : Source) (S : State) (i : ℕ) (p : Process) (o : Op) (why : Option Reason) →
-    Touches S i (called s S i p o why).0
-called_touches s S i p o (Some why) = inr refl
-called_touches s S i p o None = inl (S.memory, _, refl)
-
-call_touches : (s : Source) (shape : Counts) (S : State) (i : ℕ) (o : Op) (p : Process) (status : Status) →
-    Touches S i (call s shape S i o p status).0
-call_touches s shape S i o p (Trapped e a) = inr refl
-call_touches s shape S i o p (Crashed was) = inr refl
-call_touches s shape S i o p (Busy a) = inr refl
-call_touches s shape S i o p Idle = called_touches s S i p o (call_skip s.kind shape i o)
-
-crash_touches : (S : State) (i : ℕ) (p : Process) (status : Status) → Touches S i (crash S i p status).0
-crash_touches S i p (Trapped e a) = inr refl
-crash_touches S i p (Crashed was) = inr refl
-crash_touches S i p (Busy a) = inl (S.memory, _, refl)
-crash_touches S i p Idle = inl (S.memory, _, refl)
-
-touches : (s : Source) (shape : Counts) (S : State) (x : Item) → Touches S (who x) (done s shape S x).0
-touches s shape S (Step i) = step_touches s shape S i (process_at S i) (process_at S i).status
-touches s shape S (Call i o) = call_touches s shape S i o (process_at S i) (process_at S i).status
-touches s shape S (Crash i) = crash_touches S i (process_at S i) (process_at S i).status
-
-same_count : (S S' : State) (i : ℕ) → Touches S i S' → length S'.processes ≡ length S.processes
-same_count S S' i (inl h) = ap (λ (x : State). length x.processes) h.2 ∙ length-set S.processes (i - 1) h.1
-same_count S S' i (inr h) = ap (λ (x : State). length x.processes) h
-
-other_status : (S S' : State) (k i : ℕ) → Touches S k S' → 0 < k → 0 < i → k ≢ i → status_of S' i ≡ status_of S i
-other_status S S' k i (inl h) pk pi other =
-    ap (λ (x : State). status_of x i) h.2
-    ∙ ap (λ (p : Process). p.status)
-    (get_or-set_other S.processes (k - 1) (i - 1) h.1 nobody (λ same. other (omega arith)))
-other_status S S' k i (inr h) pk pi other = ap (λ (x : State). status_of x i) h
+use Rattle.snap_runs.proofs.Transitions.{MaySkip, Transition, skipped, calls, goes, answers, finishes, traps, crashes}
+use Rattle.snap_runs.proofs.Transitions.{status_of, own_turn, same_count, other_status}
 
 -- A process is at an operation that was called and has not ended, or has trapped or crashed.
 abbrev pub Occupied : Op → Status → Type 0
 Occupied o Idle = ⊥
 Occupied o (Busy a) = a.op ≡ o
-Occupied o (Trapped cause a) = Unit {0}
-Occupied o (Crashed was) = Unit {0}
+Occupied o _ = Unit {0}
 
 -- how such an operation ends
 abbrev pub EndsWith : Op → Outcome → Type 0
@@ -100,15 +40,14 @@ IsEnd _ = ⊥
 
 stays_occupied : {s s' : Status} {x : Item} {out : Outcome} (o : Op) → Transition s x out s' →
     (EndsWith o out → ⊥) → Occupied o s → Occupied o s'
-stays_occupied o (skipped s x why may) not_end h = h
 stays_occupied o (calls i p line) not_end h = absurd h
-stays_occupied o (goes i a line link) not_end h = h
 stays_occupied o (answers i a view is) not_end h =
     absurd (not_end (subst (λ p. EndsWith p (Answered view)) (sym is ∙ h) tt))
 stays_occupied o (finishes i a word value is) not_end h =
     absurd (not_end (subst (λ p. EndsWith p Finished) (sym is ∙ h) tt))
 stays_occupied o (traps i a cause) not_end h = tt
 stays_occupied o (crashes i s was) not_end h = tt
+stays_occupied o _ not_end h = h
 
 -- a call finds its process idle, and occupies it
 is_called : {s s' : Status} {x : Item} {out : Outcome} (i : ℕ) (o : Op) → Transition s x out s' → out ≡ Called →
@@ -145,22 +84,23 @@ module _ (r : Run) (fits : IsValidRun r) where
   processes_count zero h = length-replicate r.shape.n (initial_process r.source r.shape)
   processes_count (suc t) h =
       ap (λ (S : State). length S.processes) (next_state r t (omega arith))
-      ∙ same_count (state r t) _ (who (item r (suc t))) (touches r.source r.shape (state r t) (item r (suc t)))
+      ∙ same_count r.source r.shape (state r t) (item r (suc t))
       ∙ processes_count t (omega arith)
 
   pub turn : (t i : ℕ) → t < length r.items → IsOneOf r.shape.n i → who (item r (suc t)) ≡ i →
       Transition (status t i) (item r (suc t)) (outcome r (suc t)) (status (suc t) i)
   turn t i h one his =
-      subst (λ (S : State). Transition (status t i) (item r (suc t)) (outcome r (suc t)) (status_of S i))
+      let k = who (item r (suc t)) in
+      subst (λ j. Transition (status t j) (item r (suc t)) (outcome r (suc t)) (status (suc t) j)) his
+      (subst (λ (S : State). Transition (status t k) (item r (suc t)) (outcome r (suc t)) (status_of S k))
       (sym (next_state r t h))
-      (own_turn r.source r.shape (state r t) i (processes_count t (omega arith)) one (item r (suc t)) his)
+      (own_turn r.source r.shape (state r t) (item r (suc t)) (processes_count t (omega arith)) (item_one t h)))
 
   pub other_turn : (t i : ℕ) → t < length r.items → IsOneOf r.shape.n i →
       who (item r (suc t)) ≢ i → status (suc t) i ≡ status t i
   other_turn t i h one other =
       ap (λ (S : State). status_of S i) (next_state r t h)
-      ∙ other_status (state r t) _ (who (item r (suc t))) i
-      (touches r.source r.shape (state r t) (item r (suc t))) (item_one t h).0 one.0 other
+      ∙ other_status r.source r.shape (state r t) (item r (suc t)) i (item_one t h).0 one.0 other
 
   -- item c is such a call
   abbrev pub Calls : ℕ → Op → ℕ → Type 0
@@ -203,16 +143,9 @@ module _ (r : Run) (fits : IsValidRun r) where
       0 < d → c < t → d < t → t ≤ length r.items → Calls i o c → Calls i p d →
       ((u : ℕ) → c < u → u < t → EndsAt i o u → ⊥) → ((u : ℕ) → d < u → u < t → EndsAt i p u → ⊥) → c ≡ d
   one_call i o p c d t one pc pd lc ld short call again still_c still_d =
-      elim (cases_eq c d) [
-        | inl same ↦ same
-        | inr other ↦ elim (cases_lt c d) [
-          | inl less ↦
-              absurd (not_called i o p c d one pc less (omega arith) call again (λ u lt le. still_c u lt (omega arith)))
-          | inr more ↦
-              absurd (not_called i p o d c one pd (omega arith) (omega arith) again call
-              (λ u lt le. still_d u lt (omega arith)))
-        ]
-      ]
+      neither_less c d
+      (λ less. not_called i o p c d one pc less (omega arith) call again (λ u lt le. still_c u lt (omega arith)))
+      (λ more. not_called i p o d c one pd more (omega arith) again call (λ u lt le. still_d u lt (omega arith)))
 
   -- item c called this operation of process i, and it has not ended up to item t
   pub record UnderCall (i : ℕ) (o : Op) (t : ℕ) : Type 0 where
@@ -223,10 +156,8 @@ module _ (r : Run) (fits : IsValidRun r) where
     pub open_still : (u : ℕ) → call < u → u ≤ t → who (item r u) ≡ i → IsEnd (outcome r u) → ⊥
 
   abbrev pub UnderAt : ℕ → ℕ → Status → Type 0
-  UnderAt i t Idle = Unit {0}
   UnderAt i t (Busy a) = UnderCall i a.op t
-  UnderAt i t (Trapped cause a) = Unit {0}
-  UnderAt i t (Crashed was) = Unit {0}
+  UnderAt i t _ = Unit {0}
 
   longer : (i t : ℕ) (o : Op) → (who (item r (suc t)) ≡ i → IsEnd (outcome r (suc t)) → ⊥) →
       UnderCall i o t → UnderCall i o (suc t)
@@ -281,8 +212,7 @@ module _ (r : Run) (fits : IsValidRun r) where
       let one = item_one t h in
       let was = is_answered view (turn t i h one refl) out in
       let u : UnderCall i op.Scan t =
-      subst (λ o. UnderCall i o t) was.2 (subst (UnderAt i t) was.1 (under t i (omega arith) one)) in
-      let le : u.call ≤ t = u.order in (
+      subst (λ o. UnderCall i o t) was.2 (subst (UnderAt i t) was.1 (under t i (omega arith) one)) in (
         u.call,
         record {
           scan = record {
@@ -306,8 +236,7 @@ module _ (r : Run) (fits : IsValidRun r) where
       let one = item_one t h in
       let was = is_finished (turn t i h one refl) out in
       let u : UnderCall i (op.Update was.1 was.2) t =
-      subst (λ o. UnderCall i o t) was.4 (subst (UnderAt i t) was.3 (under t i (omega arith) one)) in
-      let le : u.call ≤ t = u.order in (
+      subst (λ o. UnderCall i o t) was.4 (subst (UnderAt i t) was.3 (under t i (omega arith) one)) in (
         u.call,
         was.1,
         was.2,

@@ -44,11 +44,10 @@ calm_items s shape S (x ∷ xs) = instead x (done s shape S x).1 ∷ calm_items 
 
 -- a process as if it had not crashed
 abbrev pub uncrashed : Status → Status
-uncrashed Idle = Idle
 uncrashed (Busy a) = Busy a
 uncrashed (Trapped c a) = Trapped c a
-uncrashed (Crashed None) = Idle
 uncrashed (Crashed (Some a)) = Busy a
+uncrashed _ = Idle
 
 abbrev pub revived : Process → Process
 revived p = record { status = uncrashed p.status; locals = p.locals }
@@ -99,9 +98,8 @@ alive_either true x y h k = h
 alive_either false x y h k = k
 
 owner_alive : (k : KindTag) (i word : ℕ) → IsAlive (owner_skip k i word)
-owner_alive kind.Seq i word = alive_either (nat_eq word i) None (Some reason.NotOwner) tt refl
-owner_alive kind.Bits i word = alive_either (nat_eq word i) None (Some reason.NotOwner) tt refl
 owner_alive kind.Multi i word = tt
+owner_alive _ i word = alive_either (nat_eq word i) None (Some reason.NotOwner) tt refl
 
 skip_alive : (k : KindTag) (shape : Counts) (i : ℕ) (op : Op) → IsAlive (call_skip k shape i op)
 skip_alive k shape i Scan = tt
@@ -153,16 +151,12 @@ module _ (s : Source) (shape : Counts) where
   alive_of : (S : State) (i : ℕ) (a : Activity) (l : Locals) (e : Result Effect Cause) →
       is_alive (leave S i a l e).1 ≡ true
   alive_of S i a l (Ok (Goes m k link line)) = refl
-  alive_of S i a l (Ok (Answers v)) = refl
-  alive_of S i a l (Ok Finishes) = refl
-  alive_of S i a l (Err c) = refl
+  alive_of S i a l _ = refl
 
   -- a step of a process that has not crashed
   step_along : (S : State) (i : ℕ) (p : Process) (st : Status) → uncrashed st ≡ st →
       (is_alive (step s shape S i p st).1 ≡ true)
       × (step s shape (calmed S) i (revived p) (uncrashed st) ≡ along (step s shape S i p st))
-  step_along S i p Idle e = (refl, refl)
-  step_along S i p (Trapped c a) e = (refl, refl)
   step_along S i p (Busy a) e =
       let x =
       effect_at s (record { shape = shape; me = i; op = a.op; locals = p.locals; place = 0 }) S.memory a
@@ -170,6 +164,7 @@ module _ (s : Source) (shape : Counts) where
       (alive_of S i a p.locals x, leave_along S i a p.locals x)
   step_along S i p (Crashed None) e = absurd (cc)
   step_along S i p (Crashed (Some a)) e = absurd (cc)
+  step_along S i p _ e = (refl, refl)
 
   called_along : (S : State) (i : ℕ) (p : Process) (op : Op) (why : Option Reason) →
       called s (calmed S) i (revived p) op why ≡ along (called s S i p op why)
@@ -200,11 +195,10 @@ module _ (s : Source) (shape : Counts) where
   pausing : (S : State) (i : ℕ) (p : Process) (st : Status) →
       (why : Reason)
       × (call s shape (calmed S) i (Update 0 0) (revived p) (uncrashed st) ≡ (calmed S, outcomes.Skipped why))
-  pausing S i p Idle = (reason.NoSuchWord, refl)
   pausing S i p (Busy a) = (reason.Busy, refl)
   pausing S i p (Trapped c a) = (reason.Trapped, refl)
-  pausing S i p (Crashed None) = (reason.NoSuchWord, refl)
   pausing S i p (Crashed (Some a)) = (reason.Busy, refl)
+  pausing S i p _ = (reason.NoSuchWord, refl)
 
   -- an item that leaves what is seen of the state
   paused : (S : State) (x : Item) → instead x (done s shape S x).1 ≡ pause (who x) →
@@ -250,17 +244,15 @@ module _ (s : Source) (shape : Counts) where
 
   crash_unseen : (S : State) (i : ℕ) (st : Status) → (process_at S i).status ≡ st →
       calmed (crash S i (process_at S i) st).0 ≡ calmed S
-  crash_unseen S i (Trapped c a) e = refl
-  crash_unseen S i (Crashed was) e = refl
   crash_unseen S i (Busy a) e = stop_unseen S i (Some a) (ap uncrashed (sym e))
   crash_unseen S i Idle e = stop_unseen S i None (ap uncrashed (sym e))
+  crash_unseen S i _ e = refl
 
   stopped_by : (S : State) (i : ℕ) (p : Process) (st : Status) →
       ((crash S i p st).1 ≡ outcomes.Crashed) ⊎ ((why : Reason) × ((crash S i p st).1 ≡ outcomes.Skipped why))
   stopped_by S i p (Trapped c a) = inr (reason.Trapped, refl)
   stopped_by S i p (Crashed was) = inr (reason.Crashed, refl)
-  stopped_by S i p (Busy a) = inl refl
-  stopped_by S i p Idle = inl refl
+  stopped_by S i p _ = inl refl
 
   crash_paused : (S : State) (i : ℕ) → Pauses S (Crash i)
   crash_paused S i =

@@ -2,46 +2,134 @@
 -- updates, lines that are executed, and counts.
 use Rattle.std.proofs.Common.{◌≡◌, ℕ, zero, suc, ◌<◌, ◌≤◌, ◌⊎◌, Bool, true, false, ◌&&◌, List, length, Option, Some}
 use Rattle.std.proofs.Common.{None, refl, sym, ◌∙◌, ap, subst, arith, inl, inr}
-use Rattle.snap_runs.proofs.Common.{Activity, Item, Step, Call, Crash, Op, Outcome, Reason, Process, process_at, values}
-use Rattle.snap_runs.proofs.Common.{who, Run, IsValidRun, state, before, item, outcome}
+use Rattle.snap_runs.proofs.Common.{Counts, Activity, Item, Step, Call, Crash, Scan, Update, Outcome, Process}
+use Rattle.snap_runs.proofs.Common.{process_at, values, who, Run, IsValidRun, state, before, item, outcome}
 use Rattle.snap_semantics.specs.declared.process.Outcome.TheVariants as outcomes
 use Rattle.snap_semantics.specs.declared.process.Reason.TheVariants as reason
 use Rattle.snap_semantics.specs.declared.process.Status.{Status}
 use Rattle.snap_semantics.specs.declared.process.Status.TheVariants.{Crashed}
+use Rattle.snap_semantics.specs.Source.{Source}
+use Rattle.snap_runs.specs.Run.{run_of_items}
 use Rattle.snap_runs.specs.Scan.{line_in, link_in, IsCallLine, ReturnsView, Starts, Ends, PendingScan, FinishedScan}
 use Rattle.snap_runs.specs.Scan.{count, steps, is_if_all, is_stepped, is_not_skipped, ends_double_collect, takes_step}
 use Rattle.snap_runs.specs.Scan.{double_collects, own_steps}
 use Rattle.snap_runs.specs.Update.{is_at, goes_on, executes, IsDone, PendingUpdate}
-use Rattle.snap_runs.proofs.Calm.{IsDead, calm, same_length, state_is, process_is, Kept, Paused, kept_or_paused}
-use Rattle.snap_runs.proofs.Computing.{same_number, same_from}
+use Rattle.snap_runs.proofs.Calm.{IsDead, calm, calm_list, same_length, state_is, process_is, Kept, Paused}
+use Rattle.snap_runs.proofs.Calm.{kept_or_paused}
+use Rattle.snap_runs.proofs.Computing.{same_number, same_from, and_when}
 use Rattle.snap_runs.proofs.Executing.{step_of}
 use Rattle.snap_runs.proofs.WaitFree.{same_counts}
-
-same_test : (b x y : Bool) → (b ≡ true → x ≡ y) → (b && x) ≡ (b && y)
-same_test true x y h = h refl
-same_test false x y h = refl
 
 never : (b x : Bool) → (b ≡ true → x ≡ false) → (b && x) ≡ false
 never true x h = h refl
 never false x h = refl
 
-and_no : (b : Bool) → (b && false) ≡ false
-and_no true = refl
-and_no false = refl
+-- What is told of an item: of the item, of what came of it, and of a process before and after it.
+abbrev Telling : Type 1
+Telling = Item → Outcome → Process → Process → Type 0
+
+abbrev Told : Telling → Run → ℕ → ℕ → Type 0
+Told Holds r i t = Holds (item r t) (outcome r t) (process_at (before r t) i) (process_at (state r t) i)
+
+-- an item of which something came: it is not skipped, and no crash
+abbrev HasEffect : Outcome → Type 0
+HasEffect (outcomes.Skipped why) = ⊥
+HasEffect outcomes.Crashed = ⊥
+HasEffect _ = Unit {0}
+
+-- It is told of no item but of process i, of which something came, or which is a step of a process that has not crashed.
+abbrev IsOf : ℕ → Telling → Type 0
+IsOf i Holds = (y : Item) (o : Outcome) (p q : Process) → Holds y o p q →
+    (who y ≡ i) × (HasEffect o ⊎ ((y ≡ Step i) × ((was : Option Activity) → p.status ≡ Crashed was → ⊥)))
+
+-- what is told of an item of one run is told of it in another one
+abbrev Tells : Run → Run → Type 1
+Tells r r' = (Holds : Telling) (i t : ℕ) → IsOf i Holds → 0 < t → t ≤ length r.items → Told Holds r i t → Told Holds
+    r' i t
+
+-- scans and updates start and end at the same items then
+module _ (s : Source) (shape : Counts) (xs ys : List Item)
+    (to : Tells (run_of_items s shape xs) (run_of_items s shape ys)) where
+  starts_over : (i : ℕ) (link : Option ℕ) (t : ℕ) → 0 < t → t ≤ length xs →
+      Starts (run_of_items s shape xs) i t link → Starts (run_of_items s shape ys) i t link
+  starts_over i None t =
+      to (λ y o p q. (y ≡ Call i Scan) × (o ≡ outcomes.Called)) i t
+      (λ y o p q h. (ap who h.0, inl (subst HasEffect (sym h.1) tt)))
+  starts_over i (Some k) t =
+      to (λ y o p q. (y ≡ Step i) × IsCallLine (line_in s p.status) × (o ≡ outcomes.Stepped)
+      × (link_in q.status ≡ Some k)) i t (λ y o p q h. (ap who h.0, inl (subst HasEffect (sym h.2) tt)))
+
+  ends_over : (i : ℕ) (link : Option ℕ) (view : List ℕ) (t : ℕ) → 0 < t → t ≤ length xs →
+      Ends (run_of_items s shape xs) i t link view → Ends (run_of_items s shape ys) i t link view
+  ends_over i None view t =
+      to (λ y o p q. (who y ≡ i) × (o ≡ outcomes.Answered view)) i t
+      (λ y o p q h. (h.0, inl (subst HasEffect (sym h.1) tt)))
+  ends_over i (Some k) view t =
+      to (λ y o p q. (y ≡ Step i) × ReturnsView (line_in s p.status) p.locals view × (link_in p.status ≡ Some k)) i t
+      (λ y o p q h. (
+        ap who h.0,
+        inr (h.0, λ was is. let e : ◌≡◌ {A = Option ℕ} None (Some k) = sym (ap link_in is) ∙ h.2 in cc),
+      ))
+
+  done_over : (i t : ℕ) → 0 < t → t ≤ length xs →
+      IsDone (run_of_items s shape xs) i t → IsDone (run_of_items s shape ys) i t
+  done_over i t =
+      to (λ y o p q. (who y ≡ i) × (o ≡ outcomes.Finished)) i t
+      (λ y o p q h. (h.0, inl (subst HasEffect (sym h.1) tt)))
+
+module _ (s : Source) (shape : Counts) (xs ys : List Item) (same : length xs ≡ length ys)
+    (to : Tells (run_of_items s shape xs) (run_of_items s shape ys))
+    (back : Tells (run_of_items s shape ys) (run_of_items s shape xs)) where
+  scan_over : (i : ℕ) (link : Option ℕ) (c e : ℕ) →
+      PendingScan (run_of_items s shape xs) i link c e → PendingScan (run_of_items s shape ys) i link c e
+  scan_over i link c e h = record {
+    process = h.process;
+    starts = starts_over s shape xs ys to i link c h.first (omega arith) h.starts;
+    first = h.first;
+    order = h.order;
+    last = omega arith;
+    goes_on = λ t view lt less ends.
+        h.goes_on t view lt less (ends_over s shape ys xs back i link view t (omega arith) (omega arith) ends);
+  }
+
+  finished_over : (i : ℕ) (link : Option ℕ) (c e : ℕ) (view : List ℕ) →
+      FinishedScan (run_of_items s shape xs) i link c e view → FinishedScan (run_of_items s shape ys) i link c e view
+  finished_over i link c e view h = record {
+    scan = scan_over i link c e h.scan;
+    order = h.order;
+    ends = ends_over s shape xs ys to i link view e (omega arith) h.scan.last h.ends;
+  }
+
+  updating_over : (i word value c e : ℕ) → PendingUpdate (run_of_items s shape xs) i word value c e →
+      PendingUpdate (run_of_items s shape ys) i word value c e
+  updating_over i word value c e h =
+      let called =
+      to (λ y o p q. (y ≡ Call i (Update word value)) × (o ≡ outcomes.Called)) i c
+      (λ y o p q is. (ap who is.0, inl (subst HasEffect (sym is.1) tt))) h.first (omega arith) (h.call, h.called) in
+      record {
+        process = h.process;
+        call = called.0;
+        called = called.1;
+        first = h.first;
+        order = h.order;
+        last = omega arith;
+        goes_on = λ t lt less done.
+            h.goes_on t lt less (done_over s shape ys xs back i t (omega arith) (omega arith) done);
+      }
 
 -- an item of a crashed process, where it is a step: it is skipped, and the process has crashed
 dead_step : (f : ℕ → Status) (i : ℕ) (x : Item) (out : Outcome) → steps i x ≡ true → IsDead x out (f (who x)) →
     (out ≡ outcomes.Skipped reason.Crashed) × ((was : Option Activity) × (f i ≡ Crashed was))
 dead_step f i (Step k) out h dead =
     (dead.0, subst (λ j. (was : Option Activity) × (f j ≡ Crashed was)) (same_from k i h) dead.1)
-dead_step f i (Call k op) out h dead = absurd (cc)
-dead_step f i (Crash k) out h dead = absurd (cc)
+dead_step f i _ out h dead = absurd (cc)
 
-dead_outcome : (x : Item) (out : Outcome) (st : Status) → IsDead x out st →
-    (out ≡ outcomes.Crashed) ⊎ ((why : Reason) × (out ≡ outcomes.Skipped why))
-dead_outcome (Step k) out st dead = inr (reason.Crashed, dead.0)
-dead_outcome (Call k op) out st dead = inr (reason.Crashed, dead)
-dead_outcome (Crash k) out st dead = dead
+-- nothing comes of a crash or of an item of a crashed process
+no_effect : (x : Item) (out : Outcome) (st : Status) → IsDead x out st → HasEffect out → ⊥
+no_effect (Step k) out st dead h = subst HasEffect dead.0 h
+no_effect (Call k op) out st dead h = subst HasEffect dead h
+no_effect (Crash k) out st (inl is) h = subst HasEffect is h
+no_effect (Crash k) out st (inr is) h = subst HasEffect is.1 h
 
 module _ (r : Run) where
   pub values_same : (t : ℕ) → values (state (calm r) t) ≡ values (state r t)
@@ -58,28 +146,14 @@ module _ (r : Run) where
     abbrev status : ℕ → ℕ → Status
     status t i = (process_at (state r t) i).status
 
-    -- how the process of a step stands before and after it
+    -- how the process of a step stands before it
     stands_before : (t i : ℕ) → Kept r t → who (item r (suc t)) ≡ i →
         process_at (state (calm r) t) i ≡ process_at (state r t) i
     stands_before t i k mine = subst (λ j. process_at (state (calm r) t) j ≡ process_at (state r t) j) mine k.before
 
-    stands_after : (t i : ℕ) → Kept r t → who (item r (suc t)) ≡ i →
-        process_at (state (calm r) (suc t)) i ≡ process_at (state r (suc t)) i
-    stands_after t i k mine =
-        subst (λ j. process_at (state (calm r) (suc t)) j ≡ process_at (state r (suc t)) j) mine k.later
-
     dead_at : (t i : ℕ) → Paused r t → steps i (item r (suc t)) ≡ true →
         (outcome r (suc t) ≡ outcomes.Skipped reason.Crashed) × ((was : Option Activity) × (status t i ≡ Crashed was))
     dead_at t i k h = dead_step (status t) i (item r (suc t)) (outcome r (suc t)) h k.dead
-
-    -- nothing comes of such an item
-    not_dead : (t : ℕ) (out : Outcome) → Paused r t → outcome r (suc t) ≡ out → (out ≡ outcomes.Crashed → ⊥) →
-        ((why : Reason) → out ≡ outcomes.Skipped why → ⊥) → ⊥
-    not_dead t out k is no_crash no_skip =
-        elim (dead_outcome (item r (suc t)) (outcome r (suc t)) (status t (who (item r (suc t)))) k.dead) [
-          | inl e ↦ no_crash (sym is ∙ e)
-          | inr e ↦ no_skip e.0 (sym is ∙ e.1)
-        ]
 
     pub who_same : (t : ℕ) → t < length r.items → who (item (calm r) (suc t)) ≡ who (item r (suc t))
     who_same t h =
@@ -88,56 +162,30 @@ module _ (r : Run) where
           | inr k ↦ ap who k.item_is
         ]
 
+    -- a test of the steps of a process, which fails where it has crashed
+    test_same : (test : Status → Outcome → Bool) →
+        ((was : Option Activity) → test (Crashed was) (outcomes.Skipped reason.Crashed) ≡ false) →
+        (i t : ℕ) → t < length r.items →
+        (steps i (item (calm r) (suc t)) && test (process_at (state (calm r) t) i).status (outcome (calm r) (suc t)))
+        ≡ (steps i (item r (suc t)) && test (status t i) (outcome r (suc t)))
+    test_same test none i t h =
+        let calm_one = test (process_at (state (calm r) t) i).status (outcome (calm r) (suc t)) in
+        let mine = steps i (item r (suc t)) in
+        elim (kept_or_paused r fits t h) [
+          | inl k ↦ ap (λ y. steps i y && calm_one) k.item_is
+              ∙ and_when mine calm_one (test (status t i) (outcome r (suc t)))
+              (λ his. ap (λ (p : Process). test p.status (outcome (calm r) (suc t)))
+              (stands_before t i k (ap who (step_of i (item r (suc t)) his))) ∙ ap (test (status t i)) k.outcome_is)
+          | inr k ↦ ap (λ y. steps i y && calm_one) k.item_is
+              ∙ sym (never mine (test (status t i) (outcome r (suc t)))
+              (λ his. let dead = dead_at t i k his in
+              ap (test (status t i)) dead.0 ∙ ap (λ st. test st (outcomes.Skipped reason.Crashed)) dead.1.1
+              ∙ none dead.1.0))
+        ]
+
     pub executes_same : (i line t : ℕ) → t < length r.items →
         executes (calm r) i line (suc t) ≡ executes r i line (suc t)
-    executes_same i line t h =
-        let there = (process_at (state (calm r) t) i).status in
-        elim (kept_or_paused r fits t h) [
-          | inl k ↦ ap (λ y. steps i y && (is_at line there && goes_on (outcome (calm r) (suc t)))) k.item_is
-              ∙ same_test (steps i (item r (suc t))) (is_at line there && goes_on (outcome (calm r) (suc t)))
-              (is_at line (status t i) && goes_on (outcome r (suc t)))
-              (λ his.
-              ap (λ (p : Process). is_at line p.status && goes_on (outcome (calm r) (suc t)))
-              (stands_before t i k (ap who (step_of i (item r (suc t)) his)))
-              ∙ ap (λ o. is_at line (status t i) && goes_on o) k.outcome_is)
-          | inr k ↦ ap (λ y. steps i y && (is_at line there && goes_on (outcome (calm r) (suc t)))) k.item_is
-              ∙ sym (never (steps i (item r (suc t))) (is_at line (status t i) && goes_on (outcome r (suc t)))
-              (λ his. ap (λ s. is_at line s && goes_on (outcome r (suc t))) (dead_at t i k his).1.1))
-        ]
-
-    collect_same : (i t : ℕ) → t < length r.items →
-        ends_double_collect (calm r) i (suc t) ≡ ends_double_collect r i (suc t)
-    collect_same i t h =
-        let there = (process_at (state (calm r) t) i).status in
-        elim (kept_or_paused r fits t h) [
-          | inl k ↦
-              ap (λ y. steps i y && (is_if_all (line_in r.source there) && is_stepped (outcome (calm r) (suc t))))
-              k.item_is
-              ∙ same_test (steps i (item r (suc t)))
-              (is_if_all (line_in r.source there) && is_stepped (outcome (calm r) (suc t)))
-              (is_if_all (line_in r.source (status t i)) && is_stepped (outcome r (suc t)))
-              (λ his.
-              ap (λ (p : Process). is_if_all (line_in r.source p.status) && is_stepped (outcome (calm r) (suc t)))
-              (stands_before t i k (ap who (step_of i (item r (suc t)) his)))
-              ∙ ap (λ o. is_if_all (line_in r.source (status t i)) && is_stepped o) k.outcome_is)
-          | inr k ↦
-              ap (λ y. steps i y && (is_if_all (line_in r.source there) && is_stepped (outcome (calm r) (suc t))))
-              k.item_is
-              ∙ sym (never (steps i (item r (suc t)))
-              (is_if_all (line_in r.source (status t i)) && is_stepped (outcome r (suc t)))
-              (λ his. ap (λ o. is_if_all (line_in r.source (status t i)) && is_stepped o) (dead_at t i k his).0
-              ∙ and_no (is_if_all (line_in r.source (status t i)))))
-        ]
-
-    step_same : (i t : ℕ) → t < length r.items → takes_step (calm r) i (suc t) ≡ takes_step r i (suc t)
-    step_same i t h =
-        elim (kept_or_paused r fits t h) [
-          | inl k ↦ ap (λ y. steps i y && is_not_skipped (outcome (calm r) (suc t))) k.item_is
-              ∙ ap (λ o. steps i (item r (suc t)) && is_not_skipped o) k.outcome_is
-          | inr k ↦ ap (λ y. steps i y && is_not_skipped (outcome (calm r) (suc t))) k.item_is
-              ∙ sym (never (steps i (item r (suc t))) (is_not_skipped (outcome r (suc t)))
-              (λ his. ap is_not_skipped (dead_at t i k his).0))
-        ]
+    executes_same i line = test_same (λ st o. is_at line st && goes_on o) (λ was. refl) i
 
     -- tests that agree at each item count the same
     same_count : (f g : ℕ → Bool) → ((t : ℕ) → t < length r.items → f (suc t) ≡ g (suc t)) → (c e : ℕ) →
@@ -155,233 +203,75 @@ module _ (r : Run) where
 
     pub same_collects : (i c e : ℕ) → e ≤ length r.items → double_collects (calm r) i c e ≡ double_collects r i c e
     same_collects i c e le =
-        same_count (ends_double_collect (calm r) i) (ends_double_collect r i) (collect_same i) c e le
+        same_count (ends_double_collect (calm r) i) (ends_double_collect r i)
+        (test_same (λ st o. is_if_all (line_in r.source st) && is_stepped o) (λ was. refl) i) c e le
 
     pub same_steps : (i c e : ℕ) → e ≤ length r.items → own_steps (calm r) i c e ≡ own_steps r i c e
-    same_steps i c e le = same_count (takes_step (calm r) i) (takes_step r i) (step_same i) c e le
-
-    -- a scan starts and ends at the same items without the crashes
-    starts_to : (i : ℕ) (link : Option ℕ) (t : ℕ) → t < length r.items → Starts r i (suc t) link →
-        Starts (calm r) i (suc t) link
-    starts_to i None t h s =
-        elim (kept_or_paused r fits t h) [
-          | inl k ↦ (k.item_is ∙ s.0, k.outcome_is ∙ s.1)
-          | inr k ↦ absurd (not_dead t outcomes.Called k s.1 (λ e. absurd (cc)) (λ why e. absurd (cc)))
-        ]
-    starts_to i (Some l) t h s =
-        elim (kept_or_paused r fits t h) [
-          | inl k ↦ (
-            k.item_is ∙ s.0,
-            subst (λ (p : Process). IsCallLine (line_in r.source p.status))
-                (sym (stands_before t i k (ap who s.0))) s.1,
-            k.outcome_is ∙ s.2,
-            ap (λ (p : Process). link_in p.status) (stands_after t i k (ap who s.0)) ∙ s.3,
-          )
-          | inr k ↦ absurd (not_dead t outcomes.Stepped k s.2 (λ e. absurd (cc)) (λ why e. absurd (cc)))
-        ]
-
-    starts_from : (i : ℕ) (link : Option ℕ) (t : ℕ) → t < length r.items →
-        Starts (calm r) i (suc t) link → Starts r i (suc t) link
-    starts_from i None t h s =
-        elim (kept_or_paused r fits t h) [
-          | inl k ↦ (sym k.item_is ∙ s.0, sym k.outcome_is ∙ s.1)
-          | inr k ↦ absurd (let e = sym k.outcome_is ∙ s.1 in cc)
-        ]
-    starts_from i (Some l) t h s =
-        elim (kept_or_paused r fits t h) [
-          | inl k ↦ (let mine : who (item r (suc t)) ≡ i = ap who (sym k.item_is ∙ s.0) in (
-            sym k.item_is ∙ s.0,
-            subst (λ (p : Process). IsCallLine (line_in r.source p.status)) (stands_before t i k mine) s.1,
-            sym k.outcome_is ∙ s.2,
-            ap (λ (p : Process). link_in p.status) (sym (stands_after t i k mine)) ∙ s.3,
-          ))
-          | inr k ↦ absurd (let e = sym k.outcome_is ∙ s.2 in cc)
-        ]
-
-    ends_to : (i : ℕ) (link : Option ℕ) (view : List ℕ) (t : ℕ) → t < length r.items → Ends r i (suc t) link view →
-        Ends (calm r) i (suc t) link view
-    ends_to i None view t h s =
-        elim (kept_or_paused r fits t h) [
-          | inl k ↦ (ap who k.item_is ∙ s.0, k.outcome_is ∙ s.1)
-          | inr k ↦ absurd (not_dead t (outcomes.Answered view) k s.1 (λ e. absurd (cc)) (λ why e. absurd (cc)))
-        ]
-    ends_to i (Some l) view t h s =
-        elim (kept_or_paused r fits t h) [
-          | inl k ↦ (let same = stands_before t i k (ap who s.0) in (
-            k.item_is ∙ s.0,
-            subst (λ (p : Process). ReturnsView (line_in r.source p.status) p.locals view) (sym same) s.1,
-            ap (λ (p : Process). link_in p.status) same ∙ s.2,
-          ))
-          | inr k ↦ absurd (let d = dead_at t i k (ap (steps i) s.0 ∙ same_number i) in
-              let e : ◌≡◌ {A = Option ℕ} None (Some l) = sym (ap link_in d.1.1) ∙ s.2 in cc)
-        ]
-
-    ends_from : (i : ℕ) (link : Option ℕ) (view : List ℕ) (t : ℕ) → t < length r.items →
-        Ends (calm r) i (suc t) link view → Ends r i (suc t) link view
-    ends_from i None view t h s =
-        elim (kept_or_paused r fits t h) [
-          | inl k ↦ (ap who (sym k.item_is) ∙ s.0, sym k.outcome_is ∙ s.1)
-          | inr k ↦ absurd (let e = sym k.outcome_is ∙ s.1 in cc)
-        ]
-    ends_from i (Some l) view t h s =
-        elim (kept_or_paused r fits t h) [
-          | inl k ↦ (let same = stands_before t i k (ap who (sym k.item_is ∙ s.0)) in (
-            sym k.item_is ∙ s.0,
-            subst (λ (p : Process). ReturnsView (line_in r.source p.status) p.locals view) same s.1,
-            ap (λ (p : Process). link_in p.status) (sym same) ∙ s.2,
-          ))
-          | inr k ↦ absurd (let e = sym k.item_is ∙ s.0 in cc)
-        ]
-
-    -- from item 1 on
-    at_starts_to : (i : ℕ) (link : Option ℕ) (t : ℕ) → 0 < t → t ≤ length r.items →
-        Starts r i t link → Starts (calm r) i t link
-    at_starts_to i link zero pos h s = absurd (omega arith)
-    at_starts_to i link (suc t) pos h s = starts_to i link t (omega arith) s
-
-    at_starts_from : (i : ℕ) (link : Option ℕ) (t : ℕ) → 0 < t → t ≤ length r.items →
-        Starts (calm r) i t link → Starts r i t link
-    at_starts_from i link zero pos h s = absurd (omega arith)
-    at_starts_from i link (suc t) pos h s = starts_from i link t (omega arith) s
-
-    at_ends_to : (i : ℕ) (link : Option ℕ) (view : List ℕ) (t : ℕ) → 0 < t → t ≤ length r.items →
-        Ends r i t link view → Ends (calm r) i t link view
-    at_ends_to i link view zero pos h s = absurd (omega arith)
-    at_ends_to i link view (suc t) pos h s = ends_to i link view t (omega arith) s
-
-    at_ends_from : (i : ℕ) (link : Option ℕ) (view : List ℕ) (t : ℕ) → 0 < t → t ≤ length r.items →
-        Ends (calm r) i t link view → Ends r i t link view
-    at_ends_from i link view zero pos h s = absurd (omega arith)
-    at_ends_from i link view (suc t) pos h s = ends_from i link view t (omega arith) s
+    same_steps i c e le =
+        same_count (takes_step (calm r) i) (takes_step r i)
+        (test_same (λ st o. is_not_skipped o) (λ was. refl) i) c e le
 
     pub at_executes : (i line t : ℕ) → 0 < t → t ≤ length r.items → executes (calm r) i line t ≡ executes r i line t
     at_executes i line zero pos h = absurd (omega arith)
     at_executes i line (suc t) pos h = executes_same i line t (omega arith)
 
-    -- scans
-    pub scan_to : (i : ℕ) (link : Option ℕ) (c e : ℕ) → PendingScan r i link c e → PendingScan (calm r) i link c e
-    scan_to i link c e s =
-        let order : c ≤ e = s.order in
-        let last : e ≤ length r.items = s.last in
-        let first : 0 < c = s.first in
-        record {
-          process = s.process;
-          starts = at_starts_to i link c first (omega arith) s.starts;
-          first = first;
-          order = order;
-          last = subst (λ k. e ≤ k) (sym (same_length r)) last;
-          goes_on =
-              λ t view lt less ends.
-              s.goes_on t view lt less (at_ends_from i link view t (omega arith) (omega arith) ends);
-        }
+    -- what is told of an item that is the same without the crashes
+    told_alike : (Holds : Telling) (i t : ℕ) → Kept r t → who (item r (suc t)) ≡ i →
+        Told Holds (calm r) i (suc t) ≡ Told Holds r i (suc t)
+    told_alike Holds i t k mine =
+        let later = subst (λ j. process_at (state (calm r) (suc t)) j ≡ process_at (state r (suc t)) j) mine k.later in
+        λ j. Holds (k.item_is j) (k.outcome_is j) (stands_before t i k mine j) (later j)
 
-    pub scan_from : (i : ℕ) (link : Option ℕ) (c e : ℕ) → PendingScan (calm r) i link c e → PendingScan r i link c e
-    scan_from i link c e s =
-        let order : c ≤ e = s.order in
-        let last : e ≤ length r.items = subst (λ k. e ≤ k) (same_length r) s.last in
-        let first : 0 < c = s.first in
-        record {
-          process = s.process;
-          starts = at_starts_from i link c first (omega arith) s.starts;
-          first = first;
-          order = order;
-          last = last;
-          goes_on =
-              λ t view lt less ends.
-              s.goes_on t view lt less (at_ends_to i link view t (omega arith) (omega arith) ends);
-        }
+    told_to : Tells r (calm r)
+    told_to Holds i zero of pos le h = absurd (omega arith)
+    told_to Holds i (suc t) of pos le h =
+        let its = of (item r (suc t)) (outcome r (suc t)) (process_at (state r t) i) _ h in
+        elim (kept_or_paused r fits t (omega arith)) [
+          | inl k ↦ subst (λ (A : Type 0). A) (sym (told_alike Holds i t k its.0)) h
+          | inr k ↦ absurd (elim its.1 [
+            | inl effect ↦ no_effect (item r (suc t)) (outcome r (suc t)) (status t (who (item r (suc t)))) k.dead
+                effect
+            | inr step ↦
+                (let dead = dead_at t i k (ap (steps i) step.0 ∙ same_number i) in step.1 dead.1.0 dead.1.1)
+          ])
+        ]
+
+    told_back : Tells (calm r) r
+    told_back Holds i zero of pos le h = absurd (omega arith)
+    told_back Holds i (suc t) of pos le h =
+        let its = of (item (calm r) (suc t)) (outcome (calm r) (suc t)) (process_at (state (calm r) t) i) _ h in
+        elim (kept_or_paused r fits t (omega (arith, same_length r))) [
+          | inl k ↦
+              subst (λ (A : Type 0). A) (told_alike Holds i t k (ap who (sym k.item_is) ∙ its.0)) h
+          | inr k ↦ absurd (elim its.1 [
+            | inl effect ↦ subst HasEffect k.outcome_is effect
+            | inr step ↦ (let e = sym k.item_is ∙ step.0 in cc)
+          ])
+        ]
+
+    -- scans and updates start and end at the same items without the crashes
+    pub scan_to : (i : ℕ) (link : Option ℕ) (c e : ℕ) → PendingScan r i link c e → PendingScan (calm r) i link c e
+    scan_to = scan_over r.source r.shape r.items (calm_list r) (sym (same_length r)) told_to told_back
 
     pub finished_to : (i : ℕ) (link : Option ℕ) (c e : ℕ) (view : List ℕ) → FinishedScan r i link c e view →
         FinishedScan (calm r) i link c e view
-    finished_to i link c e view f =
-        let order : c < e = f.order in
-        let last : e ≤ length r.items = f.scan.last in
-        record {
-          scan = scan_to i link c e f.scan;
-          order = order;
-          ends = at_ends_to i link view e (omega arith) last f.ends;
-        }
+    finished_to = finished_over r.source r.shape r.items (calm_list r) (sym (same_length r)) told_to told_back
 
     pub finished_from : (i : ℕ) (link : Option ℕ) (c e : ℕ) (view : List ℕ) → FinishedScan (calm r) i link c e view →
         FinishedScan r i link c e view
-    finished_from i link c e view f =
-        let s = scan_from i link c e f.scan in
-        let order : c < e = f.order in
-        let last : e ≤ length r.items = s.last in
-        record { scan = s; order = order; ends = at_ends_from i link view e (omega arith) last f.ends }
-
-    -- updates
-    done_at_to : (i t : ℕ) → t < length r.items → IsDone r i (suc t) → IsDone (calm r) i (suc t)
-    done_at_to i t h s =
-        elim (kept_or_paused r fits t h) [
-          | inl k ↦ (ap who k.item_is ∙ s.0, k.outcome_is ∙ s.1)
-          | inr k ↦ absurd (not_dead t outcomes.Finished k s.1 (λ e. absurd (cc)) (λ why e. absurd (cc)))
-        ]
-
-    done_at_from : (i t : ℕ) → t < length r.items → IsDone (calm r) i (suc t) → IsDone r i (suc t)
-    done_at_from i t h s =
-        elim (kept_or_paused r fits t h) [
-          | inl k ↦ (ap who (sym k.item_is) ∙ s.0, sym k.outcome_is ∙ s.1)
-          | inr k ↦ absurd (let e = sym k.outcome_is ∙ s.1 in cc)
-        ]
+    finished_from = finished_over r.source r.shape (calm_list r) r.items (same_length r) told_back told_to
 
     pub done_to : (i t : ℕ) → 0 < t → t ≤ length r.items → IsDone r i t → IsDone (calm r) i t
-    done_to i zero pos h s = absurd (omega arith)
-    done_to i (suc t) pos h s = done_at_to i t (omega arith) s
+    done_to = done_over r.source r.shape r.items (calm_list r) told_to
 
     pub done_from : (i t : ℕ) → 0 < t → t ≤ length r.items → IsDone (calm r) i t → IsDone r i t
-    done_from i zero pos h s = absurd (omega arith)
-    done_from i (suc t) pos h s = done_at_from i t (omega arith) s
-
-    abbrev Calls : Run → ℕ → Op → ℕ → Type 0
-    Calls x i op t = (item x t ≡ Call i op) × (outcome x t ≡ outcomes.Called)
-
-    calls_to : (i : ℕ) (op : Op) (t : ℕ) → 0 < t → t ≤ length r.items → Calls r i op t → Calls (calm r) i op t
-    calls_to i op zero pos h s = absurd (omega arith)
-    calls_to i op (suc t) pos h s =
-        elim (kept_or_paused r fits t (omega arith)) [
-          | inl k ↦ (k.item_is ∙ s.0, k.outcome_is ∙ s.1)
-          | inr k ↦ absurd (not_dead t outcomes.Called k s.1 (λ e. absurd (cc)) (λ why e. absurd (cc)))
-        ]
-
-    calls_from : (i : ℕ) (op : Op) (t : ℕ) → 0 < t → t ≤ length r.items → Calls (calm r) i op t → Calls r i op t
-    calls_from i op zero pos h s = absurd (omega arith)
-    calls_from i op (suc t) pos h s =
-        elim (kept_or_paused r fits t (omega arith)) [
-          | inl k ↦ (sym k.item_is ∙ s.0, sym k.outcome_is ∙ s.1)
-          | inr k ↦ absurd (let e = sym k.outcome_is ∙ s.1 in cc)
-        ]
+    done_from i t pos h =
+        done_over r.source r.shape (calm_list r) r.items told_back i t pos (omega (arith, same_length r))
 
     pub updating_to : (i word value c e : ℕ) → PendingUpdate r i word value c e →
         PendingUpdate (calm r) i word value c e
-    updating_to i word value c e up =
-        let order : c ≤ e = up.order in
-        let last : e ≤ length r.items = up.last in
-        let first : 0 < c = up.first in
-        let call = calls_to i _ c first (omega arith) (up.call, up.called) in
-        record {
-          process = up.process;
-          call = call.0;
-          called = call.1;
-          first = first;
-          order = order;
-          last = subst (λ k. e ≤ k) (sym (same_length r)) last;
-          goes_on = λ t lt less done. up.goes_on t lt less (done_from i t (omega arith) (omega arith) done);
-        }
+    updating_to = updating_over r.source r.shape r.items (calm_list r) (sym (same_length r)) told_to told_back
 
     pub updating_from : (i word value c e : ℕ) → PendingUpdate (calm r) i word value c e →
         PendingUpdate r i word value c e
-    updating_from i word value c e up =
-        let order : c ≤ e = up.order in
-        let last : e ≤ length r.items = subst (λ k. e ≤ k) (same_length r) up.last in
-        let first : 0 < c = up.first in
-        let call = calls_from i _ c first (omega arith) (up.call, up.called) in
-        record {
-          process = up.process;
-          call = call.0;
-          called = call.1;
-          first = first;
-          order = order;
-          last = last;
-          goes_on = λ t lt less done. up.goes_on t lt less (done_to i t (omega arith) (omega arith) done);
-        }
+    updating_from = updating_over r.source r.shape (calm_list r) r.items (same_length r) told_back told_to

@@ -72,10 +72,9 @@ module _ (r : Run) where
   pub writes_once : (line : ℕ) → OfCalm (WritesOnce line) → WritesOnce line r
   writes_once line p fits i word value c e up =
       let x = p (steady_of r fits) (fits_calm fits) i word value c e (updating_to r fits i word value c e up) in
-      let same = same_executions r fits i line c e up.last in
-      let last : e ≤ length r.items = up.last in (
+      let same = same_executions r fits i line c e up.last in (
         subst (λ y. y ≤ 1) same x.0,
-        λ lt done. sym same ∙ x.1 lt (done_to r fits i e (omega arith) last done),
+        λ lt done. sym same ∙ x.1 lt (done_to r fits i e (omega arith) up.last done),
       )
 
   pub have_points : OfCalm HavePoints → HavePoints r
@@ -118,18 +117,15 @@ module _ (r : Run) where
   pub moves_are_writes : (raises : ℕ) (row : Name) (writes : ℕ) → OfCalm (MovesAreWrites raises row writes) →
       MovesAreWrites raises row writes r
   moves_are_writes raises row writes p fits i j link c t scan lt move =
-      let last : t ≤ length r.items = scan.last in
       let w =
       p (steady_of r fits) (fits_calm fits) i j link c t (scan_to r fits i link c t scan) lt
-      (observed_to fits raises row i j t (omega arith) last move) in
-      let after_start : c < w.item = w.after_start in
-      let before_move : w.item < t = w.before_move in
+      (observed_to fits raises row i j t (omega arith) scan.last move) in
       record {
         item = w.item;
-        after_start = after_start;
-        before_move = before_move;
+        after_start = w.after_start;
+        before_move = w.before_move;
         executed = sym (at_executes r fits j writes w.item (omega arith) (omega arith)) ∙ w.executed;
-        recent = subst (λ y. y ≤ 1) (same_collects r fits i w.item t last) w.recent;
+        recent = subst (λ y. y ≤ 1) (same_collects r fits i w.item t scan.last) w.recent;
       }
 
   -- a passed test
@@ -154,42 +150,35 @@ module _ (r : Run) where
   clean_reads : IsValidRun r → (lines : CollectLines) (writes i c t middle k : ℕ) → t ≤ length r.items →
       CleanReads (calm r) lines writes i c t middle k → CleanReads r lines writes i c t middle k
   clean_reads fits lines writes i c t middle k last x =
-      let after_start : c < x.first = x.after_start in
-      let before_middle : x.first ≤ middle = x.before_middle in
-      let after_middle : middle < x.second = x.after_middle in
-      let before_test : x.second < t = x.before_test in
       record {
         first = x.first;
         second = x.second;
         reads_first = executes_for fits i lines.first lines.scalar k x.first (omega arith) (omega arith) x.reads_first;
         reads_second =
             executes_for fits i lines.second lines.scalar k x.second (omega arith) (omega arith) x.reads_second;
-        after_start = after_start;
+        after_start = x.after_start;
         recent = subst (λ y. y ≤ 1) (same_collects r fits i x.first t last) x.recent;
-        before_middle = before_middle;
-        after_middle = after_middle;
-        before_test = before_test;
+        before_middle = x.before_middle;
+        after_middle = x.after_middle;
+        before_test = x.before_test;
         unwritten = λ u lt less w. x.unwritten u lt less (writes_word fits writes k u (omega arith) (omega arith) w);
       }
 
   pub passed_tests_are_clean : (lines : CollectLines) (writes : ℕ) → OfCalm (PassedTestsAreClean lines writes) →
       PassedTestsAreClean lines writes r
   passed_tests_are_clean lines writes p fits i link c t scan lt ex to =
-      let last : t ≤ length r.items = scan.last in
       let x =
       p (steady_of r fits) (fits_calm fits) i link c t (scan_to r fits i link c t scan) lt
-      (at_executes r fits i lines.test t (omega arith) last ∙ ex)
+      (at_executes r fits i lines.test t (omega arith) scan.last ∙ ex)
       (ap (λ (q : Process). is_at lines.passed q.status) (process_is r t i)
       ∙ at_too lines.passed (process_at (state r t) i).status to) in
-      (x.0, λ k one. clean_reads fits lines writes i c t x.0 k last (x.1 k one))
+      (x.0, λ k one. clean_reads fits lines writes i c t x.0 k scan.last (x.1 k one))
 
   pub borrowed_views_are_lent : (line : ℕ) → OfCalm (BorrowedViewsAreLent line) → BorrowedViewsAreLent line r
   borrowed_views_are_lent line p fits i link c e view f ex =
-      let order : c < e = f.order in
-      let last : e ≤ length r.items = f.scan.last in
       let x =
       p (steady_of r fits) (fits_calm fits) i link c e view (finished_to r fits i link c e view f)
-      (at_executes r fits i line e (omega arith) last ∙ ex) in
+      (at_executes r fits i line e (omega arith) f.scan.last ∙ ex) in
       record {
         lender = x.lender;
         other = x.other;
@@ -203,11 +192,8 @@ module _ (r : Run) where
 
   pub own_updates_are_seen : OfCalm OwnUpdatesAreSeen → OwnUpdatesAreSeen r
   own_updates_are_seen p fits i word value called ended c e view up lt is_done after none f =
-      let order : c < e = f.order in
-      let last : e ≤ length r.items = f.scan.last in
-      let shorter : ended ≤ length r.items = up.last in
       p (steady_of r fits) (fits_calm fits) i word value called ended c e view
       (updating_to r fits i word value called ended up) lt
-      (done_to r fits i ended (omega arith) shorter is_done) after
+      (done_to r fits i ended (omega arith) up.last is_done) after
       (λ t more less d. none t more less (done_from r fits i t (omega arith) (omega arith) d))
       (finished_to r fits i None c e view f)

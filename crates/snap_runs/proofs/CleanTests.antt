@@ -5,16 +5,16 @@ use Rattle.std.proofs.Common.{nat_eq, sym, ◌∙◌, ap, subst, arith, inl, inr
 use Rattle.std.proofs.lemmas.Bool.{cases_eq}
 use Rattle.std.proofs.lemmas.Grind.{get_or-set_at}
 use Rattle.std.proofs.lemmas.List.{get_or-set_other}
-use Rattle.std.proofs.Math.Nat.{eq-or-lt_of_le}
-use Rattle.snap_runs.proofs.Common.{IsOneOf, Word, no_word, Process, process_at, Item, Op, Update, Run, state}
+use Rattle.snap_runs.proofs.Common.{IsOneOf, Word, no_word, Process, process_at, Item, Op, Run, state}
 use Rattle.snap_semantics.specs.State.{value_at}
 use Rattle.snap_runs.specs.Scan.{PendingScan, ends_double_collect, double_collects}
 use Rattle.snap_runs.specs.Update.{is_at, executes}
 use Rattle.snap_runs.specs.Promises.{CollectLines, ExecutesFor, IsUpdating, WritesWord, CleanReads}
-use Rattle.snap_runs.proofs.Algorithm.{Mode, Updating, Control, At, WhenBusy, TypedProcess, Algorithm, typed_at}
-use Rattle.snap_runs.proofs.Algorithm.{typed_state, status_of, process_of}
+use Rattle.snap_runs.proofs.Algorithm.{Mode, Updating, At, WhenBusy, TypedProcess, Algorithm, typed_at}
+use Rattle.snap_runs.proofs.Algorithm.{typed_state, status_of}
 use Rattle.snap_runs.proofs.Collecting as collecting
 use Rattle.snap_runs.proofs.Collecting.{Copies, Phase, Away, ReadsFirst, ReadsSecond, Collected}
+use Rattle.snap_runs.proofs.Computing.{from_there}
 use Rattle.snap_runs.proofs.Counting.{count_later}
 use Rattle.snap_runs.proofs.Embedding as embed
 use Rattle.snap_runs.proofs.Executing as executing
@@ -89,28 +89,9 @@ module _ {V P M : Type 0} (a : Algorithm V P M) (lines : Lines V P M) (line : �
 
     pub count_grows : (k u t : ℕ) → IsOneOf a.shape.w k → u ≤ t → t ≤ length items →
         seq_at (words u) k ≤ seq_at (words t) k
-    count_grows k u zero one le short =
-        let e : seq_at (words u) k ≡ seq_at (words 0) k =
-        ap (λ y. seq_at (words y) k) (let z : u ≡ 0 = omega arith in z) in
-        omega arith
-    count_grows k u (suc t) one le short =
-        elim (eq-or-lt_of_le le) [
-          | inl same ↦
-              (let e : seq_at (words u) k ≡ seq_at (words (suc t)) k = ap (λ y. seq_at (words y) k) same in omega arith)
-          | inr less ↦ (
-              let rest : seq_at (words u) k ≤ seq_at (words t) k = count_grows k u t one (omega arith) (omega arith) in
-              let last : seq_at (words t) k ≤ seq_at (words (suc t)) k = next_count t k (omega arith) one in
-              omega arith)
-        ]
-
-    -- the process at its line, in the words of the machine
-    busy : (t i : ℕ) (d : Mode) (k : P) → t ≤ length items → IsOneOf a.shape.n i → (at t i).control ≡ At d k →
-        process_at (state r t) i
-        ≡ process_of a (record { control = At d k; variables = (at t i).variables; auxiliary = (at t i).auxiliary })
-    busy t i d k short one there =
-        embed.process_at_is a items run.fits run.does t i short one
-        ∙ ap (λ (p : Control P).
-        process_of a (record { control = p; variables = (at t i).variables; auxiliary = (at t i).auxiliary })) there
+    count_grows k u t one le short =
+        from_there (λ v. seq_at (words u) k ≤ seq_at (words v) k) u t le (omega arith)
+        (λ v low high past. let next = next_count v k (omega arith) one in omega arith)
 
     -- where some process writes word k, its count is one more
     written_more : (t k : ℕ) → t < length items → IsOneOf a.shape.w k → WritesWord r line k (suc t) →
@@ -120,8 +101,9 @@ module _ {V P M : Type 0} (a : Algorithm V P M) (lines : Lines V P M) (line : �
         let there = executing.stands_at a items run.fits run.does numbered t j line writer.counter short w.1 its w.2 in
         let x = writes.written a lines line writer run updates t j there.1.0 short there.0 there.1.1 in
         let op = subst (λ (p : Process). IsUpdating k p.status)
-        (busy t j (Updating x.word x.value) writer.counter (omega arith) w.1 x.control) w.3 in
-        let same : x.word ≡ k = (let e : Update x.word x.value ≡ Update k op.0 = op.1 in cc) in
+        (embed.busy_at a items run.fits run.does t j (Updating x.word x.value) writer.counter (omega arith) w.1
+        x.control) w.3 in
+        let same : x.word ≡ k = cc in
         let e2 : seq_at (words (suc t)) k ≡ seq_at (words t) k + 1 = counted t j k short one x w.1 same in omega arith
 
     module _ (c : Copies V P M) (names : CollectLines) (test : P) where
@@ -161,7 +143,7 @@ module _ {V P M : Type 0} (a : Algorithm V P M) (lines : Lines V P M) (line : �
           executing.line_executes a items run.fits run.does t i number x.mode x.line short x.item x.control
               (lines_are x.line x.is),
           ap (λ (p : Process). value_at names.scalar p.locals.scalars 0)
-              (busy t i x.mode x.line (omega arith) one x.control)
+              (embed.busy_at a items run.fits run.does t i x.mode x.line (omega arith) one x.control)
               ∙ h.scalar (at t i).variables ∙ x.place,
         )
 
@@ -175,23 +157,15 @@ module _ {V P M : Type 0} (a : Algorithm V P M) (lines : Lines V P M) (line : �
             (b : Both (at t i).auxiliary.round t (at t i).variables (c.places + 1)) →
             CleanReads r names line i c0 (suc t) b.middle k
         reads link c0 t k d scan le there one_k equal b =
-            let last : suc t ≤ length items = scan.last in
             let g = scans.goes a lines listed run i one link c0 (suc t) t scan le (omega arith) in
             let round = (at t i).auxiliary.round in
-            let after : c0 ≤ round = g.round_after in
             let place : IsOneOf c.places k = subst (λ y. IsOneOf y k) (sym h.places) one_k in
             let x = b.first k place in
             let y = b.second k place (omega arith) in
-            let x1 : round ≤ x.time = x.after in
-            let x2 : x.time < b.middle = x.before in
-            let y1 : b.middle ≤ y.time = y.after in
-            let y2 : y.time < t = y.before in
-            let tested : (at t i).auxiliary.tested ≡ double_collects r i round t = g.tested in
             let none : (at t i).auxiliary.tested ≡ 0 = h.fresh t i d (omega arith) one there in
             let more : double_collects r i round (suc t) ≤ double_collects r i round t + a.tests test =
             span.last_collects a listed.tested items run.fits run.does
             (scans.lawful a lines listed run) i one round t d test g.round_before (omega arith) there in
-            let ends : a.tests test ≡ 1 = h.ends in
             let fewer : double_collects r i (suc x.time) (suc t) ≤ double_collects r i round (suc t) =
             count_later (ends_double_collect r i) round (suc x.time) (suc t) (omega arith) in
             let first_count : seq_at (c.first (at t i).variables) k ≡ seq_at (words x.time) k =
@@ -227,7 +201,6 @@ module _ {V P M : Type 0} (a : Algorithm V P M) (lines : Lines V P M) (line : �
             is_at names.passed (process_at (state r (suc t)) i).status ≡ true →
             (middle : ℕ) × ((k : ℕ) → IsOneOf a.shape.w k → CleanReads r names line i c0 (suc t) middle k)
         passed_test link c0 t scan le ex passes =
-            let last : suc t ≤ length items = scan.last in
             let there =
             executing.stands_at a items run.fits run.does numbered t i names.test test (omega arith) one h.tests ex in
             let d = there.1.0 in

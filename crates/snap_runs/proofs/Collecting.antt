@@ -6,8 +6,7 @@ use Rattle.std.proofs.lemmas.Bool.{cases_eq}
 use Rattle.std.proofs.lemmas.Grind.{get_or-set_at}
 use Rattle.std.proofs.lemmas.List.{get_or-set_other}
 use Rattle.snap_runs.proofs.Common.{IsOneOf, Word, no_word, Item, Step, Op, Scan, Update}
-use Rattle.snap_runs.specs.Run.{}
-use Rattle.snap_runs.proofs.Algorithm.{Mode, Control, Idle, At, WhenBusy, Move, To, Begin, Answer, Finish}
+use Rattle.snap_runs.proofs.Algorithm.{Mode, Control, Idle, At, WhenBusy, Move, To, Begin}
 use Rattle.snap_runs.proofs.Algorithm.{TypedProcess, Algorithm, typed_at, item_at, typed_state, called_auxiliary}
 use Rattle.snap_runs.proofs.Computing.{either}
 use Rattle.snap_runs.proofs.Embedding as embed
@@ -58,8 +57,7 @@ module _ {V P M : Type 0} (a : Algorithm V P M) (c : Copies V P M) where
   abbrev pub Reaches : M → V → P → Move V P M → Type 0
   Reaches m p k (To d' m' p' k') = Reached (c.phase k') m p (c.phase k) p'
   Reaches m p k (Begin d' p' k') = c.phase k' ≡ Away
-  Reaches m p k (Answer v) = Unit {0}
-  Reaches m p k Finish = Unit {0}
+  Reaches m p k _ = Unit {0}
 
   module _ (items : List Item) (fits : Steady (embed.run_of a items)) (does : embed.AllDo a items)
       (reaches : (t i : ℕ) → t < length items → IsOneOf a.shape.n i →
@@ -94,7 +92,6 @@ module _ {V P M : Type 0} (a : Algorithm V P M) (c : Copies V P M) where
     read_on : (phase : Phase) (s t t' : ℕ) (x y : List Word) (k : ℕ) → t ≤ t' → word_at y k ≡ word_at x k →
         Read phase s t x k → Read phase s t' y k
     read_on phase s t t' x y k le same h =
-        let before : h.time < t = h.before in
         record { time = h.time; after = h.after; before = omega arith; reading = h.reading; copy = same ∙ h.copy }
 
     abbrev pub FirstTo : ℕ → ℕ → V → ℕ → Type 0
@@ -126,7 +123,6 @@ module _ {V P M : Type 0} (a : Algorithm V P M) (c : Copies V P M) where
     both_on : (s t : ℕ) (p p' : V) (j j' : ℕ) → c.first p' ≡ c.first p → c.second p' ≡ c.second p →
         ((k : ℕ) → IsOneOf c.places k → k < j' → k < j) → Both s t p j → Both s (suc t) p' j'
     both_on s t p p' j j' same same2 less h =
-        let to : h.middle ≤ t = h.to in
         record {
           middle = h.middle;
           from = h.from;
@@ -180,12 +176,11 @@ module _ {V P M : Type 0} (a : Algorithm V P M) (c : Copies V P M) where
     advance s t d l p' ReadsFirst le is at r h =
         elim r [
           | inl first ↦ (λ k one_k lt. absurd (let e : c.index p' ≡ 1 = first in omega arith))
-          | inr next ↦ (let e : c.index p' ≡ c.index (his t).variables + 1 = next.1 in
-              first_on s t (his t).variables p' (c.index (his t).variables + 1) (c.index p') next.2 (omega arith)
+          | inr next ↦ (first_on s t (his t).variables p' (c.index (his t).variables + 1) (c.index p') next.2
+              (omega arith)
               (subst (Progress s t (his t).variables) next.0 h))
         ]
     advance s t d l p' HasFirst le is at r h =
-        let e : c.index p' ≡ c.index (his t).variables = r.1 in
         let g : FirstTo s t (his t).variables (c.index (his t).variables) =
         subst (Progress s t (his t).variables) r.0 h in
         λ k one_k lt.
@@ -195,8 +190,6 @@ module _ {V P M : Type 0} (a : Algorithm V P M) (c : Copies V P M) where
         let p = (his t).variables in
         elim r.1 [
           | inl start ↦ (let g : FirstTo s t p (c.index p + 1) = subst (Progress s t p) start.0 h in
-              let all : c.places ≤ c.index p = start.1 in
-              let e : c.index p' ≡ 1 = start.2 in
               record {
                 middle = t;
                 from = le;
@@ -206,15 +199,12 @@ module _ {V P M : Type 0} (a : Algorithm V P M) (c : Copies V P M) where
                     (ap (λ x. word_at x k) r.0) (g k one_k (omega arith));
                 second = λ k one_k lt. absurd (omega arith);
               })
-          | inr next ↦ (let e : c.index p' ≡ c.index p + 1 = next.1 in
-              both_on s t p p' (c.index p + 1) (c.index p') r.0 next.2 (λ k o lt. omega arith)
+          | inr next ↦ (both_on s t p p' (c.index p + 1) (c.index p') r.0 next.2 (λ k o lt. omega arith)
               (subst (Progress s t p) next.0 h))
         ]
     advance s t d l p' HasSecond le is at r h =
         let p = (his t).variables in
-        let e : c.index p' ≡ c.index p = r.2 in
         let g : Both s t p (c.index p) = subst (Progress s t p) r.1 h in
-        let to : g.middle ≤ t = g.to in
         record {
           middle = g.middle;
           from = g.from;
@@ -223,14 +213,13 @@ module _ {V P M : Type 0} (a : Algorithm V P M) (c : Copies V P M) where
               λ k one_k. read_on ReadsFirst s g.middle g.middle (c.first p) (c.first p') k (omega arith)
               (ap (λ x. word_at x k) r.0) (g.first k one_k);
           second = λ k one_k lt.
-              read_now ReadsSecond g.middle t d l (c.second p) (c.second p') k to is at r.1 r.3 r.4 r.5
+              read_now ReadsSecond g.middle t d l (c.second p) (c.second p') k g.to is at r.1 r.3 r.4 r.5
               (g.second k) one_k (omega arith);
         }
     advance s t d l p' Collected le is at r h =
         let p = (his t).variables in
         elim r.2 [
-          | inl done ↦ (let all : c.places ≤ c.index p = done.1 in
-              both_on s t p p' (c.index p + 1) (c.places + 1) r.0 r.1 (λ k o lt. omega arith)
+          | inl done ↦ (both_on s t p p' (c.index p + 1) (c.places + 1) r.0 r.1 (λ k o lt. omega arith)
               (subst (Progress s t p) done.0 h))
           | inr on ↦ both_on s t p p' (c.places + 1) (c.places + 1) r.0 r.1 (λ k o lt. lt) (subst (Progress s t p) on h)
         ]
@@ -286,8 +275,7 @@ module _ {V P M : Type 0} (a : Algorithm V P M) (c : Copies V P M) where
           ],
         )
     stepped t d k (Begin d' p' k') is at r le h = (omega arith, subst (Progress (suc t) (suc t) p') (sym r) tt)
-    stepped t d k (Answer v) is at r le h = (round_le t (his t).auxiliary.round (a.restarts k) le, tt)
-    stepped t d k Finish is at r le h = (round_le t (his t).auxiliary.round (a.restarts k) le, tt)
+    stepped t d k _ is at r le h = (round_le t (his t).auxiliary.round (a.restarts k) le, tt)
 
     called_round : (t : ℕ) (op : Op) (q : TypedProcess V P M) → q.auxiliary.round ≤ t →
         (called_auxiliary (suc t) op q.auxiliary).round ≤ suc t
@@ -298,7 +286,6 @@ module _ {V P M : Type 0} (a : Algorithm V P M) (c : Copies V P M) where
     tracked zero short = subst (Tracked 0) (sym (embed.first_process_is a i one)) (omega arith, tt)
     tracked (suc t) short =
         let h = tracked t (omega arith) in
-        let le : (his t).auxiliary.round ≤ t = h.0 in
         elim (cases.item_case a items fits does i one t (omega arith)) [
           | inl stays ↦ subst (Tracked (suc t)) (sym stays.same) (
             omega arith,
@@ -311,11 +298,11 @@ module _ {V P M : Type 0} (a : Algorithm V P M) (c : Copies V P M) where
                 (subst (WhenBusy (λ d k. Reaches (typed_state a items t).memory (his t).variables k
                 (a.move i d (typed_state a items t).memory (his t).variables k)))
                 s.control (reaches t i (omega arith) one))
-                le
+                h.0
                 (subst (WhenBusy (λ d k. Progress (his t).auxiliary.round t (his t).variables (c.phase k)))
                 s.control h.1))
             | inr k ↦ subst (Tracked (suc t)) (sym k.after) (
-              called_round t k.op (his t) le,
+              called_round t k.op (his t) h.0,
               subst (Progress (called_auxiliary (suc t) k.op (his t).auxiliary).round (suc t) (his t).variables)
                   (sym (away k.op)) tt,
             )

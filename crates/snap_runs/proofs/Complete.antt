@@ -1,7 +1,6 @@
 -- An audit has the verdict of each finished scan, and the verdicts' answers rise.
 use Rattle.std.proofs.Common.{◌≡◌, ℕ, zero, suc, ◌<◌, ◌≤◌, List, [], ◌∷◌, ◌++◌, length, None, refl, sym, ap}
-use Rattle.std.proofs.Common.{subst, ◌∙◌, inl, inr, arith}
-use Rattle.std.proofs.Math.Nat.{eq-or-lt_of_le}
+use Rattle.std.proofs.Common.{subst, ◌∙◌, arith}
 use Rattle.std.proofs.lemmas.List.{append-nil}
 use Rattle.std.proofs.lemmas.List.Elements.{All-from_recursion, All-nil, All-push}
 use Rattle.std.proofs.lemmas.List.Elements.{Contains-append_left, Contains-append_right}
@@ -14,18 +13,15 @@ use Rattle.snap_runs.specs.Run.{outcome as outcome_at}
 use Rattle.snap_runs.specs.Scan.{FinishedScan}
 use Rattle.snap_runs.specs.declared.verdict.Verdict.{Verdict}
 use Rattle.snap_runs.proofs.Audits.{of_scans}
+use Rattle.snap_runs.proofs.Computing.{from_there}
 use Rattle.snap_runs.proofs.Operations.{same_scan}
 use Rattle.snap_runs.specs.Complete.{AnswersRise, ScansHaveVerdicts}
 
 -- what was found of the first items is found of more
 still_found : (r : Run) (v : Verdict) (t u : ℕ) → t ≤ u → Contains (verdicts r t) v → Contains (verdicts r u) v
-still_found r v t zero le h = subst (λ k. Contains (verdicts r k) v) (let same : t ≡ zero = omega (arith, le) in same) h
-still_found r v t (suc u) le h = elim (eq-or-lt_of_le le) [
-  | inl same ↦ subst (λ k. Contains (verdicts r k) v) same h
-  | inr less ↦
-      Contains-append_left (verdicts r u) (verdict_at r (suc u) (outcome_at r (suc u))) v
-      (still_found r v t u (omega (arith, less)) h)
-]
+still_found r v t u le h =
+    from_there (λ k. Contains (verdicts r k) v) t u le h
+    (λ k low high. Contains-append_left (verdicts r k) (verdict_at r (suc k) (outcome_at r (suc k))) v)
 
 -- an answer has its verdict
 found_there : (r : Run) (t : ℕ) (view : List ℕ) → outcome_at r (suc t) ≡ outcome.Answered view →
@@ -46,9 +42,8 @@ module _ (r : Run) (fits : IsValidRun r) (i c : ℕ) (view : List ℕ) where
       let j = who (item r (suc t)) in
       let d = last_call r j (suc t) in
       let v = verdict_of r j d (suc t) view in
-      let last = f.scan.last in
       let found : Contains (audit r) v =
-      still_found r v (suc t) (length r.items) last (found_there r t view f.ends.1) in
+      still_found r v (suc t) (length r.items) f.scan.last (found_there r t view f.ends.1) in
       let scan : IsOfScan r v =
       subst (IsOfScan r) found.2 (All-from_recursion (IsOfScan r) (audit r) (of_scans r fits) found.0 v found.1) in
       let same = same_scan r fits i j c d (suc t) view scan.view f scan.finished in
@@ -80,8 +75,6 @@ further vs t h =
 
 -- one item more
 one_more : (r : Run) (vs : List Verdict) (t : ℕ) (o : Outcome) → Rise vs t → Rise (vs ++ verdict_at r (suc t) o) (suc t)
-one_more r vs t outcome.Called h = further vs t h
-one_more r vs t outcome.Stepped h = further vs t h
 one_more r vs t (outcome.Answered view) h =
     let i = who (item r (suc t)) in
     let v = verdict_of r i (last_call r i (suc t)) (suc t) view in
@@ -93,10 +86,7 @@ one_more r vs t (outcome.Answered view) h =
           All-push (λ (a : Verdict). a.answer ≤ suc t) vs v
           (λ k d lt. let le = h.within k d lt in omega (arith, le)) (omega arith);
     }
-one_more r vs t outcome.Finished h = further vs t h
-one_more r vs t (outcome.Trapped c) h = further vs t h
-one_more r vs t outcome.Crashed h = further vs t h
-one_more r vs t (outcome.Skipped c) h = further vs t h
+one_more r vs t _ h = further vs t h
 
 -- any number of items
 rise : (r : Run) (t : ℕ) → Rise (verdicts r t) t

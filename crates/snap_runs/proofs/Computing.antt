@@ -1,7 +1,8 @@
 -- Lemmas about comparisons of numbers (`nat_lt`, `nat_le`,
 -- `nat_eq`), `&&` and `if`, by which the proofs about runs compute.
-use Rattle.std.proofs.Common.{◌≡◌, ◌≢◌, ℕ, ◌+◌, ◌<◌, ◌≤◌, Bool, true, false, not, ◌&&◌, Option, Some, None, nat_eq}
-use Rattle.std.proofs.Common.{nat_lt, nat_le, if◌then◌else◌, refl, ap, arith}
+use Rattle.std.proofs.Common.{◌≡◌, ◌≢◌, ℕ, zero, suc, ◌+◌, ◌<◌, ◌≤◌, Bool, true, false, not, ◌&&◌, Option, Some, None}
+use Rattle.std.proofs.Common.{nat_eq, nat_lt, nat_le, if◌then◌else◌, refl, ap, subst, arith, inl, inr}
+use Rattle.std.proofs.Math.Nat.{eq-or-lt_of_le}
 use Rattle.std.proofs.lemmas.Grind.{common_steps}
 
 pub lt_true : (x y : ℕ) → x < y → nat_lt x y ≡ true
@@ -21,6 +22,22 @@ le_true x y h = grind (arith, common_steps)
 
 pub le_from : (x y : ℕ) → nat_le x y ≡ true → x ≤ y
 le_from x y h = grind (arith, common_steps)
+
+-- numbers of which neither is less are one
+pub neither_less : (x y : ℕ) → (x < y → ⊥) → (y < x → ⊥) → x ≡ y
+neither_less x y h k = omega arith
+
+-- what holds at a number, and at each later one where it holds at the number before
+pub from_there : (Holds : ℕ → Type 0) (c t : ℕ) → c ≤ t → Holds c →
+    ((u : ℕ) → c ≤ u → u < t → Holds u → Holds (suc u)) → Holds t
+from_there Holds c zero le first next = subst Holds (let same : c ≡ 0 = omega arith in same) first
+from_there Holds c (suc t) le first next =
+    elim (eq-or-lt_of_le le) [
+      | inl same ↦ subst Holds same first
+      | inr less ↦
+          next t (omega arith) (omega arith)
+          (from_there Holds c t (omega arith) first (λ u low high. next u low (omega arith)))
+    ]
 
 pub same_number : (x : ℕ) → nat_eq x x ≡ true
 same_number x = grind (arith, common_steps)
@@ -42,6 +59,11 @@ both false y h = absurd (cc)
 pub and_true : (x : Bool) → (x && true) ≡ x
 and_true true = refl
 and_true false = refl
+
+-- what is so where a test passes
+pub and_when : (b x y : Bool) → (b ≡ true → x ≡ y) → (b && x) ≡ (b && y)
+and_when true x y h = h refl
+and_when false x y h = refl
 
 pub if_true : {A : Type 0} (t : Bool) (x y : A) → t ≡ true → (if t then x else y) ≡ x
 if_true t x y h = ap (λ v. if v then x else y) h

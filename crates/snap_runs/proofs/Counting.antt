@@ -1,8 +1,9 @@
 -- Lemmas about `count`, the number of items of a run between two others
 -- that pass a test: with one more item, and from a later one on.
 use Rattle.std.specs.Prelude.{◌≡◌, ℕ, zero, suc, ◌+◌, ◌<◌, ◌≤◌, Bool, true, false, ◌&&◌, nat_lt, if◌then◌else◌, refl}
-use Rattle.std.proofs.Common.{◌∙◌, ap, arith}
-use Rattle.snap_runs.specs.Scan.{count}
+use Rattle.std.proofs.Common.{sym, ◌∙◌, ap, subst, arith}
+use Rattle.snap_runs.specs.Run.{Run, item, outcome}
+use Rattle.snap_runs.specs.Scan.{count, steps, is_not_skipped, takes_step, own_steps}
 use Rattle.snap_runs.proofs.Computing.{lt_true, lt_false, lt_from}
 
 -- none where there are no items
@@ -49,6 +50,14 @@ one_more false x = omega arith
 -- at most one more where the middle one of three tests passes
 pub inner_more : (s b o : Bool) (x : ℕ) → (if s && (b && o) then suc x else x) ≤ x + (if b then 1 else 0)
 inner_more true true true x = omega arith
-inner_more true true false x = omega arith
-inner_more true false o x = omega arith
-inner_more false b o x = omega arith
+inner_more _ _ _ x = omega arith
+
+-- an item adds one to the own steps of a process at most, and none where it is no step
+pub own_next : (r : Run) (i c t : ℕ) → c ≤ t → own_steps r i c (suc t) ≤ own_steps r i c t + 1
+own_next r i c t le =
+    subst (λ y. y ≤ own_steps r i c t + 1) (sym (count_next (takes_step r i) c t le))
+    (one_more (takes_step r i (suc t)) (own_steps r i c t))
+
+pub own_same : (r : Run) (i c t : ℕ) → c ≤ t → steps i (item r (suc t)) ≡ false →
+    own_steps r i c (suc t) ≡ own_steps r i c t
+own_same r i c t le none = count_not (takes_step r i) c t le (ap (λ b. b && is_not_skipped (outcome r (suc t))) none)

@@ -107,8 +107,7 @@ module _ (s : Source) (c : Context) (m : Memory) (a : Activity) where
 
   finish_does : (i : Instr) (o : Op) (link : Option ℕ) → a.op ≡ o → Does c m a i (finish_goes o link)
   finish_does i (Update word value) None at = finishes i word value at
-  finish_does i (Update word value) (Some k) at = traps i cause.BadEnd
-  finish_does i Scan link at = traps i cause.BadEnd
+  finish_does i _ _ at = traps i cause.BadEnd
 
   -- each form of a line
   pub line_does : (i : Instr) → Does c m a i (effect s c m a i)

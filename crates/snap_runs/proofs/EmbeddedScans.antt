@@ -3,13 +3,12 @@
 use Rattle.std.specs.Prelude.{◌≡◌, ℕ, zero, suc, ◌<◌, ◌≤◌, List, length, Some, refl}
 use Rattle.std.proofs.Common.{sym, ◌∙◌, ap, subst, arith, inl, inr}
 use Rattle.std.proofs.Math.Nat.{eq-or-lt_of_le}
-use Rattle.snap_runs.proofs.Common.{IsOneOf, Process, process_at, Item, Step, Op, Scan, Update, Run, state, outcome}
+use Rattle.snap_runs.proofs.Common.{IsOneOf, Process, Item, Step, Op, Scan, Update, Run, outcome}
 use Rattle.snap_semantics.specs.Source.{instr_at}
 use Rattle.snap_runs.specs.Scan.{Starts, Ends, FinishedScan, IsCallLine, ReturnsView, line_in, link_in}
-use Rattle.snap_runs.proofs.Algorithm.{Mode, Scanning, Embedded, Updating, mode_of, Control, Idle, At, Move}
-use Rattle.snap_runs.proofs.Algorithm.{To, Begin, Answer, Finish, TypedProcess, Algorithm, by_move, typed_at}
-use Rattle.snap_runs.proofs.Algorithm.{outcome_of, item_at, typed_state, process_of}
-use Rattle.snap_runs.proofs.Algorithm.{begun_auxiliary, called_auxiliary}
+use Rattle.snap_runs.proofs.Algorithm.{Mode, Scanning, Embedded, Updating, mode_of, Control, At, Move, To, Begin}
+use Rattle.snap_runs.proofs.Algorithm.{Answer, Finish, TypedProcess, Algorithm, by_move, typed_at, outcome_of, item_at}
+use Rattle.snap_runs.proofs.Algorithm.{typed_state, process_of, begun_auxiliary, called_auxiliary}
 use Rattle.snap_runs.proofs.Embedding as embed
 use Rattle.snap_runs.proofs.Flow as flow
 use Rattle.snap_runs.proofs.Flow.{Lines}
@@ -43,16 +42,15 @@ module _ {V P M : Type 0} (a : Algorithm V P M) (lines : Lines V P M) where
       pub scan : FinishedScan r i (Some a.back) c to view
 
     abbrev Tracked : ℕ → ℕ → List ℕ → Control P → Type 0
-    Tracked t since view Idle = Unit {0}
-    Tracked t since view (At Scanning k) = Unit {0}
     Tracked t since view (At (Embedded w x) k) = Open since t
     Tracked t since view (At (Updating w x) k) = lines.IsLate k → Lending since t view
+    Tracked t since view _ = Unit {0}
 
     longer : (c t : ℕ) → ((view : List ℕ) → Ends r i (suc t) (Some a.back) view → ⊥) → Open c t → Open c (suc t)
     longer c t not_now h = record {
       starts = h.starts;
       first = h.first;
-      order = (let o : c ≤ t = h.order in omega arith);
+      order = omega arith;
       goes_on = λ u view after before ends. elim (eq-or-lt_of_le before) [
         | inl same ↦ not_now view (subst (λ y. Ends r i y (Some a.back) view) same ends)
         | inr less ↦ h.goes_on u view after (omega arith) ends
@@ -60,33 +58,24 @@ module _ {V P M : Type 0} (a : Algorithm V P M) (lines : Lines V P M) where
     }
 
     lends_longer : (c t : ℕ) (view : List ℕ) → Lending c t view → Lending c (suc t) view
-    lends_longer c t view h = record { to = h.to; before = (let b : h.to ≤ t = h.before in omega arith); scan = h.scan }
+    lends_longer c t view h = record { to = h.to; before = omega arith; scan = h.scan }
 
     -- an item that is no step of the busy process
     kept : (t since : ℕ) (view : List ℕ) (control : Control P) →
         ((d : Mode) (k : P) → control ≡ At d k → item_at items t ≡ Step i → ⊥) →
         Tracked t since view control → Tracked (suc t) since view control
-    kept t since view Idle no_step h = tt
-    kept t since view (At Scanning k) no_step h = tt
     kept t since view (At (Embedded w x) k) no_step h =
         longer since t (λ v ends. no_step (Embedded w x) k refl ends.0) h
     kept t since view (At (Updating w x) k) no_step h = λ late. lends_longer since t view (h late)
-
-    -- the process at its line, in the words of the machine
-    busy : (t : ℕ) (d : Mode) (k : P) → t < length items → (his t).control ≡ At d k →
-        process_at (state r t) i
-        ≡ process_of a (record { control = At d k; variables = (his t).variables; auxiliary = (his t).auxiliary })
-    busy t d k short at =
-        embed.process_at_is a items run.fits run.does t i (omega arith) one
-        ∙ ap (λ (p : Control P).
-        process_of a (record { control = p; variables = (his t).variables; auxiliary = (his t).auxiliary })) at
+    kept t since view _ no_step h = tt
 
     -- a line that does not return ends no scan
     no_end : (t : ℕ) (d : Mode) (k : P) (view : List ℕ) → t < length items → (his t).control ≡ At d k →
         (lines.IsReturn k → ⊥) → Ends r i (suc t) (Some a.back) view → ⊥
     no_end t d k view short at none ends =
         none (listed.returns (his t).variables k view
-        (subst (λ (p : Process). ReturnsView (line_in a.source p.status) p.locals view) (busy t d k short at) ends.1)).0
+        (subst (λ (p : Process). ReturnsView (line_in a.source p.status) p.locals view)
+        (embed.busy_at a items run.fits run.does t i d k (omega arith) one at) ends.1)).0
 
     -- a line that returns ends its embedded scan
     ended : (t w x : ℕ) (k : P) → t < length items → item_at items t ≡ Step i →
@@ -94,7 +83,6 @@ module _ {V P M : Type 0} (a : Algorithm V P M) (lines : Lines V P M) where
         Lending (his t).auxiliary.since (suc t) (lines.answer (his t).variables)
     ended t w x k short is at returns h =
         let c = (his t).auxiliary.since in
-        let order : c ≤ t = h.order in
         let view = lines.answer (his t).variables in
         record {
           to = suc t;
@@ -112,8 +100,10 @@ module _ {V P M : Type 0} (a : Algorithm V P M) (lines : Lines V P M) where
             ends = (
               is,
               subst (λ (p : Process). ReturnsView (line_in a.source p.status) p.locals view)
-                  (sym (busy t (Embedded w x) k short at)) (listed.answers (his t).variables k returns),
-              ap (λ (p : Process). link_in p.status) (busy t (Embedded w x) k short at),
+                  (sym (embed.busy_at a items run.fits run.does t i (Embedded w x) k (omega arith) one at))
+                  (listed.answers (his t).variables k returns),
+              ap (λ (p : Process). link_in p.status)
+                  (embed.busy_at a items run.fits run.does t i (Embedded w x) k (omega arith) one at),
             );
           };
         }
@@ -131,7 +121,8 @@ module _ {V P M : Type 0} (a : Algorithm V P M) (lines : Lines V P M) where
     begun t w x k p' k' short is at calls after out = record {
       starts = (
         is,
-        subst (λ (p : Process). IsCallLine (line_in a.source p.status)) (sym (busy t (Updating w x) k short at)) calls,
+        subst (λ (p : Process). IsCallLine (line_in a.source p.status))
+            (sym (embed.busy_at a items run.fits run.does t i (Updating w x) k (omega arith) one at)) calls,
         out,
         ap (λ (p : Process). link_in p.status)
             (embed.process_at_is a items run.fits run.does (suc t) i (omega arith) one ∙ ap (process_of a) after),
@@ -150,7 +141,6 @@ module _ {V P M : Type 0} (a : Algorithm V P M) (lines : Lines V P M) where
         (lines.answer (cases.moved a (suc t) (his t) k v).variables) (cases.moved a (suc t) (his t) k v).control
     stepped t Scanning k (To d' m' p' k') short is at e after out h =
         subst (λ y. Tracked (suc t) (his t).auxiliary.since (lines.answer p') (At y k')) (sym e.0) tt
-    stepped t Scanning k (Begin d' p' k') short is at e after out h = absurd e
     stepped t (Embedded w x) k (To d' m' p' k') short is at e after out h =
         let since = (his t).auxiliary.since in
         elim e.2 [
@@ -159,7 +149,6 @@ module _ {V P M : Type 0} (a : Algorithm V P M) (lines : Lines V P M) where
           | inr back ↦ subst (λ y. Tracked (suc t) since (lines.answer p') (At y k')) (sym back.0)
               (λ late. subst (Lending since (suc t)) (sym back.3) (ended t w x k short is at back.1 h))
         ]
-    stepped t (Embedded w x) k (Begin d' p' k') short is at e after out h = absurd e
     stepped t (Updating w x) k (To d' m' p' k') short is at e after out h =
         let since = (his t).auxiliary.since in
         subst (λ y. Tracked (suc t) since (lines.answer p') (At y k')) (sym e.1)
@@ -175,6 +164,7 @@ module _ {V P M : Type 0} (a : Algorithm V P M) (lines : Lines V P M) where
         }) e.0) out)
     stepped t d k (Answer v) short is at e after out h = tt
     stepped t d k Finish short is at e after out h = tt
+    stepped t _ k (Begin d' p' k') short is at e after out h = absurd e
 
     called : (t since : ℕ) (view : List ℕ) (op : Op) → Tracked t since view (At (mode_of op) (a.counter op))
     called t since view Scan = tt

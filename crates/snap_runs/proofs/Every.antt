@@ -109,7 +109,6 @@ module _ {V P M : Type 0} {a : Algorithm V P M} {lines : Lines V P M} {line : â„
         (Î» fits i word value c e up.
         let few : own_steps r i c e â‰¤ frame.update_steps.total + frame.steps =
         of_calm.updates_at_most r (frame.update_steps.total + frame.steps) update_steps fits i word value c e up in
-        let one = up.process in
         let le : frame.update_steps.total + frame.steps â‰¤ most = more (omega arith) in omega arith)
 
     -- all that a snapshot promises
@@ -137,7 +136,7 @@ module _ {V P M : Type 0} {a : Algorithm V P M} {lines : Lines V P M} {line : â„
     borrowed_views_are_lent at_line there is lent = of_calm.borrowed_views_are_lent r at_line in_calm
       where
         in_calm : of_calm.OfCalm r (promises.BorrowedViewsAreLent at_line)
-        in_calm steady whole i link c zero view ends ex = absurd (let order : c < 0 = ends.order in omega arith)
+        in_calm steady whole i link c zero view ends ex = absurd (omega arith)
         in_calm steady whole i link c (suc t) view ends ex =
             lent steady i link c t view ends
             (returned frame calmed (kept steady) at_line there is i link c t view ends ex)

@@ -2,7 +2,7 @@
 -- program counter of that line; and what its step there leaves.
 use Rattle.std.specs.Prelude.{◌≡◌, ℕ, suc, ◌<◌, Bool, true, false, ◌&&◌, List, length, Option, Some, nat_eq, refl}
 use Rattle.std.proofs.Common.{sym, ◌∙◌, ap, subst, arith}
-use Rattle.snap_runs.proofs.Common.{IsOneOf, Process, process_at, who, Item, Step, Call, Crash, Stepped, Run, state}
+use Rattle.snap_runs.proofs.Common.{IsOneOf, Process, process_at, who, Item, Step, Stepped, Run, state}
 use Rattle.snap_runs.proofs.Common.{before, item, outcome}
 use Rattle.snap_runs.specs.Scan.{steps}
 use Rattle.snap_runs.specs.Update.{is_at, goes_on, executes, TrapsExecuteNothing}
@@ -15,13 +15,11 @@ use Rattle.snap_runs.proofs.Steady.{Steady}
 
 pub step_of : (i : ℕ) (y : Item) → steps i y ≡ true → y ≡ Step i
 step_of i (Step k) h = ap (λ u. Step u) (same_from k i h)
-step_of i (Call k op) h = absurd (cc)
-step_of i (Crash k) h = absurd (cc)
+step_of i _ h = absurd (cc)
 
 not_on : (b c : Bool) → (b && (c && false)) ≡ false
 not_on true true = refl
-not_on true false = refl
-not_on false c = refl
+not_on _ _ = refl
 
 -- a line that traps is not executed
 pub traps_execute_nothing : TrapsExecuteNothing

@@ -87,9 +87,8 @@ before_seq x y (inr p) = let e : x.seq ≡ y.seq = ap (λ (w : Word). w.seq) p i
 -- words with equal sequence numbers that stand so are one
 pub squeezed : (a mid b : Word) → WordBefore a mid → WordBefore mid b → a.seq ≡ b.seq → mid ≡ b
 squeezed a mid b (inl p) (inl q) e = absurd (omega arith)
-squeezed a mid b (inl p) (inr q) e = q
 squeezed a mid b (inr p) (inl q) e = absurd (let s : a.seq ≡ mid.seq = ap (λ (w : Word). w.seq) p in omega arith)
-squeezed a mid b (inr p) (inr q) e = q
+squeezed a mid b _ (inr q) e = q
 
 -- each word of the memory stays or is written anew
 abbrev pub Grows : ℕ → List Word → List Word → Type 0

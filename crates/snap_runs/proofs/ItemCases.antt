@@ -23,10 +23,17 @@ module _ {V P M : Type 0} (a : Algorithm V P M) where
       record { control = At d k'; variables = p; auxiliary = stepped_auxiliary a k time q.auxiliary }
   moved time q k (Begin d p k') =
       record { control = At d k'; variables = p; auxiliary = begun_auxiliary a k time q.auxiliary }
-  moved time q k (Answer v) =
+  moved time q k _ =
       record { control = Idle; variables = q.variables; auxiliary = stepped_auxiliary a k time q.auxiliary }
-  moved time q k Finish =
-      record { control = Idle; variables = q.variables; auxiliary = stepped_auxiliary a k time q.auxiliary }
+
+  -- the process after a call
+  abbrev pub begun : ℕ → TypedProcess V P M → Op → TypedProcess V P M
+  begun time q op =
+      record {
+        control = At (mode_of op) (a.counter op);
+        variables = q.variables;
+        auxiliary = called_auxiliary time op q.auxiliary;
+      }
 
   module _ (items : List Item) (fits : Steady (embed.run_of a items)) (does : embed.AllDo a items) (i : ℕ)
       (one : IsOneOf a.shape.n i) where
@@ -62,11 +69,7 @@ module _ {V P M : Type 0} (a : Algorithm V P M) where
       pub op : Op
       pub item : item_at items t ≡ Call i op
       pub idle : (his t).control ≡ Idle
-      pub after : his (suc t) ≡ record {
-        control = At (mode_of op) (a.counter op);
-        variables = (his t).variables;
-        auxiliary = called_auxiliary (suc t) op (his t).auxiliary;
-      }
+      pub after : his (suc t) ≡ begun (suc t) (his t) op
       pub outcome_is : outcome r (suc t) ≡ Called
 
     abbrev pub Case : ℕ → Type 0
@@ -75,30 +78,10 @@ module _ {V P M : Type 0} (a : Algorithm V P M) where
     move_case : (t : ℕ) (k : P) (v : Move V P M) → typed_state a items (suc t)
         ≡ changed (typed_state a items t) i (by_move a (suc t) (typed_state a items t).memory (his t) k v) →
         his (suc t) ≡ moved (suc t) (his t) k v
-    move_case t k (To d m p k') e =
-        embed.process_next a items t i m (record {
-          control = At d k';
-          variables = p;
-          auxiliary = stepped_auxiliary a k (suc t) (his t).auxiliary;
-        }) Stepped one e
-    move_case t k (Begin d p k') e =
-        embed.process_next a items t i (typed_state a items t).memory (record {
-          control = At d k';
-          variables = p;
-          auxiliary = begun_auxiliary a k (suc t) (his t).auxiliary;
-        }) Stepped one e
-    move_case t k (Answer v) e =
-        embed.process_next a items t i (typed_state a items t).memory (record {
-          control = Idle;
-          variables = (his t).variables;
-          auxiliary = stepped_auxiliary a k (suc t) (his t).auxiliary;
-        }) (Answered v) one e
-    move_case t k Finish e =
-        embed.process_next a items t i (typed_state a items t).memory (record {
-          control = Idle;
-          variables = (his t).variables;
-          auxiliary = stepped_auxiliary a k (suc t) (his t).auxiliary;
-        }) Finished one e
+    move_case t k (To d m p k') e = embed.process_next a items t i m _ Stepped one e
+    move_case t k (Begin d p k') e = embed.process_next a items t i (typed_state a items t).memory _ Stepped one e
+    move_case t k (Answer v) e = embed.process_next a items t i (typed_state a items t).memory _ (Answered v) one e
+    move_case t k Finish e = embed.process_next a items t i (typed_state a items t).memory _ Finished one e
 
     step_case : (t : ℕ) (control : Control P) → t < length items →
         item_at items t ≡ Step i → (his t).control ≡ control →
@@ -133,16 +116,11 @@ module _ {V P M : Type 0} (a : Algorithm V P M) where
           skipped = λ w. (why, out);
         })
     admission_case t op None is at e out =
-        let q : TypedProcess V P M = record {
-          control = At (mode_of op) (a.counter op);
-          variables = (his t).variables;
-          auxiliary = called_auxiliary (suc t) op (his t).auxiliary;
-        } in
         inr (inr (record {
           op = op;
           item = is;
           idle = at;
-          after = embed.process_next a items t i (typed_state a items t).memory q Called one e;
+          after = embed.process_next a items t i (typed_state a items t).memory (begun (suc t) (his t) op) Called one e;
           outcome_is = out;
         }))
 
@@ -202,6 +180,19 @@ module _ {V P M : Type 0} (a : Algorithm V P M) where
                 idle = λ h. absurd (other (ap who h));
                 skipped = λ w. absurd (other w);
               }))
+        ]
+
+    -- a call begins its operation
+    pub called : (t : ℕ) (op : Op) → t < length items → item_at items t ≡ Call i op → outcome r (suc t) ≡ Called →
+        his (suc t) ≡ begun (suc t) (his t) op
+    called t op short is out =
+        elim (item_case t short) [
+          | inl stays ↦ absurd (let e = sym out ∙ (stays.skipped (ap who is)).1 in cc)
+          | inr busy_or_called ↦ elim busy_or_called [
+            | inl s ↦ absurd (let e = sym is ∙ s.item in cc)
+            | inr call ↦ (let same : call.op ≡ op = (let e = sym call.item ∙ is in cc) in
+                subst (λ (o : Op). his (suc t) ≡ begun (suc t) (his t) o) same call.after)
+          ]
         ]
 
     -- where nothing happens to a busy process, the item is no step of it

@@ -64,7 +64,6 @@ module _ {V P M : Type 0} (a : Algorithm V P M) (lines : Lines V P M) (line : �
           | inl wrote ↦ record { time = u; after = omega arith; before = omega arith; executed = wrote; stays = refl }
           | inr same ↦ (let e : seq_at (words (suc u)) j ≡ seq_at (words u) j = ap (λ (w : Word). w.seq) same in
               let rest : LastWrite j from u = last_write j from u one (omega arith) (omega arith) (omega arith) in
-              let before : rest.time < u = rest.before in
               record {
                 time = rest.time;
                 after = rest.after;
@@ -98,12 +97,8 @@ module _ {V P M : Type 0} (a : Algorithm V P M) (lines : Lines V P M) (line : �
         FinishedScan r i link c (suc t) view → (j u : ℕ) → IsOneOf a.shape.n j → c ≤ u → u ≤ t →
         seq_at (words c) j + 2 ≤ seq_at (words u) j → (word_at (words u) j).view ≡ view → LentView r i c (suc t) view
     lent_view i link c t view ends j u jone from to two is =
-        let one = ends.scan.process in
-        let last : suc t ≤ length items = ends.scan.last in
         let w : LastWrite j c u = last_write j c u jone from (omega arith) (omega arith) in
         let v = w.time in
-        let after : c ≤ v = w.after in
-        let before : v < u = w.before in
         let short : v < length items = omega arith in
         let there =
         executing.stands_at a items run.fits run.does numbered v j line writer.counter short jone its w.executed in
@@ -117,26 +112,25 @@ module _ {V P M : Type 0} (a : Algorithm V P M) (lines : Lines V P M) (line : �
         let count : new.seq ≡ seq_at (words v) j + 1 =
         lends.counts v j wrote.word wrote.value short jone wrote.control in
         let its_count : seq_at (words u) j ≡ new.seq = ap (λ (x : Word). x.seq) now in
-        let g = scans.goes a lines listed run i one link c (suc t) v ends.scan after (omega arith) in
+        let g = scans.goes a lines listed run i ends.scan.process link c (suc t) v ends.scan w.after (omega arith) in
         let making : flow.Making lines (at v j).control = subst (flow.Making lines) (sym wrote.control) lends.late in
         let no_earlier : c ≤ (at v j).auxiliary.since =
         subst (λ s. s ≤ (at v j).auxiliary.since) g.since
-        (lends.pairs v i j (omega arith) one jone making
+        (lends.pairs v i j (omega arith) ends.scan.process jone making
         (subst (λ s. seq_at (words s) j < seq_at (words v) j) (sym g.since) (omega arith))) in
         let lent =
         embedded.lending a lines listed run lends.not_late j jone v wrote.word wrote.value writer.counter
         (omega arith) wrote.control lends.late in
         let its_view : lines.answer (at v j).variables ≡ view =
         sym (lends.views v j wrote.word wrote.value) ∙ sym (ap (λ (x : Word). x.view) now) ∙ is in
-        let ended : lent.to ≤ v = lent.before in
         let other : j ≢ i =
         λ same. flow.not_update (writer.Owned j) g.mode (flow.in_scan lines a link g.mode g.inside)
         (subst (IsUpdateOf (writer.Owned j)) (let e : At there.1.0 writer.counter ≡ At g.mode g.counter =
         sym there.1.1 ∙ ap (λ y. (at v y).control) same ∙ g.control in let f : there.1.0 ≡ g.mode = cc in f)
         (updates v j there.1.0 short jone there.1.1)) in
-        let start = lent.scan.scan.starts in
         let differ : (at v j).auxiliary.since ≢ c =
-        λ same. other (sym (starter r j (at v j).auxiliary.since (Some a.back) start) ∙ ap (λ y. who (item r y)) same
+        λ same. other (sym (starter r j (at v j).auxiliary.since (Some a.back) lent.scan.scan.starts) ∙ ap
+        (λ y. who (item r y)) same
         ∙ starter r i c link ends.scan.starts) in
         record {
           lender = j;

@@ -2,14 +2,13 @@
 use Rattle.std.proofs.Common.{◌≡◌, ℕ, zero, suc, ◌<◌, ◌≤◌, ◌⊎◌, true, List, [], ◌∷◌, ◌++◌, length, Option, Some, None}
 use Rattle.std.proofs.Common.{replicate, map, refl, sym, ◌∙◌, ap, subst, arith, inl, inr}
 use Rattle.std.specs.List.{AllByRecursion, Contains}
-use Rattle.std.proofs.lemmas.Bool.{cases_eq, cases_lt}
+use Rattle.std.proofs.lemmas.Bool.{cases_eq}
 use Rattle.std.proofs.lemmas.List.{append-nil, length-replicate}
 use Rattle.std.proofs.lemmas.List.Elements.{All-from_recursion, Contains-append_left, Contains-push}
-use Rattle.snap_runs.proofs.Common.{Counts, IsOneOf, Word, Call, values, Run, IsValidRun, state, item}
+use Rattle.snap_runs.proofs.Common.{Counts, IsOneOf, Word, values, Run, IsValidRun, state}
 use Rattle.snap_words.specs.Kind.{initial_word}
 use Rattle.snap_words.specs.declared.kind.KindTag.{KindTag}
 use Rattle.snap_words.specs.declared.kind.KindTag.TheVariants as kind
-use Rattle.snap_semantics.specs.declared.process.Op.TheVariants as op
 use Rattle.snap_semantics.specs.State.{initial_memory}
 use Rattle.snap_runs.specs.Scan.{FinishedScan, count}
 use Rattle.snap_runs.specs.Update.{executes, PendingUpdate}
@@ -19,6 +18,8 @@ use Rattle.snap_runs.specs.Operation.{Action, Sets, Sees, Operation, TookPlace, 
 use Rattle.snap_runs.specs.Linearization.{after, Allows, RunsFrom, IsLinearization}
 use Rattle.snap_runs.specs.WriteStrong.{UpdateCall, updates}
 use Rattle.snap_runs.proofs.Embedding.{map_same}
+use Rattle.snap_runs.proofs.Computing.{neither_less}
+use Rattle.snap_runs.proofs.OneOperation.{one_operation}
 use Rattle.snap_runs.proofs.Operations as operations
 use Rattle.snap_runs.proofs.Operations.{count_two, counted_item}
 use Rattle.snap_runs.proofs.Order.{Pairs, Apart, Sooner, all_pairs, all_push, all_weaker, pairs_push, pairs_weaker}
@@ -33,19 +34,6 @@ first_values : (k : KindTag) (shape : Counts) →
 first_values kind.Seq shape = map_same (λ (x : Word). x.datum) shape.w (initial_word kind.Seq shape)
 first_values kind.Bits shape = map_same (λ (x : Word). x.datum) shape.w (initial_word kind.Bits shape)
 first_values kind.Multi shape = map_same (λ (x : Word). x.datum) shape.w (initial_word kind.Multi shape)
-
--- an operation by its parts
-pub same_parts : (i i' c c' : ℕ) (end end' : Option ℕ) (a a' : Action) → i ≡ i' → c ≡ c' → end ≡ end' → a ≡ a' →
-    ◌≡◌ {A = Operation} (record { process = i; call = c; end = end; action = a })
-    (record { process = i'; call = c'; end = end'; action = a' })
-same_parts i i' c c' end end' a a' p q u v =
-    ap (λ y. let o : Operation = record { process = y; call = c; end = end; action = a } in o) p
-    ∙ ap (λ y. let o : Operation = record { process = i'; call = y; end = end; action = a } in o) q
-    ∙ ap (λ y. let o : Operation = record { process = i'; call = c'; end = y; action = a } in o) u
-    ∙ ap (λ y. let o : Operation = record { process = i'; call = c'; end = end'; action = y } in o) v
-
-pub same_sets : (word word' value value' : ℕ) → word ≡ word' → value ≡ value' → Sets word value ≡ Sets word' value'
-same_sets word word' value value' p q = ap (λ y. Sets y value) p ∙ ap (λ y. Sets word' y) q
 
 module _ (line : ℕ) (r : Run) (fits : IsValidRun r) (points : HasLinearizationPoints line r) where
   abbrev pub AnswerAt : ℕ → Type 0
@@ -101,137 +89,70 @@ module _ (line : ℕ) (r : Run) (fits : IsValidRun r) (points : HasLinearization
       subst (λ y. FinishedScan r i None c y view) same took
   finished_of i c s None view took is = absurd took
 
-  same_spot : (a a' : Action) (i i' c c' : ℕ) (end end' : Option ℕ) (t t' s s' : ℕ) →
-      TookPlace r i c end a → TookPlace r i' c' end' a' →
-      Spot a i c end t s → Spot a' i' c' end' t' s' → t ≤ length r.items → t' ≤ length r.items →
-      ((e : ℕ) → end ≡ Some e → t ≤ e) → ((e : ℕ) → end' ≡ Some e → t' ≤ e) → c ≡ c' → (t ≡ t') × (s ≡ s')
-  same_spot (Sets word value) (Sets word' value') i i' c c' end end' t t' s s' took took' spot spot'
-      last last' still still' same =
-      let lt : c < t = spot.1 in
-      let lt' : c' < t' = spot'.1 in
-      let up = operations.open_update r i word value c t end took (omega arith) last still in
-      let up' = operations.open_update r i' word' value' c' t' end' took' (omega arith) last' still' in
-      let call : Call i (op.Update word value) ≡ Call i' (op.Update word' value') =
-      sym up.call ∙ ap (item r) same ∙ up'.call in
-      let his : i ≡ i' = cc in
-      let none : s ≡ 0 = spot.0 in
-      let none' : s' ≡ 0 = spot'.0 in (
-        elim (cases_eq t t') [
-          | inl now ↦ now
-          | inr other ↦ elim (cases_lt t t') [
-            | inl less ↦
-                absurd (one_write i' word' value' c' t t' up' (omega arith) less
-                (subst (λ y. executes r y line t ≡ true) his spot.2) spot'.2)
-            | inr more ↦
-                absurd (one_write i word value c t' t up (omega arith) (omega arith)
-                (subst (λ y. executes r y line t' ≡ true) (sym his) spot'.2) spot.2)
-          ]
-        ],
-        omega arith,
-      )
-  same_spot (Sets word value) (Sees view') i i' c c' end end' t t' s s' took took' spot spot'
-      last last' still still' same =
-      let lt : c < t = spot.1 in
-      let up = operations.open_update r i word value c t end took (omega arith) last still in
-      let f = finished_of i' c' s' end' view' took' spot'.1 in
-      absurd (let call : Call i (op.Update word value) ≡ Call i' op.Scan =
-      sym up.call ∙ ap (item r) same ∙ f.scan.starts.0 in cc)
-  same_spot (Sees view) (Sets word' value') i i' c c' end end' t t' s s' took took' spot spot'
-      last last' still still' same =
-      let lt' : c' < t' = spot'.1 in
-      let up' = operations.open_update r i' word' value' c' t' end' took' (omega arith) last' still' in
-      let f = finished_of i c s end view took spot.1 in
-      absurd (let call : Call i op.Scan ≡ Call i' (op.Update word' value') =
-      sym f.scan.starts.0 ∙ ap (item r) same ∙ up'.call in cc)
-  same_spot (Sees view) (Sees view') i i' c c' end end' t t' s s' took took' spot spot' last last' still still' same =
-      let f = finished_of i c s end view took spot.1 in
-      let f' = finished_of i' c' s' end' view' took' spot'.1 in
-      let call : Call i op.Scan ≡ Call i' op.Scan = sym f.scan.starts.0 ∙ ap (item r) same ∙ f'.scan.starts.0 in
-      let his : i ≡ i' = cc in
-      let ends : s ≡ s' =
-      operations.same_answer r i' c' s s' view view'
-      (subst (λ y. FinishedScan r i' None y s view) same (subst (λ y. FinishedScan r y None c s view) his f)) f' in
-      (sym spot.2 ∙ ap point ends ∙ spot'.2, ends)
+  spots : (a : Action) (i c : ℕ) (end : Option ℕ) (t t' s s' : ℕ) → TookPlace r i c end a →
+      Spot a i c end t s → Spot a i c end t' s' → t ≤ length r.items → t' ≤ length r.items →
+      ((e : ℕ) → end ≡ Some e → t ≤ e) → ((e : ℕ) → end ≡ Some e → t' ≤ e) → (t ≡ t') × (s ≡ s')
+  spots (Sets word value) i c end t t' s s' took spot spot' last last' still still' = (
+    neither_less t t'
+        (λ less. one_write i word value c t t'
+        (operations.open_update r i word value c t' end took (omega arith) last' still') spot.1 less spot.2 spot'.2)
+        (λ more. one_write i word value c t' t
+        (operations.open_update r i word value c t end took (omega arith) last still) spot'.1 more spot'.2 spot.2),
+    omega arith,
+  )
+  spots (Sees view) i c end t t' s s' took spot spot' last last' still still' =
+      let ends : s ≡ s' = (let e = sym spot.1 ∙ spot'.1 in cc) in (sym spot.2 ∙ ap point ends ∙ spot'.2, ends)
 
   pub one_spot : (o : Operation) (t s t' s' : ℕ) → Placed t s o → Placed t' s' o → (t ≡ t') × (s ≡ s')
   one_spot o t s t' s' p q =
-      same_spot o.action o.action o.process o.process o.call o.call o.end o.end t t' s s' p.operation
-      q.operation p.spot q.spot p.last q.last
-      p.open_still q.open_still refl
+      spots o.action o.process o.call o.end t t' s s' p.operation p.spot q.spot p.last q.last p.open_still q.open_still
 
-  -- a spot has one operation
+  -- operations with one spot have one call, and so are one
   same_at : (a a' : Action) (i i' c c' : ℕ) (end end' : Option ℕ) (t s : ℕ) → TookPlace r i c end a →
       TookPlace r i' c' end' a' → Spot a i c end t s → Spot a' i' c' end' t s → t ≤ length r.items →
-      ((e : ℕ) → end ≡ Some e → t ≤ e) → ((e : ℕ) → end' ≡ Some e → t ≤ e) →
-      (i ≡ i') × (c ≡ c') × (end ≡ end') × (a ≡ a')
+      ((e : ℕ) → end ≡ Some e → t ≤ e) → ((e : ℕ) → end' ≡ Some e → t ≤ e) → c ≡ c'
   same_at (Sets word value) (Sets word' value') i i' c c' end end' t s took took' spot spot' last still still' =
-      let lt : c < t = spot.1 in
-      let lt' : c' < t = spot'.1 in
-      let his : i ≡ i' =
-      operations.executes_who r i line t spot.2 ∙ sym (operations.executes_who r i' line t spot'.2) in
-      let his_took : TookPlace r i c' end' (Sets word' value') =
-      subst (λ y. TookPlace r y c' end' (Sets word' value')) (sym his) took' in
-      let up = operations.open_update r i word value c t end took (omega arith) last still in
-      let up' = operations.open_update r i word' value' c' t end' his_took (omega arith) last still' in
-      let same = operations.same_update r fits i word value word' value' c c' t lt lt' up up' in
-      let at_c : TookPlace r i c end' (Sets word' value') =
-      subst (λ y. TookPlace r i y end' (Sets word' value')) (sym same.0) his_took in
-      let at_word : TookPlace r i c end' (Sets word value') =
-      subst (λ y. TookPlace r i c end' (Sets y value')) (sym same.1) at_c in
-      let at_value : TookPlace r i c end' (Sets word value) =
-      subst (λ y. TookPlace r i c end' (Sets word y)) (sym same.2) at_word in (
-        his,
-        same.0,
-        operations.same_end r i word value c end end' took at_value,
-        same_sets word word' value value' same.1 same.2,
-      )
-  same_at (Sets word value) (Sees view') i i' c c' end end' t s took took' spot spot' last still still' =
-      absurd (let none : s ≡ 0 = spot.0 in let some : 0 < s = spot'.0 in omega arith)
-  same_at (Sees view) (Sets word' value') i i' c c' end end' t s took took' spot spot' last still still' =
-      absurd (let none : s ≡ 0 = spot'.0 in let some : 0 < s = spot.0 in omega arith)
+      let his = operations.executes_who r i' line t spot'.2 ∙ sym (operations.executes_who r i line t spot.2) in
+      (operations.same_update r fits i word value word' value' c c' t spot.1 spot'.1
+      (operations.open_update r i word value c t end took (omega arith) last still)
+      (subst (λ y. PendingUpdate r y word' value' c' t) his
+      (operations.open_update r i' word' value' c' t end' took' (omega arith) last still'))).0
   same_at (Sees view) (Sees view') i i' c c' end end' t s took took' spot spot' last still still' =
-      let f = finished_of i c s end view took spot.1 in
-      let f' = finished_of i' c' s end' view' took' spot'.1 in
-      let same = operations.same_scan r fits i i' c c' s view view' f f' in
-      (same.0, same.1, spot.1 ∙ sym spot'.1, ap (λ y. Sees y) same.2)
+      (operations.same_scan r fits i i' c c' s view view' (finished_of i c s end view took spot.1)
+      (finished_of i' c' s end' view' took' spot'.1)).1
+  same_at _ _ i i' c c' end end' t s took took' spot spot' last still still' = absurd (omega arith)
 
   same_operation : (o o' : Operation) (t s : ℕ) → Placed t s o → Placed t s o' → o ≡ o'
   same_operation o o' t s p p' =
-      let same =
-      same_at o.action o'.action o.process o'.process o.call o'.call o.end o'.end t s p.operation p'.operation p.spot
-      p'.spot p.last p.open_still p'.open_still in
-      same_parts o.process o'.process o.call o'.call o.end o'.end o.action o'.action same.0 same.1 same.2 same.3
+      one_operation r o o' p.operation p'.operation
+      (same_at o.action o'.action o.process o'.process o.call o'.call o.end o'.end t s p.operation p'.operation
+      p.spot p'.spot p.last p.open_still p'.open_still)
 
   apart : (a b : Operation) (t s t' s' : ℕ) → Placed t s a → Placed t' s' b → Sooner t s t' s' → Apart a b
   apart a b t s t' s' p q sooner = (
-    λ same. let spots =
-        same_spot a.action b.action a.process b.process a.call b.call a.end b.end t t' s s' p.operation q.operation
-        p.spot q.spot p.last q.last p.open_still q.open_still same in
+    λ same. let one = one_operation r a b p.operation q.operation same in
+        let spots = one_spot b t s t' s' (subst (Placed t s) one p) q in
         sooner_differs t s t' s' sooner spots.0 spots.1,
-    λ ended. let called : a.call ≤ t = p.called in
-        let le : t' ≤ ended.0 = q.open_still ended.0 ended.1 in
-        let lt : ended.0 < a.call = ended.2 in
+    λ ended. let le : t' ≤ ended.0 = q.open_still ended.0 ended.1 in
         let before : t ≤ t' = sooner_item_le t s t' s' sooner in
         omega arith,
   )
 
   not_ended_before_itself : (o : Operation) (t s : ℕ) → Placed t s o → EndedBefore o o → ⊥
   not_ended_before_itself o t s p ended =
-      let called : o.call ≤ t = p.called in
       let le : t ≤ ended.0 = p.open_still ended.0 ended.1 in
-      let lt : ended.0 < o.call = ended.2 in
       omega arith
 
   -- no spot is before the first item, and no number past the last
   first_item : (a : Action) (i c : ℕ) (end : Option ℕ) (t s : ℕ) → TookPlace r i c end a →
       Spot a i c end t s → c ≤ t → 0 < t
-  first_item (Sets word value) i c end t s took spot le = let lt : c < t = spot.1 in omega arith
+  first_item (Sets word value) i c end t s took spot le = omega arith
   first_item (Sees view) i c end t s took spot le =
-      let f = finished_of i c s end view took spot.1 in let pos : 0 < c = f.scan.first in omega arith
+      let f = finished_of i c s end view took spot.1 in omega arith
 
   last_number : (a : Action) (i c : ℕ) (end : Option ℕ) (t s : ℕ) → TookPlace r i c end a →
       Spot a i c end t s → s ≤ length r.items
-  last_number (Sets word value) i c end t s took spot = let none : s ≡ 0 = spot.0 in omega arith
+  last_number (Sets word value) i c end t s took spot = omega arith
   last_number (Sees view) i c end t s took spot = let f = finished_of i c s end view took spot.1 in f.scan.last
 
   abbrev zeros : List ℕ
@@ -302,7 +223,7 @@ module _ (line : ℕ) (r : Run) (fits : IsValidRun r) (points : HasLinearization
   no_scan_in : (t s i c : ℕ) (end : Option ℕ) (a : Action) →
       ((view : List ℕ) → FinishedScan r i None c (suc s) view → point (suc s) ≡ t → ⊥) →
       TookPlace r i c end a → Spot a i c end t (suc s) → ⊥
-  no_scan_in t s i c end (Sets word value) none took spot = let zeroed : suc s ≡ 0 = spot.0 in omega arith
+  no_scan_in t s i c end (Sets word value) none took spot = omega arith
   no_scan_in t s i c end (Sees view) none took spot = none view (finished_of i c (suc s) end view took spot.1) spot.2
 
   no_scan : (t s : ℕ) → ((i c : ℕ) (view : List ℕ) → FinishedScan r i None c (suc s) view → point (suc s) ≡ t → ⊥) →
@@ -311,7 +232,7 @@ module _ (line : ℕ) (r : Run) (fits : IsValidRun r) (points : HasLinearization
 
   no_update_in : (t i c : ℕ) (end : Option ℕ) (a : Action) → (executes r i line t ≡ true → ⊥) → Spot a i c end t 0 → ⊥
   no_update_in t i c end (Sets word value) none spot = none spot.2
-  no_update_in t i c end (Sees view) none spot = let pos : 0 < 0 = spot.0 in omega arith
+  no_update_in t i c end (Sees view) none spot = omega arith
 
   -- the scans with their points at an item, by the numbers of their answers; no updates are among them
   scans_at : (t s : ℕ) (os : List Operation) → s ≤ length r.items → OrderedUpTo t 1 (values (state r t)) os →
@@ -339,8 +260,6 @@ module _ (line : ℕ) (r : Run) (fits : IsValidRun r) (points : HasLinearization
             )
             | inl here ↦ (let o : Operation =
                 record { process = a.process; call = a.call; end = Some (suc s); action = Sees a.view } in
-                let low : a.call ≤ a.point = a.low in
-                let high : a.point ≤ suc s = a.high in
                 let p : Placed t (suc s) o = record {
                   operation = a.finished;
                   called = omega arith;
@@ -399,8 +318,8 @@ module _ (line : ℕ) (r : Run) (fits : IsValidRun r) (points : HasLinearization
           } in
           let count : length (values (state r t)) ≡ r.shape.w =
           ap length (sym past.leaves) ∙ length_after_all zeros xs ∙ length-replicate r.shape.w 0 in
-          let is_word : IsOneOf r.shape.w w.word = w.is_word in
-          let sets : IsOneOf (length (values (state r t))) w.word = subst (λ y. IsOneOf y w.word) (sym count) is_word in
+          let sets : IsOneOf (length (values (state r t))) w.word = subst (λ y. IsOneOf y w.word) (sym count)
+          w.is_word in
           let u : UpdateCall = record { process = w.process; call = w.call; word = w.word; value = w.value } in
           let writes : WritesAt line r (suc t) u =
           record { executed = w.executed; before_it = lt; updating = w.updating } in (
@@ -421,12 +340,9 @@ module _ (line : ℕ) (r : Run) (fits : IsValidRun r) (points : HasLinearization
   spot_of : (a : Action) (i c e : ℕ) → TookPlace r i c (Some e) a →
       (t : ℕ) × (s : ℕ) × Placed t s (record { process = i; call = c; end = Some e; action = a })
   spot_of (Sets word value) i c e took =
-      let up = took.0 in
-      let counted : count (executes r i line) c e ≡ 1 = (points.writes_once fits i word value c e up).1 took.1 took.2 in
-      let w = counted_item (executes r i line) c e (omega arith) in
-      let lt : c < w.0 = w.1 in
-      let le : w.0 ≤ e = w.2 in
-      let last : e ≤ length r.items = up.last in (
+      let counted : count (executes r i line) c e ≡ 1 = (points.writes_once fits i word value c e took.0).1 took.1
+      took.2 in
+      let w = counted_item (executes r i line) c e (omega arith) in (
         w.0,
         0,
         record {
@@ -434,7 +350,7 @@ module _ (line : ℕ) (r : Run) (fits : IsValidRun r) (points : HasLinearization
           called = omega arith;
           last = omega arith;
           open_still = λ u is. let same : e ≡ u = cc in omega arith;
-          spot = (refl, lt, w.3);
+          spot = (refl, w.1, w.3);
         },
       )
   spot_of (Sees view) i c e took = decided (answer_at e) refl
@@ -443,12 +359,7 @@ module _ (line : ℕ) (r : Run) (fits : IsValidRun r) (points : HasLinearization
           (t : ℕ) × (s : ℕ) × Placed t s (record { process = i; call = c; end = Some e; action = Sees view })
       decided (inr never) is = absurd (never i c view took)
       decided (inl a) is =
-          let same = operations.same_scan r fits i a.process c a.call e view a.view took a.finished in
-          let at_call : c ≡ a.call = same.1 in
-          let low : a.call ≤ a.point = a.low in
-          let high : a.point ≤ e = a.high in
-          let last : e ≤ length r.items = took.scan.last in
-          let lt : c < e = took.order in (
+          let same = operations.same_scan r fits i a.process c a.call e view a.view took a.finished in (
             a.point,
             e,
             record {
@@ -466,7 +377,6 @@ module _ (line : ℕ) (r : Run) (fits : IsValidRun r) (points : HasLinearization
       let its : TookPlace r o.process o.call (Some ended.0) o.action =
       subst (λ y. TookPlace r o.process o.call y o.action) ended.1 took in
       let p = spot_of o.action o.process o.call ended.0 its in
-      let last : p.0 ≤ length r.items = p.2.last in
       subst (λ y. Contains os (record { process = o.process; call = o.call; end = y; action = o.action })) (sym ended.1)
       (h.has (record { process = o.process; call = o.call; end = Some ended.0; action = o.action }) p.0 p.1 p.2
       (inl (omega arith)))

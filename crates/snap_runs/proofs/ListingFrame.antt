@@ -84,11 +84,10 @@ module _ {V P M : Type 0} {a : Algorithm V P M} {lines : Lines V P M} {line : �
       (i : ℕ) (link : Option ℕ) (c t : ℕ) (view : List ℕ) → FinishedScan (embed.run_of a items) i link c (suc t) view →
       executes (embed.run_of a items) i at_line (suc t) ≡ true → Returned there i c t view
   returned kept at_line there is i link c t view ends ex =
-      let one = ends.scan.process in
-      let last : suc t ≤ length items = ends.scan.last in
       let stands =
-      executing.stands_at a items kept.fits kept.does frame.numbered t i at_line there (omega arith) one is ex in
-      let ending = scans.ending a lines frame.listed (execution kept) i one link c t view ends in
+      executing.stands_at a items kept.fits kept.does frame.numbered t i at_line there (omega arith)
+      ends.scan.process is ex in
+      let ending = scans.ending a lines frame.listed (execution kept) i ends.scan.process link c t view ends in
       record { mode = stands.1.0; control = stands.1.1; since = ending.goes_on.since; answers = ending.answers }
 
   -- what the listing keeps of its counts, and says of its double collects

@@ -30,7 +30,7 @@ grown_at Event f last each u (suc v) le short lt =
         | inl event ↦ (suc v, less, omega arith, event)
         | inr kept ↦ (let e : f (suc v) ≡ f v = kept in
             let x = grown_at Event f last each u v (omega arith) (omega arith) (omega arith) in
-            let le2 : x.0 ≤ v = x.2 in (x.0, x.1, omega arith, x.3))
+            (x.0, x.1, omega arith, x.3))
       ]
     ]
 
@@ -92,16 +92,12 @@ module _ {V P M : Type 0} (a : Algorithm V P M) (lines : Lines V P M) (listed : 
       c ≤ t → (at t i).control ≡ At d k → a.tests k ≡ 0 →
       (at t i).auxiliary.tested ≤ 1 → f (at t i).auxiliary.round < f t → Recent Event i c (suc t)
   recent Event f each i link c t d k scan le there none few grown =
-      let one = scan.process in
-      let short : suc t ≤ length items = scan.last in
       let round = (at t i).auxiliary.round in
-      let g = scans.goes a lines listed run i one link c (suc t) t scan le (omega arith) in
-      let after : c ≤ round = g.round_after in
+      let g = scans.goes a lines listed run i scan.process link c (suc t) t scan le (omega arith) in
       let event = grown_at Event f (length items) each round t g.round_before (omega arith) grown in
-      let tested : (at t i).auxiliary.tested ≡ double_collects r i round t = g.tested in
       let last : double_collects r i round (suc t) ≤ double_collects r i round t + a.tests k =
       span.last_collects a listed.tested items run.fits run.does
-      (scans.lawful a lines listed run) i one round t d k g.round_before (omega arith) there in
+      (scans.lawful a lines listed run) i scan.process round t d k g.round_before (omega arith) there in
       let fewer : double_collects r i event.0 (suc t) ≤ double_collects r i round (suc t) =
       count_later (ends_double_collect r i) round event.0 (suc t) (omega arith) in
       record {

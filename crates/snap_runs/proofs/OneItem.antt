@@ -1,7 +1,6 @@
 -- What one item may do: values change only at a line `put r`, a scan is answered only by a line `return`, and nothing
 -- else is; an update alone is finished.
-use Rattle.std.proofs.Common.{◌≡◌, ◌⊎◌, inl, inr, ℕ, List, [], Option, Some, None, Result, Ok, Err}
-use Rattle.std.proofs.Common.{map, refl, ap, ◌∙◌}
+use Rattle.std.proofs.Common.{◌≡◌, ◌⊎◌, inl, inr, ℕ, List, [], Option, Some, None, Result, Ok, Err, map, refl, ap, ◌∙◌}
 use Rattle.snap_runs.proofs.Common.{Counts, Process, State, process_at, values, Word}
 use Rattle.snap_runs.proofs.Common.{Activity, Item, Op, Outcome, Reason}
 use Rattle.snap_semantics.specs.Source.{Source, instr_at}
@@ -16,7 +15,7 @@ use Rattle.snap_semantics.specs.declared.process.Item.TheVariants as item
 use Rattle.snap_semantics.specs.declared.process.Op.TheVariants as op
 use Rattle.snap_semantics.specs.declared.process.Outcome.TheVariants as outcome
 use Rattle.snap_semantics.specs.declared.process.Status.{Status}
-use Rattle.snap_semantics.specs.declared.process.Status.TheVariants.{Idle, Busy, Trapped, Crashed}
+use Rattle.snap_semantics.specs.declared.process.Status.TheVariants.{Idle, Busy}
 use Rattle.snap_runs.proofs.Effects.{Does, traps, goes, answers, finishes, Writes, puts_word, puts_bit, line_does}
 use Rattle.snap_runs.specs.StepRoles.{StepRole, Write, Answer, line_step_role, returned, step_role_at}
 use Rattle.snap_runs.specs.StepRoles.{step_role_in, step_role_of}

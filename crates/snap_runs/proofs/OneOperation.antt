@@ -3,19 +3,19 @@ use Rattle.std.proofs.Common.{◌≡◌, ℕ, ◌<◌, ◌≤◌, List, length, 
 use Rattle.snap_runs.proofs.Common.{Call, Op, Outcome, Answered, Run, item, outcome}
 use Rattle.snap_semantics.specs.declared.process.Op.TheVariants as op
 use Rattle.snap_runs.specs.Operation.{Action, Sets, Sees, Operation, TookPlace, IsOperation}
-use Rattle.snap_runs.proofs.Linear.{same_parts, same_sets}
 use Rattle.snap_runs.proofs.Operations.{same_end, same_answer}
 
 module _ (r : Run) where
-  -- the item that called it
-  asks_update : (i c word value : ℕ) (end : Option ℕ) → TookPlace r i c end (Sets word value) →
-      item r c ≡ Call i (op.Update word value)
-  asks_update i c word value (Some e) took = took.0.call
-  asks_update i c word value None took = took.0.call
+  -- what it was called for
+  abbrev asked_for : Action → Op
+  asked_for (Sets word value) = op.Update word value
+  asked_for (Sees view) = op.Scan
 
-  asks_scan : (i c : ℕ) (view : List ℕ) (end : Option ℕ) → TookPlace r i c end (Sees view) → item r c ≡ Call i op.Scan
-  asks_scan i c view (Some e) took = took.scan.starts.0
-  asks_scan i c view None took = absurd took
+  asks : (a : Action) (i c : ℕ) (end : Option ℕ) → TookPlace r i c end a → item r c ≡ Call i (asked_for a)
+  asks (Sets word value) i c (Some e) took = took.0.call
+  asks (Sets word value) i c None took = took.0.call
+  asks (Sees view) i c (Some e) took = took.scan.starts.0
+  asks (Sees view) i c None took = absurd took
 
   same_scan : (i c : ℕ) (view view' : List ℕ) (end end' : Option ℕ) → TookPlace r i c end (Sees view) →
       TookPlace r i c end' (Sees view') → (end ≡ end') × (view ≡ view')
@@ -28,47 +28,29 @@ module _ (r : Run) where
   same_scan i c view view' (Some e) None took took' = absurd took'
 
   same_call : (a a' : Action) (i i' c c' : ℕ) (end end' : Option ℕ) →
-      TookPlace r i c end a → TookPlace r i' c' end' a' → c ≡ c' →
+      TookPlace r i c end a → TookPlace r i' c' end' a' → Call i (asked_for a) ≡ Call i' (asked_for a') → c ≡ c' →
       ◌≡◌ {A = Operation} (record { process = i; call = c; end = end; action = a })
       (record { process = i'; call = c'; end = end'; action = a' })
-  same_call (Sets word value) (Sets word' value') i i' c c' end end' took took' same =
-      let call : Call i (op.Update word value) ≡ Call i' (op.Update word' value') =
-      sym (asks_update i c word value end took) ∙ ap (item r) same ∙ asks_update i' c' word' value' end' took' in
-      let his : i ≡ i' = cc in
-      let the_word : word ≡ word' = cc in
-      let the_value : value ≡ value' = cc in
-      let at_who : TookPlace r i c' end' (Sets word' value') =
-      subst (λ y. TookPlace r y c' end' (Sets word' value')) (sym his) took' in
-      let at_call : TookPlace r i c end' (Sets word' value') =
-      subst (λ y. TookPlace r i y end' (Sets word' value')) (sym same) at_who in
-      let at_word : TookPlace r i c end' (Sets word value') =
-      subst (λ y. TookPlace r i c end' (Sets y value')) (sym the_word) at_call in
-      let at_value : TookPlace r i c end' (Sets word value) =
-      subst (λ y. TookPlace r i c end' (Sets word y)) (sym the_value) at_word in
-      same_parts i i' c c' end end' (Sets word value) (Sets word' value') his same
-      (same_end r i word value c end end' took at_value) (same_sets word word' value value' the_word the_value)
-  same_call (Sets word value) (Sees view') i i' c c' end end' took took' same =
-      let call : Call i (op.Update word value) ≡ Call i' op.Scan =
-      sym (asks_update i c word value end took) ∙ ap (item r) same ∙ asks_scan i' c' view' end' took' in
-      absurd (cc)
-  same_call (Sees view) (Sets word' value') i i' c c' end end' took took' same =
-      let call : Call i op.Scan ≡ Call i' (op.Update word' value') =
-      sym (asks_scan i c view end took) ∙ ap (item r) same ∙ asks_update i' c' word' value' end' took' in
-      absurd (cc)
-  same_call (Sees view) (Sees view') i i' c c' end end' took took' same =
-      let call : Call i op.Scan ≡ Call i' op.Scan =
-      sym (asks_scan i c view end took) ∙ ap (item r) same ∙ asks_scan i' c' view' end' took' in
-      let his : i ≡ i' = cc in
-      let at_who : TookPlace r i c' end' (Sees view') =
-      subst (λ y. TookPlace r y c' end' (Sees view')) (sym his) took' in
-      let at_call : TookPlace r i c end' (Sees view') =
-      subst (λ y. TookPlace r i y end' (Sees view')) (sym same) at_who in
-      let seen = same_scan i c view view' end end' took at_call in
-      same_parts i i' c c' end end' (Sees view) (Sees view') his same seen.0 (ap (λ y. Sees y) seen.1)
+  same_call (Sets word value) (Sets word' value') i i' c c' end end' took took' call same =
+      let his : i' ≡ i = cc in
+      let the_word : word' ≡ word = cc in
+      let the_value : value' ≡ value = cc in
+      let its : TookPlace r i c end' (Sets word value) =
+      subst (λ (A : Type 0). A)
+      (λ k. TookPlace r (his k) (sym same k) end' (Sets (the_word k) (the_value k))) took' in
+      let ends = same_end r i word value c end end' took its in cc
+  same_call (Sees view) (Sees view') i i' c c' end end' took took' call same =
+      let his : i' ≡ i = cc in
+      let its : TookPlace r i c end' (Sees view') =
+      subst (λ (A : Type 0). A) (λ k. TookPlace r (his k) (sym same k) end' (Sees view')) took' in
+      let seen = same_scan i c view view' end end' took its in cc
+  same_call _ _ i i' c c' end end' took took' call same = absurd (cc)
 
   pub one_operation : (o o' : Operation) → IsOperation r o → IsOperation r o' → o.call ≡ o'.call → o ≡ o'
   one_operation o o' took took' same =
-      same_call o.action o'.action o.process o'.process o.call o'.call o.end o'.end took took' same
+      same_call o.action o'.action o.process o'.process o.call o'.call o.end o'.end took took'
+      (sym (asks o.action o.process o.call o.end took) ∙ ap (item r) same
+      ∙ asks o'.action o'.process o'.call o'.end took') same
 
   -- an item of the run called it
   pub record Called (i c : ℕ) : Type 0 where
@@ -79,14 +61,10 @@ module _ (r : Run) where
 
   called_by : (a : Action) (i c : ℕ) (end : Option ℕ) → TookPlace r i c end a → Called i c
   called_by (Sets word value) i c (Some e) took =
-      let order : c < e = took.1 in
-      let last : e ≤ length r.items = took.0.last in
       record { asked = op.Update word value; first = took.0.first; last = omega arith; is = took.0.call }
   called_by (Sets word value) i c None took =
       record { asked = op.Update word value; first = took.0.first; last = took.0.order; is = took.0.call }
   called_by (Sees view) i c (Some e) took =
-      let order : c < e = took.order in
-      let last : e ≤ length r.items = took.scan.last in
       record { asked = op.Scan; first = took.scan.first; last = omega arith; is = took.scan.starts.0 }
   called_by (Sees view) i c None took = absurd took
 

@@ -3,7 +3,7 @@ use Rattle.std.proofs.Common.{◌≡◌, ℕ, zero, suc, ◌-◌, ◌<◌, ◌�
 use Rattle.std.proofs.Common.{Some, None, nat_lt, if◌then◌else◌, slice_set, refl, sym, ◌∙◌, ap, subst, arith, inl, inr}
 use Rattle.std.proofs.lemmas.Bool.{cases_eq, cases_lt}
 use Rattle.std.proofs.Math.Nat.{eq-or-lt_of_le}
-use Rattle.snap_runs.proofs.Common.{IsOneOf, Item, Step, Call, Crash, Op, Outcome, process_at, values, who, Run}
+use Rattle.snap_runs.proofs.Common.{IsOneOf, Call, Op, Outcome, process_at, values, who, Run}
 use Rattle.snap_runs.proofs.Common.{IsValidRun, state, before, item}
 use Rattle.snap_semantics.specs.declared.process.Op.TheVariants as op
 use Rattle.snap_semantics.specs.declared.process.Outcome.TheVariants as outcome
@@ -12,8 +12,9 @@ use Rattle.snap_runs.specs.Scan.{FinishedScan, steps, count}
 use Rattle.snap_runs.specs.Update.{is_at, goes_on, executes, IsDone, PendingUpdate}
 use Rattle.snap_runs.specs.LinearizationPoints.{HasLinearizationPoints}
 use Rattle.snap_runs.specs.Operation.{Sets, TookPlace}
-use Rattle.snap_runs.proofs.Computing.{lt_from, both, same_from}
+use Rattle.snap_runs.proofs.Computing.{lt_from, both, neither_less}
 use Rattle.snap_runs.proofs.Counting.{count_next}
+use Rattle.snap_runs.proofs.Executing.{step_of}
 use Rattle.snap_runs.proofs.Calls.{EndsWith, IsEnd, Calls, item_one, one_call, answer_ends}
 
 -- what passes a test is counted
@@ -52,13 +53,12 @@ abbrev pub Passing : (ℕ → Bool) → ℕ → ℕ → Type 0
 Passing test c e = (t : ℕ) × (c < t) × (t ≤ e) × (test t ≡ true)
 
 passing_next : (test : ℕ → Bool) (c e : ℕ) → Passing test c e → Passing test c (suc e)
-passing_next test c e x = (x.0, x.1, (let le : x.0 ≤ e = x.2 in omega arith), x.3)
+passing_next test c e x = (x.0, x.1, omega arith, x.3)
 
 passing_last : (test : ℕ → Bool) (c e n : ℕ) (later passes : Bool) → nat_lt c (suc e) ≡ later → test (suc e) ≡ passes →
     (1 ≤ n → Passing test c e) → 1 ≤ (if later && passes then suc n else n) → Passing test c (suc e)
 passing_last test c e n true true is so past more = (suc e, lt_from c (suc e) is, omega arith, so)
-passing_last test c e n true false is so past more = passing_next test c e (past more)
-passing_last test c e n false passes is so past more = passing_next test c e (past more)
+passing_last test c e n _ _ is so past more = passing_next test c e (past more)
 
 pub counted_item : (test : ℕ → Bool) (c e : ℕ) → 1 ≤ count test c e → Passing test c e
 counted_item test c zero h = absurd (omega arith)
@@ -78,12 +78,6 @@ finishing : (out : Outcome) → (out ≡ outcome.Finished) ⊎ (out ≡ outcome.
 finishing outcome.Finished = inl refl
 finishing other = inr (λ is. absurd (cc))
 
--- the process of an item that executes a line
-step_of : (i : ℕ) (y : Item) → steps i y ≡ true → i ≡ who y
-step_of i (Step k) h = sym (same_from k i h)
-step_of i (Call k o) h = absurd (cc)
-step_of i (Crash k) h = absurd (cc)
-
 -- how an update ends, and how a scan does
 pub ends_done : (word value : ℕ) (out : Outcome) → EndsWith (op.Update word value) out → out ≡ outcome.Finished
 ends_done word value outcome.Finished h = refl
@@ -101,31 +95,20 @@ ends_end o out h = absurd h
 module _ (r : Run) where
   pub executes_who : (i line t : ℕ) → executes r i line t ≡ true → i ≡ who (item r t)
   executes_who i line t ex =
-      step_of i (item r t)
-      (both (steps i (item r t)) (is_at line (process_at (before r t) i).status && goes_on (outcome_at r t)) ex).0
+      sym (ap who (step_of i (item r t)
+      (both (steps i (item r t)) (is_at line (process_at (before r t) i).status && goes_on (outcome_at r t)) ex).0))
 
   -- an operation ends once
   pub same_done : (i word value word' value' c e e' : ℕ) → PendingUpdate r i word value c e →
       PendingUpdate r i word' value' c e' → c < e → IsDone r i e → c < e' → IsDone r i e' → e ≡ e'
   same_done i word value word' value' c e e' up up' lt done lt' done' =
-      elim (cases_eq e e') [
-        | inl same ↦ same
-        | inr other ↦ elim (cases_lt e e') [
-          | inl less ↦ absurd (up'.goes_on e lt less done)
-          | inr more ↦ absurd (up.goes_on e' lt' (omega arith) done')
-        ]
-      ]
+      neither_less e e' (λ less. up'.goes_on e lt less done) (λ more. up.goes_on e' lt' more done')
 
   pub same_answer : (i c e e' : ℕ) (view view' : List ℕ) → FinishedScan r i None c e view →
       FinishedScan r i None c e' view' → e ≡ e'
   same_answer i c e e' view view' f f' =
-      elim (cases_eq e e') [
-        | inl same ↦ same
-        | inr other ↦ elim (cases_lt e e') [
-          | inl less ↦ absurd (f'.scan.goes_on e view f.order less f.ends)
-          | inr more ↦ absurd (f.scan.goes_on e' view' f'.order (omega arith) f'.ends)
-        ]
-      ]
+      neither_less e e' (λ less. f'.scan.goes_on e view f.order less f.ends)
+      (λ more. f.scan.goes_on e' view' f'.order more f'.ends)
 
   done_or_not : (i t : ℕ) → IsDone r i t ⊎ (IsDone r i t → ⊥)
   done_or_not i t =
@@ -174,18 +157,23 @@ module _ (r : Run) where
         ]
       ]
 
-  -- an update that is open before item t, and not later
-  pub shorter : (i word value c t e : ℕ) → c ≤ t → t ≤ e → PendingUpdate r i word value c e →
-      PendingUpdate r i word value c t
-  shorter i word value c t e le more up = record {
+  -- an update that is open before item t is open before another item up to which it is not done
+  open_to : (i word value c t e : ℕ) → PendingUpdate r i word value c t → c ≤ e → e ≤ length r.items →
+      ((u : ℕ) → c < u → u < e → IsDone r i u → ⊥) → PendingUpdate r i word value c e
+  open_to i word value c t e up order last goes_on = record {
     process = up.process;
     call = up.call;
     called = up.called;
     first = up.first;
-    order = le;
-    last = (let last : e ≤ length r.items = up.last in omega arith);
-    goes_on = λ u lt less. up.goes_on u lt (omega arith);
+    order = order;
+    last = last;
+    goes_on = goes_on;
   }
+
+  pub shorter : (i word value c t e : ℕ) → c ≤ t → t ≤ e → PendingUpdate r i word value c e →
+      PendingUpdate r i word value c t
+  shorter i word value c t e le more up =
+      open_to i word value c e t up le (omega arith) (λ u lt less. up.goes_on u lt (omega arith))
 
   -- the operation of an update that is open before item t
   pub record UpdateOperation (i word value c t : ℕ) : Type 0 where
@@ -196,23 +184,10 @@ module _ (r : Run) where
   pub update_operation : (i word value c t : ℕ) → c < t → PendingUpdate r i word value c t →
       UpdateOperation i word value c t
   update_operation i word value c t before up =
-      let last : t ≤ length r.items = up.last in
       elim (first_end i c (length r.items)) [
         | inl x ↦ record {
           end = Some x.item;
-          took_place = (
-            record {
-              process = up.process;
-              call = up.call;
-              called = up.called;
-              first = up.first;
-              order = (let lt : c < x.item = x.after in omega arith);
-              last = x.within;
-              goes_on = x.first;
-            },
-            x.after,
-            x.done,
-          );
+          took_place = (open_to i word value c t x.item up (omega arith) x.within x.first, x.after, x.done);
           open_still = λ e is. let same : x.item ≡ e = cc in
               elim (cases_lt x.item t) [
                 | inl less ↦ absurd (up.goes_on x.item x.after less x.done)
@@ -222,15 +197,8 @@ module _ (r : Run) where
         | inr none ↦ record {
           end = None;
           took_place = (
-            record {
-              process = up.process;
-              call = up.call;
-              called = up.called;
-              first = up.first;
-              order = omega arith;
-              last = omega arith;
-              goes_on = λ u lt less. none u lt (omega arith);
-            },
+            open_to i word value c t (length r.items) up (omega arith) (omega arith)
+                (λ u lt less. none u lt (omega arith)),
             none (length r.items) (omega arith) (omega arith),
           );
           open_still = λ e is. absurd (cc);
@@ -248,8 +216,7 @@ module _ (r : Run) where
   still_open : (i word value c e : ℕ) → TookPlace r i c (Some e) (Sets word value) →
       TookPlace r i c None (Sets word value) → ⊥
   still_open i word value c e h h' =
-      let last : e ≤ length r.items = h.0.last in
-      elim (eq-or-lt_of_le last) [
+      elim (eq-or-lt_of_le h.0.last) [
         | inl same ↦ h'.1 (subst (IsDone r i) same h.2)
         | inr less ↦ h'.0.goes_on e h.1 less h.2
       ]
@@ -327,7 +294,7 @@ module _ (r : Run) where
                 }))
             | inr not ↦ inr (λ i c view f. not view f.ends.1)
           ]
-          | inr ge ↦ inr (λ i c view f. let last : suc t ≤ length r.items = f.scan.last in omega arith)
+          | inr ge ↦ inr (λ i c view f. omega arith)
         ]
 
     -- an item that writes, and the update of which it is the write

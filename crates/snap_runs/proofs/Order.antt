@@ -16,10 +16,9 @@ Pairs R [] = Unit {0}
 Pairs R (o ∷ os) = AllByRecursion (R o) os × Pairs R os
 
 pub all_pairs : (R : Operation → Operation → Type 0) (os : List Operation) → Pairs R os → AllPairs R os
-all_pairs R [] h i j d lt short = absurd (omega arith)
-all_pairs R (o ∷ os) h i zero d lt short = absurd (omega arith)
 all_pairs R (o ∷ os) h zero (suc j) d lt short = All-from_recursion (R o) os h.0 j d (omega arith)
 all_pairs R (o ∷ os) h (suc i) (suc j) d lt short = all_pairs R os h.1 i j d (omega arith) (omega arith)
+all_pairs R _ h i _ d lt short = absurd (omega arith)
 
 -- one more at the end
 pub all_push : (P : Operation → Type 0) (os : List Operation) (o : Operation) → AllByRecursion P os → P o →
@@ -95,25 +94,24 @@ Sooner t s u v = (t < u) ⊎ ((t ≡ u) × (s < v))
 
 pub sooner_next : (t s u v : ℕ) → Sooner t s u v → Sooner t s u (suc v)
 sooner_next t s u v (inl less) = inl less
-sooner_next t s u v (inr here) = inr (here.0, (let lt : s < v = here.1 in omega arith))
+sooner_next t s u v (inr here) = inr (here.0, omega arith)
 
 pub sooner_item : (t s u v : ℕ) → Sooner t s u v → Sooner t s (suc u) 0
 sooner_item t s u v (inl less) = inl (omega arith)
-sooner_item t s u v (inr here) = inl (let same : t ≡ u = here.0 in omega arith)
+sooner_item t s u v (inr here) = inl (omega arith)
 
 pub sooner_differs : (t s u v : ℕ) → Sooner t s u v → t ≡ u → s ≡ v → ⊥
 sooner_differs t s u v (inl less) same equal = omega arith
-sooner_differs t s u v (inr here) same equal = let lt : s < v = here.1 in omega arith
+sooner_differs t s u v (inr here) same equal = omega arith
 
 pub sooner_item_le : (t s u v : ℕ) → Sooner t s u v → t ≤ u
 sooner_item_le t s u v (inl less) = omega arith
-sooner_item_le t s u v (inr here) = let same : t ≡ u = here.0 in omega arith
+sooner_item_le t s u v (inr here) = omega arith
 
 -- what is sooner than the next spot of an item is sooner than this one, or here
 pub sooner_or_here : (t s u v : ℕ) → Sooner t s u (suc v) → Sooner t s u v ⊎ ((t ≡ u) × (s ≡ v))
 sooner_or_here t s u v (inl less) = inl (inl less)
 sooner_or_here t s u v (inr here) =
-    let lt : s < suc v = here.1 in
     elim (cases_lt s v) [
       | inl less ↦ inl (inr (here.0, less))
       | inr more ↦ inr (here.0, omega arith)
@@ -126,4 +124,4 @@ sooner_before_item t s u most le (inl less) =
       | inl lt ↦ inl lt
       | inr ge ↦ inr (omega arith, omega arith)
     ]
-sooner_before_item t s u most le (inr here) = absurd (let lt : s < 0 = here.1 in omega arith)
+sooner_before_item t s u most le (inr here) = absurd (omega arith)

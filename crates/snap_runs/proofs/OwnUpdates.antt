@@ -12,6 +12,7 @@ use Rattle.snap_runs.specs.Update.{executes, IsDone, PendingUpdate}
 use Rattle.snap_runs.specs.Promises.{HavePoints, OwnUpdatesAreSeen}
 use Rattle.snap_runs.proofs.Algorithm.{Mode, Updating, op_of, Control, At, TypedProcess, Algorithm, by_call, typed_at}
 use Rattle.snap_runs.proofs.Algorithm.{by_item, outcome_of, item_at, typed_state}
+use Rattle.snap_runs.proofs.Computing.{from_there}
 use Rattle.snap_runs.proofs.Counting.{count_none, count_not}
 use Rattle.snap_runs.proofs.Embedding as embed
 use Rattle.snap_runs.proofs.Executing as executing
@@ -48,7 +49,6 @@ last_of test c (suc e) h =
         | false ↦ λ is.
             let fewer : count test c (suc e) ≡ count test c e = count_not test c e (omega arith) is in
             let rest : LastOf test c e = last_of test c e (omega arith) in
-            let before : rest.item < e = rest.before in
             record {
               item = rest.item;
               after = rest.after;
@@ -91,15 +91,12 @@ module _ {V P M : Type 0} (a : Algorithm V P M) (lines : Lines V P M) (line : �
   pub stays : (i from to : ℕ) → IsOneOf a.shape.n i → from ≤ to → to ≤ length items →
       ((t : ℕ) → from ≤ t → t < to → executes r i line (suc t) ≡ false) →
       word_at (words to) i ≡ word_at (words from) i
-  stays i from zero one le short none = ap (λ u. word_at (words u) i) (let z : 0 ≡ from = omega arith in z)
-  stays i from (suc t) one le short none =
-      elim (eq-or-lt_of_le le) [
-        | inl same ↦ ap (λ u. word_at (words u) i) (sym same)
-        | inr less ↦ elim (writes.word_changes a lines line writer run updates own i t one (omega arith)) [
-          | inl wrote ↦ absurd (let e : true ≡ false = sym wrote ∙ none t (omega arith) (omega arith) in cc)
-          | inr same ↦ same ∙ stays i from t one (omega arith) (omega arith) (λ u lo hi. none u lo (omega arith))
-        ]
-      ]
+  stays i from to one le short none =
+      from_there (λ t. word_at (words t) i ≡ word_at (words from) i) from to le refl (λ t low high past.
+      elim (writes.word_changes a lines line writer run updates own i t one (omega arith)) [
+        | inl wrote ↦ absurd (let e : true ≡ false = sym wrote ∙ none t low high in cc)
+        | inr same ↦ same ∙ past
+      ])
 
   module _ (i : ℕ) (one : IsOneOf a.shape.n i) where
     abbrev Under : Op → ℕ → ℕ → Type 0
@@ -111,7 +108,6 @@ module _ {V P M : Type 0} (a : Algorithm V P M) (lines : Lines V P M) (line : �
     not_updating : (word value c e : ℕ) (op : Op) → PendingUpdate r i word value c (suc e) → c ≤ e →
         item r (suc e) ≡ Call i op → outcome r (suc e) ≡ Called → ⊥
     not_updating word value c e op up le call out =
-        let last : suc e ≤ length items = up.last in
         let g = called.going a line once.writes_is items run.fits run.does i one
         (writes_once.silent a lines line once run i one) word value c (suc e) e up le (omega arith) in
         let x = typed_state a items e in
@@ -155,7 +151,6 @@ module _ {V P M : Type 0} (a : Algorithm V P M) (lines : Lines V P M) (line : �
         suc c ≤ length items → item r (suc c) ≡ Call i op → outcome r (suc c) ≡ Called → Writing t → ⊥
     before_call done c t op none lo hi short call out w =
         let under : Under (Update w.word w.value) (at t i).auxiliary.called t = w.under in
-        let order : (at t i).auxiliary.called ≤ t = under.order in
         not_updating w.word w.value (at t i).auxiliary.called c op
         (record {
           process = one;
@@ -178,16 +173,13 @@ module _ {V P M : Type 0} (a : Algorithm V P M) (lines : Lines V P M) (line : �
         let same : At g.mode g.counter ≡ At (Updating w.word w.value) writer.counter =
         sym g.control ∙ w.control ∙ ap (λ y. At y writer.counter) w.is in
         let mode : g.mode ≡ Updating w.word w.value = cc in
-        let op : op_of g.mode ≡ Scan = g.inside.1 in
-        absurd (let e2 : Update w.word w.value ≡ Scan = sym (ap op_of mode) ∙ op in cc)
+        absurd (let e2 : Update w.word w.value ≡ Scan = sym (ap op_of mode) ∙ g.inside.1 in cc)
 
     -- after an update that is done, and up to the end of a scan that it called next, it writes nothing
     quiet : (done c e : ℕ) → ((u : ℕ) → done < u → u < c → IsDone r i u → ⊥) → PendingScan r i None c e → (t : ℕ) →
         done ≤ t → t < e → executes r i line (suc t) ≡ false
-    quiet done zero e none scan t lo hi = absurd (let pos : 0 < 0 = scan.first in omega arith)
+    quiet done zero e none scan t lo hi = absurd (omega arith)
     quiet done (suc c) e none scan t lo hi =
-        let last : e ≤ length items = scan.last in
-        let order : suc c ≤ e = scan.order in
         (elim (executes r i line (suc t)) as (λ b. executes r i line (suc t) ≡ b → executes r i line (suc t) ≡ false) [
           | false ↦ λ is. is
           | true ↦ λ is.
@@ -210,20 +202,18 @@ module _ {V P M : Type 0} (a : Algorithm V P M) (lines : Lines V P M) (line : �
 
     wrote : (word value c e : ℕ) → PendingUpdate r i word value c e → c < e → IsDone r i e → Wrote word value c e
     wrote word value c e up lt done =
-        let last : e ≤ length items = up.last in
         let two =
         writes.once_in_update a lines line writer run updates once numbered its
         (fits_of r run.fits) i word value c e up in
         let one_write : count (executes r i line) c e ≡ 1 = two.1 lt done in
         let l : LastOf (executes r i line) c e = last_of (executes r i line) c e (omega arith) in
         let v = l.item in
-        let before : v < e = l.before in
         let short : v < length items = omega arith in
         let there =
         executing.stands_at a items run.fits run.does numbered v i line writer.counter short one its l.passes in
         let w = writes.written a lines line writer run updates v i there.1.0 short there.0 there.1.1 in
         let g = called.going a line once.writes_is items run.fits run.does i one
-        (writes_once.silent a lines line once run i one) word value c e v up l.after before in
+        (writes_once.silent a lines line once run i one) word value c e v up l.after l.before in
         let same : At g.mode g.counter ≡ At (Updating w.word w.value) writer.counter = sym g.control ∙ w.control in
         let mode : g.mode ≡ Updating w.word w.value = cc in
         let op : Update w.word w.value ≡ Update word value = sym (ap op_of mode) ∙ g.op in
@@ -235,7 +225,7 @@ module _ {V P M : Type 0} (a : Algorithm V P M) (lines : Lines V P M) (line : �
         record {
           item_before = v;
           after = l.after;
-          before = before;
+          before = l.before;
           is_own = sym its_word ∙ owned;
           datum = ap (λ ws. (word_at ws i).datum) w.words_are
               ∙ ap (λ (x : Word). x.datum)
@@ -254,13 +244,9 @@ module _ {V P M : Type 0} (a : Algorithm V P M) (lines : Lines V P M) (line : �
   pub own_updates_are_seen : HavePoints r → OwnUpdatesAreSeen r
   own_updates_are_seen points fits i word value c0 done c e view up lt ended after none scan =
       let one = up.process in
-      let last : e ≤ length items = scan.scan.last in
       let point : HasPoint r c e view = points fits i None c e view scan in
       let u = point.0 in
-      let from : c ≤ u = point.1 in
-      let to : u ≤ e = point.2 in
       let w : Wrote i one word value c0 done = wrote i one word value c0 done up lt ended in
-      let before : w.item_before < done = w.before in
       let same : word_at (words u) i ≡ word_at (words (suc w.item_before)) i =
       stays i (suc w.item_before) u one (omega arith) (omega arith) (λ t lo hi. elim (cases_lt t done) [
         | inl early ↦ w.none_since t (omega arith) early

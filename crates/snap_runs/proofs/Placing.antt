@@ -91,8 +91,6 @@ module _ (line : ℕ) (r : Run) (fits : IsValidRun r) (points : HasLinearization
       let first = linear.one_spot line r fits points a p.0 p.1 f.0 f.1 p.2 f.4 in
       let second = linear.one_spot line r fits points b q.0 q.1 f.2 f.3 q.2 f.5 in
       let le : f.0 ≤ f.2 = sooner_item_le f.0 f.1 f.2 f.3 f.6 in
-      let same : p.0 ≡ f.0 = first.0 in
-      let same_second : q.0 ≡ f.2 = second.0 in
       omega arith
 
   none_sooner : (a : Operation) (p : Stands a) (os : List Operation) (h : AllByRecursion Stands os) →
@@ -123,7 +121,6 @@ module _ (line : ℕ) (r : Run) (fits : IsValidRun r) (points : HasLinearization
         open_still = at.not_ended;
         spot = (refl, at.happens.0, at.happens.1);
       } in
-      let last : t ≤ length r.items = at.within in
       h.has o t 0 p (inl (omega arith))
   complete os h i c None (Sees view) t took at = absurd took
   complete os h i c (Some e) (Sees view) t took at =

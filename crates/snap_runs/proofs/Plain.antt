@@ -1,6 +1,6 @@
 -- Words of a proof, which may carry a counter, and the same words as
 -- the registers have them (`plain`): reads, copies and values agree.
-use Rattle.std.specs.Prelude.{◌≡◌, ℕ, zero, suc, List, [], ◌∷◌, take, map, slice_index_or, slice_set, refl}
+use Rattle.std.specs.Prelude.{◌≡◌, ℕ, suc, List, [], ◌∷◌, take, map, slice_index_or, slice_set, refl}
 use Rattle.std.proofs.Common.{sym, ◌∙◌, ap}
 use Rattle.std.proofs.Math.ListN.{get_or-map}
 use Rattle.std.proofs.lemmas.List.{map-set}
@@ -26,7 +26,6 @@ module _ (plain : Word → Word) (same : (w : Word) → (plain w).datum ≡ w.da
   plain_data (w ∷ ws) = ap (λ x. x ∷ data_of (map plain ws)) (same w) ∙ ap (λ rest. w.datum ∷ rest) (plain_data ws)
 
   pub plain_taken : (n : ℕ) (ws : List Word) → data_of (take n (map plain ws)) ≡ data_of (take n ws)
-  plain_taken zero ws = refl
-  plain_taken (suc n) [] = refl
   plain_taken (suc n) (w ∷ ws) =
       ap (λ x. x ∷ data_of (take n (map plain ws))) (same w) ∙ ap (λ rest. w.datum ∷ rest) (plain_taken n ws)
+  plain_taken _ _ = refl

@@ -108,15 +108,13 @@ module _ (source : Source) (shape : Counts) where
 
     longer : (i word value c e : ℕ) → PendingUpdate short i word value c e → PendingUpdate long i word value c e
     longer i word value c e h =
-        let order : c ≤ e = h.order in
-        let last : e ≤ length items = h.last in
         let both = length-append items more in
         record {
           process = h.process;
           call = same_item c (omega arith) ∙ h.call;
           called = same_outcome c (omega arith) ∙ h.called;
           first = h.first;
-          order = order;
+          order = h.order;
           last = omega arith;
           goes_on = λ t lt less is. h.goes_on t lt less (same_done i t (omega arith) is);
         }

@@ -2,20 +2,19 @@
 -- process, its own steps and its double collects, is what the run's items say.
 use Rattle.std.proofs.Common.{◌≡◌, ℕ, zero, suc, ◌+◌, ◌<◌, ◌≤◌, ◌⊎◌, Bool, true, false, ◌&&◌, List, length, Option}
 use Rattle.std.proofs.Common.{Some, None, if◌then◌else◌, refl, sym, ◌∙◌, ap, subst, arith, inl, inr}
-use Rattle.std.proofs.Math.Nat.{eq-or-lt_of_le}
 use Rattle.snap_semantics.specs.Source.{instr_at}
-use Rattle.snap_runs.proofs.Common.{Op, Scan, Item, Step, Call, Outcome, Called, Stepped, Process, process_at}
+use Rattle.snap_runs.proofs.Common.{Scan, Item, Step, Call, Outcome, Called, Stepped, Process, process_at}
 use Rattle.snap_runs.proofs.Common.{who, IsOneOf, Run, state, before, item, outcome}
 use Rattle.snap_runs.specs.Scan.{line_in, link_in, IsCallLine, ReturnsView, Starts, PendingScan, steps, is_if_all}
 use Rattle.snap_runs.specs.Scan.{is_stepped, is_not_skipped, ends_double_collect}
 use Rattle.snap_runs.specs.Scan.{takes_step, double_collects, own_steps}
-use Rattle.snap_runs.proofs.Algorithm.{Mode, Scanning, op_of, link_of, mode_of, op_is, link_is}
-use Rattle.snap_runs.proofs.Algorithm.{Control, Idle, At, Move, To, Begin, Answer, Finish, embedding, TypedProcess}
-use Rattle.snap_runs.proofs.Algorithm.{Algorithm, by_move, typed_at}
-use Rattle.snap_runs.proofs.Algorithm.{outcome_of, item_at, typed_state, status_of, process_of}
-use Rattle.snap_runs.proofs.Algorithm.{Auxiliary, begun_auxiliary, called_auxiliary}
-use Rattle.snap_runs.proofs.Counting.{count_none, count_next, count_not, add_one, one_more, inner_more}
-use Rattle.snap_runs.proofs.Computing.{same_number, and_true}
+use Rattle.snap_runs.proofs.Algorithm.{Mode, Scanning, op_of, link_of, mode_of, op_is, link_is, Control, Idle, At, Move}
+use Rattle.snap_runs.proofs.Algorithm.{To, Begin, Answer, embedding, TypedProcess, Algorithm, by_move, typed_at}
+use Rattle.snap_runs.proofs.Algorithm.{outcome_of, item_at, typed_state, status_of, Auxiliary, begun_auxiliary}
+use Rattle.snap_runs.proofs.Algorithm.{called_auxiliary}
+use Rattle.snap_runs.proofs.Counting.{count_none, count_next, count_not, add_one, inner_more, own_same}
+use Rattle.snap_runs.proofs.Counting.{own_next as own_more}
+use Rattle.snap_runs.proofs.Computing.{same_number, and_true, from_there}
 use Rattle.snap_runs.proofs.ItemCases as cases
 use Rattle.snap_runs.proofs.Embedding as embed
 use Rattle.snap_runs.proofs.Steady.{Steady}
@@ -39,16 +38,13 @@ module _ {V P M : Type 0} (a : Algorithm V P M) where
   -- a line of a scan stays in it, or returns
   abbrev pub Stays : Option ℕ → P → V → Move V P M → Type 0
   Stays link k p (To d' m' p' k') = Inside link d' ⊎ ReturnsAt link k p
-  Stays link k p (Begin d' p' k') = ⊥
   Stays link k p (Answer v) = IsTop link
-  Stays link k p Finish = ⊥
+  Stays link k p _ = ⊥
 
   -- a move that does not merely go on
   abbrev pub NotTo : Move V P M → Type 0
   NotTo (To d m p k) = ⊥
-  NotTo (Begin d p k) = Unit {0}
-  NotTo (Answer v) = Unit {0}
-  NotTo Finish = Unit {0}
+  NotTo _ = Unit {0}
 
   pub embeds : (k : P) (d : Mode) (p : V) → NotTo (embedding k d p)
   embeds k Scanning p = tt
@@ -105,9 +101,6 @@ module _ {V P M : Type 0} (a : Algorithm V P M) where
         && (is_if_all (line_in r.source (process_at (before r (suc t)) i).status) && is_stepped (outcome r (suc t))))
         none)
 
-    own_same : (c t : ℕ) → c ≤ t → steps i (item_at items t) ≡ false → own_steps r i c (suc t) ≡ own_steps r i c t
-    own_same c t le none = count_not (takes_step r i) c t le (ap (λ b. b && is_not_skipped (outcome r (suc t))) none)
-
     -- an item that changes nothing
     same_goes : (link : Option ℕ) (c t : ℕ) → c ≤ t → his (suc t) ≡ his t → steps i (item_at items t) ≡ false →
         Goes link c t → Goes link c (suc t)
@@ -117,25 +110,17 @@ module _ {V P M : Type 0} (a : Algorithm V P M) where
       control = ap (λ (q : TypedProcess V P M). q.control) same ∙ g.control;
       inside = g.inside;
       since = ap (λ (q : TypedProcess V P M). q.auxiliary.since) same ∙ g.since;
-      own = ap (λ (q : TypedProcess V P M). q.auxiliary.own) same ∙ g.own ∙ sym (own_same c t le none);
+      own = ap (λ (q : TypedProcess V P M). q.auxiliary.own) same ∙ g.own ∙ sym (own_same r i c t le none);
       collects =
           ap (λ (q : TypedProcess V P M). q.auxiliary.collects) same ∙ g.collects ∙ sym (collects_same c t le none);
       round_after = subst (λ (q : TypedProcess V P M). c ≤ q.auxiliary.round) (sym same) g.round_after;
       round_before =
           subst (λ (q : TypedProcess V P M). q.auxiliary.round ≤ suc t) (sym same)
-          (let le2 : (his t).auxiliary.round ≤ t = g.round_before in omega arith);
+          (omega arith);
       tested =
           subst (λ (q : TypedProcess V P M). q.auxiliary.tested ≡ double_collects r i q.auxiliary.round (suc t))
           (sym same) (g.tested ∙ sym (collects_same (his t).auxiliary.round t g.round_before none));
     }
-
-    is_busy_at : (t : ℕ) → t ≤ length items → (d : Mode) (k : P) → (his t).control ≡ At d k →
-        process_at (state r t) i
-        ≡ process_of a (record { control = At d k; variables = (his t).variables; auxiliary = (his t).auxiliary })
-    is_busy_at t le d k e =
-        embed.process_at_is a items fits does t i le one
-        ∙ ap (λ (p : Control P).
-        process_of a (record { control = p; variables = (his t).variables; auxiliary = (his t).auxiliary })) e
 
     -- the counts after a step of the process
     collects_next : (c t : ℕ) (d : Mode) (k : P) → c ≤ t → t ≤ length items →
@@ -143,7 +128,7 @@ module _ {V P M : Type 0} (a : Algorithm V P M) where
         double_collects r i c (suc t) ≡ double_collects r i c t + a.tests k
     collects_next c t d k le short steps_is out_is at =
         let line : line_in r.source (process_at (before r (suc t)) i).status ≡ instr_at a.source.lines (a.number k) =
-        ap (λ (y : Process). line_in r.source y.status) (is_busy_at t short d k at) in
+        ap (λ (y : Process). line_in r.source y.status) (embed.busy_at a items fits does t i d k short one at) in
         let old = double_collects r i c t in
         count_next (ends_double_collect r i) c t le
         ∙ ap (λ b. if b && (is_if_all (line_in r.source (process_at (before r (suc t)) i).status)
@@ -212,22 +197,21 @@ module _ {V P M : Type 0} (a : Algorithm V P M) where
         }
     stepped_goes None c e t d k (To d' m' p' k') scan le lt short is at after out_is within (inr h) g = absurd h
     stepped_goes (Some l) c e t d k (To d' m' p' k') scan le lt short is at after out_is within (inr h) g =
-        let busy = is_busy_at t (omega arith) d k at in
+        let busy = embed.busy_at a items fits does t i d k (omega arith) one at in
         absurd (scan.goes_on (suc t) h.0 (omega arith) lt (
           is,
           subst (λ (y : Process). ReturnsView (line_in r.source y.status) y.locals h.0) (sym busy) h.1,
           ap (λ (y : Process). link_in y.status) busy ∙ within,
         ))
-    stepped_goes link c e t d k (Begin d' p' k') scan le lt short is at after out_is within h g = absurd h
     stepped_goes None c e t d k (Answer v) scan le lt short is at after out_is within h g =
         absurd (scan.goes_on (suc t) v (omega arith) lt (ap who is, out_is))
     stepped_goes (Some l) c e t d k (Answer v) scan le lt short is at after out_is within h g = absurd h
-    stepped_goes link c e t d k Finish scan le lt short is at after out_is within h g = absurd h
+    stepped_goes link c e t d k _ scan le lt short is at after out_is within h g = absurd h
 
     next_goes : (link : Option ℕ) (c e t : ℕ) → PendingScan r i link c e → c ≤ t → suc t < e →
         Goes link c t → Goes link c (suc t)
     next_goes link c e t scan le lt g =
-        let short : t < length items = (let last : e ≤ length items = scan.last in omega arith) in
+        let short : t < length items = omega arith in
         elim (cases.item_case a items fits does i one t short) [
           | inl stays ↦ same_goes link c t le stays.same
               (cases.no_step a items fits does i one t g.mode g.counter stays g.control) g
@@ -273,21 +257,10 @@ module _ {V P M : Type 0} (a : Algorithm V P M) where
     called_goes : (c : ℕ) → c < length items → item_at items c ≡ Call i Scan →
         outcome r (suc c) ≡ Called → Goes None (suc c) (suc c)
     called_goes c short is out =
-        elim (cases.item_case a items fits does i one c short) [
-          | inl stays ↦ absurd (let e = sym out ∙ (stays.skipped (ap who is)).1 in cc)
-          | inr busy_or_called ↦ elim busy_or_called [
-            | inl s ↦ absurd (let e = sym is ∙ s.item in cc)
-            | inr call ↦ (let op : call.op ≡ Scan = (let e = sym call.item ∙ is in cc) in
-                let after = subst (λ (o : Op). his (suc c) ≡ record {
-                  control = At (mode_of o) (a.counter o);
-                  variables = (his c).variables;
-                  auxiliary = called_auxiliary (suc c) o (his c).auxiliary;
-                }) op call.after in
-                started None c (mode_of Scan) (a.counter Scan) (his c).variables
-                (called_auxiliary (suc c) Scan (his c).auxiliary) after (link_is a.back Scan, op_is Scan)
-                (refl, refl, refl, refl, refl))
-          ]
-        ]
+        started None c (mode_of Scan) (a.counter Scan) (his c).variables
+        (called_auxiliary (suc c) Scan (his c).auxiliary)
+        (cases.called a items fits does i one c Scan short is out) (link_is a.back Scan, op_is Scan)
+        (refl, refl, refl, refl, refl)
 
     -- a line that begins an embedded scan
     moved_goes : (l c : ℕ) (k : P) (v : Move V P M) → NotTo v → his (suc c) ≡ cases.moved a (suc c) (his c) k v →
@@ -298,8 +271,7 @@ module _ {V P M : Type 0} (a : Algorithm V P M) where
         started (Some l) c d' k' p' (begun_auxiliary a k (suc c) (his c).auxiliary) after
         (sym (ap (λ (q : TypedProcess V P M). link_in (status_of a q.control)) after) ∙ link)
         (refl, refl, refl, refl, refl)
-    moved_goes l c k (Answer v) not_to after out link = absurd (cc)
-    moved_goes l c k Finish not_to after out link = absurd (cc)
+    moved_goes l c k _ not_to after out link = absurd (cc)
 
     -- the item that starts an embedded scan
     begun_goes : (l c : ℕ) → c < length items → item_at items c ≡ Step i →
@@ -335,13 +307,9 @@ module _ {V P M : Type 0} (a : Algorithm V P M) where
 
     -- the scan goes on up to the item before its end
     pub goes : (link : Option ℕ) (c e t : ℕ) → PendingScan r i link c e → c ≤ t → t < e → Goes link c t
-    goes link c e zero scan le lt = absurd (let pos : 0 < c = scan.first in omega arith)
-    goes link c e (suc t) scan le lt =
-        let last : e ≤ length items = scan.last in
-        elim (eq-or-lt_of_le le) [
-          | inl same ↦ subst (λ y. Goes link c y) same (first_goes link c e scan.first (omega arith) scan.starts)
-          | inr more ↦ next_goes link c e t scan (omega arith) lt (goes link c e t scan (omega arith) (omega arith))
-        ]
+    goes link c e t scan le lt =
+        from_there (Goes link c) c t le (first_goes link c e scan.first (omega arith) scan.starts)
+        (λ u low high g. next_goes link c e u scan low (omega arith) g)
 
     -- the counts at the start, and one item later
     pub started_collects : (c e : ℕ) → e ≤ c → double_collects r i c e ≡ 0
@@ -351,16 +319,14 @@ module _ {V P M : Type 0} (a : Algorithm V P M) where
     started_own c e h = count_none (takes_step r i) c e h
 
     pub last_own : (c t : ℕ) → c ≤ t → own_steps r i c (suc t) ≤ own_steps r i c t + 1
-    last_own c t le =
-        subst (λ y. y ≤ own_steps r i c t + 1) (sym (count_next (takes_step r i) c t le))
-        (one_more (steps i (item r (suc t)) && is_not_skipped (outcome r (suc t))) (own_steps r i c t))
+    last_own c t le = own_more r i c t le
 
     pub last_collects : (c t : ℕ) (d : Mode) (k : P) → c ≤ t → t ≤ length items → (his t).control ≡ At d k →
         double_collects r i c (suc t) ≤ double_collects r i c t + a.tests k
     last_collects c t d k le short at =
         let status = line_in r.source (process_at (before r (suc t)) i).status in
         let line : status ≡ instr_at a.source.lines (a.number k) =
-        ap (λ (y : Process). line_in r.source y.status) (is_busy_at t short d k at) in
+        ap (λ (y : Process). line_in r.source y.status) (embed.busy_at a items fits does t i d k short one at) in
         let tested : (if is_if_all status then 1 else 0) ≡ a.tests k =
         ap (λ o. if is_if_all o then 1 else 0) line ∙ tests_is k in
         subst (λ y. y ≤ double_collects r i c t + a.tests k) (sym (count_next (ends_double_collect r i) c t le))

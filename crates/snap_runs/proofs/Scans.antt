@@ -1,13 +1,11 @@
 -- The scans of a run of an algorithm: where the process of a scan stands, and how a finished scan ends.
 use Rattle.std.specs.Prelude.{◌≡◌, ℕ, suc, ◌<◌, ◌≤◌, List, length, Option, Some, None, if◌then◌else◌}
-use Rattle.std.proofs.Common.{sym, ◌∙◌, ap, subst, arith}
-use Rattle.snap_runs.proofs.Common.{IsOneOf, Process, process_at, who, Item, Answered, state}
-use Rattle.snap_runs.proofs.Common.{outcome}
+use Rattle.std.proofs.Common.{sym, ◌∙◌, subst, arith}
+use Rattle.snap_runs.proofs.Common.{IsOneOf, Process, who, Item, Answered, outcome}
 use Rattle.snap_semantics.specs.Source.{instr_at}
 use Rattle.snap_runs.specs.Scan.{IsCallLine, ReturnsView, Ends, PendingScan, FinishedScan, line_in, is_if_all}
-use Rattle.snap_runs.proofs.Algorithm.{Mode, Control, Idle, At, WhenBusy, Move, Answer}
-use Rattle.snap_runs.proofs.Algorithm.{TypedProcess, Algorithm, by_move, typed_at}
-use Rattle.snap_runs.proofs.Algorithm.{outcome_of, item_at, typed_state, process_of}
+use Rattle.snap_runs.proofs.Algorithm.{Mode, Control, Idle, At, WhenBusy, Move, Answer, TypedProcess, Algorithm}
+use Rattle.snap_runs.proofs.Algorithm.{by_move, typed_at, outcome_of, item_at, typed_state}
 use Rattle.snap_runs.proofs.Embedding as embed
 use Rattle.snap_runs.proofs.Flow.{Lines}
 use Rattle.snap_runs.proofs.Flow as flow
@@ -97,11 +95,7 @@ module _ {V P M : Type 0} (a : Algorithm V P M) (lines : Lines V P M) where
       embedded_ending : (l c t : ℕ) (view : List ℕ) → t < length items → Goes (Some l) c t →
           Ends (embed.run_of a items) i (suc t) (Some l) view → Ending (Some l) c t view
       embedded_ending l c t view short g ends =
-          let busy : process_at (state (embed.run_of a items) t) i ≡ process_of a
-          (record { control = At g.mode g.counter; variables = (his t).variables; auxiliary = (his t).auxiliary }) =
-          embed.process_at_is a items run.fits run.does t i (omega arith) one
-          ∙ ap (λ (p : Control P). process_of a
-          (record { control = p; variables = (his t).variables; auxiliary = (his t).auxiliary })) g.control in
+          let busy = embed.busy_at a items run.fits run.does t i g.mode g.counter (omega arith) one g.control in
           let returned =
           listed.returns (his t).variables g.counter view
           (subst (λ (p : Process). ReturnsView (line_in a.source p.status) p.locals view) busy ends.1) in
@@ -123,13 +117,7 @@ module _ {V P M : Type 0} (a : Algorithm V P M) (lines : Lines V P M) where
       pub ending : (link : Option ℕ) (c t : ℕ) (view : List ℕ) →
           FinishedScan (embed.run_of a items) i link c (suc t) view → Ending link c t view
       ending None c t view h =
-          let scan = h.scan in
-          let last : suc t ≤ length items = scan.last in
-          let lt : c < suc t = h.order in
-          called_ending c t view (omega arith) (goes None c (suc t) t scan (omega arith) (omega arith))
+          called_ending c t view (omega arith) (goes None c (suc t) t h.scan (omega arith) (omega arith))
           h.ends.0 h.ends.1
       ending (Some l) c t view h =
-          let scan = h.scan in
-          let last : suc t ≤ length items = scan.last in
-          let lt : c < suc t = h.order in
-          embedded_ending l c t view (omega arith) (goes (Some l) c (suc t) t scan (omega arith) (omega arith)) h.ends
+          embedded_ending l c t view (omega arith) (goes (Some l) c (suc t) t h.scan (omega arith) (omega arith)) h.ends

@@ -49,7 +49,6 @@ module _ {V P M : Type 0} {a : Algorithm V P M} {lines : Lines V P M} {line : â„
         BorrowedViewsAreLent at_line (every.r frame items)
     borrowed_views_are_lent at_line there is lends beside =
         every.borrowed_views_are_lent frame items kept at_line there is (Î» steady i link c t view ends x.
-        let last : suc t â‰¤ length calmed = ends.scan.last in
         let b = beside steady t i x.mode (omega arith) ends.scan.process x.control in
         let since = (at frame calmed t i).auxiliary.since in
         let stood : Beside (words frame calmed) t c b.0 view =
@@ -79,11 +78,9 @@ module _ {V P M : Type 0} {a : Algorithm V P M} {lines : Lines V P M} {line : â„
         in_calm steady whole i j link c (suc t) scan lt move =
             let k = kept steady in
             let run = execution frame calmed k in
-            let one = scan.process in
-            let short : suc t â‰¤ length calmed = scan.last in
             let seen =
             moves.observed a lines frame.listed run frame.numbered raises there next raised row is goes i j t
-            (omega arith) one move in
-            let x = newer steady t i j seen.mode (omega arith) one move.process seen.control seen.grows in
+            (omega arith) scan.process move in
+            let x = newer steady t i j seen.mode (omega arith) scan.process move.process seen.control seen.grows in
             moves.recent_write a lines frame.listed run line frame.writer k.updates own i j link c t seen.mode there
             move.process scan (omega arith) seen.control none x.0 x.1

@@ -1,12 +1,11 @@
 -- `Steady`: a run in which no process crashes, and each item is of one of the processes.
 use Rattle.std.specs.List.{AllByRecursion}
-use Rattle.snap_runs.proofs.Common.{IsOneOf, Item, Step, Call, Crash, who, Run, IsValidRun}
+use Rattle.snap_runs.proofs.Common.{IsOneOf, Item, Crash, who, Run, IsValidRun}
 
 -- a step or a call
 abbrev pub IsNoCrash : Item → Type 0
-IsNoCrash (Step i) = Unit {0}
-IsNoCrash (Call i op) = Unit {0}
 IsNoCrash (Crash i) = ⊥
+IsNoCrash _ = Unit {0}
 
 -- a run that fits, without crashes
 pub record Steady (r : Run) : Type 0 where

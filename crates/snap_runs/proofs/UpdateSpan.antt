@@ -7,12 +7,10 @@ use Rattle.snap_runs.proofs.Common.{Op, Scan, Update, Item, Step, Call, Called}
 use Rattle.snap_runs.proofs.Common.{Finished, Process, process_at, who, IsOneOf, Run, before, item, outcome}
 use Rattle.snap_runs.specs.Scan.{count, steps}
 use Rattle.snap_runs.specs.Update.{is_at, goes_on, executes, IsDone, PendingUpdate}
-use Rattle.snap_runs.proofs.Algorithm.{Mode, op_of, mode_of, op_is, Control, Idle, At, Move, To, Begin, Answer}
-use Rattle.snap_runs.proofs.Algorithm.{Finish, Auxiliary, TypedProcess, Algorithm, by_move}
-use Rattle.snap_runs.proofs.Algorithm.{typed_at, outcome_of}
-use Rattle.snap_runs.proofs.Algorithm.{item_at, typed_state, status_of}
-use Rattle.snap_runs.proofs.Algorithm.{called_auxiliary, SameOp}
-use Rattle.snap_runs.proofs.Computing.{same_number, and_true}
+use Rattle.snap_runs.proofs.Algorithm.{Mode, Updating, op_of, mode_of, op_is, Control, Idle, At, Move, To, Begin}
+use Rattle.snap_runs.proofs.Algorithm.{Answer, Finish, Auxiliary, TypedProcess, Algorithm, by_move, typed_at}
+use Rattle.snap_runs.proofs.Algorithm.{outcome_of, item_at, typed_state, called_auxiliary, SameOp}
+use Rattle.snap_runs.proofs.Computing.{same_number, and_true, from_there}
 use Rattle.snap_runs.proofs.Embedding as embed
 use Rattle.snap_runs.proofs.Counting.{count_none, count_next, count_not, add_one, inner_more}
 use Rattle.snap_runs.proofs.ItemCases as cases
@@ -21,10 +19,8 @@ use Rattle.snap_runs.proofs.Steady.{Steady}
 module _ {V P M : Type 0} (a : Algorithm V P M) where
   -- an update never answers
   abbrev pub NoAnswer : Move V P M → Type 0
-  NoAnswer (To d m p k) = Unit {0}
-  NoAnswer (Begin d p k) = Unit {0}
   NoAnswer (Answer v) = ⊥
-  NoAnswer Finish = Unit {0}
+  NoAnswer _ = Unit {0}
 
   module _ (line : ℕ) (writes_is : (k : P) → (if nat_eq (a.number k) line then 1 else 0) ≡ a.writes k)
       (items : List Item) (fits : Steady (embed.run_of a items)) (does : embed.AllDo a items)
@@ -58,7 +54,7 @@ module _ {V P M : Type 0} (a : Algorithm V P M) where
       call = h.call;
       called = h.called;
       first = h.first;
-      order = (let o : c ≤ t = h.order in omega arith);
+      order = omega arith;
       open_still = λ u lt le done. elim (eq-or-lt_of_le le) [
         | inl same ↦ not_done (subst (λ y. IsDone r i y) same done)
         | inr less ↦ h.open_still u lt (omega arith) done
@@ -74,14 +70,11 @@ module _ {V P M : Type 0} (a : Algorithm V P M) where
         outcome r (suc t) ≡ outcome_of (by_move a (suc t) (memory t) (his t) k v) →
         Under (op_of d) (his t).auxiliary.called t →
         UnderAt (suc t) (cases.moved a (suc t) (his t) k v) (cases.moved a (suc t) (his t) k v).control
-    stepped_under t d k (To d' m' p' k') same out h =
-        subst (λ (op : Op). Under op (his t).auxiliary.called (suc t)) (sym same)
-        (longer (op_of d) (his t).auxiliary.called t (λ done. absurd (let e = sym done.1 ∙ out in cc)) h)
-    stepped_under t d k (Begin d' p' k') same out h =
-        subst (λ (op : Op). Under op (his t).auxiliary.called (suc t)) (sym same)
-        (longer (op_of d) (his t).auxiliary.called t (λ done. absurd (let e = sym done.1 ∙ out in cc)) h)
     stepped_under t d k (Answer v) same out h = tt
     stepped_under t d k Finish same out h = tt
+    stepped_under t d k _ same out h =
+        subst (λ (op : Op). Under op (his t).auxiliary.called (suc t)) (sym same)
+        (longer (op_of d) (his t).auxiliary.called t (λ done. absurd (let e = sym done.1 ∙ out in cc)) h)
 
     called_at : (t : ℕ) (op : Op) (g : Auxiliary) → (called_auxiliary t op g).called ≡ t
     called_at t Scan g = refl
@@ -122,6 +115,17 @@ module _ {V P M : Type 0} (a : Algorithm V P M) where
       pub op : op_of mode ≡ Update word value
       pub wrote : (his t).auxiliary.wrote ≡ count (executes r i line) c t
 
+    went : (word value c t : ℕ) (d : Mode) (k : P) (p : V) (g : Auxiliary) →
+        his t ≡ record { control = At d k; variables = p; auxiliary = g } → op_of d ≡ Update word value →
+        g.wrote ≡ count (executes r i line) c t → Going word value c t
+    went word value c t d k p g now op wrote = record {
+      mode = d;
+      counter = k;
+      control = ap (λ (q : TypedProcess V P M). q.control) now;
+      op = op;
+      wrote = ap (λ (q : TypedProcess V P M). q.auxiliary.wrote) now ∙ wrote;
+    }
+
     same_going : (word value c t : ℕ) → c ≤ t → his (suc t) ≡ his t → steps i (item_at items t) ≡ false →
         Going word value c t → Going word value c (suc t)
     same_going word value c t le same none g = record {
@@ -140,8 +144,7 @@ module _ {V P M : Type 0} (a : Algorithm V P M) where
     line_counts t c d k le short is at =
         let there = is_at line (process_at (before r (suc t)) i).status in
         let stands : there ≡ nat_eq (a.number k) line =
-        ap (λ (p : Process). is_at line p.status) (embed.process_at_is a items fits does t i (omega arith) one)
-        ∙ ap (λ (p : Control P). is_at line (status_of a p)) at in
+        ap (λ (p : Process). is_at line p.status) (embed.busy_at a items fits does t i d k (omega arith) one at) in
         let on : (there && goes_on (outcome r (suc t))) ≡ nat_eq (a.number k) line =
         ap (λ b. there && b) (embed.goes a items fits does t short) ∙ and_true there ∙ stands in
         count_next (executes r i line) c t le
@@ -155,29 +158,19 @@ module _ {V P M : Type 0} (a : Algorithm V P M) where
         item_at items t ≡ Step i → SameOp a d v → NoAnswer v → (his t).control ≡ At d k →
         op_of d ≡ Update word value → (outcome_of (by_move a (suc t) (memory t) (his t) k v) ≡ Finished → ⊥) →
         his (suc t) ≡ cases.moved a (suc t) (his t) k v → Going word value c t → Going word value c (suc t)
-    stepped_going word value c t d k (To d' m' p' k') le short is same silence at op still after g = record {
-      mode = d';
-      counter = k';
-      control = ap (λ (q : TypedProcess V P M). q.control) after;
-      op = same ∙ op;
-      wrote = ap (λ (q : TypedProcess V P M). q.auxiliary.wrote) after ∙ ap (λ y. y + a.writes k) g.wrote
-          ∙ sym (line_counts t c d k le short is at);
-    }
-    stepped_going word value c t d k (Begin d' p' k') le short is same silence at op still after g = record {
-      mode = d';
-      counter = k';
-      control = ap (λ (q : TypedProcess V P M). q.control) after;
-      op = same ∙ op;
-      wrote = ap (λ (q : TypedProcess V P M). q.auxiliary.wrote) after ∙ ap (λ y. y + a.writes k) g.wrote
-          ∙ sym (line_counts t c d k le short is at);
-    }
+    stepped_going word value c t d k (To d' m' p' k') le short is same silence at op still after g =
+        went word value c (suc t) d' k' p' _ after (same ∙ op)
+        (ap (λ y. y + a.writes k) g.wrote ∙ sym (line_counts t c d k le short is at))
+    stepped_going word value c t d k (Begin d' p' k') le short is same silence at op still after g =
+        went word value c (suc t) d' k' p' _ after (same ∙ op)
+        (ap (λ y. y + a.writes k) g.wrote ∙ sym (line_counts t c d k le short is at))
     stepped_going word value c t d k (Answer v) le short is same silence at op still after g = absurd silence
     stepped_going word value c t d k Finish le short is same silence at op still after g = absurd (still refl)
 
     next_going : (word value c e t : ℕ) → PendingUpdate r i word value c e → c ≤ t → suc t < e →
         Going word value c t → Going word value c (suc t)
     next_going word value c e t up le lt g =
-        let short : t < length items = (let last : e ≤ length items = up.last in omega arith) in
+        let short : t < length items = omega arith in
         elim (cases.item_case a items fits does i one t short) [
           | inl stays ↦ same_going word value c t le stays.same
               (cases.no_step a items fits does i one t g.mode g.counter stays g.control) g
@@ -197,33 +190,14 @@ module _ {V P M : Type 0} (a : Algorithm V P M) where
         outcome r c ≡ Called → Going word value c c
     first_going word value zero pos short is out = absurd (omega arith)
     first_going word value (suc c) pos short is out =
-        elim (cases.item_case a items fits does i one c (omega arith)) [
-          | inl stays ↦ absurd (let e = sym out ∙ (stays.skipped (ap who is)).1 in cc)
-          | inr busy_or_called ↦ elim busy_or_called [
-            | inl s ↦ absurd (let e = sym is ∙ s.item in cc)
-            | inr call ↦ (let op : call.op ≡ Update word value = (let e = sym call.item ∙ is in cc) in
-                record {
-                  mode = mode_of call.op;
-                  counter = a.counter call.op;
-                  control = ap (λ (q : TypedProcess V P M). q.control) call.after;
-                  op = op_is call.op ∙ op;
-                  wrote = ap (λ (q : TypedProcess V P M). q.auxiliary.wrote) call.after
-                      ∙ ap (λ (o : Op). (called_auxiliary (suc c) o (his c).auxiliary).wrote) op
-                      ∙ sym (count_none (executes r i line) (suc c) (suc c) (omega arith));
-                })
-          ]
-        ]
+        went word value (suc c) (suc c) (Updating word value) (a.counter (Update word value)) (his c).variables _
+        (cases.called a items fits does i one c (Update word value) (omega arith) is out) refl
+        (sym (count_none (executes r i line) (suc c) (suc c) (omega arith)))
 
     pub going : (word value c e t : ℕ) → PendingUpdate r i word value c e → c ≤ t → t < e → Going word value c t
-    going word value c e zero up le lt = absurd (let pos : 0 < c = up.first in omega arith)
-    going word value c e (suc t) up le lt =
-        let last : e ≤ length items = up.last in
-        elim (eq-or-lt_of_le le) [
-          | inl same ↦
-              subst (λ y. Going word value c y) same (first_going word value c up.first (omega arith) up.call up.called)
-          | inr more ↦
-              next_going word value c e t up (omega arith) lt (going word value c e t up (omega arith) (omega arith))
-        ]
+    going word value c e t up le lt =
+        from_there (Going word value c) c t le (first_going word value c up.first (omega arith) up.call up.called)
+        (λ u low high g. next_going word value c e u up low (omega arith) g)
 
     pub line_at_most : (t c : ℕ) (d : Mode) (k : P) → c ≤ t → t ≤ length items → (his t).control ≡ At d k →
         count (executes r i line) c (suc t) ≤ count (executes r i line) c t + a.writes k
@@ -231,8 +205,7 @@ module _ {V P M : Type 0} (a : Algorithm V P M) where
         let b = is_at line (process_at (before r (suc t)) i).status in
         let on = goes_on (outcome r (suc t)) in
         let stands : b ≡ nat_eq (a.number k) line =
-        ap (λ (p : Process). is_at line p.status) (embed.process_at_is a items fits does t i short one)
-        ∙ ap (λ (p : Control P). is_at line (status_of a p)) at in
+        ap (λ (p : Process). is_at line p.status) (embed.busy_at a items fits does t i d k short one at) in
         let one_if : (if b then 1 else 0) ≡ a.writes k = ap (λ y. if y then 1 else 0) stands ∙ writes_is k in
         subst (λ y. y ≤ count (executes r i line) c t + a.writes k) (sym (count_next (executes r i line) c t le))
         (subst (λ y.

@@ -1,17 +1,16 @@
 -- A bound on the own steps of an update of any algorithm: those
 -- of its lines outside its embedded scan, and those of the scan.
-use Rattle.std.proofs.Common.{◌≡◌, ℕ, zero, suc, ◌+◌, ◌<◌, ◌≤◌, ◌⊎◌, Bool, true, false, ◌&&◌, List, length}
+use Rattle.std.proofs.Common.{◌≡◌, ℕ, zero, suc, ◌+◌, ◌<◌, ◌≤◌, ◌⊎◌, Bool, true, false, List, length}
 use Rattle.std.proofs.Common.{if◌then◌else◌, refl, sym, ◌∙◌, ap, subst, arith, inl, inr}
 use Rattle.std.proofs.Math.Nat.{eq-or-lt_of_le}
-use Rattle.snap_runs.proofs.Common.{IsOneOf, who, Item, Call, Op, Update, Called, Finished, Run}
-use Rattle.snap_runs.proofs.Common.{item, outcome}
-use Rattle.snap_runs.specs.Scan.{steps, is_not_skipped, own_steps, takes_step}
+use Rattle.snap_runs.proofs.Common.{IsOneOf, who, Item, Call, Update, Called, Finished, Run, item, outcome}
+use Rattle.snap_runs.specs.Scan.{steps, own_steps, takes_step}
 use Rattle.snap_runs.specs.Update.{PendingUpdate}
-use Rattle.snap_runs.proofs.Algorithm.{Mode, Scanning, Embedded, Updating, op_of, Control, Idle, At, Move, To, Begin}
-use Rattle.snap_runs.proofs.Algorithm.{Answer, Finish, Auxiliary, TypedProcess, Algorithm, by_move}
-use Rattle.snap_runs.proofs.Algorithm.{typed_at, outcome_of}
-use Rattle.snap_runs.proofs.Algorithm.{item_at, typed_state, stepped_auxiliary, begun_auxiliary, called_auxiliary, mode_of}
-use Rattle.snap_runs.proofs.Counting.{count_none, count_next, count_not, one_more}
+use Rattle.snap_runs.proofs.Algorithm.{Mode, Scanning, Embedded, Updating, op_of, Control, At, Move, To, Begin, Answer}
+use Rattle.snap_runs.proofs.Algorithm.{Finish, Auxiliary, TypedProcess, Algorithm, by_move, typed_at, outcome_of}
+use Rattle.snap_runs.proofs.Algorithm.{item_at, typed_state, stepped_auxiliary, begun_auxiliary, called_auxiliary}
+use Rattle.snap_runs.proofs.Computing.{from_there}
+use Rattle.snap_runs.proofs.Counting.{count_none, own_next, own_same}
 use Rattle.snap_runs.proofs.Embedding as embed
 use Rattle.snap_runs.proofs.Flow as flow
 use Rattle.snap_runs.proofs.Flow.{Lines, IsInScan}
@@ -31,8 +30,7 @@ module _ {V P M : Type 0} (a : Algorithm V P M) (lines : Lines V P M) where
   abbrev pub Nearer : Ahead → V → P → Move V P M → Type 0
   Nearer h p k (To d m p' k') = (h.ahead p' k' + 1 ≤ h.ahead p k) × (h.scanned k' ≡ h.scanned k)
   Nearer h p k (Begin d p' k') = (h.rest + 1 ≤ h.ahead p k) × (h.scanned k ≡ false)
-  Nearer h p k (Answer v) = 1 ≤ h.ahead p k
-  Nearer h p k Finish = 1 ≤ h.ahead p k
+  Nearer h p k _ = 1 ≤ h.ahead p k
 
   -- what a line that returns from the embedded scan does to the steps ahead
   abbrev pub Resumes : Ahead → Move V P M → Type 0
@@ -45,17 +43,15 @@ module _ {V P M : Type 0} (a : Algorithm V P M) (lines : Lines V P M) where
   -- each line of an update has at least its own step ahead
   pub own_step : (h : Ahead) (p : V) (k : P) (v : Move V P M) → Nearer h p k v → 1 ≤ h.ahead p k
   own_step h p k (To d m p' k') n = let le : h.ahead p' k' + 1 ≤ h.ahead p k = n.0 in omega arith
-  own_step h p k (Begin d p' k') n = let le : h.rest + 1 ≤ h.ahead p k = n.0 in omega arith
-  own_step h p k (Answer v) n = n
-  own_step h p k Finish n = n
+  own_step h p k (Begin d p' k') n = omega arith
+  own_step h p k _ n = n
 
   -- What an update has spent with what it has ahead: the steps of its scan count once the scan is made, and until
   -- then those that it has taken.
   abbrev pub Spending : Ahead → ℕ → ℕ → V → Auxiliary → Control P → Type 0
-  Spending h scan own p g Idle = Unit {0}
-  Spending h scan own p g (At Scanning k) = Unit {0}
   Spending h scan own p g (At (Embedded word value) k) = own + h.rest ≤ h.total + g.own
   Spending h scan own p g (At (Updating word value) k) = own + h.ahead p k ≤ h.total + (if h.scanned k then scan else 0)
+  Spending h scan own p g _ = Unit {0}
 
   module _ (run : scans.Execution a lines) (h : Ahead) (scan : ℕ) (i : ℕ) (one : IsOneOf a.shape.n i)
       -- what the lines of an update do, and those that return
@@ -92,13 +88,18 @@ module _ {V P M : Type 0} (a : Algorithm V P M) (lines : Lines V P M) where
       op : op_of mode ≡ Update word value
       spent : Spending h scan (own_steps r i c t) (his t).variables (his t).auxiliary (At mode counter)
 
-    own_same : (c t : ℕ) → c ≤ t → steps i (item_at items t) ≡ false → own_steps r i c (suc t) ≡ own_steps r i c t
-    own_same c t le none = count_not (takes_step r i) c t le (ap (λ b. b && is_not_skipped (outcome r (suc t))) none)
-
-    own_next : (c t : ℕ) → c ≤ t → own_steps r i c (suc t) ≤ own_steps r i c t + 1
-    own_next c t le =
-        subst (λ y. y ≤ own_steps r i c t + 1) (sym (count_next (takes_step r i) c t le))
-        (one_more (takes_step r i (suc t)) (own_steps r i c t))
+    became : (word value c t : ℕ) (d : Mode) (k : P) (p : V) (g : Auxiliary) →
+        his t ≡ record { control = At d k; variables = p; auxiliary = g } → op_of d ≡ Update word value →
+        Spending h scan (own_steps r i c t) p g (At d k) → Spent word value c t
+    became word value c t d k p g now op spent = record {
+      mode = d;
+      counter = k;
+      control = ap (λ (q : TypedProcess V P M). q.control) now;
+      op = op;
+      spent =
+          subst (λ (q : TypedProcess V P M). Spending h scan (own_steps r i c t) q.variables q.auxiliary (At d k))
+          (sym now) spent;
+    }
 
     -- the process stays as it is
     same_spent : (word value c t : ℕ) → c ≤ t → his (suc t) ≡ his t → steps i (item_at items t) ≡ false →
@@ -112,7 +113,7 @@ module _ {V P M : Type 0} (a : Algorithm V P M) (lines : Lines V P M) where
           subst (λ (q : TypedProcess V P M).
           Spending h scan (own_steps r i c (suc t)) q.variables q.auxiliary (At g.mode g.counter)) (sym same)
           (subst (λ y. Spending h scan y (his t).variables (his t).auxiliary (At g.mode g.counter))
-          (sym (own_same c t le none)) g.spent);
+          (sym (own_same r i c t le none)) g.spent);
     }
 
     -- what a step of the scan leaves to be spent
@@ -125,7 +126,6 @@ module _ {V P M : Type 0} (a : Algorithm V P M) (lines : Lines V P M) where
     after_scan own own' word value k g d' m' p' k' time more few spent (inr back) =
         let resumed : Resumes h (To (Updating word value) m' p' k') =
         subst (λ y. Resumes h (To y m' p' k')) back.0 back.1 in
-        let le : h.ahead p' k' ≤ h.rest = resumed.0 in
         subst (λ y. Spending h scan own' p' (stepped_auxiliary a k time g) (At y k')) (sym back.0)
         (subst (λ b. own' + h.ahead p' k' ≤ h.total + (if b then scan else 0)) (sym resumed.1) (omega arith))
 
@@ -143,69 +143,40 @@ module _ {V P M : Type 0} (a : Algorithm V P M) (lines : Lines V P M) where
           | inl same ↦ inl same.0
           | inr back ↦ inr (back.0, subst (Resumes h) is (resumes w x (memory t) (his t).variables k back.1))
         ] in
-        record {
-          mode = d';
-          counter = k';
-          control = ap (λ (q : TypedProcess V P M). q.control) after;
-          op = elim resumed [
-            | inl same ↦ ap op_of same ∙ op
-            | inr back ↦ ap op_of back.0 ∙ op
-          ];
-          spent =
-              subst (λ (q : TypedProcess V P M).
-              Spending h scan (own_steps r i c (suc t)) q.variables q.auxiliary (At d' k')) (sym after)
-              (after_scan (own_steps r i c t) (own_steps r i c (suc t)) w x k (his t).auxiliary d' m' p' k' (suc t)
-              (own_next c t le) (within t (Embedded w x) k (omega arith) at tt) spent resumed);
-        }
-    stepped word value c t (Embedded w x) k (Begin d' p' k') le short at op is still after flows spent = absurd flows
-    stepped word value c t (Embedded w x) k (Answer v) le short at op is still after flows spent = absurd flows
-    stepped word value c t (Embedded w x) k Finish le short at op is still after flows spent = absurd flows
+        became word value c (suc t) d' k' p' (stepped_auxiliary a k (suc t) (his t).auxiliary) after
+        (elim resumed [ inl same ↦ ap op_of same ∙ op | inr back ↦ ap op_of back.0 ∙ op ])
+        (after_scan (own_steps r i c t) (own_steps r i c (suc t)) w x k (his t).auxiliary d' m' p' k' (suc t)
+        (own_next r i c t le) (within t (Embedded w x) k (omega arith) at tt) spent resumed)
     stepped word value c t (Updating w x) k (To d' m' p' k') le short at op is still after flows spent =
         let n : Nearer h (his t).variables k (To d' m' p' k') =
         subst (Nearer h (his t).variables k) is (nearer t w x k short at) in
         let left : own_steps r i c (suc t) + h.ahead p' k' ≤ h.total + (if h.scanned k' then scan else 0) =
-        (let fewer : h.ahead p' k' + 1 ≤ h.ahead (his t).variables k = n.0 in
-        let more = own_next c t le in
+        (let more = own_next r i c t le in
         subst (λ b. own_steps r i c (suc t) + h.ahead p' k' ≤ h.total + (if b then scan else 0)) (sym n.1)
         (omega arith)) in
-        record {
-          mode = d';
-          counter = k';
-          control = ap (λ (q : TypedProcess V P M). q.control) after;
-          op = ap op_of flows.1 ∙ op;
-          spent =
-              subst (λ (q : TypedProcess V P M).
-              Spending h scan (own_steps r i c (suc t)) q.variables q.auxiliary (At d' k')) (sym after)
-              (subst (λ y. Spending h scan (own_steps r i c (suc t)) p'
-              (stepped_auxiliary a k (suc t) (his t).auxiliary) (At y k')) (sym flows.1) left);
-        }
+        became word value c (suc t) d' k' p' (stepped_auxiliary a k (suc t) (his t).auxiliary) after
+        (ap op_of flows.1 ∙ op)
+        (subst (λ y. Spending h scan (own_steps r i c (suc t)) p'
+        (stepped_auxiliary a k (suc t) (his t).auxiliary) (At y k')) (sym flows.1) left)
     stepped word value c t (Updating w x) k (Begin d' p' k') le short at op is still after flows spent =
         let n : Nearer h (his t).variables k (Begin d' p' k') =
         subst (Nearer h (his t).variables k) is (nearer t w x k short at) in
         let left : own_steps r i c (suc t) + h.rest ≤ h.total + 0 =
-        (let fewer : h.rest + 1 ≤ h.ahead (his t).variables k = n.0 in
-        let more = own_next c t le in
+        (let more = own_next r i c t le in
         let before : own_steps r i c t + h.ahead (his t).variables k ≤ h.total + 0 =
         subst (λ b. own_steps r i c t + h.ahead (his t).variables k ≤ h.total + (if b then scan else 0)) n.1 spent in
         omega arith) in
-        record {
-          mode = d';
-          counter = k';
-          control = ap (λ (q : TypedProcess V P M). q.control) after;
-          op = ap op_of flows.0 ∙ op;
-          spent =
-              subst (λ (q : TypedProcess V P M).
-              Spending h scan (own_steps r i c (suc t)) q.variables q.auxiliary (At d' k')) (sym after)
-              (subst (λ y. Spending h scan (own_steps r i c (suc t)) p'
-              (begun_auxiliary a k (suc t) (his t).auxiliary) (At y k')) (sym flows.0) left);
-        }
-    stepped word value c t (Updating w x) k (Answer v) le short at op is still after flows spent = absurd flows
+        became word value c (suc t) d' k' p' (begun_auxiliary a k (suc t) (his t).auxiliary) after
+        (ap op_of flows.0 ∙ op)
+        (subst (λ y. Spending h scan (own_steps r i c (suc t)) p'
+        (begun_auxiliary a k (suc t) (his t).auxiliary) (At y k')) (sym flows.0) left)
     stepped word value c t (Updating w x) k Finish le short at op is still after flows spent = absurd (still refl)
+    stepped word value c t _ k _ le short at op is still after flows spent = absurd flows
 
     next_spent : (word value c e t : ℕ) → PendingUpdate r i word value c e → c ≤ t → suc t < e →
         Spent word value c t → Spent word value c (suc t)
     next_spent word value c e t up le lt g =
-        let short : t < length items = (let last : e ≤ length items = up.last in omega arith) in
+        let short : t < length items = omega arith in
         elim (cases.item_case a items run.fits run.does i one t short) [
           | inl stays ↦ same_spent word value c t le stays.same
               (cases.no_step a items run.fits run.does i one t g.mode g.counter stays g.control) g
@@ -226,45 +197,18 @@ module _ {V P M : Type 0} (a : Algorithm V P M) (lines : Lines V P M) where
         outcome r c ≡ Called → Spent word value c c
     first_spent word value zero pos short is out = absurd (omega arith)
     first_spent word value (suc c) pos short is out =
-        elim (cases.item_case a items run.fits run.does i one c (omega arith)) [
-          | inl stays ↦ absurd (let e = sym out ∙ (stays.skipped (ap who is)).1 in cc)
-          | inr busy_or_called ↦ elim busy_or_called [
-            | inl s ↦ absurd (let e = sym is ∙ s.item in cc)
-            | inr call ↦ (let op : call.op ≡ Update word value = (let e = sym call.item ∙ is in cc) in
-                let new = subst (λ (o : Op). his (suc c) ≡ record {
-                  control = At (mode_of o) (a.counter o);
-                  variables = (his c).variables;
-                  auxiliary = called_auxiliary (suc c) o (his c).auxiliary;
-                }) op call.after in
-                let p = (his c).variables in
-                let b = begins p word value in
-                let none : own_steps r i (suc c) (suc c) ≡ 0 =
-                count_none (takes_step r i) (suc c) (suc c) (omega arith) in
-                let most : h.ahead p (a.counter (Update word value)) ≤ h.total = b.0 in
-                record {
-                  mode = Updating word value;
-                  counter = a.counter (Update word value);
-                  control = ap (λ (q : TypedProcess V P M). q.control) new;
-                  op = refl;
-                  spent =
-                      subst (λ (q : TypedProcess V P M). Spending h scan (own_steps r i (suc c) (suc c)) q.variables
-                      q.auxiliary (At (Updating word value) (a.counter (Update word value)))) (sym new)
-                      (subst (λ y. own_steps r i (suc c) (suc c) + h.ahead p (a.counter (Update word value))
-                      ≤ h.total + (if y then scan else 0)) (sym b.1) (omega arith));
-                })
-          ]
-        ]
+        let new = cases.called a items run.fits run.does i one c (Update word value) (omega arith) is out in
+        let b = begins (his c).variables word value in
+        let none : own_steps r i (suc c) (suc c) ≡ 0 = count_none (takes_step r i) (suc c) (suc c) (omega arith) in
+        became word value (suc c) (suc c) (Updating word value) (a.counter (Update word value)) (his c).variables
+        (called_auxiliary (suc c) (Update word value) (his c).auxiliary) new refl
+        (subst (λ y. own_steps r i (suc c) (suc c) + h.ahead (his c).variables (a.counter (Update word value))
+        ≤ h.total + (if y then scan else 0)) (sym b.1) (omega arith))
 
     spent_at : (word value c e t : ℕ) → PendingUpdate r i word value c e → c ≤ t → t < e → Spent word value c t
-    spent_at word value c e zero up le lt = absurd (let pos : 0 < c = up.first in omega arith)
-    spent_at word value c e (suc t) up le lt =
-        let last : e ≤ length items = up.last in
-        elim (eq-or-lt_of_le le) [
-          | inl same ↦
-              subst (λ y. Spent word value c y) same (first_spent word value c up.first (omega arith) up.call up.called)
-          | inr more ↦
-              next_spent word value c e t up (omega arith) lt (spent_at word value c e t up (omega arith) (omega arith))
-        ]
+    spent_at word value c e t up le lt =
+        from_there (Spent word value c) c t le (first_spent word value c up.first (omega arith) up.call up.called)
+        (λ u low high g. next_spent word value c e u up low (omega arith) g)
 
     -- a busy update has room for one more step
     one_step_left : (word value c t : ℕ) (d : Mode) (k : P) → t < length items →
@@ -290,12 +234,11 @@ module _ {V P M : Type 0} (a : Algorithm V P M) (lines : Lines V P M) where
     pub update_steps : (word value c e : ℕ) → PendingUpdate r i word value c e → own_steps r i c e ≤ h.total + scan
     update_steps word value c zero up = omega arith
     update_steps word value c (suc t) up =
-        let last : suc t ≤ length items = up.last in
         elim (eq-or-lt_of_le up.order) [
           | inl same ↦
               (let none : own_steps r i c (suc t) ≡ 0 = count_none (takes_step r i) c (suc t) (omega arith) in
               omega arith)
           | inr more ↦ (let g = spent_at word value c (suc t) t up (omega arith) (omega arith) in
               let left = one_step_left word value c t g.mode g.counter (omega arith) g.control g.op g.spent in
-              let next = own_next c t (omega arith) in omega arith)
+              let next = own_next r i c t (omega arith) in omega arith)
         ]

@@ -2,7 +2,7 @@
 -- bounds on turns.
 use Rattle.std.proofs.Common.{◌≡◌, ℕ, zero, suc, ◌<◌, ◌≤◌, Bool, true, false, ◌&&◌, ◌⊎◌, length, Option, None, nat_lt}
 use Rattle.std.proofs.Common.{if◌then◌else◌, refl, sym, ◌∙◌, ap, subst, arith, inl, inr}
-use Rattle.snap_runs.proofs.Common.{IsOneOf, Activity, Item, Step, Call, Crash, Op, Outcome, process_at, who, Run}
+use Rattle.snap_runs.proofs.Common.{IsOneOf, Activity, Item, Step, Op, Outcome, process_at, who, Run}
 use Rattle.snap_runs.proofs.Common.{IsValidRun, state, item, outcome}
 use Rattle.snap_semantics.specs.declared.process.Op.TheVariants as op
 use Rattle.snap_semantics.specs.declared.process.Outcome.TheVariants as outcomes
@@ -15,7 +15,8 @@ use Rattle.snap_runs.specs.Update.{PendingUpdate}
 use Rattle.snap_runs.specs.Promises.{HasTrapped, NeverTraps, StepsAtMost}
 use Rattle.snap_runs.specs.WaitFree.{is_alive, turns, IsWaitFree}
 use Rattle.snap_runs.proofs.Calls.{Occupied, Calls, EndsAt, status, occupied, turn, is_not_skipped_there}
-use Rattle.snap_runs.proofs.Computing.{lt_from, same_from}
+use Rattle.snap_runs.proofs.Computing.{lt_from, and_when}
+use Rattle.snap_runs.proofs.Executing.{step_of}
 use Rattle.snap_runs.proofs.Operations.{ends_done, ends_answer}
 
 -- tests that agree at each item count the same
@@ -33,24 +34,10 @@ same_counts test other c (suc e) h =
         ∙ ap (λ y. if other (suc e) then suc y else y) past
     at_last false is past = past
 
-and_when : (b x y : Bool) → (b ≡ true → x ≡ y) → (b && x) ≡ (b && y)
-and_when true x y h = h refl
-and_when false x y h = refl
-
 -- a turn that is not skipped is one of a process that has not crashed
 alive : (out : Outcome) → is_not_skipped out ≡ true → is_alive out ≡ is_not_skipped out
-alive outcomes.Called h = refl
-alive outcomes.Stepped h = refl
-alive (outcomes.Answered view) h = refl
-alive outcomes.Finished h = refl
-alive (outcomes.Trapped cause) h = refl
-alive outcomes.Crashed h = refl
 alive (outcomes.Skipped why) h = absurd (cc)
-
-step_is : (i : ℕ) (y : Item) → steps i y ≡ true → y ≡ Step i
-step_is i (Step k) h = ap (λ u. Step u) (same_from k i h)
-step_is i (Call k o) h = absurd (cc)
-step_is i (Crash k) h = absurd (cc)
+alive _ h = refl
 
 -- who is occupied and has not trapped is busy or has crashed
 busy_then : (o : Op) (s : Status) → Occupied o s → (HasTrapped s → ⊥) →
@@ -75,7 +62,7 @@ module _ (r : Run) (fits : IsValidRun r) (safe : NeverTraps r) where
   turn_counts i o c zero one pos lt short call still = absurd (omega arith)
   turn_counts i o c (suc t) one pos lt short call still =
       and_when (steps i (item r (suc t))) (is_alive (outcome r (suc t))) (is_not_skipped (outcome r (suc t))) (λ his.
-      let step = step_is i (item r (suc t)) his in
+      let step = step_of i (item r (suc t)) his in
       let there = occupied r fits i o c t one pos (omega arith) (omega arith) call
       (λ u more le ends. still u more (omega arith) ends) in
       elim (busy_then o (status r fits t i) there (safe fits i t one (omega arith))) [

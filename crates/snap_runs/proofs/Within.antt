@@ -1,6 +1,6 @@
 -- Lemmas about numbers that stay within `Limits`: lists of them,
 -- words that are read and written, and the first state of a run.
-use Rattle.std.proofs.Common.{◌≡◌, ℕ, zero, suc, ◌+◌, ◌<◌, ◌≤◌, List, [], ◌∷◌, ◌++◌, take, drop, length, map}
+use Rattle.std.proofs.Common.{◌≡◌, ℕ, zero, suc, ◌+◌, ◌<◌, ◌≤◌, List, [], ◌∷◌, ◌++◌, take, drop, map}
 use Rattle.std.proofs.Common.{slice_index_or, slice_set, replicate, sym, subst, arith}
 use Rattle.std.specs.List.{AllByRecursion, range_with_len}
 use Rattle.std.proofs.lemmas.List.{map-set, length-set, length-take, length-drop}
@@ -38,9 +38,8 @@ all_read P (x ∷ xs) zero none h other = h.0
 all_read P (x ∷ xs) (suc k) none h other = all_read P xs k none h.1 other
 
 all_taken : {A : Type 0} (P : A → Type 0) (n : ℕ) (xs : List A) → AllByRecursion P xs → AllByRecursion P (take n xs)
-all_taken P zero xs h = tt
-all_taken P (suc n) [] h = tt
 all_taken P (suc n) (x ∷ xs) h = (h.0, all_taken P n xs h.1)
+all_taken P _ _ h = tt
 
 all_dropped : {A : Type 0} (P : A → Type 0) (n : ℕ) (xs : List A) → AllByRecursion P xs → AllByRecursion P (drop n xs)
 all_dropped P zero xs h = h
@@ -73,7 +72,7 @@ all_in_range P f from (suc count) each = (
 pub set_within : {A : Type 0} (count : ℕ) (P : A → Type 0) (xs : List A) (k : ℕ) (y : A) → AtMost count P xs → P y →
     AtMost count P (slice_set xs k y)
 set_within count P xs k y h new =
-    (let same = length-set xs k y in let few : length xs ≤ count = h.0 in omega arith, all_set P xs k y h.1 new)
+    (let same = length-set xs k y in omega arith, all_set P xs k y h.1 new)
 
 pub taken_within : {A : Type 0} (n : ℕ) (P : A → Type 0) (xs : List A) → AllByRecursion P xs → AtMost n P (take n xs)
 taken_within n P xs h = (let e = length-take n xs in omega arith, all_taken P n xs h)
@@ -85,8 +84,7 @@ same_within n count P x le h = (let e = length-replicate n x in omega arith, all
 pub row_within : (n count most : ℕ) (f : ℕ → ℕ) (old : List ℕ) → n ≤ count → ((k : ℕ) → IsOneOf n k → f k ≤ most) →
     AtMost count (λ x. x ≤ most) old → AtMost count (λ x. x ≤ most) (for_each n f old)
 row_within n count most f old le each h = (
-  let few : length old ≤ count = h.0 in
-      let all = length-append (map f (places_to n)) (drop n old) in
+  let all = length-append (map f (places_to n)) (drop n old) in
       let made = length-map-range_with_len f 1 n in let left = length-drop n old in omega arith,
   all_joined (λ x. x ≤ most) (map f (places_to n)) (drop n old)
       (all_in_range (λ x. x ≤ most) f 1 n (λ k low high. each k (omega arith, omega arith)))
@@ -125,7 +123,7 @@ module _ (m m' : Limits) (wide : Wider m m') (s : Counts) (V V' : ℕ → Type 0
   word_wider w h = record {
     datum = more w.datum h.datum;
     seq = (let most : w.seq ≤ m.seq = h.seq in let le : m.seq ≤ m'.seq = wide.seq in omega arith);
-    id = (let most : w.id ≤ m.id = h.id in let le : m.id ≤ m'.id = wide.id in omega arith);
+    id = omega arith;
     toggle = h.toggle;
     handshakes = h.handshakes;
     view = values_wider s.w w.view h.view;

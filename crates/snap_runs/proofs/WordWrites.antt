@@ -7,9 +7,8 @@ use Rattle.std.proofs.lemmas.List.{map-set, get_or-set_other}
 use Rattle.snap_runs.proofs.Common.{IsOneOf, Word, no_word, values, who, Item, Step, Call, Crash, Update, Run, state}
 use Rattle.snap_runs.specs.Update.{executes}
 use Rattle.snap_runs.specs.Promises.{ChangesOnlyAt, WritesItsUpdate, WritesOnce}
-use Rattle.snap_runs.proofs.Algorithm.{Mode, Updating, Control, Idle, At, Move, To}
-use Rattle.snap_runs.proofs.Algorithm.{TypedProcess, TypedState, Algorithm, by_move, by_step, typed_at, changed}
-use Rattle.snap_runs.proofs.Algorithm.{happens, item_at, typed_state, memory_after}
+use Rattle.snap_runs.proofs.Algorithm.{Mode, Updating, Control, Idle, At, Move, To, TypedProcess, TypedState, Algorithm}
+use Rattle.snap_runs.proofs.Algorithm.{by_move, by_step, typed_at, changed, happens, item_at, typed_state, memory_after}
 use Rattle.snap_runs.proofs.Embedding as embed
 use Rattle.snap_runs.proofs.Executing as executing
 use Rattle.snap_runs.proofs.Flow.{Lines, IsUpdateOf, update_of}
@@ -157,7 +156,6 @@ module _ {V P M : Type 0} (a : Algorithm V P M) (lines : Lines V P M) (line : â„
               (Update word value) c t =
               subst (called.UnderAt a line once.writes_is items run.fits run.does i one silent t (at t i)) w.control
               (called.under a line once.writes_is items run.fits run.does i one silent t (omega arith)) in
-              let order : c â‰¤ t = under.order in
               let new : Word = writer.put i word value (typed_state a items t).memory (at t i).variables in (
                 word,
                 value,

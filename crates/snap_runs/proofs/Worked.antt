@@ -118,7 +118,7 @@ module _ (r : Run) where
           none_in (λ t. is_end (outcome r t)) 0 (length r.items) e none (let lt : c < e = so.1 in omega arith)
           so.0.last (ap is_end so.2.1)
       not_so i c e (Sees view) so =
-          none_in (λ t. is_end (outcome r t)) 0 (length r.items) e none (let lt : c < e = so.order in omega arith)
+          none_in (λ t. is_end (outcome r t)) 0 (length r.items) e none (omega arith)
           so.scan.last (ap is_end so.ends.1)
 
   -- an operation that ends at item e takes place at item t, between its call and its end

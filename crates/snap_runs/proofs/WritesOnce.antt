@@ -5,9 +5,8 @@ use Rattle.std.proofs.Math.Nat.{eq-or-lt_of_le}
 use Rattle.snap_runs.proofs.Common.{IsOneOf, who, Item, Update, Finished, outcome}
 use Rattle.snap_runs.specs.Scan.{count}
 use Rattle.snap_runs.specs.Update.{executes, IsDone, PendingUpdate}
-use Rattle.snap_runs.proofs.Algorithm.{Mode, Scanning, Embedded, Updating, op_of, Control, At, Move, To, Begin}
-use Rattle.snap_runs.proofs.Algorithm.{Answer, Finish, TypedProcess, Algorithm, by_move, typed_at}
-use Rattle.snap_runs.proofs.Algorithm.{outcome_of, item_at, typed_state}
+use Rattle.snap_runs.proofs.Algorithm.{Mode, Scanning, Embedded, Updating, op_of, Control, At, Move, Finish}
+use Rattle.snap_runs.proofs.Algorithm.{TypedProcess, Algorithm, by_move, typed_at, outcome_of, item_at, typed_state}
 use Rattle.snap_runs.proofs.Embedding as embed
 use Rattle.snap_runs.proofs.Flow.{Lines}
 use Rattle.snap_runs.proofs.Flow as flow
@@ -47,24 +46,17 @@ module _ {V P M : Type 0} (a : Algorithm V P M) (lines : Lines V P M) (line : �
     most_once : (d : Mode) (k : P) (w word value : ℕ) → op_of d ≡ Update word value →
         flow.HasWritten lines (At d k) w → w + a.writes k ≤ 1
     most_once Scanning k w word value e h = absurd (cc)
-    most_once (Embedded x y) k w word value e h =
-        let most : lines.written k + a.writes k ≤ 1 = once.most k in
-        omega arith
-    most_once (Updating x y) k w word value e h =
-        let most : lines.written k + a.writes k ≤ 1 = once.most k in
-        omega arith
+    most_once _ k w word value e h = let most : lines.written k + a.writes k ≤ 1 = once.most k in omega arith
 
     -- where an update is done it has written
     once_done : (t : ℕ) (m : M) (q : TypedProcess V P M) (d : Mode) (k : P) (v : Move V P M) (w word value : ℕ) →
         outcome_of (by_move a t m q k v) ≡ Finished →
         op_of d ≡ Update word value → flow.Flows lines a d m q.variables k v →
         flow.HasWritten lines (At d k) w → (w ≡ 1) × (a.writes k ≡ 0)
-    once_done t m q d k (To d' m' p k') w word value out e h is = absurd (cc)
-    once_done t m q d k (Begin d' p k') w word value out e h is = absurd (cc)
-    once_done t m q d k (Answer v) w word value out e h is = absurd (cc)
     once_done t m q Scanning k Finish w word value out e h is = absurd h
     once_done t m q (Embedded x y) k Finish w word value out e h is = absurd h
     once_done t m q (Updating x y) k Finish w word value out e h is = let last = once.last k h in (is ∙ last.0, last.1)
+    once_done t m q d k _ w word value out e h is = absurd (cc)
 
     abbrev pub Going : (word value c t : ℕ) → Type 0
     Going word value c t = called.Going a line once.writes_is items run.fits run.does i one silent word value c t
@@ -83,9 +75,6 @@ module _ {V P M : Type 0} (a : Algorithm V P M) (lines : Lines V P M) (line : �
         once_done (suc t) m (his t) g.mode g.counter (a.move i g.mode m (his t).variables g.counter)
         (his t).auxiliary.wrote word value (sym step.1 ∙ out) g.op
         (flows_at t g.mode g.counter short g.control) written in
-        let one_write : (his t).auxiliary.wrote ≡ 1 = ended.0 in
-        let none_more : a.writes g.counter ≡ 0 = ended.1 in
-        let is_count : (his t).auxiliary.wrote ≡ count (executes (embed.run_of a items) i line) c t = g.wrote in
         let next : count (executes (embed.run_of a items) i line) c (suc t)
         ≡ count (executes (embed.run_of a items) i line) c t + a.writes g.counter =
         called.line_counts a line once.writes_is items run.fits run.does i one silent t c g.mode g.counter le
@@ -98,7 +87,6 @@ module _ {V P M : Type 0} (a : Algorithm V P M) (lines : Lines V P M) (line : �
     writes_once word value c zero up = (omega arith, λ lt done. absurd (omega arith))
     writes_once word value c (suc t) up =
         let r = embed.run_of a items in
-        let last : suc t ≤ length items = up.last in
         elim (eq-or-lt_of_le up.order) [
           | inl same ↦ (let none : count (executes r i line) c (suc t) ≡ 0 =
               called.none_yet a line once.writes_is items run.fits run.does i one silent c (suc t) (omega arith) in
@@ -112,7 +100,6 @@ module _ {V P M : Type 0} (a : Algorithm V P M) (lines : Lines V P M) (line : �
               (run.wrote t i (omega arith) one) in
               let most : (his t).auxiliary.wrote + a.writes g.counter ≤ 1 =
               most_once g.mode g.counter (his t).auxiliary.wrote word value g.op written in
-              let is : (his t).auxiliary.wrote ≡ count (executes r i line) c t = g.wrote in
               let next : count (executes r i line) c (suc t) ≤ count (executes r i line) c t + a.writes g.counter =
               called.line_at_most a line once.writes_is items run.fits run.does i one silent t c g.mode g.counter
               (omega arith) (omega arith) g.control in (

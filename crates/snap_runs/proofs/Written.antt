@@ -26,11 +26,7 @@ prefix_trans xs ys zs p q = (p.0 ++ q.0, sym (append_assoc xs p.0 q.0) ∙ ap (�
 
 same_update_call : (u v : UpdateCall) → u.process ≡ v.process → u.call ≡ v.call →
     u.word ≡ v.word → u.value ≡ v.value → u ≡ v
-same_update_call u v p c w x =
-    ap (λ y. let q : UpdateCall = record { process = y; call = u.call; word = u.word; value = u.value } in q) p
-    ∙ ap (λ y. let q : UpdateCall = record { process = v.process; call = y; word = u.word; value = u.value } in q) c
-    ∙ ap (λ y. let q : UpdateCall = record { process = v.process; call = v.call; word = y; value = u.value } in q) w
-    ∙ ap (λ y. let q : UpdateCall = record { process = v.process; call = v.call; word = v.word; value = y } in q) x
+same_update_call u v p c w x = λ i. record { process = p i; call = c i; word = w i; value = x i }
 
 module _ (line : ℕ) (r : Run) where
   -- an update writes at item t

@@ -1,5 +1,5 @@
 -- Listing B in its own words: its lines, its variables, and what each line does.
-use Rattle.std.proofs.Common.{◌≡◌, ℕ, ◌+◌, ◌-◌, ◌⊎◌, max, Bool, true, false, not, ◌&&◌, List, [], ◌∷◌, take, map}
+use Rattle.std.proofs.Common.{◌≡◌, ℕ, ◌+◌, ◌-◌, max, Bool, true, false, not, ◌&&◌, List, [], ◌∷◌, take, map}
 use Rattle.std.proofs.Common.{Option, Some, None, nat_eq, nat_lt, nat_le, if◌then◌else◌, slice_index, slice_set}
 use Rattle.std.proofs.Common.{replicate, refl, ap}
 use Rattle.snap_words.specs.Kind.{initial_word}
@@ -8,8 +8,7 @@ use Rattle.snap_words.specs.declared.kind.KindTag.TheVariants as kind
 use Rattle.snap_semantics.specs.State.{Locals, Memory}
 use Rattle.snap_semantics.specs.Table.{bit_at, with_bit_at, entry}
 use Rattle.snap_runs.proofs.Algorithm as typed
-use Rattle.snap_runs.proofs.Algorithm.{Mode, Scanning, Embedded, Updating, value_of, To, Begin, Answer, Finish}
-use Rattle.snap_runs.proofs.Algorithm.{Algorithm, returning, embedding}
+use Rattle.snap_runs.proofs.Algorithm.{Mode, value_of, To, Finish, Algorithm, returning, embedding}
 use Rattle.snap_runs.proofs.Embedding.{map_same}
 use Rattle.snap_runs.proofs.Flow.{Lines, IsUpdateOf, IsLine}
 use Rattle.snap_runs.proofs.Held.{word_at, seq_at}

@@ -14,8 +14,7 @@ use Rattle.snap_runs.proofs.Plain.{plain_taken}
 use Rattle.snap_runs.proofs.Places.{first_found}
 use Rattle.snap_runs.proofs.Steady.{Steady}
 use Rattle.snap_runs.proofs.Within.{set_within, taken_within, row_within, bit_set_within, bit_read_within, as_wide}
-use Rattle.snap_runs.proofs.Within.{all_read, data_within, handshake_within}
-use Rattle.snap_runs.proofs.Within.{read_within, copied_within, written_within}
+use Rattle.snap_runs.proofs.Within.{all_read, data_within, handshake_within, read_within, copied_within, written_within}
 use Rattle.snap_runs_of_b.specs.Bounded.{limits, StaysBounded}
 use Rattle.snap_runs_of_b.specs.ListingB.{listing_b}
 use Rattle.snap_runs_of_b.specs.Promises.{square, run_of}
@@ -49,35 +48,31 @@ module _ (n : ℕ) (V : ℕ → Type 0) where
   IsMove = bounded.MoveWithin (algorithm n) (limits n) V
 
   with_j : (p : Variables) (v : ℕ) → AreVariables p → v ≤ n → AreVariables (record p { j = v })
-  with_j p v h new = record { scalars = (new, h.scalars.1); rows = h.rows; words = h.words; views = h.views }
+  with_j p v h new = assumption
 
   with_x : (p : Variables) (v : ℕ) → AreVariables p → IsBit v → AreVariables (record p { x = v })
-  with_x p v h new =
-      record { scalars = (h.scalars.0, (new, h.scalars.1.1)); rows = h.rows; words = h.words; views = h.views }
+  with_x p v h new = assumption
 
   with_t : (p : Variables) (v : ℕ) → AreVariables p → IsBit v → AreVariables (record p { t = v })
-  with_t p v h new =
-      record { scalars = (h.scalars.0, (h.scalars.1.0, (new, tt))); rows = h.rows; words = h.words; views = h.views }
+  with_t p v h new = assumption
 
   with_moved : (p : Variables) (row : List ℕ) → AreVariables p → IsRow 2 row → AreVariables (record p { moved = row })
-  with_moved p row h new = record { scalars = h.scalars; rows = (new, h.rows.1); words = h.words; views = h.views }
+  with_moved p row h new = assumption
 
   with_g : (p : Variables) (row : List ℕ) → AreVariables p → IsRow 1 row → AreVariables (record p { g = row })
-  with_g p row h new =
-      record { scalars = h.scalars; rows = (h.rows.0, (new, h.rows.1.1)); words = h.words; views = h.views }
+  with_g p row h new = assumption
 
   with_f : (p : Variables) (row : List ℕ) → AreVariables p → IsRow 1 row → AreVariables (record p { f = row })
-  with_f p row h new =
-      record { scalars = h.scalars; rows = (h.rows.0, (h.rows.1.0, (new, tt))); words = h.words; views = h.views }
+  with_f p row h new = assumption
 
   with_a : (p : Variables) (ws : Words) → AreVariables p → Copies ws → AreVariables (record p { a = ws })
-  with_a p ws h new = record { scalars = h.scalars; rows = h.rows; words = (new, h.words.1); views = h.views }
+  with_a p ws h new = assumption
 
   with_b : (p : Variables) (ws : Words) → AreVariables p → Copies ws → AreVariables (record p { b = ws })
-  with_b p ws h new = record { scalars = h.scalars; rows = h.rows; words = (h.words.0, (new, tt)); views = h.views }
+  with_b p ws h new = assumption
 
   with_s : (p : Variables) (view : List ℕ) → AreVariables p → AtMost n V view → AreVariables (record p { s = view })
-  with_s p view h new = record { scalars = h.scalars; rows = h.rows; words = h.words; views = (new, tt) }
+  with_s p view h new = assumption
 
   -- the next place
   next_within : (p : Variables) (me : ℕ) (d : Mode) (m : Registers) (back on : ProgramCounter) → IsOneOf n me →
@@ -172,9 +167,8 @@ module _ (n : ℕ) (V : ℕ → Type 0) where
     line_within me d m p L42 one keeps value memory h =
         (memory, with_f p _ h (set_within (max n n) IsBit p.f (p.j - 1) (answer p.x) h.rows.1.1.0 (answer_bit p.x)))
     line_within me d m p L43 one keeps value memory h = next_within p me d m L41 L44 one memory h
-    line_within me Scanning m p L44 one keeps value memory h = tt
-    line_within me (Embedded word new) m p L44 one keeps value memory h = tt
     line_within me (Updating word new) m p L44 one keeps value memory h = h
+    line_within me d m p L44 one keeps value memory h = tt
     line_within me d m p L45 one keeps value memory h = (memory, with_t p _ h (flipped_bit p.t h.scalars.1.1.0))
     line_within me d m p L46 one keeps value memory h = (
       record {

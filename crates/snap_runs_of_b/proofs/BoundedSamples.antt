@@ -1,5 +1,5 @@
 -- The bounds of B at work on runs by one and by two processes, by computing.
-use Rattle.std.proofs.Common.{◌≡◌, ℕ, zero, suc, ◌≤◌, List, [], ◌∷◌, ◌++◌, replicate, refl, ap, arith, inl, inr}
+use Rattle.std.proofs.Common.{◌≡◌, ℕ, zero, suc, List, [], ◌∷◌, ◌++◌, replicate, refl, ap, arith, inl, inr}
 use Rattle.snap_runs.proofs.Common.{Word, Item, Step, Call, Scan, Update, State, process_at, state, item}
 use Rattle.snap_semantics.specs.declared.process.Status.TheVariants.{Idle}
 use Rattle.snap_runs.specs.Bounded.{IsValue, IsWordWithin, IsStateWithin}
@@ -96,7 +96,7 @@ after_update_within = record {
 
 -- What would not be: a toggle that was added to, and a value that nobody was asked to write.
 toggle_too_large : Within (record { datum = 0; seq = 0; id = 0; toggle = 2; handshakes = 0 ∷ []; view = 0 ∷ [] }) → ⊥
-toggle_too_large h = absurd (let most : 2 ≤ 1 = h.toggle in omega arith)
+toggle_too_large h = absurd (omega (arith, h.toggle))
 
 abbrev value_of : Item → ℕ
 value_of (Call i (Update word value)) = value
@@ -104,7 +104,7 @@ value_of _ = 0
 
 no_call : (c i word : ℕ) → item (run_of 1 update_alone) c ≡ Call i (Update word 5) → ⊥
 no_call zero i word is = absurd (cc)
-no_call (suc zero) i word is = absurd (let e : 7 ≡ 5 = ap value_of is in omega arith)
+no_call (suc zero) i word is = absurd (omega (arith, ap value_of is))
 no_call (suc (suc c)) i word is =
     all_read (λ y. y ≡ Call i (Update word 5) → ⊥) (replicate 21 (Step 1)) c (Step 0)
     (all_same (λ y. y ≡ Call i (Update word 5) → ⊥) 21 (Step 1) (λ e. absurd (cc))) (λ e. absurd (cc)) is

@@ -3,7 +3,7 @@ use Rattle.std.proofs.Common.{◌≡◌, ℕ, suc, ◌+◌, ◌≤◌, ◌⊎◌
 use Rattle.std.proofs.Common.{if◌then◌else◌, refl, sym, ap, arith, inl, inr}
 use Rattle.snap_runs.proofs.Common.{places_to, all_true, first_true, Item, Op, Scan, Update}
 use Rattle.snap_runs.specs.Update.{is_at}
-use Rattle.snap_runs.proofs.Algorithm.{Mode, Scanning, Embedded, Updating, To, when_busy, status_of}
+use Rattle.snap_runs.proofs.Algorithm.{Mode, Scanning, Updating, To, when_busy, status_of}
 use Rattle.snap_runs.proofs.Collecting as collecting
 use Rattle.snap_runs.proofs.Collecting.{Copies, Phase, Away, ReadsFirst, HasFirst, ReadsSecond, HasSecond, Collected}
 use Rattle.snap_runs.proofs.Computing.{not_lt, either, whether}
@@ -52,8 +52,10 @@ Reaches n = collecting.Reaches (algorithm n) (copies n)
 -- what each line does to the copies; a line that calls or returns does what the mode says
 reaches : (n me : ℕ) (d : Mode) (m : Registers) (p : Variables) (k : ProgramCounter) → IsLineOf me d k →
     VariablesAt n me p k → n ≤ length p.a → n ≤ length p.b → Reaches n m p k (move n me d m p k)
-reaches n me (Updating word value) m p L44 s h a b = refl
 reaches n me d m p L15 s h a b = either (Reaches n m p L15) (nat_lt p.j n) _ _ (λ e. tt) (λ e. inl refl)
+reaches n me Scanning m p L26 s h a b = tt
+reaches n me Scanning m p L28 s h a b = tt
+reaches n me (Updating word value) m p L44 s h a b = refl
 reaches n me d m p L16 s h a b = (refl, refl, h.0, a, refl)
 reaches n me d m p L17 s h a b =
     either (Reaches n m p L17) (nat_lt p.j n) _ _ (λ e. inr (refl, refl, refl))

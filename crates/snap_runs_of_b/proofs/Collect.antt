@@ -1,15 +1,14 @@
 -- The handshake and the two collects of a double collect of B, and what a scan learns of them.
-use Rattle.std.proofs.Common.{◌≡◌, ℕ, ◌+◌, ◌-◌, ◌<◌, ◌≤◌, Bool, true, false, not, ◌&&◌, List, take, length, map}
+use Rattle.std.proofs.Common.{◌≡◌, ℕ, ◌+◌, ◌-◌, ◌<◌, ◌≤◌, Bool, true, false, not, ◌&&◌, List, length}
 use Rattle.std.proofs.Common.{slice_set, nat_eq, if◌then◌else◌, refl, sym, ◌∙◌, ap, subst, arith, inl, inr}
 use Rattle.std.proofs.lemmas.Bool.{cases_eq, cases_lt}
 use Rattle.std.proofs.lemmas.Grind.{get_or-set_at}
 use Rattle.std.proofs.lemmas.List.{get_or-set_other}
-use Rattle.snap_runs.proofs.Common.{IsOneOf, Word, no_word, places_to, all_true}
+use Rattle.snap_runs.proofs.Common.{IsOneOf, Word, no_word}
 use Rattle.snap_runs.proofs.Computing.{same_number, same_from, both}
-use Rattle.snap_runs.proofs.Held.{word_at, Held, Lent, beside_now, data_of, seq_at, same_data}
-use Rattle.snap_runs.proofs.Places.{all_pass}
+use Rattle.snap_runs.proofs.Held.{word_at, Held, Lent, beside_now, seq_at}
 use Rattle.snap_runs_of_b.proofs.Algorithm.{Words, Variables, place, handshake_at, agree}
-use Rattle.snap_runs_of_b.proofs.Follow.{follows_seq, IsLaterWord, follows_trans, same_word, toggled, squeezed}
+use Rattle.snap_runs_of_b.proofs.Follow.{IsLaterWord, follows_trans, same_word, toggled}
 
 -- In all that follows `history u` are the words after u items, t is the number of items so far and `words` the words
 -- now; `since` is the item that started the scan, `round` the item that started its double collect, and `opening` the
@@ -266,7 +265,7 @@ pub agreed : (a b : Word) (mark bit i : ℕ) → IsLaterWord a b → mark ≤ a.
     (mark + 2 ≤ b.seq → handshake_at b i ≡ bit → ⊥) → handshake_at b i ≡ bit → a.toggle ≡ b.toggle → b.seq ≤ a.seq
 agreed a b mark bit i f marked late handshake toggle =
     elim (cases_lt a.seq b.seq) [
-      | inl lt ↦ absurd (late (let two : a.seq + 2 ≤ b.seq = toggled a b f lt toggle in omega arith) handshake)
+      | inl lt ↦ absurd (late (omega (arith, toggled a b f lt toggle)) handshake)
       | inr le ↦ le
     ]
 
@@ -320,4 +319,4 @@ moved_since n i history t since round words p h k ik differ =
 pub gained_at : (start opening x v : ℕ) (b : Bool) → start + v ≤ opening → opening ≤ x → (b ≡ false → opening < x) →
     start + (if not b then v + 1 else v) ≤ x
 gained_at start opening x v true low le more = omega arith
-gained_at start opening x v false low le more = let lt : opening < x = more refl in omega arith
+gained_at start opening x v false low le more = omega (arith, more refl)

@@ -6,16 +6,15 @@ use Rattle.snap_runs.proofs.Common.{IsOneOf, Word, no_word, places_to, all_true,
 use Rattle.snap_words.specs.declared.kind.KindTag.TheVariants as kind
 use Rattle.snap_semantics.specs.Table.{call_skip}
 use Rattle.snap_semantics.specs.declared.process.Reason.TheVariants.{NoSuchWord, NotOwner}
-use Rattle.snap_runs.proofs.Algorithm.{Mode, Scanning, Embedded, Updating, mode_of, op_of}
-use Rattle.snap_runs.proofs.Algorithm.{Idle, At, WhenBusy, LeadsTo, leads_to}
+use Rattle.snap_runs.proofs.Algorithm.{Mode, Scanning, Updating, mode_of, op_of, Idle, At, WhenBusy, LeadsTo, leads_to}
 use Rattle.snap_runs.proofs.Computing.{lt_from, same_from, either, whether, differs, raised_most, none_then}
 use Rattle.snap_runs.proofs.Embedding as embed
 use Rattle.snap_runs.proofs.Held.{word_at}
 use Rattle.snap_runs.proofs.Places.{for_each_at, first_found, first_none}
 use Rattle.snap_runs_of_b.specs.Promises.{square}
 use Rattle.snap_runs_of_b.proofs.Algorithm.{Words, Registers, Move, Control, Variables, ProgramCounter, L10, L11, L12}
-use Rattle.snap_runs_of_b.proofs.Algorithm.{L13, L14, L15, L16, L17, L18, L19, L20, L21, L22, L23, L25, L26, L27, L28}
-use Rattle.snap_runs_of_b.proofs.Algorithm.{L40, L41, L42, L43, L44, L45, L46, L47, place, handshake_at, agree, limit}
+use Rattle.snap_runs_of_b.proofs.Algorithm.{L13, L14, L15, L16, L17, L18, L19, L20, L21, L22, L23, L26, L27, L28}
+use Rattle.snap_runs_of_b.proofs.Algorithm.{L41, L42, L43, L44, L46, L47, place, handshake_at, agree, limit}
 use Rattle.snap_runs_of_b.proofs.Algorithm.{moved_at, counted, at_limit, move, first_to, counter, algorithm, IsLineOf}
 use Rattle.snap_runs_of_b.proofs.Lines.{SaysBits, Needs, each_line}
 
@@ -71,42 +70,37 @@ pub move_well : (n me : ℕ) (d : Mode) (m : Registers) (p : Variables) (k : Pro
     IsOneOf n me → BitWords n m.words → Sized n p → IsLineOf me d k → VariablesAt n me p k →
     MoveWell (op_of d) n me (move n me d m p k)
 move_well n me d m p L10 i bits sized s h = (s, λ k e. rw (for_each_at n (λ k. 0) p.moved k e) (omega arith), refl)
-move_well n me d m p L11 i bits sized s h = (s, ((omega arith, omega arith), h), refl)
-move_well n me d m p L12 i bits sized s h =
-    let len : length p.a ≡ max n n = sized.0 in (
-      s,
-      (
-        h.0,
-        h.1,
-        subst (λ (w : Word). handshake_at w me ≤ 1)
-            (sym (put_word p.a p.j (word_at m.words p.j) (omega arith) (omega arith))) (bits p.j me h.0 i),
-      ),
-      refl,
-    )
-move_well n me d m p L13 i bits sized s h =
-    let len : length p.g ≡ max n n = sized.2 in (
-      s,
-      (
-        h.0,
-        h.1,
-        subst (λ x. x ≤ 1)
-            (sym (put_place p.g p.j (handshake_at (word_at p.a p.j) me) (omega arith) (omega arith))) h.2,
-      ),
-      refl,
-    )
-move_well n me d m p L14 i bits sized s h = (s, (h.0, h.1), refl)
+move_well n me (Updating word value) m p L44 i bits sized s h = (s, tt, refl)
+move_well n me d m p L44 i bits sized s h = absurd s
+move_well n me d m p L12 i bits sized s h = (
+  s,
+  (
+    h.0,
+    h.1,
+    subst (λ (w : Word). handshake_at w me ≤ 1)
+        (sym (put_word p.a p.j (word_at m.words p.j) (omega arith) (omega (arith, sized.0)))) (bits p.j me h.0 i),
+  ),
+  refl,
+)
+move_well n me d m p L13 i bits sized s h = (
+  s,
+  (
+    h.0,
+    h.1,
+    subst (λ x. x ≤ 1)
+        (sym (put_place p.g p.j (handshake_at (word_at p.a p.j) me) (omega arith) (omega (arith, sized.2)))) h.2,
+  ),
+  refl,
+)
 move_well n me d m p L15 i bits sized s h =
-    either (MoveWell (op_of d) n me) (nat_lt p.j n) _ _
-    (λ b. let j : p.j < n = lt_from p.j n b in (s, ((omega arith, omega arith), h.1), refl))
-    (λ b. (s, ((omega arith, omega arith), h.1), refl))
+    either (MoveWell (op_of d) n me) (nat_lt p.j n) _ _ (λ b. (s, omega (arith, lt_from p.j n b), refl))
+    (λ b. (s, omega arith, refl))
 move_well n me d m p L17 i bits sized s h =
-    either (MoveWell (op_of d) n me) (nat_lt p.j n) _ _
-    (λ b. let j : p.j < n = lt_from p.j n b in (s, ((omega arith, omega arith), h.1), refl))
-    (λ b. (s, ((omega arith, omega arith), h.1), refl))
+    either (MoveWell (op_of d) n me) (nat_lt p.j n) _ _ (λ b. (s, omega (arith, lt_from p.j n b), refl))
+    (λ b. (s, omega arith, refl))
 move_well n me d m p L19 i bits sized s h =
-    either (MoveWell (op_of d) n me) (nat_lt p.j n) _ _
-    (λ b. let j : p.j < n = lt_from p.j n b in (s, ((omega arith, omega arith), h.1), refl))
-    (λ b. (s, (refl, h.1), refl))
+    either (MoveWell (op_of d) n me) (nat_lt p.j n) _ _ (λ b. (s, omega (arith, lt_from p.j n b), refl))
+    (λ b. (s, omega arith, refl))
 move_well n me d m p L20 i bits sized s h =
     either (MoveWell (op_of d) n me) (all_true (map (agree me p) (places_to n))) _ _
     (λ b. (s, tt, refl)) (λ b. (s, h, refl))
@@ -129,41 +123,21 @@ move_well n me d m p L22 i bits sized s h =
       ),
       refl,
     ))
-    (λ k e. let r = first_found 1 n (at_limit p) k e in (s, (omega arith, omega arith), refl))
-move_well n me d m p L23 i bits sized s h = (s, ((omega arith, omega arith), h.1), refl)
-move_well n me d m p L25 i bits sized s h = (s, tt, refl)
+    (λ k e. (s, omega (arith, first_found 1 n (at_limit p) k e), refl))
 move_well n me Scanning m p L26 i bits sized s h = tt
-move_well n me (Embedded word value) m p L26 i bits sized s h = (s, tt, refl)
 move_well n me (Updating word value) m p L26 i bits sized s h = absurd s
-move_well n me d m p L27 i bits sized s h = (s, tt, refl)
 move_well n me Scanning m p L28 i bits sized s h = tt
-move_well n me (Embedded word value) m p L28 i bits sized s h = (s, tt, refl)
 move_well n me (Updating word value) m p L28 i bits sized s h = absurd s
-move_well n me d m p L40 i bits sized s h = (s, (omega arith, omega arith), refl)
 move_well n me d m p L43 i bits sized s h =
-    either (MoveWell (op_of d) n me) (nat_lt p.j n) _ _
-    (λ b. let j : p.j < n = lt_from p.j n b in (s, (omega arith, omega arith), refl)) (λ b. (s, tt, refl))
-move_well n me Scanning m p L44 i bits sized s h = absurd s
-move_well n me (Embedded word value) m p L44 i bits sized s h = absurd s
-move_well n me (Updating word value) m p L44 i bits sized s h = (s, tt, refl)
-move_well n me d m p L45 i bits sized s h = (s, tt, refl)
-move_well n me d m p L46 i bits sized s h = (s, tt, refl)
+    either (MoveWell (op_of d) n me) (nat_lt p.j n) _ _ (λ b. (s, omega (arith, lt_from p.j n b), refl))
+    (λ b. (s, tt, refl))
 move_well n me d m p L47 i bits sized s h = tt
-move_well n me d m p k i bits sized s h = (s, h, refl)
+move_well n me d m p k i bits sized s h = (s, omega arith, refl)
 
 -- what a line needs is kept
 pub needs : (n me : ℕ) (p : Variables) (k : ProgramCounter) → SaysBits n p → VariablesAt n me p k → Needs n p k
-needs n me p L12 f h = h.0
-needs n me p L13 f h = h.0
-needs n me p L14 f h = (h.0, h.2)
-needs n me p L16 f h = h.0
-needs n me p L18 f h = h.0
-needs n me p L21 f h = h.1
-needs n me p L27 f h = h
-needs n me p L41 f h = h
-needs n me p L42 f h = h
 needs n me p L46 f h = f
-needs n me p k f h = tt
+needs n me p k f h = assumption
 
 -- an update that is not skipped is of the caller's own word
 pub own_word : (n i word value : ℕ) → call_skip kind.Bits (square n) i (Update word value) ≡ None → word ≡ i

@@ -2,7 +2,7 @@
 -- at each line, how a line raises them, and the limits on them.
 use Rattle.std.proofs.Common.{◌≡◌, ℕ, suc, ◌+◌, ◌*◌, ◌<◌, ◌≤◌, false, not, map, nat_lt, if◌then◌else◌, refl, ap, arith}
 use Rattle.snap_runs.proofs.Common.{IsOneOf, places_to, all_true, first_true}
-use Rattle.snap_runs.proofs.Algorithm.{Mode, Scanning, Embedded, Updating, GoesOn}
+use Rattle.snap_runs.proofs.Algorithm.{Mode, Scanning, Updating, GoesOn}
 use Rattle.snap_runs.proofs.Budget as budgets
 use Rattle.snap_runs.proofs.Budget.{budget_zero, same_budget, next_budget, budget_le}
 use Rattle.snap_runs.proofs.Computing.{not_lt, either, whether}
@@ -10,9 +10,8 @@ use Rattle.snap_runs.proofs.Places.{for_each, for_each_at, some_fails}
 use Rattle.snap_runs.proofs.Totals.{total, total_le, total_less, total_raised}
 use Rattle.snap_runs.proofs.Flow.{IsScanLine}
 use Rattle.snap_runs_of_b.proofs.Algorithm.{Registers, Move, Variables, ProgramCounter, L10, L11, L12, L13, L14, L15}
-use Rattle.snap_runs_of_b.proofs.Algorithm.{L16, L17, L18, L19, L20, L21, L22, L23, L25, L26, L27, L28, L40, L41, L42}
-use Rattle.snap_runs_of_b.proofs.Algorithm.{L43, L44, L45, L46, L47, move, first_to, agree, limit, moved_at, counted}
-use Rattle.snap_runs_of_b.proofs.Algorithm.{at_limit, tests, restarts, in_update}
+use Rattle.snap_runs_of_b.proofs.Algorithm.{L16, L17, L18, L19, L20, L21, L22, L23, L25, L26, L27, L28, L43, L44, move}
+use Rattle.snap_runs_of_b.proofs.Algorithm.{first_to, agree, moved_at, counted, at_limit, tests, restarts, in_update}
 use Rattle.snap_runs_of_b.proofs.Control.{BelowLimit, VariablesAt}
 
 -- the own steps of c failed double collects
@@ -27,17 +26,12 @@ abbrev pub moves : ℕ → Variables → ℕ
 moves n p = total (moved_at p) n
 
 moves_le : (n : ℕ) (p : Variables) → BelowLimit n p → moves n p ≤ n
-moves_le n p below =
-    let all : moves n p ≤ n * 1 =
-    total_le 1 (moved_at p) n (λ k i. let less : moved_at p k < limit = below k i in omega arith) in
-    omega arith
+moves_le n p below = omega (arith, total_le 1 (moved_at p) n (λ k i. omega (arith, below k i)))
 
 -- the moves are fewer than n where one process has not been seen to move
 pub moves_less : (n i : ℕ) (p : Variables) → IsOneOf n i → moved_at p i ≡ 0 → BelowLimit n p → moves n p < n
 moves_less n i p one zeroed below =
-    let all : moves n p + 1 ≤ n * 1 =
-    total_less 1 (moved_at p) n i one zeroed (λ k e. let less : moved_at p k < limit = below k e in omega arith) in
-    omega arith
+    omega (arith, total_less 1 (moved_at p) n i one zeroed (λ k e. omega (arith, below k e)))
 
 -- Where a scan of process me stands at a line, with this many own steps and ended double collects since its start, and
 -- `recent` ended double collects since its current one was started.
@@ -68,14 +62,7 @@ Count n me p own c recent L26 = (own + 2 ≤ budget n c) × (c ≤ n)
 Count n me p own c recent L27 = (own + 1 ≤ budget n c) × (c ≤ n)
 Count n me p own c recent L28 = (own ≤ budget n c) × (c ≤ n)
 -- an update outside its scan
-Count n me p own c recent L40 = Unit {0}
-Count n me p own c recent L41 = Unit {0}
-Count n me p own c recent L42 = Unit {0}
-Count n me p own c recent L43 = Unit {0}
-Count n me p own c recent L44 = Unit {0}
-Count n me p own c recent L45 = Unit {0}
-Count n me p own c recent L46 = Unit {0}
-Count n me p own c recent L47 = Unit {0}
+Count n me p own c recent k = Unit {0}
 
 abbrev pub CountMove : ℕ → ℕ → ℕ → ℕ → ℕ → Move → Type 0
 CountMove n me own c recent v = GoesOn (λ d m p k. Count n me p own c recent k) v
@@ -96,81 +83,45 @@ pub count_move : (n me : ℕ) (d : Mode) (m : Registers) (p : Variables) (k : Pr
     (own c c' recent recent' : ℕ) → c' ≡ c + tests k →
     recent' ≡ (if restarts k then 0 else recent + tests k) → VariablesAt n me p k → ((k ≡ L20) → moves n p < n) →
     Count n me p own c recent k → CountMove n me (suc own) c' recent' (move n me d m p k)
-count_move n me (Updating word value) m p L44 own c c' recent recent' e f keeps sharp h = tt
-count_move n me d m p L10 own c c' recent recent' e f keeps sharp h = (omega arith, omega arith, omega arith)
 count_move n me d m p L11 own c c' recent recent' e f keeps sharp h =
-    let b : budget n c' ≡ budget n 0 = ap (budget n) (let f : c' ≡ 0 = omega arith in f) in
-    let two : budget n 0 ≡ 2 = budget_zero (round n) 2 in
-    (omega arith, omega arith, omega arith)
-count_move n me d m p L12 own c c' recent recent' e f keeps sharp h =
-    let b : budget n c' ≡ budget n c = same_budget (round n) 2 c c' e in (omega arith, omega arith, omega arith)
-count_move n me d m p L13 own c c' recent recent' e f keeps sharp h =
-    let b : budget n c' ≡ budget n c = same_budget (round n) 2 c c' e in (omega arith, omega arith, omega arith)
-count_move n me d m p L14 own c c' recent recent' e f keeps sharp h =
-    let b : budget n c' ≡ budget n c = same_budget (round n) 2 c c' e in (omega arith, omega arith, omega arith)
+    omega (arith, ap (budget n) (let f : c' ≡ 0 = omega arith in f), budget_zero (round n) 2)
+count_move n me Scanning m p L26 own c c' recent recent' e f keeps sharp h = tt
+count_move n me Scanning m p L28 own c c' recent recent' e f keeps sharp h = tt
+count_move n me (Updating word value) m p L44 own c c' recent recent' e f keeps sharp h = tt
 count_move n me d m p L15 own c c' recent recent' e f keeps sharp h =
-    let b : budget n c' ≡ budget n c = same_budget (round n) 2 c c' e in
-    either (CountMove n me (suc own) c' recent') (nat_lt p.j n) _ _
-    (λ t. (omega arith, omega arith, omega arith))
-    (λ t. let ge : n ≤ p.j = not_lt p.j n t in (omega arith, omega arith, omega arith))
-count_move n me d m p L16 own c c' recent recent' e f keeps sharp h =
-    let b : budget n c' ≡ budget n c = same_budget (round n) 2 c c' e in (omega arith, omega arith, omega arith)
+    either (CountMove n me (suc own) c' recent') (nat_lt p.j n) _ _ (λ t. omega (arith, same_budget (round n) 2 c c' e))
+    (λ t. omega (arith, same_budget (round n) 2 c c' e, not_lt p.j n t))
 count_move n me d m p L17 own c c' recent recent' e f keeps sharp h =
-    let b : budget n c' ≡ budget n c = same_budget (round n) 2 c c' e in
-    either (CountMove n me (suc own) c' recent') (nat_lt p.j n) _ _
-    (λ t. (omega arith, omega arith, omega arith))
-    (λ t. let ge : n ≤ p.j = not_lt p.j n t in (omega arith, omega arith, omega arith))
-count_move n me d m p L18 own c c' recent recent' e f keeps sharp h =
-    let b : budget n c' ≡ budget n c = same_budget (round n) 2 c c' e in (omega arith, omega arith, omega arith)
+    either (CountMove n me (suc own) c' recent') (nat_lt p.j n) _ _ (λ t. omega (arith, same_budget (round n) 2 c c' e))
+    (λ t. omega (arith, same_budget (round n) 2 c c' e, not_lt p.j n t))
 count_move n me d m p L19 own c c' recent recent' e f keeps sharp h =
-    let b : budget n c' ≡ budget n c = same_budget (round n) 2 c c' e in
-    either (CountMove n me (suc own) c' recent') (nat_lt p.j n) _ _
-    (λ t. (omega arith, omega arith, omega arith))
-    (λ t. let ge : n ≤ p.j = not_lt p.j n t in (omega arith, omega arith, omega arith))
+    either (CountMove n me (suc own) c' recent') (nat_lt p.j n) _ _ (λ t. omega (arith, same_budget (round n) 2 c c' e))
+    (λ t. omega (arith, same_budget (round n) 2 c c' e, not_lt p.j n t))
 count_move n me d m p L20 own c c' recent recent' e f keeps sharp h =
     let b : budget n c' ≡ budget n c + (8 * n + 4) = next_budget (round n) 2 c c' e in
     let less : moves n p < n = sharp refl in
-    either (CountMove n me (suc own) c' recent') (all_true (map (agree me p) (places_to n))) _ _
-    (λ t. (omega arith, omega arith))
+    either (CountMove n me (suc own) c' recent') (all_true (map (agree me p) (places_to n))) _ _ (λ t. omega arith)
     (λ t. (omega arith, omega arith, omega arith, omega arith, t))
 count_move n me d m p L21 own c c' recent recent' e f keeps sharp h =
-    let b : budget n c' ≡ budget n c = same_budget (round n) 2 c c' e in
     let more : moves n p < moves n (counted_row n me p) =
     after_count n me p h.4 (counted_row n me p) (λ k i. for_each_at n (counted me p) p.moved k i) in
-    (omega arith, omega arith, omega arith)
+    omega (arith, same_budget (round n) 2 c c' e)
 count_move n me d m p L22 own c c' recent recent' e f keeps sharp h =
-    let b : budget n c' ≡ budget n c = same_budget (round n) 2 c c' e in
     whether (CountMove n me (suc own) c' recent') (first_to d m p) (first_true 1 (map (at_limit p) (places_to n)))
-    (λ none. (omega arith, omega arith)) (λ k found. (omega arith, omega arith))
-count_move n me d m p L23 own c c' recent recent' e f keeps sharp h =
-    let b : budget n c' ≡ budget n c = same_budget (round n) 2 c c' e in (omega arith, omega arith, omega arith)
-count_move n me d m p L25 own c c' recent recent' e f keeps sharp h =
-    let b : budget n c' ≡ budget n c = same_budget (round n) 2 c c' e in (omega arith, omega arith)
-count_move n me d m p L27 own c c' recent recent' e f keeps sharp h =
-    let b : budget n c' ≡ budget n c = same_budget (round n) 2 c c' e in (omega arith, omega arith)
+    (λ none. omega (arith, same_budget (round n) 2 c c' e)) (λ k found. omega (arith, same_budget (round n) 2 c c' e))
 count_move n me d m p L43 own c c' recent recent' e f keeps sharp h =
     either (CountMove n me (suc own) c' recent') (nat_lt p.j n) _ _ (λ t. tt) (λ t. tt)
-count_move n me d m p k own c c' recent recent' e f keeps sharp h = tt
+count_move n me d m p k own c c' recent recent' e f keeps sharp h = omega (arith, same_budget (round n) 2 c c' e)
 
 -- the bounds at each line of a scan
 pub collects_le : (n me : ℕ) (p : Variables) (k : ProgramCounter) (own c recent : ℕ) → 0 < n → VariablesAt n me p k →
     ((k ≡ L20) → moves n p < n) → Count n me p own c recent k → IsScanLine (in_update k) → c + tests k ≤ n
-collects_le n me p L12 own c recent pos keeps sharp h s = let t : moves n p ≤ n = moves_le n p keeps.1 in omega arith
-collects_le n me p L13 own c recent pos keeps sharp h s = let t : moves n p ≤ n = moves_le n p keeps.1 in omega arith
-collects_le n me p L14 own c recent pos keeps sharp h s = let t : moves n p ≤ n = moves_le n p keeps.1 in omega arith
-collects_le n me p L15 own c recent pos keeps sharp h s = let t : moves n p ≤ n = moves_le n p keeps.1 in omega arith
-collects_le n me p L16 own c recent pos keeps sharp h s = let t : moves n p ≤ n = moves_le n p keeps.1 in omega arith
-collects_le n me p L17 own c recent pos keeps sharp h s = let t : moves n p ≤ n = moves_le n p keeps.1 in omega arith
-collects_le n me p L18 own c recent pos keeps sharp h s = let t : moves n p ≤ n = moves_le n p keeps.1 in omega arith
-collects_le n me p L19 own c recent pos keeps sharp h s = let t : moves n p ≤ n = moves_le n p keeps.1 in omega arith
-collects_le n me p L23 own c recent pos keeps sharp h s = let t : moves n p ≤ n = moves_le n p keeps.1 in omega arith
-collects_le n me p L20 own c recent pos keeps sharp h s = let t : moves n p < n = sharp refl in omega arith
-collects_le n me p k own c recent pos keeps sharp h s = omega arith
+collects_le n me p L20 own c recent pos keeps sharp h s = omega (arith, sharp refl)
+collects_le n me p k own c recent pos keeps sharp h s = omega (arith, moves_le n p)
 
 own_all : (n c own : ℕ) → c ≤ n → own ≤ budget n c + 8 * n → own + 1 ≤ 8 * (n * n) + 12 * n + 7
 own_all n c own le h =
-    let b : budget n c ≤ n * (8 * n + 4) + 2 = budget_le (round n) 2 c n le in
-    let e : n * (8 * n + 4) ≡ 8 * (n * n) + 4 * n = grind arith in omega arith
+    let e : n * (8 * n + 4) ≡ 8 * (n * n) + 4 * n = grind arith in omega (arith, budget_le (round n) 2 c n le)
 
 pub own_le : (n me : ℕ) (p : Variables) (k : ProgramCounter) (own c recent : ℕ) → VariablesAt n me p k →
     Count n me p own c recent k → c ≤ n → IsScanLine (in_update k) → own + 1 ≤ 8 * (n * n) + 12 * n + 7

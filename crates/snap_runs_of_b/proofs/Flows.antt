@@ -1,5 +1,5 @@
 -- How control passes from line to line of B, and what the listing says of each line.
-use Rattle.std.proofs.Common.{◌≡◌, ℕ, ◌+◌, ◌-◌, List, [], ◌∷◌, map, Option, Some, nat_lt, slice_set, refl, sym, ap}
+use Rattle.std.proofs.Common.{◌≡◌, ℕ, ◌+◌, ◌-◌, List, [], ◌∷◌, map, Option, nat_lt, slice_set, refl, sym, ap}
 use Rattle.std.proofs.Common.{subst, inl, inr, arith}
 use Rattle.snap_runs.proofs.Common.{IsOneOf, places_to, all_true, first_true}
 use Rattle.snap_semantics.specs.Source.{instr_at}

@@ -17,18 +17,18 @@ follows_trans x y z (inl p) (inr q) = subst (λ (w : Word). IsLaterWord x w) q (
 follows_trans x y z (inr p) q = subst (λ (w : Word). IsLaterWord w z) (sym p) q
 
 pub follows_seq : (x y : Word) → IsLaterWord x y → x.seq ≤ y.seq
-follows_seq x y (inl p) = let a : x.seq < y.seq = p.0 in omega arith
-follows_seq x y (inr p) = let e : x.seq ≡ y.seq = ap (λ (w : Word). w.seq) p in omega arith
+follows_seq x y (inl p) = omega (arith, p.0)
+follows_seq x y (inr p) = omega (arith, ap (λ (w : Word). w.seq) p)
 
 -- a word that is no later is the same
 pub same_word : (x y : Word) → IsLaterWord x y → y.seq ≤ x.seq → x ≡ y
-same_word x y (inl p) le = absurd (let a : x.seq < y.seq = p.0 in omega arith)
+same_word x y (inl p) le = absurd (omega (arith, p.0))
 same_word x y (inr p) le = p
 
 -- a later word with the same toggle is two writes later
 pub toggled : (x y : Word) → IsLaterWord x y → x.seq < y.seq → x.toggle ≡ y.toggle → x.seq + 2 ≤ y.seq
 toggled x y (inl p) lt e = p.1 e
-toggled x y (inr p) lt e = absurd (let s : x.seq ≡ y.seq = ap (λ (w : Word). w.seq) p in omega arith)
+toggled x y (inr p) lt e = absurd (omega (arith, ap (λ (w : Word). w.seq) p))
 
 -- words with equal counts that stand so are one
 pub squeezed : (a mid b : Word) → IsLaterWord a mid → IsLaterWord mid b → b.seq ≤ a.seq → mid ≡ b

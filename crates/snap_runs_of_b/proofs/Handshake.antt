@@ -39,9 +39,8 @@ bit_set n q i j k v h one jn e =
 pub bit_kept : (n : ℕ) (q : List (List ℕ)) (i j k v : ℕ) → Square n q → IsOneOf n i → IsOneOf n j → IsOneOf n k →
     (k ≡ j → ⊥) → bit_for (with_bit_at q (i - 1) (j - 1) v) i k ≡ bit_for q i k
 bit_kept n q i j k v h one jn kn other =
-    let rows : length q ≡ n = h.rows in
     ap (λ row. slice_index row (k - 1))
-    (get_or-set_at q (i - 1) (i - 1) (slice_set (row_of q i) (j - 1) v) [] refl (omega arith))
+    (get_or-set_at q (i - 1) (i - 1) (slice_set (row_of q i) (j - 1) v) [] refl (omega (arith, h.rows)))
     ∙ place_kept (row_of q i) j k v jn.0 kn.0 other
 
 pub other_row : (q : List (List ℕ)) (i j u v : ℕ) → 0 < i → 0 < u → u ≢ i →
@@ -85,6 +84,12 @@ pub bits_move : (n i : ℕ) (d : Mode) (m : Registers) (p : Variables) (k : Prog
     IsOneOf n i → Square n m.q → Sized n p → IsLineOf i d k → VariablesAt n i p k →
     BitsMove n i m p (reach n p k) (move n i d m p k)
 bits_move n i d m p L12 one square sized s h = λ k ik lt. inl (omega arith, refl, refl, refl)
+bits_move n i Scanning m p L26 one square sized s h = tt
+bits_move n i (Updating word value) m p L26 one square sized s h = tt
+bits_move n i Scanning m p L28 one square sized s h = tt
+bits_move n i (Updating word value) m p L28 one square sized s h = tt
+bits_move n i (Updating word value) m p L44 one square sized s h = refl
+bits_move n i d m p L44 one square sized s h = absurd s
 bits_move n i d m p L13 one square sized s h =
     λ k ik lt. inl (lt, place_kept p.g p.j k _ h.0.0 ik.0 (λ e. omega arith), refl, refl)
 bits_move n i d m p L14 one square sized s h = λ k ik lt.
@@ -103,35 +108,26 @@ bits_move n i d m p L14 one square sized s h = λ k ik lt.
       )
     ]
 bits_move n i d m p L15 one square sized s h =
-    either (BitsMove n i m p (reach n p L15)) (nat_lt p.j n) _ _ (λ b. λ k ik lt. inl (omega arith, refl, refl, refl))
-    (λ b. let ge : n ≤ p.j = not_lt p.j n b in λ k ik lt. inl (omega arith, refl, refl, refl))
+    either (BitsMove n i m p (reach n p L15)) (nat_lt p.j n) _ _ (λ b k ik lt. inl (omega arith, refl, refl, refl))
+    (λ b k ik lt. inl (omega (arith, not_lt p.j n b), refl, refl, refl))
 bits_move n i d m p L16 one square sized s h = λ k ik lt. inl (omega arith, refl, refl, refl)
 bits_move n i d m p L17 one square sized s h =
     either (BitsMove n i m p (reach n p L17)) (nat_lt p.j n) _ _
-    (λ b. λ k ik lt. inl (omega arith, refl, refl, refl)) (λ b. λ k ik lt. inl (omega arith, refl, refl, refl))
+    (λ b k ik lt. inl (omega arith, refl, refl, refl)) (λ b k ik lt. inl (omega arith, refl, refl, refl))
 bits_move n i d m p L18 one square sized s h = λ k ik lt. inl (omega arith, refl, refl, refl)
 bits_move n i d m p L19 one square sized s h =
     either (BitsMove n i m p (reach n p L19)) (nat_lt p.j n) _ _
-    (λ b. λ k ik lt. inl (omega arith, refl, refl, refl)) (λ b. λ k ik lt. inl (omega arith, refl, refl, refl))
+    (λ b k ik lt. inl (omega arith, refl, refl, refl)) (λ b k ik lt. inl (omega arith, refl, refl, refl))
 bits_move n i d m p L20 one square sized s h =
     either (BitsMove n i m p (reach n p L20)) (all_true (map (agree i p) (places_to n))) _ _
-    (λ b. λ k ik lt. absurd (omega arith)) (λ b. λ k ik lt. inl (omega arith, refl, refl, refl))
+    (λ b k ik lt. absurd (omega arith)) (λ b k ik lt. inl (omega arith, refl, refl, refl))
 bits_move n i d m p L22 one square sized s h =
     whether (BitsMove n i m p (reach n p L22)) (first_to d m p) (first_true 1 (map (at_limit p) (places_to n)))
     (λ e k ik lt. absurd (omega arith)) (λ u e k ik lt. absurd (omega arith))
-bits_move n i d m p L23 one square sized s h = λ k ik lt. absurd (let e : p.j ≡ 1 = h.0 in omega arith)
-bits_move n i Scanning m p L26 one square sized s h = tt
-bits_move n i (Embedded word value) m p L26 one square sized s h = λ k ik lt. absurd (omega arith)
-bits_move n i (Updating word value) m p L26 one square sized s h = absurd s
-bits_move n i Scanning m p L28 one square sized s h = tt
-bits_move n i (Embedded word value) m p L28 one square sized s h = λ k ik lt. absurd (omega arith)
-bits_move n i (Updating word value) m p L28 one square sized s h = absurd s
+bits_move n i d m p L23 one square sized s h = λ k ik lt. absurd (omega (arith, h.0))
 bits_move n i d m p L43 one square sized s h =
-    either (BitsMove n i m p (reach n p L43)) (nat_lt p.j n) _ _ (λ b. λ k ik lt. absurd (omega arith))
-    (λ b. λ k ik lt. absurd (omega arith))
-bits_move n i Scanning m p L44 one square sized s h = absurd s
-bits_move n i (Embedded word value) m p L44 one square sized s h = absurd s
-bits_move n i (Updating word value) m p L44 one square sized s h = refl
+    either (BitsMove n i m p (reach n p L43)) (nat_lt p.j n) _ _ (λ b k ik lt. absurd (omega arith))
+    (λ b k ik lt. absurd (omega arith))
 bits_move n i d m p L47 one square sized s h = tt
 bits_move n i d m p k one square sized s h = λ k ik lt. absurd (omega arith)
 
@@ -154,15 +150,12 @@ puts_move n i d m p L22 =
     whether (PutsMove i m p) (first_to d m p) (first_true 1 (map (at_limit p) (places_to n)))
     (λ e. inl refl) (λ k e. inl refl)
 puts_move n i Scanning m p L26 = tt
-puts_move n i (Embedded word value) m p L26 = inl refl
 puts_move n i (Updating word value) m p L26 = tt
 puts_move n i Scanning m p L28 = tt
-puts_move n i (Embedded word value) m p L28 = inl refl
 puts_move n i (Updating word value) m p L28 = tt
 puts_move n i d m p L43 = either (PutsMove i m p) (nat_lt p.j n) _ _ (λ b. inl refl) (λ b. inl refl)
-puts_move n i Scanning m p L44 = tt
-puts_move n i (Embedded word value) m p L44 = tt
 puts_move n i (Updating word value) m p L44 = tt
+puts_move n i d m p L44 = tt
 puts_move n i d m p L47 = tt
 puts_move n i d m p k = inl refl
 
@@ -216,6 +209,7 @@ pub answers_move : (n me i bit : ℕ) (d : Mode) (m : Registers) (p : Variables)
     Answers i bit d p k → AnswersMove i bit (move n me d m p k)
 answers_move n me i bit d m p L15 one sized s keeps put h =
     either (AnswersMove i bit) (nat_lt p.j n) _ _ (λ b. h) (λ b. h)
+answers_move n me i bit (Updating word value) m p L44 one sized s keeps put h = h
 answers_move n me i bit d m p L17 one sized s keeps put h =
     either (AnswersMove i bit) (nat_lt p.j n) _ _ (λ b. h) (λ b. h)
 answers_move n me i bit d m p L19 one sized s keeps put h =
@@ -226,7 +220,7 @@ answers_move n me i bit d m p L22 one sized s keeps put h =
     whether (AnswersMove i bit) (first_to d m p) (first_true 1 (map (at_limit p) (places_to n))) (λ e. h) (λ k e. h)
 answers_move n me i bit d m p L26 one sized s keeps put h = answers_return i bit d m p h
 answers_move n me i bit d m p L28 one sized s keeps put h = answers_return i bit d m p h
-answers_move n me i bit d m p L40 one sized s keeps put h = λ lt. absurd (let pos : 0 < i = one.0 in omega arith)
+answers_move n me i bit d m p L40 one sized s keeps put h = λ lt. absurd (omega (arith, one))
 answers_move n me i bit d m p L41 one sized s keeps put h = (h, λ e. subst (λ j. bit_for m.q j me ≡ bit) e put)
 answers_move n me i bit d m p L42 one sized s keeps put h = λ lt said.
     let len : length p.f ≡ max n n = sized.3 in
@@ -237,9 +231,7 @@ answers_move n me i bit d m p L42 one sized s keeps put h = λ lt said.
 answers_move n me i bit d m p L43 one sized s keeps put h =
     either (AnswersMove i bit) (nat_lt p.j n) _ _ (λ b. h)
     (λ b. let ge : n ≤ p.j = not_lt p.j n b in all_said me (place p.f i) bit d s (h (omega arith)))
-answers_move n me i bit Scanning m p L44 one sized s keeps put h = absurd s
-answers_move n me i bit (Embedded word value) m p L44 one sized s keeps put h = absurd s
-answers_move n me i bit (Updating word value) m p L44 one sized s keeps put h = h
+answers_move n me i bit d m p L44 one sized s keeps put h = absurd s
 answers_move n me i bit d m p L46 one sized s keeps put h = tt
 answers_move n me i bit d m p L47 one sized s keeps put h = tt
 answers_move n me i bit d m p k one sized s keeps put h = h

@@ -104,13 +104,9 @@ others_act n t t' history m m' i q le g same put late v h = record {
   sized = h.sized;
   bits = h.bits;
   toggle = subst (λ (w : Word). ToggledAt w.toggle q.variables q.control) (sym same) h.toggle;
-  since_le = let f : q.auxiliary.since ≤ t = h.since_le in omega arith;
-  low = λ k ik. let l : seq_at (history q.auxiliary.since) k ≤ seq_at m.words k = h.low k ik in
-      let s : seq_at m.words k ≤ seq_at m'.words k = follows_seq (word_at m.words k) (word_at m'.words k) (g k ik) in
-      omega arith;
-  opened = λ k ik. let l : seq_at (history q.auxiliary.round) k ≤ seq_at m.words k = h.opened k ik in
-      let s : seq_at m.words k ≤ seq_at m'.words k = follows_seq (word_at m.words k) (word_at m'.words k) (g k ik) in
-      omega arith;
+  since_le = omega (arith, h.since_le);
+  low = λ k ik. omega (arith, h.low k ik, follows_seq (word_at m.words k) (word_at m'.words k) (g k ik));
+  opened = λ k ik. omega (arith, h.opened k ik, follows_seq (word_at m.words k) (word_at m'.words k) (g k ik));
   views = v;
   asked = λ k ik lt. put k ik ∙ h.asked k ik lt;
   late = late;

@@ -1,7 +1,7 @@
 -- `frame` and `kept`: what `Frame` and `Kept` of snap_runs (proofs/ListingFrame.antt) ask of a listing, shown of B.
 -- The promises of B follow from it.
 use Rattle.std.specs.Prelude.{◌≡◌, ℕ, ◌+◌, ◌-◌, ◌*◌, ◌<◌, ◌≤◌, Bool, true, false, List, length, nat_lt, refl}
-use Rattle.std.proofs.Common.{sym, subst, arith, inl, inr}
+use Rattle.std.proofs.Common.{sym, subst, arith}
 use Rattle.snap_runs.proofs.Common.{IsOneOf, Item}
 use Rattle.snap_runs.proofs.Algorithm.{Mode, Embedded, Updating, At}
 use Rattle.snap_runs.proofs.Calm.{calm, calm_list}
@@ -13,8 +13,7 @@ use Rattle.snap_runs.proofs.UpdateSteps.{Ahead, Nearer, Resumes}
 use Rattle.snap_runs.proofs.ListingFrame as frames
 use Rattle.snap_runs_of_b.specs.Promises.{run_of}
 use Rattle.snap_runs_of_b.proofs.Algorithm.{Words, Registers, Variables, ProgramCounter, L40, L41, L42, L43, L44, L45}
-use Rattle.snap_runs_of_b.proofs.Algorithm.{L26, L28}
-use Rattle.snap_runs_of_b.proofs.Algorithm.{L46, L47, IsUpdate, IsLineOf, in_update, tests, move, lines, algorithm}
+use Rattle.snap_runs_of_b.proofs.Algorithm.{L26, L28, L46, L47, IsLineOf, in_update, tests, move, lines, algorithm}
 use Rattle.snap_runs_of_b.proofs.Count.{collects_le, own_le}
 use Rattle.snap_runs_of_b.proofs.Flows.{numbered, listed, once, writer}
 use Rattle.snap_runs_of_b.proofs.Preserve.{few_moves}

@@ -1,13 +1,12 @@
 -- A borrowed view of a scan of B is that of an embedded scan of the lender within it.
-use Rattle.std.proofs.Common.{ℕ, List, refl, arith}
+use Rattle.std.proofs.Common.{ℕ, List, refl}
 use Rattle.snap_runs.proofs.Common.{Item, Op, Scan, Update}
-use Rattle.snap_runs.proofs.Algorithm.{when_busy}
 use Rattle.snap_runs.proofs.Steady.{Steady}
 use Rattle.snap_runs.proofs.Single as single
 use Rattle.snap_runs_of_b.specs.Promises.{run_of, BorrowedViewsAreLent}
 use Rattle.snap_runs_of_b.proofs.Algorithm.{L28, IsLate, counter}
 use Rattle.snap_runs_of_b.proofs.Kept.{frame, kept, calm_kept}
-use Rattle.snap_runs_of_b.proofs.Runs.{registers_at, process_after, invariant, invariant_of, stage_of}
+use Rattle.snap_runs_of_b.proofs.Runs.{invariant, stage_of}
 
 not_late : (op : Op) → IsLate (counter op) → ⊥
 not_late Scan late = late

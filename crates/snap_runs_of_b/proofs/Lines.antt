@@ -19,7 +19,7 @@ use Rattle.snap_semantics.specs.declared.instr.Relation.TheVariants.{Equal, Diff
 use Rattle.snap_semantics.specs.declared.instr.Term.TheVariants.{Row}
 use Rattle.snap_semantics.specs.declared.process.Cause.{Cause}
 use Rattle.snap_semantics.specs.declared.process.Cause.TheVariants.{Owner}
-use Rattle.snap_runs.proofs.Algorithm.{Mode, Scanning, Embedded, Updating, op_of, link_of, To, shown}
+use Rattle.snap_runs.proofs.Algorithm.{Mode, Updating, op_of, link_of, To, shown}
 use Rattle.snap_runs.proofs.Computing.{if_true, le_true, same_number, if_of}
 use Rattle.snap_runs.proofs.Held.{word_at}
 use Rattle.snap_runs.proofs.Plain.{plain_at, plain_copied, plain_taken}
@@ -27,9 +27,9 @@ use Rattle.snap_runs.proofs.Places.{bind_ok, place_ok, each_ok, sum_ok}
 use Rattle.snap_runs_of_b.specs.ListingB as listing
 use Rattle.snap_runs_of_b.specs.ListingB.{listing_b}
 use Rattle.snap_runs_of_b.specs.Promises.{square}
-use Rattle.snap_runs_of_b.proofs.Algorithm.{Words, Registers, Variables, ProgramCounter, L10, L11, L12, L13, L14, L15}
-use Rattle.snap_runs_of_b.proofs.Algorithm.{L16, L17, L18, L19, L20, L21, L22, L23, L25, L26, L27, L28, L40, L41, L42}
-use Rattle.snap_runs_of_b.proofs.Algorithm.{L43, L44, L45, L46, L47, number, back, plain, real, locals_of, place}
+use Rattle.snap_runs_of_b.proofs.Algorithm.{Words, Registers, Variables, ProgramCounter, L10, L12, L13, L14, L15}
+use Rattle.snap_runs_of_b.proofs.Algorithm.{L16, L17, L18, L19, L20, L21, L22, L25, L26, L27, L28, L41, L42}
+use Rattle.snap_runs_of_b.proofs.Algorithm.{L43, L44, L46, L47, number, back, plain, real, locals_of, place}
 use Rattle.snap_runs_of_b.proofs.Algorithm.{handshake_at, agree, limit, moved_at, counted, at_limit, word_put, move}
 use Rattle.snap_runs_of_b.proofs.Algorithm.{first_to, algorithm, IsLineOf}
 
@@ -131,8 +131,7 @@ bits_taken zero row h = refl
 bits_taken (suc n) [] h = refl
 bits_taken (suc n) (x ∷ row) h =
     both_true (is_bit x) (list_all is_bit (take n row)) (le_true x 1 (h 1 (omega arith, omega arith)))
-    (bits_taken n row (λ k i. let e : place (x ∷ row) (suc k) ≡ place row k =
-    shifted x row k i.0 in let low : place (x ∷ row) (suc k) ≤ 1 = h (suc k) (omega arith, omega arith) in omega arith))
+    (bits_taken n row (λ k i. omega (arith, shifted x row k i.0, h (suc k) (omega arith, omega arith))))
   where
     shifted : (x : ℕ) (row : List ℕ) (k : ℕ) → 0 < k → place (x ∷ row) (suc k) ≡ place row k
     shifted x row zero pos = absurd (omega arith)
@@ -265,25 +264,18 @@ each_line n me d m p L22 one s h =
     (each_ok _ (at_limit p) 1 n (λ k low high. bind_ok _ _ _ _ (row_ok n me d p k (in_range n k low high)) refl))
     (first_shown n d m p (first_true 1 (map (at_limit p) (places_to n))))
 each_line n me d m p L25 one s h = ap (left_view m p d 26) (plain_taken plain (λ w. refl) n p.b)
-each_line n me Scanning m p L26 one s h = refl
-each_line n me (Embedded w x) m p L26 one s h = refl
 each_line n me (Updating w x) m p L26 one s h = absurd s
 each_line n me d m p L27 one s h =
     bind_ok _ _ _ _ (place_ok (max n n) p.j (in_places n p.j h))
     (ap (λ (w : Word). left_view m p d 28 w.view) (plain_at plain refl p.b (p.j - 1)))
-each_line n me Scanning m p L28 one s h = refl
-each_line n me (Embedded w x) m p L28 one s h = refl
 each_line n me (Updating w x) m p L28 one s h = absurd s
 each_line n me d m p L41 one s h = bind_ok _ _ _ _ (place_ok n p.j h) (bind_ok _ _ _ _ (place_ok n me one) refl)
 each_line n me d m p L42 one s h = bind_ok _ _ _ _ (place_ok (max n n) p.j (in_places n p.j h)) refl
 each_line n me d m p L43 one s h =
     if_of (shown (algorithm n) m) (nat_lt p.j n) (To d m (record p { j = p.j + 1 }) L41)
     (To d m (record p { j = 1 }) L44)
-each_line n me Scanning m p L44 one s h = absurd s
-each_line n me (Embedded w x) m p L44 one s h = absurd s
 each_line n me (Updating w x) m p L44 one s h = refl
-each_line n me Scanning m p L46 one s h = absurd s
-each_line n me (Embedded w x) m p L46 one s h = absurd s
+each_line n me d m p L44 one s h = absurd s
 each_line n me (Updating w x) m p L46 one s h =
     bind_ok _ _ _ _ (place_ok n me one)
     (bind_ok _ _ _ _ (bits_ok (plain (word_put n me (Updating w x) m p)) h.0 (bits_taken n p.f h.1))
@@ -291,7 +283,7 @@ each_line n me (Updating w x) m p L46 one s h =
     (λ y. Ok (Goes (real_with m (slice_set (map plain m.words) (me - 1) y)) (locals_of p) None 47)) (same_number me)
     ∙ ap (λ (ws : Words). let r : Result Effect Cause = Ok (Goes (real_with m ws) (locals_of p) None 47) in r)
     (sym (map-set plain m.words (me - 1) (word_put n me (Updating w x) m p)))))
-each_line n me Scanning m p L47 one s h = absurd s
-each_line n me (Embedded w x) m p L47 one s h = absurd s
+each_line n me d m p L46 one s h = absurd s
 each_line n me (Updating w x) m p L47 one s h = refl
+each_line n me d m p L47 one s h = absurd s
 each_line n me d m p k one s h = refl

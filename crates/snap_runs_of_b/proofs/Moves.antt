@@ -40,7 +40,7 @@ written_since n items fits t i j d short one jone at more =
     (not_true (agree i p j) (raised_only (not (agree i p j)) (moved_at p j) grows)) in
     let later : seq_at p.b j ≤ seq_at (words_at n items t) j =
     follows_seq (word_at p.b j) (word_at (words_at n items t) j)
-    (second.read j jone (let i2 = jone in omega arith)).before in
+    (second.read j jone (omega (arith, jone))).before in
     let counts : Count n i p q.auxiliary.own q.auxiliary.collects q.auxiliary.tested L21 =
     counts_of n items fits t i d L21 (omega arith) one at in
     (counts.3, omega arith)

@@ -1,6 +1,6 @@
 -- A passed test of B: the data of the second collect were the values at a state between the two collects.
 use Rattle.std.proofs.Common.{◌≡◌, ℕ, ◌+◌, ◌≤◌, true, take, length, map, arith}
-use Rattle.snap_runs.proofs.Common.{IsOneOf, Word, places_to, all_true}
+use Rattle.snap_runs.proofs.Common.{IsOneOf, places_to, all_true}
 use Rattle.snap_runs.proofs.Held.{word_at, Held, data_of, seq_at, same_data}
 use Rattle.snap_runs.proofs.Places.{all_pass}
 use Rattle.snap_runs_of_b.proofs.Algorithm.{Words, Variables, place, agree}

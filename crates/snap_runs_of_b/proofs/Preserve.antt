@@ -6,9 +6,8 @@ use Rattle.snap_runs.proofs.Common.{IsOneOf, who, Item, Step, Call, Crash, Op, S
 use Rattle.snap_runs.proofs.Common.{Answered, Finished, Reason}
 use Rattle.snap_words.specs.declared.kind.KindTag.TheVariants as kind
 use Rattle.snap_semantics.specs.Table.{call_skip}
-use Rattle.snap_runs.proofs.Algorithm.{Mode, Scanning, Updating, op_of, Idle, At, To, Begin, Answer, Finish, New}
-use Rattle.snap_runs.proofs.Algorithm.{by_move, by_step, by_admission, by_call, typed_at, changed, happens}
-use Rattle.snap_runs.proofs.Algorithm.{stepped_auxiliary, begun_auxiliary, called_auxiliary}
+use Rattle.snap_runs.proofs.Algorithm.{Mode, op_of, Idle, At, To, Begin, Answer, Finish, New, by_move, by_step}
+use Rattle.snap_runs.proofs.Algorithm.{by_admission, by_call, typed_at, changed, happens, stepped_auxiliary}
 use Rattle.snap_runs.proofs.Flow as flow
 use Rattle.snap_runs.proofs.Flow.{IsInScan, InScan, scan_inside}
 use Rattle.snap_runs.proofs.Held.{word_at, seq_at, at_most_now, at_least_now, opened_next}
@@ -16,10 +15,10 @@ use Rattle.snap_runs.proofs.ListedLines.{writes_or_not}
 use Rattle.snap_runs.proofs.WordWrites.{words_then}
 use Rattle.snap_runs_of_b.specs.Promises.{square}
 use Rattle.snap_runs_of_b.proofs.Algorithm.{Words, Registers, Move, Control, Process, State, Variables}
-use Rattle.snap_runs_of_b.proofs.Algorithm.{ProgramCounter, L10, L20, L40, L46, place, handshake_at, bit_for, move}
+use Rattle.snap_runs_of_b.proofs.Algorithm.{ProgramCounter, L10, L20, L46, place, handshake_at, bit_for, move}
 use Rattle.snap_runs_of_b.proofs.Algorithm.{IsLineOf, lines, tests, restarts, writes, algorithm}
 use Rattle.snap_runs_of_b.proofs.Change.{process_changes}
-use Rattle.snap_runs_of_b.proofs.Collect.{Low, Late, Viewed, floor}
+use Rattle.snap_runs_of_b.proofs.Collect.{Low, Late, Viewed}
 use Rattle.snap_runs_of_b.proofs.Control.{BelowLimit, VariablesAt, MoveWell, ControlWell, move_well, called_well}
 use Rattle.snap_runs_of_b.proofs.Count.{Count, CountMove, count_move, moves, moves_less}
 use Rattle.snap_runs_of_b.proofs.Flows.{Making, HasWritten, flows, counter_with, line_listed, writer}
@@ -38,7 +37,7 @@ at n x i = typed_at (algorithm n) x i
 unmoved : (n i : ℕ) (base opening words : Words) (p : Variables) → IsOneOf n i → Low n base opening p.moved →
     seq_at opening i ≤ seq_at words i → BelowLimit n p → seq_at base i ≡ seq_at words i → moves n p < n
 unmoved n i base opening words p one low opened below self =
-    moves_less n i p one (let l : floor base p.moved i ≤ seq_at opening i = low i one in omega arith) below
+    moves_less n i p one (omega (arith, low i one)) below
 
 pub few_moves : (n me : ℕ) (history : ℕ → Words) (t since round : ℕ) (words : Words) (d : Mode)
     (p : Variables) (k : ProgramCounter) → IsOneOf n me → IsLineOf me d k → VariablesAt n me p k →
@@ -102,13 +101,13 @@ module _ (i : ℕ) (m m' : Registers) (p p' : Variables) (r k : ℕ) where
       KeepsBit i m p r m' p' k → place p'.marks k + 2 ≤ seq_at m.words k →
       handshake_at (word_at m.words k) i ≡ place p'.g k → ⊥
   late_next h (inl kept) more says =
-      h kept.0 (let e : place p'.marks k ≡ place p.marks k = kept.2 in omega arith) (says ∙ kept.1)
-  late_next h (inr put) more says = absurd (let e : place p'.marks k ≡ seq_at m.words k = put.0 in omega arith)
+      h kept.0 (omega (arith, kept.2)) (says ∙ kept.1)
+  late_next h (inr put) more says = absurd (omega (arith, put.0))
 
   asks_next : KeepsBit i m p r m' p' k → place p'.marks k < seq_at m.words k →
       (k < r) × (place p.marks k < seq_at m.words k) × (place p.g k ≡ place p'.g k)
-  asks_next (inl kept) more = (kept.0, (let e : place p'.marks k ≡ place p.marks k = kept.2 in omega arith), sym kept.1)
-  asks_next (inr put) more = absurd (let e : place p'.marks k ≡ seq_at m.words k = put.0 in omega arith)
+  asks_next (inl kept) more = (kept.0, (omega (arith, kept.2)), sym kept.1)
+  asks_next (inr put) more = absurd (omega (arith, put.0))
 
 module _ (n t : ℕ) (history : ℕ → Words) (x : State) (i : ℕ) where
   -- a line that ends the operation
@@ -122,9 +121,7 @@ module _ (n t : ℕ) (history : ℕ → Words) (x : State) (i : ℕ) where
       }) o))
   end_keeps d k count one now h is quiet o =
       let q = at n x i in
-      let q' : Process =
-      record { control = Idle; variables = q.variables; auxiliary = stepped_auxiliary (algorithm n) k t q.auxiliary } in
-      process_changes n t history x i x.memory q' o count one now h (record {
+      process_changes n t history x i x.memory _ o count one now h (record {
         words = refl;
         square = h.square;
         rows = λ u b ju jb other. refl;
@@ -144,8 +141,6 @@ module _ (n t : ℕ) (history : ℕ → Words) (x : State) (i : ℕ) where
       let q = at n x i in
       let m = x.memory in
       let own : ProcessInvariant n t history m i q = h.each i one in
-      let q' : Process =
-      record { control = At d' k'; variables = p; auxiliary = stepped_auxiliary (algorithm n) k t q.auxiliary } in
       let fit : Fit n (word_at m.words i).toggle p k' = owes.fit in
       let ws : (P : Words → Type 0) → P m.words → P m'.words = λ P. subst P (sym owes.words) in
       let asked : Asked n m.q q.variables.g i (reach n q.variables k) =
@@ -154,7 +149,7 @@ module _ (n t : ℕ) (history : ℕ → Words) (x : State) (i : ℕ) where
       subst (λ (c : Control). Late n m.words q.variables.g q.variables.marks i (reach_at n q.variables c)) is own.late in
       let bits : (u : ℕ) → IsOneOf n u → u < reach n p k' → KeepsBit i m q.variables (reach n q.variables k) m' p u =
       owes.bits in
-      process_changes n t history x i m' q' Stepped count one now h (record {
+      process_changes n t history x i m' _ Stepped count one now h (record {
         words = owes.words;
         square = square_kept n i m q.variables m'.q h.square one owes.puts;
         rows = λ u b ju jb other. rows_kept n i u b m q.variables m'.q one.0 ju.0 other owes.puts;
@@ -193,9 +188,7 @@ module _ (n t : ℕ) (history : ℕ → Words) (x : State) (i : ℕ) where
       let m = x.memory in
       let own : ProcessInvariant n t history m i q = h.each i one in
       let fit : Fit n (word_at m.words i).toggle p k' = owes.fit in
-      let q' : Process =
-      record { control = At d' k'; variables = p; auxiliary = begun_auxiliary (algorithm n) k t q.auxiliary } in
-      process_changes n t history x i m q' Stepped count one now h (record {
+      process_changes n t history x i m _ Stepped count one now h (record {
         words = refl;
         square = h.square;
         rows = λ u b ju jb other. refl;
@@ -208,8 +201,7 @@ module _ (n t : ℕ) (history : ℕ → Words) (x : State) (i : ℕ) where
           low = λ u j. at_most_now history m.words t now u;
           opened = λ u j. at_most_now history m.words t now u;
           views =
-              λ u j more. absurd (let le : seq_at m.words u ≤ seq_at (history t) u =
-              at_least_now history m.words t now u in omega arith);
+              λ u j more. absurd (omega (arith, at_least_now history m.words t now u));
           asked = subst (λ y. Asked n m.q p.g i (reach n p y)) (sym owes.bits) (λ u ju lt. absurd (omega arith));
           late =
               subst (λ y. Late n m.words p.g p.marks i (reach n p y)) (sym owes.bits) (λ u ju lt. absurd (omega arith));
@@ -238,9 +230,7 @@ module _ (n t : ℕ) (history : ℕ → Words) (x : State) (i : ℕ) where
       let q = at n x i in
       let m = x.memory in
       let own : ProcessInvariant n t history m i q = h.each i one in
-      let q' : Process =
-      record { control = At Scanning L10; variables = q.variables; auxiliary = called_auxiliary t Scan q.auxiliary } in
-      process_changes n t history x i m q' Called count one now h (record {
+      process_changes n t history x i m _ Called count one now h (record {
         words = refl;
         square = h.square;
         rows = λ u b ju jb other. refl;
@@ -253,8 +243,7 @@ module _ (n t : ℕ) (history : ℕ → Words) (x : State) (i : ℕ) where
           low = λ u j. at_most_now history m.words t now u;
           opened = λ u j. at_most_now history m.words t now u;
           views =
-              λ u j more. absurd (let le : seq_at m.words u ≤ seq_at (history t) u =
-              at_least_now history m.words t now u in omega arith);
+              λ u j more. absurd (omega (arith, at_least_now history m.words t now u));
           asked = λ u ju lt. absurd (omega arith);
           late = λ u ju lt. absurd (omega arith);
           stage = λ u j. omega arith;
@@ -271,13 +260,7 @@ module _ (n t : ℕ) (history : ℕ → Words) (x : State) (i : ℕ) where
       let q = at n x i in
       let m = x.memory in
       let own : ProcessInvariant n t history m i q = h.each i one in
-      let q' : Process =
-      record {
-        control = At (Updating word value) L40;
-        variables = q.variables;
-        auxiliary = called_auxiliary t (Update word value) q.auxiliary;
-      } in
-      process_changes n t history x i m q' Called count one now h (record {
+      process_changes n t history x i m _ Called count one now h (record {
         words = refl;
         square = h.square;
         rows = λ u b ju jb other. refl;

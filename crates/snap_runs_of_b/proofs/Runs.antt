@@ -43,9 +43,7 @@ zero_row : (n i : ℕ) → IsOneOf n i → row_of (replicate n (replicate n 0)) 
 zero_row n i h = get_or-replicate n (i - 1) (replicate n 0) [] (omega arith)
 
 zero_bit : (n k count : ℕ) → IsOneOf n k → n ≤ count → place (replicate count 0) k ≤ 1
-zero_bit n k count h le =
-    let z : place (replicate count 0) k ≡ 0 = get_or-replicate count (k - 1) 0 0 (omega arith) in
-    omega arith
+zero_bit n k count h le = omega (arith, get_or-replicate {A = ℕ} count (k - 1) 0 0 (omega arith))
 
 module _ (n : ℕ) (history : ℕ → Words) where
   process_at_the_start : (i : ℕ) → IsOneOf n i → history 0 ≡ first_words n n →
@@ -66,7 +64,7 @@ module _ (n : ℕ) (history : ℕ → Words) where
         since_le = omega arith;
         low = λ k j. at_most_now history (first_words n n) 0 now k;
         opened = λ k j. at_most_now history (first_words n n) 0 now k;
-        views = λ k j more. absurd (let e = z k j in omega arith);
+        views = λ k j more. absurd (omega (arith, z k j));
         asked = λ k j lt. absurd (omega arith);
         late = λ k j lt. absurd (omega arith);
         stage = tt;

@@ -4,22 +4,20 @@ use Rattle.std.proofs.Common.{nat_lt, if◌then◌else◌, slice_set, refl, sym,
 use Rattle.std.proofs.lemmas.Bool.{cases_eq}
 use Rattle.std.proofs.lemmas.List.{length-set}
 use Rattle.snap_runs.proofs.Common.{IsOneOf, Word, places_to, all_true, first_true}
-use Rattle.snap_runs.proofs.Algorithm.{Mode, Scanning, Embedded, Updating, To, Begin, Answer, Finish}
+use Rattle.snap_runs.proofs.Algorithm.{Mode, Scanning, Updating, To, Begin, Answer, Finish}
 use Rattle.snap_runs.proofs.Computing.{not_lt, same_from, either, whether}
 use Rattle.snap_runs.proofs.Held.{word_at, Held, held_wider, Beside, beside_wider, Lent, lent_wider, data_of, seq_at}
 use Rattle.snap_runs.proofs.Places.{for_each_at, first_found}
-use Rattle.snap_runs_of_b.proofs.Algorithm.{Words, Registers, Move, Variables, ProgramCounter, L10, L11, L12, L13}
-use Rattle.snap_runs_of_b.proofs.Algorithm.{L14, L15, L16, L17, L18, L19, L20, L21, L22, L23, L25, L26, L27, L28, L40}
-use Rattle.snap_runs_of_b.proofs.Algorithm.{L41, L42, L43, L44, L45, L46, L47, move, first_to, place, handshake_at}
-use Rattle.snap_runs_of_b.proofs.Algorithm.{answer, flipped, agree, limit, moved_at, counted}
-use Rattle.snap_runs_of_b.proofs.Algorithm.{at_limit, IsLineOf, restarts, writes}
+use Rattle.snap_runs_of_b.proofs.Algorithm.{Words, Registers, Move, Variables, ProgramCounter, L10, L11, L12, L13, L14}
+use Rattle.snap_runs_of_b.proofs.Algorithm.{L15, L16, L17, L18, L19, L20, L21, L22, L23, L25, L26, L27, L28, L40, L41}
+use Rattle.snap_runs_of_b.proofs.Algorithm.{L42, L43, L44, L45, L46, L47, move, first_to, handshake_at, answer, flipped}
+use Rattle.snap_runs_of_b.proofs.Algorithm.{agree, limit, moved_at, counted, at_limit, IsLineOf, restarts, writes}
 use Rattle.snap_runs_of_b.proofs.Control.{VariablesAt, Sized}
 use Rattle.snap_runs_of_b.proofs.Lines.{Bits, SaysBits}
 use Rattle.snap_runs_of_b.proofs.Follow.{IsLaterWord, follows_trans, follows_seq, Grows}
 use Rattle.snap_runs_of_b.proofs.Collect.{floor, Low, Drawn, Put, PutTo, Late, First, Viewed, Second, Between, Gained}
-use Rattle.snap_runs_of_b.proofs.Collect.{word_set, place_set, place_kept, put_drawn, just_drawn, put_more}
-use Rattle.snap_runs_of_b.proofs.Collect.{first_more, second_starts, second_more}
-use Rattle.snap_runs_of_b.proofs.Collect.{copies_follow, moved_since, gained_at}
+use Rattle.snap_runs_of_b.proofs.Collect.{word_set, place_set, place_kept, put_drawn, just_drawn, put_more, first_more}
+use Rattle.snap_runs_of_b.proofs.Collect.{second_starts, second_more, copies_follow, moved_since, gained_at}
 use Rattle.snap_runs_of_b.proofs.PassedTests.{passed}
 
 -- The copy of the word at place j was read since the double collect's start.
@@ -127,24 +125,22 @@ module _ (n i : ℕ) (history : ℕ → Words) (t since round : ℕ) where
       StageMove n i history t since (if restarts k then t else round) (move n i d m p k)
   stage_move d m p L10 known h =
       λ k ik. rw (for_each_at n (λ k. 0) p.moved k ik)
-      (let l : seq_at (history since) k ≤ seq_at (history round) k = h k ik in omega arith)
+      (omega (arith, h k ik))
   stage_move d m p L11 known h = (h, λ k ik lt. absurd (omega arith))
   stage_move d m p L12 known h =
-      let len : length p.a ≡ max n n = known.sized.0 in
       let one : IsOneOf n p.j = known.keeps.0 in
       let set : word_at (slice_set p.a (p.j - 1) (word_at m.words p.j)) p.j ≡ word_at m.words p.j =
-      word_set p.a p.j p.j (word_at m.words p.j) one.0 (omega arith) refl in (
+      word_set p.a p.j p.j (word_at m.words p.j) one.0 (omega (arith, known.sized.0)) refl in (
         h.0,
         h.1,
         subst (λ (w : Word). (seq_at (history round) p.j ≤ w.seq) × IsLaterWord w (word_at m.words p.j)) (sym set)
             (known.opened p.j one, inr refl),
       )
   stage_move d m p L13 known h =
-      let len : length p.g ≡ max n n = known.sized.2 in
       let one : IsOneOf n p.j = known.keeps.0 in (
         h.0,
         put_drawn n (history round) m.words p.g p.marks i p.j (handshake_at (word_at p.a p.j) i) one h.1,
-        just_drawn n (history round) m.words p.g p.a i p.j one (omega arith) h.2.0 h.2.1,
+        just_drawn n (history round) m.words p.g p.a i p.j one (omega (arith, known.sized.2)) h.2.0 h.2.1,
       )
   stage_move d m p L14 known h =
       let len : length p.marks ≡ max n n = known.sized.4 in
@@ -153,7 +149,7 @@ module _ (n i : ℕ) (history : ℕ → Words) (t since round : ℕ) where
   stage_move d m p L15 known h =
       either (StageMove n i history t since round) (nat_lt p.j n) _ _ (λ b. h)
       (λ b.
-      (h.0, λ k ik lt. h.1 k ik (let ge : n ≤ p.j = not_lt p.j n b in omega arith), λ k ik lt. absurd (omega arith)))
+      (h.0, λ k ik lt. h.1 k ik (omega (arith, not_lt p.j n b)), λ k ik lt. absurd (omega arith)))
   stage_move d m p L16 known h =
       let len : length p.a ≡ max n n = known.sized.0 in
       (h.0, h.1, first_more n (history round) m.words p.g p.marks i p.a p.j known.keeps.0 (omega arith) h.1 h.2)
@@ -163,7 +159,7 @@ module _ (n i : ℕ) (history : ℕ → Words) (t since round : ℕ) where
         h.0,
         h.1,
         second_starts n i history t since round m.words p.g p.marks p.a p.b known.now known.since_le
-            (λ k ik lt. h.2 k ik (let ge : n ≤ p.j = not_lt p.j n b in omega arith)),
+            (λ k ik lt. h.2 k ik (omega (arith, not_lt p.j n b))),
       ))
   stage_move d m p L18 known h =
       let len : length p.b ≡ max n n = known.sized.1 in (
@@ -173,38 +169,32 @@ module _ (n i : ℕ) (history : ℕ → Words) (t since round : ℕ) where
             (omega arith) known.now known.since_le known.views h.1 known.late h.2,
       )
   stage_move d m p L19 known h =
-      let inside : IsOneOf n p.j = known.keeps.0 in
       either (StageMove n i history t since round) (nat_lt p.j n) _ _ (λ b. h)
       (λ b. (
         h.0,
         subst (λ x. Between n i history t since round m.words p.g p.marks p.a p.b (x + 1))
-            (let ge : n ≤ p.j = not_lt p.j n b in let e : p.j ≡ n = omega arith in e) h.2,
+            (let ge : n ≤ p.j = not_lt p.j n b in let e : p.j ≡ n = omega (arith, known.keeps.0) in e) h.2,
       ))
   stage_move d m p L20 known h =
-      let len : length p.b ≡ max n n = known.sized.1 in
       either (StageMove n i history t since round) (all_true (map (agree i p) (places_to n))) _ _
-      (λ b. passed n i history t since round m.words p known.lengths (omega arith) h.1 b) (λ b. h)
+      (λ b. passed n i history t since round m.words p known.lengths (omega (arith, known.sized.1)) h.1 b) (λ b. h)
   stage_move d m p L21 known h =
       let s : Second n i history t since round m.words p.g p.marks p.a p.b (n + 1) (history h.1.0) = h.1.3 in
       record {
         low = λ k ik.
             let first = s.first k ik in
-            let fresh : seq_at (history round) k ≤ place p.marks k = first.fresh in
-            let marked : place p.marks k ≤ seq_at p.a k = first.marked in
             let le : seq_at p.a k ≤ seq_at p.b k =
             follows_seq (word_at p.a k) (word_at p.b k) (copies_follow n i history t since round m.words p h.1 k ik) in
             rw (for_each_at n (counted i p) p.moved k ik)
             (gained_at (seq_at (history since) k) (seq_at (history round) k) (seq_at p.b k) (moved_at p k)
-            (agree i p k) (h.0 k ik) (omega arith)
+            (agree i p k) (h.0 k ik) (omega (arith, first.marked, first.fresh))
             (moved_since n i history t since round m.words p h.1 k ik));
         before = λ k ik. (s.read k ik (omega arith)).before;
         views = λ k ik. s.views k ik (omega arith);
       }
   stage_move d m p L22 known h =
       whether (StageMove n i history t since round) (first_to d m p) (first_true 1 (map (at_limit p) (places_to n)))
-      (λ e k ik. let low : floor (history since) p.moved k ≤ seq_at p.b k = h.low k ik in
-      let le : seq_at p.b k ≤ seq_at m.words k = follows_seq (word_at p.b k) (word_at m.words k) (h.before k ik) in
-      omega arith)
+      (λ e k ik. omega (arith, h.low k ik, follows_seq (word_at p.b k) (word_at m.words k) (h.before k ik)))
       (λ k e. (
         record { low = h.low; before = h.before; views = h.views },
         same_from (moved_at p k) limit (first_found 1 n (at_limit p) k e).2,
@@ -213,22 +203,18 @@ module _ (n i : ℕ) (history : ℕ → Words) (t since round : ℕ) where
       let one : p.j ≡ 1 = known.keeps.0 in
       (subst (λ words. Low n (history since) words p.moved) (sym known.now) h, λ k ik lt. absurd (omega arith))
   stage_move d m p L25 known h = h
-  stage_move Scanning m p L26 known h = h
-  stage_move (Embedded word value) m p L26 known h = h
   stage_move (Updating word value) m p L26 known h = absurd known.line
+  stage_move d m p L26 known h = h
   stage_move d m p L27 known h =
       let g : Gained n history t since m.words p.moved p.b = h.0 in
       let l : floor (history since) p.moved p.j ≤ seq_at p.b p.j = g.low p.j known.keeps in
-      let two : moved_at p p.j ≡ limit = h.1 in
-      let lent : Lent history t since p.j (word_at p.b p.j).view = g.views p.j known.keeps (omega arith) in
+      let lent : Lent history t since p.j (word_at p.b p.j).view = g.views p.j known.keeps (omega (arith, h.1)) in
       (lent.0, (p.j, known.keeps, lent.1))
-  stage_move Scanning m p L28 known h = h.0
-  stage_move (Embedded word value) m p L28 known h = h.0
   stage_move (Updating word value) m p L28 known h = absurd known.line
+  stage_move d m p L28 known h = h.0
   stage_move d m p L43 known h = either (StageMove n i history t since round) (nat_lt p.j n) _ _ (λ b. tt) (λ b. tt)
-  stage_move Scanning m p L44 known h = absurd known.line
-  stage_move (Embedded word value) m p L44 known h = absurd known.line
   stage_move (Updating word value) m p L44 known h = refl
+  stage_move d m p L44 known h = absurd known.line
   stage_move d m p L45 known h = h
   stage_move d m p k known h = tt
 
@@ -236,8 +222,7 @@ module _ (n i : ℕ) (history : ℕ → Words) (t since round : ℕ) where
 pub low_kept : (n : ℕ) (base words words' : Words) (moved : List ℕ) → Grows n words words' →
     Low n base words moved → Low n base words' moved
 low_kept n base words words' moved g h k ik =
-    let l : floor base moved k ≤ seq_at words k = h k ik in
-    let le : seq_at words k ≤ seq_at words' k = follows_seq (word_at words k) (word_at words' k) (g k ik) in omega arith
+    omega (arith, h k ik, follows_seq (word_at words k) (word_at words' k) (g k ik))
 
 module _ (n : ℕ) (opening words words' : Words) where
   drawn_kept : (g : List ℕ) (i k : ℕ) → IsOneOf n k → Grows n words words' → Drawn opening words g i k →
@@ -256,9 +241,7 @@ module _ (n : ℕ) (opening words words' : Words) where
       record {
         drawn = drawn_kept g i k ik grows old.drawn;
         fresh = old.fresh;
-        before = (let b : place marks k ≤ seq_at words k = old.before in
-            let le : seq_at words k ≤ seq_at words' k = follows_seq (word_at words k) (word_at words' k) (grows k ik) in
-            omega arith);
+        before = omega (arith, old.before, follows_seq (word_at words k) (word_at words' k) (grows k ik));
       }
 
   first_kept : (marks : List ℕ) (a : Words) (j : ℕ) → Grows n words words' → First n opening words marks a j →
@@ -312,59 +295,25 @@ line_place n i p L13 h = h.0
 line_place n i p L14 h = h.0
 line_place n i p k h = tt
 
+held_on : (history : ℕ → Words) (t t' since : ℕ) (v : List ℕ) → t ≤ t' → Held history t since v →
+    Held history t' since v
+held_on history t t' since v le h = held_wider history t t' since since v le (omega arith) h
+
+ruleset still = (low_kept, drawn_kept, put_kept, first_kept, between_kept, gained_kept, held_on)
+
 module _ (n i : ℕ) (history : ℕ → Words) (t t' since round : ℕ) (words words' : Words) (p : Variables) where
   pub stage_kept : (k : ProgramCounter) → t ≤ t' → Grows n words words' → IsLinePlace n p k →
       Stage n i history t since round words p k → Stage n i history t' since round words' p k
-  stage_kept L10 le g one h = h
-  stage_kept L11 le g one h = h
-  stage_kept L12 le g one h = (h.0, put_kept n (history round) words words' p.g p.marks i p.j g h.1)
   stage_kept L13 le g one h = (
     h.0,
     put_kept n (history round) words words' p.g p.marks i p.j g h.1,
     (h.2.0, follows_trans (word_at p.a p.j) (word_at words p.j) (word_at words' p.j) h.2.1 (g p.j one)),
   )
-  stage_kept L14 le g one h = (
-    h.0,
-    put_kept n (history round) words words' p.g p.marks i p.j g h.1,
-    drawn_kept n (history round) words words' p.g i p.j one g h.2,
-  )
-  stage_kept L15 le g one h = (h.0, put_kept n (history round) words words' p.g p.marks i (p.j + 1) g h.1)
-  stage_kept L16 le g one h = (
-    h.0,
-    put_kept n (history round) words words' p.g p.marks i (n + 1) g h.1,
-    first_kept n (history round) words words' p.marks p.a p.j g h.2,
-  )
-  stage_kept L17 le g one h = (
-    h.0,
-    put_kept n (history round) words words' p.g p.marks i (n + 1) g h.1,
-    first_kept n (history round) words words' p.marks p.a (p.j + 1) g h.2,
-  )
-  stage_kept L18 le g one h = (
-    h.0,
-    put_kept n (history round) words words' p.g p.marks i (n + 1) g h.1,
-    between_kept n i history t t' since round words words' p.g p.marks p.a p.b p.j le g h.2,
-  )
-  stage_kept L19 le g one h = (
-    h.0,
-    put_kept n (history round) words words' p.g p.marks i (n + 1) g h.1,
-    between_kept n i history t t' since round words words' p.g p.marks p.a p.b (p.j + 1) le g h.2,
-  )
-  stage_kept L20 le g one h =
-      (h.0, between_kept n i history t t' since round words words' p.g p.marks p.a p.b (n + 1) le g h.1)
-  stage_kept L21 le g one h =
-      (h.0, between_kept n i history t t' since round words words' p.g p.marks p.a p.b (n + 1) le g h.1)
-  stage_kept L22 le g one h = gained_kept n history t t' since words words' p.moved p.b le g h
-  stage_kept L23 le g one h = low_kept n (history since) words words' p.moved g h
-  stage_kept L25 le g one h = held_wider history t t' since since (data_of (take n p.b)) le (omega arith) h
-  stage_kept L26 le g one h = held_wider history t t' since since p.s le (omega arith) h
-  stage_kept L27 le g one h = (gained_kept n history t t' since words words' p.moved p.b le g h.0, h.1)
   stage_kept L28 le g one h = (
-    held_wider history t t' since since p.s le (omega arith) h.0,
+    held_on history t t' since p.s le h.0,
     (h.1.0, h.1.1, beside_wider history t t' since h.1.0 p.s le h.1.2),
   )
-  stage_kept L45 le g one h = held_wider history t t' since since p.s le (omega arith) h
-  stage_kept L46 le g one h = held_wider history t t' since since p.s le (omega arith) h
-  stage_kept k le g one h = tt
+  stage_kept k le g one h = search still
 
 -- The lengths of the copies and the rows, the bits for the readers, and the toggle: it is the word's, but for line 46.
 abbrev pub IsToggle : ℕ → ℕ → ℕ → Type 0
@@ -416,39 +365,31 @@ flipped_differs (suc (suc t)) h e = absurd (omega arith)
 module _ (n i toggle : ℕ) where
   pub fit_move : (d : Mode) (m : Registers) (p : Variables) (k : ProgramCounter) → IsLineOf i d k →
       VariablesAt n i p k → writes k ≡ 0 → Fit n toggle p k → FitMove n toggle (move n i d m p k)
-  fit_move d m p L12 s keeps quiet h =
-      ((length-set p.a (p.j - 1) (word_at m.words p.j) ∙ h.0.0, h.0.1, h.0.2, h.0.3, h.0.4), h.1, h.2)
+  fit_move d m p L12 s keeps quiet h = assumption (length-set p.a (p.j - 1) (word_at m.words p.j) ∙ h.0.0)
+  fit_move (Updating word value) m p L44 s keeps quiet h = h
   fit_move d m p L13 s keeps quiet h =
-      ((h.0.0, h.0.1, length-set p.g (p.j - 1) (handshake_at (word_at p.a p.j) i) ∙ h.0.2, h.0.3, h.0.4), h.1, h.2)
-  fit_move d m p L14 s keeps quiet h =
-      ((h.0.0, h.0.1, h.0.2, h.0.3, length-set p.marks (p.j - 1) (seq_at m.words p.j) ∙ h.0.4), h.1, h.2)
+      assumption (length-set p.g (p.j - 1) (handshake_at (word_at p.a p.j) i) ∙ h.0.2)
+  fit_move d m p L14 s keeps quiet h = assumption (length-set p.marks (p.j - 1) (seq_at m.words p.j) ∙ h.0.4)
   fit_move d m p L15 s keeps quiet h = either (FitMove n toggle) (nat_lt p.j n) _ _ (λ b. h) (λ b. h)
-  fit_move d m p L16 s keeps quiet h =
-      ((length-set p.a (p.j - 1) (word_at m.words p.j) ∙ h.0.0, h.0.1, h.0.2, h.0.3, h.0.4), h.1, h.2)
+  fit_move d m p L16 s keeps quiet h = assumption (length-set p.a (p.j - 1) (word_at m.words p.j) ∙ h.0.0)
   fit_move d m p L17 s keeps quiet h = either (FitMove n toggle) (nat_lt p.j n) _ _ (λ b. h) (λ b. h)
-  fit_move d m p L18 s keeps quiet h =
-      ((h.0.0, length-set p.b (p.j - 1) (word_at m.words p.j) ∙ h.0.1, h.0.2, h.0.3, h.0.4), h.1, h.2)
+  fit_move d m p L18 s keeps quiet h = assumption (length-set p.b (p.j - 1) (word_at m.words p.j) ∙ h.0.1)
   fit_move d m p L19 s keeps quiet h = either (FitMove n toggle) (nat_lt p.j n) _ _ (λ b. h) (λ b. h)
   fit_move d m p L20 s keeps quiet h =
       either (FitMove n toggle) (all_true (map (agree i p) (places_to n))) _ _ (λ b. h) (λ b. h)
   fit_move d m p L22 s keeps quiet h =
       whether (FitMove n toggle) (first_to d m p) (first_true 1 (map (at_limit p) (places_to n))) (λ e. h) (λ k e. h)
   fit_move Scanning m p L26 s keeps quiet h = tt
-  fit_move (Embedded word value) m p L26 s keeps quiet h = h
-  fit_move (Updating word value) m p L26 s keeps quiet h = absurd s
+  fit_move (Updating word value) m p L26 s keeps quiet h = tt
   fit_move Scanning m p L28 s keeps quiet h = tt
-  fit_move (Embedded word value) m p L28 s keeps quiet h = h
-  fit_move (Updating word value) m p L28 s keeps quiet h = absurd s
+  fit_move (Updating word value) m p L28 s keeps quiet h = tt
   fit_move d m p L42 s keeps quiet h =
-      let len : length p.f ≡ max n n = h.0.3 in (
-        (h.0.0, h.0.1, h.0.2, length-set p.f (p.j - 1) (answer p.x) ∙ h.0.3, h.0.4),
-        (h.1.0, bits_set n p.f p.j (answer p.x) keeps (omega arith) (answer_bit p.x) h.1.1),
-        h.2,
+      assumption (
+        length-set p.f (p.j - 1) (answer p.x) ∙ h.0.3,
+        bits_set n p.f p.j (answer p.x) keeps (omega (arith, h.0.3)) (answer_bit p.x) h.1.1,
       )
   fit_move d m p L43 s keeps quiet h = either (FitMove n toggle) (nat_lt p.j n) _ _ (λ b. h) (λ b. h)
-  fit_move Scanning m p L44 s keeps quiet h = absurd s
-  fit_move (Embedded word value) m p L44 s keeps quiet h = absurd s
-  fit_move (Updating word value) m p L44 s keeps quiet h = h
+  fit_move d m p L44 s keeps quiet h = absurd s
   fit_move d m p L45 s keeps quiet h =
       (h.0, (flipped_bit p.t h.1.0, h.1.1), λ e. flipped_differs p.t h.1.0 (e ∙ sym h.2))
   fit_move d m p L46 s keeps quiet h = absurd (omega arith)

@@ -5,7 +5,7 @@ use Rattle.std.proofs.lemmas.List.{length-set, get_or-take}
 use Rattle.snap_runs.proofs.Common.{IsOneOf, Word, Outcome}
 use Rattle.snap_runs.proofs.Algorithm.{Mode, Scanning, Embedded, Updating, At, New}
 use Rattle.snap_runs.proofs.Algorithm.{typed_at, changed, stepped_auxiliary}
-use Rattle.snap_runs.proofs.Flow.{IsInScan, not_update}
+use Rattle.snap_runs.proofs.Flow.{not_update}
 use Rattle.snap_runs.proofs.Frame as frame
 use Rattle.snap_runs.proofs.Held.{word_at, Held, held_wider, seq_at}
 use Rattle.snap_runs.proofs.Flow as flow
@@ -39,8 +39,7 @@ module _ (n t : ℕ) (history : ℕ → Words) (x : State) (i : ℕ) (d : Mode)
 
   new_word : (k : ℕ) → k ≡ i → word_at after.words k ≡ word
   new_word k same =
-      let size : length x.memory.words ≡ n = h.size in
-      word_set x.memory.words i k word one.0 (omega arith) same
+      word_set x.memory.words i k word one.0 (omega (arith, h.size)) same
 
   old_word : (k : ℕ) → IsOneOf n k → k ≢ i → word_at after.words k ≡ word_at x.memory.words k
   old_word k ik other = word_kept x.memory.words i k word one.0 ik.0 other
@@ -66,10 +65,7 @@ module _ (n t : ℕ) (history : ℕ → Words) (x : State) (i : ℕ) (d : Mode)
   not_less : (base : Words) → ((k : ℕ) → IsOneOf n k → seq_at base k ≤ seq_at x.memory.words k) → (k : ℕ) →
       IsOneOf n k → seq_at base k ≤ seq_at after.words k
   not_less base low k ik =
-      let l : seq_at base k ≤ seq_at x.memory.words k = low k ik in
-      let s : seq_at x.memory.words k ≤ seq_at after.words k =
-      follows_seq (word_at x.memory.words k) (word_at after.words k) (grows k ik) in
-      omega arith
+      omega (arith, low k ik, follows_seq (word_at x.memory.words k) (word_at after.words k) (grows k ik))
 
   making : Making (at i).control
   making = subst Making (sym at_46) (flow.late_makes lines (λ word. word ≡ i) d L46 up tt)
@@ -120,7 +116,7 @@ module _ (n t : ℕ) (history : ℕ → Words) (x : State) (i : ℕ) (d : Mode)
         sized = past.sized;
         bits = past.bits;
         toggle = sym (ap (λ (y : Word). y.toggle) (new_word i refl));
-        since_le = (let f : q.auxiliary.since ≤ t = past.since_le in omega arith);
+        since_le = omega (arith, past.since_le);
         low = not_less (history q.auxiliary.since) past.low;
         opened = not_less (history q.auxiliary.round) past.opened;
         views = viewed i one;

@@ -1,5 +1,5 @@
 -- The processes of M by its own lines and locals, over a memory that counts what is done.
-use Rattle.std.proofs.Common.{◌≡◌, ◌<◌, ◌⊎◌, ℕ, ◌+◌, ◌-◌, ◌≤◌, max, Bool, true, false, not, ◌&&◌, List, [], ◌∷◌, take}
+use Rattle.std.proofs.Common.{◌≡◌, ◌<◌, ℕ, ◌+◌, ◌-◌, ◌≤◌, max, Bool, true, false, not, ◌&&◌, List, [], ◌∷◌, take}
 use Rattle.std.proofs.Common.{map, Option, Some, None, nat_eq, nat_lt, nat_le, if◌then◌else◌, slice_index}
 use Rattle.std.proofs.Common.{slice_index_or, slice_set, replicate, refl, ap}
 use Rattle.snap_words.specs.Kind.{initial_word}
@@ -10,7 +10,7 @@ use Rattle.snap_semantics.specs.Value.{Context}
 use Rattle.snap_semantics.specs.Table.{bit_at, with_bit_at, entry}
 use Rattle.snap_runs.proofs.Held.{word_at, seq_at}
 use Rattle.snap_runs.proofs.Algorithm as typed
-use Rattle.snap_runs.proofs.Algorithm.{Mode, Scanning, Embedded, Updating, value_of, To, Begin, Answer, Finish}
+use Rattle.snap_runs.proofs.Algorithm.{Mode, Scanning, Embedded, Updating, value_of, To, Finish}
 use Rattle.snap_runs.proofs.Algorithm.{Algorithm, returning, embedding}
 use Rattle.snap_runs.proofs.Flow.{Lines, IsScanOf, IsUpdateOf, IsLine}
 use Rattle.snap_runs.proofs.Places.{for_each}

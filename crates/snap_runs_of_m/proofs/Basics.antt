@@ -66,7 +66,7 @@ square_kept n rows i j x one h = (
   λ u ou. elim (cases_eq u i) [
     | inl same ↦ ap (λ y. length (slice_index_or (with_bit rows i j x) (y - 1) [])) same
         ∙ ap length (get_or-set_at rows (i - 1) (i - 1) (slice_set (slice_index_or rows (i - 1) []) (j - 1) x) [] refl
-        (let len : length rows ≡ n = h.0 in omega arith))
+        (omega (arith, h.0)))
         ∙ length-set (slice_index_or rows (i - 1) []) (j - 1) x ∙ h.1 i one
     | inr other ↦ ap length (row_elsewhere rows i j x u one.0 ou.0 other) ∙ h.1 u ou
   ],

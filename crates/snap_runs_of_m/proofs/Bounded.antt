@@ -49,56 +49,37 @@ module _ (n w : ℕ) (V : ℕ → Type 0) where
   IsMove = bounded.MoveWithin (algorithm n w) (limits n w) V
 
   with_j : (p : Variables) (v : ℕ) → AreVariables p → v ≤ n → AreVariables (record p { j = v })
-  with_j p v h new = record { scalars = (new, h.scalars.1); rows = h.rows; words = h.words; views = h.views }
+  with_j p v h new = assumption
 
   with_k : (p : Variables) (v : ℕ) → AreVariables p → v ≤ w → AreVariables (record p { k = v })
-  with_k p v h new =
-      record { scalars = (h.scalars.0, (new, h.scalars.1.1)); rows = h.rows; words = h.words; views = h.views }
+  with_k p v h new = assumption
 
   with_x : (p : Variables) (v : ℕ) → AreVariables p → v ≤ n → AreVariables (record p { x = v })
-  with_x p v h new =
-      record { scalars = (h.scalars.0, (h.scalars.1.0, (new, tt))); rows = h.rows; words = h.words; views = h.views }
+  with_x p v h new = assumption
 
   with_moved : (p : Variables) (row : List ℕ) → AreVariables p → IsRow 3 row → AreVariables (record p { moved = row })
-  with_moved p row h new = record { scalars = h.scalars; rows = (new, h.rows.1); words = h.words; views = h.views }
+  with_moved p row h new = assumption
 
   with_g : (p : Variables) (row : List ℕ) → AreVariables p → IsRow 1 row → AreVariables (record p { g = row })
-  with_g p row h new =
-      record { scalars = h.scalars; rows = (h.rows.0, (new, h.rows.1.1)); words = h.words; views = h.views }
+  with_g p row h new = assumption
 
   with_h : (p : Variables) (row : List ℕ) → AreVariables p → IsRow 1 row → AreVariables (record p { h = row })
-  with_h p row h new = record {
-    scalars = h.scalars;
-    rows = (h.rows.0, (h.rows.1.0, (new, h.rows.1.1.1)));
-    words = h.words;
-    views = h.views;
-  }
+  with_h p row h new = assumption
 
   with_d : (p : Variables) (row : List ℕ) → AreVariables p → IsRow 1 row → AreVariables (record p { d = row })
-  with_d p row h new =
-      record {
-        scalars = h.scalars;
-        rows = (h.rows.0, (h.rows.1.0, (h.rows.1.1.0, (new, h.rows.1.1.1.1))));
-        words = h.words;
-        views = h.views;
-      }
+  with_d p row h new = assumption
 
   with_tog : (p : Variables) (row : List ℕ) → AreVariables p → IsRow 1 row → AreVariables (record p { tog = row })
-  with_tog p row h new = record {
-    scalars = h.scalars;
-    rows = (h.rows.0, (h.rows.1.0, (h.rows.1.1.0, (h.rows.1.1.1.0, (new, tt)))));
-    words = h.words;
-    views = h.views;
-  }
+  with_tog p row h new = assumption
 
   with_a : (p : Variables) (ws : Words) → AreVariables p → Copies ws → AreVariables (record p { a = ws })
-  with_a p ws h new = record { scalars = h.scalars; rows = h.rows; words = (new, h.words.1); views = h.views }
+  with_a p ws h new = assumption
 
   with_b : (p : Variables) (ws : Words) → AreVariables p → Copies ws → AreVariables (record p { b = ws })
-  with_b p ws h new = record { scalars = h.scalars; rows = h.rows; words = (h.words.0, (new, tt)); views = h.views }
+  with_b p ws h new = assumption
 
   with_s : (p : Variables) (view : List ℕ) → AreVariables p → AtMost w V view → AreVariables (record p { s = view })
-  with_s p view h new = record { scalars = h.scalars; rows = h.rows; words = h.words; views = (new, tt) }
+  with_s p view h new = assumption
 
   -- the next place
   next_j_within : (p : Variables) (me : ℕ) (d : Mode) (m : Registers) (back on : ProgramCounter) → IsOneOf n me →
@@ -226,9 +207,8 @@ module _ (n w : ℕ) (V : ℕ → Type 0) where
       h,
     )
     line_within me d m p L53 one some keeps late value memory h = next_j_within p me d m L51 L54 one memory h
-    line_within me Scanning m p L54 one some keeps late value memory h = tt
-    line_within me (Embedded word new) m p L54 one some keeps late value memory h = tt
     line_within me (Updating word new) m p L54 one some keeps late value memory h = h
+    line_within me d m p L54 one some keeps late value memory h = tt
     line_within me d m p L55 one some keeps late value memory h = (
       record {
         words = memory.words;

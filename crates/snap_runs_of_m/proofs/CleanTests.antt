@@ -3,7 +3,7 @@ use Rattle.std.proofs.Common.{◌≡◌, ℕ, suc, ◌+◌, ◌≤◌, ◌<◌, 
 use Rattle.std.proofs.Common.{if◌then◌else◌, refl, ap, arith, inl, inr}
 use Rattle.snap_runs.proofs.Common.{Word, Item, Op, Scan, Update}
 use Rattle.snap_runs.specs.Update.{is_at}
-use Rattle.snap_runs.proofs.Algorithm.{Mode, Scanning, Embedded, Updating, To, when_busy, status_of, typed_at}
+use Rattle.snap_runs.proofs.Algorithm.{Mode, Scanning, Updating, To, when_busy, status_of, typed_at}
 use Rattle.snap_runs.proofs.Collecting as collecting
 use Rattle.snap_runs.proofs.Collecting.{Copies, Phase, Away, ReadsFirst, HasFirst, ReadsSecond, HasSecond, Collected}
 use Rattle.snap_runs.proofs.Computing.{not_lt, either, whether}
@@ -61,8 +61,10 @@ Reaches n w = collecting.Reaches (algorithm n w) (copies w)
 -- what each line does to the copies; a line that calls or returns does what the mode says
 reaches : (n w me : ℕ) (d : Mode) (m : Registers) (p : Variables) (k : ProgramCounter) → IsLineOf w d k →
     Keeps n w d p k → w ≤ length p.a → w ≤ length p.b → Reaches n w m p k (move n w me d m p k)
-reaches n w me (Updating word value) m p L54 s h a b = refl
 reaches n w me d m p L16 s h a b = either (Reaches n w m p L16) (nat_lt p.j n) _ _ (λ e. tt) (λ e. inl h.1)
+reaches n w me Scanning m p L35 s h a b = tt
+reaches n w me Scanning m p L37 s h a b = tt
+reaches n w me (Updating word value) m p L54 s h a b = refl
 reaches n w me d m p L17 s h a b = (refl, refl, h.1, a, refl)
 reaches n w me d m p L18 s h a b =
     either (Reaches n w m p L18) (nat_lt p.k w) _ _ (λ e. inr (refl, refl, refl))

@@ -6,10 +6,10 @@ use Rattle.std.proofs.lemmas.Grind.{common_steps, get_or-set_at}
 use Rattle.std.proofs.lemmas.List.{get_or-set_other}
 use Rattle.std.proofs.Math.Nat.{eq-or-lt_of_le}
 use Rattle.snap_runs.proofs.Common.{IsOneOf, Word, no_word}
-use Rattle.snap_runs.proofs.Held.{word_at, seq_at, Held, data_of, WordBefore, squeezed, same_data}
+use Rattle.snap_runs.proofs.Held.{word_at, seq_at, Held, data_of, squeezed, same_data}
 use Rattle.snap_runs_of_m.proofs.Algorithm.{Words, Registers, place, bit, same_words, same_at, view_at}
 use Rattle.snap_runs_of_m.proofs.Basics.{less_or_not, set_here, set_there}
-use Rattle.snap_runs_of_m.proofs.History.{words_of, id_at, Laws}
+use Rattle.snap_runs_of_m.proofs.History.{words_of, id_at, Since, Laws}
 use Rattle.snap_runs_of_m.proofs.SameWords.{Alike, alike_of}
 
 -- In all that follows `history u` are the registers after u items, t is the number of
@@ -51,24 +51,35 @@ pub record Collected (n w me : ℕ) (history : ℕ → Registers) (from t : ℕ)
   pub shaken : ℕ
   pub middle : ℕ
   pub ended : ℕ
-  pub opened : from ≤ shaken
-  pub between : shaken ≤ middle
-  pub later : middle ≤ ended
-  pub now : ended ≤ t
+  pub order : (from ≤ shaken) × (shaken ≤ middle) × (middle ≤ ended) × (ended ≤ t)
   pub handshakes : (c : ℕ) → IsOneOf n c → c < asked → Asked history from shaken t me c (place g c)
   pub firsts : (k : ℕ) → IsOneOf w k → k < first → Copied history shaken middle k (word_at a k)
   pub seconds : (k : ℕ) → IsOneOf w k → k < second → Copied history middle ended k (word_at b k)
   pub lates : (c : ℕ) → IsOneOf n c → c < late → ReadBit history ended t me c (place h c)
 
-read_until : (history : ℕ → Registers) (from to to' me c value : ℕ) → to ≤ to' → ReadBit history from to me c value →
-    ReadBit history from to' me c value
+pub read_until : (history : ℕ → Registers) (from to to' me c value : ℕ) → to ≤ to' →
+    ReadBit history from to me c value → ReadBit history from to' me c value
 read_until history from to to' me c value le h =
-    record { at = h.at; after = h.after; until = (let u : h.at ≤ to = h.until in omega arith); is = h.is }
+    record { at = h.at; after = h.after; until = omega (arith, h.until); is = h.is }
 
 copied_until : (history : ℕ → Registers) (from to to' k : ℕ) (x : Word) → to ≤ to' →
     Copied history from to k x → Copied history from to' k x
 copied_until history from to to' k x le h =
-    record { at = h.at; after = h.after; until = (let u : h.at ≤ to = h.until in omega arith); is = h.is }
+    record { at = h.at; after = h.after; until = omega (arith, h.until); is = h.is }
+
+asked_kept : (history : ℕ → Registers) (from to to' t me c value : ℕ) → to ≤ to' → to ≤ t →
+    bit (history (suc t)).q me c ≡ bit (history t).q me c → Asked history from to t me c value →
+    Asked history from to' (suc t) me c value
+asked_kept history from to to' t me c value longer past same y = record {
+  sight = record { at = y.sight.at; after = y.sight.after; until = omega (arith, y.sight.until); is = y.sight.is };
+  at = y.at;
+  after = y.after;
+  until = omega (arith, y.until);
+  kept = λ u le more. elim (eq-or-lt_of_le more) [
+    | inl e ↦ ap (λ v. bit (history v).q me c) e ∙ same ∙ y.kept t (omega (arith, y.until)) (omega arith)
+    | inr less ↦ y.kept u le (omega arith)
+  ];
+}
 
 module _ (n w me : ℕ) (history : ℕ → Registers) (from : ℕ) where
   -- a double collect starts
@@ -78,35 +89,28 @@ module _ (n w me : ℕ) (history : ℕ → Registers) (from : ℕ) where
     shaken = t;
     middle = t;
     ended = t;
-    opened = le;
-    between = omega arith;
-    later = omega arith;
-    now = omega arith;
+    order = omega arith;
     handshakes = λ c o lt. absurd (omega arith);
     firsts = λ k o lt. absurd (omega arith);
     seconds = λ k o lt. absurd (omega arith);
     lates = λ c o lt. absurd (omega arith);
   }
 
-  -- other bounds for the same
+  -- lower bounds for the same
   pub collected_as : (t : ℕ) (g : List ℕ) (a b : Words) (h : List ℕ)
-      (asked asked' first first' second second' late late' : ℕ) →
-      ((c : ℕ) → IsOneOf n c → c < asked' → c < asked) → ((k : ℕ) → IsOneOf w k → k < first' → k < first) →
-      ((k : ℕ) → IsOneOf w k → k < second' → k < second) → ((c : ℕ) → IsOneOf n c → c < late' → c < late) →
+      {asked asked' first first' second second' late late' : ℕ} →
+      (asked' ≤ asked) × (first' ≤ first) × (second' ≤ second) × (late' ≤ late) →
       Collected n w me history from t g a b h asked first second late →
       Collected n w me history from t g a b h asked' first' second' late'
-  collected_as t g a b h asked asked' first first' second second' late late' f1 f2 f3 f4 x = record {
+  collected_as t g a b h lower x = record {
     shaken = x.shaken;
     middle = x.middle;
     ended = x.ended;
-    opened = x.opened;
-    between = x.between;
-    later = x.later;
-    now = x.now;
-    handshakes = λ c o lt. x.handshakes c o (f1 c o lt);
-    firsts = λ k o lt. x.firsts k o (f2 k o lt);
-    seconds = λ k o lt. x.seconds k o (f3 k o lt);
-    lates = λ c o lt. x.lates c o (f4 c o lt);
+    order = x.order;
+    handshakes = λ c o lt. x.handshakes c o (omega arith);
+    firsts = λ k o lt. x.firsts k o (omega arith);
+    seconds = λ k o lt. x.seconds k o (omega arith);
+    lates = λ c o lt. x.lates c o (omega arith);
   }
 
   -- time passes, and what the process asks stays
@@ -114,32 +118,17 @@ module _ (n w me : ℕ) (history : ℕ → Registers) (from : ℕ) where
       ((c : ℕ) → IsOneOf n c → bit (history (suc t)).q me c ≡ bit (history t).q me c) →
       Collected n w me history from t g a b h asked first second late →
       Collected n w me history from (suc t) g a b h asked first second late
-  collected_kept t g a b h asked first second late same x =
-      let now : x.ended ≤ t = x.now in
-      let later : x.middle ≤ x.ended = x.later in
-      let between : x.shaken ≤ x.middle = x.between in
-      record {
-        shaken = x.shaken;
-        middle = x.middle;
-        ended = x.ended;
-        opened = x.opened;
-        between = x.between;
-        later = x.later;
-        now = omega arith;
-        handshakes = λ c o lt. (let y = x.handshakes c o lt in let until : y.at ≤ x.shaken = y.until in record {
-          sight = y.sight;
-          at = y.at;
-          after = y.after;
-          until = y.until;
-          kept = λ u le more. elim (eq-or-lt_of_le more) [
-            | inl e ↦ ap (λ v. bit (history v).q me c) e ∙ same c o ∙ y.kept t (omega arith) (omega arith)
-            | inr less ↦ y.kept u le (omega arith)
-          ];
-        });
-        firsts = x.firsts;
-        seconds = x.seconds;
-        lates = λ c o lt. read_until history x.ended t (suc t) me c (place h c) (omega arith) (x.lates c o lt);
-      }
+  collected_kept t g a b h asked first second late same x = record {
+    shaken = x.shaken;
+    middle = x.middle;
+    ended = x.ended;
+    order = omega (arith, x.order);
+    handshakes = λ c o lt. asked_kept history from x.shaken x.shaken t me c (place g c) (omega arith)
+        (omega (arith, x.order)) (same c o) (x.handshakes c o lt);
+    firsts = x.firsts;
+    seconds = x.seconds;
+    lates = λ c o lt. read_until history x.ended t (suc t) me c (place h c) (omega arith) (x.lates c o lt);
+  }
 
   pub ended_kept : (t : ℕ) (g : List ℕ) (a b : Words) (h : List ℕ) (asked first second late : ℕ) →
       (same : (c : ℕ) → IsOneOf n c → bit (history (suc t)).q me c ≡ bit (history t).q me c) →
@@ -156,13 +145,10 @@ module _ (n w me : ℕ) (history : ℕ → Registers) (from : ℕ) where
     shaken = y.shaken;
     middle = y.middle;
     ended = y.ended;
-    opened = y.opened;
-    between = y.between;
-    later = y.later;
-    now = y.now;
+    order = y.order;
     handshakes =
         λ c o lt. subst (Asked history from y.shaken t me c)
-        (sym (set_there g j c x one.0 o.0 (λ same. absurd (let e : c ≡ j = same in omega arith))))
+        (sym (set_there g j c x one.0 o.0 (λ same. absurd (omega (arith, same)))))
         (y.handshakes c o lt);
     firsts = y.firsts;
     seconds = y.seconds;
@@ -175,46 +161,26 @@ module _ (n w me : ℕ) (history : ℕ → Registers) (from : ℕ) where
       bit (history (suc t)).q me j ≡ place g j →
       ReadBit history from t me j (place g j) → Collected n w me history from t g a b h j 1 1 1 →
       Collected n w me history from (suc t) g a b h (j + 1) 1 1 1
-  asked_more t g a b h j one others his sight y =
-      let now : y.ended ≤ t = y.now in
-      let later : y.middle ≤ y.ended = y.later in
-      let between : y.shaken ≤ y.middle = y.between in
-      let opened : from ≤ y.shaken = y.opened in
-      record {
-        shaken = suc t;
-        middle = suc t;
-        ended = suc t;
-        opened = omega arith;
-        between = omega arith;
-        later = omega arith;
-        now = omega arith;
-        handshakes = λ c o lt. elim (cases_eq c j) [
-          | inl same ↦ subst (λ v. Asked history from (suc t) (suc t) me v (place g v)) (sym same) (record {
-            sight =
-                (let u : sight.at ≤ t = sight.until in
-                record { at = sight.at; after = sight.after; until = omega arith; is = sight.is });
-            at = suc t;
-            after = (let u : sight.at ≤ t = sight.until in omega arith);
-            until = omega arith;
-            kept = λ u le more. ap (λ v. bit (history v).q me j) (let e : u ≡ suc t = omega arith in e) ∙ his;
-          })
-          | inr other ↦ (let z = y.handshakes c o (omega arith) in let until : z.at ≤ y.shaken = z.until in record {
-            sight =
-                (let s = z.sight in let u : s.at ≤ y.shaken = s.until in
-                record { at = s.at; after = s.after; until = omega arith; is = s.is });
-            at = z.at;
-            after = z.after;
-            until = omega arith;
-            kept = λ u le more. elim (eq-or-lt_of_le more) [
-              | inl e ↦ ap (λ v. bit (history v).q me c) e ∙ others c o other ∙ z.kept t (omega arith) (omega arith)
-              | inr less ↦ z.kept u le (omega arith)
-            ];
-          })
-        ];
-        firsts = λ k o lt. absurd (omega arith);
-        seconds = λ k o lt. absurd (omega arith);
-        lates = λ c o lt. absurd (omega arith);
-      }
+  asked_more t g a b h j one others his sight y = record {
+    shaken = suc t;
+    middle = suc t;
+    ended = suc t;
+    order = omega (arith, y.order);
+    handshakes = λ c o lt. elim (cases_eq c j) [
+      | inl same ↦ subst (λ v. Asked history from (suc t) (suc t) me v (place g v)) (sym same) (record {
+        sight = record { at = sight.at; after = sight.after; until = omega (arith, sight.until); is = sight.is };
+        at = suc t;
+        after = omega (arith, sight.until);
+        until = omega arith;
+        kept = λ u le more. ap (λ v. bit (history v).q me j) (let e : u ≡ suc t = omega arith in e) ∙ his;
+      })
+      | inr other ↦ asked_kept history from y.shaken (suc t) t me c (place g c) (omega (arith, y.order))
+          (omega (arith, y.order)) (others c o other) (y.handshakes c o (omega arith))
+    ];
+    firsts = λ k o lt. absurd (omega arith);
+    seconds = λ k o lt. absurd (omega arith);
+    lates = λ c o lt. absurd (omega arith);
+  }
 
   -- a word that is read now
   read_now : (t from' k : ℕ) (m : Registers) → history t ≡ m → from' ≤ t → Copied history from' t k (word_at m.words k)
@@ -241,48 +207,33 @@ module _ (n w me : ℕ) (history : ℕ → Registers) (from : ℕ) where
   pub first_more : (t : ℕ) (m : Registers) (g : List ℕ) (a b : Words) (h : List ℕ) (asked k : ℕ) →
       IsOneOf w k → w ≤ length a → history t ≡ m → Collected n w me history from t g a b h asked k 1 1 →
       Collected n w me history from t g (slice_set a (k - 1) (word_at m.words k)) b h asked (k + 1) 1 1
-  first_more t m g a b h asked k one len is x =
-      let now : x.ended ≤ t = x.now in
-      let later : x.middle ≤ x.ended = x.later in
-      let between : x.shaken ≤ x.middle = x.between in
-      record {
-        shaken = x.shaken;
-        middle = t;
-        ended = t;
-        opened = x.opened;
-        between = omega arith;
-        later = omega arith;
-        now = omega arith;
-        handshakes = x.handshakes;
-        firsts =
-            λ y o lt. copy_more a m t x.shaken x.middle k y one o len is (omega arith)
-            (omega arith) lt (λ less. x.firsts y o less);
-        seconds = λ k o lt. absurd (omega arith);
-        lates = λ c o lt. absurd (omega arith);
-      }
+  first_more t m g a b h asked k one len is x = record {
+    shaken = x.shaken;
+    middle = t;
+    ended = t;
+    order = omega (arith, x.order);
+    handshakes = x.handshakes;
+    firsts = λ y o lt. copy_more a m t x.shaken x.middle k y one o len is (omega (arith, x.order))
+        (omega (arith, x.order)) lt (λ less. x.firsts y o less);
+    seconds = λ k o lt. absurd (omega arith);
+    lates = λ c o lt. absurd (omega arith);
+  }
 
   -- line 19 reads one more word
   pub second_more : (t : ℕ) (m : Registers) (g : List ℕ) (a b : Words) (h : List ℕ) (asked first k : ℕ) →
       IsOneOf w k → w ≤ length b → history t ≡ m → Collected n w me history from t g a b h asked first k 1 →
       Collected n w me history from t g a (slice_set b (k - 1) (word_at m.words k)) h asked first (k + 1) 1
-  second_more t m g a b h asked first k one len is x =
-      let now : x.ended ≤ t = x.now in
-      let later : x.middle ≤ x.ended = x.later in
-      record {
-        shaken = x.shaken;
-        middle = x.middle;
-        ended = t;
-        opened = x.opened;
-        between = x.between;
-        later = omega arith;
-        now = omega arith;
-        handshakes = x.handshakes;
-        firsts = x.firsts;
-        seconds =
-            λ y o lt. copy_more b m t x.middle x.ended k y one o len is (omega arith)
-            (omega arith) lt (λ less. x.seconds y o less);
-        lates = λ c o lt. absurd (omega arith);
-      }
+  second_more t m g a b h asked first k one len is x = record {
+    shaken = x.shaken;
+    middle = x.middle;
+    ended = t;
+    order = omega (arith, x.order);
+    handshakes = x.handshakes;
+    firsts = x.firsts;
+    seconds = λ y o lt. copy_more b m t x.middle x.ended k y one o len is (omega (arith, x.order))
+        (omega (arith, x.order)) lt (λ less. x.seconds y o less);
+    lates = λ c o lt. absurd (omega arith);
+  }
 
   -- line 22 keeps the late bit of process j
   pub late_more : (t : ℕ) (g : List ℕ) (a b : Words) (h : List ℕ) (asked first second j v : ℕ) →
@@ -293,10 +244,7 @@ module _ (n w me : ℕ) (history : ℕ → Registers) (from : ℕ) where
     shaken = x.shaken;
     middle = x.middle;
     ended = x.ended;
-    opened = x.opened;
-    between = x.between;
-    later = x.later;
-    now = x.now;
+    order = x.order;
     handshakes = x.handshakes;
     firsts = x.firsts;
     seconds = x.seconds;
@@ -316,31 +264,37 @@ module _ (n w me : ℕ) (history : ℕ → Registers) (from t : ℕ) (g : List �
     (h : List ℕ) (one : IsOneOf n me)
     (laws : (u : ℕ) → u ≤ t → Laws n w history u)
     (x : Collected n w me history from t g a b h (n + 1) (w + 1) (w + 1) (n + 1)) where
+  -- what holds from one state to a later one, and that the writes and the answers do not become fewer
+  since_to : (u v : ℕ) → (u ≤ v) × (v ≤ t) → Since n w history u v
+  since_to u v le = (laws v le.1).since u le.0
+
+  writes_grow : (c u v : ℕ) → IsOneOf n c → (u ≤ v) × (v ≤ t) → (history u).writes c ≤ (history v).writes c
+  writes_grow c u v o le = (since_to u v le).writes c o
+
+  answers_grow : (c u v : ℕ) → IsOneOf n c → (u ≤ v) × (v ≤ t) → (history u).answers c me ≤ (history v).answers c me
+  answers_grow c u v o le = (since_to u v le).answers c me o one
+
   -- copies that are not the same: the writer of the second one has written since the double collect started
   pub seen_by_words : (k : ℕ) → IsOneOf w k → same_at a b k ≡ false →
       IsOneOf n (word_at b k).id × ((history from).writes (word_at b k).id < (history t).writes (word_at b k).id)
   seen_by_words k o differ =
-      let now : x.ended ≤ t = x.now in
-      let later : x.middle ≤ x.ended = x.later in
-      let between : x.shaken ≤ x.middle = x.between in
-      let opened : from ≤ x.shaken = x.opened in
+      let order = x.order in
       let first = x.firsts k o (omega arith) in
       let second = x.seconds k o (omega arith) in
-      let a1 : x.shaken ≤ first.at = first.after in
-      let a2 : first.at ≤ x.middle = first.until in
-      let b1 : x.middle ≤ second.at = second.after in
-      let b2 : second.at ≤ x.ended = second.until in
-      elim (((laws second.at (omega arith)).since first.at (omega arith)).before k o) [
+      elim ((since_to first.at second.at (omega arith)).before k o) [
         | inl lt ↦ (let c = id_at (history second.at) k in
-            let id : c ≡ (word_at b k).id = ap (λ (y : Word). y.id) (sym second.is) in
             let named : IsOneOf n c = (laws second.at (omega arith)).now.named k o (omega arith) in
-            let newer : (history first.at).writes c < (history second.at).writes c =
-            ((laws second.at (omega arith)).since first.at (omega arith)).newer k o lt in
-            let before : (history from).writes c ≤ (history first.at).writes c =
-            ((laws first.at (omega arith)).since from (omega arith)).writes c named in
-            let after : (history second.at).writes c ≤ (history t).writes c =
-            ((laws t (omega arith)).since second.at (omega arith)).writes c named in
-            subst (λ y. IsOneOf n y × ((history from).writes y < (history t).writes y)) id (named, omega arith))
+            let newer = (since_to first.at second.at (omega arith)).newer k o lt in
+            subst (λ y. IsOneOf n y × ((history from).writes y < (history t).writes y))
+            (ap (λ (y : Word). y.id) (sym second.is)) (
+              named,
+              omega (
+                arith,
+                newer,
+                writes_grow c from first.at named (omega arith),
+                writes_grow c second.at t named (omega arith),
+              ),
+            ))
         | inr same ↦ absurd (let e : word_at a k ≡ word_at b k = first.is ∙ same ∙ sym second.is in
             let f : same_at a b k ≡ true = ap (λ (y : Word). same_words y (word_at b k)) e ∙ same_self (word_at b k) in
             let z : true ≡ false = sym f ∙ differ in cc)
@@ -350,23 +304,13 @@ module _ (n w me : ℕ) (history : ℕ → Registers) (from t : ℕ) (g : List �
   pub seen_by_bits : (c : ℕ) → IsOneOf n c → place h c ≢ place g c →
       (history from).answers c me < (history t).answers c me
   seen_by_bits c o differ =
-      let now : x.ended ≤ t = x.now in
-      let later : x.middle ≤ x.ended = x.later in
-      let between : x.shaken ≤ x.middle = x.between in
-      let opened : from ≤ x.shaken = x.opened in
-      let handshake = x.handshakes c o (omega arith) in
-      let sight = handshake.sight in
+      let order = x.order in
+      let sight = (x.handshakes c o (omega arith)).sight in
       let late = x.lates c o (omega arith) in
-      let a1 : from ≤ sight.at = sight.after in
-      let a2 : sight.at ≤ x.shaken = sight.until in
-      let b1 : x.ended ≤ late.at = late.after in
-      let b2 : late.at ≤ t = late.until in
-      elim (((laws late.at b2).since sight.at (omega arith)).signed c me o one) [
+      elim ((since_to sight.at late.at (omega arith)).signed c me o one) [
         | inl still ↦ absurd (differ (late.is ∙ sym still ∙ sym sight.is))
-        | inr lt ↦ (let before : (history from).answers c me ≤ (history sight.at).answers c me =
-            ((laws sight.at (omega arith)).since from a1).answers c me o one in
-            let after : (history late.at).answers c me ≤ (history t).answers c me =
-            ((laws t (omega arith)).since late.at b2).answers c me o one in omega arith)
+        | inr lt ↦
+            omega (arith, lt, answers_grow c from sight.at o (omega arith), answers_grow c late.at t o (omega arith))
       ]
 
   -- A word whose copies look the same was not written between them, where the bit of its writer did not turn.
@@ -375,40 +319,24 @@ module _ (n w me : ℕ) (history : ℕ → Registers) (from t : ℕ) (g : List �
       (second : Copied history x.middle x.ended k (word_at b k)) →
       seq_at (history first.at).words k < seq_at (history second.at).words k → ⊥
   no_write k o still same first second lt =
-      let now : x.ended ≤ t = x.now in
-      let later : x.middle ≤ x.ended = x.later in
-      let between : x.shaken ≤ x.middle = x.between in
-      let opened : from ≤ x.shaken = x.opened in
-      let a1 : x.shaken ≤ first.at = first.after in
-      let a2 : first.at ≤ x.middle = first.until in
-      let b1 : x.middle ≤ second.at = second.after in
-      let b2 : second.at ≤ x.ended = second.until in
+      let order = x.order in
       let c = id_at (history second.at) k in
       let named : IsOneOf n c = (laws second.at (omega arith)).now.named k o (omega arith) in
       let alike : Alike (word_at a k) (word_at b k) = alike_of (word_at a k) (word_at b k) same in
-      let copied : (word_at a k).id ≡ (word_at b k).id = omega arith in
       let ids : id_at (history first.at) k ≡ c =
-      ap (λ (y : Word). y.id) (sym first.is) ∙ copied ∙ ap (λ (y : Word). y.id) second.is in
+      ap (λ (y : Word). y.id) (sym first.is) ∙ alike.ids ∙ ap (λ (y : Word). y.id) second.is in
       let toggles : (word_at (history first.at).words k).toggle ≡ (word_at (history second.at).words k).toggle =
       ap (λ (y : Word). y.toggle) (sym first.is) ∙ alike.toggles ∙ ap (λ (y : Word). y.toggle) second.is in
       let twice : (history first.at).writes c + 2 ≤ (history second.at).writes c =
-      ((laws second.at (omega arith)).since first.at (omega arith)).twice k o lt ids toggles in
-      let handshake = x.handshakes c named (let le : c ≤ n = named.1 in omega arith) in
-      let h1 : handshake.at ≤ x.shaken = handshake.until in
-      let late = x.lates c named (let le : c ≤ n = named.1 in omega arith) in
-      let l1 : x.ended ≤ late.at = late.after in
-      let l2 : late.at ≤ t = late.until in
-      let low : (history handshake.at).writes c ≤ (history first.at).writes c =
-      ((laws first.at (omega arith)).since handshake.at (omega arith)).writes c named in
-      let high : (history second.at).writes c ≤ (history late.at).writes c =
-      ((laws late.at l2).since second.at (omega arith)).writes c named in
-      let answers : (history late.at).writes c ≤ (history late.at).answers c me =
-      (laws late.at l2).now.answers_from c me named one in
-      (laws late.at l2).answered c me ((history handshake.at).writes c) (place g c) named one
+      (since_to first.at second.at (omega arith)).twice k o lt ids toggles in
+      let handshake = x.handshakes c named (omega arith) in
+      let late = x.lates c named (omega arith) in
+      let low = writes_grow c handshake.at first.at named (omega arith) in
+      let high = writes_grow c second.at late.at named (omega arith) in
+      let answers = (laws late.at late.until).now.answers_from c me named one in
+      (laws late.at late.until).answered c me ((history handshake.at).writes c) (place g c) named one
       (λ u le more. handshake.kept u (elim (less_or_not u handshake.at) [
-        | inl less ↦
-            absurd (let back : (history u).writes c ≤ (history handshake.at).writes c =
-            ((laws handshake.at (omega arith)).since u (omega arith)).writes c named in omega arith)
+        | inl less ↦ absurd (omega (arith, writes_grow c u handshake.at named (omega arith)))
         | inr ge ↦ ge
       ]) (omega arith))
       (omega arith) (sym late.is ∙ still c named)
@@ -417,22 +345,15 @@ module _ (n w me : ℕ) (history : ℕ → Registers) (from t : ℕ) (g : List �
   pub unchanged : (k : ℕ) → IsOneOf w k → ((c : ℕ) → IsOneOf n c → place h c ≡ place g c) → same_at a b k ≡ true →
       word_at (history x.middle).words k ≡ word_at b k
   unchanged k o still same =
-      let now : x.ended ≤ t = x.now in
-      let later : x.middle ≤ x.ended = x.later in
+      let order = x.order in
       let first = x.firsts k o (omega arith) in
       let second = x.seconds k o (omega arith) in
-      let a2 : first.at ≤ x.middle = first.until in
-      let b1 : x.middle ≤ second.at = second.after in
-      let b2 : second.at ≤ x.ended = second.until in
-      let before : WordBefore (word_at (history first.at).words k) (word_at (history x.middle).words k) =
-      ((laws x.middle (omega arith)).since first.at a2).before k o in
-      let after : WordBefore (word_at (history x.middle).words k) (word_at (history second.at).words k) =
-      ((laws second.at (omega arith)).since x.middle b1).before k o in
-      elim (((laws second.at (omega arith)).since first.at (omega arith)).before k o) [
+      elim ((since_to first.at second.at (omega arith)).before k o) [
         | inl lt ↦ absurd (no_write k o still same first second lt)
         | inr e ↦
             squeezed (word_at (history first.at).words k) (word_at (history x.middle).words k)
-            (word_at (history second.at).words k) before after (ap (λ (y : Word). y.seq) e)
+            (word_at (history second.at).words k) ((since_to first.at x.middle (omega arith)).before k o)
+            ((since_to x.middle second.at (omega arith)).before k o) (ap (λ (y : Word). y.seq) e)
             ∙ sym second.is
       ]
 
@@ -440,13 +361,10 @@ module _ (n w me : ℕ) (history : ℕ → Registers) (from t : ℕ) (g : List �
   pub same_copies : (k : ℕ) → IsOneOf w k → ((c : ℕ) → IsOneOf n c → place h c ≡ place g c) →
       same_at a b k ≡ true → word_at a k ≡ word_at b k
   same_copies k o still same =
-      let now : x.ended ≤ t = x.now in
+      let order = x.order in
       let first = x.firsts k o (omega arith) in
       let second = x.seconds k o (omega arith) in
-      let a2 : first.at ≤ x.middle = first.until in
-      let b1 : x.middle ≤ second.at = second.after in
-      let b2 : second.at ≤ x.ended = second.until in
-      elim (((laws second.at (omega arith)).since first.at (omega arith)).before k o) [
+      elim ((since_to first.at second.at (omega arith)).before k o) [
         | inl lt ↦ absurd (no_write k o still same first second lt)
         | inr e ↦ first.is ∙ e ∙ sym second.is
       ]
@@ -455,10 +373,7 @@ module _ (n w me : ℕ) (history : ℕ → Registers) (from t : ℕ) (g : List �
       ((k : ℕ) → IsOneOf w k → same_at a b k ≡ true) →
       Held (words_of history) t since (data_of (take w b))
   passed since le len still same =
-      let now : x.ended ≤ t = x.now in
-      let later : x.middle ≤ x.ended = x.later in
-      let between : x.shaken ≤ x.middle = x.between in
-      let opened : from ≤ x.shaken = x.opened in (
+      let order = x.order in (
         x.middle,
         omega arith,
         omega arith,
@@ -471,10 +386,7 @@ pub borrowed_put : (n w me c since t : ℕ) (history : ℕ → Registers) →
     Laws n w history since → Laws n w history t → IsOneOf n c → IsOneOf n me →
     events (history since) c me + 3 ≤ events (history t) c me → (history since).answers c me < (history t).puts c
 borrowed_put n w me c since t history then now one i three =
-    let a : (history t).answers c me ≤ (history t).writes c + 1 = now.now.answers_to c me one i in
-    let b : (history since).answers c me ≤ (history since).writes c + 1 = then.now.answers_to c me one i in
-    let p : (history t).writes c ≤ (history t).puts c = now.now.puts_from c one in
-    omega arith
+    omega (arith, now.now.answers_to c me one i, then.now.answers_to c me one i, now.now.puts_from c one)
 
 -- a view that is borrowed is the values at some state since the scan's start
 pub borrowed : (n w me c since t : ℕ) (history : ℕ → Registers) → Laws n w history since → Laws n w history t →

@@ -1,8 +1,8 @@
 -- Which locals a process of M has at each line, and how long they are; and that no line traps.
-use Rattle.snap_runs.proofs.Computing.{either, lt_from, le_from, both, differs, raised_most, none_then}
+use Rattle.snap_runs.proofs.Computing.{either, whether, lt_from, le_from, both, differs, raised_most, none_then}
 use Rattle.snap_runs.proofs.Places.{for_each, for_each_at, first_found, first_none}
-use Rattle.std.proofs.Common.{◌≡◌, ℕ, ◌+◌, ◌-◌, ◌<◌, ◌≤◌, max, ◌&&◌, List, drop, length, map, Option, Some, None}
-use Rattle.std.proofs.Common.{nat_eq, nat_lt, nat_le, slice_set, refl, sym, ◌∙◌, subst, arith}
+use Rattle.std.proofs.Common.{◌≡◌, ℕ, ◌-◌, ◌<◌, ◌≤◌, max, ◌&&◌, List, drop, length, map, Option, Some, None}
+use Rattle.std.proofs.Common.{nat_eq, nat_lt, nat_le, refl, sym, ◌∙◌, subst, arith}
 use Rattle.std.proofs.lemmas.List.{length-set, length-append}
 use Rattle.std.proofs.lemmas.List.FromFn.{length-map-range_with_len}
 use Rattle.snap_runs.proofs.Common.{IsOneOf, Op, Scan, Update, places_to}
@@ -16,7 +16,7 @@ use Rattle.snap_runs.proofs.Held.{word_at}
 use Rattle.snap_runs_of_m.specs.Promises.{counts}
 use Rattle.snap_runs_of_m.proofs.Algorithm.{Registers, Control, Move, Variables, ProgramCounter, L10, L11, L12, L13}
 use Rattle.snap_runs_of_m.proofs.Algorithm.{L14, L15, L16, L17, L18, L19, L20, L21, L22, L23, L24, L25, L26, L27, L28}
-use Rattle.snap_runs_of_m.proofs.Algorithm.{L29, L30, L31, L32, L33, L34, L35, L36, L37, L50, L51, L52, L53, L54, L55}
+use Rattle.snap_runs_of_m.proofs.Algorithm.{L29, L30, L31, L32, L33, L35, L36, L37, L51, L52, L53, L54}
 use Rattle.snap_runs_of_m.proofs.Algorithm.{L56, L57, L58, word_of, move, first_to, place, bit, flip, same_at, marked}
 use Rattle.snap_runs_of_m.proofs.Algorithm.{counted, all_still, third_move, Needs, IsLineOf, IsScan, IsUpdate}
 use Rattle.snap_runs_of_m.proofs.Algorithm.{algorithm, counter, limit, at_limit}
@@ -77,80 +77,37 @@ LongMove n w (Begin d p k) = Long n w p
 LongMove n w (Answer v) = Unit {0}
 LongMove n w Finish = Unit {0}
 
-long_first : (n w : ℕ) (d : Mode) (m : Registers) (p : Variables) (o : Option ℕ) → Long n w p →
-    LongMove n w (first_to d m p o)
-long_first n w d m p None h = record { a = h.a; b = h.b; g = h.g; h = h.h; tog = h.tog; d = h.d }
-long_first n w d m p (Some k) h = record { a = h.a; b = h.b; g = h.g; h = h.h; tog = h.tog; d = h.d }
-
 for_each_long : (n : ℕ) (f : ℕ → ℕ) (old : List ℕ) → n ≤ length (for_each n f old)
 for_each_long n f old =
-    let e : length (for_each n f old) ≡ length (map f (places_to n)) + length (drop n old) =
-    length-append (map f (places_to n)) (drop n old) in
-    let c : length (map f (places_to n)) ≡ n = length-map-range_with_len f 1 n in omega arith
+    omega (arith, length-append (map f (places_to n)) (drop n old), length-map-range_with_len f 1 n)
 
 pub long_move : (n w me : ℕ) (d : Mode) (m : Registers) (p : Variables) (k : ProgramCounter) → Long n w p →
     LongMove n w (move n w me d m p k)
-long_move n w me d m p L14 h =
-    record { a = h.a; b = h.b; g = length-set p.g (p.j - 1) p.x ∙ h.g; h = h.h; tog = h.tog; d = h.d }
-long_move n w me d m p L16 h =
-    either (LongMove n w) (nat_lt p.j n) _ _ (λ t. record { a = h.a; b = h.b; g = h.g; h = h.h; tog = h.tog; d = h.d })
-    (λ t. record { a = h.a; b = h.b; g = h.g; h = h.h; tog = h.tog; d = h.d })
-long_move n w me d m p L17 h =
-    record { a = length-set p.a (p.k - 1) (word_at m.words p.k) ∙ h.a; b = h.b; g = h.g; h = h.h; tog = h.tog; d = h.d }
-long_move n w me d m p L18 h =
-    either (LongMove n w) (nat_lt p.k w) _ _ (λ t. record { a = h.a; b = h.b; g = h.g; h = h.h; tog = h.tog; d = h.d })
-    (λ t. record { a = h.a; b = h.b; g = h.g; h = h.h; tog = h.tog; d = h.d })
-long_move n w me d m p L19 h =
-    record { a = h.a; b = length-set p.b (p.k - 1) (word_at m.words p.k) ∙ h.b; g = h.g; h = h.h; tog = h.tog; d = h.d }
-long_move n w me d m p L20 h =
-    either (LongMove n w) (nat_lt p.k w) _ _ (λ t. record { a = h.a; b = h.b; g = h.g; h = h.h; tog = h.tog; d = h.d })
-    (λ t. record { a = h.a; b = h.b; g = h.g; h = h.h; tog = h.tog; d = h.d })
-long_move n w me d m p L22 h =
-    record { a = h.a; b = h.b; g = h.g; h = length-set p.h (p.j - 1) p.x ∙ h.h; tog = h.tog; d = h.d }
-long_move n w me d m p L23 h =
-    either (LongMove n w) (nat_lt p.j n) _ _ (λ t. record { a = h.a; b = h.b; g = h.g; h = h.h; tog = h.tog; d = h.d })
-    (λ t. record { a = h.a; b = h.b; g = h.g; h = h.h; tog = h.tog; d = h.d })
-long_move n w me d m p L24 h =
-    record { a = h.a; b = h.b; g = h.g; h = h.h; tog = h.tog; d = for_each_long n (λ c. 0) p.d }
-long_move n w me d m p L25 h =
-    record { a = h.a; b = h.b; g = h.g; h = h.h; tog = h.tog; d = for_each_long n (marked p) p.d }
-long_move n w me d m p L26 h =
-    either (LongMove n w) (same_at p.a p.b p.k) _ _
-    (λ t. record { a = h.a; b = h.b; g = h.g; h = h.h; tog = h.tog; d = h.d })
-    (λ t. record { a = h.a; b = h.b; g = h.g; h = h.h; tog = h.tog; d = h.d })
-long_move n w me d m p L28 h =
-    let e : length (slice_set p.d (p.x - 1) 1) ≡ length p.d = length-set p.d (p.x - 1) 1 in
-    let le : n ≤ length p.d = h.d in
-    record { a = h.a; b = h.b; g = h.g; h = h.h; tog = h.tog; d = omega arith }
-long_move n w me d m p L29 h =
-    either (LongMove n w) (nat_lt p.k w) _ _ (λ t. record { a = h.a; b = h.b; g = h.g; h = h.h; tog = h.tog; d = h.d })
-    (λ t. record { a = h.a; b = h.b; g = h.g; h = h.h; tog = h.tog; d = h.d })
-long_move n w me d m p L30 h =
-    either (LongMove n w) (all_still n p) _ _ (λ t. record { a = h.a; b = h.b; g = h.g; h = h.h; tog = h.tog; d = h.d })
-    (λ t. record { a = h.a; b = h.b; g = h.g; h = h.h; tog = h.tog; d = h.d })
-long_move n w me d m p L32 h = long_first n w d m p (third_move n p) h
-long_move n w me Scanning m p L35 h = tt
-long_move n w me (Embedded y z) m p L35 h = record { a = h.a; b = h.b; g = h.g; h = h.h; tog = h.tog; d = h.d }
-long_move n w me (Updating y z) m p L35 h = tt
-long_move n w me Scanning m p L37 h = tt
-long_move n w me (Embedded y z) m p L37 h = record { a = h.a; b = h.b; g = h.g; h = h.h; tog = h.tog; d = h.d }
-long_move n w me (Updating y z) m p L37 h = tt
-long_move n w me d m p L53 h =
-    either (LongMove n w) (nat_lt p.j n) _ _ (λ t. record { a = h.a; b = h.b; g = h.g; h = h.h; tog = h.tog; d = h.d })
-    (λ t. record { a = h.a; b = h.b; g = h.g; h = h.h; tog = h.tog; d = h.d })
+long_move n w me d m p L14 h = assumption (length-set p.g (p.j - 1) p.x ∙ h.g)
 long_move n w me Scanning m p L54 h = tt
 long_move n w me (Embedded y z) m p L54 h = tt
-long_move n w me (Updating y z) m p L54 h = record { a = h.a; b = h.b; g = h.g; h = h.h; tog = h.tog; d = h.d }
-long_move n w me d m p L56 h = record {
-  a = h.a;
-  b = h.b;
-  g = h.g;
-  h = h.h;
-  tog = length-set p.tog (word_of d - 1) (flip (place p.tog (word_of d))) ∙ h.tog;
-  d = h.d;
-}
-long_move n w me d m p L58 h = tt
-long_move n w me d m p k h = record { a = h.a; b = h.b; g = h.g; h = h.h; tog = h.tog; d = h.d }
+long_move n w me d m p L16 h = either (LongMove n w) (nat_lt p.j n) _ _ (λ t. assumption) (λ t. assumption)
+long_move n w me d m p L17 h = assumption (length-set p.a (p.k - 1) (word_at m.words p.k) ∙ h.a)
+long_move n w me d m p L18 h = either (LongMove n w) (nat_lt p.k w) _ _ (λ t. assumption) (λ t. assumption)
+long_move n w me d m p L19 h = assumption (length-set p.b (p.k - 1) (word_at m.words p.k) ∙ h.b)
+long_move n w me d m p L20 h = either (LongMove n w) (nat_lt p.k w) _ _ (λ t. assumption) (λ t. assumption)
+long_move n w me d m p L22 h = assumption (length-set p.h (p.j - 1) p.x ∙ h.h)
+long_move n w me d m p L23 h = either (LongMove n w) (nat_lt p.j n) _ _ (λ t. assumption) (λ t. assumption)
+long_move n w me d m p L24 h = assumption (for_each_long n (λ c. 0) p.d)
+long_move n w me d m p L25 h = assumption (for_each_long n (marked p) p.d)
+long_move n w me d m p L26 h = either (LongMove n w) (same_at p.a p.b p.k) _ _ (λ t. assumption) (λ t. assumption)
+long_move n w me d m p L28 h = omega (arith, length-set p.d (p.x - 1) 1)
+long_move n w me d m p L29 h = either (LongMove n w) (nat_lt p.k w) _ _ (λ t. assumption) (λ t. assumption)
+long_move n w me d m p L30 h = either (LongMove n w) (all_still n p) _ _ (λ t. assumption) (λ t. assumption)
+long_move n w me d m p L32 h =
+    whether (LongMove n w) (first_to d m p) (third_move n p) (λ e. assumption) (λ k e. assumption)
+long_move n w me Scanning m p L35 h = tt
+long_move n w me (Updating y z) m p L35 h = tt
+long_move n w me Scanning m p L37 h = tt
+long_move n w me (Updating y z) m p L37 h = tt
+long_move n w me d m p L53 h = either (LongMove n w) (nat_lt p.j n) _ _ (λ t. assumption) (λ t. assumption)
+long_move n w me d m p L56 h = assumption (length-set p.tog (word_of d - 1) (flip (place p.tog (word_of d))) ∙ h.tog)
+long_move n w me d m p k h = assumption
 
 abbrev pub MoveWell : Op → ℕ → ℕ → Move → Type 0
 MoveWell op n w v = LeadsTo (λ d p k. IsLineOf w d k × Keeps n w d p k × (op_of d ≡ op)) v
@@ -171,33 +128,26 @@ pub record Ground (n w me : ℕ) (m : Registers) (p : Variables) : Type 0 where
 pub move_well : (n w me : ℕ) (d : Mode) (m : Registers) (p : Variables) (k : ProgramCounter) → Ground n w me m p →
     IsLineOf w d k → Keeps n w d p k → MoveWell (op_of d) n w (move n w me d m p k)
 move_well n w me d m p L10 e s h = (s, λ c i. rw (for_each_at n (λ c. 0) p.moved c i) (omega arith), refl)
-move_well n w me d m p L11 e s h = (s, (refl, h), refl)
-move_well n w me d m p L12 e s h = let one : IsOneOf n me = e.one in (s, ((omega arith, omega arith), refl, h.1), refl)
+move_well n w me (Updating y z) m p L54 e s h = (s, tt, refl)
+move_well n w me d m p L54 e s h = absurd s
 move_well n w me d m p L13 e s h = (s, (h.0, h.1, h.2, e.bits p.j h.0), refl)
-move_well n w me d m p L15 e s h = (s, (h.0, h.1, h.2), refl)
 move_well n w me d m p L16 e s h =
-    let some : 0 < w = e.some in
-    either (MoveWell (op_of d) n w) (nat_lt p.j n) _ _
-    (λ b. let lt : p.j < n = lt_from p.j n b in (s, ((omega arith, omega arith), h.1, h.2), refl))
-    (λ b. (s, (refl, (omega arith, omega arith), h.2), refl))
+    either (MoveWell (op_of d) n w) (nat_lt p.j n) _ _ (λ b. (s, omega (arith, lt_from p.j n b), refl))
+    (λ b. (s, omega (arith, e.some), refl))
 move_well n w me d m p L18 e s h =
-    let some : 0 < w = e.some in either (MoveWell (op_of d) n w) (nat_lt p.k w) _ _ (λ b. let lt : p.k < w = lt_from p.k w b in (s, (h.0, (omega arith, omega arith), h.2), refl)) (λ b. (s, (h.0, (omega arith, omega arith), h.2), refl))
+    either (MoveWell (op_of d) n w) (nat_lt p.k w) _ _ (λ b. (s, omega (arith, lt_from p.k w b), refl))
+    (λ b. (s, omega (arith, e.some), refl))
 move_well n w me d m p L20 e s h =
-    let one : IsOneOf n me = e.one in
-    either (MoveWell (op_of d) n w) (nat_lt p.k w) _ _
-    (λ b. let lt : p.k < w = lt_from p.k w b in (s, (h.0, (omega arith, omega arith), h.2), refl))
-    (λ b. (s, ((omega arith, omega arith), refl, h.2), refl))
+    either (MoveWell (op_of d) n w) (nat_lt p.k w) _ _ (λ b. (s, omega (arith, lt_from p.k w b), refl))
+    (λ b. (s, omega (arith, e.one), refl))
 move_well n w me d m p L23 e s h =
-    either (MoveWell (op_of d) n w) (nat_lt p.j n) _ _
-    (λ b. let lt : p.j < n = lt_from p.j n b in (s, ((omega arith, omega arith), h.1, h.2), refl))
-    (λ b. (s, (refl, h.1, h.2), refl))
-move_well n w me d m p L25 e s h = let some : 0 < w = e.some in (s, (h.0, (omega arith, omega arith), h.2), refl)
+    either (MoveWell (op_of d) n w) (nat_lt p.j n) _ _ (λ b. (s, omega (arith, lt_from p.j n b), refl))
+    (λ b. (s, omega arith, refl))
 move_well n w me d m p L26 e s h =
     either (MoveWell (op_of d) n w) (same_at p.a p.b p.k) _ _ (λ b. (s, h, refl)) (λ b. (s, h, refl))
 move_well n w me d m p L29 e s h =
-    either (MoveWell (op_of d) n w) (nat_lt p.k w) _ _
-    (λ b. let lt : p.k < w = lt_from p.k w b in (s, (h.0, (omega arith, omega arith), h.2), refl))
-    (λ b. (s, (h.0, refl, h.2), refl))
+    either (MoveWell (op_of d) n w) (nat_lt p.k w) _ _ (λ b. (s, omega (arith, lt_from p.k w b), refl))
+    (λ b. (s, omega arith, refl))
 move_well n w me d m p L30 e s h =
     either (MoveWell (op_of d) n w) (all_still n p) _ _ (λ b. (s, tt, refl)) (λ b. (s, h, refl))
 move_well n w me d m p L31 e s h = (
@@ -211,65 +161,36 @@ move_well n w me d m p L31 e s h = (
   refl,
 )
 move_well n w me d m p L32 e s h =
-    first_well n w d m p (third_move n p) s (h.0, h.1)
-    (λ k f. let r = first_found 1 n (at_limit p) k f in (omega arith, omega arith))
+    first_well n w d m p (third_move n p) s (h.0, h.1) (λ k f. omega (arith, first_found 1 n (at_limit p) k f))
     (λ f k o. differs (place p.moved k) limit (first_none 1 n (at_limit p) f k (omega arith) (omega arith)) (h.2 k o))
-move_well n w me d m p L33 e s h = let one : IsOneOf n me = e.one in (s, ((omega arith, omega arith), h.1, h.2), refl)
-move_well n w me d m p L34 e s h = (s, tt, refl)
 move_well n w me Scanning m p L35 e s h = tt
-move_well n w me (Embedded y z) m p L35 e s h = (s, tt, refl)
 move_well n w me (Updating y z) m p L35 e s h = absurd s
-move_well n w me d m p L36 e s h = (s, tt, refl)
 move_well n w me Scanning m p L37 e s h = tt
-move_well n w me (Embedded y z) m p L37 e s h = (s, tt, refl)
 move_well n w me (Updating y z) m p L37 e s h = absurd s
-move_well n w me d m p L50 e s h = let one : IsOneOf n me = e.one in (s, (omega arith, omega arith), refl)
 move_well n w me d m p L53 e s h =
-    either (MoveWell (op_of d) n w) (nat_lt p.j n) _ _
-    (λ b. let lt : p.j < n = lt_from p.j n b in (s, (omega arith, omega arith), refl)) (λ b. (s, tt, refl))
-move_well n w me Scanning m p L54 e s h = absurd s
-move_well n w me (Embedded y z) m p L54 e s h = absurd s
-move_well n w me (Updating y z) m p L54 e s h = (s, tt, refl)
-move_well n w me d m p L55 e s h = (s, tt, refl)
-move_well n w me Scanning m p L56 e s h = absurd s
-move_well n w me (Embedded y z) m p L56 e s h = absurd s
-move_well n w me (Updating y z) m p L56 e s h =
-    let long : Long n w p = e.long in
-    let len : length p.tog ≡ max n w = long.tog in (
-      s,
-      subst (λ v. v ≤ 1) (sym (set_here p.tog y (flip (place p.tog y)) s.0 (omega arith))) (flip_bit (place p.tog y)),
-      refl,
-    )
-move_well n w me d m p L57 e s h = (s, tt, refl)
+    either (MoveWell (op_of d) n w) (nat_lt p.j n) _ _ (λ b. (s, omega (arith, lt_from p.j n b), refl))
+    (λ b. (s, tt, refl))
+move_well n w me (Updating y z) m p L56 e s h = (
+  s,
+  subst (λ v. v ≤ 1) (sym (set_here p.tog y (flip (place p.tog y)) s.0 (omega (arith, e.long))))
+      (flip_bit (place p.tog y)),
+  refl,
+)
+move_well n w me d m p L56 e s h = absurd s
 move_well n w me d m p L58 e s h = tt
-move_well n w me d m p k e s h = (s, h, refl)
+move_well n w me d m p k e s h = (s, omega (arith, e.one, e.some), refl)
 
 word_is : (w : ℕ) (d : Mode) → IsUpdate w d → IsOneOf w (word_of d)
-word_is w Scanning h = absurd h
-word_is w (Embedded y z) h = absurd h
 word_is w (Updating y z) h = h
+word_is w d h = absurd h
 
 -- what a line needs is kept
 pub needs : (n w me : ℕ) (d : Mode) (p : Variables) (k : ProgramCounter) → IsOneOf n me → IsLineOf w d k →
     Keeps n w d p k → (k ≡ L28 → IsOneOf n p.x) → Needs n w me d p k
-needs n w me d p L13 i s h x = (h.0, i)
-needs n w me d p L14 i s h x = h.0
-needs n w me d p L15 i s h x = (h.0, i, h.3)
-needs n w me d p L17 i s h x = h.1
-needs n w me d p L19 i s h x = h.1
-needs n w me d p L21 i s h x = (h.0, i)
-needs n w me d p L22 i s h x = h.0
-needs n w me d p L26 i s h x = h.1
-needs n w me d p L27 i s h x = h.1
 needs n w me d p L28 i s h x = x refl
-needs n w me d p L31 i s h x = h.2
-needs n w me d p L36 i s h x = h
-needs n w me d p L51 i s h x = (h, i)
-needs n w me d p L52 i s h x = (h, i)
-needs n w me d p L55 i s h x = i
 needs n w me d p L56 i s h x = word_is w d s
 needs n w me d p L57 i s h x = (word_is w d s, h)
-needs n w me d p k i s h x = tt
+needs n w me d p k i s h x = assumption
 
 -- an update that is not skipped is of a word that there is
 allowed_word : (n w me word arg : ℕ) → call_skip kind.Multi (counts n w) me (Update word arg) ≡ None → IsOneOf w word

@@ -9,13 +9,12 @@ use Rattle.std.proofs.Common.{◌≡◌, ℕ, suc, ◌+◌, ◌-◌, ◌*◌, �
 use Rattle.std.proofs.Common.{if◌then◌else◌, refl, ap, arith}
 use Rattle.std.proofs.lemmas.Grind.{common_steps}
 use Rattle.snap_words.specs.Shape.{IsOneOf}
-use Rattle.snap_runs.proofs.Algorithm.{Mode, Scanning, Embedded, Updating, GoesOn}
+use Rattle.snap_runs.proofs.Algorithm.{Mode, Scanning, GoesOn}
 use Rattle.snap_runs.proofs.Flow.{IsScanLine}
 use Rattle.snap_runs_of_m.proofs.Algorithm.{Registers, restarts, Move, Variables, ProgramCounter, L10, L11, L12, L13}
 use Rattle.snap_runs_of_m.proofs.Algorithm.{L14, L15, L16, L17, L18, L19, L20, L21, L22, L23, L24, L25, L26, L27, L28}
-use Rattle.snap_runs_of_m.proofs.Algorithm.{L29, L30, L31, L32, L33, L34, L35, L36, L37, L50, L51, L52, L53, L54, L55}
-use Rattle.snap_runs_of_m.proofs.Algorithm.{L56, L57, L58, move, first_to, place, same_at, counted, all_still}
-use Rattle.snap_runs_of_m.proofs.Algorithm.{third_move, tests, in_update}
+use Rattle.snap_runs_of_m.proofs.Algorithm.{L29, L30, L31, L32, L33, L34, L35, L36, L37, L53, L54, move, first_to}
+use Rattle.snap_runs_of_m.proofs.Algorithm.{place, same_at, counted, all_still, third_move, tests, in_update}
 use Rattle.snap_runs_of_m.proofs.Basics.{other_from}
 use Rattle.snap_runs_of_m.proofs.Control.{Keeps}
 
@@ -93,115 +92,62 @@ module _ (n w me : ℕ) where
       0 < n → c' ≡ c + tests k → recent' ≡ (if restarts k then 0 else recent + tests k) → Keeps n w d p k →
       (k ≡ L30 → moves n p + 2 ≤ 2 * n) → (k ≡ L31 → (c : ℕ) → IsOneOf n c → place p.d c ≤ 1) →
       Count n w p own c recent k → CountMove n w (suc own) c' recent' (move n w me d m p k)
-  count_move d m p L10 own c c' recent recent' pos e f keeps sharp bits h = (omega arith, omega arith, omega arith)
-  count_move d m p L11 own c c' recent recent' pos e f keeps sharp bits h = (omega arith, omega arith, omega arith)
   count_move d m p L12 own c c' recent recent' pos e f keeps sharp bits h =
-      let b : budget n w c' ≡ budget n w 0 = ap (budget n w) (let z : c' ≡ 0 = omega arith in z) in
-      let three : budget n w 0 ≡ 3 = budget_zero (round n w) 3 in
-      let first : p.j ≡ 1 = keeps.0 in
-      (omega arith, omega arith, omega arith, omega arith)
+      omega (arith, ap (budget n w) (let z : c' ≡ 0 = omega arith in z), budget_zero (round n w) 3)
+  count_move Scanning m p L35 own c c' recent recent' pos e f keeps sharp bits h = tt
+  count_move Scanning m p L37 own c c' recent recent' pos e f keeps sharp bits h = tt
+  count_move Scanning m p L54 own c c' recent recent' pos e f keeps sharp bits h = tt
   count_move d m p L16 own c c' recent recent' pos e f keeps sharp bits h =
-      let b : budget n w c' ≡ budget n w c = same_budget (round n w) 3 c c' e in
-      let inside : IsOneOf n p.j = keeps.0 in
-      let first : p.k ≡ 1 = keeps.1 in
       either (CountMove n w (suc own) c' recent') (nat_lt p.j n) _ _
-      (λ t. (omega arith, omega arith, omega arith, omega arith)) (λ t.
-      let ge : n ≤ p.j = not_lt p.j n t in (omega arith, omega arith, omega arith, omega arith))
+      (λ t. omega (arith, same_budget (round n w) 3 c c' e))
+      (λ t. omega (arith, same_budget (round n w) 3 c c' e, not_lt p.j n t))
   count_move d m p L18 own c c' recent recent' pos e f keeps sharp bits h =
-      let b : budget n w c' ≡ budget n w c = same_budget (round n w) 3 c c' e in
-      let inside : IsOneOf w p.k = keeps.1 in
-      let first : p.j ≡ 1 = keeps.0 in
       either (CountMove n w (suc own) c' recent') (nat_lt p.k w) _ _
-      (λ t. (omega arith, omega arith, omega arith, omega arith)) (λ t.
-      let ge : w ≤ p.k = not_lt p.k w t in (omega arith, omega arith, omega arith, omega arith))
+      (λ t. omega (arith, same_budget (round n w) 3 c c' e))
+      (λ t. omega (arith, same_budget (round n w) 3 c c' e, not_lt p.k w t))
   count_move d m p L20 own c c' recent recent' pos e f keeps sharp bits h =
-      let b : budget n w c' ≡ budget n w c = same_budget (round n w) 3 c c' e in
-      let inside : IsOneOf w p.k = keeps.1 in
-      let first : p.j ≡ 1 = keeps.0 in
       either (CountMove n w (suc own) c' recent') (nat_lt p.k w) _ _
-      (λ t. (omega arith, omega arith, omega arith, omega arith)) (λ t.
-      let ge : w ≤ p.k = not_lt p.k w t in (omega arith, omega arith, omega arith, omega arith))
+      (λ t. omega (arith, same_budget (round n w) 3 c c' e))
+      (λ t. omega (arith, same_budget (round n w) 3 c c' e, not_lt p.k w t))
   count_move d m p L23 own c c' recent recent' pos e f keeps sharp bits h =
-      let b : budget n w c' ≡ budget n w c = same_budget (round n w) 3 c c' e in
-      let inside : IsOneOf n p.j = keeps.0 in
-      let first : p.k ≡ 1 = keeps.1 in
       either (CountMove n w (suc own) c' recent') (nat_lt p.j n) _ _
-      (λ t. (omega arith, omega arith, omega arith, omega arith)) (λ t.
-      let ge : n ≤ p.j = not_lt p.j n t in (omega arith, omega arith, omega arith, omega arith))
-  count_move d m p L25 own c c' recent recent' pos e f keeps sharp bits h =
-      let k : p.k ≡ 1 = keeps.1 in
-      let b : budget n w c' ≡ budget n w c = same_budget (round n w) 3 c c' e in
-      (omega arith, omega arith, omega arith, omega arith)
+      (λ t. omega (arith, same_budget (round n w) 3 c c' e))
+      (λ t. omega (arith, same_budget (round n w) 3 c c' e, not_lt p.j n t))
   count_move d m p L26 own c c' recent recent' pos e f keeps sharp bits h =
-      let b : budget n w c' ≡ budget n w c = same_budget (round n w) 3 c c' e in
       either (CountMove n w (suc own) c' recent') (same_at p.a p.b p.k) _ _
-      (λ t. (omega arith, omega arith, omega arith, omega arith))
-      (λ t. (omega arith, omega arith, omega arith, omega arith))
+      (λ t. omega (arith, same_budget (round n w) 3 c c' e)) (λ t. omega (arith, same_budget (round n w) 3 c c' e))
   count_move d m p L29 own c c' recent recent' pos e f keeps sharp bits h =
-      let b : budget n w c' ≡ budget n w c = same_budget (round n w) 3 c c' e in
-      let inside : IsOneOf w p.k = keeps.1 in
-      let first : p.j ≡ 1 = keeps.0 in
       either (CountMove n w (suc own) c' recent') (nat_lt p.k w) _ _
-      (λ t. (omega arith, omega arith, omega arith, omega arith)) (λ t.
-      let ge : w ≤ p.k = not_lt p.k w t in (omega arith, omega arith, omega arith, omega arith))
+      (λ t. omega (arith, same_budget (round n w) 3 c c' e))
+      (λ t. omega (arith, same_budget (round n w) 3 c c' e, not_lt p.k w t))
   count_move d m p L30 own c c' recent recent' pos e f keeps sharp bits h =
       let b : budget n w c' ≡ budget n w c + (7 * n + 8 * w + 6) = next_budget (round n w) 3 c c' e in
       let less : moves n p + 2 ≤ 2 * n = sharp refl in
-      either (CountMove n w (suc own) c' recent') (all_still n p) _ _ (λ t. (omega arith, omega arith))
+      either (CountMove n w (suc own) c' recent') (all_still n p) _ _ (λ t. omega arith)
       (λ t. (omega arith, omega arith, omega arith, omega arith, t))
   count_move d m p L31 own c c' recent recent' pos e f keeps sharp bits h =
-      let b : budget n w c' ≡ budget n w c = same_budget (round n w) 3 c c' e in
       let more : moves n p < moves n (counted_row n p) =
       after_count n p h.4 (bits refl) (counted_row n p) (λ k i. for_each_at n (counted p) p.moved k i) in
-      (omega arith, omega arith, omega arith)
+      omega (arith, same_budget (round n w) 3 c c' e)
   count_move d m p L32 own c c' recent recent' pos e f keeps sharp bits h =
       let b : budget n w c' ≡ budget n w c = same_budget (round n w) 3 c c' e in
       count_first n w (suc own) c' recent' d m p (third_move n p) (omega arith) (omega arith) (omega arith)
-  count_move d m p L33 own c c' recent recent' pos e f keeps sharp bits h =
-      let first : p.j ≡ 1 = keeps.0 in
-      let b : budget n w c' ≡ budget n w c = same_budget (round n w) 3 c c' e in
-      (omega arith, omega arith, omega arith, omega arith)
-  count_move d m p L34 own c c' recent recent' pos e f keeps sharp bits h =
-      let b : budget n w c' ≡ budget n w c = same_budget (round n w) 3 c c' e in
-      (omega arith, omega arith)
-  count_move Scanning m p L35 own c c' recent recent' pos e f keeps sharp bits h = tt
-  count_move (Embedded y z) m p L35 own c c' recent recent' pos e f keeps sharp bits h = tt
-  count_move (Updating y z) m p L35 own c c' recent recent' pos e f keeps sharp bits h = tt
-  count_move d m p L36 own c c' recent recent' pos e f keeps sharp bits h =
-      let b : budget n w c' ≡ budget n w c = same_budget (round n w) 3 c c' e in
-      (omega arith, omega arith)
-  count_move Scanning m p L37 own c c' recent recent' pos e f keeps sharp bits h = tt
-  count_move (Embedded y z) m p L37 own c c' recent recent' pos e f keeps sharp bits h = tt
-  count_move (Updating y z) m p L37 own c c' recent recent' pos e f keeps sharp bits h = tt
-  count_move d m p L50 own c c' recent recent' pos e f keeps sharp bits h = tt
-  count_move d m p L51 own c c' recent recent' pos e f keeps sharp bits h = tt
-  count_move d m p L52 own c c' recent recent' pos e f keeps sharp bits h = tt
   count_move d m p L53 own c c' recent recent' pos e f keeps sharp bits h =
       either (CountMove n w (suc own) c' recent') (nat_lt p.j n) _ _ (λ t. tt) (λ t. tt)
-  count_move Scanning m p L54 own c c' recent recent' pos e f keeps sharp bits h = tt
-  count_move (Embedded y z) m p L54 own c c' recent recent' pos e f keeps sharp bits h = tt
-  count_move (Updating y z) m p L54 own c c' recent recent' pos e f keeps sharp bits h = tt
-  count_move d m p L55 own c c' recent recent' pos e f keeps sharp bits h = tt
-  count_move d m p L56 own c c' recent recent' pos e f keeps sharp bits h = tt
-  count_move d m p L57 own c c' recent recent' pos e f keeps sharp bits h = tt
-  count_move d m p L58 own c c' recent recent' pos e f keeps sharp bits h = tt
-  count_move d m p k own c c' recent recent' pos e f keeps sharp bits h =
-      let b : budget n w c' ≡ budget n w c = same_budget (round n w) 3 c c' e in
-      (omega arith, omega arith, omega arith, omega arith)
+  count_move d m p k own c c' recent recent' pos e f keeps sharp bits h = omega (arith, same_budget (round n w) 3 c c' e)
 
 -- the bounds at each line of a scan
 pub collects_le : (n w : ℕ) (p : Variables) (k : ProgramCounter) (own c recent : ℕ) →
     0 < n → (k ≡ L30 → moves n p + 2 ≤ 2 * n) →
     Count n w p own c recent k → IsScanLine (in_update k) → c + tests k ≤ 2 * n - 1
-collects_le n w p L30 own c recent pos sharp h s = let less : moves n p + 2 ≤ 2 * n = sharp refl in omega arith
+collects_le n w p L30 own c recent pos sharp h s = omega (arith, sharp refl)
 collects_le n w p k own c recent pos sharp h s = omega arith
 
 own_all : (n w c own : ℕ) → c + 1 ≤ 2 * n → own ≤ budget n w c + (7 * n + 8 * w + 6) →
     own + 1 ≤ 14 * (n * n) + 16 * (n * w) + 19 * n + 8 * w + 10
 own_all n w c own le h =
-    let next : budget n w (c + 1) ≡ budget n w c + (7 * n + 8 * w + 6) = next_budget (round n w) 3 c (c + 1) refl in
-    let b : budget n w (c + 1) ≤ (2 * n) * (7 * n + 8 * w + 6) + 3 = budget_le (round n w) 3 (c + 1) (2 * n) le in
-    let e : (2 * n) * (7 * n + 8 * w + 6) ≡ 14 * (n * n) + 16 * (n * w) + 12 * n = grind arith in omega arith
+    let e : (2 * n) * (7 * n + 8 * w + 6) ≡ 14 * (n * n) + 16 * (n * w) + 12 * n = grind arith in
+    omega (arith, next_budget (round n w) 3 c (c + 1) refl, budget_le (round n w) 3 (c + 1) (2 * n) le)
 
 pub own_le : (n w : ℕ) (d : Mode) (p : Variables) (k : ProgramCounter) (own c recent : ℕ) →
     Keeps n w d p k → Count n w p own c recent k → IsScanLine (in_update k) →

@@ -1,6 +1,6 @@
 -- How control passes from line to line of M, and what the listing says of each line.
-use Rattle.std.proofs.Common.{◌≡◌, ℕ, ◌+◌, Bool, true, false, List, [], ◌∷◌, Option, Some, nat_lt, if◌then◌else◌}
-use Rattle.std.proofs.Common.{refl, ap, inl, inr, arith}
+use Rattle.std.proofs.Common.{◌≡◌, ℕ, ◌+◌, Bool, true, false, List, [], ◌∷◌, Option, if◌then◌else◌}
+use Rattle.std.proofs.Common.{refl, ap, inr, arith}
 use Rattle.snap_words.specs.Shape.{IsOneOf}
 use Rattle.snap_semantics.specs.Source.{instr_at}
 use Rattle.snap_runs.specs.Scan.{IsCallLine, ReturnsView}
@@ -20,9 +20,8 @@ use Rattle.snap_runs_of_m.specs.ListingM.{listing_m}
 use Rattle.snap_runs_of_m.proofs.Algorithm.{Registers, plain, written, Move, Variables, ProgramCounter, L10, L11, L12}
 use Rattle.snap_runs_of_m.proofs.Algorithm.{L13, L14, L15, L16, L17, L18, L19, L20, L21, L22, L23, L24, L25, L26, L27}
 use Rattle.snap_runs_of_m.proofs.Algorithm.{L28, L29, L30, L31, L32, L33, L34, L35, L36, L37, L50, L51, L52, L53, L54}
-use Rattle.snap_runs_of_m.proofs.Algorithm.{L55, L56, L57, L58, number, locals_of, same_at, all_still, third_move}
-use Rattle.snap_runs_of_m.proofs.Algorithm.{move, first_to, algorithm, in_update, IsUpdate, IsLineOf, IsLate, writes}
-use Rattle.snap_runs_of_m.proofs.Algorithm.{written_at, lines}
+use Rattle.snap_runs_of_m.proofs.Algorithm.{L55, L56, L57, L58, number, locals_of, third_move, move, first_to}
+use Rattle.snap_runs_of_m.proofs.Algorithm.{algorithm, in_update, IsUpdate, IsLineOf, IsLate, writes, written_at, lines}
 
 abbrev pub Flows : ℕ → ℕ → Mode → Registers → Variables → ProgramCounter → Move → Type 0
 Flows n w = flow.Flows lines (algorithm n w)

@@ -121,13 +121,14 @@ since_itself n w history t now = record {
   turned = λ c k h i. inl refl;
   twice = λ k h lt. absurd (omega arith);
   signed = λ c i h j. inl refl;
-  viewed =
-      λ c i h j lt. absurd (let le : (history t).puts c ≤ (history t).answers c i = now.puts_to c i h j in omega arith);
+  viewed = λ c i h j lt. absurd (omega (arith, now.puts_to c i h j));
 }
 
 -- one item more
-module _ (n w : ℕ) (history : ℕ → Registers) (t : ℕ) (m' : Registers) (is : history (suc t) ≡ m')
-    (acts : Acts n w history t (history t) m') where
+module _ (n w : ℕ) (history : ℕ → Registers) (t : ℕ) (acts : Acts n w history t (history t) (history (suc t))) where
+  abbrev m' : Registers
+  m' = history (suc t)
+
   word_next : (u k : ℕ) → IsOneOf w k → WordBefore (word_at (history u).words k) (word_at (history t).words k) →
       WordBefore (word_at (history u).words k) (word_at m'.words k)
   word_next u k h before =
@@ -141,8 +142,8 @@ module _ (n w : ℕ) (history : ℕ → Registers) (t : ℕ) (m' : Registers) (i
   answers_next : (c i : ℕ) → IsOneOf n c → IsOneOf n i → (history t).answers c i ≤ m'.answers c i
   answers_next c i h j =
       elim (acts.bits c i h j) [
-        | inl same ↦ (let e : (history t).answers c i ≡ m'.answers c i = same.1 in omega arith)
-        | inr r ↦ (let lt : (history t).answers c i < m'.answers c i = r.more in omega arith)
+        | inl same ↦ omega (arith, same.1)
+        | inr r ↦ omega (arith, r.more)
       ]
 
   newer_next : (u k : ℕ) → Since n w history u t → IsOneOf w k → IsOneOf n (id_at m' k) →
@@ -153,9 +154,7 @@ module _ (n w : ℕ) (history : ℕ → Registers) (t : ℕ) (m' : Registers) (i
         | inl same ↦ (let here : (history u).writes (id_at m' k) < (history t).writes (id_at m' k) =
             subst (λ (x : Word). (history u).writes x.id < (history t).writes x.id) (sym same)
             (old.newer k h (subst (λ (x : Word). seq_at (history u).words k < x.seq) same lt)) in omega arith)
-        | inr r ↦ (let first : (history u).writes (id_at m' k) ≤ (history t).writes (id_at m' k) =
-            old.writes (id_at m' k) one in
-            let last : (history t).writes (id_at m' k) < m'.writes (id_at m' k) = r.wrote in omega arith)
+        | inr r ↦ omega (arith, old.writes (id_at m' k) one, r.wrote)
       ]
 
   turned_next : (u c k : ℕ) → Since n w history u t → IsOneOf n c → IsOneOf w k →
@@ -187,7 +186,7 @@ module _ (n w : ℕ) (history : ℕ → Registers) (t : ℕ) (m' : Registers) (i
           | inl still ↦ absurd (r.turned (
               sym same_toggle ∙ now.toggle k h (subst (IsOneOf n) (sym same_id) one)
               ∙ ap (λ y. (history u).toggles y k) same_id ∙ still))
-          | inr more ↦ (let last : (history t).writes c < m'.writes c = r.wrote in omega arith)
+          | inr more ↦ omega (arith, r.wrote)
         ]
       ]
 
@@ -198,9 +197,9 @@ module _ (n w : ℕ) (history : ℕ → Registers) (t : ℕ) (m' : Registers) (i
       elim (acts.bits c i h j) [
         | inl same ↦ elim (old.signed c i h j) [
           | inl still ↦ inl (still ∙ same.0)
-          | inr lt ↦ inr (let e : (history t).answers c i ≡ m'.answers c i = same.1 in omega arith)
+          | inr lt ↦ inr (omega (arith, same.1))
         ]
-        | inr r ↦ inr (let lt : (history t).answers c i < m'.answers c i = r.more in omega arith)
+        | inr r ↦ inr (omega (arith, r.more))
       ]
 
   viewed_next : (u c i : ℕ) → u ≤ t → Since n w history u t → IsOneOf n c → IsOneOf n i →
@@ -221,71 +220,45 @@ module _ (n w : ℕ) (history : ℕ → Registers) (t : ℕ) (m' : Registers) (i
   answered_next old c i low value h j asks more =
       elim (acts.bits c i h j) [
         | inl same ↦
-            (λ e. old c i low value h j (λ u le. asks u (omega arith))
-            (let s : (history t).answers c i ≡ m'.answers c i = same.1 in omega arith) (same.0 ∙ e))
+            (λ e. old c i low value h j (λ u le. asks u (omega arith)) (omega (arith, same.1)) (same.0 ∙ e))
         | inr r ↦ (λ e.
-            let counts : m'.answers c i ≡ (history r.read).writes c + 1 = r.counts in
-            let earlier : r.read ≤ t = r.earlier in
-            let asked : bit (history r.read).q i c ≡ value = asks r.read (omega arith) (omega arith) in
+            let asked : bit (history r.read).q i c ≡ value =
+            asks r.read (omega (arith, r.earlier)) (omega (arith, r.counts)) in
             flip_other value (ap flip (sym asked) ∙ sym r.is ∙ e))
       ]
 
   since_next : (u : ℕ) → u ≤ t → Now n w (history u) → Now n w m' → Since n w history u t → Since n w history u (suc t)
   since_next u le now next old =
-      let P : Registers → Type 0 =
-      λ m. (k : ℕ) → IsOneOf w k → WordBefore (word_at (history u).words k) (word_at m.words k) in
-      let back : m' ≡ history (suc t) = sym is in
       let writer : (k : ℕ) → IsOneOf w k → seq_at (history u).words k < seq_at m'.words k → IsOneOf n (id_at m' k) =
       λ k h lt. next.named k h (omega arith) in
       record {
-        before = subst P back (λ k h. word_next u k h (old.before k h));
-        writes = subst (λ (m : Registers). (c : ℕ) → IsOneOf n c → (history u).writes c ≤ m.writes c) back
-            (λ c h. let a : (history u).writes c ≤ (history t).writes c =
-            old.writes c h in let b : (history t).writes c ≤ m'.writes c = acts.writes c h in omega arith);
-        answers =
-            subst
-            (λ (m : Registers). (c i : ℕ) → IsOneOf n c → IsOneOf n i → (history u).answers c i ≤ m.answers c i) back
-            (λ c i h j. let a : (history u).answers c i ≤ (history t).answers c i = old.answers c i h j in
-            let b : (history t).answers c i ≤ m'.answers c i = answers_next c i h j in
-            omega arith);
-        newer =
-            subst (λ (m : Registers). (k : ℕ) → IsOneOf w k → seq_at (history u).words k < seq_at m.words k →
-            (history u).writes (id_at m k) < m.writes (id_at m k)) back
-            (λ k h lt. newer_next u k old h (writer k h lt) lt);
-        turned =
-            subst (λ (m : Registers). (c k : ℕ) → IsOneOf n c → IsOneOf w k →
-            ((history u).toggles c k ≡ m.toggles c k) ⊎ ((history u).writes c < m.writes c)) back
-            (λ c k h i. turned_next u c k old h i);
-        twice =
-            subst (λ (m : Registers).
-            (k : ℕ) → IsOneOf w k → seq_at (history u).words k < seq_at m.words k → id_at (history u) k ≡ id_at m k →
-            toggle_at (history u) k ≡ toggle_at m k → (history u).writes (id_at m k) + 2 ≤ m.writes (id_at m k)) back
-            (λ k h lt e f. twice_next u k now old h (writer k h lt) lt e f);
-        signed =
-            subst (λ (m : Registers). (c i : ℕ) → IsOneOf n c → IsOneOf n i →
-            (bit (history u).p c i ≡ bit m.p c i) ⊎ ((history u).answers c i < m.answers c i)) back
-            (λ c i h j. signed_next u c i old h j);
-        viewed =
-            subst (λ (m : Registers). (c i : ℕ) → IsOneOf n c → IsOneOf n i → (history u).answers c i < m.puts c →
-            Held (words_of history) (suc t) u (view_at m.views c)) back
-            (λ c i h j lt. viewed_next u c i le old h j lt);
+        before = λ k h. word_next u k h (old.before k h);
+        writes = λ c h. omega (arith, old.writes c h, acts.writes c h);
+        answers = λ c i h j. omega (arith, old.answers c i h j, answers_next c i h j);
+        newer = λ k h lt. newer_next u k old h (writer k h lt) lt;
+        turned = λ c k h i. turned_next u c k old h i;
+        twice = λ k h lt e f. twice_next u k now old h (writer k h lt) lt e f;
+        signed = λ c i h j. signed_next u c i old h j;
+        viewed = λ c i h j lt. viewed_next u c i le old h j lt;
       }
 
-  pub laws_next : ((u : ℕ) → u ≤ t → Laws n w history u) → Now n w m' → Laws n w history (suc t)
-  laws_next laws next =
+  laws_after : ((u : ℕ) → u ≤ t → Laws n w history u) → Now n w m' → Laws n w history (suc t)
+  laws_after laws next =
       let old : Laws n w history t = laws t (omega arith) in
-      let here : Now n w (history (suc t)) = subst (Now n w) (sym is) next in
       record {
-        now = here;
+        now = next;
         since = λ u le. elim (eq-or-lt_of_le le) [
-          | inl same ↦ subst (λ y. Since n w history y (suc t)) (sym same) (since_itself n w history (suc t) here)
+          | inl same ↦ subst (λ y. Since n w history y (suc t)) (sym same) (since_itself n w history (suc t) next)
           | inr less ↦ since_next u (omega arith) (laws u (omega arith)).now next (old.since u (omega arith))
         ];
-        answered = subst (λ (m : Registers). (c i low value : ℕ) → IsOneOf n c → IsOneOf n i →
-            ((u : ℕ) → u ≤ suc t → low < (history u).writes c → bit (history u).q i c ≡ value) →
-            low + 2 ≤ m.answers c i → bit m.p c i ≢ value) (sym is)
-            (answered_next old.answered);
+        answered = answered_next old.answered;
       }
+
+pub laws_next : (n w : ℕ) (history : ℕ → Registers) (t : ℕ) (after : Registers) → history (suc t) ≡ after →
+    Acts n w history t (history t) after → ((u : ℕ) → u ≤ t → Laws n w history u) → Now n w after →
+    Laws n w history (suc t)
+laws_next n w history t after is acts laws next =
+    laws_after n w history t (subst (Acts n w history t (history t)) (sym is) acts) laws (subst (Now n w) (sym is) next)
 
 -- the laws up to one item more
 pub laws_up_to : (n w : ℕ) (history : ℕ → Registers) (t : ℕ) → ((u : ℕ) → u ≤ t → Laws n w history u) →

@@ -12,11 +12,10 @@ use Rattle.snap_runs.proofs.Flow as flow
 use Rattle.snap_runs.proofs.Frame as frame
 use Rattle.snap_runs.proofs.Flow.{IsInScan}
 use Rattle.snap_runs_of_m.proofs.Algorithm.{IsLate, lines, Registers, Control, Process, State, Move, Variables}
-use Rattle.snap_runs_of_m.proofs.Algorithm.{ProgramCounter, L10, L11, L12, L13, L14, L15, L16, L17, L18, L19, L20}
-use Rattle.snap_runs_of_m.proofs.Algorithm.{L21, L22, L23, L24, L25, L26, L27, L28, L29, L30, L31, L32, L33, L34, L35}
-use Rattle.snap_runs_of_m.proofs.Algorithm.{L36, L37, L50, L51, L52, L53, L54, L55, L56, L57, L58, place, bit, flip}
-use Rattle.snap_runs_of_m.proofs.Algorithm.{move, first_to, return_to, embed_to, same_at, all_still, third_move}
-use Rattle.snap_runs_of_m.proofs.Algorithm.{IsScan, IsUpdate, IsLineOf, algorithm}
+use Rattle.snap_runs_of_m.proofs.Algorithm.{ProgramCounter, L15, L16, L18, L20, L23, L26, L29, L30, L32, L33, L35, L36}
+use Rattle.snap_runs_of_m.proofs.Algorithm.{L37, L50, L51, L52, L53, L54, L55, L56, L57, L58, place, bit, flip, move}
+use Rattle.snap_runs_of_m.proofs.Algorithm.{first_to, return_to, embed_to, same_at, all_still, third_move, IsScan}
+use Rattle.snap_runs_of_m.proofs.Algorithm.{IsUpdate, IsLineOf, algorithm}
 use Rattle.snap_runs_of_m.proofs.Basics.{set_here, set_there}
 use Rattle.snap_runs_of_m.proofs.Control.{ControlWell, Long}
 use Rattle.snap_runs_of_m.proofs.History.{Since, Laws}
@@ -47,18 +46,16 @@ put_in L57 = 1
 put_in _ = 0
 
 abbrev pub put_at : Mode → ProgramCounter → ℕ
-put_at Scanning k = 0
-put_at (Embedded word arg) k = 0
 put_at (Updating word arg) k = put_in k
+put_at d k = 0
 
 abbrev pub turned_in : ℕ → ProgramCounter → ℕ → Bool
 turned_in word L57 y = nat_eq y word
 turned_in word _ y = false
 
 abbrev pub turned_at : Mode → ProgramCounter → ℕ → Bool
-turned_at Scanning k y = false
-turned_at (Embedded word arg) k y = false
 turned_at (Updating word arg) k y = turned_in word k y
+turned_at d k y = false
 
 abbrev pub IsMaking : Mode → ProgramCounter → Type 0
 IsMaking = flow.IsMaking lines
@@ -100,20 +97,12 @@ BooksMove n w me base m tog Finish = Rest n w me m tog
 pub books_scan : (n w me : ℕ) (base m : Registers) (d : Mode) (p p' : Variables) (k k' : ProgramCounter) →
     IsScan w d → p'.tog ≡ p.tog → Books n w me base m d p k → Books n w me base m d p' k'
 books_scan n w me base m Scanning p p' k k' s same h = record {
-  settled = (let old = h.settled in record {
-    answers_are = old.answers_are;
-    puts_are = old.puts_are;
-    toggles_are = λ y o. ap (λ r. place r y) same ∙ old.toggles_are y o;
-  });
+  settled = subst (λ tog. Settled n w me m tog (λ c. 0) (λ z. 0) (λ y. false)) (sym same) h.settled;
   made = h.made;
   self = h.self;
 }
 books_scan n w me base m (Embedded y z) p p' k k' s same h = record {
-  settled = (let old = h.settled in record {
-    answers_are = old.answers_are;
-    puts_are = old.puts_are;
-    toggles_are = λ y o. ap (λ r. place r y) same ∙ old.toggles_are y o;
-  });
+  settled = subst (λ tog. Settled n w me m tog (λ c. 1) (λ z. 0) (λ y. false)) (sym same) h.settled;
   made = h.made;
   self = h.self;
 }
@@ -127,16 +116,9 @@ books_first n w me base m m' d p (Some k) s h = books_scan n w me base m d p (re
 -- a scan returns
 books_return : (n w me : ℕ) (base m m' : Registers) (d : Mode) (p : Variables) (k : ProgramCounter) → IsScan w d →
     Books n w me base m d p k → BooksMove n w me base m p.tog (return_to d m' p)
-books_return n w me base m m' Scanning p k s h =
-    let old = h.settled in
-    record { answers_are = old.answers_are; puts_are = old.puts_are; toggles_are = old.toggles_are }
-books_return n w me base m m' (Embedded y z) p k s h = record {
-  settled =
-      (let old = h.settled in
-      record { answers_are = old.answers_are; puts_are = old.puts_are; toggles_are = old.toggles_are });
-  made = h.made;
-  self = λ inside. absurd inside;
-}
+books_return n w me base m m' Scanning p k s h = h.settled
+books_return n w me base m m' (Embedded y z) p k s h =
+    record { settled = h.settled; made = h.made; self = λ inside. absurd inside }
 books_return n w me base m m' (Updating y z) p k s h = absurd s
 
 -- a line of an update that makes nothing and has written as often as the one before
@@ -183,15 +165,13 @@ books_56 n w me word arg base m p one long h =
 
 books_embed : (n w me : ℕ) (base m m' : Registers) (d : Mode) (p : Variables) → IsUpdate w d →
     Books n w me base m d p L54 → BooksMove n w me base m p.tog (embed_to d m' p)
-books_embed n w me base m m' Scanning p s h = absurd s
-books_embed n w me base m m' (Embedded y z) p s h = absurd s
 books_embed n w me base m m' (Updating y z) p s h =
-    let old = h.settled in
     record {
-      settled = record { answers_are = old.answers_are; puts_are = old.puts_are; toggles_are = old.toggles_are };
-      made = λ making c o. (let e : m.answers me c ≡ m.writes me + 1 = old.answers_are c o in omega arith);
+      settled = h.settled;
+      made = λ making c o. omega (arith, h.settled.answers_are c o);
       self = λ inside. refl;
     }
+books_embed n w me base m m' d p s h = absurd s
 
 none_before : (c : ℕ) → 0 < c → nat_lt c 1 ≡ false
 none_before c pos = grind (arith, common_steps)
@@ -224,33 +204,26 @@ books_move n w me base m m' d p L30 s quiet long h =
 books_move n w me base m m' d p L32 s quiet long h = books_first n w me base m m' d p (third_move n p) s h
 books_move n w me base m m' d p L35 s quiet long h = books_return n w me base m m' d p L35 s h
 books_move n w me base m m' d p L37 s quiet long h = books_return n w me base m m' d p L37 s h
-books_move n w me base m m' Scanning p L50 s quiet long h = absurd s
-books_move n w me base m m' (Embedded y z) p L50 s quiet long h = absurd s
 books_move n w me base m m' (Updating y z) p L50 s quiet long h =
     books_update n w me y z base m p _ L50 L51 (λ c o. none_before c o.0) refl (λ v. refl) (λ l. l) refl h
-books_move n w me base m m' Scanning p L51 s quiet long h = absurd s
-books_move n w me base m m' (Embedded y z) p L51 s quiet long h = absurd s
 books_move n w me base m m' (Updating y z) p L51 s quiet long h =
     books_update n w me y z base m p _ L51 L52 (λ c o. refl) refl (λ v. refl) (λ l. l) refl h
 books_move n w me base m m' d p L52 s quiet long h = absurd quiet
-books_move n w me base m m' Scanning p L53 s quiet long h = absurd s
-books_move n w me base m m' (Embedded y z) p L53 s quiet long h = absurd s
 books_move n w me base m m' (Updating y z) p L53 s quiet long h =
     either (BooksMove n w me base m p.tog) (nat_lt p.j n) _ _
     (λ t. books_update n w me y z base m p _ L53 L51 (λ c o. refl) refl (λ v. refl) (λ l. l) refl h)
     (λ t. let ge : n ≤ p.j = not_lt p.j n t in books_update n w me y z base m p _ L53 L54
-    (λ c o. sym (lt_true c (p.j + 1) (let le : c ≤ n = o.1 in omega arith))) refl (λ v. refl) (λ l. l) refl h)
+    (λ c o. sym (lt_true c (p.j + 1) (omega (arith, o.1)))) refl (λ v. refl) (λ l. l) refl h)
 books_move n w me base m m' d p L54 s quiet long h = books_embed n w me base m m' d p s h
 books_move n w me base m m' d p L55 s quiet long h = absurd quiet
-books_move n w me base m m' Scanning p L56 s quiet long h = absurd s
-books_move n w me base m m' (Embedded y z) p L56 s quiet long h = absurd s
 books_move n w me base m m' (Updating y z) p L56 s quiet long h = books_56 n w me y z base m p s long h
 books_move n w me base m m' d p L57 s quiet long h = absurd quiet
-books_move n w me base m m' Scanning p L58 s quiet long h = absurd s
-books_move n w me base m m' (Embedded y z) p L58 s quiet long h = absurd s
-books_move n w me base m m' (Updating y z) p L58 s quiet long h =
-    let old = h.settled in
-    record { answers_are = λ c o. old.answers_are c o; puts_are = old.puts_are; toggles_are = old.toggles_are }
+books_move n w me base m m' (Updating y z) p L58 s quiet long h = h.settled
+books_move n w me base m m' d p L50 s quiet long h = absurd s
+books_move n w me base m m' d p L51 s quiet long h = absurd s
+books_move n w me base m m' d p L53 s quiet long h = absurd s
+books_move n w me base m m' d p L56 s quiet long h = absurd s
+books_move n w me base m m' d p L58 s quiet long h = absurd s
 books_move n w me base m m' d p k s quiet long h = books_scan n w me base m d p _ k _ s refl h
 
 -- the process's own registers and counters stay
@@ -283,11 +256,8 @@ pub books_kept : (n w me : ℕ) (base m m' : Registers) (d : Mode) (p : Variable
 books_kept n w me base m m' d p k one u h = record {
   settled = settled_kept n w me m m' p.tog _ _ _ u h.settled;
   made =
-      λ making c o. (let le : m.writes me + 1 ≤ base.answers me c =
-      h.made making c o in let e : m'.writes me ≡ m.writes me = u.writes in omega arith);
-  self = λ inside. (let e : events base me me ≡ events m me me = h.self inside in
-      let f : m'.writes me ≡ m.writes me =
-      u.writes in let g : m'.answers me me ≡ m.answers me me = u.answers me one in omega arith);
+      λ making c o. omega (arith, h.made making c o, u.writes);
+  self = λ inside. omega (arith, h.self inside, u.writes, u.answers me one);
 }
 
 books_at_kept : (n w me : ℕ) (base m m' : Registers) (p : Variables) (control : Control) → IsOneOf n me →
@@ -331,7 +301,7 @@ own_kept n w t history i q one s u h = record {
   well = h.well;
   long = h.long;
   opened = h.opened;
-  round_le = (let le : q.auxiliary.round ≤ t = h.round_le in omega arith);
+  round_le = omega (arith, h.round_le);
   stage =
       when_busy _ _ (λ d k. stage_kept n w i history t q.auxiliary.since q.auxiliary.round q.variables k one s
       (record { asks = u.asks; writes = u.writes })) q.control h.stage;

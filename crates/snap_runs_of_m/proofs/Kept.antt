@@ -1,7 +1,7 @@
 -- `frame` and `kept`: what `Frame` and `Kept` of snap_runs (proofs/ListingFrame.antt) ask of a listing, shown of M.
 -- The promises of M follow from it.
 use Rattle.std.specs.Prelude.{◌≡◌, ℕ, ◌+◌, ◌-◌, ◌*◌, ◌<◌, ◌≤◌, Bool, true, false, List, length, nat_lt, refl}
-use Rattle.std.proofs.Common.{sym, subst, arith, inl, inr}
+use Rattle.std.proofs.Common.{subst, arith}
 use Rattle.snap_runs.proofs.Common.{IsOneOf, Item}
 use Rattle.snap_runs.proofs.Algorithm.{Mode, Embedded, Updating, At, typed_at}
 use Rattle.snap_runs.proofs.Calm.{calm, calm_list}
@@ -13,8 +13,7 @@ use Rattle.snap_runs.proofs.UpdateSteps.{Ahead, Nearer, Resumes}
 use Rattle.snap_runs.proofs.ListingFrame as frames
 use Rattle.snap_runs_of_m.specs.Promises.{run_of}
 use Rattle.snap_runs_of_m.proofs.Algorithm.{Registers, Variables, ProgramCounter, L50, L51, L52, L53, L54, L55, L56}
-use Rattle.snap_runs_of_m.proofs.Algorithm.{L35, L37}
-use Rattle.snap_runs_of_m.proofs.Algorithm.{L57, L58, IsUpdate, IsLineOf, in_update, tests, move, lines, algorithm}
+use Rattle.snap_runs_of_m.proofs.Algorithm.{L35, L37, L57, L58, IsLineOf, in_update, tests, move, lines, algorithm}
 use Rattle.snap_runs_of_m.proofs.Count.{collects_le, own_le}
 use Rattle.snap_runs_of_m.proofs.Flows.{numbered, listed, once, writer}
 use Rattle.snap_runs_of_m.proofs.History.{words_of}

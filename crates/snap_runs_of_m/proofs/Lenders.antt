@@ -8,7 +8,7 @@ use Rattle.std.proofs.Math.Nat.{eq-or-lt_of_le}
 use Rattle.snap_runs.proofs.Common.{IsOneOf, Item, Step, Op, Scan, Update}
 use Rattle.snap_runs.specs.Scan.{FinishedScan}
 use Rattle.snap_runs.specs.Promises.{LentView}
-use Rattle.snap_runs.proofs.Algorithm.{Mode, Updating, At, when_busy, typed_at, item_at}
+use Rattle.snap_runs.proofs.Algorithm.{Mode, Updating, At, typed_at, item_at}
 use Rattle.snap_runs.proofs.EmbeddedScans as embedded
 use Rattle.snap_runs.proofs.Executing as executing
 use Rattle.snap_runs.proofs.Flow.{IsUpdateOf, update_of}

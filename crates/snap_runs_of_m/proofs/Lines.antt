@@ -14,19 +14,18 @@ use Rattle.snap_semantics.specs.Source.{Name, instr_at}
 use Rattle.snap_semantics.specs.State.{Locals, value_at}
 use Rattle.snap_semantics.specs.Value.{Context, at_place, term_value}
 use Rattle.snap_semantics.specs.Table.{Goes, Effect, effect_at, first_goes}
-use Rattle.snap_runs.proofs.Algorithm.{To, shown, Mode, Scanning, Embedded, Updating, op_of, link_of}
+use Rattle.snap_runs.proofs.Algorithm.{To, shown, Mode, Updating, op_of, link_of}
 use Rattle.snap_runs.proofs.Held.{word_at}
 use Rattle.snap_runs.proofs.Plain.{plain_at, plain_copied}
 use Rattle.snap_runs_of_m.specs.ListingM as names
 use Rattle.snap_runs_of_m.specs.ListingM.{listing_m}
 use Rattle.snap_runs_of_m.specs.Promises.{counts}
 use Rattle.snap_runs_of_m.proofs.Algorithm.{Words, Registers, plain, real, Variables, locals_of, context_of}
-use Rattle.snap_runs_of_m.proofs.Algorithm.{ProgramCounter, L10, L11, L12, L13, L14, L15, L16, L17, L18, L19, L20}
-use Rattle.snap_runs_of_m.proofs.Algorithm.{L21, L22, L23, L24, L25, L26, L27, L28, L29, L30, L31, L32, L33, L34, L35}
-use Rattle.snap_runs_of_m.proofs.Algorithm.{L36, L37, L50, L51, L52, L53, L54, L55, L56, L57, L58, number, move}
-use Rattle.snap_runs_of_m.proofs.Algorithm.{first_to, algorithm, Needs, IsLineOf, place, flip, same_words, same_at}
-use Rattle.snap_runs_of_m.proofs.Algorithm.{marked, counted, all_still, third_move, limit}
-use Rattle.snap_runs_of_m.proofs.Algorithm.{at_limit, borrows, back, written}
+use Rattle.snap_runs_of_m.proofs.Algorithm.{ProgramCounter, L10, L13, L14, L15, L16, L17, L18, L19, L20, L21, L22, L23}
+use Rattle.snap_runs_of_m.proofs.Algorithm.{L24, L25, L26, L27, L28, L29, L30, L31, L32, L34, L35, L36, L37, L51, L52}
+use Rattle.snap_runs_of_m.proofs.Algorithm.{L53, L54, L55, L56, L57, L58, number, move, first_to, algorithm, Needs}
+use Rattle.snap_runs_of_m.proofs.Algorithm.{IsLineOf, place, flip, same_words, same_at, marked, counted, all_still}
+use Rattle.snap_runs_of_m.proofs.Algorithm.{third_move, limit, at_limit, borrows, back, written}
 use Rattle.snap_runs_of_m.proofs.Basics.{flip_bit}
 
 abbrev pub act : Op → Option ℕ → ℕ → Activity
@@ -146,12 +145,8 @@ lines n w me d m p L32 s h =
     (each_ok _ (at_limit p) 1 n
     (λ c low high. bind_ok _ _ _ _ (row_term n w me d p c names.moved (in_range n w c low high)) refl))
     (first_shown n w d m p (third_move n p))
-lines n w me Scanning m p L35 s h = refl
-lines n w me (Embedded y z) m p L35 s h = refl
 lines n w me (Updating y z) m p L35 s h = absurd s
 lines n w me d m p L36 s h = bind_ok _ _ _ _ (place_ok n p.j h) refl
-lines n w me Scanning m p L37 s h = refl
-lines n w me (Embedded y z) m p L37 s h = refl
 lines n w me (Updating y z) m p L37 s h = absurd s
 lines n w me d m p L51 s h = bind_ok _ _ _ _ (place_ok n p.j h.0) (bind_ok _ _ _ _ (place_ok n me h.1) refl)
 lines n w me d m p L52 s h =
@@ -159,17 +154,13 @@ lines n w me d m p L52 s h =
     (bind_ok _ _ _ _ (if_true (nat_le (flip p.x) 1) (Ok (flip p.x)) (Err NotABit) (le_true (flip p.x) 1 (flip_bit p.x)))
     (owned_ok (nat_eq me me) (flip p.x) Owner _ (same_number me))))
 lines n w me d m p L53 s h = if_of (shown (algorithm n w) m) (nat_lt p.j n) _ _
-lines n w me Scanning m p L54 s h = absurd s
-lines n w me (Embedded y z) m p L54 s h = absurd s
 lines n w me (Updating y z) m p L54 s h = refl
+lines n w me d m p L54 s h = absurd s
 lines n w me d m p L55 s h = bind_ok _ _ _ _ (place_ok n me h) (owned_ok (nat_eq me me) p.s Owner _ (same_number me))
-lines n w me Scanning m p L56 s h = absurd s
-lines n w me (Embedded y z) m p L56 s h = absurd s
 lines n w me (Updating y z) m p L56 s h =
     bind_ok _ _ _ _ (place_ok (max n w) y (word_place n w y h))
     (bind_ok _ _ _ _ (bind_ok _ _ _ _ (bind_ok _ _ _ _ (place_ok (max n w) y (word_place n w y h)) refl) refl) refl)
-lines n w me Scanning m p L57 s h = absurd s
-lines n w me (Embedded y z) m p L57 s h = absurd s
+lines n w me d m p L56 s h = absurd s
 lines n w me (Updating y z) m p L57 s h =
     let word : Word = plain (written me (Updating y z) m p) in
     bind_ok _ _ _ _ (place_ok w y h.0)
@@ -178,7 +169,7 @@ lines n w me (Updating y z) m p L57 s h =
     (ap (λ b. b && true) (le_true (place p.tog y) 1 h.1)))
     (ap (λ (xs : Words). Ok (Goes (record { words = xs; q = m.q; p = m.p; views = m.views }) (locals_of p) None 58))
     (sym (map-set plain m.words (y - 1) (written me (Updating y z) m p))))))
-lines n w me Scanning m p L58 s h = absurd s
-lines n w me (Embedded y z) m p L58 s h = absurd s
+lines n w me d m p L57 s h = absurd s
 lines n w me (Updating y z) m p L58 s h = refl
+lines n w me d m p L58 s h = absurd s
 lines n w me d m p k s h = refl

@@ -1,7 +1,7 @@
 -- Each item of a run of M keeps the invariant.
 use Rattle.snap_runs.proofs.Flow.{scan_inside}
 use Rattle.snap_runs.proofs.Totals.{total_less}
-use Rattle.snap_runs.proofs.Computing.{either, lt_true, same_number, other_number}
+use Rattle.snap_runs.proofs.Computing.{either, whether, lt_true, same_number, other_number}
 use Rattle.std.proofs.Common.{◌≡◌, ◌≢◌, ℕ, suc, ◌+◌, ◌*◌, ◌<◌, ◌≤◌, Bool, true, false, length, Option, Some, None}
 use Rattle.std.proofs.Common.{nat_lt, if◌then◌else◌, refl, sym, ◌∙◌, ap, subst, arith, inl, inr}
 use Rattle.std.proofs.lemmas.Bool.{cases_eq}
@@ -10,25 +10,22 @@ use Rattle.snap_runs.proofs.Common.{IsOneOf, Op, Scan, Update, Reason, Item, Ste
 use Rattle.snap_runs.proofs.Common.{Answered, Finished, who}
 use Rattle.snap_words.specs.declared.kind.KindTag.TheVariants as kind
 use Rattle.snap_semantics.specs.Table.{call_skip}
-use Rattle.snap_runs.proofs.Algorithm.{Idle, At, To, Begin, Answer, Finish, New, by_move, by_step, by_admission}
+use Rattle.snap_runs.proofs.Algorithm.{Idle, At, To, Begin, Answer, Finish, by_move, by_step, by_admission}
 use Rattle.snap_runs.proofs.Algorithm.{by_call, memory_after, typed_at, changed, happens, stepped_auxiliary}
-use Rattle.snap_runs.proofs.Algorithm.{begun_auxiliary, called_auxiliary, Mode, Scanning, Embedded, Updating, op_of}
+use Rattle.snap_runs.proofs.Algorithm.{Mode, Scanning, Updating, op_of}
 use Rattle.snap_runs.proofs.Embedding as embed
 use Rattle.snap_runs.proofs.Flow as flow
-use Rattle.snap_runs.proofs.Held.{Held}
 use Rattle.snap_runs_of_m.specs.Promises.{counts}
-use Rattle.snap_runs_of_m.proofs.Algorithm.{counter, limit, lines, Registers, restarts, Process, Control, Move, State}
-use Rattle.snap_runs_of_m.proofs.Algorithm.{Variables, ProgramCounter, L10, L11, L12, L13, L14, L15, L16, L17, L18}
-use Rattle.snap_runs_of_m.proofs.Algorithm.{L19, L20, L21, L22, L23, L24, L25, L26, L27, L28, L29, L30, L31, L32, L33}
-use Rattle.snap_runs_of_m.proofs.Algorithm.{L34, L35, L36, L37, L50, L51, L52, L53, L54, L55, L56, L57, L58, place}
-use Rattle.snap_runs_of_m.proofs.Algorithm.{bit, flip, move, first_to, return_to, embed_to, same_at, all_still}
-use Rattle.snap_runs_of_m.proofs.Algorithm.{third_move, after_15, after_52, after_55, after_57, IsLineOf, IsScan}
-use Rattle.snap_runs_of_m.proofs.Algorithm.{tests, writes, algorithm}
+use Rattle.snap_runs_of_m.proofs.Algorithm.{lines, Registers, restarts, Process, Control, Move, State, Variables}
+use Rattle.snap_runs_of_m.proofs.Algorithm.{ProgramCounter, L15, L16, L18, L20, L23, L26, L29, L30, L31, L32, L35, L37}
+use Rattle.snap_runs_of_m.proofs.Algorithm.{L52, L53, L54, L55, L56, L57, L58, place, bit, flip, move, first_to}
+use Rattle.snap_runs_of_m.proofs.Algorithm.{same_at, all_still, third_move, after_15, after_52, after_55, after_57}
+use Rattle.snap_runs_of_m.proofs.Algorithm.{IsLineOf, IsScan, tests, writes, algorithm}
 use Rattle.snap_runs_of_m.proofs.Basics.{less_or_not}
 use Rattle.snap_runs_of_m.proofs.Control.{Keeps, BelowLimit, LongMove, long_move, MoveWell}
 use Rattle.snap_runs_of_m.proofs.Control.{ControlWell, Ground, move_well, called_well}
-use Rattle.snap_runs_of_m.proofs.Flows.{flows}
-use Rattle.snap_runs_of_m.proofs.History.{words_of, Now, Since, Laws, acts_nothing, laws_next, laws_up_to}
+use Rattle.snap_runs_of_m.proofs.Flows.{Flows, flows}
+use Rattle.snap_runs_of_m.proofs.History.{Now, Since, Laws, Acts, acts_nothing, laws_next, laws_up_to}
 use Rattle.snap_runs_of_m.proofs.Collect.{events}
 use Rattle.snap_runs_of_m.proofs.Stage.{Stage, StageMove, IsQuiet, Low, Row, events_le, stage_move, stage_15}
 use Rattle.snap_runs_of_m.proofs.Count.{Count, CountMove, count_move, moves}
@@ -43,40 +40,26 @@ use Rattle.snap_runs_of_m.proofs.Writes.{with_at_here, with_at_elsewhere}
 abbrev pub KeepsMemory : Registers → Move → Type 0
 KeepsMemory m v = memory_after m v ≡ m
 
-kept_return : (d : Mode) (m : Registers) (p : Variables) → KeepsMemory m (return_to d m p)
-kept_return Scanning m p = refl
-kept_return (Embedded word arg) m p = refl
-kept_return (Updating word arg) m p = refl
-
-kept_embed : (d : Mode) (m : Registers) (p : Variables) → KeepsMemory m (embed_to d m p)
-kept_embed Scanning m p = refl
-kept_embed (Embedded word arg) m p = refl
-kept_embed (Updating word arg) m p = refl
-
-kept_first : (d : Mode) (m : Registers) (p : Variables) (o : Option ℕ) → KeepsMemory m (first_to d m p o)
-kept_first d m p None = refl
-kept_first d m p (Some k) = refl
-
-module _ (n w me : ℕ) (d : Mode) (m : Registers) (p : Variables) where
+module _ (n w me : ℕ) (m : Registers) (p : Variables) where
   -- a quiet line keeps the registers
-  pub kept : (k : ProgramCounter) → IsQuiet k → KeepsMemory m (move n w me d m p k)
-  kept L15 q = absurd q
-  kept L16 q = either (KeepsMemory m) (nat_lt p.j n) _ _ (λ t. refl) (λ t. refl)
-  kept L18 q = either (KeepsMemory m) (nat_lt p.k w) _ _ (λ t. refl) (λ t. refl)
-  kept L20 q = either (KeepsMemory m) (nat_lt p.k w) _ _ (λ t. refl) (λ t. refl)
-  kept L23 q = either (KeepsMemory m) (nat_lt p.j n) _ _ (λ t. refl) (λ t. refl)
-  kept L26 q = either (KeepsMemory m) (same_at p.a p.b p.k) _ _ (λ t. refl) (λ t. refl)
-  kept L29 q = either (KeepsMemory m) (nat_lt p.k w) _ _ (λ t. refl) (λ t. refl)
-  kept L30 q = either (KeepsMemory m) (all_still n p) _ _ (λ t. refl) (λ t. refl)
-  kept L32 q = kept_first d m p (third_move n p)
-  kept L35 q = kept_return d m p
-  kept L37 q = kept_return d m p
-  kept L52 q = absurd q
-  kept L53 q = either (KeepsMemory m) (nat_lt p.j n) _ _ (λ t. refl) (λ t. refl)
-  kept L54 q = kept_embed d m p
-  kept L55 q = absurd q
-  kept L57 q = absurd q
-  kept k q = refl
+  pub kept : (d : Mode) (k : ProgramCounter) → IsQuiet k → KeepsMemory m (move n w me d m p k)
+  kept d L15 q = absurd q
+  kept Scanning L35 q = refl
+  kept Scanning L37 q = refl
+  kept Scanning L54 q = refl
+  kept d L16 q = either (KeepsMemory m) (nat_lt p.j n) _ _ (λ t. refl) (λ t. refl)
+  kept d L18 q = either (KeepsMemory m) (nat_lt p.k w) _ _ (λ t. refl) (λ t. refl)
+  kept d L20 q = either (KeepsMemory m) (nat_lt p.k w) _ _ (λ t. refl) (λ t. refl)
+  kept d L23 q = either (KeepsMemory m) (nat_lt p.j n) _ _ (λ t. refl) (λ t. refl)
+  kept d L26 q = either (KeepsMemory m) (same_at p.a p.b p.k) _ _ (λ t. refl) (λ t. refl)
+  kept d L29 q = either (KeepsMemory m) (nat_lt p.k w) _ _ (λ t. refl) (λ t. refl)
+  kept d L30 q = either (KeepsMemory m) (all_still n p) _ _ (λ t. refl) (λ t. refl)
+  kept d L32 q = whether (KeepsMemory m) (first_to d m p) (third_move n p) (λ e. refl) (λ c e. refl)
+  kept d L52 q = absurd q
+  kept d L53 q = either (KeepsMemory m) (nat_lt p.j n) _ _ (λ t. refl) (λ t. refl)
+  kept d L55 q = absurd q
+  kept d L57 q = absurd q
+  kept d k q = refl
 
 -- process i
 abbrev pub at : ℕ → ℕ → State → ℕ → Process
@@ -101,7 +84,7 @@ module _ (n w i : ℕ) (history : ℕ → Registers) (t since round : ℕ) where
       (let l : events (history since) i i + place p.moved i ≤ events (history round) i i = low i one in
       let le : events (history round) i i ≤ events (history t) i i = events_le n w i round t history s one i one in
       let z : place p.moved i ≡ 0 = omega arith in z)
-      (λ k e. let below : place p.moved k < limit = small k e in omega arith) in omega arith
+      (λ k e. omega (arith, small k e)) in omega arith
 
   pub sharp_at : (d : Mode) (p : Variables) (k : ProgramCounter) → IsOneOf n i → Since n w history round t →
       IsLineOf w d k → Keeps n w d p k → Books n w i (history since) (history t) d p k →
@@ -116,6 +99,29 @@ module _ (n w i : ℕ) (history : ℕ → Registers) (t since round : ℕ) where
   bits_at p k stage e =
       let at31 : Stage n w i history t since round p L31 = subst (Stage n w i history t since round p) e stage in
       let row : Row n w i history round t p.g p.h p.d p.a p.b (w + 1) = at31.2 in row.bits
+
+-- what holds of a process that stands at a line
+record Stands (n w t : ℕ) (history : ℕ → Registers) (i : ℕ) (q : Process) (d : Mode) (k : ProgramCounter) : Type 0 where
+  line : IsLineOf w d k
+  keeps : Keeps n w d q.variables k
+  stage : Stage n w i history t q.auxiliary.since q.auxiliary.round q.variables k
+  counts : Count n w q.variables q.auxiliary.own q.auxiliary.collects q.auxiliary.tested k
+  wrote : HasWritten (At d k) q.auxiliary.wrote
+  books : Books n w i (history q.auxiliary.since) (history t) d q.variables k
+
+stands : (n w t : ℕ) (history : ℕ → Registers) (i : ℕ) (q : Process) (d : Mode) (k : ProgramCounter) →
+    q.control ≡ At d k → ProcessInvariant n w t history i q → Stands n w t history i q d k
+stands n w t history i q d k is own =
+    let well : ControlWell n w q.variables (At d k) = subst (ControlWell n w q.variables) is own.well in
+    record {
+      line = well.0;
+      keeps = well.1;
+      stage = subst (StageAt n w i history t q.auxiliary.since q.auxiliary.round q.variables) is own.stage;
+      counts =
+          subst (CountAt n w q.variables q.auxiliary.own q.auxiliary.collects q.auxiliary.tested) is own.counts;
+      wrote = subst (λ (y : Control). HasWritten y q.auxiliary.wrote) is own.wrote;
+      books = subst (BooksAt n w i (history q.auxiliary.since) (history t) q.variables) is own.books;
+    }
 
 -- what the move v of process i at line k owes; t is the item's number
 record Owes (n w t : ℕ) (history : ℕ → Registers) (q : Process) (i : ℕ) (d : Mode)
@@ -151,11 +157,7 @@ module _ (n w t : ℕ) (history : ℕ → Registers) where
       Invariant n w (suc t) history (changed x i (by_move (algorithm n w) (suc t) x.memory (at n w x i) k v))
   quiet_put x i d k (To d' m' p k') count one laws same h own owes =
       let q = at n w x i in
-      put_inv n w t history x i m' (record {
-        control = At d' k';
-        variables = p;
-        auxiliary = stepped_auxiliary (algorithm n w) k (suc t) q.auxiliary;
-      }) Stepped count one laws
+      put_inv n w t history x i m' _ Stepped count one laws
       (λ j o other. untouched_same n w j (history t) (history (suc t)) same) h
       (record {
         well = (owes.well.0, owes.well.1);
@@ -169,11 +171,7 @@ module _ (n w t : ℕ) (history : ℕ → Registers) where
       })
   quiet_put x i d k (Begin d' p k') count one laws same h own owes =
       let q = at n w x i in
-      put_inv n w t history x i x.memory (record {
-        control = At d' k';
-        variables = p;
-        auxiliary = begun_auxiliary (algorithm n w) k (suc t) q.auxiliary;
-      }) Stepped count one laws
+      put_inv n w t history x i x.memory _ Stepped count one laws
       (λ j o other. untouched_same n w j (history t) (history (suc t)) same) h
       (record {
         well = (owes.well.0, owes.well.1);
@@ -187,20 +185,12 @@ module _ (n w t : ℕ) (history : ℕ → Registers) where
       })
   quiet_put x i d k (Answer v) count one laws same h own owes =
       let q = at n w x i in
-      put_inv n w t history x i x.memory (record {
-        control = Idle;
-        variables = q.variables;
-        auxiliary = stepped_auxiliary (algorithm n w) k (suc t) q.auxiliary;
-      }) (Answered v) count one laws
+      put_inv n w t history x i x.memory _ (Answered v) count one laws
       (λ j o other. untouched_same n w j (history t) (history (suc t)) same) h
       (idle_own n w (suc t) history i q k own owes.books)
   quiet_put x i d k Finish count one laws same h own owes =
       let q = at n w x i in
-      put_inv n w t history x i x.memory (record {
-        control = Idle;
-        variables = q.variables;
-        auxiliary = stepped_auxiliary (algorithm n w) k (suc t) q.auxiliary;
-      }) Finished count one laws
+      put_inv n w t history x i x.memory _ Finished count one laws
       (λ j o other. untouched_same n w j (history t) (history (suc t)) same) h
       (idle_own n w (suc t) history i q k own owes.books)
 
@@ -230,21 +220,17 @@ module _ (n w t : ℕ) (history : ℕ → Registers) (x : State) (i : ℕ) (d : 
       let p = q.variables in
       let m = x.memory in
       let stays : history (suc t) ≡ m =
-      next ∙ embed.move_memory (algorithm n w) (suc t) x i k (move n w i d m p k) ∙ kept n w i d m p k quiet in
+      next ∙ embed.move_memory (algorithm n w) (suc t) x i k (move n w i d m p k) ∙ kept n w i m p d k quiet in
       let same : history (suc t) ≡ history t = stays ∙ sym now in
       let laws : (u : ℕ) → u ≤ suc t → Laws n w history u = laws_same n w t history same h.laws in
       let here : Laws n w history (suc t) = laws (suc t) (omega arith) in
       let own : ProcessInvariant n w (suc t) history i q =
       own_kept n w t history i q one (here.since t (omega arith))
       (untouched_same n w i (history t) (history (suc t)) same) (h.each i one) in
-      let well : ControlWell n w p (At d k) = subst (ControlWell n w p) is own.well in
-      let stage : Stage n w i history (suc t) q.auxiliary.since q.auxiliary.round p k =
-      subst (StageAt n w i history (suc t) q.auxiliary.since q.auxiliary.round p) is own.stage in
-      let books : Books n w i (history q.auxiliary.since) (history (suc t)) d p k =
-      subst (BooksAt n w i (history q.auxiliary.since) (history (suc t)) p) is own.books in
+      let s = stands n w (suc t) history i q d k is own in
       quiet_put n w t history x i d k (move n w i d m p k) count one laws same h own
       (record {
-        well = move_well n w i d m p k (ground n w (suc t) history i m q one some here.now stays own) well.0 well.1;
+        well = move_well n w i d m p k (ground n w (suc t) history i m q one some here.now stays own) s.line s.keeps;
         long = long_move n w i d m p k own.long;
         stage = stage_move n w i history (suc t) q.auxiliary.since q.auxiliary.round m d p k
             (record {
@@ -255,45 +241,50 @@ module _ (n w t : ℕ) (history : ℕ → Registers) (x : State) (i : ℕ) (d : 
               opened = own.opened;
               round_le = own.round_le;
               long = own.long;
-              line = well.0;
-              keeps = well.1;
+              line = s.line;
+              keeps = s.keeps;
               quiet = quiet;
             })
-            stage;
+            s.stage;
         counts_are =
             count_move n w i d m p k q.auxiliary.own q.auxiliary.collects
             (q.auxiliary.collects + tests k) q.auxiliary.tested
-            (if restarts k then 0 else q.auxiliary.tested + tests k) (omega arith) refl refl well.1
+            (if restarts k then 0 else q.auxiliary.tested + tests k) (omega arith) refl refl s.keeps
             (sharp_at n w i history (suc t) q.auxiliary.since q.auxiliary.round d p k one
-            (here.since q.auxiliary.round own.round_le) well.0 well.1 books stage)
-            (bits_at n w i history (suc t) q.auxiliary.since q.auxiliary.round p k stage)
-            (subst (CountAt n w p q.auxiliary.own q.auxiliary.collects q.auxiliary.tested) is own.counts);
+            (here.since q.auxiliary.round own.round_le) s.line s.keeps s.books s.stage)
+            (bits_at n w i history (suc t) q.auxiliary.since q.auxiliary.round p k s.stage) s.counts;
         wrote =
             flow.counts_writes lines (algorithm n w) d m p k
-            (move n w i d m p k) q.auxiliary.wrote (flows n w i d m p k well.0)
-            (subst (λ (y : Control). HasWritten y q.auxiliary.wrote) is own.wrote);
-        books = books_move n w i (history q.auxiliary.since) (history (suc t)) m d p k well.0 quiet own.long books;
+            (move n w i d m p k) q.auxiliary.wrote (flows n w i d m p k s.line) s.wrote;
+        books = books_move n w i (history q.auxiliary.since) (history (suc t)) m d p k s.line quiet own.long s.books;
       })
 
-  -- a line that writes registers and goes on
-  written_put : (k' : ProgramCounter) (m' : Registers) → length x.processes ≡ n → IsOneOf n i → restarts k ≡ false →
-      ((u : ℕ) → u ≤ suc t → Laws n w history u) →
-      ((j : ℕ) → IsOneOf n j → j ≢ i → Untouched n w j (history t) (history (suc t))) → Invariant n w t history x →
-      IsLineOf w d k' → Keeps n w d (at n w x i).variables k' →
-      Stage n w i history (suc t) (at n w x i).auxiliary.since (at n w x i).auxiliary.round (at n w x i).variables k' →
-      Count n w (at n w x i).variables (suc (at n w x i).auxiliary.own) ((at n w x i).auxiliary.collects + tests k)
-      ((at n w x i).auxiliary.tested + tests k) k' → HasWritten (At d k') ((at n w x i).auxiliary.wrote + writes k) →
-      Books n w i (history (at n w x i).auxiliary.since) (history (suc t)) d (at n w x i).variables k' →
-      Invariant n w (suc t) history
-      (changed x i (New m' (record {
-        control = At d k';
-        variables = (at n w x i).variables;
-        auxiliary = stepped_auxiliary (algorithm n w) k (suc t) (at n w x i).auxiliary;
-      }) Stepped))
-  written_put k' m' count one again laws untouched h line keeps stage counts_are wrote books =
+module _ (n w t : ℕ) (history : ℕ → Registers) (x : State) (i : ℕ) (d : Mode) (k k' : ProgramCounter)
+    (after : Registers → Registers) where
+  -- what a line that writes registers and goes on owes, said of the registers before it
+  record Writes : Type 0 where
+    again : restarts k ≡ false
+    flow_is : Flows n w d x.memory (at n w x i).variables k (To d (after x.memory) (at n w x i).variables k')
+    acts : Acts n w history t (history t) (after (history t))
+    now : Now n w (after (history t))
+    untouched : (j : ℕ) → IsOneOf n j → j ≢ i → Untouched n w j (history t) (after (history t))
+    line : IsLineOf w d k'
+    keeps : Keeps n w d (at n w x i).variables k'
+    stage : Stage n w i history (suc t) (at n w x i).auxiliary.since (at n w x i).auxiliary.round
+        (at n w x i).variables k'
+    counts_are : Count n w (at n w x i).variables (suc (at n w x i).auxiliary.own)
+        ((at n w x i).auxiliary.collects + tests k) ((at n w x i).auxiliary.tested + tests k) k'
+    books : Books n w i (history (at n w x i).auxiliary.since) (after (history t)) d (at n w x i).variables k'
+
+  written_inv : length x.processes ≡ n → IsOneOf n i → history t ≡ x.memory → Invariant n w t history x →
+      (at n w x i).control ≡ At d k → history (suc t) ≡ after x.memory → Writes → Invariant n w (suc t) history
+      (changed x i (by_move (algorithm n w) (suc t) x.memory (at n w x i) k
+      (To d (after x.memory) (at n w x i).variables k')))
+  written_inv count one now h is next owes =
       let q = at n w x i in
-      let own : ProcessInvariant n w t history i q = h.each i one in
       let g = q.auxiliary in
+      let own : ProcessInvariant n w t history i q = h.each i one in
+      let back : after (history t) ≡ history (suc t) = ap after now ∙ sym next in
       let Good : ℕ → ℕ → Type 0 = λ round tested. ProcessInvariant n w (suc t) history i (record {
         control = At d k';
         variables = q.variables;
@@ -307,64 +298,61 @@ module _ (n w t : ℕ) (history : ℕ → Registers) (x : State) (i : ℕ) (d : 
           wrote = g.wrote + writes k;
         };
       }) in
-      put_inv n w t history x i m' _ Stepped count one laws untouched h
-      (subst (λ b. Good (if b then suc t else g.round) (if b then 0 else g.tested + tests k)) (sym again) (record {
-        well = (line, keeps);
+      put_inv n w t history x i (after x.memory) _ Stepped count one
+      (laws_up_to n w history t h.laws
+      (laws_next n w history t (after (history t)) (sym back) owes.acts h.laws owes.now))
+      (λ j o other. subst (Untouched n w j (history t)) back (owes.untouched j o other)) h
+      (subst (λ b. Good (if b then suc t else g.round) (if b then 0 else g.tested + tests k)) (sym owes.again) (record {
+        well = (owes.line, owes.keeps);
         long = own.long;
         opened = own.opened;
-        round_le = (let le : g.round ≤ t = own.round_le in omega arith);
-        stage = stage;
-        counts = counts_are;
-        wrote = wrote;
-        books = books;
+        round_le = omega (arith, own.round_le);
+        stage = owes.stage;
+        counts = owes.counts_are;
+        wrote = flow.counts_writes lines (algorithm n w) d x.memory q.variables k _ g.wrote owes.flow_is
+            (stands n w t history i q d k is own).wrote;
+        books = subst (λ m. Books n w i (history g.since) m d q.variables k') back owes.books;
       }))
 
 books_15 : (n w i : ℕ) (base m : Registers) (d : Mode) (p : Variables) → IsScan w d → Books n w i base m d p L15 →
     Books n w i base (after_15 i m p) d p L16
 books_15 n w i base m d p s h =
     let next = books_scan n w i base m d p p L15 L16 s refl h in
-    let old = next.settled in
     record {
-      settled = record { answers_are = old.answers_are; puts_are = old.puts_are; toggles_are = old.toggles_are };
+      settled = assumption;
       made = next.made;
       self = next.self;
     }
 
-line15_inv : (n w t : ℕ) (history : ℕ → Registers) (x : State) (i : ℕ) (d : Mode) → 0 < w →
+line15_inv : (n w t : ℕ) (history : ℕ → Registers) (x : State) (i : ℕ) (d : Mode) →
     length x.processes ≡ n → IsOneOf n i → history t ≡ x.memory → Invariant n w t history x →
     (at n w x i).control ≡ At d L15 → history (suc t) ≡ after_15 i x.memory (at n w x i).variables →
     Invariant n w (suc t) history (changed x i (by_step (algorithm n w) (suc t) x.memory i (at n w x i) (At d L15)))
-line15_inv n w t history x i d some count one now h is next =
+line15_inv n w t history x i d count one now h is next =
     let q = at n w x i in
     let p = q.variables in
-    let own : ProcessInvariant n w t history i q = h.each i one in
-    let well : ControlWell n w p (At d L15) = subst (ControlWell n w p) is own.well in
-    let inside : IsOneOf n p.j = well.1.0 in
-    let stage : Stage n w i history t q.auxiliary.since q.auxiliary.round p L15 =
-    subst (StageAt n w i history t q.auxiliary.since q.auxiliary.round p) is own.stage in
-    let books : Books n w i (history q.auxiliary.since) (history t) d p L15 =
-    subst (BooksAt n w i (history q.auxiliary.since) (history t) p) is own.books in
+    let s = stands n w t history i q d L15 is (h.each i one) in
+    let inside : IsOneOf n p.j = s.keeps.0 in
     let becomes : history (suc t) ≡ after_15 i (history t) p = next ∙ ap (λ m. after_15 i m p) (sym now) in
-    let back : after_15 i (history t) p ≡ history (suc t) = sym becomes in
     let old : Now n w (history t) = (h.laws t (omega arith)).now in
-    let laws =
-    laws_up_to n w history t h.laws (laws_next n w history t (after_15 i (history t) p) becomes
-    (acts_15 n w i history t (history t) p) h.laws (now_15 n w i (history t) p one old)) in
-    written_put n w t history x i d L15 L16 (after_15 i x.memory p) count one refl laws
-    (λ j o other. subst (Untouched n w j (history t)) back (untouched_15 n w i j (history t) p one o other)) h well.0
-    (inside, well.1.1, well.1.2)
-    (stage_15 n w i history t q.auxiliary.since q.auxiliary.round p inside
-    (λ c o other. ap (λ (m : Registers). bit m.q i c) becomes ∙ asks_there n w i c (history t) p one inside old o other)
-    (ap (λ (m : Registers). bit m.q i p.j) becomes ∙ asks_here n w i (history t) p one inside old) stage)
-    (count_move n w i d x.memory p L15 q.auxiliary.own q.auxiliary.collects
-    (q.auxiliary.collects + 0) q.auxiliary.tested (q.auxiliary.tested + 0) (omega arith) refl refl well.1
-    (λ e. absurd (cc)) (λ e. absurd (cc))
-    (subst (CountAt n w p q.auxiliary.own q.auxiliary.collects q.auxiliary.tested) is own.counts))
-    (flow.counts_writes lines (algorithm n w) d x.memory p L15 (move n w i d x.memory p L15) q.auxiliary.wrote
-    (flows n w i d x.memory p L15 well.0)
-    (subst (λ (y : Control). HasWritten y q.auxiliary.wrote) is own.wrote))
-    (subst (λ m. Books n w i (history q.auxiliary.since) m d p L16) back
-    (books_15 n w i (history q.auxiliary.since) (history t) d p well.0 books))
+    written_inv n w t history x i d L15 L16 (λ m. after_15 i m p) count one now h is next (record {
+      again = refl;
+      flow_is = flows n w i d x.memory p L15 s.line;
+      acts = acts_15 n w i history t (history t) p;
+      now = now_15 n w i (history t) p one old;
+      untouched = λ j o other. untouched_15 n w i j (history t) p one o other;
+      line = s.line;
+      keeps = (inside, s.keeps.1, s.keeps.2);
+      stage = stage_15 n w i history t q.auxiliary.since q.auxiliary.round p inside
+          (λ c o other.
+          ap (λ (m : Registers). bit m.q i c) becomes ∙ asks_there n w i c (history t) p one inside old o other)
+          (ap (λ (m : Registers). bit m.q i p.j) becomes ∙ asks_here n w i (history t) p one inside old) s.stage;
+      counts_are =
+          count_move n w i d x.memory p L15 q.auxiliary.own q.auxiliary.collects (q.auxiliary.collects + 0)
+          q.auxiliary.tested (q.auxiliary.tested + 0) (omega arith) refl refl s.keeps
+          (λ e. absurd (cc)) (λ e. absurd (cc)) s.counts;
+      books = books_15 n w i (history q.auxiliary.since) (history t) d p s.line s.books;
+    })
 
 -- line 52 answers one more process
 more_or_same : (c j : ℕ) → c ≢ j → nat_lt c (j + 1) ≡ nat_lt c j
@@ -411,36 +399,29 @@ module _ (n w i y z : ℕ) (base m : Registers) (p : Variables) where
         self = λ inside. absurd inside;
       }
 
-line52_inv : (n w t : ℕ) (history : ℕ → Registers) (x : State) (i y z : ℕ) → 0 < w → length x.processes ≡ n →
+line52_inv : (n w t : ℕ) (history : ℕ → Registers) (x : State) (i y z : ℕ) → length x.processes ≡ n →
     IsOneOf n i → history t ≡ x.memory → Invariant n w t history x → (at n w x i).control ≡ At (Updating y z) L52 →
     history (suc t) ≡ after_52 i x.memory (at n w x i).variables → Invariant n w (suc t) history
     (changed x i (by_step (algorithm n w) (suc t) x.memory i (at n w x i) (At (Updating y z) L52)))
-line52_inv n w t history x i y z some count one now h is next =
+line52_inv n w t history x i y z count one now h is next =
     let q = at n w x i in
     let p = q.variables in
-    let own : ProcessInvariant n w t history i q = h.each i one in
-    let well : ControlWell n w p (At (Updating y z) L52) = subst (ControlWell n w p) is own.well in
-    let inside : IsOneOf n p.j = well.1 in
-    let stage : Stage n w i history t q.auxiliary.since q.auxiliary.round p L52 =
-    subst (StageAt n w i history t q.auxiliary.since q.auxiliary.round p) is own.stage in
-    let books : Books n w i (history q.auxiliary.since) (history t) (Updating y z) p L52 =
-    subst (BooksAt n w i (history q.auxiliary.since) (history t) p) is own.books in
-    let becomes : history (suc t) ≡ after_52 i (history t) p = next ∙ ap (λ m. after_52 i m p) (sym now) in
-    let back : after_52 i (history t) p ≡ history (suc t) = sym becomes in
+    let s = stands n w t history i q (Updating y z) L52 is (h.each i one) in
     let old : Now n w (history t) = (h.laws t (omega arith)).now in
     let first : (history t).answers i p.j ≡ (history t).writes i =
-    not_yet n w i y z (history q.auxiliary.since) (history t) p inside books in
-    let laws = laws_up_to n w history t h.laws (laws_next n w history t (after_52 i (history t) p) becomes
-    (acts_52 n w i history t p one inside old stage first) h.laws
-    (now_52 n w i history t p one inside old stage first)) in
-    written_put n w t history x i (Updating y z) L52 L53 (after_52 i x.memory p) count one refl laws
-    (λ j o other. subst (Untouched n w j (history t)) back (untouched_52 n w i j (history t) p other)) h
-    well.0 well.1 tt tt
-    (flow.counts_writes lines (algorithm n w) (Updating y z) x.memory p L52
-    (move n w i (Updating y z) x.memory p L52) q.auxiliary.wrote (flows n w i (Updating y z) x.memory p L52 well.0)
-    (subst (λ (y : Control). HasWritten y q.auxiliary.wrote) is own.wrote))
-    (subst (λ m. Books n w i (history q.auxiliary.since) m (Updating y z) p L53) back
-    (books_52 n w i y z (history q.auxiliary.since) (history t) p inside books))
+    not_yet n w i y z (history q.auxiliary.since) (history t) p s.keeps s.books in
+    written_inv n w t history x i (Updating y z) L52 L53 (λ m. after_52 i m p) count one now h is next (record {
+      again = refl;
+      flow_is = flows n w i (Updating y z) x.memory p L52 s.line;
+      acts = acts_52 n w i history t p one s.keeps old s.stage first;
+      now = now_52 n w i history t p one s.keeps old s.stage first;
+      untouched = λ j o other. untouched_52 n w i j (history t) p other;
+      line = s.line;
+      keeps = s.keeps;
+      stage = tt;
+      counts_are = tt;
+      books = books_52 n w i y z (history q.auxiliary.since) (history t) p s.keeps s.books;
+    })
 
 -- line 55 puts the view
 books_55 : (n w i y z : ℕ) (base m : Registers) (p : Variables) → Books n w i base m (Updating y z) p L55 →
@@ -459,38 +440,32 @@ books_55 n w i y z base m p h =
       self = λ inside. absurd inside;
     }
 
-line55_inv : (n w t : ℕ) (history : ℕ → Registers) (x : State) (i y z : ℕ) → 0 < w → length x.processes ≡ n →
+line55_inv : (n w t : ℕ) (history : ℕ → Registers) (x : State) (i y z : ℕ) → length x.processes ≡ n →
     IsOneOf n i → history t ≡ x.memory → Invariant n w t history x → (at n w x i).control ≡ At (Updating y z) L55 →
     history (suc t) ≡ after_55 i x.memory (at n w x i).variables → Invariant n w (suc t) history
     (changed x i (by_step (algorithm n w) (suc t) x.memory i (at n w x i) (At (Updating y z) L55)))
-line55_inv n w t history x i y z some count one now h is next =
+line55_inv n w t history x i y z count one now h is next =
     let q = at n w x i in
     let p = q.variables in
     let own : ProcessInvariant n w t history i q = h.each i one in
-    let well : ControlWell n w p (At (Updating y z) L55) = subst (ControlWell n w p) is own.well in
-    let stage : Held (words_of history) t q.auxiliary.since p.s =
-    subst (StageAt n w i history t q.auxiliary.since q.auxiliary.round p) is own.stage in
-    let books : Books n w i (history q.auxiliary.since) (history t) (Updating y z) p L55 =
-    subst (BooksAt n w i (history q.auxiliary.since) (history t) p) is own.books in
-    let becomes : history (suc t) ≡ after_55 i (history t) p = next ∙ ap (λ m. after_55 i m p) (sym now) in
-    let back : after_55 i (history t) p ≡ history (suc t) = sym becomes in
-    let settled = books.settled in
-    let before : q.auxiliary.since ≤ t =
-    (let a : q.auxiliary.since ≤ q.auxiliary.round =
-    own.opened in let b : q.auxiliary.round ≤ t = own.round_le in omega arith) in
-    let puts : (history t).puts i ≡ (history t).writes i =
-    (let e : (history t).puts i ≡ (history t).writes i + 0 = settled.puts_are in omega arith) in
-    let laws = laws_up_to n w history t h.laws (laws_next n w history t (after_55 i (history t) p) becomes
-    (acts_55 n w i history t q.auxiliary.since p one h.laws stage settled.answers_are puts (books.made tt) before)
-    h.laws
-    (now_55 n w i history t q.auxiliary.since p one h.laws stage settled.answers_are puts (books.made tt) before)) in
-    written_put n w t history x i (Updating y z) L55 L56 (after_55 i x.memory p) count one refl laws
-    (λ j o other. subst (Untouched n w j (history t)) back (untouched_55 n w i j (history t) p other)) h well.0 tt tt tt
-    (flow.counts_writes lines (algorithm n w) (Updating y z) x.memory p L55
-    (move n w i (Updating y z) x.memory p L55) q.auxiliary.wrote (flows n w i (Updating y z) x.memory p L55 well.0)
-    (subst (λ (y : Control). HasWritten y q.auxiliary.wrote) is own.wrote))
-    (subst (λ m. Books n w i (history q.auxiliary.since) m (Updating y z) p L56) back
-    (books_55 n w i y z (history q.auxiliary.since) (history t) p books))
+    let s = stands n w t history i q (Updating y z) L55 is own in
+    let settled = s.books.settled in
+    let before : q.auxiliary.since ≤ t = omega (arith, own.opened, own.round_le) in
+    let puts : (history t).puts i ≡ (history t).writes i = omega (arith, settled.puts_are) in
+    written_inv n w t history x i (Updating y z) L55 L56 (λ m. after_55 i m p) count one now h is next (record {
+      again = refl;
+      flow_is = flows n w i (Updating y z) x.memory p L55 s.line;
+      acts = acts_55 n w i history t q.auxiliary.since p one h.laws s.stage settled.answers_are puts
+          (s.books.made tt) before;
+      now = now_55 n w i history t q.auxiliary.since p one h.laws s.stage settled.answers_are puts
+          (s.books.made tt) before;
+      untouched = λ j o other. untouched_55 n w i j (history t) p other;
+      line = s.line;
+      keeps = tt;
+      stage = tt;
+      counts_are = tt;
+      books = books_55 n w i y z (history q.auxiliary.since) (history t) p s.books;
+    })
 
 -- line 57 writes the word
 books_57 : (n w i y z : ℕ) (base m : Registers) (p : Variables) → Books n w i base m (Updating y z) p L57 →
@@ -501,8 +476,8 @@ books_57 n w i y z base m p h =
     let more : m'.writes i ≡ m.writes i + 1 = raised_here m.writes i in
     record {
       settled = record {
-        answers_are = λ c o. (let e : m.answers i c ≡ m.writes i + 1 = old.answers_are c o in omega arith);
-        puts_are = (let e : m.puts i ≡ m.writes i + 1 = old.puts_are in omega arith);
+        answers_are = λ c o. omega (arith, old.answers_are c o);
+        puts_are = omega (arith, old.puts_are);
         toggles_are = λ v o. elim (cases_eq v y) [
           | inl same ↦
               subst (λ u. place p.tog u ≡ m'.toggles i u) (sym same) (sym (with_at_here m.toggles i y (place p.tog y)))
@@ -516,57 +491,48 @@ books_57 n w i y z base m p h =
     }
 
 module _ (n w t : ℕ) (history : ℕ → Registers) (x : State) where
-  line57_inv : (i y z : ℕ) → 0 < w → length x.processes ≡ n → IsOneOf n i → history t ≡ x.memory →
+  line57_inv : (i y z : ℕ) → length x.processes ≡ n → IsOneOf n i → history t ≡ x.memory →
       Invariant n w t history x → (at n w x i).control ≡ At (Updating y z) L57 →
       history (suc t) ≡ after_57 i (Updating y z) x.memory (at n w x i).variables →
       Invariant n w (suc t) history
       (changed x i (by_step (algorithm n w) (suc t) x.memory i (at n w x i) (At (Updating y z) L57)))
-  line57_inv i y z some count one now h is next =
+  line57_inv i y z count one now h is next =
       let q = at n w x i in
       let p = q.variables in
-      let own : ProcessInvariant n w t history i q = h.each i one in
-      let well : ControlWell n w p (At (Updating y z) L57) = subst (ControlWell n w p) is own.well in
-      let there : IsOneOf w y = well.0 in
-      let books : Books n w i (history q.auxiliary.since) (history t) (Updating y z) p L57 =
-      subst (BooksAt n w i (history q.auxiliary.since) (history t) p) is own.books in
-      let becomes : history (suc t) ≡ after_57 i (Updating y z) (history t) p =
-      next ∙ ap (λ m. after_57 i (Updating y z) m p) (sym now) in
-      let back : after_57 i (Updating y z) (history t) p ≡ history (suc t) = sym becomes in
-      let settled = books.settled in
+      let s = stands n w t history i q (Updating y z) L57 is (h.each i one) in
+      let settled = s.books.settled in
       let old : Now n w (history t) = (h.laws t (omega arith)).now in
       let turned : place p.tog y ≡ flip ((history t).toggles i y) =
-      settled.toggles_are y there
+      settled.toggles_are y s.line
       ∙ ap (λ b. if b then flip ((history t).toggles i y) else (history t).toggles i y) (same_number y) in
-      let laws =
-      laws_up_to n w history t h.laws (laws_next n w history t (after_57 i (Updating y z) (history t) p) becomes
-      (acts_57 n w i y z history t p one there old settled.answers_are settled.puts_are turned) h.laws
-      (now_57 n w i y z history t p one there old settled.answers_are settled.puts_are turned)) in
-      written_put n w t history x i (Updating y z) L57 L58 (after_57 i (Updating y z) x.memory p) count one refl laws
-      (λ j o other. subst (Untouched n w j (history t)) back (untouched_57 n w i j (Updating y z) (history t) p other)) h
-      well.0 tt tt tt
-      (flow.counts_writes lines (algorithm n w) (Updating y z) x.memory p L57
-      (move n w i (Updating y z) x.memory p L57) q.auxiliary.wrote (flows n w i (Updating y z) x.memory p L57 well.0)
-      (subst (λ (y : Control). HasWritten y q.auxiliary.wrote) is own.wrote))
-      (subst (λ m. Books n w i (history q.auxiliary.since) m (Updating y z) p L58) back
-      (books_57 n w i y z (history q.auxiliary.since) (history t) p books))
+      written_inv n w t history x i (Updating y z) L57 L58 (λ m. after_57 i (Updating y z) m p) count one now h is next
+      (record {
+        again = refl;
+        flow_is = flows n w i (Updating y z) x.memory p L57 s.line;
+        acts = acts_57 n w i y z history t p one s.line old settled.answers_are settled.puts_are turned;
+        now = now_57 n w i y z history t p one s.line old settled.answers_are settled.puts_are turned;
+        untouched = λ j o other. untouched_57 n w i j (Updating y z) (history t) p other;
+        line = s.line;
+        keeps = tt;
+        stage = tt;
+        counts_are = tt;
+        books = books_57 n w i y z (history q.auxiliary.since) (history t) p s.books;
+      })
 
   -- each line
   line_inv : (i : ℕ) (d : Mode) (k : ProgramCounter) → IsLineOf w d k → 0 < w → length x.processes ≡ n → IsOneOf n i →
       history t ≡ x.memory → Invariant n w t history x → (at n w x i).control ≡ At d k →
       history (suc t) ≡ (changed x i (by_step (algorithm n w) (suc t) x.memory i (at n w x i) (At d k))).memory →
       Invariant n w (suc t) history (changed x i (by_step (algorithm n w) (suc t) x.memory i (at n w x i) (At d k)))
-  line_inv i d L15 s some count one now h is next = line15_inv n w t history x i d some count one now h is next
-  line_inv i Scanning L52 s some count one now h is next = absurd s
-  line_inv i (Embedded y z) L52 s some count one now h is next = absurd s
+  line_inv i d L15 s some count one now h is next = line15_inv n w t history x i d count one now h is next
   line_inv i (Updating y z) L52 s some count one now h is next =
-      line52_inv n w t history x i y z some count one now h is next
-  line_inv i Scanning L55 s some count one now h is next = absurd s
-  line_inv i (Embedded y z) L55 s some count one now h is next = absurd s
+      line52_inv n w t history x i y z count one now h is next
   line_inv i (Updating y z) L55 s some count one now h is next =
-      line55_inv n w t history x i y z some count one now h is next
-  line_inv i Scanning L57 s some count one now h is next = absurd s
-  line_inv i (Embedded y z) L57 s some count one now h is next = absurd s
-  line_inv i (Updating y z) L57 s some count one now h is next = line57_inv i y z some count one now h is next
+      line55_inv n w t history x i y z count one now h is next
+  line_inv i (Updating y z) L57 s some count one now h is next = line57_inv i y z count one now h is next
+  line_inv i d L52 s some count one now h is next = absurd s
+  line_inv i d L55 s some count one now h is next = absurd s
+  line_inv i d L57 s some count one now h is next = absurd s
   line_inv i d k s some count one now h is next = quiet_inv n w t history x i d k tt some count one now h is next
 
   step_inv : (i : ℕ) (control : Control) → 0 < w → length x.processes ≡ n → IsOneOf n i → history t ≡ x.memory →
@@ -596,11 +562,7 @@ module _ (n w t : ℕ) (history : ℕ → Registers) (x : State) where
       (untouched_same n w i (history t) (history (suc t)) same) (h.each i one) in
       let rest : Rest n w i (history (suc t)) q.variables.tog =
       subst (BooksAt n w i (history q.auxiliary.since) (history (suc t)) q.variables) is own.books in
-      put_inv n w t history x i x.memory (record {
-        control = At Scanning L10;
-        variables = q.variables;
-        auxiliary = called_auxiliary (suc t) Scan q.auxiliary;
-      }) Called count one laws
+      put_inv n w t history x i x.memory _ Called count one laws
       (λ j o other. untouched_same n w j (history t) (history (suc t)) same) h
       (record {
         well = called_well n w i q.variables Scan e;
@@ -611,7 +573,7 @@ module _ (n w t : ℕ) (history : ℕ → Registers) (x : State) where
         counts = (refl, refl, refl);
         wrote = tt;
         books = record {
-          settled = record { answers_are = rest.answers_are; puts_are = rest.puts_are; toggles_are = rest.toggles_are };
+          settled = rest;
           made = λ making. absurd making;
           self = λ inside. refl;
         };
@@ -623,11 +585,7 @@ module _ (n w t : ℕ) (history : ℕ → Registers) (x : State) where
       (untouched_same n w i (history t) (history (suc t)) same) (h.each i one) in
       let rest : Rest n w i (history (suc t)) q.variables.tog =
       subst (BooksAt n w i (history q.auxiliary.since) (history (suc t)) q.variables) is own.books in
-      put_inv n w t history x i x.memory (record {
-        control = At (Updating word value) (counter (Update word value));
-        variables = q.variables;
-        auxiliary = called_auxiliary (suc t) (Update word value) q.auxiliary;
-      }) Called count one laws
+      put_inv n w t history x i x.memory _ Called count one laws
       (λ j o other. untouched_same n w j (history t) (history (suc t)) same) h
       (record {
         well = called_well n w i q.variables (Update word value) e;
@@ -638,7 +596,7 @@ module _ (n w t : ℕ) (history : ℕ → Registers) (x : State) where
         counts = tt;
         wrote = refl;
         books = record {
-          settled = record { answers_are = rest.answers_are; puts_are = rest.puts_are; toggles_are = rest.toggles_are };
+          settled = rest;
           made = λ making. absurd making;
           self = λ inside. absurd inside;
         };

@@ -6,7 +6,7 @@ use Rattle.snap_runs.proofs.Common.{IsOneOf, Word, no_word, Item}
 use Rattle.snap_runs.proofs.Algorithm.{Mode, Idle, At, when_busy, first_process}
 use Rattle.snap_runs.proofs.Algorithm.{first_state, typed_at, item_at, typed_state}
 use Rattle.snap_runs.proofs.Embedding as embed
-use Rattle.snap_runs.proofs.Held.{word_at, seq_at}
+use Rattle.snap_runs.proofs.Held.{word_at}
 use Rattle.snap_runs.proofs.Scans as scans
 use Rattle.snap_runs_of_m.specs.Promises.{run_of}
 use Rattle.snap_runs_of_m.proofs.Algorithm.{lines, Registers, Process, first_word, first_memory, Control, State}
@@ -50,12 +50,10 @@ now0 n w = record {
   square_p = first_square n;
   views = length-replicate n (replicate w 0);
   named =
-      λ k h pos. absurd (let e : seq_at (replicate w first_word) k ≡ 0 =
-      ap (λ (x : Word). x.seq) (first_word_at w k h) in omega arith);
+      λ k h pos. absurd (omega (arith, ap (λ (x : Word). x.seq) (first_word_at w k h)));
   toggle =
-      λ k h named. absurd (let e : (word_at (replicate w first_word) k).id ≡ 0 =
-      ap (λ (x : Word). x.id) (first_word_at w k h) in omega arith);
-  bits = λ c i h j. (let e : bit (replicate n (replicate n 0)) c i ≡ 0 = first_bit n c i h j in omega arith);
+      λ k h named. absurd (omega (arith, ap (λ (x : Word). x.id) (first_word_at w k h)));
+  bits = λ c i h j. omega (arith, first_bit n c i h j);
   answers_from = λ c i h j. omega arith;
   answers_to = λ c i h j. omega arith;
   puts_from = λ c h. omega arith;

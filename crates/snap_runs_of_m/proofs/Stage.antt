@@ -1,26 +1,25 @@
 -- How far a scan of M has come at each line, and that each line takes it on.
 use Rattle.snap_runs.proofs.Places.{for_each_at, first_found, all_pass}
 use Rattle.snap_runs.proofs.Computing.{either, other_number, same_from, not_lt}
-use Rattle.std.specs.Prelude.{◌≡◌, ◌≢◌, ℕ, suc, ◌+◌, ◌-◌, ◌<◌, ◌≤◌, max, Bool, true, false, not, List, take, length}
+use Rattle.std.specs.Prelude.{◌≡◌, ◌≢◌, ℕ, suc, ◌+◌, ◌-◌, ◌<◌, ◌≤◌, Bool, true, false, not, List, take, length}
 use Rattle.std.specs.Prelude.{map, Option, Some, None, nat_eq, nat_lt, if◌then◌else◌, slice_set, refl}
 use Rattle.std.proofs.Common.{sym, ◌∙◌, ap, subst, arith, inl, inr}
 use Rattle.std.proofs.lemmas.Bool.{cases_eq}
 use Rattle.snap_runs.proofs.Common.{IsOneOf, Word}
-use Rattle.snap_runs.proofs.Algorithm.{To, Begin, Answer, Finish, Mode, Scanning, Embedded, Updating}
+use Rattle.snap_runs.proofs.Algorithm.{To, Begin, Answer, Finish, Mode, Updating}
 use Rattle.snap_runs.proofs.Held.{word_at, Held, held_wider}
 use Rattle.snap_runs.proofs.Plain.{plain_taken}
-use Rattle.snap_runs_of_m.proofs.Algorithm.{Words, Registers, Move, Variables, ProgramCounter, L10, L11, L12, L13}
-use Rattle.snap_runs_of_m.proofs.Algorithm.{L14, L15, L16, L17, L18, L19, L20, L21, L22, L23, L24, L25, L26, L27, L28}
-use Rattle.snap_runs_of_m.proofs.Algorithm.{L29, L30, L31, L32, L33, L34, L35, L36, L37, L50, L51, L52, L53, L54, L55}
-use Rattle.snap_runs_of_m.proofs.Algorithm.{L56, L57, L58, plain, place, bit, view_at, move, first_to, same_at}
-use Rattle.snap_runs_of_m.proofs.Algorithm.{marked, counted, all_still, third_move, limit}
-use Rattle.snap_runs_of_m.proofs.Algorithm.{at_limit, restarts, IsLineOf}
+use Rattle.snap_runs_of_m.proofs.Algorithm.{Words, Registers, Move, Variables, ProgramCounter, L10, L11, L12, L13, L14}
+use Rattle.snap_runs_of_m.proofs.Algorithm.{L15, L16, L17, L18, L19, L20, L21, L22, L23, L24, L25, L26, L27, L28, L29}
+use Rattle.snap_runs_of_m.proofs.Algorithm.{L30, L31, L32, L33, L34, L35, L36, L37, L50, L51, L52, L53, L54, L55, L56}
+use Rattle.snap_runs_of_m.proofs.Algorithm.{L57, L58, plain, place, bit, view_at, move, first_to, same_at, marked}
+use Rattle.snap_runs_of_m.proofs.Algorithm.{counted, all_still, third_move, limit, at_limit, restarts, IsLineOf}
 use Rattle.snap_runs_of_m.proofs.Basics.{other_from, set_here, set_there}
 use Rattle.snap_runs_of_m.proofs.Control.{Keeps, Long}
 use Rattle.snap_runs_of_m.proofs.History.{words_of, Since, Laws}
 use Rattle.snap_runs_of_m.proofs.Collect.{events, ReadBit, Collected, collected_starts, collected_as, collected_kept}
 use Rattle.snap_runs_of_m.proofs.Collect.{ended_kept, asked_row, asked_more, first_more, second_more, late_more}
-use Rattle.snap_runs_of_m.proofs.Collect.{seen_by_words, seen_by_bits, passed, borrowed_put, borrowed}
+use Rattle.snap_runs_of_m.proofs.Collect.{seen_by_words, seen_by_bits, passed, borrowed_put, borrowed, read_until}
 
 -- The moves that the scan has seen are events since its start: up to its last double collect's start, and up to now.
 abbrev pub Low : ℕ → ℕ → (ℕ → Registers) → ℕ → ℕ → List ℕ → Type 0
@@ -63,49 +62,40 @@ module _ (n w me : ℕ) (history : ℕ → Registers) (round t : ℕ) (p : Varia
   Marks k = Row n w me history round t p.g p.h p.d p.a p.b k
 
 module _ (n w me : ℕ) (history : ℕ → Registers) (t since round : ℕ) where
+  -- the moves that the scan had seen before its double collect, and how far that has come, up to all of it
+  abbrev pub Before : Variables → Type 0
+  Before p = Low n me history since round p.moved
+
+  abbrev pub Comes : Variables → ℕ → ℕ → ℕ → ℕ → Type 0
+  Comes p = Gathered n w me history round t p
+
+  abbrev pub Full : Variables → Type 0
+  Full p = Comes p (n + 1) (w + 1) (w + 1) (n + 1)
+
   abbrev pub Stage : Variables → ProgramCounter → Type 0
-  Stage p L11 = Low n me history since round p.moved
-  Stage p L12 = Low n me history since round p.moved
-  Stage p L13 = Low n me history since round p.moved × Gathered n w me history round t p p.j 1 1 1
-  Stage p L14 =
-      Low n me history since round p.moved × Gathered n w me history round t p p.j 1 1 1
-      × ReadBit history round t me p.j p.x
-  Stage p L15 =
-      Low n me history since round p.moved × Gathered n w me history round t p p.j 1 1 1
-      × ReadBit history round t me p.j p.x × (place p.g p.j ≡ p.x)
-  Stage p L16 = Low n me history since round p.moved × Gathered n w me history round t p (p.j + 1) 1 1 1
-  Stage p L17 = Low n me history since round p.moved × Gathered n w me history round t p (n + 1) p.k 1 1
-  Stage p L18 = Low n me history since round p.moved × Gathered n w me history round t p (n + 1) (p.k + 1) 1 1
-  Stage p L19 = Low n me history since round p.moved × Gathered n w me history round t p (n + 1) (w + 1) p.k 1
-  Stage p L20 = Low n me history since round p.moved × Gathered n w me history round t p (n + 1) (w + 1) (p.k + 1) 1
-  Stage p L21 = Low n me history since round p.moved × Gathered n w me history round t p (n + 1) (w + 1) (w + 1) p.j
-  Stage p L22 =
-      Low n me history since round p.moved × (x : Gathered n w me history round t p (n + 1) (w + 1) (w + 1) p.j)
-      × ReadBit history x.ended t me p.j p.x
-  Stage p L23 =
-      Low n me history since round p.moved × Gathered n w me history round t p (n + 1) (w + 1) (w + 1) (p.j + 1)
-  Stage p L24 = Low n me history since round p.moved × Gathered n w me history round t p (n + 1) (w + 1) (w + 1) (n + 1)
-  Stage p L25 =
-      Low n me history since round p.moved × Gathered n w me history round t p (n + 1) (w + 1) (w + 1) (n + 1)
-      × ((c : ℕ) → IsOneOf n c → place p.d c ≡ 0)
-  Stage p L26 =
-      Low n me history since round p.moved × Gathered n w me history round t p (n + 1) (w + 1) (w + 1) (n + 1)
-      × Marks n w me history round t p p.k
-  Stage p L27 =
-      Low n me history since round p.moved × Gathered n w me history round t p (n + 1) (w + 1) (w + 1) (n + 1)
-      × Marks n w me history round t p p.k × (same_at p.a p.b p.k ≡ false)
+  Stage p L11 = Before p
+  Stage p L12 = Before p
+  Stage p L13 = Before p × Comes p p.j 1 1 1
+  Stage p L14 = Before p × Comes p p.j 1 1 1 × ReadBit history round t me p.j p.x
+  Stage p L15 = Before p × Comes p p.j 1 1 1 × ReadBit history round t me p.j p.x × (place p.g p.j ≡ p.x)
+  Stage p L16 = Before p × Comes p (p.j + 1) 1 1 1
+  Stage p L17 = Before p × Comes p (n + 1) p.k 1 1
+  Stage p L18 = Before p × Comes p (n + 1) (p.k + 1) 1 1
+  Stage p L19 = Before p × Comes p (n + 1) (w + 1) p.k 1
+  Stage p L20 = Before p × Comes p (n + 1) (w + 1) (p.k + 1) 1
+  Stage p L21 = Before p × Comes p (n + 1) (w + 1) (w + 1) p.j
+  Stage p L22 = Before p × (x : Comes p (n + 1) (w + 1) (w + 1) p.j) × ReadBit history x.ended t me p.j p.x
+  Stage p L23 = Before p × Comes p (n + 1) (w + 1) (w + 1) (p.j + 1)
+  Stage p L24 = Before p × Full p
+  Stage p L25 = Before p × Full p × ((c : ℕ) → IsOneOf n c → place p.d c ≡ 0)
+  Stage p L26 = Before p × Full p × Marks n w me history round t p p.k
+  Stage p L27 = Before p × Full p × Marks n w me history round t p p.k × (same_at p.a p.b p.k ≡ false)
   Stage p L28 =
-      Low n me history since round p.moved × Gathered n w me history round t p (n + 1) (w + 1) (w + 1) (n + 1)
-      × Marks n w me history round t p p.k × (same_at p.a p.b p.k ≡ false) × (p.x ≡ (word_at p.b p.k).id)
-  Stage p L29 =
-      Low n me history since round p.moved × Gathered n w me history round t p (n + 1) (w + 1) (w + 1) (n + 1)
-      × Marks n w me history round t p (p.k + 1)
-  Stage p L30 =
-      Low n me history since round p.moved × Gathered n w me history round t p (n + 1) (w + 1) (w + 1) (n + 1)
-      × Marks n w me history round t p (w + 1)
-  Stage p L31 =
-      Low n me history since round p.moved × Gathered n w me history round t p (n + 1) (w + 1) (w + 1) (n + 1)
-      × Marks n w me history round t p (w + 1)
+      Before p × Full p × Marks n w me history round t p p.k × (same_at p.a p.b p.k ≡ false)
+      × (p.x ≡ (word_at p.b p.k).id)
+  Stage p L29 = Before p × Full p × Marks n w me history round t p (p.k + 1)
+  Stage p L30 = Before p × Full p × Marks n w me history round t p (w + 1)
+  Stage p L31 = Before p × Full p × Marks n w me history round t p (w + 1)
   Stage p L32 = Low n me history since t p.moved
   Stage p L33 = Low n me history since t p.moved
   Stage p L34 = Held (words_of history) t since (map (λ (r : Word). r.datum) (take w (map plain p.b)))
@@ -210,7 +200,7 @@ module _ (n w me : ℕ) (history : ℕ → Registers) (round t : ℕ) where
   row_marks g h d a b k x one len is named event r =
       let row = slice_set d (x - 1) 1 in
       let here : (c : ℕ) → c ≡ x → place row c ≡ 1 =
-      λ c e. ap (place row) e ∙ set_here d x 1 one.0 (let le : x ≤ n = one.1 in omega arith) in
+      λ c e. ap (place row) e ∙ set_here d x 1 one.0 (omega (arith, one.1)) in
       let there : (c : ℕ) → 0 < c → c ≢ x → place row c ≡ place d c = λ c pos other. set_there d x c 1 one.0 pos other in
       let stays : (c : ℕ) → IsOneOf n c → place d c ≡ 1 → place row c ≡ 1 = λ c o e. elim (cases_eq c x) [
         | inl same ↦ here c same
@@ -218,7 +208,7 @@ module _ (n w me : ℕ) (history : ℕ → Registers) (round t : ℕ) where
       ] in
       record {
         bits = λ c o. elim (cases_eq c x) [
-          | inl same ↦ (let e : place row c ≡ 1 = here c same in omega arith)
+          | inl same ↦ omega (arith, here c same)
           | inr other ↦ subst (λ v. v ≤ 1) (sym (there c o.0 other)) (r.bits c o)
         ];
         shown = λ c o differ. stays c o (r.shown c o differ);
@@ -244,7 +234,7 @@ module _ (n w me : ℕ) (history : ℕ → Registers) (round t : ℕ) where
         | inr differ ↦ absurd (
             let zero : place p.d c ≡ 0 =
             same_from (place p.d c) 0 (all_pass (λ c. nat_eq (place p.d c) 0) 1 n still c (omega arith) (omega arith)) in
-            let one : place p.d c ≡ 1 = r.shown c o differ in omega arith)
+            omega (arith, r.shown c o differ))
       ]
 
   pub still_words : (p : Variables) → IsOneOf n me → ((u : ℕ) → u ≤ t → Laws n w history u) →
@@ -258,8 +248,7 @@ module _ (n w me : ℕ) (history : ℕ → Registers) (round t : ℕ) where
             (seen_by_words n w me history round t p.g p.a p.b p.h one laws x y o e).0 in
             let zero : place p.d (word_at p.b y).id ≡ 0 = same_from (place p.d (word_at p.b y).id) 0
             (all_pass (λ c. nat_eq (place p.d c) 0) 1 n still (word_at p.b y).id (omega arith) (omega arith)) in
-            let marked_is : place p.d (word_at p.b y).id ≡ 1 = r.words y o (let le : y ≤ w = o.1 in omega arith) e in
-            omega arith)
+            omega (arith, r.words y o (omega (arith, o.1)) e))
       ] refl
 
 -- a process that is marked is counted
@@ -267,7 +256,7 @@ counted_le : (v d low round t : ℕ) → low + v ≤ round → round ≤ t → (
     low + (if nat_eq d 1 then v + 1 else v) ≤ t
 counted_le v d low round t h le f =
     elim (nat_eq d 1) as (λ b. nat_eq d 1 ≡ b → low + (if b then v + 1 else v) ≤ t) [
-      | true ↦ λ e. (let lt : round < t = f (same_from d 1 e) in omega arith)
+      | true ↦ λ e. omega (arith, f (same_from d 1 e))
       | false ↦ λ e. omega arith
     ] refl
 
@@ -275,8 +264,7 @@ counted_le v d low round t h le f =
 pub events_le : (n w me u t : ℕ) (history : ℕ → Registers) → Since n w history u t → IsOneOf n me → (c : ℕ) →
     IsOneOf n c → events (history u) c me ≤ events (history t) c me
 events_le n w me u t history s one c o =
-    let a : (history u).writes c ≤ (history t).writes c = s.writes c o in
-    let b : (history u).answers c me ≤ (history t).answers c me = s.answers c me o one in omega arith
+    omega (arith, s.writes c o, s.answers c me o one)
 
 module _ (n w me : ℕ) (history : ℕ → Registers) (t since round : ℕ) where
   -- each line that writes no register takes the scan on; a line that starts another double collect does so at item t
@@ -284,72 +272,55 @@ module _ (n w me : ℕ) (history : ℕ → Registers) (t since round : ℕ) wher
       Known n w me history t since round m d p k → Stage n w me history t since round p k →
       StageMove n w me history t since (if restarts k then t else round) (move n w me d m p k)
   stage_move m d p L10 e h =
-      λ c i. rw (for_each_at n (λ c. 0) p.moved c i) (let le : events (history since) c me ≤ events (history round) c me =
-      events_le n w me since round history ((e.laws round e.round_le).since since e.opened) e.one c i in omega arith)
+      λ c i. rw (for_each_at n (λ c. 0) p.moved c i) (omega (
+        arith,
+        events_le n w me since round history ((e.laws round e.round_le).since since e.opened) e.one c i,
+      ))
   stage_move m d p L11 e h = h
-  stage_move m d p L12 e h =
-      let first : p.j ≡ 1 = e.keeps.0 in (
-        h,
-        collected_as n w me history round t p.g p.a p.b p.h 1 p.j 1 1 1 1 1 1 (λ c o lt. omega arith) (λ c o lt. lt)
-            (λ c o lt. lt) (λ c o lt. lt) (collected_starts n w me history round t p.g p.a p.b p.h e.round_le),
-      )
+  stage_move m d p L12 e h = (
+    h,
+    collected_as n w me history round t p.g p.a p.b p.h (omega (arith, e.keeps))
+        (collected_starts n w me history round t p.g p.a p.b p.h e.round_le),
+  )
   stage_move m d p L13 e h = (h.0, h.1, reads_now history round t me p.j m e.now e.round_le)
   stage_move m d p L14 e h =
-      let long : Long n w p = e.long in
-      let len : length p.g ≡ max n w = long.g in
       let one : IsOneOf n p.j = e.keeps.0 in (
         h.0,
         asked_row n w me history round t p.g p.a p.b p.h p.j p.x 1 1 1 one h.1,
         h.2,
-        set_here p.g p.j p.x one.0 (omega arith),
+        set_here p.g p.j p.x one.0 (omega (arith, e.long)),
       )
   stage_move m d p L16 e h =
       either (StageMove n w me history t since round) (nat_lt p.j n) _ _ (λ b. h)
-      (λ b. let ge : n ≤ p.j = not_lt p.j n b in
-      let k : p.k ≡ 1 = e.keeps.1 in (
+      (λ b. (
         h.0,
-        collected_as n w me history round t p.g p.a p.b p.h (p.j + 1) (n + 1) 1 p.k 1 1 1 1 (λ c o lt. omega arith)
-            (λ c o lt. omega arith) (λ c o lt. lt) (λ c o lt. lt) h.1,
+        collected_as n w me history round t p.g p.a p.b p.h (omega (arith, not_lt p.j n b, e.keeps)) h.1,
       ))
   stage_move m d p L17 e h =
-      let long : Long n w p = e.long in
-      let len : length p.a ≡ max n w = long.a in
-      (h.0, first_more n w me history round t m p.g p.a p.b p.h (n + 1) p.k e.keeps.1 (omega arith) e.now h.1)
+      (h.0, first_more n w me history round t m p.g p.a p.b p.h (n + 1) p.k e.keeps.1 (omega (arith, e.long)) e.now h.1)
   stage_move m d p L18 e h =
       either (StageMove n w me history t since round) (nat_lt p.k w) _ _ (λ b. h)
-      (λ b. let ge : w ≤ p.k = not_lt p.k w b in (
-        h.0,
-        collected_as n w me history round t p.g p.a p.b p.h (n + 1) (n + 1) (p.k + 1) (w + 1) 1 1 1 1 (λ c o lt. lt)
-            (λ c o lt. omega arith) (λ c o lt. lt) (λ c o lt. lt) h.1,
-      ))
+      (λ b. (h.0, collected_as n w me history round t p.g p.a p.b p.h (omega (arith, not_lt p.k w b)) h.1))
   stage_move m d p L19 e h =
       let long : Long n w p = e.long in
-      let len : length p.b ≡ max n w = long.b in
       (h.0, second_more n w me history round t m p.g p.a p.b p.h (n + 1) (w + 1) p.k e.keeps.1 (omega arith) e.now h.1)
   stage_move m d p L20 e h =
-      let j : p.j ≡ 1 = e.keeps.0 in
       either (StageMove n w me history t since round) (nat_lt p.k w) _ _ (λ b. h)
-      (λ b. let ge : w ≤ p.k = not_lt p.k w b in (
+      (λ b. (
         h.0,
-        collected_as n w me history round t p.g p.a p.b p.h (n + 1) (n + 1) (w + 1) (w + 1) (p.k + 1) (w + 1) 1 p.j
-            (λ c o lt. lt) (λ c o lt. lt) (λ c o lt. omega arith) (λ c o lt. omega arith) h.1,
+        collected_as n w me history round t p.g p.a p.b p.h (omega (arith, not_lt p.k w b, e.keeps)) h.1,
       ))
   stage_move m d p L21 e h =
       let x : Gathered n w me history round t p (n + 1) (w + 1) (w + 1) p.j = h.1 in
-      (h.0, x, reads_now history x.ended t me p.j m e.now x.now)
+      (h.0, x, reads_now history x.ended t me p.j m e.now x.order.3)
   stage_move m d p L22 e h =
-      let long : Long n w p = e.long in
-      let len : length p.h ≡ max n w = long.h in (
+      let long : Long n w p = e.long in (
         h.0,
         late_more n w me history round t p.g p.a p.b p.h (n + 1) (w + 1) (w + 1) p.j p.x e.keeps.0 (omega arith) h.1 h.2,
       )
   stage_move m d p L23 e h =
       either (StageMove n w me history t since round) (nat_lt p.j n) _ _ (λ b. h)
-      (λ b. let ge : n ≤ p.j = not_lt p.j n b in (
-        h.0,
-        collected_as n w me history round t p.g p.a p.b p.h (n + 1) (n + 1) (w + 1) (w + 1) (w + 1) (w + 1) (p.j + 1)
-            (n + 1) (λ c o lt. lt) (λ c o lt. lt) (λ c o lt. lt) (λ c o lt. omega arith) h.1,
-      ))
+      (λ b. (h.0, collected_as n w me history round t p.g p.a p.b p.h (omega (arith, not_lt p.j n b)) h.1))
   stage_move m d p L24 e h = (h.0, h.1, λ c i. for_each_at n (λ c. 0) p.d c i)
   stage_move m d p L25 e h = (
     h.0,
@@ -381,11 +352,9 @@ module _ (n w me : ℕ) (history : ℕ → Registers) (t since round : ℕ) wher
       let inside : IsOneOf w p.k = e.keeps.1 in
       (h.0, h.1, subst (λ y. Marks n w me history round t p (y + 1)) (let f : p.k ≡ w = omega arith in f) h.2))
   stage_move m d p L30 e h =
-      let long : Long n w p = e.long in
-      let len : length p.b ≡ max n w = long.b in
       either (StageMove n w me history t since round) (all_still n p) _ _
       (λ b. subst (Held (words_of history) t since) (sym (plain_taken plain (λ x. refl) w p.b))
-      (passed n w me history round t p.g p.a p.b p.h e.one e.laws h.1 since e.opened (omega arith)
+      (passed n w me history round t p.g p.a p.b p.h e.one e.laws h.1 since e.opened (omega (arith, e.long))
       (still_bits n w me history round t p (w + 1) h.2 b) (still_words n w me history round t p e.one e.laws h.1 h.2 b)))
       (λ b. h)
   stage_move m d p L31 e h =
@@ -397,16 +366,14 @@ module _ (n w me : ℕ) (history : ℕ → Registers) (t since round : ℕ) wher
   stage_move m d p L32 e h =
       stage_first n w me history t since round d m p (third_move n p) h
       (λ k f. same_from (place p.moved k) limit (first_found 1 n (at_limit p) k f).2)
-  stage_move m d p L33 e h =
-      let first : p.j ≡ 1 = e.keeps.0 in (
-        h,
-        collected_as n w me history t t p.g p.a p.b p.h 1 p.j 1 1 1 1 1 1 (λ c o lt. omega arith) (λ c o lt. lt)
-            (λ c o lt. lt) (λ c o lt. lt) (collected_starts n w me history t t p.g p.a p.b p.h (omega arith)),
-      )
+  stage_move m d p L33 e h = (
+    h,
+    collected_as n w me history t t p.g p.a p.b p.h (omega (arith, e.keeps))
+        (collected_starts n w me history t t p.g p.a p.b p.h (omega arith)),
+  )
   stage_move m d p L34 e h = h
-  stage_move m Scanning p L35 e h = h
-  stage_move m (Embedded y z) p L35 e h = h
   stage_move m (Updating y z) p L35 e h = absurd e.line
+  stage_move m d p L35 e h = h
   stage_move m d p L36 e h =
       let opened : since ≤ round = e.opened in
       let closed : round ≤ t = e.round_le in
@@ -427,16 +394,14 @@ module _ (n w me : ℕ) (history : ℕ → Registers) (t since round : ℕ) wher
           is = ap (λ (x : Registers). view_at x.views p.j) e.now;
         },
       )
-  stage_move m Scanning p L37 e h = h.0
-  stage_move m (Embedded y z) p L37 e h = h.0
   stage_move m (Updating y z) p L37 e h = absurd e.line
+  stage_move m d p L37 e h = h.0
   stage_move m d p L50 e h = tt
   stage_move m d p L51 e h =
       record { at = t; until = omega arith; is = ap (λ (x : Registers). bit x.q p.j me) (sym e.now); same = refl }
   stage_move m d p L53 e h = either (StageMove n w me history t since round) (nat_lt p.j n) _ _ (λ b. tt) (λ b. tt)
-  stage_move m Scanning p L54 e h = absurd e.line
-  stage_move m (Embedded y z) p L54 e h = absurd e.line
   stage_move m (Updating y z) p L54 e h = refl
+  stage_move m d p L54 e h = absurd e.line
   stage_move m d p L56 e h = tt
   stage_move m d p L58 e h = tt
   stage_move m d p k e h = absurd e.quiet
@@ -453,11 +418,6 @@ module _ (n w me : ℕ) (history : ℕ → Registers) (t since round : ℕ) wher
   )
 
 -- Time passes and other processes act.
-sight_kept : (history : ℕ → Registers) (from t me c value : ℕ) → ReadBit history from t me c value →
-    ReadBit history from (suc t) me c value
-sight_kept history from t me c value h =
-    record { at = h.at; after = h.after; until = (let u : h.at ≤ t = h.until in omega arith); is = h.is }
-
 module _ (n w me : ℕ) (history : ℕ → Registers) where
   row_kept : (round t : ℕ) (g h d : List ℕ) (a b : Words) (k : ℕ) → IsOneOf n me → Since n w history t (suc t) →
       Row n w me history round t g h d a b k → Row n w me history round (suc t) g h d a b k
@@ -465,50 +425,32 @@ module _ (n w me : ℕ) (history : ℕ → Registers) where
     bits = r.bits;
     shown = r.shown;
     words = r.words;
-    moved = λ c o e. let lt : events (history round) c me < events (history t) c me = r.moved c o e in
-        let le : events (history t) c me ≤ events (history (suc t)) c me =
-        events_le n w me t (suc t) history s one c o in
-        omega arith;
+    moved = λ c o e. omega (arith, r.moved c o e, events_le n w me t (suc t) history s one c o);
   }
 
   high_kept : (since t : ℕ) (moved : List ℕ) → IsOneOf n me → Since n w history t (suc t) →
       Low n me history since t moved → Low n me history since (suc t) moved
   high_kept since t moved one s h c o =
-      let lt : events (history since) c me + place moved c ≤ events (history t) c me = h c o in
-      let le : events (history t) c me ≤ events (history (suc t)) c me = events_le n w me t (suc t) history s one c o in
-      omega arith
+      omega (arith, h c o, events_le n w me t (suc t) history s one c o)
 
 -- the process's own registers stay
 pub record Apart (n me : ℕ) (m m' : Registers) : Type 0 where
   pub asks : (c : ℕ) → IsOneOf n c → bit m'.q me c ≡ bit m.q me c
   pub writes : m'.writes me ≡ m.writes me
 
+sight_kept : (history : ℕ → Registers) (from t me c value : ℕ) → ReadBit history from t me c value →
+    ReadBit history from (suc t) me c value
+sight_kept history from t me c value h = read_until history from t (suc t) me c value (omega arith) h
+
+held_on : (history : ℕ → Words) (t since : ℕ) (v : List ℕ) → Held history t since v → Held history (suc t) since v
+held_on history t since v h = held_wider history t (suc t) since since v (omega arith) (omega arith) h
+
+ruleset still = (collected_kept, sight_kept, row_kept, high_kept, held_on)
+
 module _ (n w me : ℕ) (history : ℕ → Registers) (t since round : ℕ) (p : Variables) where
   pub stage_kept : (k : ProgramCounter) → IsOneOf n me → Since n w history t (suc t) →
       Apart n me (history t) (history (suc t)) → Stage n w me history t since round p k →
       Stage n w me history (suc t) since round p k
-  stage_kept L11 i s o h = h
-  stage_kept L12 i s o h = h
-  stage_kept L13 i s o h = (h.0, collected_kept n w me history round t p.g p.a p.b p.h p.j 1 1 1 o.asks h.1)
-  stage_kept L14 i s o h = (
-    h.0,
-    collected_kept n w me history round t p.g p.a p.b p.h p.j 1 1 1 o.asks h.1,
-    sight_kept history round t me p.j p.x h.2,
-  )
-  stage_kept L15 i s o h = (
-    h.0,
-    collected_kept n w me history round t p.g p.a p.b p.h p.j 1 1 1 o.asks h.1,
-    sight_kept history round t me p.j p.x h.2,
-    h.3,
-  )
-  stage_kept L16 i s o h = (h.0, collected_kept n w me history round t p.g p.a p.b p.h (p.j + 1) 1 1 1 o.asks h.1)
-  stage_kept L17 i s o h = (h.0, collected_kept n w me history round t p.g p.a p.b p.h (n + 1) p.k 1 1 o.asks h.1)
-  stage_kept L18 i s o h = (h.0, collected_kept n w me history round t p.g p.a p.b p.h (n + 1) (p.k + 1) 1 1 o.asks h.1)
-  stage_kept L19 i s o h = (h.0, collected_kept n w me history round t p.g p.a p.b p.h (n + 1) (w + 1) p.k 1 o.asks h.1)
-  stage_kept L20 i s o h =
-      (h.0, collected_kept n w me history round t p.g p.a p.b p.h (n + 1) (w + 1) (p.k + 1) 1 o.asks h.1)
-  stage_kept L21 i s o h =
-      (h.0, collected_kept n w me history round t p.g p.a p.b p.h (n + 1) (w + 1) (w + 1) p.j o.asks h.1)
   stage_kept L22 i s o h = (
     h.0,
     collected_kept n w me history round t p.g p.a p.b p.h (n + 1) (w + 1) (w + 1) p.j o.asks h.1,
@@ -516,67 +458,19 @@ module _ (n w me : ℕ) (history : ℕ → Registers) (t since round : ℕ) (p :
         (sym (ended_kept n w me history round t p.g p.a p.b p.h (n + 1) (w + 1) (w + 1) p.j o.asks h.1))
         (sight_kept history h.1.ended t me p.j p.x h.2),
   )
-  stage_kept L23 i s o h =
-      (h.0, collected_kept n w me history round t p.g p.a p.b p.h (n + 1) (w + 1) (w + 1) (p.j + 1) o.asks h.1)
-  stage_kept L24 i s o h =
-      (h.0, collected_kept n w me history round t p.g p.a p.b p.h (n + 1) (w + 1) (w + 1) (n + 1) o.asks h.1)
-  stage_kept L25 i s o h =
-      (h.0, collected_kept n w me history round t p.g p.a p.b p.h (n + 1) (w + 1) (w + 1) (n + 1) o.asks h.1, h.2)
-  stage_kept L26 i s o h = (
-    h.0,
-    collected_kept n w me history round t p.g p.a p.b p.h (n + 1) (w + 1) (w + 1) (n + 1) o.asks h.1,
-    row_kept n w me history round t p.g p.h p.d p.a p.b p.k i s h.2,
-  )
-  stage_kept L27 i s o h = (
-    h.0,
-    collected_kept n w me history round t p.g p.a p.b p.h (n + 1) (w + 1) (w + 1) (n + 1) o.asks h.1,
-    row_kept n w me history round t p.g p.h p.d p.a p.b p.k i s h.2,
-    h.3,
-  )
-  stage_kept L28 i s o h = (
-    h.0,
-    collected_kept n w me history round t p.g p.a p.b p.h (n + 1) (w + 1) (w + 1) (n + 1) o.asks h.1,
-    row_kept n w me history round t p.g p.h p.d p.a p.b p.k i s h.2,
-    h.3,
-    h.4,
-  )
-  stage_kept L29 i s o h = (
-    h.0,
-    collected_kept n w me history round t p.g p.a p.b p.h (n + 1) (w + 1) (w + 1) (n + 1) o.asks h.1,
-    row_kept n w me history round t p.g p.h p.d p.a p.b (p.k + 1) i s h.2,
-  )
-  stage_kept L30 i s o h = (
-    h.0,
-    collected_kept n w me history round t p.g p.a p.b p.h (n + 1) (w + 1) (w + 1) (n + 1) o.asks h.1,
-    row_kept n w me history round t p.g p.h p.d p.a p.b (w + 1) i s h.2,
-  )
-  stage_kept L31 i s o h = (
-    h.0,
-    collected_kept n w me history round t p.g p.a p.b p.h (n + 1) (w + 1) (w + 1) (n + 1) o.asks h.1,
-    row_kept n w me history round t p.g p.h p.d p.a p.b (w + 1) i s h.2,
-  )
-  stage_kept L32 i s o h = high_kept n w me history since t p.moved i s h
-  stage_kept L33 i s o h = high_kept n w me history since t p.moved i s h
-  stage_kept L34 i s o h =
-      held_wider (words_of history) t (suc t) since since
-      (map (λ (r : Word). r.datum) (take w (map plain p.b))) (omega arith) (omega arith) h
-  stage_kept L35 i s o h = held_wider (words_of history) t (suc t) since since p.s (omega arith) (omega arith) h
-  stage_kept L36 i s o h = (high_kept n w me history since t p.moved i s h.0, h.1)
   stage_kept L37 i s o h =
-      let shown : Shown n me history t since p.s = h.1 in
-      let before : shown.time ≤ t = shown.before in (
-        held_wider (words_of history) t (suc t) since since p.s (omega arith) (omega arith) h.0,
+      let shown : Shown n me history t since p.s = h.1 in (
+        held_on (words_of history) t since p.s h.0,
         record {
           lender = shown.lender;
           inside = shown.inside;
           time = shown.time;
           after = shown.after;
-          before = omega arith;
+          before = omega (arith, shown.before);
           put = shown.put;
           is = shown.is;
         },
       )
   stage_kept L52 i s o h =
-      record { at = h.at; until = (let u : h.at ≤ t = h.until in omega arith); is = h.is; same = h.same ∙ sym o.writes }
-  stage_kept L55 i s o h = held_wider (words_of history) t (suc t) since since p.s (omega arith) (omega arith) h
-  stage_kept k i s o h = tt
+      record { at = h.at; until = omega (arith, h.until); is = h.is; same = h.same ∙ sym o.writes }
+  stage_kept k i s o h = search still

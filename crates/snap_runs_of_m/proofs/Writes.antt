@@ -97,8 +97,7 @@ untouched_15 n w me k m p one his other = record {
 pub asks_there : (n w me c : ℕ) (m : Registers) (p : Variables) → IsOneOf n me → IsOneOf n p.j → Now n w m →
     IsOneOf n c → c ≢ p.j → bit (after_15 me m p).q me c ≡ bit m.q me c
 asks_there n w me c m p one inside now o other =
-    let len : length m.q ≡ n = now.square_q.0 in
-    bit_elsewhere m.q me p.j p.x c one.0 inside.0 o.0 other (omega arith)
+    bit_elsewhere m.q me p.j p.x c one.0 inside.0 o.0 other (omega (arith, now.square_q.0))
 
 pub asks_here : (n w me : ℕ) (m : Registers) (p : Variables) → IsOneOf n me → IsOneOf n p.j → Now n w m →
     bit (after_15 me m p).q me p.j ≡ p.x
@@ -176,16 +175,13 @@ module _ (n w me : ℕ) (history : ℕ → Registers) (t : ℕ) (p : Variables) 
       | inr r ↦ subst (λ v. v ≤ 1) (sym r.is) (flip_bit (bit (history r.read).q i c))
     ];
     answers_from =
-        λ c i h j. let a : (history t).writes c ≤ (history t).answers c i = now.answers_from c i h j in
-        let b : (history t).answers c i ≤ m'.answers c i = answers_more c i in
-        omega arith;
+        λ c i h j. omega (arith, now.answers_from c i h j, answers_more c i);
     answers_to = λ c i h j. elim (cases_eq c me) [
       | inl same ↦ elim (cases_eq i p.j) [
         | inl his ↦
             subst (λ y. m'.answers y i ≤ (history t).writes y + 1) (sym same)
             (subst (λ z. m'.answers me z ≤ (history t).writes me + 1) (sym his)
-            (let more : m'.answers me p.j ≡ (history t).answers me p.j + 1 =
-            raised_at_here (history t).answers me p.j in omega arith))
+            (omega (arith, raised_at_here (history t).answers me p.j)))
         | inr other ↦
             subst (λ v. v ≤ (history t).writes c + 1)
             (sym (raised_at_elsewhere (history t).answers me p.j c i other)) (now.answers_to c i h j)
@@ -196,9 +192,7 @@ module _ (n w me : ℕ) (history : ℕ → Registers) (t : ℕ) (p : Variables) 
     ];
     puts_from = now.puts_from;
     puts_to =
-        λ c i h j. let a : (history t).puts c ≤ (history t).answers c i = now.puts_to c i h j in
-        let b : (history t).answers c i ≤ m'.answers c i = answers_more c i in
-        omega arith;
+        λ c i h j. omega (arith, now.puts_to c i h j, answers_more c i);
   }
 
 pub untouched_52 : (n w me k : ℕ) (m : Registers) (p : Variables) → k ≢ me → Untouched n w k m (after_52 me m p)
@@ -228,8 +222,7 @@ module _ (n w me : ℕ) (history : ℕ → Registers) (t since : ℕ) (p : Varia
 
   view_55 : view_at m5.views me ≡ p.s
   view_55 =
-      let len : length (history t).views ≡ n = now5.views in
-      get_or-set_at (history t).views (me - 1) (me - 1) p.s [] refl (omega arith)
+      get_or-set_at (history t).views (me - 1) (me - 1) p.s [] refl (omega (arith, now5.views))
 
   put_55 : Put n history t m5 me
   put_55 u i le h lt =
@@ -239,8 +232,7 @@ module _ (n w me : ℕ) (history : ℕ → Registers) (t since : ℕ) (p : Varia
         | inl later ↦ absurd (
             let grows : (history since).answers me i ≤ (history u).answers me i =
             ((laws u le).since since (omega arith)).answers me i one h in
-            let from : (history t).writes me + 1 ≤ (history since).answers me i = made i h in
-            let puts : m5.puts me ≡ (history t).puts me + 1 = here_55 in omega arith)
+            omega (arith, made i h, here_55))
         | inr ge ↦ ge
       ]) held)
 
@@ -271,13 +263,10 @@ module _ (n w me : ℕ) (history : ℕ → Registers) (t since : ℕ) (p : Varia
     answers_from = now5.answers_from;
     answers_to = now5.answers_to;
     puts_from =
-        λ c h. let a : (history t).writes c ≤ (history t).puts c = now5.puts_from c h in
-        let b : (history t).puts c ≤ m5.puts c = more_or_same (nat_eq c me) ((history t).puts c) in
-        omega arith;
+        λ c h. omega (arith, now5.puts_from c h, more_or_same (nat_eq c me) ((history t).puts c));
     puts_to = λ c i h j. elim (cases_eq c me) [
       | inl same ↦ subst (λ y. m5.puts y ≤ (history t).answers y i) (sym same)
-          (let puts : m5.puts me ≡ (history t).puts me + 1 =
-          here_55 in let e : (history t).answers me i ≡ (history t).writes me + 1 = answers_are i j in omega arith)
+          (omega (arith, here_55, answers_are i j))
       | inr other ↦
           subst (λ v. v ≤ (history t).answers c i)
           (sym (raised_there (history t).puts me c other)) (now5.puts_to c i h j)
@@ -307,8 +296,7 @@ module _ (n w me word arg : ℕ) (history : ℕ → Registers) (t : ℕ) (p : Va
 
   word_here : word_at m7.words word ≡ new_word
   word_here =
-      let len : length (history t).words ≡ w = now.size in
-      get_or-set_at (history t).words (word - 1) (word - 1) new_word no_word refl (omega arith)
+      get_or-set_at (history t).words (word - 1) (word - 1) new_word no_word refl (omega (arith, now.size))
 
   word_there : (k : ℕ) → IsOneOf w k → k ≢ word → word_at m7.words k ≡ word_at (history t).words k
   word_there k h other =
@@ -325,7 +313,7 @@ module _ (n w me word arg : ℕ) (history : ℕ → Registers) (t : ℕ) (p : Va
         writer = subst (IsOneOf n) (sym id) one;
         wrote =
             subst (λ y. (history t).writes y < m7.writes y) (sym id)
-            (let e : m7.writes me ≡ (history t).writes me + 1 = wrote_here in omega arith);
+            (omega (arith, wrote_here));
         turned = λ e. flip_other ((history t).toggles me word)
             (sym turned ∙ ap (λ (x : Word). x.toggle) (sym word_here) ∙ e ∙ ap (λ y. (history t).toggles y word) id);
       }
@@ -340,7 +328,7 @@ module _ (n w me word arg : ℕ) (history : ℕ → Registers) (t : ℕ) (p : Va
     toggles = λ c k h i. elim (cases_eq c me) [
       | inl same ↦
           inr (subst (λ y. (history t).writes y < m7.writes y) (sym same)
-          (let e : m7.writes me ≡ (history t).writes me + 1 = wrote_here in omega arith))
+          (omega (arith, wrote_here)))
       | inr other ↦ inl (sym (with_at_there (history t).toggles me word (place p.tog word) c k other))
     ];
     bits = λ c i h j. inl (refl, refl);
@@ -375,18 +363,16 @@ module _ (n w me word arg : ℕ) (history : ℕ → Registers) (t : ℕ) (p : Va
     bits = now.bits;
     answers_from = λ c i h j. elim (cases_eq c me) [
       | inl same ↦ subst (λ y. m7.writes y ≤ (history t).answers y i) (sym same)
-          (let e : m7.writes me ≡ (history t).writes me + 1 =
-          wrote_here in let f : (history t).answers me i ≡ (history t).writes me + 1 = answers_are i j in omega arith)
+          (omega (arith, wrote_here, answers_are i j))
       | inr other ↦
           subst (λ v. v ≤ (history t).answers c i)
           (sym (raised_there (history t).writes me c other)) (now.answers_from c i h j)
     ];
-    answers_to = λ c i h j. let a : (history t).answers c i ≤ (history t).writes c + 1 = now.answers_to c i h j in
-        let b : (history t).writes c ≤ m7.writes c = more_or_same (nat_eq c me) ((history t).writes c) in omega arith;
+    answers_to = λ c i h j. omega (arith, now.answers_to c i h j, more_or_same (nat_eq c me) ((history t).writes c));
     puts_from = λ c h. elim (cases_eq c me) [
       | inl same ↦
           subst (λ y. m7.writes y ≤ (history t).puts y) (sym same)
-          (let e : m7.writes me ≡ (history t).writes me + 1 = wrote_here in omega arith)
+          (omega (arith, wrote_here))
       | inr other ↦
           subst (λ v. v ≤ (history t).puts c) (sym (raised_there (history t).writes me c other)) (now.puts_from c h)
     ];

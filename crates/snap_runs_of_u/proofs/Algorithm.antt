@@ -1,5 +1,5 @@
 -- Listing U in its own words: its lines, its variables, and what each line does.
-use Rattle.std.specs.Prelude.{◌≡◌, ◌⊎◌, ℕ, ◌+◌, ◌-◌, max, Bool, true, false, not, List, [], ◌∷◌, take, map, Option}
+use Rattle.std.specs.Prelude.{◌≡◌, ℕ, ◌+◌, ◌-◌, max, Bool, true, false, not, List, [], ◌∷◌, take, map, Option}
 use Rattle.std.specs.Prelude.{Some, None, nat_eq, nat_lt, nat_le, if◌then◌else◌, slice_index, slice_set, replicate, refl}
 use Rattle.snap_words.specs.Kind.{initial_word}
 use Rattle.snap_runs.proofs.Common.{Word, places_to, all_true, first_true, Op, Scan, Update}
@@ -7,8 +7,7 @@ use Rattle.snap_words.specs.declared.kind.KindTag.TheVariants as kind
 use Rattle.snap_semantics.specs.State.{Locals, Memory}
 use Rattle.snap_semantics.specs.Table.{entry}
 use Rattle.snap_runs.proofs.Algorithm as typed
-use Rattle.snap_runs.proofs.Algorithm.{Mode, Scanning, Embedded, Updating, value_of, To, Begin, Answer, Finish}
-use Rattle.snap_runs.proofs.Algorithm.{Algorithm, returning, embedding}
+use Rattle.snap_runs.proofs.Algorithm.{Mode, value_of, To, Finish, Algorithm, returning, embedding}
 use Rattle.snap_runs.proofs.Flow.{Lines, IsUpdateOf, IsLine}
 use Rattle.snap_runs.proofs.Held.{word_at}
 use Rattle.snap_runs.proofs.Places.{for_each}

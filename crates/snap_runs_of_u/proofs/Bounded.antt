@@ -68,23 +68,23 @@ module _ (n t : ℕ) (V : ℕ → Type 0) where
   IsMove = bounded.MoveWithin (algorithm n) (limits n t) V
 
   with_j : (p : Variables) (v : ℕ) → AreVariables p → v ≤ n → AreVariables (record p { j = v })
-  with_j p v h new = record { scalars = (new, h.scalars.1); rows = h.rows; words = h.words; views = h.views }
+  with_j p v h new = assumption
 
   with_c : (p : Variables) (v : ℕ) → AreVariables p → v ≤ t → AreVariables (record p { c = v })
-  with_c p v h new = record { scalars = (h.scalars.0, (new, tt)); rows = h.rows; words = h.words; views = h.views }
+  with_c p v h new = assumption
 
   with_moved : (p : Variables) (row : List ℕ) → AreVariables p → AtMost (max n n) (λ y. y ≤ 2) row →
       AreVariables (record p { moved = row })
-  with_moved p row h new = record { scalars = h.scalars; rows = (new, tt); words = h.words; views = h.views }
+  with_moved p row h new = assumption
 
   with_a : (p : Variables) (ws : Words) → AreVariables p → Copies ws → AreVariables (record p { a = ws })
-  with_a p ws h new = record { scalars = h.scalars; rows = h.rows; words = (new, h.words.1); views = h.views }
+  with_a p ws h new = assumption
 
   with_b : (p : Variables) (ws : Words) → AreVariables p → Copies ws → AreVariables (record p { b = ws })
-  with_b p ws h new = record { scalars = h.scalars; rows = h.rows; words = (h.words.0, (new, tt)); views = h.views }
+  with_b p ws h new = assumption
 
   with_s : (p : Variables) (view : List ℕ) → AreVariables p → AtMost n V view → AreVariables (record p { s = view })
-  with_s p view h new = record { scalars = h.scalars; rows = h.rows; words = h.words; views = (new, tt) }
+  with_s p view h new = assumption
 
   -- the next place
   next_within : (p : Variables) (me : ℕ) (d : Mode) (m : Words) (back on : ProgramCounter) → IsOneOf n me →
@@ -150,9 +150,8 @@ module _ (n t : ℕ) (V : ℕ → Type 0) where
     line_within me Scanning m p L24 one keeps fresh value memory h = tt
     line_within me (Embedded word new) m p L24 one keeps fresh value memory h = (memory, h)
     line_within me (Updating word new) m p L24 one keeps fresh value memory h = tt
-    line_within me Scanning m p L30 one keeps fresh value memory h = tt
-    line_within me (Embedded word new) m p L30 one keeps fresh value memory h = tt
     line_within me (Updating word new) m p L30 one keeps fresh value memory h = h
+    line_within me d m p L30 one keeps fresh value memory h = tt
     line_within me d m p L31 one keeps fresh value memory h = (memory, with_c p (p.c + 1) h (omega arith))
     line_within me d m p L32 one keeps fresh value memory h = (
       record {

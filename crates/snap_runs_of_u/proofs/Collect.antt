@@ -167,4 +167,4 @@ passed n history t since round words p lengths len h test =
 pub gained_at : (f x y : ℕ) (b : Bool) (v : ℕ) → nat_eq x y ≡ b → f + v ≤ x → x ≤ y →
     f + (if not b then v + 1 else v) ≤ y
 gained_at f x y true v e low le = omega arith
-gained_at f x y false v e low le = let lt : x < y = differs x y e le in omega arith
+gained_at f x y false v e low le = omega (arith, differs x y e le)

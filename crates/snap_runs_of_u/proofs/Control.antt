@@ -5,16 +5,14 @@ use Rattle.snap_runs.proofs.Common.{IsOneOf, places_to, all_true, first_true, Op
 use Rattle.snap_words.specs.declared.kind.KindTag.TheVariants as kind
 use Rattle.snap_semantics.specs.Table.{call_skip}
 use Rattle.snap_semantics.specs.declared.process.Reason.TheVariants.{NoSuchWord, NotOwner}
-use Rattle.snap_runs.proofs.Algorithm.{Mode, Scanning, Embedded, Updating, mode_of, op_of}
-use Rattle.snap_runs.proofs.Algorithm.{Idle, At, WhenBusy, LeadsTo, leads_to}
+use Rattle.snap_runs.proofs.Algorithm.{Mode, Scanning, Updating, mode_of, op_of, Idle, At, WhenBusy, LeadsTo, leads_to}
 use Rattle.snap_runs.proofs.Computing.{lt_from, same_from, either, whether, differs, raised_most, none_then}
 use Rattle.snap_runs.proofs.Embedding as embed
 use Rattle.snap_runs.proofs.Places.{for_each_at, first_found, first_none}
 use Rattle.snap_runs_of_u.specs.Promises.{square}
 use Rattle.snap_runs_of_u.proofs.Algorithm.{Words, Move, Control, Variables, ProgramCounter, L10, L11, L12, L13, L14}
-use Rattle.snap_runs_of_u.proofs.Algorithm.{L15, L16, L17, L18, L19, L21, L22, L23, L24, L30, L31, L32, L33, agree}
-use Rattle.snap_runs_of_u.proofs.Algorithm.{limit, moved_at, counted, at_limit, move}
-use Rattle.snap_runs_of_u.proofs.Algorithm.{first_to, counter, algorithm, IsLineOf}
+use Rattle.snap_runs_of_u.proofs.Algorithm.{L15, L16, L17, L18, L19, L22, L23, L24, L30, L31, L33, agree, limit}
+use Rattle.snap_runs_of_u.proofs.Algorithm.{moved_at, counted, at_limit, move, first_to, counter, algorithm, IsLineOf}
 use Rattle.snap_runs_of_u.proofs.Lines.{Needs, each_line}
 
 -- no process has been seen to move up to the limit, or none beyond it
@@ -45,17 +43,14 @@ MoveWell op n me v = LeadsTo (λ d p k. IsLineOf me d k × VariablesAt n p k × 
 pub move_well : (n me : ℕ) (d : Mode) (m : Words) (p : Variables) (k : ProgramCounter) → IsOneOf n me →
     IsLineOf me d k → VariablesAt n p k → MoveWell (op_of d) n me (move n me d m p k)
 move_well n me d m p L10 i s h = (s, λ k e. rw (for_each_at n (λ k. 0) p.moved k e) (omega arith), refl)
-move_well n me d m p L11 i s h = (s, ((omega arith, omega arith), h), refl)
-move_well n me d m p L12 i s h = (s, h, refl)
+move_well n me (Updating word value) m p L30 i s h = (s, tt, refl)
+move_well n me d m p L30 i s h = absurd s
 move_well n me d m p L13 i s h =
-    either (MoveWell (op_of d) n me) (nat_lt p.j n) _ _ (λ b.
-    let j : p.j < n = lt_from p.j n b in (s, ((omega arith, omega arith), h.1), refl))
-    (λ b. (s, ((omega arith, omega arith), h.1), refl))
-move_well n me d m p L14 i s h = (s, h, refl)
+    either (MoveWell (op_of d) n me) (nat_lt p.j n) _ _ (λ b. (s, omega (arith, lt_from p.j n b), refl))
+    (λ b. (s, omega arith, refl))
 move_well n me d m p L15 i s h =
-    either (MoveWell (op_of d) n me) (nat_lt p.j n) _ _ (λ b.
-    let j : p.j < n = lt_from p.j n b in (s, ((omega arith, omega arith), h.1), refl))
-    (λ b. (s, (refl, h.1), refl))
+    either (MoveWell (op_of d) n me) (nat_lt p.j n) _ _ (λ b. (s, omega (arith, lt_from p.j n b), refl))
+    (λ b. (s, omega arith, refl))
 move_well n me d m p L16 i s h =
     either (MoveWell (op_of d) n me) (all_true (map (agree p) (places_to n))) _ _
     (λ b. (s, tt, refl)) (λ b. (s, h, refl))
@@ -78,30 +73,19 @@ move_well n me d m p L18 i s h =
       ),
       refl,
     ))
-    (λ k e. let r = first_found 1 n (at_limit p) k e in (s, (omega arith, omega arith), refl))
-move_well n me d m p L19 i s h = (s, ((omega arith, omega arith), h.1), refl)
+    (λ k e. (s, omega (arith, first_found 1 n (at_limit p) k e), refl))
 move_well n me Scanning m p L22 i s h = tt
-move_well n me (Embedded word value) m p L22 i s h = (s, tt, refl)
 move_well n me (Updating word value) m p L22 i s h = absurd s
 move_well n me Scanning m p L24 i s h = tt
-move_well n me (Embedded word value) m p L24 i s h = (s, tt, refl)
 move_well n me (Updating word value) m p L24 i s h = absurd s
-move_well n me Scanning m p L30 i s h = absurd s
-move_well n me (Embedded word value) m p L30 i s h = absurd s
-move_well n me (Updating word value) m p L30 i s h = (s, tt, refl)
 move_well n me d m p L33 i s h = tt
-move_well n me d m p k i s h = (s, tt, refl)
+move_well n me d m p k i s h = (s, omega arith, refl)
 
 -- what a line needs is kept; the number that line 31 raises is at most the number of items
 needs : (n time me : ℕ) (p : Variables) (k : ProgramCounter) → IsOneOf n me → p.c ≤ time → time + 1 < 2 ^ 64 →
     VariablesAt n p k → Needs n me p k
-needs n time me p L12 i c b h = h.0
-needs n time me p L14 i c b h = h.0
-needs n time me p L17 i c b h = h.1
-needs n time me p L23 i c b h = h
 needs n time me p L31 i c b h = omega arith
-needs n time me p L32 i c b h = i
-needs n time me p k i c b h = tt
+needs n time me p k i c b h = assumption
 
 -- an update that is not skipped is of the caller's own word
 own_word : (n i word value : ℕ) → call_skip kind.Seq (square n) i (Update word value) ≡ None → word ≡ i

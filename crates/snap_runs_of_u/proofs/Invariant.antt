@@ -76,12 +76,10 @@ others_act n t t' history words words' i q le g same v h = record {
   length_a = h.length_a;
   length_b = h.length_b;
   seq = h.seq ∙ ap (λ s. s + pending q.control) (sym same);
-  fresh = let f : q.variables.c ≤ t = h.fresh in omega arith;
-  since_le = let f : q.auxiliary.since ≤ t = h.since_le in omega arith;
-  low = λ k i. let l : seq_at (history q.auxiliary.since) k ≤ seq_at words k = h.low k i in
-      let s : seq_at words k ≤ seq_at words' k = before_seq (word_at words k) (word_at words' k) (g k i) in omega arith;
-  opened = λ k i. let l : seq_at (history q.auxiliary.round) k ≤ seq_at words k = h.opened k i in
-      let s : seq_at words k ≤ seq_at words' k = before_seq (word_at words k) (word_at words' k) (g k i) in omega arith;
+  fresh = omega (arith, h.fresh);
+  since_le = omega (arith, h.since_le);
+  low = λ k i. omega (arith, h.low k i, before_seq (word_at words k) (word_at words' k) (g k i));
+  opened = λ k i. omega (arith, h.opened k i, before_seq (word_at words k) (word_at words' k) (g k i));
   views = v;
   stage =
       when_busy _ _

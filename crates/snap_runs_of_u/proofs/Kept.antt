@@ -1,7 +1,7 @@
 -- `frame` and `kept`: what `Frame` and `Kept` of snap_runs (proofs/ListingFrame.antt) ask of a listing, shown of U.
 -- The promises of U follow from it.
-use Rattle.std.specs.Prelude.{◌≡◌, ℕ, ◌+◌, ◌*◌, ◌<◌, ◌≤◌, Bool, true, false, List, length, refl}
-use Rattle.std.proofs.Common.{sym, subst, arith, inl, inr}
+use Rattle.std.specs.Prelude.{◌≡◌, ℕ, ◌+◌, ◌*◌, ◌≤◌, Bool, true, false, List, length, refl}
+use Rattle.std.proofs.Common.{sym, subst, arith}
 use Rattle.snap_runs.proofs.Common.{IsOneOf, Item}
 use Rattle.snap_runs.proofs.Algorithm.{Mode, Embedded, Updating, At}
 use Rattle.snap_runs.proofs.Calm.{calm, calm_list}
@@ -11,8 +11,7 @@ use Rattle.snap_runs.proofs.Steady.{Steady}
 use Rattle.snap_runs.proofs.UpdateSteps.{Ahead, Nearer, Resumes}
 use Rattle.snap_runs.proofs.ListingFrame as frames
 use Rattle.snap_runs_of_u.specs.Promises.{run_of, SequenceNumbersSuffice}
-use Rattle.snap_runs_of_u.proofs.Algorithm.{Words, Variables, ProgramCounter, L30, L31, L32, L33, IsUpdate, IsLineOf}
-use Rattle.snap_runs_of_u.proofs.Algorithm.{L22, L24}
+use Rattle.snap_runs_of_u.proofs.Algorithm.{Words, Variables, ProgramCounter, L30, L31, L32, L33, IsLineOf, L22, L24}
 use Rattle.snap_runs_of_u.proofs.Algorithm.{in_update, tests, move, lines, algorithm}
 use Rattle.snap_runs_of_u.proofs.Count.{collects_le, own_le}
 use Rattle.snap_runs_of_u.proofs.Flows.{numbered, listed, once, writer}

@@ -1,7 +1,6 @@
 -- A borrowed view of a scan of U is that of an embedded scan of the lender within it.
 use Rattle.std.proofs.Common.{ℕ, ◌+◌, List, refl, ◌∙◌, ap, arith}
 use Rattle.snap_runs.proofs.Common.{Item, Op, Scan, Update}
-use Rattle.snap_runs.proofs.Algorithm.{when_busy}
 use Rattle.snap_runs.proofs.Held.{seq_at}
 use Rattle.snap_runs.proofs.Single as single
 use Rattle.snap_runs_of_u.specs.Promises.{BorrowedViewsAreLent}
@@ -9,7 +8,7 @@ use Rattle.snap_runs_of_u.proofs.Algorithm.{Control, L24, IsLate, counter}
 use Rattle.snap_runs_of_u.proofs.Invariant.{pending}
 use Rattle.snap_runs_of_u.proofs.Kept.{frame, kept, calm_kept}
 use Rattle.snap_runs_of_u.proofs.Ready.{Ready, ready}
-use Rattle.snap_runs_of_u.proofs.Runs.{words_at, process_after, invariant, invariant_of, stage_of}
+use Rattle.snap_runs_of_u.proofs.Runs.{words_at, invariant, invariant_of, stage_of}
 
 not_late : (op : Op) → IsLate (counter op) → ⊥
 not_late Scan late = late

@@ -10,15 +10,15 @@ use Rattle.snap_semantics.specs.declared.instr.Index.TheVariants.{Place}
 use Rattle.snap_semantics.specs.declared.instr.Term.TheVariants.{Row}
 use Rattle.snap_semantics.specs.declared.process.Cause.{Cause}
 use Rattle.snap_semantics.specs.declared.process.Cause.TheVariants.{Owner}
-use Rattle.snap_runs.proofs.Algorithm.{Mode, Scanning, Embedded, Updating, op_of, link_of, To, shown}
+use Rattle.snap_runs.proofs.Algorithm.{Mode, Updating, op_of, link_of, To, shown}
 use Rattle.snap_runs.proofs.Computing.{same_number, if_of}
 use Rattle.snap_runs.proofs.Held.{word_at}
 use Rattle.snap_runs.proofs.Places.{bind_ok, place_ok, each_ok, sum_ok, owned_ok}
 use Rattle.snap_runs_of_u.specs.ListingU as u
 use Rattle.snap_runs_of_u.specs.ListingU.{listing_u}
 use Rattle.snap_runs_of_u.specs.Promises.{square}
-use Rattle.snap_runs_of_u.proofs.Algorithm.{Words, Variables, ProgramCounter, L10, L11, L12, L13, L14, L15, L16, L17}
-use Rattle.snap_runs_of_u.proofs.Algorithm.{L18, L19, L21, L22, L23, L24, L30, L31, L32, L33, number, back, real}
+use Rattle.snap_runs_of_u.proofs.Algorithm.{Words, Variables, ProgramCounter, L10, L12, L13, L14, L15, L16, L17}
+use Rattle.snap_runs_of_u.proofs.Algorithm.{L18, L21, L22, L23, L24, L30, L31, L32, L33, number, back, real}
 use Rattle.snap_runs_of_u.proofs.Algorithm.{locals_of, compared, agree, limit, moved_at, counted, at_limit, borrows}
 use Rattle.snap_runs_of_u.proofs.Algorithm.{first_to, word_put, move, algorithm, IsLineOf}
 
@@ -102,25 +102,18 @@ each_line n me d m p L18 s h =
     bind_ok _ _ _ _
     (each_ok _ (at_limit p) 1 n (λ k low high. bind_ok _ _ _ _ (row_moved n me d p k (in_range n k low high)) refl))
     (first_shown n d m p (first_true 1 (map (at_limit p) (places_to n))))
-each_line n me Scanning m p L22 s h = refl
-each_line n me (Embedded word value) m p L22 s h = refl
 each_line n me (Updating word value) m p L22 s h = absurd s
 each_line n me d m p L23 s h = bind_ok _ _ _ _ (place_ok (max n n) p.j (h.0, omega arith)) refl
-each_line n me Scanning m p L24 s h = refl
-each_line n me (Embedded word value) m p L24 s h = refl
 each_line n me (Updating word value) m p L24 s h = absurd s
-each_line n me Scanning m p L30 s h = absurd s
-each_line n me (Embedded word value) m p L30 s h = absurd s
 each_line n me (Updating word value) m p L30 s h = refl
+each_line n me d m p L30 s h = absurd s
 each_line n me d m p L31 s h = bind_ok _ _ _ _ (sum_ok p.c 1 h) refl
-each_line n me Scanning m p L32 s h = absurd s
-each_line n me (Embedded word value) m p L32 s h = absurd s
 each_line n me (Updating word value) m p L32 s h =
     bind_ok _ _ _ _ (place_ok n me h)
     (owned_ok (nat_eq me me) (word_put (Updating word value) p) Owner
     (λ y. on (following listing_u.lines (number L32)) (Goes (real (slice_set m (me - 1) y)) (locals_of p) None))
     (same_number me))
-each_line n me Scanning m p L33 s h = absurd s
-each_line n me (Embedded word value) m p L33 s h = absurd s
+each_line n me d m p L32 s h = absurd s
 each_line n me (Updating word value) m p L33 s h = refl
+each_line n me d m p L33 s h = absurd s
 each_line n me d m p k s h = refl

@@ -39,7 +39,7 @@ written_since n items fits t i j d short one jone at more =
     (copies_grow n (words_at n items) t since round (words_at n items t) p between j jone) in
     let fresh : seq_at (words_at n items round) j ≤ seq_at p.a j = (second.first j jone).fresh in
     let later : seq_at p.b j ≤ seq_at (words_at n items t) j =
-    before_seq (word_at p.b j) (word_at (words_at n items t) j) (second.read j jone (let i2 = jone in omega arith)).1 in
+    before_seq (word_at p.b j) (word_at (words_at n items t) j) (second.read j jone (omega (arith, jone))).1 in
     let counts : Count n p q.auxiliary.own q.auxiliary.collects q.auxiliary.tested L17 =
     counts_of n items fits t i d L17 (omega arith) one at in
     (counts.3, omega arith)

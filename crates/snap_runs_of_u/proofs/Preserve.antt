@@ -6,9 +6,8 @@ use Rattle.snap_runs.proofs.Common.{IsOneOf, who, Item, Step, Call, Crash, Op, S
 use Rattle.snap_runs.proofs.Common.{Finished, Reason}
 use Rattle.snap_words.specs.declared.kind.KindTag.TheVariants as kind
 use Rattle.snap_semantics.specs.Table.{call_skip}
-use Rattle.snap_runs.proofs.Algorithm.{Mode, Scanning, Updating, op_of, Idle, At, To, Begin, Answer, Finish, New}
-use Rattle.snap_runs.proofs.Algorithm.{by_move, by_step, by_admission, by_call, typed_at, changed, happens}
-use Rattle.snap_runs.proofs.Algorithm.{stepped_auxiliary, begun_auxiliary, called_auxiliary}
+use Rattle.snap_runs.proofs.Algorithm.{Mode, op_of, Idle, At, To, Begin, Answer, Finish, New, by_move, by_step}
+use Rattle.snap_runs.proofs.Algorithm.{by_admission, by_call, typed_at, changed, happens, stepped_auxiliary}
 use Rattle.snap_runs.proofs.Flow as flow
 use Rattle.snap_runs.proofs.Flow.{IsInScan, InScan, scan_inside}
 use Rattle.snap_runs.proofs.Held.{seq_at, at_most_now, at_least_now, opened_next}
@@ -16,9 +15,8 @@ use Rattle.snap_runs.proofs.ListedLines.{writes_or_not}
 use Rattle.snap_runs.proofs.WordWrites.{words_then}
 use Rattle.snap_runs_of_u.specs.Promises.{square}
 use Rattle.snap_runs_of_u.proofs.Algorithm.{written, Words, Move, Control, Process, State, Variables, ProgramCounter}
-use Rattle.snap_runs_of_u.proofs.Algorithm.{L10, L16, L30, L32, move, IsLineOf, lines}
-use Rattle.snap_runs_of_u.proofs.Algorithm.{tests, restarts, writes, algorithm}
-use Rattle.snap_runs_of_u.proofs.Collect.{Low, floor}
+use Rattle.snap_runs_of_u.proofs.Algorithm.{L16, L32, move, IsLineOf, lines, tests, restarts, writes, algorithm}
+use Rattle.snap_runs_of_u.proofs.Collect.{Low}
 use Rattle.snap_runs_of_u.proofs.Control.{BelowLimit, VariablesAt, MoveWell, ControlWell, move_well, called_well}
 use Rattle.snap_runs_of_u.proofs.Count.{Count, CountMove, count_move, moves, moves_less}
 use Rattle.snap_runs_of_u.proofs.Flows.{Making, HasWritten, flows, counter_with, line_listed, writer}
@@ -35,7 +33,7 @@ at n x i = typed_at (algorithm n) x i
 unmoved : (n i : ℕ) (base m : Words) (p : Variables) → IsOneOf n i → Low n base m p.moved → BelowLimit n p →
     seq_at base i ≡ seq_at m i → moves n p < n
 unmoved n i base m p one low below self =
-    moves_less n i p one (let l : floor base p.moved i ≤ seq_at m i = low i one in omega arith) below
+    moves_less n i p one (omega (arith, low i one)) below
 
 pub few_moves : (n me : ℕ) (history : ℕ → Words) (t since round : ℕ) (m : Words) (d : Mode)
     (p : Variables) (k : ProgramCounter) → IsOneOf n me → IsLineOf me d k → VariablesAt n p k →
@@ -117,8 +115,7 @@ line_keeps n t history x i d k (To d' m' p k') count one now h is c quiet owes =
       length_b = sized.1;
       seq = sized.2;
       fresh =
-          (let s : p.c ≡ seq_at x.memory i + writes k' =
-          sized.2 in let le : writes k' ≤ 1 = writes_le n k' in omega arith);
+          omega (arith, sized.2, writes_le n k');
       since_le = own.since_le;
       low = own.low;
       opened = opened_next n history x.memory (restarts k) t q.auxiliary.round now own.opened;
@@ -137,25 +134,19 @@ line_keeps n t history x i d k (Begin d' p k') count one now h is c quiet owes =
     let seq_q : q.variables.c ≡ seq_at x.memory i + writes k =
     own.seq ∙ ap (λ (y : Control). seq_at x.memory i + pending y) is in
     let sized : Sized n (seq_at x.memory i) p k' = owes.sized in
-    process_changes n t history x i (record {
-      control = At d' k';
-      variables = p;
-      auxiliary = begun_auxiliary (algorithm n) k t q.auxiliary;
-    }) Stepped count one now h
+    process_changes n t history x i _ Stepped count one now h
     (record {
       well = (owes.well.0, owes.well.1);
       length_a = sized.0;
       length_b = sized.1;
       seq = sized.2;
       fresh =
-          (let s : p.c ≡ seq_at x.memory i + writes k' =
-          sized.2 in let le : writes k' ≤ 1 = writes_le n k' in omega arith);
+          omega (arith, sized.2, writes_le n k');
       since_le = omega arith;
       low = λ k j. at_most_now history x.memory t now k;
       opened = λ k j. at_most_now history x.memory t now k;
       views =
-          λ k j more. absurd (let le : seq_at x.memory k ≤ seq_at (history t) k =
-          at_least_now history x.memory t now k in omega arith);
+          λ k j more. absurd (omega (arith, at_least_now history x.memory t now k));
       stage = subst (λ y. Stage n history t t t x.memory p y) (sym owes.stage) tt;
       self = λ inside. ap (λ w. seq_at w i) now;
       counts = subst (λ y. Count n p 0 0 0 y) (sym owes.stage) (refl, refl, refl);
@@ -164,18 +155,12 @@ line_keeps n t history x i d k (Begin d' p k') count one now h is c quiet owes =
     (λ m. inl refl) (inl refl)
 line_keeps n t history x i d k (Answer v) count one now h is c quiet owes =
     let q = at n x i in
-    process_changes n t history x i
-    (record { control = Idle; variables = q.variables; auxiliary = stepped_auxiliary (algorithm n) k t q.auxiliary })
-    (Answered v) count one now h
+    process_changes n t history x i _ (Answered v) count one now h
     (idle_own n t history x.memory i q k (is_seq n t history x i d k one h is quiet) now c (h.each i one))
     (λ m. absurd m) (inr refl)
 line_keeps n t history x i d k Finish count one now h is c quiet owes =
     let q = at n x i in
-    process_changes n t history x i (record {
-      control = Idle;
-      variables = q.variables;
-      auxiliary = stepped_auxiliary (algorithm n) k t q.auxiliary;
-    }) Finished count one now h
+    process_changes n t history x i _ Finished count one now h
     (idle_own n t history x.memory i q k (is_seq n t history x i d k one h is quiet) now c (h.each i one))
     (λ m. absurd m) (inr refl)
 
@@ -188,11 +173,7 @@ admission_keeps n t history x i op (Some why) e count one h is now = h
 admission_keeps n t history x i Scan None e count one h is now =
     let q = at n x i in
     let own : ProcessInvariant n t history x.memory i q = h.each i one in
-    process_changes n t history x i (record {
-      control = At Scanning L10;
-      variables = q.variables;
-      auxiliary = called_auxiliary t Scan q.auxiliary;
-    }) Called count one now h
+    process_changes n t history x i _ Called count one now h
     (record {
       well = called_well n i q.variables Scan e;
       length_a = own.length_a;
@@ -203,8 +184,7 @@ admission_keeps n t history x i Scan None e count one h is now =
       low = λ k j. at_most_now history x.memory t now k;
       opened = λ k j. at_most_now history x.memory t now k;
       views =
-          λ k j more. absurd (let le : seq_at x.memory k ≤ seq_at (history t) k =
-          at_least_now history x.memory t now k in omega arith);
+          λ k j more. absurd (omega (arith, at_least_now history x.memory t now k));
       stage = tt;
       self = λ inside. ap (λ w. seq_at w i) now;
       counts = (refl, refl, refl);
@@ -214,11 +194,7 @@ admission_keeps n t history x i Scan None e count one h is now =
 admission_keeps n t history x i (Update word value) None e count one h is now =
     let q = at n x i in
     let own : ProcessInvariant n t history x.memory i q = h.each i one in
-    process_changes n t history x i (record {
-      control = At (Updating word value) L30;
-      variables = q.variables;
-      auxiliary = called_auxiliary t (Update word value) q.auxiliary;
-    }) Called count one now h
+    process_changes n t history x i _ Called count one now h
     (record {
       well = called_well n i q.variables (Update word value) e;
       length_a = own.length_a;

@@ -1,5 +1,5 @@
 -- The runs of U without crashes: the invariant at each state.
-use Rattle.std.proofs.Common.{◌≡◌, ℕ, ◌-◌, ◌^◌, ◌<◌, ◌≤◌, max, List, length, replicate, refl, sym, ap, subst, arith}
+use Rattle.std.proofs.Common.{◌≡◌, ℕ, ◌-◌, ◌≤◌, max, List, length, replicate, refl, sym, ap, subst, arith}
 use Rattle.std.proofs.lemmas.List.{get_or-replicate, length-replicate}
 use Rattle.snap_runs.proofs.Common.{IsOneOf, Word, no_word, Item}
 use Rattle.snap_runs.proofs.Algorithm.{Mode, At, when_busy, first_process, first_state, typed_at, item_at, typed_state}
@@ -43,12 +43,12 @@ module _ (n : ℕ) (history : ℕ → Words) where
         well = tt;
         length_a = length-replicate (max n n) (first_word n);
         length_b = length-replicate (max n n) (first_word n);
-        seq = (let e = z i h in omega arith);
+        seq = omega (arith, z i h);
         fresh = omega arith;
         since_le = omega arith;
         low = λ k j. at_most_now history (replicate n (first_word n)) 0 now k;
         opened = λ k j. at_most_now history (replicate n (first_word n)) 0 now k;
-        views = λ k j more. absurd (let e = z k j in omega arith);
+        views = λ k j more. absurd (omega (arith, z k j));
         stage = tt;
         self = λ inside. absurd inside;
         counts = tt;
@@ -87,9 +87,8 @@ module _ (n : ℕ) (items : List Item) (fits : Ready n items) where
   pub all_do : embed.AllDo (algorithm n) items
   all_do t i h one =
       let o = invariant_of t i (omega arith) one in
-      let few : length items < 2 ^ 64 = fits.suffice in
       does n t i (words_at n items t) (process_after n items t i).variables
-      (process_after n items t i).control one o.fresh (omega arith) o.well
+      (process_after n items t i).control one o.fresh (omega (arith, fits.suffice)) o.well
 
   -- the run, with what is known of its lines
   abbrev pub execution : scans.Execution (algorithm n) lines

@@ -1,9 +1,9 @@
 -- How far a scan of U has come at each line, and that each line takes it on.
 use Rattle.std.specs.Prelude.{◌≡◌, ℕ, ◌+◌, ◌-◌, ◌≤◌, max, List, take, length, map, nat_lt, if◌then◌else◌, refl}
-use Rattle.std.proofs.Common.{◌∙◌, subst, arith}
+use Rattle.std.proofs.Common.{subst, arith}
 use Rattle.std.proofs.lemmas.List.{length-set}
 use Rattle.snap_runs.proofs.Common.{places_to, all_true, first_true, IsOneOf}
-use Rattle.snap_runs.proofs.Algorithm.{Mode, Scanning, Embedded, Updating, To, Begin, Answer, Finish}
+use Rattle.snap_runs.proofs.Algorithm.{Mode, Scanning, Updating, To, Begin, Answer, Finish}
 use Rattle.snap_runs.proofs.Computing.{not_lt, same_from, either, whether}
 use Rattle.snap_runs.proofs.Held.{word_at, Held, held_wider, Beside, beside_wider, Lent, lent_wider, data_of, seq_at}
 use Rattle.snap_runs.proofs.Held.{before_trans, before_seq, Grows}
@@ -87,20 +87,19 @@ module _ (n me : ℕ) (history : ℕ → Words) (t since round : ℕ) (words : W
       StageMove n history t since (if restarts k then t else round) (move n me d words p k)
   stage_move d p L10 known h =
       λ k i. rw (for_each_at n (λ k. 0) p.moved k i)
-      (let l : seq_at (history since) k ≤ seq_at words k = known.low k i in omega arith)
+      (omega (arith, known.low k i))
   stage_move d p L11 known h = (h, λ k i lt. absurd (omega arith))
-  stage_move d p L12 known h =
-      let len : length p.a ≡ max n n = known.length_a in (
-        h.0,
-        first_more n (history since) (history round) words p.moved p.a p.j known.keeps.0
-            (omega arith) h.0 known.opened h.1,
-      )
+  stage_move d p L12 known h = (
+    h.0,
+    first_more n (history since) (history round) words p.moved p.a p.j known.keeps.0
+        (omega (arith, known.length_a)) h.0 known.opened h.1,
+  )
   stage_move d p L13 known h =
       either (StageMove n history t since round) (nat_lt p.j n) _ _ (λ b. h)
       (λ b. (
         h.0,
         second_starts n history t since round words p.moved p.a p.b known.now known.since_le
-            (λ k i lt. h.1 k i (let ge : n ≤ p.j = not_lt p.j n b in omega arith)),
+            (λ k i lt. h.1 k i (omega (arith, not_lt p.j n b))),
       ))
   stage_move d p L14 known h =
       let len : length p.b ≡ max n n = known.length_b in (
@@ -109,17 +108,15 @@ module _ (n me : ℕ) (history : ℕ → Words) (t since round : ℕ) (words : W
             (omega arith) known.now known.since_le known.views h.1,
       )
   stage_move d p L15 known h =
-      let inside : IsOneOf n p.j = known.keeps.0 in
       either (StageMove n history t since round) (nat_lt p.j n) _ _ (λ b. h)
       (λ b. (
         h.0,
         subst (λ x. Between n history t since round words p.moved p.a p.b (x + 1))
-            (let ge : n ≤ p.j = not_lt p.j n b in let e : p.j ≡ n = omega arith in e) h.1,
+            (let ge : n ≤ p.j = not_lt p.j n b in let e : p.j ≡ n = omega (arith, known.keeps.0) in e) h.1,
       ))
   stage_move d p L16 known h =
-      let len : length p.b ≡ max n n = known.length_b in
       either (StageMove n history t since round) (all_true (map (agree p) (places_to n))) _ _
-      (λ b. passed n history t since round words p known.lengths (omega arith) h.1 b) (λ b. h)
+      (λ b. passed n history t since round words p known.lengths (omega (arith, known.length_b)) h.1 b) (λ b. h)
   stage_move d p L17 known h =
       let s : Second n history t since round words p.moved p.a p.b (n + 1) (history h.1.0) = h.1.3 in
       record {
@@ -133,29 +130,24 @@ module _ (n me : ℕ) (history : ℕ → Words) (t since round : ℕ) (words : W
       }
   stage_move d p L18 known h =
       whether (StageMove n history t since round) (first_to d words p) (first_true 1 (map (at_limit p) (places_to n)))
-      (λ e k i. let low : floor (history since) p.moved k ≤ seq_at p.b k = h.low k i in
-      let le : seq_at p.b k ≤ seq_at words k = before_seq (word_at p.b k) (word_at words k) (h.before k i) in omega arith)
+      (λ e k i. omega (arith, h.low k i, before_seq (word_at p.b k) (word_at words k) (h.before k i)))
       (λ k e. (
         record { low = h.low; before = h.before; views = h.views },
         same_from (moved_at p k) limit (first_found 1 n (at_limit p) k e).2,
       ))
   stage_move d p L19 known h = let one : p.j ≡ 1 = known.keeps.0 in (h, λ k i lt. absurd (omega arith))
   stage_move d p L21 known h = h
-  stage_move Scanning p L22 known h = h
-  stage_move (Embedded w x) p L22 known h = h
   stage_move (Updating w x) p L22 known h = absurd known.line
+  stage_move d p L22 known h = h
   stage_move d p L23 known h =
       let g : Gained n history t since words p.moved p.b = h.0 in
       let l : floor (history since) p.moved p.j ≤ seq_at p.b p.j = g.low p.j known.keeps in
-      let moves : moved_at p p.j ≡ limit = h.1 in
-      let lent : Lent history t since p.j (word_at p.b p.j).view = g.views p.j known.keeps (omega arith) in
+      let lent : Lent history t since p.j (word_at p.b p.j).view = g.views p.j known.keeps (omega (arith, h.1)) in
       (lent.0, (p.j, known.keeps, lent.1))
-  stage_move Scanning p L24 known h = h.0
-  stage_move (Embedded w x) p L24 known h = h.0
   stage_move (Updating w x) p L24 known h = absurd known.line
-  stage_move Scanning p L30 known h = absurd known.line
-  stage_move (Embedded w x) p L30 known h = absurd known.line
+  stage_move d p L24 known h = h.0
   stage_move (Updating w x) p L30 known h = refl
+  stage_move d p L30 known h = absurd known.line
   stage_move d p L31 known h = h
   stage_move d p L32 known h = tt
   stage_move d p L33 known h = tt
@@ -164,8 +156,7 @@ module _ (n me : ℕ) (history : ℕ → Words) (t since round : ℕ) (words : W
 pub low_kept : (n : ℕ) (base words words' : Words) (moved : List ℕ) → Grows n words words' →
     Low n base words moved → Low n base words' moved
 low_kept n base words words' moved g h k i =
-    let l : floor base moved k ≤ seq_at words k = h k i in
-    let le : seq_at words k ≤ seq_at words' k = before_seq (word_at words k) (word_at words' k) (g k i) in omega arith
+    omega (arith, h k i, before_seq (word_at words k) (word_at words' k) (g k i))
 
 pub first_kept : (n : ℕ) (base opening words words' : Words) (moved : List ℕ) (a : Words) (j : ℕ) →
     Grows n words words' → First n base opening words moved a j → First n base opening words' moved a j
@@ -202,46 +193,20 @@ module _ (n : ℕ) (history : ℕ → Words) (t t' since : ℕ) where
     views = λ k i more. lent_wider history t t' since k (word_at b k).view le (h.views k i more);
   }
 
+held_on : (history : ℕ → Words) (t t' since : ℕ) (v : List ℕ) → t ≤ t' → Held history t since v →
+    Held history t' since v
+held_on history t t' since v le h = held_wider history t t' since since v le (omega arith) h
+
+ruleset still = (low_kept, first_kept, between_kept, gained_kept, held_on)
+
 module _ (n : ℕ) (history : ℕ → Words) (t t' since round : ℕ) (words words' : Words) (p : Variables) where
   pub stage_kept : (k : ProgramCounter) → t ≤ t' → Grows n words words' → Stage n history t since round words p k →
       Stage n history t' since round words' p k
-  stage_kept L10 le g h = tt
-  stage_kept L11 le g h = low_kept n (history since) words words' p.moved g h
-  stage_kept L12 le g h = (
-    low_kept n (history since) words words' p.moved g h.0,
-    first_kept n (history since) (history round) words words' p.moved p.a p.j g h.1,
-  )
-  stage_kept L13 le g h = (
-    low_kept n (history since) words words' p.moved g h.0,
-    first_kept n (history since) (history round) words words' p.moved p.a (p.j + 1) g h.1,
-  )
-  stage_kept L14 le g h = (
-    low_kept n (history since) words words' p.moved g h.0,
-    between_kept n history t t' since round words words' p.moved p.a p.b p.j le g h.1,
-  )
-  stage_kept L15 le g h = (
-    low_kept n (history since) words words' p.moved g h.0,
-    between_kept n history t t' since round words words' p.moved p.a p.b (p.j + 1) le g h.1,
-  )
-  stage_kept L16 le g h = (
-    low_kept n (history since) words words' p.moved g h.0,
-    between_kept n history t t' since round words words' p.moved p.a p.b (n + 1) le g h.1,
-  )
-  stage_kept L17 le g h = (
-    low_kept n (history since) words words' p.moved g h.0,
-    between_kept n history t t' since round words words' p.moved p.a p.b (n + 1) le g h.1,
-  )
-  stage_kept L18 le g h = gained_kept n history t t' since words words' p.moved p.b le g h
-  stage_kept L19 le g h = low_kept n (history since) words words' p.moved g h
-  stage_kept L21 le g h = held_wider history t t' since since (data_of (take n p.b)) le (omega arith) h
-  stage_kept L23 le g h = (gained_kept n history t t' since words words' p.moved p.b le g h.0, h.1)
   stage_kept L24 le g h = (
-    held_wider history t t' since since p.s le (omega arith) h.0,
+    held_on history t t' since p.s le h.0,
     (h.1.0, h.1.1, beside_wider history t t' since h.1.0 p.s le h.1.2),
   )
-  stage_kept L30 le g h = tt
-  stage_kept L33 le g h = tt
-  stage_kept k le g h = held_wider history t t' since since p.s le (omega arith) h
+  stage_kept k le g h = search still
 
 -- The copies have all places, and c is the number of writes so far, one ahead at line 32.
 abbrev pub Sized : ℕ → ℕ → Variables → ProgramCounter → Type 0
@@ -256,26 +221,20 @@ SizedMove n s Finish = Unit {0}
 module _ (n me s : ℕ) where
   pub sized_move : (d : Mode) (m : Words) (p : Variables) (k : ProgramCounter) → IsLineOf me d k → Sized n s p k →
       SizedMove n (s + writes k) (move n me d m p k)
-  sized_move d m p L12 doable h = (length-set p.a (p.j - 1) (word_at m p.j) ∙ h.0, h.1, omega arith)
+  sized_move d m p L12 doable h = omega (arith, length-set p.a (p.j - 1) (word_at m p.j))
+  sized_move (Updating w x) m p L30 doable h = omega arith
   sized_move d m p L13 doable h =
-      either (SizedMove n (s + 0)) (nat_lt p.j n) _ _ (λ b. (h.0, h.1, omega arith)) (λ b. (h.0, h.1, omega arith))
-  sized_move d m p L14 doable h = (h.0, length-set p.b (p.j - 1) (word_at m p.j) ∙ h.1, omega arith)
+      either (SizedMove n (s + 0)) (nat_lt p.j n) _ _ (λ b. omega arith) (λ b. omega arith)
+  sized_move d m p L14 doable h = omega (arith, length-set p.b (p.j - 1) (word_at m p.j))
   sized_move d m p L15 doable h =
-      either (SizedMove n (s + 0)) (nat_lt p.j n) _ _ (λ b. (h.0, h.1, omega arith)) (λ b. (h.0, h.1, omega arith))
+      either (SizedMove n (s + 0)) (nat_lt p.j n) _ _ (λ b. omega arith) (λ b. omega arith)
   sized_move d m p L16 doable h =
-      either (SizedMove n (s + 0)) (all_true (map (agree p) (places_to n))) _ _ (λ b. (h.0, h.1, omega arith))
-      (λ b. (h.0, h.1, omega arith))
+      either (SizedMove n (s + 0)) (all_true (map (agree p) (places_to n))) _ _ (λ b. omega arith) (λ b. omega arith)
   sized_move d m p L18 doable h =
       whether (SizedMove n (s + 0)) (first_to d m p) (first_true 1 (map (at_limit p) (places_to n)))
-      (λ e. (h.0, h.1, omega arith)) (λ k e. (h.0, h.1, omega arith))
+      (λ e. omega arith) (λ k e. omega arith)
   sized_move Scanning m p L22 doable h = tt
-  sized_move (Embedded w x) m p L22 doable h = (h.0, h.1, omega arith)
-  sized_move (Updating w x) m p L22 doable h = absurd doable
+  sized_move (Updating w x) m p L22 doable h = tt
   sized_move Scanning m p L24 doable h = tt
-  sized_move (Embedded w x) m p L24 doable h = (h.0, h.1, omega arith)
-  sized_move (Updating w x) m p L24 doable h = absurd doable
-  sized_move Scanning m p L30 doable h = absurd doable
-  sized_move (Embedded w x) m p L30 doable h = absurd doable
-  sized_move (Updating w x) m p L30 doable h = (h.0, h.1, omega arith)
-  sized_move d m p L33 doable h = tt
-  sized_move d m p k doable h = (h.0, h.1, omega arith)
+  sized_move (Updating w x) m p L24 doable h = tt
+  sized_move d m p k doable h = omega arith

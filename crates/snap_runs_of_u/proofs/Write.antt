@@ -6,7 +6,7 @@ use Rattle.std.proofs.lemmas.Grind.{get_or-set_at}
 use Rattle.std.proofs.lemmas.List.{length-set, get_or-set_other}
 use Rattle.snap_runs.proofs.Common.{Outcome, IsOneOf, Word, no_word}
 use Rattle.snap_runs.proofs.Algorithm.{Mode, At, New, typed_at, changed, stepped_auxiliary}
-use Rattle.snap_runs.proofs.Flow.{IsInScan, not_update}
+use Rattle.snap_runs.proofs.Flow.{not_update}
 use Rattle.snap_runs.proofs.Frame as frame
 use Rattle.snap_runs.proofs.Held.{word_at, Held, held_wider, seq_at, WordBefore, before_seq, Grows}
 use Rattle.snap_runs.proofs.Flow as flow
@@ -38,8 +38,7 @@ module _ (n t : ℕ) (history : ℕ → Words) (x : State) (i : ℕ) (d : Mode)
 
   new_word : (k : ℕ) → k ≡ i → word_at after k ≡ word
   new_word k e =
-      let len : length x.memory ≡ n = h.size in
-      get_or-set_at x.memory (i - 1) (k - 1) word no_word (ap (λ y. y - 1) e) (omega arith)
+      get_or-set_at x.memory (i - 1) (k - 1) word no_word (ap (λ y. y - 1) e) (omega (arith, h.size))
 
   old_word : (k : ℕ) → IsOneOf n k → k ≢ i → word_at after k ≡ word_at x.memory k
   old_word k j other = get_or-set_other x.memory (i - 1) (k - 1) word no_word (λ same. other (omega arith))
@@ -50,18 +49,16 @@ module _ (n t : ℕ) (history : ℕ → Words) (x : State) (i : ℕ) (d : Mode)
 
   grows : Grows n x.memory after
   grows k j =
-      let more : (at i).variables.c ≡ seq_at x.memory i + 1 = one_ahead in
       elim (cases_eq k i) [
         | inl same ↦
             subst (λ (y : Word). WordBefore (word_at x.memory k) y) (sym (new_word k same))
-            (inl (subst (λ y. seq_at x.memory y < (at i).variables.c) (sym same) (omega arith)))
+            (inl (subst (λ y. seq_at x.memory y < (at i).variables.c) (sym same) (omega (arith, one_ahead))))
         | inr other ↦ inr (sym (old_word k j other))
       ]
 
   not_older : (old : Words) (k : ℕ) → IsOneOf n k → seq_at old k ≤ seq_at x.memory k → seq_at old k ≤ seq_at after k
   not_older old k j le =
-      let more : seq_at x.memory k ≤ seq_at after k = before_seq (word_at x.memory k) (word_at after k) (grows k j) in
-      omega arith
+      omega (arith, before_seq (word_at x.memory k) (word_at after k) (grows k j))
 
   -- the view that is written was held since the writer's embedded scan started
   held : Held history t (at i).auxiliary.since (at i).variables.s
@@ -100,9 +97,9 @@ module _ (n t : ℕ) (history : ℕ → Words) (x : State) (i : ℕ) (d : Mode)
         well = (up, tt);
         length_a = own.length_a;
         length_b = own.length_b;
-        seq = (let e : seq_at after i ≡ (at i).variables.c = ap (λ (y : Word). y.seq) (new_word i refl) in omega arith);
-        fresh = (let le : (at i).variables.c ≤ t = own.fresh in omega arith);
-        since_le = (let le : (at i).auxiliary.since ≤ t = own.since_le in omega arith);
+        seq = omega (arith, ap (λ (y : Word). y.seq) (new_word i refl));
+        fresh = omega (arith, own.fresh);
+        since_le = omega (arith, own.since_le);
         low = λ k j. not_older (history (at i).auxiliary.since) k j (own.low k j);
         opened = λ k j. not_older (history (at i).auxiliary.round) k j (own.opened k j);
         views = viewed i one;

@@ -43,7 +43,7 @@ more c (suc t) = suc (more c t)
 
 more_is : (c t : ℕ) → c + t ≡ more c t
 more_is c zero = omega arith
-more_is c (suc t) = let e : c + t ≡ more c t = more_is c t in omega arith
+more_is c (suc t) = omega (arith, more_is c t)
 
 module _ {V P M : Type 0} (a : Algorithm V P M) where
   abbrev pub after_move : P → M → V → ℕ → Move V P M → Alone V P M
@@ -74,8 +74,9 @@ module _ {V P M : Type 0} (a : Algorithm V P M) where
       ∙ walk_on i s t (after_step i x.memory x.seat.variables x.seat.collects x.seat.control)
 
   -- one walk after another
-  pub walks : (i s t u : ℕ) (x y z : Alone V P M) → walk i s x ≡ y → walk i t y ≡ z → u ≡ s + t → walk i u x ≡ z
-  walks i s t u x y z first second e = ap (λ v. walk i v x) e ∙ walk_on i s t x ∙ ap (walk i t) first ∙ second
+  pub walks : (i s t u : ℕ) (x : Alone V P M) {y z : Alone V P M} → walk i s x ≡ y → walk i t y ≡ z → u ≡ s + t →
+      walk i u x ≡ z
+  walks i s t u x first second e = ap (λ v. walk i v x) e ∙ walk_on i s t x ∙ ap (walk i t) first ∙ second
 
   abbrev pub State : Type 0
   State = TypedState V P M

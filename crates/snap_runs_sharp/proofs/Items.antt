@@ -59,12 +59,14 @@ turns_schedule n round count opening closing one h =
 pub round_length : (i word first update second : ℕ) →
     length (round_with i word first update second) ≡ first + update + second + 1
 round_length i word first update second =
-    let outer = length-append (steps_of 1 first) (update_by i word update ++ steps_of 1 second) in
-    let inner = length-append (update_by i word update) (steps_of 1 second) in
-    let a = length-replicate first (Step 1) in
-    let b = length-replicate update (Step i) in
-    let c = length-replicate second (Step 1) in
-    omega arith
+    omega (
+      arith,
+      length-append (steps_of 1 first) (update_by i word update ++ steps_of 1 second),
+      length-append (update_by i word update) (steps_of 1 second),
+      length-replicate first (Step 1),
+      length-replicate update (Step i),
+      length-replicate second (Step 1),
+    )
 
 rounds_length : (size count : ℕ) (round : ℕ → List Item) → ((r : ℕ) → length (round r) ≡ size) →
     length (rounds round count) ≡ count * size
@@ -81,13 +83,15 @@ pub schedule_length : (size : ℕ) (round : ℕ → List Item) (count opening cl
     length (schedule round count opening closing) ≡ count * size + opening + closing + 2
 schedule_length size round count opening closing h =
     let all = rounds round count in
-    let whole = length-append (before_answer round count opening closing) (steps_of 1 1) in
-    let start = length-append (Call 1 Scan ∷ steps_of 1 opening) (all ++ steps_of 1 closing) in
-    let rest = length-append all (steps_of 1 closing) in
-    let each = rounds_length size count round h in
-    let a = length-replicate opening (Step 1) in
-    let b = length-replicate closing (Step 1) in
-    omega arith
+    omega (
+      arith,
+      length-append (before_answer round count opening closing) (steps_of 1 1),
+      length-append (Call 1 Scan ∷ steps_of 1 opening) (all ++ steps_of 1 closing),
+      length-append all (steps_of 1 closing),
+      rounds_length size count round h,
+      length-replicate opening (Step 1),
+      length-replicate closing (Step 1),
+    )
 
 processes_of : (n : ℕ) (xs : List Item) → AreTurns n xs → AllByRecursion (λ x. IsOneOf n (who x)) xs
 processes_of n [] h = tt

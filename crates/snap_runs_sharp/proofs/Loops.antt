@@ -50,16 +50,29 @@ module _ {V P M R X : Type 0} (a : Algorithm V P M) (me lines n : ℕ) (at : R �
       let more : lines * suc (suc s) ≡ lines + lines * suc s = omega arith in (
         rest.0,
         rest.1,
-        walks a me lines (lines * suc s) (lines * suc (suc s)) (at r j xs) (at step.0 (j + 1) ys)
-            (beyond rest.0 rest.1) step.1 rest.2 more,
+        walks a me lines (lines * suc s) (lines * suc (suc s)) (at r j xs) step.1 rest.2 more,
         rest.3 ∙ long,
         rest.4,
       )
 
   -- all the places
-  pub fill : (r : R) (xs : List X) → 1 ≤ n → n ≤ length xs → Leaves n r 1 xs
-  fill r xs some size =
+  pub fill : (r : R) (j : ℕ) (xs : List X) → j ≡ 1 → 1 ≤ n → n ≤ length xs → Leaves n r j xs
+  fill r j xs first some size =
       let all =
-      fill_from (n - 1) r 1 xs (omega arith) (omega arith) size (filled_none value other 1 xs (omega arith)) in
+      fill_from (n - 1) r j xs (omega arith) (omega arith) size (filled_none value other j xs (omega arith)) in
       let count : lines * n ≡ lines * suc (n - 1) = ap (λ k. lines * k) (omega arith) in
-      (all.0, all.1, ap (λ k. walk a me k (at r 1 xs)) count ∙ all.2, all.3, all.4)
+      (all.0, all.1, ap (λ k. walk a me k (at r j xs)) count ∙ all.2, all.3, all.4)
+
+-- a loop that changes nothing else
+module _ {V P M X : Type 0} (a : Algorithm V P M) (me lines n : ℕ) (at : ℕ → List X → Alone V P M)
+    (beyond : List X → Alone V P M) (value : ℕ → X) (other : X) where
+  pub collect : ((j : ℕ) (xs : List X) → j < n →
+      walk a me lines (at j xs) ≡ at (j + 1) (slice_set xs (j - 1) (value j))) →
+      ((xs : List X) → walk a me lines (at n xs) ≡ beyond (slice_set xs (n - 1) (value n))) →
+      (j : ℕ) (xs : List X) → j ≡ 1 → 1 ≤ n → n ≤ length xs →
+      (ys : List X) × (walk a me (lines * n) (at j xs) ≡ beyond ys) × (length ys ≡ length xs)
+      × Filled value other (n + 1) ys
+  collect next last j xs first some size =
+      let h = fill a me lines n (λ (r : Unit {0}). at) (λ r. beyond) value other
+      (λ r j xs pos lt long. (tt, next j xs lt)) (λ r xs long. (tt, last xs)) tt j xs first some size in
+      (h.1, h.2, h.3, h.4)

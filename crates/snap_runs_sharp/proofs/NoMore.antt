@@ -22,10 +22,7 @@ use Rattle.snap_runs_sharp.proofs.ReachedByU.{scan_alone_reaches}
 -- a run reaches no more than a bound that it keeps
 within : (most more : ℕ) (r : Run) → CollectsAtMost most r → most < more → Reaches more r → ⊥
 within most more r at_most less h =
-    let few : double_collects r h.process h.call h.answer ≤ most =
-    at_most h.fits h.process None h.call h.answer h.finished.scan in
-    let is : double_collects r h.process h.call h.answer ≡ more = h.collects in
-    omega arith
+    omega (arith, at_most h.fits h.process None h.call h.answer h.finished.scan, h.collects)
 
 pub no_more_is_reached_lem : NoMoreIsReached
 no_more_is_reached_lem = record {
@@ -71,10 +68,10 @@ module _ (r : Run) (first : Item) (rest : List Item) (items_are : r.items ≡ fi
   one_bound x y h g =
       let mine = h.finished in
       let yours = g.finished in
-      let a = call_is h.process h.call mine.scan.first (let le : h.call ≤ h.answer = mine.scan.order in
-      let last : h.answer ≤ length r.items = mine.scan.last in omega arith) mine.scan.starts.0 in
-      let b = call_is g.process g.call yours.scan.first (let le : g.call ≤ g.answer = yours.scan.order in
-      let last : g.answer ≤ length r.items = yours.scan.last in omega arith) yours.scan.starts.0 in
+      let a = call_is h.process h.call mine.scan.first (
+      omega (arith, mine.scan.order, mine.scan.last)) mine.scan.starts.0 in
+      let b = call_is g.process g.call yours.scan.first (
+      omega (arith, yours.scan.order, yours.scan.last)) yours.scan.starts.0 in
       let process : g.process ≡ h.process = let e : Call g.process Scan ≡ Call h.process Scan = sym b.1 ∙ a.1 in cc in
       let call : g.call ≡ h.call = b.0 ∙ sym a.0 in
       let same : FinishedScan r h.process None h.call g.answer g.view =

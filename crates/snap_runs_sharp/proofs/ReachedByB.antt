@@ -63,7 +63,7 @@ one_round n r le time x h =
     let m2 : Registers = record { words = ws; q = update.1 } in
     let none_i = h.none i at (omega arith) in
     let written : word_at ws i ≡ update.0 =
-    get_or-set_at m.words (i - 1) (i - 1) update.0 no_word refl (let e = h.words in omega arith) in
+    get_or-set_at m.words (i - 1) (i - 1) update.0 no_word refl (omega (arith, h.words)) in
     let toggle : (word_at ws i).toggle ≡ 1 = ap (λ (w : Word). w.toggle) written ∙ update.4 in
     let kept : (k : ℕ) → IsOneOf n k → k ≢ i → word_at ws k ≡ word_at m.words k =
     λ k k_one other. get_or-set_other m.words (i - 1) (k - 1) update.0 no_word (λ same. other (omega arith)) in
@@ -81,9 +81,9 @@ one_round n r le time x h =
       variables = q;
       scene = subst (λ u. Scene a u after (run_from a time x (round_of_b n r))) (omega arith) scene;
       first = failed.2;
-      size_a = (let e = failed.3 in let f = collect.size_a in let g = h.size_a in omega arith);
-      size_b = (let e = failed.4 in let g = h.size_b in omega arith);
-      size_g = (let e = failed.5 in let f = collect.size_g in let g = h.size_g in omega arith);
+      size_a = omega (arith, failed.3, collect.size_a, h.size_a);
+      size_b = omega (arith, failed.4, h.size_b);
+      size_g = omega (arith, failed.5, collect.size_g, h.size_g);
       words = length-set m.words (i - 1) update.0 ∙ h.words;
       few = failed.6;
       none = λ k k_one more.
@@ -114,7 +114,7 @@ opening n some time x is =
       size_b = omega arith;
       size_g = omega arith;
       words = length-replicate n (first_word n);
-      few = λ k at. let e = zeros k at in omega arith;
+      few = λ k at. omega (arith, zeros k at);
       none =
           λ k at more.
           (zeros k at, ap (λ (w : Word). w.toggle) (get_or-replicate n (k - 1) (first_word n) no_word (omega arith)));
@@ -142,8 +142,8 @@ closing n r last time x h =
 fits : (n : ℕ) → 1 ≤ n → n ≤ max_count → Steady (run_of n (schedule_of_b n))
 fits n some most =
     let one : IsOneOf n 1 = (omega arith, omega arith) in
-    let each : (r : ℕ) → length (round_of_b n r) ≡ 19 * n + 15 = λ r. let e = round_length (r + 2) (r + 2) (6 * n)
-    (11 * n + 10) (2 * n + 4) in omega arith in
+    let each : (r : ℕ) → length (round_of_b n r) ≡ 19 * n + 15 = λ r.
+    omega (arith, round_length (r + 2) (r + 2) (6 * n) (11 * n + 10) (2 * n + 4)) in
     let size = schedule_length (19 * n + 15) (round_of_b n) (others n) 2 (8 * n + 2) each in
     let product : (others n) * (19 * n + 15) ≤ 64 * 1231 =
     mul-le (others n) (19 * n + 15) 64 1231 (omega arith) (omega arith) in

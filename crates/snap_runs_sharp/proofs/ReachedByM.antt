@@ -16,9 +16,8 @@ use Rattle.snap_runs.proofs.Held.{word_at}
 use Rattle.snap_runs.proofs.Places.{for_each, for_each_at}
 use Rattle.snap_runs.proofs.Steady.{Steady}
 use Rattle.snap_runs_of_m.specs.Promises.{counts, run_of}
-use Rattle.snap_runs_of_m.proofs.Algorithm.{Words, Registers, Variables, ProgramCounter, L10, L13, L19, L35}
-use Rattle.snap_runs_of_m.proofs.Algorithm.{first_word, first_variables, first_memory, place}
-use Rattle.snap_runs_of_m.proofs.Algorithm.{flip, same_words, lines, algorithm}
+use Rattle.snap_runs_of_m.proofs.Algorithm.{Words, Registers, Variables, ProgramCounter, L10, L13, L19, L35, first_word}
+use Rattle.snap_runs_of_m.proofs.Algorithm.{first_variables, first_memory, place, flip, same_words, lines, algorithm}
 use Rattle.snap_runs_of_m.proofs.Basics.{flip_other}
 use Rattle.snap_runs_of_m.proofs.Flows.{listed}
 use Rattle.snap_runs_of_m.proofs.Runs.{execution}
@@ -74,14 +73,7 @@ turns n w i c e m p v at other some h sized differ few_all few =
     let collect = first_collect n w 1 Scanning m p c (omega arith) some h.first_j h.first_k h.sized in
     let m1 : Registers = record m { q = collect.q } in
     let p1 : Variables = record p { j = 1; k = 1; x = collect.x; g = collect.g; a = collect.a } in
-    let size_p = h.sized in
-    let sized1 : Sized n w p1 = record {
-      a = (let y = collect.size_a in let z = size_p.a in omega arith);
-      b = size_p.b;
-      g = (let y = collect.size_g in let z = size_p.g in omega arith);
-      h = size_p.h;
-      tog = size_p.tog;
-    } in
+    let sized1 : Sized n w p1 = omega (arith, h.sized, collect.size_a, collect.size_g) in
     let update = whole_update n w i 1 i m1 v e (omega arith) some (omega arith) (omega arith, some) sized in
     let m2 = update.memory in
     let count : length m.words ≡ w = h.words in
@@ -144,10 +136,8 @@ one_round n w r some le time x h =
     let v = first_variables n w in
     let m = h.memory in
     let p = h.variables in
-    let copies : length v.a ≡ max n w = length-replicate (max n w) first_word in
-    let rows : length v.g ≡ max n w = length-replicate (max n w) 0 in
     let start : Sized n w v =
-    record { a = omega arith; b = omega arith; g = omega arith; h = omega arith; tog = omega arith } in
+    omega (arith, length-replicate (max n w) first_word, length-replicate {A = ℕ} (max n w) 0) in
     let none_i : place p.moved i ≡ 0 = h.none i at (omega arith) in
     let old_id : (word_at m.words 1).id ≤ suc r = h.id in
     let first = turns n w i (2 * r) 0 m p v at (omega arith) some h.keeps start
@@ -157,13 +147,11 @@ one_round n w r some le time x h =
     let few1 : (k : ℕ) → IsOneOf n k → place first.variables.moved k ≤ 2 =
     λ k k_one. elim (cases_eq k i) [
       | inl is ↦
-          (let e : place first.variables.moved k ≡ place p.moved i + 1 =
-          ap (place first.variables.moved) is ∙ first.moved in omega arith)
+          omega (arith, ap (place first.variables.moved) is ∙ first.moved)
       | inr other ↦
-          (let e : place first.variables.moved k ≡ place p.moved k =
-          first.unmoved k k_one other in let f : place p.moved k ≤ 2 = h.few k k_one in omega arith)
+          omega (arith, first.unmoved k k_one other, h.few k k_one)
     ] in
-    let once : place first.variables.moved i ≤ 1 = (let e = first.moved in omega arith) in
+    let once : place first.variables.moved i ≤ 1 = omega (arith, first.moved) in
     let second =
     turns n w i (suc (2 * r)) 1 m1 first.variables first.others at (omega arith) some first.keeps first.sized
     (λ y id toggle.
@@ -180,7 +168,7 @@ one_round n w r some le time x h =
     (Beside a i i after (idle_with second.others 1)) turn turn first.leads second.leads in
     let scene = (leads time x (beside_fresh a (suc r) i before x at (omega arith) h.scene)).scene in
     let next = run_from a time x (round_of_m n w r) in
-    let twice : place second.variables.moved i ≡ 2 = (let e = first.moved in let f = second.moved in omega arith) in
+    let twice : place second.variables.moved i ≡ 2 = omega (arith, first.moved, second.moved) in
     record {
       memory = second.memory;
       variables = second.variables;
@@ -188,13 +176,12 @@ one_round n w r some le time x h =
           (let e : suc (suc (2 * r)) ≡ 2 * suc r = omega arith in e)
           (subst (λ u. Scene a u after next) (let e : r + 2 ≡ suc (suc r) = omega arith in e) scene);
       keeps = second.keeps;
-      id = (let e = second.id in omega arith);
+      id = omega (arith, second.id);
       few = λ k k_one. elim (cases_eq k i) [
         | inl is ↦
-            (let e : place second.variables.moved k ≡ 2 = ap (place second.variables.moved) is ∙ twice in omega arith)
+            omega (arith, ap (place second.variables.moved) is ∙ twice)
         | inr other ↦
-            (let e : place second.variables.moved k ≡ place first.variables.moved k =
-            second.unmoved k k_one other in let f : place first.variables.moved k ≤ 2 = few1 k k_one in omega arith)
+            omega (arith, second.unmoved k k_one other, few1 k k_one)
       ];
       none = λ k k_one more.
           let other : k ≢ i = λ is. absurd (omega arith) in
@@ -211,8 +198,6 @@ opening n w some words time x is =
     let p : Variables = record p0 { moved = for_each n (λ k. 0) p0.moved; j = 1; k = 1 } in
     let ready = standing Scanning m p L13 0 in
     let walked : walk a 1 3 (standing Scanning m p0 L10 0) ≡ ready = refl in
-    let copies : length p.a ≡ max n w = length-replicate (max n w) first_word in
-    let rows : length p.g ≡ max n w = length-replicate (max n w) 0 in
     let zeros : (k : ℕ) → IsOneOf n k → place p.moved k ≡ 0 = λ k at. for_each_at n (λ k. 0) p0.moved k at in
     record {
       memory = m;
@@ -221,12 +206,11 @@ opening n w some words time x is =
       keeps = record {
         first_j = refl;
         first_k = refl;
-        sized = record { a = omega arith; b = omega arith; g = omega arith; h = omega arith; tog = omega arith };
+        sized = omega (arith, length-replicate (max n w) first_word, length-replicate {A = ℕ} (max n w) 0);
         words = length-replicate w first_word;
       };
-      id = (let e : (word_at m.words 1).id ≡ 0 = ap (λ (y : Word). y.id)
-          (get_or-replicate w (1 - 1) first_word no_word (omega arith)) in omega arith);
-      few = λ k at. let e = zeros k at in omega arith;
+      id = omega (arith, ap (λ (y : Word). y.id) (get_or-replicate w (1 - 1) first_word no_word (omega arith)));
+      few = λ k at. omega (arith, zeros k at);
       none = λ k at more. zeros k at;
     }
 
@@ -258,9 +242,11 @@ fits n w some most most_words =
     let one : IsOneOf n 1 = (omega arith, omega arith) in
     let each : (r : ℕ) → length (round_of_m n w r) ≡ 34 * n + 24 * w + 46 =
     λ r.
-    let two = length-append (turn_of_m n w r) (turn_of_m n w r) in
-    let e = round_length (r + 2) 1 (4 * n + 2 * w) (10 * n + 6 * w + 14) (3 * n + 4 * w + 8) in
-    omega arith in
+    omega (
+      arith,
+      length-append (turn_of_m n w r) (turn_of_m n w r),
+      round_length (r + 2) 1 (4 * n + 2 * w) (10 * n + 6 * w + 14) (3 * n + 4 * w + 8),
+    ) in
     let all = schedule_length (34 * n + 24 * w + 46) (round_of_m n w) (others n) 3 (7 * n + 6 * w + 4) each in
     let product : (others n) * (34 * n + 24 * w + 46) ≤ 64 * 3758 =
     mul-le (others n) (34 * n + 24 * w + 46) 64 3758 (omega arith) (omega arith) in

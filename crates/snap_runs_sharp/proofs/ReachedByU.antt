@@ -56,12 +56,12 @@ one_round n r le time x h =
     let collect = first_collect n 1 Scanning m h.variables r some h.first h.size_a in
     let p : Variables = record h.variables { j = 1; a = collect.0 } in
     let update =
-    whole_update n i i i m (first_variables n) 0 some (let e = length-replicate (max n n) (first_word n) in omega arith)
-    (let e = length-replicate (max n n) (first_word n) in omega arith) in
+    whole_update n i i i m (first_variables n) 0 some (omega (arith, length-replicate (max n n) (first_word n)))
+    (omega (arith, length-replicate (max n n) (first_word n))) in
     let m2 = slice_set m (i - 1) update.0 in
     let none_i = h.none i at (omega arith) in
     let written : word_at m2 i ≡ update.0 =
-    get_or-set_at m (i - 1) (i - 1) update.0 no_word refl (let e = h.words in omega arith) in
+    get_or-set_at m (i - 1) (i - 1) update.0 no_word refl (omega (arith, h.words)) in
     let seq : seq_at m2 i ≡ 1 = ap (λ (w : Word). w.seq) written ∙ update.3 in
     let kept : (k : ℕ) → IsOneOf n k → k ≢ i → word_at m2 k ≡ word_at m k =
     λ k k_one other. get_or-set_other m (i - 1) (k - 1) update.0 no_word (λ same. other (omega arith)) in
@@ -79,8 +79,8 @@ one_round n r le time x h =
       variables = q;
       scene = subst (λ u. Scene a u after (run_from a time x (round_of_u n r))) (omega arith) scene;
       first = failed.2;
-      size_a = (let e = failed.3 in let f = collect.2 in let g = h.size_a in omega arith);
-      size_b = (let e = failed.4 in let g = h.size_b in omega arith);
+      size_a = omega (arith, failed.3, collect.2, h.size_a);
+      size_b = omega (arith, failed.4, h.size_b);
       words = length-set m (i - 1) update.0 ∙ h.words;
       few = failed.5;
       none = λ k k_one more.
@@ -109,7 +109,7 @@ opening n some time x is =
       size_a = omega arith;
       size_b = omega arith;
       words = length-replicate n (first_word n);
-      few = λ k at. let e = zeros k at in omega arith;
+      few = λ k at. omega (arith, zeros k at);
       none =
           λ k at more.
           (zeros k at, ap (λ (w : Word). w.seq) (get_or-replicate n (k - 1) (first_word n) no_word (omega arith)));
@@ -148,8 +148,8 @@ reaching n count round some each fits =
 fits : (n : ℕ) → 1 ≤ n → n ≤ max_count → suffices.Ready n (schedule_of_u n)
 fits n some most =
     let one : IsOneOf n 1 = (omega arith, some) in
-    let each : (r : ℕ) → length (round_of_u n r) ≡ 8 * n + 14 = λ r. let e = round_length (r + 2) (r + 2) (2 * n)
-    (4 * n + 9) (2 * n + 4) in omega arith in
+    let each : (r : ℕ) → length (round_of_u n r) ≡ 8 * n + 14 = λ r.
+    omega (arith, round_length (r + 2) (r + 2) (2 * n) (4 * n + 9) (2 * n + 4)) in
     let size = schedule_length (8 * n + 14) (round_of_u n) (others n) 2 (4 * n + 2) each in
     let product : (others n) * (8 * n + 14) ≤ 64 * 526 =
     mul-le (others n) (8 * n + 14) 64 526 (omega arith) (omega arith) in

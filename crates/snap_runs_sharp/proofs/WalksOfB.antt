@@ -15,7 +15,7 @@ use Rattle.snap_runs_of_b.proofs.Algorithm.{L41, L44, place, handshake_at, bit_f
 use Rattle.snap_runs_of_b.proofs.Algorithm.{counted, at_limit, word_put, algorithm}
 use Rattle.snap_runs_sharp.proofs.Alone.{Seat, Alone, placed, standing, idling, walk, walks}
 use Rattle.snap_runs_sharp.proofs.Filling.{Filled, all_hold, one_fails, none_first}
-use Rattle.snap_runs_sharp.proofs.Loops.{fill}
+use Rattle.snap_runs_sharp.proofs.Loops.{fill, collect}
 
 abbrev pub Standing : Type 0
 Standing = Alone Variables ProgramCounter Registers
@@ -50,9 +50,8 @@ shaken me m r j g = record {
 drawn_is : (size me : ℕ) (m : Registers) (r : Shaken size) (j : ℕ) (g : List ℕ) → 0 < j → j ≤ size →
     drawn me m r j g ≡ slice_set g (j - 1) (handshakes m.words me j)
 drawn_is size me m r j g pos le =
-    let long : length r.a ≡ size = r.size_a in
     ap (λ (x : Word). slice_set g (j - 1) (handshake_at x me))
-    (get_or-set_at r.a (j - 1) (j - 1) (word_at m.words j) no_word refl (omega arith))
+    (get_or-set_at r.a (j - 1) (j - 1) (word_at m.words j) no_word refl (omega (arith, r.size_a)))
 
 -- a process that shakes hands with process j
 abbrev shaking : {size : ℕ} → Mode → Registers → Variables → ℕ → Shaken size → ℕ → List ℕ → Standing
@@ -83,10 +82,9 @@ handshake n me d m p c some first size_a size_g =
     let start : Shaken size = record { q = m.q; a = p.a; marks = p.marks; size_a = refl } in
     let at = λ (r : Shaken size) (j : ℕ) (g : List ℕ). shaking d m p c r j g in
     let beyond = λ (r : Shaken size) (g : List ℕ). shook d m p c r g in
-    let h = fill (algorithm n) me 4 n at beyond (handshakes m.words me) 0
+    fill (algorithm n) me 4 n at beyond (handshakes m.words me) 0
     (λ r j g pos lt long. (shaken me m r j g, shakes size n me d m p c r j g pos lt size_a))
-    (λ r g long. (shaken me m r n g, shakes_last size n me d m p c r g some size_a)) start p.g some size_g in
-    (h.0, h.1, ap (λ j. walk (algorithm n) me (4 * n) (standing d m (record p { j = j }) L12 c)) first ∙ h.2, h.3, h.4)
+    (λ r g long. (shaken me m r n g, shakes_last size n me d m p c r g some size_a)) start p.j p.g first some size_g
 
 -- the first collect: the copies are filled with the words
 copies_first : (n me : ℕ) (d : Mode) (m : Registers) (p : Variables) (c : ℕ) → 1 ≤ n → p.j ≡ 1 → n ≤ length p.a →
@@ -94,12 +92,10 @@ copies_first : (n me : ℕ) (d : Mode) (m : Registers) (p : Variables) (c : ℕ)
     × (walk (algorithm n) me (2 * n) (standing d m p L16 c) ≡ standing d m (record p { j = 1; a = a }) L18 c)
     × (length a ≡ length p.a) × Filled (word_at m.words) no_word (n + 1) a
 copies_first n me d m p c some first size =
-    let at = λ (r : Unit {0}) (j : ℕ) (xs : Words). standing d m (record p { j = j; a = xs }) L16 c in
-    let beyond = λ (r : Unit {0}) (xs : Words). standing d m (record p { j = 1; a = xs }) L18 c in
-    let h = fill (algorithm n) me 2 n at beyond (word_at m.words) no_word
-    (λ r j xs pos lt long. (tt, rw (lt_true j n lt) refl)) (λ r xs long. (tt, rw (lt_false n n (omega arith)) refl)) tt
-    p.a some size in
-    (h.1, ap (λ j. walk (algorithm n) me (2 * n) (standing d m (record p { j = j }) L16 c)) first ∙ h.2, h.3, h.4)
+    collect (algorithm n) me 2 n (λ j xs. standing d m (record p { j = j; a = xs }) L16 c)
+    (λ xs. standing d m (record p { j = 1; a = xs }) L18 c) (word_at m.words) no_word
+    (λ j xs lt. rw (lt_true j n lt) refl) (λ xs. rw (lt_false n n (omega arith)) refl)
+    p.j p.a first some size
 
 -- the second collect
 pub second_collect : (n me : ℕ) (d : Mode) (m : Registers) (p : Variables) (c : ℕ) → 1 ≤ n → p.j ≡ 1 → n ≤ length p.b →
@@ -107,12 +103,10 @@ pub second_collect : (n me : ℕ) (d : Mode) (m : Registers) (p : Variables) (c 
     × (walk (algorithm n) me (2 * n) (standing d m p L18 c) ≡ standing d m (record p { j = 1; b = b }) L20 c)
     × (length b ≡ length p.b) × Filled (word_at m.words) no_word (n + 1) b
 second_collect n me d m p c some first size =
-    let at = λ (r : Unit {0}) (j : ℕ) (xs : Words). standing d m (record p { j = j; b = xs }) L18 c in
-    let beyond = λ (r : Unit {0}) (xs : Words). standing d m (record p { j = 1; b = xs }) L20 c in
-    let h = fill (algorithm n) me 2 n at beyond (word_at m.words) no_word
-    (λ r j xs pos lt long. (tt, rw (lt_true j n lt) refl)) (λ r xs long. (tt, rw (lt_false n n (omega arith)) refl)) tt
-    p.b some size in
-    (h.1, ap (λ j. walk (algorithm n) me (2 * n) (standing d m (record p { j = j }) L18 c)) first ∙ h.2, h.3, h.4)
+    collect (algorithm n) me 2 n (λ j xs. standing d m (record p { j = j; b = xs }) L18 c)
+    (λ xs. standing d m (record p { j = 1; b = xs }) L20 c) (word_at m.words) no_word
+    (λ j xs lt. rw (lt_true j n lt) refl) (λ xs. rw (lt_false n n (omega arith)) refl)
+    p.j p.b first some size
 
 -- how the handshake and the first collect leave a process: its copies and its bits are those of the words
 pub record Collected (n me : ℕ) (d : Mode) (m : Registers) (p : Variables) (c : ℕ) : Type 0 where
@@ -141,8 +135,7 @@ first_collect n me d m p c some first size_a size_g =
       a = copies.0;
       g = bits.1;
       marks = r.marks;
-      walked = walks (algorithm n) me (4 * n) (2 * n) (6 * n) (standing d m p L12 c) (standing d m1 p1 L16 c)
-          (standing d m1 (record p1 { a = copies.0 }) L18 c) bits.2 copies.1 (omega arith);
+      walked = walks (algorithm n) me (4 * n) (2 * n) (6 * n) (standing d m p L12 c) bits.2 copies.1 (omega arith);
       size_a = copies.2 ∙ long;
       size_g = bits.3;
       copies = copies.3;
@@ -194,14 +187,9 @@ clean n me d m p c some first size_a size_b size_g =
     let passes = all_hold (agree me p2) n (λ k at. compares n me k m.words m.words p2 at one.copies two.3 one.bits
     ∙ alike_same me (word_at m.words k)) in
     let test : walk (algorithm n) me 2 (standing d m1 p2 L20 c) ≡ standing d m1 v L26 (suc c) = rw passes refl in
-    let both = walks (algorithm n) me (6 * n) (2 * n) (8 * n) (standing d m p L12 c) (standing d m1 p1 L18 c)
-    (standing d m1 p2 L20 c) one.walked two.1 (omega arith) in (
-      one.q,
-      v,
-      walks (algorithm n) me (8 * n) 2 (8 * n + 2) (standing d m p L12 c) (standing d m1 p2 L20 c)
-          (standing d m1 v L26 (suc c)) both test refl,
-      refl,
-    )
+    let start = standing d m p L12 c in
+    let both = walks (algorithm n) me (6 * n) (2 * n) (8 * n) start one.walked two.1 (omega arith) in
+    (one.q, v, walks (algorithm n) me (8 * n) 2 (8 * n + 2) start both test refl, refl)
 
 -- an update answers the bits of the processes from j on
 answers_from : (n me : ℕ) (d : Mode) (m : Registers) (s : ℕ) (p : Variables) (c : ℕ) → p.j + s ≡ n → 0 < p.j →
@@ -218,8 +206,7 @@ answers_from n me d m (suc s) p c last pos =
     rw (lt_true p.j n (omega arith)) refl in (
       rest.0,
       rest.1,
-      walks (algorithm n) me 3 (3 * suc s) (3 * suc (suc s)) (standing d m p L41 c) (standing d m next L41 c)
-          (standing d m (record p { j = 1; x = rest.0; f = rest.1 }) L44 c) three rest.2 (omega arith),
+      walks (algorithm n) me 3 (3 * suc s) (3 * suc (suc s)) (standing d m p L41 c) three rest.2 (omega arith),
     )
 
 -- a whole update alone writes a word with the other toggle
@@ -240,22 +227,17 @@ whole_update n me word value m p c some size_a size_b size_g =
     let p3 : Variables = record view.1 { t = flipped view.1.t } in
     let x = word_put n me u m1 p3 in
     let done : Standing = idling (record { words = slice_set m.words (me - 1) x; q = view.0 }) p3 1 in
-    let start : Standing = standing u m p L40 c in
-    let asked : Standing = standing u m p1 L44 c in
-    let begun : Standing = standing d m p2 L12 0 in
-    let viewed : Standing = standing d m1 view.1 L26 1 in
+    let start = standing u m p L40 c in
     let enters : walk (algorithm n) me 1 start ≡ standing u m p0 L41 c = refl in
-    let begins : walk (algorithm n) me 3 asked ≡ begun = refl in
-    let ends : walk (algorithm n) me 4 viewed ≡ done = refl in
-    let shaken = walks (algorithm n) me 1 (3 * suc (n - 1)) (3 * n + 1) start
-    (standing u m p0 L41 c) asked enters answers.2 (omega arith) in
-    let called = walks (algorithm n) me (3 * n + 1) 3 (3 * n + 4) start asked begun shaken begins (omega arith) in
-    let scanned =
-    walks (algorithm n) me (3 * n + 4) (8 * n + 2) (11 * n + 6) start begun viewed called view.2 (omega arith) in (
+    let begins : walk (algorithm n) me 3 (standing u m p1 L44 c) ≡ standing d m p2 L12 0 = refl in
+    let ends : walk (algorithm n) me 4 (standing d m1 view.1 L26 1) ≡ done = refl in
+    let shaken = walks (algorithm n) me 1 (3 * suc (n - 1)) (3 * n + 1) start enters answers.2 (omega arith) in
+    let called = walks (algorithm n) me (3 * n + 1) 3 (3 * n + 4) start shaken begins (omega arith) in
+    let scanned = walks (algorithm n) me (3 * n + 4) (8 * n + 2) (11 * n + 6) start called view.2 (omega arith) in (
       x,
       view.0,
       done.seat,
-      walks (algorithm n) me (11 * n + 6) 4 (11 * n + 10) start viewed done scanned ends (omega arith),
+      walks (algorithm n) me (11 * n + 6) 4 (11 * n + 10) start scanned ends (omega arith),
       ap flipped view.3,
     )
 
@@ -285,10 +267,9 @@ fails n i m m' p c some first size a g one changed same few none =
     ∙ ap (λ b. if not b then moved_at p1 i + 1 else moved_at p1 i) differ ∙ ap (λ y. y + 1) none in
     let at_most : (k : ℕ) → IsOneOf n k → moved_at v k ≤ 1 =
     λ k at. elim (cases_eq k i) [
-      | inl is ↦ (let e : moved_at v k ≡ 1 = ap (moved_at v) is ∙ moves in omega arith)
+      | inl is ↦ omega (arith, ap (moved_at v) is ∙ moves)
       | inr other ↦
-          (let e : moved_at v k ≡ moved_at p k =
-          others k at other in let f : moved_at p k ≤ 1 = few k at in omega arith)
+          omega (arith, others k at other, few k at)
     ] in
     let stays : first_true 1 (map (at_limit v) (places_to n)) ≡ None =
     none_first (at_limit v) n (λ k at.
@@ -296,8 +277,7 @@ fails n i m m' p c some first size a g one changed same few none =
     let test : walk (algorithm n) 1 4 (standing Scanning m' p1 L20 c) ≡ standing Scanning m' v L12 (suc c) =
     rw (one_fails (agree 1 p1) n i one differ, stays) refl in (
       v,
-      walks (algorithm n) 1 (2 * n) 4 (2 * n + 4) (standing Scanning m' p L18 c) (standing Scanning m' p1 L20 c)
-          (standing Scanning m' v L12 (suc c)) two.1 test refl,
+      walks (algorithm n) 1 (2 * n) 4 (2 * n + 4) (standing Scanning m' p L18 c) two.1 test refl,
       refl,
       refl,
       two.2,

@@ -18,7 +18,7 @@ use Rattle.snap_runs_of_m.proofs.Algorithm.{after_55, after_57, algorithm}
 use Rattle.snap_runs_of_m.proofs.Basics.{row_elsewhere, set_here}
 use Rattle.snap_runs_sharp.proofs.Alone.{Alone, standing, idling, walk, walks}
 use Rattle.snap_runs_sharp.proofs.Filling.{Filled, all_hold, one_fails, none_first}
-use Rattle.snap_runs_sharp.proofs.Loops.{fill}
+use Rattle.snap_runs_sharp.proofs.Loops.{fill, collect}
 
 abbrev pub Standing : Type 0
 Standing = Alone Variables ProgramCounter Registers
@@ -47,15 +47,9 @@ handshake n w me d m p c some first size =
     let beyond =
     λ (r : Bits × ℕ) (xs : List ℕ). standing d (record m { q = r.0 }) (record p { j = 1; x = r.1; g = xs }) L17 c in
     let rest : Bits × ℕ → ℕ → Bits × ℕ = λ r j. (with_bit r.0 me j (bit m.p j me), bit m.p j me) in
-    let h = fill (algorithm n w) me 4 n at beyond (bits_for m.p me) 0
+    fill (algorithm n w) me 4 n at beyond (bits_for m.p me) 0
     (λ r j xs pos lt long. (rest r j, rw (lt_true j n lt) refl))
-    (λ r xs long. (rest r n, rw (lt_false n n (omega arith)) refl)) (m.q, p.x) p.g some size in (
-      h.0,
-      h.1,
-      ap (λ j. walk (algorithm n w) me (4 * n) (standing d m (record p { j = j }) L13 c)) first ∙ h.2,
-      h.3,
-      h.4,
-    )
+    (λ r xs long. (rest r n, rw (lt_false n n (omega arith)) refl)) (m.q, p.x) p.j p.g first some size
 
 -- the first collect: the copies are filled with the words
 copies_first : (n w me : ℕ) (d : Mode) (m : Registers) (p : Variables) (c : ℕ) → 1 ≤ w → p.k ≡ 1 → w ≤ length p.a →
@@ -63,12 +57,10 @@ copies_first : (n w me : ℕ) (d : Mode) (m : Registers) (p : Variables) (c : �
     × (walk (algorithm n w) me (2 * w) (standing d m p L17 c) ≡ standing d m (record p { k = 1; a = a }) L19 c)
     × (length a ≡ length p.a) × Filled (word_at m.words) no_word (w + 1) a
 copies_first n w me d m p c some first size =
-    let at = λ (r : Unit {0}) (k : ℕ) (xs : Words). standing d m (record p { k = k; a = xs }) L17 c in
-    let beyond = λ (r : Unit {0}) (xs : Words). standing d m (record p { k = 1; a = xs }) L19 c in
-    let h = fill (algorithm n w) me 2 w at beyond (word_at m.words) no_word
-    (λ r k xs pos lt long. (tt, rw (lt_true k w lt) refl)) (λ r xs long. (tt, rw (lt_false w w (omega arith)) refl)) tt
-    p.a some size in
-    (h.1, ap (λ k. walk (algorithm n w) me (2 * w) (standing d m (record p { k = k }) L17 c)) first ∙ h.2, h.3, h.4)
+    collect (algorithm n w) me 2 w (λ k xs. standing d m (record p { k = k; a = xs }) L17 c)
+    (λ xs. standing d m (record p { k = 1; a = xs }) L19 c) (word_at m.words) no_word
+    (λ k xs lt. rw (lt_true k w lt) refl) (λ xs. rw (lt_false w w (omega arith)) refl)
+    p.k p.a first some size
 
 -- the second collect
 copies_second : (n w me : ℕ) (d : Mode) (m : Registers) (p : Variables) (c : ℕ) → 1 ≤ w → p.k ≡ 1 → w ≤ length p.b →
@@ -76,12 +68,10 @@ copies_second : (n w me : ℕ) (d : Mode) (m : Registers) (p : Variables) (c : �
     × (walk (algorithm n w) me (2 * w) (standing d m p L19 c) ≡ standing d m (record p { k = 1; b = b }) L21 c)
     × (length b ≡ length p.b) × Filled (word_at m.words) no_word (w + 1) b
 copies_second n w me d m p c some first size =
-    let at = λ (r : Unit {0}) (k : ℕ) (xs : Words). standing d m (record p { k = k; b = xs }) L19 c in
-    let beyond = λ (r : Unit {0}) (xs : Words). standing d m (record p { k = 1; b = xs }) L21 c in
-    let h = fill (algorithm n w) me 2 w at beyond (word_at m.words) no_word
-    (λ r k xs pos lt long. (tt, rw (lt_true k w lt) refl)) (λ r xs long. (tt, rw (lt_false w w (omega arith)) refl)) tt
-    p.b some size in
-    (h.1, ap (λ k. walk (algorithm n w) me (2 * w) (standing d m (record p { k = k }) L19 c)) first ∙ h.2, h.3, h.4)
+    collect (algorithm n w) me 2 w (λ k xs. standing d m (record p { k = k; b = xs }) L19 c)
+    (λ xs. standing d m (record p { k = 1; b = xs }) L21 c) (word_at m.words) no_word
+    (λ k xs lt. rw (lt_true k w lt) refl) (λ xs. rw (lt_false w w (omega arith)) refl)
+    p.k p.b first some size
 
 -- the bits of all processes are read late
 late_bits : (n w me : ℕ) (d : Mode) (m : Registers) (p : Variables) (c : ℕ) → 1 ≤ n → p.j ≡ 1 → n ≤ length p.h →
@@ -91,15 +81,9 @@ late_bits : (n w me : ℕ) (d : Mode) (m : Registers) (p : Variables) (c : ℕ) 
 late_bits n w me d m p c some first size =
     let at = λ (r j : ℕ) (xs : List ℕ). standing d m (record p { j = j; x = r; h = xs }) L21 c in
     let beyond = λ (r : ℕ) (xs : List ℕ). standing d m (record p { j = 1; x = r; h = xs }) L24 c in
-    let h = fill (algorithm n w) me 3 n at beyond (bits_for m.p me) 0
+    fill (algorithm n w) me 3 n at beyond (bits_for m.p me) 0
     (λ r j xs pos lt long. (bit m.p j me, rw (lt_true j n lt) refl))
-    (λ r xs long. (bit m.p n me, rw (lt_false n n (omega arith)) refl)) p.x p.h some size in (
-      h.0,
-      h.1,
-      ap (λ j. walk (algorithm n w) me (3 * n) (standing d m (record p { j = j }) L21 c)) first ∙ h.2,
-      h.3,
-      h.4,
-    )
+    (λ r xs long. (bit m.p n me, rw (lt_false n n (omega arith)) refl)) p.x p.j p.h first some size
 
 -- the copies of the words after word k are found to be the same
 rest_from : (n w me : ℕ) (d : Mode) (m : Registers) (s : ℕ) (p : Variables) (c : ℕ) → p.k + s ≡ w →
@@ -111,8 +95,7 @@ rest_from n w me d m (suc s) p c last same =
     let two : walk (algorithm n w) me 2 (standing d m p L29 c) ≡ standing d m next L29 c =
     rw (lt_true p.k w (omega arith), same (p.k + 1) (omega arith) (omega arith)) refl in
     let rest = rest_from n w me d m s next c (omega arith) (λ k lt le. same k (omega arith) le) in
-    walks (algorithm n w) me 2 (2 * s + 1) (2 * suc s + 1) (standing d m p L29 c) (standing d m next L29 c)
-    (standing d m (record p { k = 1 }) L30 c) two rest (omega arith)
+    walks (algorithm n w) me 2 (2 * s + 1) (2 * suc s + 1) (standing d m p L29 c) two rest (omega arith)
 
 -- How the handshake and the first collect leave a process: its bits are those of the others, and
 -- its copies those of the words.
@@ -141,8 +124,8 @@ first_collect n w me d m p c some words first_j first_k sized =
       x = r.1;
       g = early.1;
       a = copies.0;
-      walked = walks (algorithm n w) me (4 * n) (2 * w) (4 * n + 2 * w) (standing d m p L13 c) (standing d m1 p1 L17 c)
-          (standing d m1 (record p1 { k = 1; a = copies.0 }) L19 c) early.2 copies.1 (omega arith);
+      walked =
+          walks (algorithm n w) me (4 * n) (2 * w) (4 * n + 2 * w) (standing d m p L13 c) early.2 copies.1 (omega arith);
       size_g = early.3;
       size_a = copies.2;
       bits = early.4;
@@ -169,9 +152,7 @@ pub record Compared (n w me : ℕ) (d : Mode) (m : Registers) (p : Variables) (c
 
 length_each : (n : ℕ) (f : ℕ → ℕ) (old : List ℕ) → n ≤ length (for_each n f old)
 length_each n f old =
-    let sum = length-append (map f (places_to n)) (drop n old) in
-    let front = length-map-range_with_len f 1 n in
-    omega arith
+    omega (arith, length-append (map f (places_to n)) (drop n old), length-map-range_with_len f 1 n)
 
 pub second_collect : (n w me : ℕ) (d : Mode) (m : Registers) (p : Variables) (c : ℕ) → 1 ≤ n → 1 ≤ w → p.j ≡ 1 →
     p.k ≡ 1 → Sized n w p → Compared n w me d m p c
@@ -184,16 +165,15 @@ second_collect n w me d m p c some words first_j first_k sized =
     let p3 : Variables = record p2 { d = zeros } in
     let marks = for_each n (marked p3) zeros in
     let p4 : Variables = record p2 { d = marks } in
+    let start = standing d m p L19 c in
     let two : walk (algorithm n w) me 2 (standing d m p2 L24 c) ≡ standing d m p4 L26 c = refl in
-    let both = walks (algorithm n w) me (2 * w) (3 * n) (3 * n + 2 * w) (standing d m p L19 c) (standing d m p1 L21 c)
-    (standing d m p2 L24 c) copies.1 late.2 (omega arith) in
+    let both = walks (algorithm n w) me (2 * w) (3 * n) (3 * n + 2 * w) start copies.1 late.2 (omega arith) in
     record {
       x = late.0;
       h = late.1;
       b = copies.0;
       marks = marks;
-      walked = walks (algorithm n w) me (3 * n + 2 * w) 2 (3 * n + 2 * w + 2) (standing d m p L19 c)
-          (standing d m p2 L24 c) (standing d m p4 L26 c) both two refl;
+      walked = walks (algorithm n w) me (3 * n + 2 * w) 2 (3 * n + 2 * w + 2) start both two refl;
       size_h = late.3;
       size_b = copies.2;
       size_marks = length_each n (marked p3) zeros;
@@ -228,13 +208,7 @@ clean n w me d m p c some words first_j first_k sized =
     let one = first_collect n w me d m p c some words first_j first_k sized in
     let m1 : Registers = record m { q = one.q } in
     let p1 : Variables = record p { j = 1; k = 1; x = one.x; g = one.g; a = one.a } in
-    let sized1 : Sized n w p1 = record {
-      a = (let e = one.size_a in let f = sized.a in omega arith);
-      b = sized.b;
-      g = (let e = one.size_g in let f = sized.g in omega arith);
-      h = sized.h;
-      tog = sized.tog;
-    } in
+    let sized1 : Sized n w p1 = omega (arith, sized, one.size_a, one.size_g) in
     let two = second_collect n w me d m1 p1 c some words refl refl sized1 in
     let p2 : Variables = record p1 { x = two.x; h = two.h; b = two.b; d = two.marks } in
     let v : Variables = record p2 { s = map (λ (r : Word). r.datum) (take w (map plain two.b)) } in
@@ -249,28 +223,18 @@ clean n w me d m p c some words first_j first_k sized =
     let rest = rest_from n w me d m1 (w - 1) p2 c (omega arith) (λ k lt le. same k (omega arith) le) in
     let end : walk (algorithm n w) me 2 (standing d m1 p2 L30 c) ≡ standing d m1 v L35 (suc c) = rw
     (all_hold (λ e. nat_eq (place two.marks e) 0) n still) refl in
-    let start : Standing = standing d m p L13 c in
-    let middle : Standing = standing d m1 p1 L19 c in
-    let compared : Standing = standing d m1 p2 L26 c in
-    let tested : Standing = standing d m1 p2 L30 c in
-    let half = walks (algorithm n w) me (4 * n + 2 * w) (3 * n + 2 * w + 2) (7 * n + 4 * w + 2) start middle compared
-    one.walked two.walked (omega arith) in
-    let words_same = walks (algorithm n w) me 1 (2 * (w - 1) + 1) (2 * w) compared
-    (standing d m1 p2 L29 c) tested test rest (omega arith) in
-    let all = walks (algorithm n w) me (7 * n + 4 * w + 2) (2 * w)
-    (7 * n + 6 * w + 2) start compared tested half words_same (omega arith) in (
+    let start = standing d m p L13 c in
+    let half = walks (algorithm n w) me (4 * n + 2 * w) (3 * n + 2 * w + 2) (7 * n + 4 * w + 2) start one.walked
+    two.walked (omega arith) in
+    let words_same =
+    walks (algorithm n w) me 1 (2 * (w - 1) + 1) (2 * w) (standing d m1 p2 L26 c) test rest (omega arith) in
+    let all = walks (algorithm n w) me (7 * n + 4 * w + 2) (2 * w) (7 * n + 6 * w + 2) start half words_same
+    (omega arith) in (
       one.q,
       v,
-      walks (algorithm n w) me (7 * n + 6 * w + 2) 2 (7 * n + 6 * w + 4) start tested
-          (standing d m1 v L35 (suc c)) all end (omega arith),
+      walks (algorithm n w) me (7 * n + 6 * w + 2) 2 (7 * n + 6 * w + 4) start all end (omega arith),
       refl,
-      record {
-        a = sized1.a;
-        b = (let e = two.size_b in let f = sized.b in omega arith);
-        g = sized1.g;
-        h = (let e = two.size_h in let f = sized.h in omega arith);
-        tog = sized.tog;
-      },
+      omega (arith, sized1, two.size_b, two.size_h),
     )
 
 -- a second collect after an update of word 1 by process i: the test fails, and one move of that process is counted
@@ -318,34 +282,22 @@ fails n w i m m' p c some words first_j first_k sized copies bits one id changed
           (let f : place v.moved e ≡ place p.moved i + 1 = ap (place v.moved) is ∙ moved_i in
           other_number (place v.moved e) 3 (λ at_limit. absurd (omega arith)))
       | inr other ↦ (let f : place v.moved e ≡ place p.moved e = moved_other e at other in
-          let g : place p.moved e ≤ 2 = few_all e at in
-          other_number (place v.moved e) 3 (λ at_limit. absurd (omega arith)))
+          other_number (place v.moved e) 3 (λ at_limit. absurd (omega (arith, few_all e at))))
     ] in
     let test : walk (algorithm n w) 1 3 (standing Scanning m' p1 L26 c) ≡ standing Scanning m' p2 L29 c =
     rw differ refl in
     let rest = rest_from n w 1 Scanning m' (w - 1) p2 c (omega arith) (λ k lt le. alike k lt le) in
     let back : walk (algorithm n w) 1 4 (standing Scanning m' p2 L30 c) ≡ standing Scanning m' v L13 (suc c) =
     rw (one_fails (λ e. nat_eq (place marks e) 0) n i one fails_i, none_first (at_limit v) n below) refl in
-    let start : Standing = standing Scanning m' p L19 c in
-    let compared : Standing = standing Scanning m' p1 L26 c in
-    let unlike : Standing = standing Scanning m' p2 L29 c in
-    let tested : Standing = standing Scanning m' p2 L30 c in
-    let half = walks (algorithm n w) 1 (3 * n + 2 * w + 2) 3
-    (3 * n + 2 * w + 5) start compared unlike two.walked test (omega arith) in
-    let all = walks (algorithm n w) 1 (3 * n + 2 * w + 5) (2 * (w - 1) + 1)
-    (3 * n + 4 * w + 4) start unlike tested half rest (omega arith) in (
+    let start = standing Scanning m' p L19 c in
+    let half = walks (algorithm n w) 1 (3 * n + 2 * w + 2) 3 (3 * n + 2 * w + 5) start two.walked test (omega arith) in
+    let all = walks (algorithm n w) 1 (3 * n + 2 * w + 5) (2 * (w - 1) + 1) (3 * n + 4 * w + 4) start half rest
+    (omega arith) in (
       v,
-      walks (algorithm n w) 1 (3 * n + 4 * w + 4) 4 (3 * n + 4 * w + 8) start tested
-          (standing Scanning m' v L13 (suc c)) all back (omega arith),
+      walks (algorithm n w) 1 (3 * n + 4 * w + 4) 4 (3 * n + 4 * w + 8) start all back (omega arith),
       refl,
       refl,
-      record {
-        a = sized.a;
-        b = (let e = two.size_b in let f = sized.b in omega arith);
-        g = sized.g;
-        h = (let e = two.size_h in let f = sized.h in omega arith);
-        tog = sized.tog;
-      },
+      omega (arith, sized, two.size_b, two.size_h),
       moved_i,
       moved_other,
     )
@@ -374,8 +326,7 @@ answers_from n w me d (suc s) m p c last pos mine =
     rw (lt_true p.j n (omega arith)) refl in (
       rest.0,
       rest.1,
-      walks (algorithm n w) me 3 (3 * suc s) (3 * suc (suc s)) (standing d m p L51 c) (standing d m1 next L51 c)
-          (standing d rest.0 (record p { j = 1; x = rest.1 }) L54 c) three rest.2 (omega arith),
+      walks (algorithm n w) me 3 (3 * suc s) (3 * suc (suc s)) (standing d m p L51 c) three rest.2 (omega arith),
       rest.3,
       λ e k at other. rest.4 e k at other
           ∙ ap (λ (row : List ℕ). slice_index row (k - 1)) (row_elsewhere m.p me p.j (flip x) e mine at other),
@@ -406,8 +357,7 @@ whole_update n w me word value m p c some words mine of_word sized =
     let m1 = answers.0 in
     let p1 : Variables = record p0 { x = answers.1 } in
     let p2 : Variables = record p1 { moved = for_each n (λ e. 0) p1.moved; j = 1; k = 1 } in
-    let view = clean n w me d m1 p2 0 some words refl refl
-    (record { a = sized.a; b = sized.b; g = sized.g; h = sized.h; tog = sized.tog }) in
+    let view = clean n w me d m1 p2 0 some words refl refl (omega (arith, sized)) in
     let m2 : Registers = record m1 { q = view.0 } in
     let v = view.1 in
     let toggles = slice_set v.tog (word - 1) (flip (place v.tog word)) in
@@ -415,34 +365,26 @@ whole_update n w me word value m p c some words mine of_word sized =
     let m3 = after_55 me m2 v in
     let x = written me u m3 v2 in
     let done : Standing = idling (after_57 me u m3 v2) v2 1 in
-    let start : Standing = standing u m p L50 c in
-    let asked : Standing = standing u m1 p1 L54 c in
-    let begun : Standing = standing d m1 p2 L13 0 in
-    let viewed : Standing = standing d m2 v L35 1 in
+    let start = standing u m p L50 c in
     let enters : walk (algorithm n w) me 1 start ≡ standing u m p0 L51 c = refl in
-    let begins : walk (algorithm n w) me 4 asked ≡ begun = refl in
-    let ends : walk (algorithm n w) me 5 viewed ≡ done = refl in
-    let shaken = walks (algorithm n w) me 1 (3 * suc (n - 1)) (3 * n + 1) start
-    (standing u m p0 L51 c) asked enters answers.2 (omega arith) in
-    let called = walks (algorithm n w) me (3 * n + 1) 4 (3 * n + 5) start asked begun shaken begins (omega arith) in
-    let scanned = walks (algorithm n w) me (3 * n + 5) (7 * n + 6 * w + 4)
-    (10 * n + 6 * w + 9) start begun viewed called view.2 (omega arith) in
+    let begins : walk (algorithm n w) me 4 (standing u m1 p1 L54 c) ≡ standing d m1 p2 L13 0 = refl in
+    let ends : walk (algorithm n w) me 5 (standing d m2 v L35 1) ≡ done = refl in
+    let shaken = walks (algorithm n w) me 1 (3 * suc (n - 1)) (3 * n + 1) start enters answers.2 (omega arith) in
+    let called = walks (algorithm n w) me (3 * n + 1) 4 (3 * n + 5) start shaken begins (omega arith) in
+    let scanned =
+    walks (algorithm n w) me (3 * n + 5) (7 * n + 6 * w + 4) (10 * n + 6 * w + 9) start called view.2 (omega arith) in
     let same_tog : place v.tog word ≡ place p.tog word = ap (λ row. place row word) view.3 in
-    let size_v : w ≤ length v.tog = view.4.tog in
-    let size_tog : length toggles ≡ length v.tog = length-set v.tog (word - 1) (flip (place v.tog word)) in
     let flipped : place toggles word ≡ flip (place p.tog word) =
-    set_here v.tog word (flip (place v.tog word)) of_word.0 (omega arith) ∙ ap flip same_tog in
+    set_here v.tog word (flip (place v.tog word)) of_word.0 (omega (arith, view.4.tog)) ∙ ap flip same_tog in
     record {
       memory = after_57 me u m3 v2;
       variables = v2;
-      walked =
-          walks (algorithm n w) me (10 * n + 6 * w + 9) 5
-          (10 * n + 6 * w + 14) start viewed done scanned ends (omega arith);
+      walked = walks (algorithm n w) me (10 * n + 6 * w + 9) 5 (10 * n + 6 * w + 14) start scanned ends (omega arith);
       put = x;
       words_are = ap (λ (ws : Words). slice_set ws (word - 1) x) answers.3;
       id = refl;
       toggle = flipped;
       tog = flipped;
-      sized = record { a = view.4.a; b = view.4.b; g = view.4.g; h = view.4.h; tog = omega arith };
+      sized = omega (arith, view.4, length-set v.tog (word - 1) (flip (place v.tog word)));
       bits = answers.4;
     }

@@ -11,7 +11,7 @@ use Rattle.snap_runs_of_u.proofs.Algorithm.{Words, Variables, ProgramCounter, L1
 use Rattle.snap_runs_of_u.proofs.Algorithm.{agree, moved_at, counted, at_limit, word_put, algorithm}
 use Rattle.snap_runs_sharp.proofs.Alone.{Seat, Alone, placed, standing, idling, walk, walks}
 use Rattle.snap_runs_sharp.proofs.Filling.{Filled, all_hold, one_fails, none_first}
-use Rattle.snap_runs_sharp.proofs.Loops.{fill}
+use Rattle.snap_runs_sharp.proofs.Loops.{collect}
 
 abbrev pub Standing : Type 0
 Standing = Alone Variables ProgramCounter Words
@@ -22,12 +22,10 @@ pub first_collect : (n me : ℕ) (d : Mode) (m : Words) (p : Variables) (c : ℕ
     × (walk (algorithm n) me (2 * n) (standing d m p L12 c) ≡ standing d m (record p { j = 1; a = a }) L14 c)
     × (length a ≡ length p.a) × Filled (word_at m) no_word (n + 1) a
 first_collect n me d m p c some first size =
-    let at = λ (r : Unit {0}) (j : ℕ) (xs : Words). standing d m (record p { j = j; a = xs }) L12 c in
-    let beyond = λ (r : Unit {0}) (xs : Words). standing d m (record p { j = 1; a = xs }) L14 c in
-    let h = fill (algorithm n) me 2 n at beyond (word_at m) no_word
-    (λ r j xs pos lt long. (tt, rw (lt_true j n lt) refl)) (λ r xs long. (tt, rw (lt_false n n (omega arith)) refl)) tt
-    p.a some size in
-    (h.1, ap (λ j. walk (algorithm n) me (2 * n) (standing d m (record p { j = j }) L12 c)) first ∙ h.2, h.3, h.4)
+    collect (algorithm n) me 2 n (λ j xs. standing d m (record p { j = j; a = xs }) L12 c)
+    (λ xs. standing d m (record p { j = 1; a = xs }) L14 c) (word_at m) no_word
+    (λ j xs lt. rw (lt_true j n lt) refl) (λ xs. rw (lt_false n n (omega arith)) refl)
+    p.j p.a first some size
 
 -- the second collect
 pub second_collect : (n me : ℕ) (d : Mode) (m : Words) (p : Variables) (c : ℕ) → 1 ≤ n → p.j ≡ 1 → n ≤ length p.b →
@@ -35,12 +33,10 @@ pub second_collect : (n me : ℕ) (d : Mode) (m : Words) (p : Variables) (c : �
     × (walk (algorithm n) me (2 * n) (standing d m p L14 c) ≡ standing d m (record p { j = 1; b = b }) L16 c)
     × (length b ≡ length p.b) × Filled (word_at m) no_word (n + 1) b
 second_collect n me d m p c some first size =
-    let at = λ (r : Unit {0}) (j : ℕ) (xs : Words). standing d m (record p { j = j; b = xs }) L14 c in
-    let beyond = λ (r : Unit {0}) (xs : Words). standing d m (record p { j = 1; b = xs }) L16 c in
-    let h = fill (algorithm n) me 2 n at beyond (word_at m) no_word
-    (λ r j xs pos lt long. (tt, rw (lt_true j n lt) refl)) (λ r xs long. (tt, rw (lt_false n n (omega arith)) refl)) tt
-    p.b some size in
-    (h.1, ap (λ j. walk (algorithm n) me (2 * n) (standing d m (record p { j = j }) L14 c)) first ∙ h.2, h.3, h.4)
+    collect (algorithm n) me 2 n (λ j xs. standing d m (record p { j = j; b = xs }) L14 c)
+    (λ xs. standing d m (record p { j = 1; b = xs }) L16 c) (word_at m) no_word
+    (λ j xs lt. rw (lt_true j n lt) refl) (λ xs. rw (lt_false n n (omega arith)) refl)
+    p.j p.b first some size
 
 -- copies of one memory agree
 copies_agree : (n : ℕ) (m : Words) (p : Variables) → Filled (word_at m) no_word (n + 1) p.a →
@@ -63,13 +59,9 @@ clean n me d m p c some first size_a size_b =
     let q : Variables = record p2 { s = map (λ (r : Word). r.datum) (take n two.0) } in
     let test : walk (algorithm n) me 2 (standing d m p2 L16 c) ≡ standing d m q L22 (suc c) =
     rw (all_hold (agree p2) n (copies_agree n m p2 one.3 two.3)) refl in
-    let both = walks (algorithm n) me (2 * n) (2 * n) (4 * n) (standing d m p L12 c) (standing d m p1 L14 c)
-    (standing d m p2 L16 c) one.1 two.1 (omega arith) in (
-      q,
-      walks (algorithm n) me (4 * n) 2 (4 * n + 2) (standing d m p L12 c) (standing d m p2 L16 c)
-          (standing d m q L22 (suc c)) both test refl,
-      refl,
-    )
+    let start = standing d m p L12 c in
+    let both = walks (algorithm n) me (2 * n) (2 * n) (4 * n) start one.1 two.1 (omega arith) in
+    (q, walks (algorithm n) me (4 * n) 2 (4 * n + 2) start both test refl, refl)
 
 -- a whole update alone writes a word with the next sequence number
 pub whole_update : (n me word value : ℕ) (m : Words) (p : Variables) (c : ℕ) → 1 ≤ n → n ≤ length p.a → n ≤ length p.b →
@@ -84,14 +76,13 @@ whole_update n me word value m p c some size_a size_b =
     let p2 : Variables = record view.0 { c = view.0.c + 1 } in
     let x = word_put u p2 in
     let done : Standing = idling (slice_set m (me - 1) x) p2 1 in
-    let begins : walk (algorithm n) me 3 (standing u m p L30 c) ≡ standing d m p1 L12 0 = refl in
+    let start = standing u m p L30 c in
+    let begins : walk (algorithm n) me 3 start ≡ standing d m p1 L12 0 = refl in
     let ends : walk (algorithm n) me 4 (standing d m view.0 L22 1) ≡ done = refl in
-    let both = walks (algorithm n) me 3 (4 * n + 2) (4 * n + 5) (standing u m p L30 c) (standing d m p1 L12 0)
-    (standing d m view.0 L22 1) begins view.1 (omega arith) in (
+    let both = walks (algorithm n) me 3 (4 * n + 2) (4 * n + 5) start begins view.1 (omega arith) in (
       x,
       done.seat,
-      walks (algorithm n) me (4 * n + 5) 4 (4 * n + 9) (standing u m p L30 c)
-          (standing d m view.0 L22 1) done both ends (omega arith),
+      walks (algorithm n) me (4 * n + 5) 4 (4 * n + 9) start both ends (omega arith),
       ap (λ y. y + 1) view.2,
     )
 
@@ -125,10 +116,9 @@ fails n i m m' p c some first size a one changed same few none =
     ∙ ap (λ b. if not b then moved_at p1 i + 1 else moved_at p1 i) differ ∙ ap (λ y. y + 1) none in
     let at_most : (k : ℕ) → IsOneOf n k → moved_at q k ≤ 1 =
     λ k at. elim (cases_eq k i) [
-      | inl is ↦ (let e : moved_at q k ≡ 1 = ap (moved_at q) is ∙ moves in omega arith)
+      | inl is ↦ omega (arith, ap (moved_at q) is ∙ moves)
       | inr other ↦
-          (let e : moved_at q k ≡ moved_at p k =
-          others k at other in let f : moved_at p k ≤ 1 = few k at in omega arith)
+          omega (arith, others k at other, few k at)
     ] in
     let stays : first_true 1 (map (at_limit q) (places_to n)) ≡ None =
     none_first (at_limit q) n (λ k at.
@@ -136,8 +126,7 @@ fails n i m m' p c some first size a one changed same few none =
     let test : walk (algorithm n) 1 4 (standing Scanning m' p1 L16 c) ≡ standing Scanning m' q L12 (suc c) =
     rw (one_fails (agree p1) n i one differ, stays) refl in (
       q,
-      walks (algorithm n) 1 (2 * n) 4 (2 * n + 4) (standing Scanning m' p L14 c) (standing Scanning m' p1 L16 c)
-          (standing Scanning m' q L12 (suc c)) two.1 test refl,
+      walks (algorithm n) 1 (2 * n) 4 (2 * n + 4) (standing Scanning m' p L14 c) two.1 test refl,
       refl,
       refl,
       two.2,

@@ -17,10 +17,7 @@ use Rattle.snap_sched.specs.Segments.{steps_of, last_count}
 -- whether both are steps of one process
 abbrev pub joins : ItemForm → ItemForm → Bool
 joins (Steps i a) (Steps k b) = nat_eq i k
-joins (Steps i a) (Calls k op) = false
-joins (Steps i a) (Crashes k) = false
-joins (Calls i op) f = false
-joins (Crashes i) f = false
+joins _ _ = false
 
 -- whether a form does not take in the next one
 abbrev pub stands : ItemForm → List ItemForm → Bool
@@ -33,10 +30,8 @@ AreApart [] = Unit {0}
 AreApart (f ∷ fs) = (0 < form_count f) × (stands f fs ≡ true) × AreApart fs
 
 stands_same : (i a b : ℕ) (fs : List ItemForm) → stands (Steps i a) fs ≡ stands (Steps i b) fs
-stands_same i a b [] = refl
 stands_same i a b (Steps k c ∷ fs) = refl
-stands_same i a b (Calls k op ∷ fs) = refl
-stands_same i a b (Crashes k ∷ fs) = refl
+stands_same i a b _ = refl
 
 call_stands : (i : ℕ) (op : Op) (fs : List ItemForm) → stands (Calls i op) fs ≡ true
 call_stands i op [] = refl
@@ -73,10 +68,8 @@ one_step_by i k a fs true e = absurd cc
 one_step_by i k a fs false e = refl
 
 one_step : (i b : ℕ) (fs : List ItemForm) → stands (Steps i b) fs ≡ true → step_onto i fs ≡ Steps i 1 ∷ fs
-one_step i b [] e = refl
 one_step i b (Steps k a ∷ fs) e = one_step_by i k a fs (nat_eq i k) e
-one_step i b (Calls k op ∷ fs) e = refl
-one_step i b (Crashes k ∷ fs) e = refl
+one_step i b _ e = refl
 
 next_step_by : (i a : ℕ) (fs : List ItemForm) (v : Bool) → v ≡ true →
     (if v then Steps i (suc a) ∷ fs else Steps i 1 ∷ Steps i a ∷ fs) ≡ Steps i (suc a) ∷ fs
@@ -121,8 +114,7 @@ steps_added (f ∷ g ∷ fs) p c h some e = (h.0, h.1, steps_added (g ∷ fs) p 
 
 joins_no_call : (f : ItemForm) (p : ℕ) (op : Op) → not (joins f (Calls p op)) ≡ true
 joins_no_call (Steps i a) p op = refl
-joins_no_call (Calls i o) p op = refl
-joins_no_call (Crashes i) p op = refl
+joins_no_call _ p op = refl
 
 -- a call may be added
 pub call_added : (fs : List ItemForm) (p : ℕ) (op : Op) → AreApart fs → AreApart (fs ++ Calls p op ∷ [])
@@ -132,8 +124,7 @@ call_added (f ∷ g ∷ fs) p op h = (h.0, h.1, call_added (g ∷ fs) p op h.2)
 
 joins_no_crash : (f : ItemForm) (p : ℕ) → not (joins f (Crashes p)) ≡ true
 joins_no_crash (Steps i a) p = refl
-joins_no_crash (Calls i o) p = refl
-joins_no_crash (Crashes i) p = refl
+joins_no_crash _ p = refl
 
 -- a crash that is added keeps the forms apart
 pub crash_added : (fs : List ItemForm) (p : ℕ) → AreApart fs → AreApart (fs ++ Crashes p ∷ [])
@@ -148,41 +139,33 @@ one_found false a b e = absurd cc
 -- the form that was found
 pub found_steps : (g : ItemForm) (p a : ℕ) → steps_of p g ≡ Some a → g ≡ Steps p a
 found_steps (Steps i b) p a e = let h = one_found (nat_eq i p) b a e in let same = eqb-true i p h.0 in cc (same, h.1)
-found_steps (Calls i op) p a e = absurd cc
-found_steps (Crashes i) p a e = absurd cc
+found_steps _ p a e = absurd cc
 
 stands_with : (f g : ItemForm) (p a b : ℕ) → g ≡ Steps p a → not (joins f g) ≡ true → not (joins f (Steps p b)) ≡ true
 stands_with (Steps i c) g p a b is e = ap (λ x. not (joins (Steps i c) x)) (sym is) ∙ e
-stands_with (Calls i op) g p a b is e = refl
-stands_with (Crashes i) g p a b is e = refl
+stands_with _ g p a b is e = refl
 
 -- the last steps may become more
 pub steps_grown : (fs : List ItemForm) (k p a b : ℕ) → suc k ≡ length fs → AreApart fs → last_count p fs ≡ Some a →
     0 < b → AreApart (set fs k (Steps p b))
-steps_grown [] k p a b is h e some = absurd (omega arith)
 steps_grown (f ∷ []) zero p a b is h e some = (some, refl, tt)
-steps_grown (f ∷ []) (suc k) p a b is h e some = absurd (omega arith)
-steps_grown (f ∷ g ∷ fs) zero p a b is h e some = absurd (omega arith)
 steps_grown (f ∷ g ∷ []) (suc zero) p a b is h e some =
     (h.0, stands_with f g p a b (found_steps g p a e) h.1, (some, refl, tt))
-steps_grown (f ∷ g ∷ []) (suc (suc k)) p a b is h e some = absurd (omega arith)
-steps_grown (f ∷ g ∷ j ∷ fs) (suc zero) p a b is h e some = absurd (omega arith)
 steps_grown (f ∷ g ∷ j ∷ fs) (suc (suc k)) p a b is h e some =
     (h.0, h.1, steps_grown (g ∷ j ∷ fs) (suc k) p a b (omega arith) h.2 e some)
+steps_grown _ _ p a b is h e some = absurd (omega arith)
 
 -- the items of forms grow by the steps that are added
 pub items_grown : (fs : List ItemForm) (k p a c : ℕ) → suc k ≡ length fs → last_count p fs ≡ Some a →
     flat_map form_items (set fs k (Steps p (a + c))) ≡ flat_map form_items fs ++ replicate c (item.Step p)
-items_grown [] k p a c is e = absurd (omega arith)
 items_grown (f ∷ []) zero p a c is e =
     append-nil (replicate (a + c) (item.Step p)) ∙ sym (replicate-append-replicate a c (item.Step p))
     ∙ ap (λ (g : ItemForm). form_items g ++ replicate c (item.Step p)) (sym (found_steps f p a e))
     ∙ ap (λ (xs : List Item). xs ++ replicate c (item.Step p)) (sym (append-nil (form_items f)))
-items_grown (f ∷ []) (suc k) p a c is e = absurd (omega arith)
-items_grown (f ∷ g ∷ fs) zero p a c is e = absurd (omega arith)
 items_grown (f ∷ g ∷ fs) (suc k) p a c is e =
     ap (λ (xs : List Item). form_items f ++ xs) (items_grown (g ∷ fs) k p a c (omega arith) e)
     ∙ sym (append_assoc (form_items f) (flat_map form_items (g ∷ fs)) (replicate c (item.Step p)))
+items_grown _ _ p a c is e = absurd (omega arith)
 
 -- the last steps are among the items
 pub last_within : (fs : List ItemForm) (p a : ℕ) → last_count p fs ≡ Some a → a ≤ length (flat_map form_items fs)

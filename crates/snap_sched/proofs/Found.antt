@@ -16,24 +16,12 @@ use Rattle.snap_sched.specs.Spelling.{IsSpelling}
 star_by : (m : Symbol) (ts us : List Token) →
     (let r : Option (List Token) = if same_symbol m symbol.Star then Some ts else None in r) ≡ Some us →
     Sign m ∷ ts ≡ Sign symbol.Star ∷ us
-star_by symbol.Colon ts us e = absurd cc
-star_by symbol.Equal ts us e = absurd cc
-star_by symbol.Different ts us e = absurd cc
-star_by symbol.Less ts us e = absurd cc
-star_by symbol.Plus ts us e = absurd cc
-star_by symbol.Comma ts us e = absurd cc
-star_by symbol.OpenParenthesis ts us e = absurd cc
-star_by symbol.CloseParenthesis ts us e = absurd cc
-star_by symbol.OpenBracket ts us e = absurd cc
-star_by symbol.CloseBracket ts us e = absurd cc
-star_by symbol.At ts us e = absurd cc
 star_by symbol.Star ts us e = let q : ts ≡ us = cc in cc
+star_by _ ts us e = absurd cc
 
 pub star_found : (ts us : List Token) → symbol_at symbol.Star ts ≡ Some us → ts ≡ Sign symbol.Star ∷ us
-star_found [] us e = absurd cc
-star_found (Number k ∷ ts) us e = absurd cc
-star_found (Identifier w ∷ ts) us e = absurd cc
 star_found (Sign m ∷ ts) us e = star_by m ts us e
+star_found _ us e = absurd cc
 
 count_is : (k : ℕ) → is_count k ≡ true → IsOneOf max_count k
 count_is k e =

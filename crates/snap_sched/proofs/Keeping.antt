@@ -194,30 +194,26 @@ some_process : (i p : ℕ) → (let o : Option ℕ = Some i in o) ≡ Some p →
 some_process i p e = cc
 
 last_steps : (p : ℕ) (xs : List Segment) → last_process xs ≡ Some p → Last p xs
-last_steps p [] e = absurd cc
 last_steps p (segments.Steps i count ∷ []) e = record {
   place = 0;
   count = count;
   is_last = refl;
   found = one_by i p count (nat_eq i p) (eq-eqb i p (some_process i p e));
 }
-last_steps p (segments.Call i op ∷ []) e = absurd cc
-last_steps p (segments.Crash i ∷ []) e = absurd cc
 last_steps p (x ∷ y ∷ xs) e =
     let h = last_steps p (y ∷ xs) e in
     record { place = suc h.place; count = h.count; is_last = ap suc h.is_last; found = h.found }
+last_steps p _ e = absurd cc
 
 none_by : (count : ℕ) (b : Bool) → b ≡ false → (let o : Option ℕ = if b then Some count else None in o) ≡ None
 none_by count true e = absurd cc
 none_by count false e = refl
 
 other_last : (p : ℕ) (xs : List Segment) → last_process xs ≢ Some p → last_count p (map segment_form xs) ≡ None
-other_last p [] e = refl
 other_last p (segments.Steps i count ∷ []) e =
     none_by count (nat_eq i p) (ne_eqb i p (λ same. e (ap (λ (k : ℕ). let o : Option ℕ = Some k in o) same)))
-other_last p (segments.Call i op ∷ []) e = refl
-other_last p (segments.Crash i ∷ []) e = refl
 other_last p (x ∷ y ∷ xs) e = other_last p (y ∷ xs) e
+other_last p _ e = refl
 
 -- what a test of two processes tells
 pub same_process : (o : Option ℕ) (i : ℕ) → true ≡ option_eq nat_eq o (Some i) → o ≡ Some i
@@ -233,15 +229,13 @@ other_process (Some k) i e =
 -- more of the last steps change nothing of how segments are kept but their number
 segments_grown : (xs : List Segment) (j k p a b : ℕ) → suc j ≡ length xs →
     last_count p (map segment_form xs) ≡ Some a → starts_from k (set xs j (segments.Steps p b)) ≡ starts_from k xs
-segments_grown [] j k p a b is e = absurd (omega arith)
 segments_grown (x ∷ []) zero k p a b is e =
     ap (λ (i : ℕ). let rs : List SegmentStart = record { start = k; process = i } ∷ [] in rs)
     (sym (ap form_process (found_steps (segment_form x) p a e)))
-segments_grown (x ∷ []) (suc j) k p a b is e = absurd (omega arith)
-segments_grown (x ∷ y ∷ xs) zero k p a b is e = absurd (omega arith)
 segments_grown (x ∷ y ∷ xs) (suc j) k p a b is e =
     ap (λ (rs : List SegmentStart). record { start = k; process = segment_process x } ∷ rs)
     (segments_grown (y ∷ xs) j (k + segment_count x) p a b (omega arith) e)
+segments_grown _ _ k p a b is e = absurd (omega arith)
 
 singles_grown : (xs : List Segment) (j k p a b : ℕ) → suc j ≡ length xs →
     last_count p (map segment_form xs) ≡ Some a → singles_from k (set xs j (segments.Steps p b)) ≡ singles_from k xs
@@ -262,14 +256,10 @@ singles_grown (segments.Crash i ∷ y ∷ xs) (suc j) k p a b is e =
 
 process_grown : (xs : List Segment) (j p b : ℕ) → suc j ≡ length xs →
     last_process (set xs j (segments.Steps p b)) ≡ Some p
-process_grown [] j p b is = absurd (omega arith)
 process_grown (x ∷ []) zero p b is = refl
-process_grown (x ∷ []) (suc j) p b is = absurd (omega arith)
-process_grown (x ∷ y ∷ xs) zero p b is = absurd (omega arith)
 process_grown (x ∷ y ∷ []) (suc zero) p b is = refl
-process_grown (x ∷ y ∷ []) (suc (suc j)) p b is = absurd (omega arith)
-process_grown (x ∷ y ∷ z ∷ xs) (suc zero) p b is = absurd (omega arith)
 process_grown (x ∷ y ∷ z ∷ xs) (suc (suc j)) p b is = process_grown (y ∷ z ∷ xs) (suc j) p b (omega arith)
+process_grown _ _ p b is = absurd (omega arith)
 
 -- what is kept so are greatest segments, whose items are these
 pub record Holds (rs : List SegmentStart) (ss : List Single) (len : ℕ) (p : Option ℕ) (items : List Item) : Type 0 where

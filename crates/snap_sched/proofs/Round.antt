@@ -61,10 +61,8 @@ step_items_by i k a fs true e =
 step_items_by i k a fs false e = refl
 
 step_items : (i : ℕ) (fs : List ItemForm) → flat_map form_items (step_onto i fs) ≡ item.Step i ∷ flat_map form_items fs
-step_items i [] = refl
 step_items i (Steps k a ∷ fs) = step_items_by i k a fs (nat_eq i k) refl
-step_items i (Calls k o ∷ fs) = refl
-step_items i (Crashes k ∷ fs) = refl
+step_items i _ = refl
 
 item_items : (x : Item) (fs : List ItemForm) → flat_map form_items (item_onto x fs) ≡ x ∷ flat_map form_items fs
 item_items (item.Step i) fs = step_items i fs

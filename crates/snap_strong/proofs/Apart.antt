@@ -30,8 +30,7 @@ stays_five : (values : List ℕ) (a : Action) → SetsFive a → Allows values a
     slice_index values 1 ≡ 5 →
     (1 < length (after values a)) × (slice_index (after values a) 1 ≡ 5)
 stays_five values (Sets word value) five allows two is =
-    let long : length (slice_set values (word - 1) value) ≡ length values = length-set values (word - 1) value in
-    let pos : 0 < word = allows.0 in (
+    let long : length (slice_set values (word - 1) value) ≡ length values = length-set values (word - 1) value in (
       omega arith,
       elim (cases_eq word 2) [
         | inl same ↦ (let at : word - 1 ≡ 1 = omega arith in
@@ -60,17 +59,15 @@ sees_five : (values : List ℕ) (os : List Operation) → AllByRecursion (λ o. 
     (j k : ℕ) (d e : Operation) (view : List ℕ) →
     j < k → k < length os → (slice_index_or os j d).action ≡ Sets 2 5 →
     (slice_index_or os k e).action ≡ Sees view → slice_index view 1 ≡ 5
-sees_five values [] fives runs j k d e view before lt sets sees = absurd (omega arith)
-sees_five values (o ∷ os) fives runs j zero d e view before lt sets sees = absurd (omega arith)
 sees_five values (o ∷ os) fives runs zero (suc k) d e view before lt sets sees =
     let here : IsOneOf (length values) 2 = subst (Allows values) sets runs.0 in
-    let two : 1 < length values = here.1 in
     let long : length (slice_set values 1 5) ≡ length values = length-set values 1 5 in
     let rest : RunsFrom (slice_set values 1 5) os = subst (λ y. RunsFrom (after values y) os) sets runs.1 in
     sees_five_on (slice_set values 1 5) os fives.1 (omega arith)
-    (get_or-set_same values 1 5 0 two) rest k e view (omega arith) sees
+    (get_or-set_same values 1 5 0 here.1) rest k e view (omega arith) sees
 sees_five values (o ∷ os) fives runs (suc j) (suc k) d e view before lt sets sees =
     sees_five (after values o.action) os fives.1 runs.1 j k d e view (omega arith) (omega arith) sets sees
+sees_five values _ fives runs j _ d e view before lt sets sees = absurd (omega arith)
 
 -- The one update of word 2 in the future in which process 1 goes on alone sets it to 5.
 abbrev run_alone : Run
@@ -87,10 +84,7 @@ updates_set_five : (i word value c e : ℕ) → PendingUpdate run_alone i word v
 updates_set_five i word value c e up same =
     elim (cases_eq value 5) [
       | inl is ↦ is
-      | inr other ↦ (let pos : 0 < c = up.first in
-          let le : c ≤ e = up.order in
-          let last : e ≤ 60 = up.last in
-          absurd (none_in (λ t. sets_other (item run_alone t)) 0 60 c refl pos (omega arith)
+      | inr other ↦ (absurd (none_in (λ t. sets_other (item run_alone t)) 0 60 c refl up.first (omega arith)
           (ap sets_other up.call ∙ is_other word value same other)))
     ]
 
@@ -100,9 +94,8 @@ completed_sets_five i c None (Sets word value) took = updates_set_five i word va
 completed_sets_five i c end (Sees view) took = tt
 
 open_sets_five : (i c : ℕ) (end : Option ℕ) (a : Action) → IsOpenScan run_alone i c end a → SetsFive a
-open_sets_five i c (Some e) a h = absurd h
-open_sets_five i c None (Sets word value) h = absurd h
 open_sets_five i c None (Sees view) h = tt
+open_sets_five i c _ _ h = absurd h
 
 sets_five : (o : Operation) → IsCompleted run_alone o → SetsFive o.action
 sets_five o (inl took) = completed_sets_five o.process o.call o.end o.action took
@@ -140,8 +133,6 @@ none_serves_both_lem now one other is_now is_one is_other_one begins_one begins_
     let scan : Operation = scan_seeing (0 ∷ 0 ∷ 0 ∷ []) 60 in
     let u = is_now.complete update update_took_place (55, refl) in
     let s = is_one.complete scan alone_answers (60, refl) in
-    let u_there : u.0 < length now = u.1 in
-    let s_there : s.0 < length one = s.1 in
     elim (cases_lt s.0 (length now)) [
       | inl already ↦ (let first = begins_at one now begins_one s.0 scan already in
           let second = begins_at other now begins_other s.0 scan already in
@@ -149,11 +140,11 @@ none_serves_both_lem now one other is_now is_one is_other_one begins_one begins_
           (second.process ∙ sym first.process ∙ ap (λ (o : Operation). o.process) s.2)
           (second.call ∙ sym first.call ∙ ap (λ (o : Operation). o.call) s.2)
           (second.action ∙ sym first.action ∙ ap (λ (o : Operation). o.action) s.2))
-      | inr later ↦ (let update_kept = begins_at one now begins_one u.0 update u_there in
+      | inr later ↦ (let update_kept = begins_at one now begins_one u.0 update u.1 in
           let fives = recursion_from_All (λ o. SetsFive o.action) one
           (λ k d lt. sets_five (slice_index_or one k d) (is_one.took_place k d lt)) in
           let five : slice_index (0 ∷ 0 ∷ 0 ∷ []) 1 ≡ 5 =
-          sees_five (0 ∷ 0 ∷ 0 ∷ []) one fives is_one.runs u.0 s.0 update scan (0 ∷ 0 ∷ 0 ∷ []) (omega arith) s_there
+          sees_five (0 ∷ 0 ∷ 0 ∷ []) one fives is_one.runs u.0 s.0 update scan (0 ∷ 0 ∷ 0 ∷ []) (omega arith) s.1
           (update_kept.action ∙ ap (λ (o : Operation). o.action) u.2) (ap (λ (o : Operation). o.action) s.2) in
           omega arith)
     ]

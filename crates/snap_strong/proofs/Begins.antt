@@ -33,7 +33,7 @@ same_at (y ∷ ys) (x ∷ xs) rest same (suc k) d lt =
     let tails : map without_end ys ≡ map without_end xs ++ rest = cc in
     let past = same_at ys xs rest tails k d (omega arith) in
     record {
-      there = (let lt' : k < length ys = past.there in omega arith);
+      there = omega arith;
       process = past.process;
       call = past.call;
       action = past.action;

@@ -13,9 +13,8 @@ use Rattle.snap_strong.specs.StrongLinearization.{StrongIsLinearizable}
 
 -- all but a scan that has not ended
 abbrev is_told : Option ℕ → Action → Bool
-is_told (Some e) a = true
-is_told None (Sets word value) = true
 is_told None (Sees view) = false
+is_told _ _ = true
 
 abbrev tells : Operation → Bool
 tells o = is_told o.end o.action
@@ -44,7 +43,7 @@ pairs_told R (o ∷ os) h =
     pairs_if R (tells o) o (told os) (all_told (R o) (R o) os (λ x r is. r) h.0) (pairs_told R os h.1)
 
 later : (x : Operation) (xs : List Operation) (o : Operation) → Contains xs o → Contains (x ∷ xs) o
-later x xs o there = (let lt : there.0 < length xs = there.1 in (suc there.0, omega arith, there.2))
+later x xs o there = ((suc there.0, omega arith, there.2))
 
 contains_if : (b : Bool) (x : Operation) (xs : List Operation) (o : Operation) → Contains xs o →
     Contains (cond b (x ∷ xs) xs) o
@@ -67,10 +66,8 @@ contains_told (x ∷ xs) o (suc k) lt at is =
 runs_if : (values : List ℕ) (end : Option ℕ) (b : Action) (o : Operation) (os : List Operation) → o.action ≡ b →
     Allows values o.action → RunsFrom (after values b) os →
     RunsFrom values (cond (is_told end b) (o ∷ os) os)
-runs_if values (Some e) b o os is allows rest = (allows, subst (λ y. RunsFrom (after values y) os) (sym is) rest)
-runs_if values None (Sets word value) o os is allows rest =
-    (allows, subst (λ y. RunsFrom (after values y) os) (sym is) rest)
 runs_if values None (Sees view) o os is allows rest = rest
+runs_if values _ _ o os is allows rest = (allows, subst (λ y. RunsFrom (after values y) os) (sym is) rest)
 
 runs_told : (values : List ℕ) (os : List Operation) → RunsFrom values os → RunsFrom values (told os)
 runs_told values [] h = tt
@@ -87,9 +84,8 @@ pairs_from R (o ∷ os) h = (
 
 module _ (r : Run) where
   open_is_untold : (i c : ℕ) (end : Option ℕ) (b : Action) → IsOpenScan r i c end b → is_told end b ≡ true → ⊥
-  open_is_untold i c (Some e) b h is = h
-  open_is_untold i c None (Sets word value) h is = h
   open_is_untold i c None (Sees view) h is = cc
+  open_is_untold i c _ _ h is = h
 
   told_takes_place : (o : Operation) → IsCompleted r o → tells o ≡ true → IsOperation r o
   told_takes_place o (inl took) is = took

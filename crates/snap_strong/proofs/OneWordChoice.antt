@@ -22,7 +22,6 @@ use Rattle.snap_runs.proofs.Audits.{last_call_under}
 use Rattle.snap_runs.proofs.Calls.{EndsWith, IsEnd, Calls, UnderCall, UnderAt, item_one, one_call, under, status}
 use Rattle.snap_runs.proofs.Computing.{other_number, same_number}
 use Rattle.snap_runs.proofs.Embedding.{next_state}
-use Rattle.snap_runs.proofs.Linear.{same_parts}
 use Rattle.snap_runs_of_u.specs.ListingU.{a, s}
 use Rattle.snap_runs.proofs.Order.{Pairs, Apart, all_pairs, all_push, all_weaker, pairs_push, keeps_order}
 use Rattle.snap_strong.specs.StrongLinearization.{IsCompleted, IsCompletedLinearization}
@@ -137,8 +136,6 @@ module _ (n : ℕ) (items : List Item) (fits : IsValidRun (run_of_items one_word
 
   first_process : (i : ℕ) → IsOneOf n i → process_at (state r 0) i ≡ process Idle first_word others_words (0 ∷ [])
   first_process i one =
-      let pos : 0 < i = one.0 in
-      let le : i ≤ n = one.1 in
       let more : max n 1 ≡ suc (max n 1 - 1) = omega arith in
       get_or-replicate n (i - 1) (initial_process one_word (shared_by n)) nobody (omega arith)
       ∙ ap with_words (ap (λ k. replicate k first_word) more)
@@ -153,7 +150,7 @@ module _ (n : ℕ) (items : List Item) (fits : IsValidRun (run_of_items one_word
         subst (Stage (Free i []) (Took i [])) (sym (first_process i one)) (idle first_word others_words (0 ∷ []) tt);
     placed = tt;
     apart = tt;
-    complete = λ o p some. absurd (let pos : 0 < o.call = p.first in let le : o.call ≤ 0 = p.order in omega arith);
+    complete = λ o p some. absurd (omega arith);
     runs = refl;
   }
 
@@ -225,7 +222,6 @@ module _ (n : ℕ) (items : List Item) (fits : IsValidRun (run_of_items one_word
         Placed r (suc t) (its i (last_call r i t) g)
     now_placed g u out =
         let same : last_call r i t ≡ u.call = last_call_under r fits i (op_of g) t one (omega arith) u in
-        let order : u.call ≤ t = u.order in
         subst (λ c. Placed r (suc t) (its i c g)) (sym same) (record {
           one = one;
           call_is = u.is.0;
@@ -253,9 +249,7 @@ module _ (n : ℕ) (items : List Item) (fits : IsValidRun (run_of_items one_word
             EndUpTo r k c d t end → ⊥
         by_end k c d None his at none h = none refl
         by_end k c d (Some e) his at none h =
-            let le : e ≤ t = h.1 in
-            let less : c < e = h.0 in
-            u.open_still e (omega arith) le (h.2 ∙ his)
+            u.open_still e (omega arith) h.1 (h.2 ∙ his)
             (ends_is_end d (outcome_at r e) (subst (EndsWith (op_of d)) (sym h.3) (ends_so d)))
 
     -- an item at which an operation takes place
@@ -323,7 +317,7 @@ module _ (n : ℕ) (items : List Item) (fits : IsValidRun (run_of_items one_word
               (all_both (Placed r t) (λ x. x.process ≡ i → x.end ≡ None → x.action ≡ q.action) os b.placed q.took.2);
           apart = pairs_ended i (suc t) os
               (all_weaker (Placed r t) (λ x. x.call < suc t) os
-              (λ x h. let le : x.call ≤ t = h.order in let less : x.call < suc t = omega arith in less) b.placed)
+              (λ x h. let less : x.call < suc t = omega arith in less) b.placed)
               b.apart;
           complete = λ x h some. elim (placed_shorter r t x some h) [
             | inl sooner ↦
@@ -348,13 +342,11 @@ module _ (n : ℕ) (items : List Item) (fits : IsValidRun (run_of_items one_word
         same_one x h last g out c its_place =
             let end = ended_at r (suc t) (suc t) x last h in
             let his : i ≡ x.process = end.2 in
-            let sooner : x.call < suc t = end.0 in
-            let order : c ≤ t = its_place.order in
             let calls : Calls r fits i (op_of x.action) x.call =
             (subst (λ k. item r x.call ≡ Call k (op_of x.action)) (sym his) h.call_is, h.called) in
             let same : c ≡ x.call =
             one_call r fits i (op_of g) (op_of x.action) c x.call (suc t) one its_place.first h.first
-            (omega arith) sooner (omega arith)
+            (omega arith) end.0 (omega arith)
             (its_place.call_is, its_place.called) calls
             (λ v more less ends. its_place.end v more less ends.0 ends.1)
             (λ v more less ends. end.4 v more less (ends.0 ∙ his) ends.1) in
@@ -362,8 +354,9 @@ module _ (n : ℕ) (items : List Item) (fits : IsValidRun (run_of_items one_word
             sym its_place.call_is ∙ ap (item r) same ∙ calls.0 in
             let action : g ≡ x.action =
             same_action g x.action (let both : op_of g ≡ op_of x.action = cc in both) (sym out ∙ end.3) in
-            same_parts i x.process c x.call (end_at (nat_eq i i) (suc t) None) x.end g x.action his same
-            (ap (λ y. end_at y (suc t) None) (same_number i) ∙ sym last) action
+            let ends : end_at (nat_eq i i) (suc t) None ≡ x.end =
+            ap (λ y. end_at y (suc t) None) (same_number i) ∙ sym last in
+            λ k. record { process = his k; call = same k; end = ends k; action = action k }
 
     -- item t + 1, whatever it does
     next : (os : List Operation) → Book t os → Book (suc t) (booked_at r t os)

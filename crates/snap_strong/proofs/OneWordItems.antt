@@ -104,10 +104,10 @@ module _ (S : State) (i : ℕ) (y : Word) (word : S.memory.words ≡ y ∷ []) (
     count = length-set S.processes (i - 1) p;
     own =
         get_or-set_same S.processes (i - 1) p nobody
-        (let pos : 0 < i = one.0 in let le : i ≤ length S.processes = one.1 in omega arith);
+        (let pos : 0 < i = one.0 in omega arith);
     others =
         λ j pos other. get_or-set_other S.processes (i - 1) (j - 1) p nobody
-        (λ same. other (let positive : 0 < i = one.0 in omega arith));
+        (λ same. other (omega arith));
   }
 
 -- An item that no operation begins or ends with.

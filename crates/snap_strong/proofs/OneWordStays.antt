@@ -47,13 +47,7 @@ begins_booked : (i c e : ℕ) (now : List ℕ) (out : Outcome) (status : Status)
 begins_booked i c e now (outcome.Answered view) status os = begins_ended i e os
 begins_booked i c e now outcome.Finished status os = begins_ended i e os
 begins_booked i c e now outcome.Stepped (Busy b) os = begins_started i c now (is_first b.line) b.op os
-begins_booked i c e now outcome.Stepped Idle os = begins_same os
-begins_booked i c e now outcome.Stepped (Trapped cause b) os = begins_same os
-begins_booked i c e now outcome.Stepped (Crashed was) os = begins_same os
-begins_booked i c e now outcome.Called status os = begins_same os
-begins_booked i c e now (outcome.Trapped cause) status os = begins_same os
-begins_booked i c e now outcome.Crashed status os = begins_same os
-begins_booked i c e now (outcome.Skipped why) status os = begins_same os
+begins_booked i c e now _ _ os = begins_same os
 
 begins_later : (r : Run) (t u : ℕ) → t ≤ u → BeginsWith (taken r u) (taken r t)
 begins_later r t zero le = subst (λ k. BeginsWith [] (taken r k)) (let z : 0 ≡ t = omega arith in z) (begins_same [])

@@ -33,10 +33,9 @@ ends_is_end (Sets word value) out h = subst IsEnd (sym (ends_done word value out
 ends_is_end (Sees view) out h = let x = ends_answer out h in subst IsEnd (sym x.1) tt
 
 pub same_action : (b d : Action) → op_of b ≡ op_of d → outcome_of b ≡ outcome_of d → b ≡ d
-same_action (Sets word value) (Sets word' value') op out = cc
 same_action (Sets word value) (Sees view) op out = absurd (cc)
 same_action (Sees view) (Sets word value) op out = absurd (cc)
-same_action (Sees view) (Sees view') op out = cc
+same_action _ _ op out = cc
 
 -- an operation of process i that has not ended ends at item e
 abbrev pub end_at : Bool → ℕ → Option ℕ → Option ℕ
@@ -50,18 +49,15 @@ ended i e o =
 
 pub not_ended_before : (b : Bool) (e : ℕ) (end : Option ℕ) → end_at b e end ≡ None → end ≡ None
 not_ended_before true e None h = refl
-not_ended_before true e (Some d) h = h
-not_ended_before false e end h = h
+not_ended_before _ e _ h = h
 
 pub ended_now : (b : Bool) (e : ℕ) (end : Option ℕ) → b ≡ true → end_at b e end ≡ None → ⊥
 ended_now true e None is h = cc
-ended_now true e (Some d) is h = cc
-ended_now false e end is h = cc
+ended_now _ e _ is h = cc
 
 ended_then : (b : Bool) (e : ℕ) (end : Option ℕ) (d : ℕ) → end_at b e end ≡ Some d → (end ≡ Some d) ⊎ (e ≡ d)
 ended_then true e None d h = inr (cc)
-ended_then true e (Some f) d h = inl h
-ended_then false e end d h = inl h
+ended_then _ e _ d h = inl h
 
 module _ (r : Run) where
   -- no item after item c and before item t ends what process i is asked for
@@ -95,7 +91,7 @@ module _ (r : Run) where
             (subst (λ y. EndsWith (op_of b) (outcome_at r y)) same ends)
         | inr sooner ↦ h u lt sooner his ends
       ]
-  end_longer i c t b (Some e) none h = (h.0, (let le : e ≤ t = h.1 in omega arith), h.2, h.3, h.4)
+  end_longer i c t b (Some e) none h = (h.0, omega arith, h.2, h.3, h.4)
 
   pub placed_longer : (t : ℕ) (o : Operation) →
       (o.end ≡ None → who (item r (suc t)) ≡ o.process → EndsWith (op_of o.action) (outcome_at r (suc t)) → ⊥) →
@@ -105,7 +101,7 @@ module _ (r : Run) where
     call_is = h.call_is;
     called = h.called;
     first = h.first;
-    order = (let le : o.call ≤ t = h.order in omega arith);
+    order = omega arith;
     end = end_longer o.process o.call t o.action o.end none h.end;
   }
 
@@ -131,7 +127,7 @@ module _ (r : Run) where
     call_is = h.call_is;
     called = h.called;
     first = h.first;
-    order = (let le : o.call ≤ t = h.order in omega arith);
+    order = omega arith;
     end = end_closed o.process o.call t k o.action o.end (nat_eq o.process k) refl at h.order ends h.end;
   }
 
@@ -140,9 +136,8 @@ module _ (r : Run) where
       EndUpTo i c b t end ⊎ (e ≡ suc t)
   end_shorter i c t e b None some h = absurd (cc)
   end_shorter i c t e b (Some d) some h =
-      let le : d ≤ suc t = h.1 in
       let same : d ≡ e = cc in
-      elim (eq-or-lt_of_le le) [
+      elim (eq-or-lt_of_le h.1) [
         | inl last ↦ inr (omega arith)
         | inr less ↦ inl (h.0, omega arith, h.2, h.3, h.4)
       ]
@@ -156,10 +151,8 @@ module _ (r : Run) where
   pub placed_shorter : (t : ℕ) (o : Operation) → HasEnded o → Placed (suc t) o → Placed t o ⊎ (o.end ≡ Some (suc t))
   placed_shorter t o some h =
       let end = ended_at (suc t) some.0 o some.1 h in
-      let lt : o.call < some.0 = end.0 in
       elim (end_shorter o.process o.call t some.0 o.action o.end some.1 h.end) [
         | inl sooner ↦ (let there = end_is o.process o.call t some.0 o.action o.end some.1 sooner in
-            let le : some.0 ≤ t = there.1 in
             inl (record {
               one = h.one;
               call_is = h.call_is;
@@ -175,8 +168,7 @@ module _ (r : Run) where
   pub not_before_itself : (t : ℕ) (o : Operation) → Placed t o → EndedBefore o o → ⊥
   not_before_itself t o h before =
       let end = ended_at t before.0 o before.1 h in
-      let lt : o.call < before.0 = end.0 in
-      let less : before.0 < o.call = before.2 in omega arith
+      omega arith
 
   -- At the end of the run it is one of the run's operations, completed.
   completed_by : (i c : ℕ) (b : Action) (end : Option ℕ) → IsOneOf r.shape.n i → item r c ≡ Call i (op_of b) →
@@ -248,8 +240,6 @@ module _ (r : Run) where
   placed_by : (i c e : ℕ) (b : Action) → TookPlace r i c (Some e) b →
       Placed (length r.items) (record { process = i; call = c; end = Some e; action = b })
   placed_by i c e (Sets word value) took =
-      let last : e ≤ length r.items = took.0.last in
-      let lt : c < e = took.1 in
       record {
         one = took.0.process;
         call_is = took.0.call;
@@ -257,16 +247,14 @@ module _ (r : Run) where
         first = took.0.first;
         order = omega arith;
         end = (
-          lt,
-          last,
+          took.1,
+          took.0.last,
           took.2.0,
           took.2.1,
           (λ u more less his ends. took.0.goes_on u more less (his, ends_done word value (outcome_at r u) ends)),
         );
       }
   placed_by i c e (Sees view) took =
-      let last : e ≤ length r.items = took.scan.last in
-      let lt : c < e = took.order in
       record {
         one = took.scan.process;
         call_is = took.scan.starts.0;
@@ -274,8 +262,8 @@ module _ (r : Run) where
         first = took.scan.first;
         order = omega arith;
         end = (
-          lt,
-          last,
+          took.order,
+          took.scan.last,
           took.ends.0,
           took.ends.1,
           (λ u more less his ends.
@@ -308,8 +296,7 @@ contained P os o h there = subst P there.2 (All-from_recursion P os h there.0 o 
 pub Contains-map : (f : Operation → Operation) (os : List Operation) (o : Operation) → Contains os o →
     Contains (map f os) (f o)
 Contains-map f os o there =
-    let lt : there.0 < length os = there.1 in
-    (there.0, omega (arith, length-map os f), get_or-map f os there.0 o (f o) lt ∙ ap f there.2)
+    (there.0, omega (arith, length-map os f), get_or-map f os there.0 o (f o) there.1 ∙ ap f there.2)
 
 -- operations stay apart where one ends that ends after the other was called
 apart_ended : (k e : ℕ) (x y : Operation) → x.call < e → Apart x y → Apart (ended k e x) (ended k e y)
@@ -317,7 +304,7 @@ apart_ended k e x y early h = (
   h.0,
   λ before. elim (ended_then (nat_eq y.process k) e y.end before.0 before.1) [
     | inl already ↦ h.1 (before.0, already, before.2)
-    | inr now ↦ (let lt : before.0 < x.call = before.2 in let q : ⊥ = omega arith in q)
+    | inr now ↦ (let q : ⊥ = omega arith in q)
   ],
 )
 

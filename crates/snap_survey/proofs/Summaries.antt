@@ -1,7 +1,7 @@
 -- A `Summary` of many runs, counted survey by survey: with what is left to count it makes the summary of all.
-use Rattle.std.proofs.Common.{◌≡◌, ℕ, suc, ◌+◌, ◌<◌, Bool, true, false, List, [], ◌∷◌, length, max, nat_lt}
-use Rattle.std.proofs.Common.{if◌then◌else◌, drop, drop-cons, get_or, refl, sym, subst, ap, ◌∙◌, arith}
-use Rattle.snap_survey.specs.Summary.{AreFewer, how_many, most_of, no_runs, summary_of, with_survey}
+use Rattle.std.proofs.Common.{◌≡◌, ℕ, suc, ◌+◌, ◌<◌, Bool, true, false, List, ◌∷◌, length, max, nat_lt, if◌then◌else◌}
+use Rattle.std.proofs.Common.{drop, drop-cons, get_or, refl, sym, subst, ap, ◌∙◌, arith}
+use Rattle.snap_survey.specs.Summary.{AreFewer, how_many, most_of, summary_of, with_survey}
 use Rattle.snap_survey.specs.declared.summary.Summary.{Summary}
 use Rattle.snap_survey.specs.Words.{is_linearizable, is_not_linearizable, is_undecided}
 use Rattle.snap_survey.specs.declared.findings.JudgedSurvey.{JudgedSurvey}
@@ -29,47 +29,6 @@ pub record Counting (all : List JudgedSurvey) (m : Summary) (k : ℕ) (left : Li
   pub number : m.schedules ≡ k
   pub fewer : AreFewer m (k + 1)
 
--- no run is beside them
-none_beside : (m : Summary) → together no_runs m ≡ m
-none_beside m = rw (
-  beside m.schedules,
-  beside m.answering,
-  beside m.without_point,
-  beside_most m.most_collects,
-  beside m.updating,
-  beside m.unfinished,
-  beside m.trapping,
-  beside m.crashing,
-  beside m.skipping,
-  beside m.linearizable,
-  beside m.not_linearizable,
-  beside m.undecided,
-) refl where
-  beside : (x : ℕ) → 0 + x ≡ x
-  beside x = omega arith
-
-  beside_most : (x : ℕ) → max 0 x ≡ x
-  beside_most x = omega arith
-
--- at the start all are left
-pub all_left : (all : List JudgedSurvey) → Counting all no_runs 0 all
-all_left all = record {
-  total = none_beside (summary_of all);
-  number = refl;
-  fewer = record {
-    answering = omega arith;
-    without_point = omega arith;
-    updating = omega arith;
-    unfinished = omega arith;
-    trapping = omega arith;
-    crashing = omega arith;
-    skipping = omega arith;
-    linearizable = omega arith;
-    not_linearizable = omega arith;
-    undecided = omega arith;
-  };
-}
-
 -- one that is counted is no longer left
 moved : (b : Bool) (x y : ℕ) → (if b then x + 1 else x) + y ≡ x + (if b then suc y else y)
 moved true x y = omega arith
@@ -88,12 +47,15 @@ same_total : (m : Summary) (s : JudgedSurvey) (left : List JudgedSurvey) →
     together (with_survey m s) (summary_of left) ≡ together m (summary_of (s ∷ left))
 same_total m s left =
     rw (
-      moved (nat_lt 0 s.survey.scans_answered) m.answering (how_many (λ (x : JudgedSurvey). nat_lt 0 x.survey.scans_answered) left),
+      moved (nat_lt 0 s.survey.scans_answered) m.answering
+          (how_many (λ (x : JudgedSurvey). nat_lt 0 x.survey.scans_answered) left),
       moved (nat_lt 0 s.survey.scans_without_point) m.without_point
           (how_many (λ (x : JudgedSurvey). nat_lt 0 x.survey.scans_without_point) left),
       most_moved m.most_collects s.survey.most_collects (most_of left),
-      moved (nat_lt 0 s.survey.updates_done) m.updating (how_many (λ (x : JudgedSurvey). nat_lt 0 x.survey.updates_done) left),
-      moved (nat_lt 0 s.survey.open_operations) m.unfinished (how_many (λ (x : JudgedSurvey). nat_lt 0 x.survey.open_operations) left),
+      moved (nat_lt 0 s.survey.updates_done) m.updating
+          (how_many (λ (x : JudgedSurvey). nat_lt 0 x.survey.updates_done) left),
+      moved (nat_lt 0 s.survey.open_operations) m.unfinished
+          (how_many (λ (x : JudgedSurvey). nat_lt 0 x.survey.open_operations) left),
       moved (nat_lt 0 s.survey.traps) m.trapping (how_many (λ (x : JudgedSurvey). nat_lt 0 x.survey.traps) left),
       moved (nat_lt 0 s.survey.crashes) m.crashing (how_many (λ (x : JudgedSurvey). nat_lt 0 x.survey.crashes) left),
       moved (nat_lt 0 s.survey.skips) m.skipping (how_many (λ (x : JudgedSurvey). nat_lt 0 x.survey.skips) left),
@@ -107,8 +69,8 @@ same_total m s left =
     ) refl
 
 -- with one more counted, the others are left
-pub one_counted : (all : List JudgedSurvey) (m : Summary) (k : ℕ) (s : JudgedSurvey) (left rest : List JudgedSurvey) → left ≡ s ∷ rest →
-    Counting all m k left → Counting all (with_survey m s) (k + 1) rest
+pub one_counted : (all : List JudgedSurvey) (m : Summary) (k : ℕ) (s : JudgedSurvey) (left rest : List JudgedSurvey) →
+    left ≡ s ∷ rest → Counting all m k left → Counting all (with_survey m s) (k + 1) rest
 one_counted all m k s left rest is h =
     let f = h.fewer in
     let n = h.number in
@@ -130,28 +92,6 @@ one_counted all m k s left rest is h =
       };
     }
 
--- nothing is beside no run
-alone : (m : Summary) → together m no_runs ≡ m
-alone m = rw (
-  beside m.schedules,
-  beside m.answering,
-  beside m.without_point,
-  beside_most m.most_collects,
-  beside m.updating,
-  beside m.unfinished,
-  beside m.trapping,
-  beside m.crashing,
-  beside m.skipping,
-  beside m.linearizable,
-  beside m.not_linearizable,
-  beside m.undecided,
-) refl where
-  beside : (x : ℕ) → x + 0 ≡ x
-  beside x = omega arith
-
-  beside_most : (x : ℕ) → max x 0 ≡ x
-  beside_most x = omega arith
-
 -- with the next one counted, the others are left
 pub counts_next : (all : List JudgedSurvey) (m m' : Summary) (k : ℕ) (d : JudgedSurvey) → k < length all →
     m' ≡ with_survey m (get_or all k d) → Counting all m k (drop k all) → Counting all m' (k + 1) (drop (k + 1) all)
@@ -160,8 +100,3 @@ counts_next all m m' k d lt is h =
     subst (λ (x : Summary). Counting all x (k + 1) (drop (k + 1) all)) (sym is)
     (one_counted all m k (get_or all k d) (drop k all) (drop (k + 1) all)
     (drop-cons all k d lt ∙ ap (λ (n : ℕ). get_or all k d ∷ drop n all) next) h)
-
--- at the end all are counted
-pub all_counted : (all : List JudgedSurvey) (m : Summary) (k : ℕ) (left : List JudgedSurvey) → left ≡ [] →
-    Counting all m k left → m ≡ summary_of all
-all_counted all m k left none h = sym (alone m) ∙ ap (λ l. together m (summary_of l)) (sym none) ∙ h.total

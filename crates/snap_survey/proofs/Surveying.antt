@@ -1,24 +1,14 @@
 -- A survey is made of what was noted of a run.
-use Rattle.std.proofs.Common.{◌≡◌, ℕ, suc, ◌+◌, Bool, List, length, if◌then◌else◌, sym, ap, subst, ◌∙◌, arith}
+use Rattle.std.proofs.Common.{◌≡◌, ℕ, List, length, ap, ◌∙◌}
 use Rattle.snap_runs.specs.Audit.{audit}
 use Rattle.snap_runs.specs.Run.{Run}
 use Rattle.snap_runs.specs.Scan.{count}
 use Rattle.snap_runs.specs.declared.verdict.Verdict.{Verdict}
-use Rattle.snap_runs.proofs.Counting.{count_next}
-use Rattle.snap_survey.specs.Survey.{is_open, is_skipped, most_collects, survey_of, without_point}
+use Rattle.snap_survey.specs.Survey.{is_open, most_collects, survey_of, without_point}
+use Rattle.snap_walk.specs.Walk.{is_skipped}
 use Rattle.snap_survey.specs.Tally.{tally_of}
 use Rattle.snap_survey.specs.declared.findings.Survey.{Survey}
 use Rattle.snap_survey.specs.declared.tally.Tally.{Tally}
-
--- one process more
-pub count_more : (f : ℕ → Bool) (k : ℕ) (b : Bool) → f (k + 1) ≡ b →
-    count f 0 (k + 1) ≡ (if b then count f 0 k + 1 else count f 0 k)
-count_more f k b is =
-    let next : k + 1 ≡ suc k = omega arith in
-    let more : (x : ℕ) → suc x ≡ x + 1 = λ x. omega arith in
-    ap (count f 0) next ∙ count_next f 0 k (omega arith)
-    ∙ ap (λ y. if y then suc (count f 0 k) else count f 0 k) (ap f (sym next) ∙ is)
-    ∙ ap (λ y. if b then y else count f 0 k) (more (count f 0 k))
 
 -- a survey of what was counted, of verdicts, and of so many open operations and skipped items
 abbrev pub survey_by : Tally → List Verdict → (opened skipped : ℕ) → Survey

@@ -14,11 +14,11 @@ use Rattle.snap_runs.specs.Run.{Run, state, item, outcome}
 use Rattle.snap_runs.specs.Scan.{count}
 use Rattle.snap_runs.proofs.Computing.{lt_true}
 use Rattle.snap_runs.proofs.Counting.{count_next}
-use Rattle.snap_walk.specs.Walk.{Passes, PassesOver, Way, further, look_ahead}
+use Rattle.snap_walk.specs.Walk.{Passes, PassesOver, Way, further, look_ahead, is_skip, is_skipped}
 use Rattle.snap_walk.specs.Walk.{is_skip as skip_of_walk, is_skipped as skipped_on_walk}
 use Rattle.snap_walk.proofs.Over.{Keeps, kept_over, untold_cases}
 use Rattle.snap_walk.specs.declared.passed.Passed.{Passed}
-use Rattle.snap_survey.specs.Survey.{calls_scan, calls_update, ends_update, traps, crashes, is_skip, is_skipped, is_trap}
+use Rattle.snap_survey.specs.Survey.{calls_scan, calls_update, ends_update, traps, crashes, is_trap}
 use Rattle.snap_survey.specs.Survey.{trap_at, skip_at, skip_by, first_found}
 use Rattle.snap_survey.specs.Tally.{IsWithin, TalliesOn, noted, tally_of}
 use Rattle.snap_survey.specs.declared.findings.Skip.{Skip}

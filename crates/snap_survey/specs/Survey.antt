@@ -17,6 +17,7 @@ use Rattle.snap_runs.specs.Audit.{audit, is_called}
 use Rattle.snap_runs.specs.Run.{Run, state, item, outcome as outcome_at}
 use Rattle.snap_runs.specs.Scan.{count}
 use Rattle.snap_runs.specs.declared.verdict.Verdict.{Verdict}
+use Rattle.snap_walk.specs.Walk.{is_skipped}
 use Rattle.snap_judge.specs.declared.judgements.Failing.{Failing}
 use Rattle.snap_run_judge.specs.RunJudgement.{IsRunJudgement, most_configurations, word_of}
 use Rattle.snap_survey.specs.declared.findings.JudgedSurvey.{JudgedSurvey}
@@ -48,10 +49,6 @@ abbrev pub is_crash : Outcome → Bool
 is_crash outcome.Crashed = true
 is_crash _ = false
 
-abbrev pub is_skip : Outcome → Bool
-is_skip (outcome.Skipped reason) = true
-is_skip _ = false
-
 -- whether item t calls a scan
 abbrev pub calls_scan : Run → ℕ → Bool
 calls_scan r t = is_called (outcome_at r t) && asks_scan (item r t)
@@ -71,10 +68,6 @@ traps r t = is_trap (outcome_at r t)
 -- whether item t crashes its process
 abbrev pub crashes : Run → ℕ → Bool
 crashes r t = is_crash (outcome_at r t)
-
--- whether item t is skipped
-abbrev pub is_skipped : Run → ℕ → Bool
-is_skipped r t = is_skip (outcome_at r t)
 
 -- the trap of process i by item t, after which it stands so
 abbrev pub trap_of : ℕ → ℕ → Status → Option Trap

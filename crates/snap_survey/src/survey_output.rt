@@ -7,11 +7,11 @@ ghost use Rattle.snap_survey.specs.SurveyText.{survey_lines, surveys_text};
 ghost use Rattle.snap_survey.specs.Surveys.{AnswersSurvey, WereJudgedOver};
 ghost use Rattle.snap_survey.specs.Surveys.{are_clean, is_clean, survey_text};
 
-use crate::surveys::{read_in_threads, surveys_alone, surveys_in_threads};
-use crate::words::is_not_linearizable;
 use crate::JudgedSurvey;
 use crate::summary::summary_of;
+use crate::surveys::{read_in_threads, surveys_alone, surveys_in_threads};
 use crate::text::{summary_line, survey_line};
+use crate::words::is_not_linearizable;
 use snap_asm_program::Program;
 use snap_input::read_schedules;
 use snap_semantics::{Fault, Refusal};

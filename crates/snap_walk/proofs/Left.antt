@@ -13,13 +13,9 @@ use Rattle.snap_walk.specs.Walking.{IsAhead}
 
 -- a segment has an item
 has_some : (r : Segment) (x : Item) (k : ℕ) → IsSome r → replicate k x ≡ segment_items r → 0 < k
-has_some (segments.Steps i zero) x k some is = absurd (omega (arith, some))
-has_some (segments.Steps i (suc n)) x zero some is = absurd cc
-has_some (segments.Steps i (suc n)) x (suc k) some is = omega arith
-has_some (segments.Call i op) x zero some is = absurd cc
-has_some (segments.Call i op) x (suc k) some is = omega arith
-has_some (segments.Crash i) x zero some is = absurd cc
-has_some (segments.Crash i) x (suc k) some is = omega arith
+has_some r x (suc k) some is = omega arith
+has_some (segments.Steps i zero) x zero some is = absurd (omega (arith, some))
+has_some _ x zero some is = absurd cc
 
 -- the item of the next segment, and how often the segment has it, and the segments behind it
 pub refilled : (rs rs' : List Segment) (o : Option Segment) (x : Item) (k : ℕ) → AllByRecursion IsSome rs →

@@ -5,12 +5,12 @@ use Rattle.std.proofs.Common.{refl, sym, ap, subst, ◌∙◌, arith}
 use Rattle.std.proofs.lemmas.Bool.{cases_lt}
 use Rattle.snap_words.specs.Shape.{IsOneOf}
 use Rattle.snap_semantics.specs.declared.process.Item.{Item}
-use Rattle.snap_semantics.specs.declared.process.Item.TheVariants.{Step, Call, Crash}
+use Rattle.snap_semantics.specs.declared.process.Item.TheVariants.{Step}
 use Rattle.snap_semantics.specs.declared.process.Outcome.{Outcome}
 use Rattle.snap_semantics.specs.declared.process.Outcome.TheVariants as outcomes
 use Rattle.snap_semantics.specs.declared.process.Reason.{Reason}
 use Rattle.snap_semantics.specs.declared.process.Status.{Status}
-use Rattle.snap_semantics.specs.declared.process.Status.TheVariants.{Idle, Busy, Trapped, Crashed}
+use Rattle.snap_semantics.specs.declared.process.Status.TheVariants.{Idle}
 use Rattle.snap_semantics.specs.State.{State, process_at}
 use Rattle.snap_semantics.specs.Table.{who}
 use Rattle.snap_runs.specs.Run.{Run, item, outcome, state}
@@ -99,26 +99,18 @@ module _ (quiet : List Bool) (skips : Bool) where
 
 not_quiet : (s : Status) → look_at_step [] s ≡ glance.Quiet → ⊥
 not_quiet Idle is = absurd cc
-not_quiet (Busy a) is = absurd cc
-not_quiet (Trapped cause a) is = absurd cc
-not_quiet (Crashed was) is = absurd cc
+not_quiet _ is = absurd cc
 
 pub none_quiet : (x : Item) (s : Status) → look [] x s ≡ glance.Quiet → ⊥
 none_quiet (Step i) s is = not_quiet s is
-none_quiet (Call i op) s is = absurd cc
-none_quiet (Crash i) s is = absurd cc
+none_quiet _ s is = absurd cc
 
 all_told : (g : Glance) (o : Outcome) → (g ≡ glance.Quiet → ⊥) → is_untold g o true ≡ true → ⊥
 all_told glance.Quiet o loud is = loud refl
 all_told glance.Idle outcomes.Stepped loud is = absurd cc
 all_told (glance.Line a) outcomes.Stepped loud is = absurd cc
 all_told glance.Other outcomes.Stepped loud is = absurd cc
-all_told g (outcomes.Skipped reason) loud is = absurd cc
-all_told g outcomes.Called loud is = absurd cc
-all_told g (outcomes.Answered view) loud is = absurd cc
-all_told g outcomes.Finished loud is = absurd cc
-all_told g (outcomes.Trapped cause) loud is = absurd cc
-all_told g outcomes.Crashed loud is = absurd cc
+all_told _ _ loud is = absurd cc
 
 -- no item is passed over
 pub none_over : (w v : Way) → PassesOver [] true w v → v ≡ w
@@ -147,15 +139,8 @@ unless false e = refl
 pub untold_cases : (g : Glance) (o : Outcome) (skips : Bool) → is_untold g o skips ≡ true →
     ((g ≡ glance.Quiet) × (o ≡ outcomes.Stepped)) ⊎ ((r : Reason) × (o ≡ outcomes.Skipped r) × (skips ≡ false))
 untold_cases glance.Quiet outcomes.Stepped skips is = inl (refl, refl)
-untold_cases glance.Idle outcomes.Stepped skips is = absurd cc
-untold_cases (glance.Line a) outcomes.Stepped skips is = absurd cc
-untold_cases glance.Other outcomes.Stepped skips is = absurd cc
 untold_cases g (outcomes.Skipped reason) skips is = inr (reason, refl, unless skips is)
-untold_cases g outcomes.Called skips is = absurd cc
-untold_cases g (outcomes.Answered view) skips is = absurd cc
-untold_cases g outcomes.Finished skips is = absurd cc
-untold_cases g (outcomes.Trapped cause) skips is = absurd cc
-untold_cases g outcomes.Crashed skips is = absurd cc
+untold_cases _ _ skips is = absurd cc
 
 -- an item that was done is passed over, where what was seen of it and what came of it say so
 pub untold_made : (quiet : List Bool) (skips : Bool) (w : Way) (x : Item) (S : State) (g : Glance) (o : Outcome) →
@@ -176,12 +161,7 @@ untold_made quiet skips w x S g o left is one here seen came untold = record {
 pub skip_untold : (g : Glance) (o : Outcome) (skips : Bool) → skips ≡ false → is_skip o ≡ true →
     is_untold g o skips ≡ true
 skip_untold g (outcomes.Skipped reason) skips over is = ap not over
-skip_untold g outcomes.Stepped skips over is = absurd cc
-skip_untold g outcomes.Called skips over is = absurd cc
-skip_untold g (outcomes.Answered view) skips over is = absurd cc
-skip_untold g outcomes.Finished skips over is = absurd cc
-skip_untold g (outcomes.Trapped cause) skips over is = absurd cc
-skip_untold g outcomes.Crashed skips over is = absurd cc
+skip_untold g _ skips over is = absurd cc
 
 -- Where each item is told, the next one is passed, or there is none.
 pub passed_next : {E : Type 0} (w w' : Way) (r : Result (Option Passed) E) →

@@ -1,13 +1,13 @@
 -- A `Walk` keeps what it keeps (`IsWalking`), from the first item to the last.
 use Rattle.std.proofs.Common.{◌≡◌, ℕ, zero, suc, ◌+◌, ◌-◌, ◌<◌, ◌≤◌, Bool, true, false, List, [], ◌∷◌, ◌++◌, length, drop}
-use Rattle.std.proofs.Common.{replicate, Result, Ok, Err, Option, Some, MatchOption, if◌then◌else◌, refl, sym, ap, subst, ◌∙◌, arith}
+use Rattle.std.proofs.Common.{replicate, Result, Ok, Some, if◌then◌else◌, refl, sym, ap, subst, ◌∙◌, arith}
 use Rattle.std.specs.Prelude.{slice_get}
 use Rattle.std.proofs.lemmas.Option.{get_or_from_slice_get, slice_get_within}
 use Rattle.snap_words.specs.Shape.{Counts, IsOneOf}
 use Rattle.snap_semantics.specs.declared.process.Activity.{Activity}
 use Rattle.snap_semantics.specs.declared.process.Cause.{Cause}
 use Rattle.snap_semantics.specs.declared.process.Item.{Item}
-use Rattle.snap_semantics.specs.declared.process.Item.TheVariants.{Step, Call, Crash}
+use Rattle.snap_semantics.specs.declared.process.Item.TheVariants.{Step}
 use Rattle.snap_semantics.specs.declared.process.Outcome.{Outcome}
 use Rattle.snap_semantics.specs.declared.process.Outcome.TheVariants.{Skipped}
 use Rattle.snap_semantics.specs.declared.process.Reason.{Reason}
@@ -15,10 +15,9 @@ use Rattle.snap_semantics.specs.declared.process.Reason.TheVariants as reason
 use Rattle.snap_semantics.specs.declared.process.Status.{Status}
 use Rattle.snap_semantics.specs.declared.process.Status.TheVariants.{Idle, Busy, Trapped, Crashed}
 use Rattle.snap_semantics.specs.Schedule.{Schedule}
-use Rattle.snap_semantics.specs.ScheduleText.{IsSchedule}
 use Rattle.snap_semantics.specs.Source.{Source, instr_at}
-use Rattle.snap_semantics.specs.State.{Locals, State, initial, process_at}
-use Rattle.snap_semantics.specs.Table.{Answers, Effect, Finishes, Goes, done, effect_at, leave, step, who}
+use Rattle.snap_semantics.specs.State.{Locals, State, process_at}
+use Rattle.snap_semantics.specs.Table.{Effect, Goes, done, effect_at, leave, step, who}
 use Rattle.snap_runs.specs.Run.{Run, item, outcome, run_over, state}
 use Rattle.snap_runs.specs.Scan.{count}
 use Rattle.snap_runs.proofs.Counting.{count_next}
@@ -37,25 +36,6 @@ behind_some [] zero x ys e = absurd cc
 behind_some [] (suc k) x ys e = absurd cc
 behind_some (z ∷ xs) zero x ys e = (cc, cc)
 behind_some (z ∷ xs) (suc k) x ys e = behind_some xs k x ys e
-
--- none is left
-behind_none : (xs : List Item) (k : ℕ) → drop k xs ≡ [] → length xs ≤ k
-behind_none [] zero e = omega arith
-behind_none [] (suc k) e = omega arith
-behind_none (z ∷ xs) zero e = absurd cc
-behind_none (z ∷ xs) (suc k) e = (let h = behind_none xs k e in omega (arith, h))
-
--- before the first item
-pub begun : (m : Configuration) (s : Schedule) (ahead : List Item) → IsSchedule s → m.shape ≡ s.shape →
-    m.state ≡ initial m.source m.shape → ahead ≡ s.items → IsWalking m s 0 0 ahead
-begun m s ahead schedule shape start all = record {
-  schedule = schedule;
-  shape = shape;
-  state_is = start ∙ ap (initial m.source) shape;
-  within = omega arith;
-  skips = refl;
-  left = all;
-}
 
 by_skip : (b c : Bool) (j n : ℕ) → b ≡ c → j ≡ n → j + (if b then 1 else 0) ≡ (if c then suc n else n)
 by_skip true true j n same is = omega (arith, is)
@@ -92,31 +72,6 @@ module _ (m : Configuration) (s : Schedule) (k j : ℕ) (ahead : List Item) (h :
   -- an item of the run is of one of its processes
   pub own : k < length s.items → IsOneOf s.shape.n (who (item run (suc k)))
   own below = all_index (λ y. IsOneOf s.shape.n (who y)) s.items k (Step 0) h.schedule.processes below
-
-  abbrev Next : Option Item → Type 0
-  Next o =
-      MatchOption o (k ≡ length s.items)
-      (λ x. (k < length s.items) × (x ≡ item run (suc k)) × IsOneOf s.shape.n (who x))
-
-  -- the item that comes next, if there is one
-  pub next_is : (o : Option Item) → o ≡ slice_get ahead 0 → Next o
-  next_is o got = by ahead refl where
-    by : (xs : List Item) → ahead ≡ xs → Next o
-    by [] is =
-        let none = behind_none s.items k (sym h.left ∙ is) in
-        let within = h.within in
-        subst Next (sym (got ∙ ap (λ l. slice_get l 0) is)) (omega (arith, none, within))
-    by (x ∷ ys) is =
-        let n = next_at x ys is in
-        subst Next (sym (got ∙ ap (λ l. slice_get l 0) is))
-        (n.0, n.1, subst (λ (y : Item). IsOneOf s.shape.n (who y)) (sym n.1) (own n.0))
-
-  -- where one is left of the run, one is left
-  pub some_left : k < length s.items → 0 < length ahead
-  some_left below = by ahead refl where
-    by : (xs : List Item) → ahead ≡ xs → 0 < length ahead
-    by [] is = absurd (let none = behind_none s.items k (sym h.left ∙ is) in omega (arith, none, below))
-    by (x ∷ ys) is = subst (λ l. 0 < length l) (sym is) (omega arith)
 
   -- the item is done as the run does it
   done_is : (x : Item) → x ≡ item run (suc k) →
@@ -160,9 +115,7 @@ module _ (m : Configuration) (s : Schedule) (k j : ℕ) (ahead : List Item) (h :
 
 left_done : (S : State) (i : ℕ) (a : Activity) (l : Locals) (e : Result Effect Cause) → is_skip (leave S i a l e).1 ≡ false
 left_done S i a l (Ok (Goes m l' link line)) = refl
-left_done S i a l (Ok (Answers v)) = refl
-left_done S i a l (Ok Finishes) = refl
-left_done S i a l (Err c) = refl
+left_done S i a l _ = refl
 
 busy_done : (s : Source) (n : Counts) (S : State) (i : ℕ) (a : Activity) → (process_at S i).status ≡ Busy a →
     is_skip (done s n S (Step i)).1 ≡ false
@@ -186,10 +139,8 @@ none_more j o is = (let none : j ≡ j + 0 = omega arith in none ∙ ap (λ (b :
 -- such a step is skipped for the reason that its process gives
 pub step_idle : (s : Source) (n : Counts) (S : State) (i : ℕ) (t : Status) → (process_at S i).status ≡ t →
     is_busy t ≡ false → done s n S (Step i) ≡ (S, Skipped (skip_reason t))
-step_idle s n S i Idle at is = ap (step s n S i (process_at S i)) at
 step_idle s n S i (Busy a) at is = absurd cc
-step_idle s n S i (Trapped cause a) at is = ap (step s n S i (process_at S i)) at
-step_idle s n S i (Crashed was) at is = ap (step s n S i (process_at S i)) at
+step_idle s n S i _ at is = ap (step s n S i (process_at S i)) at
 
 -- an item that is skipped leaves the state
 abbrev pub Skips : Source → Counts → State → Item → Type 0
@@ -209,8 +160,7 @@ step_skips quiet s n S i (Busy a) at is = by (is_quiet quiet a.line) is where
 idle_skips : (quiet : List Bool) (s : Source) (n : Counts) (S : State) (x : Item) →
     look quiet x (process_at S (who x)).status ≡ glance.Idle → Skips s n S x
 idle_skips quiet s n S (Step i) is = step_skips quiet s n S i (process_at S i).status refl is
-idle_skips quiet s n S (Call i op) is = absurd cc
-idle_skips quiet s n S (Crash i) is = absurd cc
+idle_skips quiet s n S _ is = absurd cc
 
 -- what is seen of an item where a machine stands
 abbrev pub look_in : List Bool → State → Item → Glance

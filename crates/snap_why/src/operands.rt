@@ -14,8 +14,8 @@ use crate::puts::{put_bit_trouble, put_trouble, put_view_trouble};
 use crate::taker::Taker;
 use crate::trouble::Trouble;
 use snap_machine::{Machine, places, range_end};
-use snap_semantics::{Expr, Index, Instr, Range, Term};
-use snap_words::{Kind, Shape};
+use snap_semantics::{Expr, Index, Instr, Term};
+use snap_words::Kind;
 
 /// Returns the trouble of an index that is none of `count` places.
 pub(crate) fn place_trouble<K: Kind>(

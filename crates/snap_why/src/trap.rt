@@ -10,8 +10,8 @@ ghost use Rattle.snap_why.specs.Trap.{cause_line, end_line, nested_line, operand
 ghost use Rattle.snap_why.specs.Trap.{text_or_number, trap_line, trap_lines, trouble_of};
 
 use crate::answer::push_process;
-use crate::{Taker, Trouble, line_trouble};
 use crate::text::push_trouble;
+use crate::{Taker, Trouble, line_trouble};
 use snap_listing::LineTexts;
 use snap_machine::Machine;
 use snap_report::outcome_text;

@@ -16,7 +16,7 @@ use crate::point::point_text;
 use crate::trap::push_trap;
 use snap_acts::{Act, StepPattern, TraceStep, first_step_from, last_before, trace};
 use snap_asm_program::Program;
-use snap_audit::{Verdict, audit_over};
+use snap_audit::audit_over;
 use snap_listing::LineTexts;
 use snap_record::Record;
 use snap_sched::Schedule;

@@ -20,7 +20,8 @@ use Rattle.snap_runs.specs.Operation.{Action, EndsAreOfOperations, Sees, Sets, T
 use Rattle.snap_runs.specs.Run.{IsValidRun, Run, events_of, item, outcome}
 use Rattle.snap_runs.specs.Update.{PendingUpdate}
 use Rattle.snap_record.proofs.Events.{all_events, events_from, next_events, no_events}
-use Rattle.snap_history_laws.specs.events.EventLaws.{EventsTellOperations, Tells, called_as, ends_as}
+use Rattle.snap_history_laws.specs.events.EventLaws.{EventsTellOperations, Tells}
+use Rattle.snap_judge.specs.Linearizable.{called_as, ends_as}
 
 -- an event
 abbrev told : (i t : ℕ) → Happening → Event

@@ -7,11 +7,10 @@ use Rattle.snap_semantics.specs.declared.event.Event.{Event}
 use Rattle.snap_semantics.specs.declared.event.Happening.{Happening}
 use Rattle.snap_semantics.specs.declared.event.Happening.TheVariants as what
 use Rattle.snap_semantics.specs.declared.process.Item.TheVariants as items
-use Rattle.snap_semantics.specs.declared.process.Op.{Op}
-use Rattle.snap_semantics.specs.declared.process.Op.TheVariants as op
 use Rattle.snap_semantics.specs.declared.process.Outcome.TheVariants as outcomes
-use Rattle.snap_runs.specs.Operation.{Action, IsOperation, Operation, Sees, Sets}
+use Rattle.snap_runs.specs.Operation.{IsOperation, Operation, Sees, Sets}
 use Rattle.snap_runs.specs.Run.{IsValidRun, Run, events_of, item, outcome}
+use Rattle.snap_judge.specs.Linearizable.{called_as, ends_as}
 
 -- What is told of process i at item t is so: the item calls this, or an operation of the
 -- process ends at it, or it crashes.
@@ -23,16 +22,6 @@ Tells r i t what.Done =
     (c : ℕ) × (word : ℕ) × (value : ℕ)
     × IsOperation r (record { process = i; call = c; end = Some t; action = Sets word value })
 Tells r i t what.Crash = (who (item r t) ≡ i) × (outcome r t ≡ outcomes.Crashed)
-
--- how an operation is called
-abbrev pub called_as : Action → Op
-called_as (Sets word value) = op.Update word value
-called_as (Sees view) = op.Scan
-
--- how an action ends
-abbrev pub ends_as : Action → Happening
-ends_as (Sets word value) = what.Done
-ends_as (Sees view) = what.Answer view
 
 -- The events of a whole run are the calls and the ends of its operations, the calls of scans
 -- that have not ended, and crashes.

@@ -14,8 +14,7 @@ use Rattle.snap_reading_laws.specs.certificates.Shipped.{RunsAreCertified}
 -- the first line that writes a word is the one at which updates write
 puts_there : (g : KindTag) (s : Counts) → putting_line (shipped g).lines ≡ (shipped_bounds g s).writes
 puts_there kind.Seq s = refl
-puts_there kind.Bits s = refl
-puts_there kind.Multi s = refl
+puts_there _ s = refl
 
 -- the operations of a snapshot's run have linearization points
 points_of : (b : Bounds) (r : Run) → IsSnapshotRun b r → HasLinearizationPoints b.writes r

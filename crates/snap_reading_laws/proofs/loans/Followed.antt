@@ -2,7 +2,7 @@
 use Rattle.std.proofs.Common.{◌≡◌, ℕ, zero, suc, ◌+◌, ◌-◌, ◌<◌, ◌≤◌, Bool, true, false, ◌&&◌, List, []}
 use Rattle.std.proofs.Common.{Option, Some, None, bytes_eq, nat_eq, nat_lt, nat_le, get_or, length, if◌then◌else◌}
 use Rattle.std.proofs.Common.{refl, sym, subst, ap, ◌∙◌, inl, inr, arith}
-use Rattle.std.proofs.lemmas.Bool.{cases_lt, eqb-true, ltb-true}
+use Rattle.std.proofs.lemmas.Bool.{and_parts, cases_lt, eqb-false, eqb-true, ltb-true}
 use Rattle.std.proofs.lemmas.Slice.Eq.{bytes_eq-Decides}
 use Rattle.snap_words.specs.Shape.{IsOneOf}
 use Rattle.snap_words.specs.Word.{Word, no_word}
@@ -27,7 +27,6 @@ use Rattle.snap_acts.specs.declared.searches.StepPattern.{StepPattern}
 use Rattle.snap_acts.specs.declared.searches.StepPattern.TheVariants as wanted
 use Rattle.snap_reading_laws.specs.loans.Held.{HasHandedOn, IsFollowed, handed_view, held, held_if_named}
 use Rattle.snap_reading_laws.proofs.loans.Items.{told}
-use Rattle.snap_reading_laws.proofs.loans.Named.{both_true, numbers_differ}
 use Rattle.snap_reading_laws.proofs.loans.Scans.{found, is_first, scan_is}
 use Rattle.snap_reading_laws.proofs.loans.Went.{Tells, named_view, register, view_in, view_register, word_in}
 
@@ -83,44 +82,16 @@ scan_or (Some s) = s
 -- what an item wrote beside a word
 wrote_view : (j : ℕ) (l l' : Locals) (m m' : Memory) (a : Act) → writes_word j a ≡ true → Tells l m a m' l' →
     (register m' j).view ≡ named_view l (handed_on a)
-wrote_view j l l' m m' (act.Call op) e h = absurd cc
-wrote_view j l l' m m' (act.Answer view x) e h = absurd cc
-wrote_view j l l' m m' act.Done e h = absurd cc
-wrote_view j l l' m m' act.Crash e h = absurd cc
-wrote_view j l l' m m' act.Trap e h = absurd cc
-wrote_view j l l' m m' act.Skip e h = absurd cc
 wrote_view j l l' m m' (act.Write word values x) e h =
     subst (λ (n : ℕ). (register m' n).view ≡ named_view l x) (eqb-true word j e) h
-wrote_view j l l' m m' (act.Publish k x) e h = absurd cc
-wrote_view j l l' m m' (act.Read word into) e h = absurd cc
-wrote_view j l l' m m' (act.Look k x) e h = absurd cc
-wrote_view j l l' m m' (act.Borrow into x) e h = absurd cc
-wrote_view j l l' m m' (act.Collect x) e h = absurd cc
-wrote_view j l l' m m' (act.Test b) e h = absurd cc
-wrote_view j l l' m m' act.Enter e h = absurd cc
-wrote_view j l l' m m' (act.Leave x) e h = absurd cc
-wrote_view j l l' m m' act.Other e h = absurd cc
+wrote_view j l l' m m' _ e h = absurd cc
 
 -- an item that publishes writes into a register of views
 wrote_register : (j : ℕ) (l l' : Locals) (m m' : Memory) (a : Act) → publishes j a ≡ true → Tells l m a m' l' →
     view_register m' j ≡ named_view l (handed_on a)
-wrote_register j l l' m m' (act.Call op) e h = absurd cc
-wrote_register j l l' m m' (act.Answer view x) e h = absurd cc
-wrote_register j l l' m m' act.Done e h = absurd cc
-wrote_register j l l' m m' act.Crash e h = absurd cc
-wrote_register j l l' m m' act.Trap e h = absurd cc
-wrote_register j l l' m m' act.Skip e h = absurd cc
-wrote_register j l l' m m' (act.Write word values x) e h = absurd cc
 wrote_register j l l' m m' (act.Publish k x) e h =
     subst (λ (n : ℕ). view_register m' n ≡ view_in l x) (eqb-true k j e) h
-wrote_register j l l' m m' (act.Read word into) e h = absurd cc
-wrote_register j l l' m m' (act.Look k x) e h = absurd cc
-wrote_register j l l' m m' (act.Borrow into x) e h = absurd cc
-wrote_register j l l' m m' (act.Collect x) e h = absurd cc
-wrote_register j l l' m m' (act.Test b) e h = absurd cc
-wrote_register j l l' m m' act.Enter e h = absurd cc
-wrote_register j l l' m m' (act.Leave x) e h = absurd cc
-wrote_register j l l' m m' act.Other e h = absurd cc
+wrote_register j l l' m m' _ e h = absurd cc
 
 -- what an item read into a place
 pub record HasRead (spot : Spot) (l' : Locals) (m : Memory) (a : Act) : Type 0 where
@@ -133,7 +104,7 @@ at_spot : (spot into : Spot) (l' : Locals) (word : Word) →
     (bytes_eq into.words spot.words && nat_eq into.place spot.place) ≡ true → word_in l' into ≡ word →
     word_in l' spot ≡ word
 at_spot spot into l' word e h =
-    let same = both_true (bytes_eq into.words spot.words) (nat_eq into.place spot.place) e in
+    let same = and_parts (bytes_eq into.words spot.words) (nat_eq into.place spot.place) e in
     subst (λ (x : Name). get_or (value_at x l'.words []) (spot.place - 1) no_word ≡ word)
     ((bytes_eq-Decides into.words spot.words).0 same.0)
     (subst (λ (p : ℕ). get_or (value_at into.words l'.words []) (p - 1) no_word ≡ word)
@@ -141,23 +112,9 @@ at_spot spot into l' word e h =
 
 has_read : (spot : Spot) (l l' : Locals) (m m' : Memory) (a : Act) → reads_into spot a ≡ true → Tells l m a m' l' →
     HasRead spot l' m a
-has_read spot l l' m m' (act.Call op) e h = absurd cc
-has_read spot l l' m m' (act.Answer view x) e h = absurd cc
-has_read spot l l' m m' act.Done e h = absurd cc
-has_read spot l l' m m' act.Crash e h = absurd cc
-has_read spot l l' m m' act.Trap e h = absurd cc
-has_read spot l l' m m' act.Skip e h = absurd cc
-has_read spot l l' m m' (act.Write word values x) e h = absurd cc
-has_read spot l l' m m' (act.Publish k x) e h = absurd cc
 has_read spot l l' m m' (act.Read word into) e h =
     record { word = word; is = refl; first = h.0; has = at_spot spot into l' (register m word) e h.1 }
-has_read spot l l' m m' (act.Look k x) e h = absurd cc
-has_read spot l l' m m' (act.Borrow into x) e h = absurd cc
-has_read spot l l' m m' (act.Collect x) e h = absurd cc
-has_read spot l l' m m' (act.Test b) e h = absurd cc
-has_read spot l l' m m' act.Enter e h = absurd cc
-has_read spot l l' m m' (act.Leave x) e h = absurd cc
-has_read spot l l' m m' act.Other e h = absurd cc
+has_read spot l l' m m' _ e h = absurd cc
 
 module _ (r : Run) (listing : IsListing r.source) (valid : IsValidRun r) where
   abbrev ss : List TraceStep
@@ -187,7 +144,7 @@ module _ (r : Run) (listing : IsListing r.source) (valid : IsValidRun r) where
           subst (λ (j : ℕ). F (locals (suc k) j) ≡ F (locals k j)) (eqb-true (process k) i is) (h other)
       by_process false is other =
           ap (λ (q : Process). F q.locals)
-          ((told r k listing valid within).others i one (λ same. numbers_differ (process k) i is (sym same)))
+          ((told r k listing valid within).others i one (λ same. eqb-false (process k) i is (sym same)))
 
   word_frame : (j k : ℕ) → 0 < j → k < most → meets (wanted.WriteOf j) (step_at ss k) ≡ false →
       register (state r (suc k)).memory j ≡ register (state r k).memory j
@@ -245,7 +202,7 @@ module _ (r : Run) (listing : IsListing r.source) (valid : IsValidRun r) where
   spot_written i d w spot None first one within is e = absurd cc
   spot_written i d w spot (Some g) first one within is e =
       let at = found (wanted.ReadInto i spot) ss d g is in
-      let mine = both_true (nat_eq (process g) i) (reads_into spot (step_at ss g).act) at.1 in
+      let mine = and_parts (nat_eq (process g) i) (reads_into spot (step_at ss g).act) at.1 in
       let less : g < most = (let before = at.0 in omega (arith, before, within)) in
       let so = has_read spot (locals g (process g)) (locals (suc g) (process g)) (state r g).memory
       (state r (suc g)).memory (step_at ss g).act mine.1 (told r g listing valid less).went.tells in
@@ -261,15 +218,6 @@ module _ (r : Run) (listing : IsListing r.source) (valid : IsValidRun r) where
       source_by ss d (process d) a ≡ Some w →
       Tells (locals d (process d)) (state r d).memory a (state r (suc d)).memory (locals (suc d) (process d)) →
       view_in (locals (suc d) (process d)) x ≡ handed_view r w
-  set_is d w x (act.Call op) within e from h = absurd cc
-  set_is d w x (act.Answer view y) within e from h = absurd cc
-  set_is d w x act.Done within e from h = absurd cc
-  set_is d w x act.Crash within e from h = absurd cc
-  set_is d w x act.Trap within e from h = absurd cc
-  set_is d w x act.Skip within e from h = absurd cc
-  set_is d w x (act.Write word values y) within e from h = absurd cc
-  set_is d w x (act.Publish k y) within e from h = absurd cc
-  set_is d w x (act.Read word into) within e from h = absurd cc
   set_is d w x (act.Look k y) within e from h =
       subst (λ (z : Name). view_in (locals (suc d) (process d)) z ≡ view_register (state r d).memory k)
       ((bytes_eq-Decides y x).0 e) h.1
@@ -279,11 +227,7 @@ module _ (r : Run) (listing : IsListing r.source) (valid : IsValidRun r) where
       ((bytes_eq-Decides y x).0 e) h.1
       ∙ spot_written (process d) d w into (last_before (wanted.ReadInto (process d) into) ss d) h.0
       (told r d listing valid within).one (omega (arith, within)) refl from
-  set_is d w x (act.Collect y) within e from h = absurd cc
-  set_is d w x (act.Test b) within e from h = absurd cc
-  set_is d w x act.Enter within e from h = absurd cc
-  set_is d w x (act.Leave y) within e from h = absurd cc
-  set_is d w x act.Other within e from h = absurd cc
+  set_is d w x _ within e from h = absurd cc
 
   -- the view in a local is
   from_set : (i k w : ℕ) (x : Name) (o : Option ℕ) → IsOneOf r.shape.n i → k ≤ most → set_before ss i x k ≡ o →
@@ -291,7 +235,7 @@ module _ (r : Run) (listing : IsListing r.source) (valid : IsValidRun r) where
   from_set i k w x None one within is e = absurd cc
   from_set i k w x (Some d) one within is e =
       let at = found (wanted.Sets i x) ss k d is in
-      let mine = both_true (nat_eq (process d) i) (sets_view x (step_at ss d).act) at.1 in
+      let mine = and_parts (nat_eq (process d) i) (sets_view x (step_at ss d).act) at.1 in
       let less : d < most = (let before = at.0 in omega (arith, before, within)) in
       since (λ (t : ℕ). held r i x t) (wanted.Sets i x) ss most (λ t before away. held_frame i t x one before away) k d
       within is
@@ -411,7 +355,7 @@ module _ (r : Run) (listing : IsListing r.source) (valid : IsValidRun r) where
   lender_returned w s within is same =
       let scan = (lender_around (process w) w (handed_on (step_at ss w).act) s is).1 in
       let last = is_first (wanted.Leave (process w)) ss s.from (w - s.from) s.to scan.ended in
-      let his = both_true (nat_eq (process s.to) (process w)) (is_leave (step_at ss s.to).act) last.there in
+      let his = and_parts (nat_eq (process s.to) (process w)) (is_leave (step_at ss s.to).act) last.there in
       (lender_named (process w) w (handed_on (step_at ss w).act) s (told r w listing valid within).one
       (omega (arith, within)) is).2
       ∙ ap (λ (x : Option Name). held_if_named r (process w) x s.to) (sym same)
@@ -422,25 +366,13 @@ module _ (r : Run) (listing : IsListing r.source) (valid : IsValidRun r) where
   handed_of : (k : ℕ) (a : Act) → a ≡ (step_at ss k).act →
       Tells (locals k (process k)) (state r k).memory a (state r (suc k)).memory (locals (suc k) (process k)) →
       HasHandedOn r k a
-  handed_of k (act.Call op) is h = tt
   handed_of k (act.Answer view x) is h =
       h ∙ sym (held_is (process k) k x) ∙ ap (λ (a : Act). held_if_named r (process k) (handed_on a) k) is
-  handed_of k act.Done is h = tt
-  handed_of k act.Crash is h = tt
-  handed_of k act.Trap is h = tt
-  handed_of k act.Skip is h = tt
   handed_of k (act.Write word values x) is h =
       h ∙ sym (held_is (process k) k x) ∙ ap (λ (a : Act). held_if_named r (process k) (handed_on a) k) is
   handed_of k (act.Publish j x) is h =
       h ∙ ap (λ (a : Act). held_if_named r (process k) (handed_on a) k) is
-  handed_of k (act.Read word into) is h = tt
-  handed_of k (act.Look j x) is h = tt
-  handed_of k (act.Borrow into x) is h = tt
-  handed_of k (act.Collect x) is h = tt
-  handed_of k (act.Test b) is h = tt
-  handed_of k act.Enter is h = tt
-  handed_of k (act.Leave x) is h = tt
-  handed_of k act.Other is h = tt
+  handed_of k _ is h = tt
 
 -- in every run of any listing
 pub followed : (r : Run) → IsListing r.source → IsValidRun r → IsFollowed r

@@ -19,7 +19,7 @@ use Rattle.snap_semantics.specs.declared.process.Item.TheVariants as item
 use Rattle.snap_semantics.specs.declared.process.Op.{Op}
 use Rattle.snap_semantics.specs.declared.process.Reason.{Reason}
 use Rattle.snap_semantics.specs.declared.process.Status.{Status}
-use Rattle.snap_semantics.specs.declared.process.Status.TheVariants.{Idle, Busy, Trapped, Crashed}
+use Rattle.snap_semantics.specs.declared.process.Status.TheVariants.{Idle, Busy, Trapped}
 use Rattle.snap_runs.specs.Run.{IsValidRun, Run, state, item as item_at, outcome as outcome_at}
 use Rattle.snap_machine.specs.Sizes.{AreSized}
 use Rattle.snap_run_judge.proofs.Sizes.{HasSizes, IsSized, done_sized, initial_sized, own_sized, right_instr}
@@ -40,23 +40,24 @@ pub record Told (n i : ℕ) (S : State) (a : Act) (S' : State) : Type 0 where
 
 module _ (s : Source) (shape : Counts) where
   -- an item that leaves all as it is
-  skipped : (i : ℕ) (S : State) (a : Act) → IsOneOf shape.n i →
-      ((l : Locals) (m : Memory) → Went l m a m l) → Told shape.n i S a S
-  skipped i S a one h =
-      record { one = one; went = h (process_at S i).locals S.memory; others = λ k is other. refl }
+  skipped : (i : ℕ) (S : State) → IsOneOf shape.n i → Told shape.n i S act.Skip S
+  skipped i S one = record {
+    one = one;
+    went = kept (process_at S i).locals _ S.memory _ act.Skip refl refl refl refl tt;
+    others = λ k is other. refl;
+  }
 
   -- an item that sets its process
   set_told : (i : ℕ) (S : State) (a : Act) (m : Memory) (p : Process) → IsOneOf shape.n i →
       length S.processes ≡ shape.n → Went (process_at S i).locals S.memory a m p.locals →
       Told shape.n i S a (record { memory = m; processes = slice_set S.processes (i - 1) p })
   set_told i S a m p one count h =
-      let within : i - 1 < length S.processes =
-      (let first = one.0 in let last = one.1 in omega (arith, first, last, count)) in record {
+      let within : i - 1 < length S.processes = omega (arith, one.0, one.1, count) in record {
         one = one;
         went = subst (λ (q : Process). Went (process_at S i).locals S.memory a m q.locals)
             (sym (get_or-set_same S.processes (i - 1) p nobody within)) h;
         others = λ k is other. get_or-set_other S.processes (i - 1) (k - 1) p nobody
-            (λ same. other (let first = one.0 in let second = is.0 in omega (arith, first, second, same)));
+            (λ same. other (omega (arith, one.0, is.0, same)));
       }
 
   leave_told : (i : ℕ) (S : State) (a : Activity) (x : Item) (c : Context) (found : Option Instr)
@@ -93,23 +94,18 @@ module _ (s : Source) (shape : Counts) where
     step_told : (i : ℕ) (S : State) (x : Item) (status : Status) → IsSized s shape S → IsOneOf shape.n i →
         (let r = step s shape S i (process_at S i) status in
         Told shape.n i S (act_of (intent_in s shape i (process_at S i) status) r.0 i x r.1) r.0)
-    step_told i S x Idle sized one = skipped i S act.Skip one (λ l m. kept l l m m act.Skip refl refl refl refl tt)
-    step_told i S x (Trapped c a) sized one =
-        skipped i S act.Skip one (λ l m. kept l l m m act.Skip refl refl refl refl tt)
-    step_told i S x (Crashed was) sized one =
-        skipped i S act.Skip one (λ l m. kept l l m m act.Skip refl refl refl refl tt)
     step_told i S x (Busy a) sized one =
         let c : Context = context_of shape i (process_at S i) a.op in
         leave_told i S a x c (instr_at s.lines a.line)
         (effect_at s c S.memory a (instr_at s.lines a.line)) one sized.count
         (λ S'. leaves_at S' c S.memory a (instr_at s.lines a.line) refl (own_sized s shape listing S i sized one)
         sized.memory)
+    step_told i S x _ sized one = skipped i S one
 
     called_told : (i : ℕ) (S : State) (o : Op) (why : Option Reason) → IsSized s shape S → IsOneOf shape.n i →
         (let r = called s S i (process_at S i) o why in
         Told shape.n i S (act_of (intent_of s shape S (item.Call i o)) r.0 i (item.Call i o) r.1) r.0)
-    called_told i S o (Some reason) sized one =
-        skipped i S act.Skip one (λ l m. kept l l m m act.Skip refl refl refl refl tt)
+    called_told i S o (Some reason) sized one = skipped i S one
     called_told i S o None sized one =
         let l : Locals = (process_at S i).locals in
         set_told i S (act.Call o) S.memory _ one sized.count
@@ -119,12 +115,7 @@ module _ (s : Source) (shape : Counts) where
         (let r = call s shape S i o (process_at S i) status in
         Told shape.n i S (act_of (intent_of s shape S (item.Call i o)) r.0 i (item.Call i o) r.1) r.0)
     call_told i S o Idle sized one = called_told i S o (call_skip s.kind shape i o) sized one
-    call_told i S o (Busy a) sized one =
-        skipped i S act.Skip one (λ l m. kept l l m m act.Skip refl refl refl refl tt)
-    call_told i S o (Trapped c a) sized one =
-        skipped i S act.Skip one (λ l m. kept l l m m act.Skip refl refl refl refl tt)
-    call_told i S o (Crashed was) sized one =
-        skipped i S act.Skip one (λ l m. kept l l m m act.Skip refl refl refl refl tt)
+    call_told i S o _ sized one = skipped i S one
 
     crashed_told : (i : ℕ) (S : State) (p : Process) → p.locals ≡ (process_at S i).locals → IsSized s shape S →
         IsOneOf shape.n i →
@@ -139,10 +130,7 @@ module _ (s : Source) (shape : Counts) where
         Told shape.n i S (act_of (intent_of s shape S (item.Crash i)) r.0 i (item.Crash i) r.1) r.0)
     crash_told i S (Busy a) sized one = crashed_told i S _ refl sized one
     crash_told i S Idle sized one = crashed_told i S _ refl sized one
-    crash_told i S (Trapped c a) sized one =
-        skipped i S act.Skip one (λ l m. kept l l m m act.Skip refl refl refl refl tt)
-    crash_told i S (Crashed was) sized one =
-        skipped i S act.Skip one (λ l m. kept l l m m act.Skip refl refl refl refl tt)
+    crash_told i S _ sized one = skipped i S one
 
     -- each item
     done_told : (S : State) (t : ℕ) (x : Item) → IsSized s shape S → IsOneOf shape.n (who x) →

@@ -1,18 +1,14 @@
 -- The value of a name, where the value of another name, or its own, has been set.
-use Rattle.std.proofs.Common.{◌≡◌, ◌≢◌, ℕ, Bool, true, false, ◌&&◌, List, [], ◌∷◌, if◌then◌else◌}
-use Rattle.std.proofs.Common.{bytes_eq, nat_eq, get_or, length, set, refl, sym, subst, ap, ◌∙◌, arith}
-use Rattle.std.proofs.lemmas.Bool.{eq-eqb}
+use Rattle.std.proofs.Common.{◌≡◌, ◌≢◌, ℕ, Bool, true, false, List, [], ◌∷◌, if◌then◌else◌, bytes_eq, get_or, length}
+use Rattle.std.proofs.Common.{set, refl, sym, subst, ap, ◌∙◌, arith}
 use Rattle.std.proofs.lemmas.List.{get_or-set_other}
 use Rattle.std.proofs.lemmas.Slice.Eq.{bytes_eq-Decides}
 use Rattle.snap_semantics.specs.Source.{Name}
 use Rattle.snap_semantics.specs.State.{NameMap, value_at, with_value}
 
--- names that are told apart, and numbers
-pub names_differ : (x y : Name) → bytes_eq x y ≡ false → x ≢ y
+-- names that are told apart
+names_differ : (x y : Name) → bytes_eq x y ≡ false → x ≢ y
 names_differ x y away = λ same. let yes : bytes_eq x y ≡ true = (bytes_eq-Decides x y).1 same in absurd cc
-
-pub numbers_differ : (j k : ℕ) → nat_eq j k ≡ false → j ≢ k
-numbers_differ j k away = λ same. let yes : nat_eq j k ≡ true = eq-eqb j k same in absurd cc
 
 -- the value of another name is set
 pub with_other : {A : Type 0} (x y : Name) (v d : A) (es : NameMap A) → bytes_eq x y ≡ false →
@@ -71,8 +67,3 @@ with_other_place {A} x k n v d es other =
     let old : List A = value_at x es [] in
     with_either (λ (xs : List A). get_or xs n d ≡ get_or old n d) x (set old k v) [] es
     (get_or-set_other old k n v d other) refl
-
--- two tests
-pub both_true : (a b : Bool) → (a && b) ≡ true → (a ≡ true) × (b ≡ true)
-both_true true b e = (refl, e)
-both_true false b e = absurd cc

@@ -1,7 +1,7 @@
 -- The lender of a view is a whole scan of an update of the process that wrote the view (`FinishedScan`).
 use Rattle.std.proofs.Common.{◌≡◌, ◌⊎◌, inl, inr, ℕ, zero, suc, ◌+◌, ◌<◌, ◌≤◌, Bool, true, false, ◌&&◌, nat_eq}
 use Rattle.std.proofs.Common.{List, [], Option, Some, length, if◌then◌else◌, refl, sym, subst, ap, ◌∙◌, arith}
-use Rattle.std.proofs.lemmas.Bool.{cases_lt, eq-eqb, eqb-true}
+use Rattle.std.proofs.lemmas.Bool.{and_parts, cases_lt, eq-eqb, eqb-false, eqb-true}
 use Rattle.snap_words.specs.Shape.{IsOneOf}
 use Rattle.snap_semantics.specs.IsListing.{IsListing}
 use Rattle.snap_semantics.specs.Source.{Name, Source}
@@ -11,7 +11,7 @@ use Rattle.snap_semantics.specs.declared.instr.Instr.{Instr}
 use Rattle.snap_semantics.specs.declared.instr.Instr.TheVariants.{Return}
 use Rattle.snap_semantics.specs.declared.process.Item.TheVariants as item
 use Rattle.snap_semantics.specs.declared.process.Status.{Status}
-use Rattle.snap_semantics.specs.declared.process.Status.TheVariants.{Idle, Busy, Trapped, Crashed}
+use Rattle.snap_semantics.specs.declared.process.Status.TheVariants.{Busy}
 use Rattle.snap_runs.specs.Run.{IsValidRun, Run, state, item as item_at, outcome as outcome_at}
 use Rattle.snap_runs.specs.Scan.{Ends, FinishedScan, ReturnsView, line_in, link_in}
 use Rattle.snap_acts.specs.Trace.{trace_of}
@@ -24,7 +24,6 @@ use Rattle.snap_acts.specs.declared.searches.StepPattern.{StepPattern}
 use Rattle.snap_acts.specs.declared.searches.StepPattern.TheVariants as wanted
 use Rattle.snap_reading_laws.specs.loans.Held.{handed_view, held, held_if_named}
 use Rattle.snap_reading_laws.proofs.loans.Items.{told, turn}
-use Rattle.snap_reading_laws.proofs.loans.Named.{both_true, numbers_differ}
 use Rattle.snap_reading_laws.proofs.loans.Turns.{Begins, IsStuck, Returns}
 
 -- what is found is there
@@ -74,40 +73,12 @@ is_first w ss k (suc count) e is =
         }
 
 is_entered : (a : Act) → is_enter a ≡ true → a ≡ act.Enter
-is_entered (act.Call o) e = absurd cc
-is_entered (act.Answer view x) e = absurd cc
-is_entered act.Done e = absurd cc
-is_entered act.Crash e = absurd cc
-is_entered act.Trap e = absurd cc
-is_entered act.Skip e = absurd cc
-is_entered (act.Write word values x) e = absurd cc
-is_entered (act.Publish j x) e = absurd cc
-is_entered (act.Read word into) e = absurd cc
-is_entered (act.Look j x) e = absurd cc
-is_entered (act.Borrow into x) e = absurd cc
-is_entered (act.Collect x) e = absurd cc
-is_entered (act.Test passed) e = absurd cc
 is_entered act.Enter e = refl
-is_entered (act.Leave x) e = absurd cc
-is_entered act.Other e = absurd cc
+is_entered _ e = absurd cc
 
 is_left : (a : Act) → is_leave a ≡ true → (y : Name) × (a ≡ act.Leave y)
-is_left (act.Call o) e = absurd cc
-is_left (act.Answer view x) e = absurd cc
-is_left act.Done e = absurd cc
-is_left act.Crash e = absurd cc
-is_left act.Trap e = absurd cc
-is_left act.Skip e = absurd cc
-is_left (act.Write word values x) e = absurd cc
-is_left (act.Publish j x) e = absurd cc
-is_left (act.Read word into) e = absurd cc
-is_left (act.Look j x) e = absurd cc
-is_left (act.Borrow into x) e = absurd cc
-is_left (act.Collect x) e = absurd cc
-is_left (act.Test passed) e = absurd cc
-is_left act.Enter e = absurd cc
 is_left (act.Leave x) e = (x, refl)
-is_left act.Other e = absurd cc
+is_left _ e = absurd cc
 
 -- a line that returns a view
 line_returned : (f : Option Instr) (l : Locals) (view : List ℕ) → ReturnsView f l view →
@@ -116,10 +87,8 @@ line_returned (Some (Return x)) l view h = (x, refl)
 line_returned _ l view h = absurd h
 
 stands_nowhere : (s : Source) (u : Status) (i : Instr) → IsStuck u → line_in s u ≡ Some i → ⊥
-stands_nowhere s Idle i h line = absurd cc
 stands_nowhere s (Busy a) i h line = absurd h
-stands_nowhere s (Trapped c a) i h line = absurd cc
-stands_nowhere s (Crashed was) i h line = absurd cc
+stands_nowhere s _ i h line = absurd cc
 
 module _ (r : Run) (listing : IsListing r.source) (valid : IsValidRun r) (i : ℕ) (one : IsOneOf r.shape.n i) where
   abbrev ss : List TraceStep
@@ -156,7 +125,7 @@ module _ (r : Run) (listing : IsListing r.source) (valid : IsValidRun r) (i : �
           ]
       by_process false is away =
           let same = (told r t listing valid less).others i one
-          (λ equal. numbers_differ (process t) i is (sym equal)) in
+          (λ equal. eqb-false (process t) i is (sym equal)) in
           subst (λ (p : Process). (link_in p.status ≡ Some k) ⊎ IsStuck p.status) (sym same) h
 
   all_along : (k a e : ℕ) → e < most → ((t : ℕ) → a ≤ t → t < e → meets (wanted.Leave i) (step_at ss t) ≡ false) →
@@ -191,8 +160,8 @@ module _ (r : Run) (listing : IsListing r.source) (valid : IsValidRun r) (i : �
       let entered = found (wanted.Enter i) ss d a enter in
       let before = entered.0 in
       let last = is_first (wanted.Leave i) ss a count e leave in
-      let his = both_true (nat_eq (process a) i) (is_enter (step_at ss a).act) entered.1 in
-      let its = both_true (nat_eq (process e) i) (is_leave (step_at ss e).act) last.there in
+      let his = and_parts (nat_eq (process a) i) (is_enter (step_at ss a).act) entered.1 in
+      let its = and_parts (nat_eq (process e) i) (is_leave (step_at ss e).act) last.there in
       let start : a < most = omega (arith, before, after, less) in
       let begins = subst (λ (j : ℕ). Begins r.source j (item_at r (suc a)) (process_at (state r a) j).status
       (outcome_at r (suc a)) (process_at (state r (suc a)) j).status) (eqb-true (process a) i his.0)

@@ -27,8 +27,8 @@ use Rattle.snap_acts.specs.declared.act.Act.{Act}
 use Rattle.snap_acts.specs.declared.act.Act.TheVariants as act
 use Rattle.snap_reading_laws.proofs.Lines.{IsLinked, Links, links}
 use Rattle.snap_runs.specs.Scan.{IsCallLine, line_in, link_in}
-use Rattle.snap_acts.specs.Trace.{act_of, context_of, intent_in, intent_of, intent_of_instr, intent_of_line, returned}
-use Rattle.snap_acts.specs.Trace.{stepped, step_of}
+use Rattle.snap_acts.specs.Trace.{act_of, context_of, intent_in, intent_of, intent_of_instr, intent_of_line, stepped}
+use Rattle.snap_acts.specs.Trace.{step_of}
 
 -- a process that goes on nowhere
 abbrev pub IsStuck : Status → Type 0
@@ -39,22 +39,9 @@ IsStuck _ = ⊥
 -- the link of a process stays where it does not leave
 stays_of : (i : Instr) (k : ℕ) (b a : Option ℕ) (t : Act) → IsLinked i t b a → is_leave t ≡ false → b ≡ Some k →
     a ≡ Some k
-stays_of i k b a (act.Call o) h stays has = h ∙ has
-stays_of i k b a (act.Answer view x) h stays has = h ∙ has
-stays_of i k b a act.Done h stays has = h ∙ has
-stays_of i k b a act.Crash h stays has = h ∙ has
-stays_of i k b a act.Trap h stays has = h ∙ has
-stays_of i k b a act.Skip h stays has = h ∙ has
-stays_of i k b a (act.Write word values x) h stays has = h ∙ has
-stays_of i k b a (act.Publish j x) h stays has = h ∙ has
-stays_of i k b a (act.Read word into) h stays has = h ∙ has
-stays_of i k b a (act.Look j x) h stays has = h ∙ has
-stays_of i k b a (act.Borrow into x) h stays has = h ∙ has
-stays_of i k b a (act.Collect x) h stays has = h ∙ has
-stays_of i k b a (act.Test passed) h stays has = h ∙ has
 stays_of i k b a act.Enter h stays has = let none = h.1 in absurd cc
 stays_of i k b a (act.Leave x) h stays has = absurd cc
-stays_of i k b a act.Other h stays has = h ∙ has
+stays_of i k b a _ h stays has = h ∙ has
 
 -- a scan of an update of process i begins by this item
 pub record Begins (s : Source) (i : ℕ) (x : Item) (u : Status) (o : Outcome) (u' : Status) : Type 0 where
@@ -87,28 +74,28 @@ return_goes_on m l v o None k c has e = absurd cc
 
 module _ (s : Source) (shape : Counts) (i : ℕ) where
   -- an item that changes nothing
-  rests : (x : Item) (u : Status) (o : Outcome) → ((y : Name) → x ≡ item.Step i → line_in s u ≡ Some (Return y) → ⊥) →
-      Turn s i x u act.Skip o u
-  rests x u o none = record {
+  rests : {x : Item} {u u' : Status} {o : Outcome} → u' ≡ u →
+      ((y : Name) → x ≡ item.Step i → line_in s u ≡ Some (Return y) → ⊥) → Turn s i x u act.Skip o u'
+  rests {x} {u} {u'} {o} same none = subst (Turn s i x u act.Skip o) (sym same) (record {
     enters = λ is. absurd cc;
     leaves = λ y is. absurd cc;
     stays = λ k away has. inl has;
     stuck = λ h. h;
     returns = λ y k is line has. absurd (none y is line);
-  }
+  })
 
   -- an operation that traps, ends or begins at a step or a call
-  stops : (x : Item) (u : Status) (t : Act) (o : Outcome) (u' : Status) → (t ≡ act.Enter → ⊥) →
+  stops : {x : Item} {u : Status} {t : Act} {o : Outcome} {v : Status} (u' : Status) → u' ≡ v → (t ≡ act.Enter → ⊥) →
       ((y : Name) → t ≡ act.Leave y → ⊥) → ((k : ℕ) → link_in u ≡ Some k → IsStuck u') → (IsStuck u → IsStuck u') →
       ((y : Name) (k : ℕ) → x ≡ item.Step i → line_in s u ≡ Some (Return y) → link_in u ≡ Some k → ⊥) →
-      Turn s i x u t o u'
-  stops x u t o u' enters leaves stays stuck returns = record {
+      Turn s i x u t o v
+  stops {x} {u} {t} {o} {v} u' same enters leaves stays stuck returns = subst (Turn s i x u t o) same (record {
     enters = λ is. absurd (enters is);
     leaves = λ y is. absurd (leaves y is);
     stays = λ k away has. inr (stays k has);
     stuck = stuck;
     returns = λ y k is line has. absurd (returns y k is line has);
-  }
+  })
 
   none_some : (o : Option ℕ) (k : ℕ) → o ≡ None → o ≡ Some k → ⊥
   none_some o k none some = absurd cc
@@ -152,23 +139,18 @@ module _ (s : Source) (shape : Counts) (i : ℕ) where
             ap (λ (v : Instr). is_leave (stepped (intent_of_line c v) S' i)) same;
       })
   leave_turn S a c j (Ok (Answers v)) one count there h fails =
-      let q : Process = record { status = Idle; locals = (process_at S i).locals } in
-      subst (Turn s i (item.Step i) (Busy a) _ (outcome.Answered v)) (own_status S S.memory q one count)
-      (stops (item.Step i) (Busy a) (act.Answer v (returned (intent_of_line c j))) (outcome.Answered v) Idle
+      stops Idle (own_status S S.memory (record { status = Idle; locals = (process_at S i).locals }) one count)
       (λ is. absurd cc) (λ y is. absurd cc) (λ k has. none_some a.link k (h S) has) (λ none. absurd none)
-      (λ y k is line has. none_some a.link k (h S) has))
+      (λ y k is line has. none_some a.link k (h S) has)
   leave_turn S a c j (Ok Finishes) one count there h fails =
-      let q : Process = record { status = Idle; locals = (process_at S i).locals } in
-      subst (Turn s i (item.Step i) (Busy a) act.Done outcome.Finished) (own_status S S.memory q one count)
-      (stops (item.Step i) (Busy a) act.Done outcome.Finished Idle
+      stops Idle (own_status S S.memory (record { status = Idle; locals = (process_at S i).locals }) one count)
       (λ is. absurd cc) (λ y is. absurd cc) (λ k has. none_some a.link k (h S) has) (λ none. absurd none)
-      (λ y k is line has. none_some a.link k (h S) has))
+      (λ y k is line has. none_some a.link k (h S) has)
   leave_turn S a c j (Err w) one count there h fails =
-      let q : Process = record { status = Trapped w a; locals = (process_at S i).locals } in
-      subst (Turn s i (item.Step i) (Busy a) act.Trap (outcome.Trapped w)) (own_status S S.memory q one count)
-      (stops (item.Step i) (Busy a) act.Trap (outcome.Trapped w) (Trapped w a)
+      stops (Trapped w a)
+      (own_status S S.memory (record { status = Trapped w a; locals = (process_at S i).locals }) one count)
       (λ is. absurd cc) (λ y is. absurd cc) (λ k has. tt) (λ none. tt)
-      (λ y k is line has. fails y k w (let both : Some j ≡ Some (Return y) = sym there ∙ line in cc) has refl))
+      (λ y k is line has. fails y k w (let both : Some j ≡ Some (Return y) = sym there ∙ line in cc) has refl)
 
   busy_turn : (S : State) (a : Activity) (c : Context) (found : Option Instr) → IsOneOf shape.n i →
       length S.processes ≡ shape.n → instr_at s.lines a.line ≡ found → c.me ≡ i →
@@ -176,12 +158,10 @@ module _ (s : Source) (shape : Counts) (i : ℕ) where
       Turn s i (item.Step i) (Busy a) (act_of (intent_of_instr c found) r.0 i (item.Step i) r.1) r.1
       (process_at r.0 i).status)
   busy_turn S a c None one count there me =
-      let q : Process = record { status = Trapped cause.OffEnd a; locals = (process_at S i).locals } in
-      subst (Turn s i (item.Step i) (Busy a) act.Trap (outcome.Trapped cause.OffEnd))
-      (own_status S S.memory q one count)
-      (stops (item.Step i) (Busy a) act.Trap (outcome.Trapped cause.OffEnd) (Trapped cause.OffEnd a)
+      stops (Trapped cause.OffEnd a)
+      (own_status S S.memory (record { status = Trapped cause.OffEnd a; locals = (process_at S i).locals }) one count)
       (λ is. absurd cc) (λ y is. absurd cc) (λ k has. tt) (λ none. tt)
-      (λ y k is line has. absurd (let both : None ≡ Some (Return y) = sym there ∙ line in cc)))
+      (λ y k is line has. absurd (let both : None ≡ Some (Return y) = sym there ∙ line in cc))
   busy_turn S a c (Some j) one count there me =
       leave_turn S a c j (effect s c S.memory a j) one count there
       (λ S'. subst (λ (k : ℕ). Links j (stepped (intent_of_line c j) S' k) a.link (effect s c S.memory a j)) me
@@ -193,43 +173,25 @@ module _ (s : Source) (shape : Counts) (i : ℕ) where
       length S.processes ≡ shape.n → (let r = step s shape S i (process_at S i) u in
       Turn s i (item.Step i) u (act_of (intent_in s shape i (process_at S i) u) r.0 i (item.Step i) r.1) r.1
       (process_at r.0 i).status)
-  step_turn S Idle is one count =
-      subst (Turn s i (item.Step i) Idle act.Skip _) (sym is) (rests (item.Step i) Idle _ (λ y same line. absurd cc))
-  step_turn S (Trapped c a) is one count =
-      subst (Turn s i (item.Step i) (Trapped c a) act.Skip _) (sym is)
-      (rests (item.Step i) (Trapped c a) _ (λ y same line. absurd cc))
-  step_turn S (Crashed was) is one count =
-      subst (Turn s i (item.Step i) (Crashed was) act.Skip _) (sym is)
-      (rests (item.Step i) (Crashed was) _ (λ y same line. absurd cc))
   step_turn S (Busy a) is one count =
       busy_turn S a (context_of shape i (process_at S i) a.op) (instr_at s.lines a.line) one count refl refl
+  step_turn S _ is one count = rests is (λ y same line. absurd cc)
 
   called_turn : (S : State) (o : Op) (why : Option Reason) → (process_at S i).status ≡ Idle → IsOneOf shape.n i →
       length S.processes ≡ shape.n → (let r = called s S i (process_at S i) o why in
       Turn s i (item.Call i o) Idle (act_of (intent_of s shape S (item.Call i o)) r.0 i (item.Call i o) r.1) r.1
       (process_at r.0 i).status)
-  called_turn S o (Some reason) is one count =
-      subst (Turn s i (item.Call i o) Idle act.Skip _) (sym is)
-      (rests (item.Call i o) Idle _ (λ y same line. absurd cc))
+  called_turn S o (Some reason) is one count = rests is (λ y same line. absurd cc)
   called_turn S o None is one count =
-      subst (Turn s i (item.Call i o) Idle (act.Call o) outcome.Called) (own_status S S.memory _ one count)
-      (stops (item.Call i o) Idle (act.Call o) outcome.Called _ (λ e. absurd cc) (λ y e. absurd cc)
-      (λ k has. absurd cc) (λ none. absurd none) (λ y k same line has. absurd cc))
+      stops _ (own_status S S.memory _ one count) (λ e. absurd cc) (λ y e. absurd cc) (λ k has. absurd cc)
+      (λ none. absurd none) (λ y k same line has. absurd cc)
 
   call_turn : (S : State) (o : Op) (u : Status) → (process_at S i).status ≡ u → IsOneOf shape.n i →
       length S.processes ≡ shape.n → (let r = call s shape S i o (process_at S i) u in
       Turn s i (item.Call i o) u (act_of (intent_of s shape S (item.Call i o)) r.0 i (item.Call i o) r.1) r.1
       (process_at r.0 i).status)
   call_turn S o Idle is one count = called_turn S o (call_skip s.kind shape i o) is one count
-  call_turn S o (Busy a) is one count =
-      subst (Turn s i (item.Call i o) (Busy a) act.Skip _) (sym is)
-      (rests (item.Call i o) (Busy a) _ (λ y same line. absurd cc))
-  call_turn S o (Trapped c a) is one count =
-      subst (Turn s i (item.Call i o) (Trapped c a) act.Skip _) (sym is)
-      (rests (item.Call i o) (Trapped c a) _ (λ y same line. absurd cc))
-  call_turn S o (Crashed was) is one count =
-      subst (Turn s i (item.Call i o) (Crashed was) act.Skip _) (sym is)
-      (rests (item.Call i o) (Crashed was) _ (λ y same line. absurd cc))
+  call_turn S o _ is one count = rests is (λ y same line. absurd cc)
 
   crashed_turn : (S : State) (u : Status) (was : Option Activity) → IsOneOf shape.n i →
       length S.processes ≡ shape.n →
@@ -239,10 +201,9 @@ module _ (s : Source) (shape : Counts) (i : ℕ) where
             slice_set S.processes (i - 1) (record { status = Crashed was; locals = (process_at S i).locals });
       }) i).status
   crashed_turn S u was one count =
-      subst (Turn s i (item.Crash i) u act.Crash outcome.Crashed)
+      stops (Crashed was)
       (own_status S S.memory (record { status = Crashed was; locals = (process_at S i).locals }) one count)
-      (stops (item.Crash i) u act.Crash outcome.Crashed (Crashed was) (λ e. absurd cc) (λ y e. absurd cc)
-      (λ k has. tt) (λ none. tt) (λ y k same line has. absurd cc))
+      (λ e. absurd cc) (λ y e. absurd cc) (λ k has. tt) (λ none. tt) (λ y k same line has. absurd cc)
 
   crash_turn : (S : State) (u : Status) → (process_at S i).status ≡ u → IsOneOf shape.n i →
       length S.processes ≡ shape.n → (let r = crash S i (process_at S i) u in
@@ -250,12 +211,7 @@ module _ (s : Source) (shape : Counts) (i : ℕ) where
       (process_at r.0 i).status)
   crash_turn S (Busy a) is one count = crashed_turn S (Busy a) (Some a) one count
   crash_turn S Idle is one count = crashed_turn S Idle None one count
-  crash_turn S (Trapped c a) is one count =
-      subst (Turn s i (item.Crash i) (Trapped c a) act.Skip _) (sym is)
-      (rests (item.Crash i) (Trapped c a) _ (λ y same line. absurd cc))
-  crash_turn S (Crashed was) is one count =
-      subst (Turn s i (item.Crash i) (Crashed was) act.Skip _) (sym is)
-      (rests (item.Crash i) (Crashed was) _ (λ y same line. absurd cc))
+  crash_turn S _ is one count = rests is (λ y same line. absurd cc)
 
 -- each item
 pub done_turn : (s : Source) (shape : Counts) (S : State) (t : ℕ) (x : Item) → IsOneOf shape.n (who x) →

@@ -2,6 +2,7 @@
 -- all else stays.
 use Rattle.std.proofs.Common.{◌≡◌, ◌≢◌, ℕ, ◌-◌, ◌<◌, Bool, true, false, ◌&&◌, List, [], Option, Some, None}
 use Rattle.std.proofs.Common.{bytes_eq, nat_eq, get_or, length, set, refl, sym, subst, ap, ◌∙◌, arith}
+use Rattle.std.proofs.lemmas.Bool.{eqb-false}
 use Rattle.std.proofs.lemmas.List.{get_or-set_other, get_or-set_same, length-set}
 use Rattle.std.proofs.lemmas.Slice.Eq.{bytes_eq-Decides}
 use Rattle.snap_words.specs.Word.{Word, no_word}
@@ -12,7 +13,7 @@ use Rattle.snap_acts.specs.Searches.{publishes, reads_into, sets_view, writes_wo
 use Rattle.snap_acts.specs.declared.act.Act.{Act}
 use Rattle.snap_acts.specs.declared.act.Act.TheVariants as act
 use Rattle.snap_acts.specs.declared.act.Spot.{Spot}
-use Rattle.snap_reading_laws.proofs.loans.Named.{numbers_differ, with_other, with_other_place, with_there}
+use Rattle.snap_reading_laws.proofs.loans.Named.{with_other, with_other_place, with_there}
 
 -- the word at a place of a `words` local
 abbrev pub word_in : Locals → Spot → Word
@@ -69,7 +70,7 @@ either_differs false b P away one two = one refl
 
 -- places that differ, counted from 1, and from 0
 places_differ : (j k : ℕ) → 0 < j → 0 < k → nat_eq j k ≡ false → k - 1 ≢ j - 1
-places_differ j k one two away = λ same. numbers_differ j k away (omega (arith, one, two, same))
+places_differ j k one two away = λ same. eqb-false j k away (omega (arith, one, two, same))
 
 module _ (l : Locals) (m : Memory) where
   -- a word is read

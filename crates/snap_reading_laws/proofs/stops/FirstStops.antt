@@ -1,14 +1,14 @@
 -- `is_stop` holds of the debugger's stops and of nothing else; so `run` goes to the first stop after a position, and
 -- `rrun` back to the last one before it.
-use Rattle.std.proofs.Common.{◌≡◌, ℕ, zero, suc, ◌+◌, ◌-◌, ◌<◌, ◌≤◌, inl, inr, Bool, true, false, not, ◌&&◌}
-use Rattle.std.proofs.Common.{◌||◌, List, length, nat_eq, if◌then◌else◌, refl, sym, ap, subst, ◌∙◌, arith}
+use Rattle.std.proofs.Common.{◌≡◌, ℕ, zero, suc, ◌+◌, ◌-◌, ◌<◌, ◌≤◌, inl, inr, Bool, true, false, not, ◌||◌, List}
+use Rattle.std.proofs.Common.{length, nat_eq, if◌then◌else◌, refl, sym, ap, subst, ◌∙◌, arith}
 use Rattle.std.proofs.Math.Nat.{eq-or-lt_of_le}
-use Rattle.std.proofs.lemmas.Bool.{eq-eqb, eqb-true}
+use Rattle.std.proofs.lemmas.Bool.{and_from, eq-eqb, eqb-true}
 use Rattle.std.proofs.lemmas.List.Folds.{Any-from_list_any, list_any-from_Any}
 use Rattle.std.specs.List.{Any, list_any}
 use Rattle.snap_words.specs.declared.address.Address.{Address}
 use Rattle.snap_semantics.specs.declared.process.Status.{Status}
-use Rattle.snap_semantics.specs.declared.process.Status.TheVariants.{Idle, Busy, Trapped, Crashed}
+use Rattle.snap_semantics.specs.declared.process.Status.TheVariants.{Busy}
 use Rattle.snap_semantics.specs.State.{process_at}
 use Rattle.snap_semantics.specs.Table.{who}
 use Rattle.snap_runs.specs.Run.{Run, state, before, item}
@@ -24,22 +24,14 @@ use Rattle.snap_debug.proofs.Contents.{both, contents_are, contents_same}
 any_so : {X : Type 0} (P Q : X → Type 0) (xs : List X) → ((x : X) → P x → Q x) → Any P xs → Any Q xs
 any_so P Q xs f h = (h.0, h.1, h.2, h.3, f h.1 h.4)
 
--- two truths, both of which hold
-joined : (a b : Bool) → a ≡ true → b ≡ true → (a && b) ≡ true
-joined a b h k = cc
-
 -- a process that is at a line
 busy_is : (line : ℕ) (s : Status) → is_at line s ≡ true → IsBusyAt line s
-busy_is line Idle h = absurd cc
 busy_is line (Busy a) h = eqb-true a.line line h
-busy_is line (Trapped c a) h = absurd cc
-busy_is line (Crashed was) h = absurd cc
+busy_is line _ h = absurd cc
 
 is_busy : (line : ℕ) (s : Status) → IsBusyAt line s → is_at line s ≡ true
-is_busy line Idle h = absurd h
 is_busy line (Busy a) h = eq-eqb a.line line h
-is_busy line (Trapped c a) h = absurd h
-is_busy line (Crashed was) h = absurd h
+is_busy line _ h = absurd h
 
 module _ (r : Run) (t : ℕ) where
   reached : (b : Breakpoint) → reaches r t b ≡ true → Reaches r t b
@@ -52,7 +44,7 @@ module _ (r : Run) (t : ℕ) where
 
   is_reached : (b : Breakpoint) → Reaches r t b → reaches r t b ≡ true
   is_reached b h =
-      joined _ _ (eq-eqb (who (item r t)) b.process h.0)
+      and_from _ _ (eq-eqb (who (item r t)) b.process h.0)
       (is_busy b.line (process_at (state r t) (who (item r t))).status h.1)
 
   changed : (a : Address) → changes r t a ≡ true → Changes r t a

@@ -5,16 +5,15 @@ use Rattle.std.specs.List.{range_with_len}
 use Rattle.snap_words.specs.Kind.{is_bit, may_write}
 use Rattle.snap_words.specs.Shape.{Counts, is_place, places}
 use Rattle.snap_words.specs.declared.address.Bank.{Bank}
-use Rattle.snap_words.specs.declared.address.Bank.TheVariants as bank
 use Rattle.snap_words.specs.declared.kind.KindTag.{KindTag}
 use Rattle.snap_semantics.specs.Readers.{local_value}
 use Rattle.snap_semantics.specs.Rules.{or_else}
 use Rattle.snap_semantics.specs.State.{State, process_at, value_at}
-use Rattle.snap_semantics.specs.Table.{bank_of, bit_value, range_end}
+use Rattle.snap_semantics.specs.Table.{bit_value}
 use Rattle.snap_semantics.specs.Value.{Context, at_place, checked_sum, expr_value, index_value, term_value}
 use Rattle.snap_semantics.specs.declared.instr.Comparison.{Comparison}
 use Rattle.snap_semantics.specs.declared.instr.Condition.{Condition}
-use Rattle.snap_semantics.specs.declared.instr.Condition.TheVariants.{One, Two, Three, Four}
+use Rattle.snap_semantics.specs.declared.instr.Condition.TheVariants.{One}
 use Rattle.snap_semantics.specs.declared.instr.Expr.{Expr}
 use Rattle.snap_semantics.specs.declared.instr.Expr.TheVariants as expr
 use Rattle.snap_semantics.specs.declared.instr.Index.{Index}
@@ -186,28 +185,11 @@ module _ (kind : KindTag) (c : Context) where
         (expr_first e) (ap (λ p. or_else (fault_of kind c (bit e)) p) same)
 
     comparison_first : (k : Comparison) → comparison_trouble c k ≡ first_here (comparison_operands c.shape k)
-    comparison_first k =
-        then_others (term_trouble c k.left) (term_trouble c k.right) (term_operands c.shape k.left)
-        (term_operands c.shape k.right) (term_first k.left) (term_first k.right)
+    comparison_first k = search (then_others, term_first)
 
     condition_first : (k : Condition) → condition_trouble c k ≡ first_here (condition_operands c.shape k)
     condition_first (One k) = comparison_first k
-    condition_first (Two j k l) =
-        then_others (comparison_trouble c k) (comparison_trouble c l) (comparison_operands c.shape k)
-        (comparison_operands c.shape l) (comparison_first k) (comparison_first l)
-    condition_first (Three j k l m) =
-        then_others (comparison_trouble c k) _ (comparison_operands c.shape k)
-        (comparison_operands c.shape l ++ comparison_operands c.shape m) (comparison_first k)
-        (then_others (comparison_trouble c l) (comparison_trouble c m) (comparison_operands c.shape l)
-        (comparison_operands c.shape m) (comparison_first l) (comparison_first m))
-    condition_first (Four j k l m o) =
-        then_others (comparison_trouble c k) _ (comparison_operands c.shape k)
-        (comparison_operands c.shape l ++ (comparison_operands c.shape m ++ comparison_operands c.shape o))
-        (comparison_first k)
-        (then_others (comparison_trouble c l) _ (comparison_operands c.shape l)
-        (comparison_operands c.shape m ++ comparison_operands c.shape o) (comparison_first l)
-        (then_others (comparison_trouble c m) (comparison_trouble c o) (comparison_operands c.shape m)
-        (comparison_operands c.shape o) (comparison_first m) (comparison_first o)))
+    condition_first _ = search (then_others, comparison_first) depth 7
 
     where_first : (k : Option Condition) → where_trouble c k ≡ first_here (where_operands c.shape k)
     where_first None = refl
@@ -216,9 +198,7 @@ module _ (kind : KindTag) (c : Context) where
     value_first : (e : Expr) (k : Option Condition) →
         or_else (expr_trouble c e) (where_trouble c k)
         ≡ first_here (expr_operands c.shape e ++ where_operands c.shape k)
-    value_first e k =
-        then_others (expr_trouble c e) (where_trouble c k) (expr_operands c.shape e) (where_operands c.shape k)
-        (expr_first e) (where_first k)
+    value_first e k = search (then_others, expr_first, where_first)
 
     bits_first : (xs : List ℕ) → bits_trouble xs ≡ first_here (map (λ x. handshake x) xs)
     bits_first [] = refl
@@ -226,26 +206,19 @@ module _ (kind : KindTag) (c : Context) where
         (first_here (map (λ y. handshake y) xs)) (number_is x) (bits_first xs)
 
     tuple_first : (t : Tuple) → tuple_trouble c t ≡ first_here (tuple_operands c t)
-    tuple_first (tuple.Seq d q s) =
-        then_others (expr_trouble c d) (expr_trouble c q) (expr_operands c.shape d) (expr_operands c.shape q)
-        (expr_first d) (expr_first q)
+    tuple_first (tuple.Seq d q s) = search (then_others, expr_first)
     tuple_first (tuple.Bits d x t s) =
         let row = take c.shape.n (value_at x c.locals.rows []) in
         let bits : bits_trouble (take c.shape.n (row_in (local_value c.locals x)))
         ≡ first_here (map (λ y. handshake y) row) =
         ap (λ ys. bits_trouble (take c.shape.n ys)) (h.rows x) ∙ bits_first row in
-        then_others (expr_trouble c d) _ (expr_operands c.shape d)
-        (expr_operands c.shape t ++ bit t ∷ map (λ y. handshake y) row) (expr_first d)
-        (bit_first t _ (map (λ y. handshake y) row) bits)
+        search (then_others, expr_first, bit_first)
     tuple_first (tuple.Multi d i t) =
         let last : or_else (expr_trouble c t) (bit_trouble (expr_number c t))
         ≡ first_here (expr_operands c.shape t ++ bit t ∷ []) =
         ap (λ o. or_else (expr_trouble c t) o) (sym (or_none (bit_trouble (expr_number c t))))
         ∙ bit_first t None [] refl in
-        then_others (expr_trouble c d) _ (expr_operands c.shape d)
-        (expr_operands c.shape i ++ (expr_operands c.shape t ++ bit t ∷ [])) (expr_first d)
-        (then_others (expr_trouble c i) _ (expr_operands c.shape i) (expr_operands c.shape t ++ bit t ∷ [])
-        (expr_first i) last)
+        search (then_others, expr_first)
 
 -- the places of a quantifier
 conditions_first : (kind : KindTag) (shape : Counts) (S : State) (t : Taker) (k : Condition) (p more : ℕ) →
@@ -273,40 +246,22 @@ values_first kind shape S t e k p (suc more) h =
     (values_first kind shape S t e k (p + 1) more h)
     ∙ sym (front kind (here (at_place c p) os) (at_each c os (range_with_len (p + 1) more)))
 
+ruleset firsts = (
+  then_place,
+  one_place,
+  then_others,
+  one_register,
+  bit_first,
+  expr_first,
+  tuple_first,
+  condition_first,
+  conditions_first,
+  values_first,
+)
+
 -- each form of a line
 pub line_first : (kind : KindTag) (shape : Counts) (S : State) (t : Taker) (i : Instr) →
     HaveOneSort (process_at S t.process).locals →
     line_trouble kind shape S t i ≡ first_fault kind (operands_of (context_of shape S t) i)
 line_first kind shape S t (instr.Let x e) h = expr_first kind (context_of shape S t) h e
-line_first kind shape S t (instr.LetPlace x i e) h =
-    let c = context_of shape S t in
-    then_place kind c i (places shape) (expr_trouble c e) (expr_operands shape e) (expr_first kind c h e)
-line_first kind shape S t (instr.Get x i j) h =
-    let c = context_of shape S t in
-    then_place kind c i (places shape) (place_trouble c j shape.w) (place j shape.w ∷ []) (one_place kind c j shape.w)
-line_first kind shape S t (instr.Bit x b i j) h =
-    let c = context_of shape S t in
-    then_place kind c i shape.n (place_trouble c j shape.n) (place j shape.n ∷ []) (one_place kind c j shape.n)
-line_first kind shape S t (instr.Look x i) h = one_place kind (context_of shape S t) i shape.n
-line_first kind shape S t (instr.Put i parts) h =
-    let c = context_of shape S t in
-    let own = register bank.R (index_value c i) 0 ∷ [] in
-    then_place kind c i shape.w _ (tuple_operands c parts ++ own)
-    (then_others kind c (tuple_trouble c parts) _ (tuple_operands c parts) own (tuple_first kind c h parts)
-    (one_register kind c bank.R (index_value c i) 0))
-line_first kind shape S t (instr.PutBit b i j e) h =
-    let c = context_of shape S t in
-    let own = register (bank_of b) (index_value c i) (index_value c j) ∷ [] in
-    then_place kind c i shape.n _ (place j shape.n ∷ (expr_operands shape e ++ bit e ∷ own))
-    (then_place kind c j shape.n _ (expr_operands shape e ++ bit e ∷ own)
-    (bit_first kind c h e _ own (one_register kind c (bank_of b) (index_value c i) (index_value c j))))
-line_first kind shape S t (instr.PutView i x) h =
-    let c = context_of shape S t in
-    then_place kind c i shape.n _ (register bank.V (index_value c i) 0 ∷ [])
-    (one_register kind c bank.V (index_value c i) 0)
-line_first kind shape S t (instr.ViewOf x y i) h = one_place kind (context_of shape S t) i (places shape)
-line_first kind shape S t (instr.Each g x e k) h = values_first kind shape S t e k 1 (range_end shape g) h
-line_first kind shape S t (instr.First x g k target) h = conditions_first kind shape S t k 1 (range_end shape g) h
-line_first kind shape S t (instr.If k target) h = condition_first kind (context_of shape S t) h k
-line_first kind shape S t (instr.IfAll g k target) h = conditions_first kind shape S t k 1 (range_end shape g) h
-line_first kind shape S t _ h = refl
+line_first kind shape S t _ h = first_of (search, search firsts depth 9)

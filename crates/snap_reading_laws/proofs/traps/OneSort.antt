@@ -104,23 +104,18 @@ row_from : (a : Option ℕ) (b : Option (List ℕ)) (c : Option (List Word)) (d 
     (a ≡ None) ⊎ (b ≡ None) → row_in (first_of a b c d) ≡ from b
 row_from (Some n) (Some v) c d (inl e) = absurd cc
 row_from (Some n) (Some v) c d (inr e) = absurd cc
-row_from (Some n) None c d h = refl
-row_from None (Some v) c d h = refl
 row_from None None (Some w) d h = refl
 row_from None None None (Some v) h = refl
-row_from None None None None h = refl
+row_from a b c d h = refl
 
 words_from : (a : Option ℕ) (b : Option (List ℕ)) (c : Option (List Word)) (d : Option (List ℕ)) →
     (a ≡ None) ⊎ (c ≡ None) → (b ≡ None) ⊎ (c ≡ None) → words_in (first_of a b c d) ≡ from c
 words_from (Some n) b (Some w) d (inl e) k = absurd cc
 words_from (Some n) b (Some w) d (inr e) k = absurd cc
-words_from (Some n) b None d h k = refl
 words_from None (Some v) (Some w) d h (inl e) = absurd cc
 words_from None (Some v) (Some w) d h (inr e) = absurd cc
-words_from None (Some v) None d h k = refl
-words_from None None (Some w) d h k = refl
 words_from None None None (Some v) h k = refl
-words_from None None None None h k = refl
+words_from a b c d h k = refl
 
 -- in each state of a run
 pub one_sort : (r : Run) (t i : ℕ) → AreDistinct (all_names r.source) → HaveOneSort (process_at (state r t) i).locals

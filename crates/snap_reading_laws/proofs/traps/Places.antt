@@ -1,7 +1,6 @@
 -- What is told of the places of a quantifier, and of the word that a tuple writes, is what the table of lines takes.
 use Rattle.std.proofs.Common.{◌≡◌, ℕ, zero, suc, ◌+◌, ◌-◌, ◌&&◌, List, [], ◌∷◌, take, Option, Some, None, Result, Ok}
-use Rattle.std.proofs.Common.{Err}
-use Rattle.std.proofs.Common.{Bool, true, false, if◌then◌else◌, slice_index, refl, sym, ap, subst}
+use Rattle.std.proofs.Common.{Err, Bool, true, false, if◌then◌else◌, slice_index, refl, sym, ap, subst}
 use Rattle.std.specs.List.{range_with_len, list_all}
 use Rattle.snap_words.specs.Kind.{is_bit}
 use Rattle.snap_words.specs.Shape.{Counts}
@@ -19,14 +18,12 @@ use Rattle.snap_semantics.specs.declared.instr.Tuple.TheVariants as tuple
 use Rattle.snap_semantics.specs.declared.process.Cause.{Cause}
 use Rattle.snap_semantics.specs.declared.process.Cause.TheVariants as cause
 use Rattle.snap_why.specs.Troubles.{bit_trouble, bits_trouble, condition_trouble, conditions_trouble, context_of}
-use Rattle.snap_why.specs.Troubles.{expr_number, expr_trouble, taker_at, tuple_trouble, values_trouble}
-use Rattle.snap_why.specs.Troubles.{where_trouble}
+use Rattle.snap_why.specs.Troubles.{expr_number, expr_trouble, taker_at, tuple_trouble, values_trouble, where_trouble}
 use Rattle.snap_why.specs.declared.taker.Taker.{Taker}
 use Rattle.snap_why.specs.declared.trouble.Trouble.{Trouble}
 use Rattle.snap_why.specs.declared.trouble.Trouble.TheVariants.{NoBit}
-use Rattle.snap_reading_laws.proofs.traps.Values.{HaveOneSort}
-use Rattle.snap_reading_laws.proofs.traps.Values.{Gives, Takes, condition_takes, expr_gives, expr_takes, takes_last}
-use Rattle.snap_reading_laws.proofs.traps.Values.{takes_then}
+use Rattle.snap_reading_laws.proofs.traps.Values.{HaveOneSort, Gives, Takes, condition_takes, expr_gives, expr_takes}
+use Rattle.snap_reading_laws.proofs.traps.Values.{takes_last, takes_then}
 
 pub or_none : {A : Type 0} (o : Option A) → or_else o None ≡ o
 or_none None = refl

@@ -14,11 +14,11 @@ use Rattle.snap_semantics.specs.Rules.{or_else}
 use Rattle.snap_semantics.specs.Source.{Name}
 use Rattle.snap_semantics.specs.State.{Locals, value_at}
 use Rattle.snap_semantics.specs.Table.{bit_value, owned}
-use Rattle.snap_semantics.specs.Value.{Context, checked_sum, comparison_holds, condition_holds, expr_value}
-use Rattle.snap_semantics.specs.Value.{index_value, joined, place_in, relates, term_value}
+use Rattle.snap_semantics.specs.Value.{Context, checked_sum, comparison_holds, condition_holds, expr_value, index_value}
+use Rattle.snap_semantics.specs.Value.{place_in, term_value}
 use Rattle.snap_semantics.specs.declared.instr.Comparison.{Comparison}
 use Rattle.snap_semantics.specs.declared.instr.Condition.{Condition}
-use Rattle.snap_semantics.specs.declared.instr.Condition.TheVariants.{One, Two, Three, Four}
+use Rattle.snap_semantics.specs.declared.instr.Condition.TheVariants.{One}
 use Rattle.snap_semantics.specs.declared.instr.Expr.{Expr}
 use Rattle.snap_semantics.specs.declared.instr.Expr.TheVariants as expr
 use Rattle.snap_semantics.specs.declared.instr.Index.{Index}
@@ -132,32 +132,18 @@ expr_gives c (expr.Not t) h =
 pub expr_takes : (c : Context) (e : Expr) → HaveOneSort c.locals → Takes (expr_trouble c e) (expr_value c e)
 expr_takes c e h = takes (expr_trouble c e) (expr_number c e) (expr_value c e) (expr_gives c e h)
 
+term_takes : (c : Context) (t : Term) → HaveOneSort c.locals → Takes (term_trouble c t) (term_value c t)
+term_takes c t h = takes (term_trouble c t) (term_number c t) (term_value c t) (term_gives c t h)
+
 -- a condition
 comparison_takes : (c : Context) (k : Comparison) → HaveOneSort c.locals → Takes (comparison_trouble c k)
     (comparison_holds c k)
-comparison_takes c k h =
-    takes_then (term_trouble c k.left) (term_trouble c k.right) (term_value c k.left) _
-    (takes (term_trouble c k.left) (term_number c k.left) (term_value c k.left) (term_gives c k.left h))
-    (λ x. takes_last (term_trouble c k.right) (term_value c k.right) (λ y. relates k.relation x y)
-    (takes (term_trouble c k.right) (term_number c k.right) (term_value c k.right) (term_gives c k.right h)))
+comparison_takes c k h = search (takes_then, takes_last, term_takes)
 
 pub condition_takes : (c : Context) (k : Condition) → HaveOneSort c.locals → Takes (condition_trouble c k)
     (condition_holds c k)
 condition_takes c (One k) h = comparison_takes c k h
-condition_takes c (Two j k l) h =
-    takes_then (comparison_trouble c k) (comparison_trouble c l) (comparison_holds c k) _ (comparison_takes c k h)
-    (λ x. takes_last (comparison_trouble c l) (comparison_holds c l) (λ y. joined j x y) (comparison_takes c l h))
-condition_takes c (Three j k l m) h =
-    takes_then (comparison_trouble c k) _ (comparison_holds c k) _ (comparison_takes c k h)
-    (λ x. takes_then (comparison_trouble c l) (comparison_trouble c m) (comparison_holds c l) _ (comparison_takes c l h)
-    (λ y. takes_last (comparison_trouble c m) (comparison_holds c m) (λ z. joined j x (joined j y z))
-    (comparison_takes c m h)))
-condition_takes c (Four j k l m o) h =
-    takes_then (comparison_trouble c k) _ (comparison_holds c k) _ (comparison_takes c k h)
-    (λ x. takes_then (comparison_trouble c l) _ (comparison_holds c l) _ (comparison_takes c l h)
-    (λ y. takes_then (comparison_trouble c m) (comparison_trouble c o) (comparison_holds c m) _ (comparison_takes c m h)
-    (λ z. takes_last (comparison_trouble c o) (comparison_holds c o) (λ v. joined j x (joined j y (joined j z v)))
-    (comparison_takes c o h))))
+condition_takes c _ h = search (takes_then, takes_last, comparison_takes) depth 7
 
 -- a bit, and an owner
 pub bit_gives : (x : ℕ) → Gives (bit_trouble x) x (bit_value x)

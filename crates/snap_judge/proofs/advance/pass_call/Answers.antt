@@ -1,6 +1,5 @@
 -- `pass_call` of snap_judge (src/advance.rt).
 use Rattle.std.proofs.Common.{◌≡◌, suc, ◌+◌, refl, arith}
-use Rattle.snap_judge.specs.declared.config.Slot.TheVariants as kept_slot
 use Rattle.snap_judge.proofs.Goes.{goes_on, there}
 use Rattle.snap_judge.proofs.Passing.{call_passes}
 use Rattle.snap_judge.proofs.advance.pass_call.Goals as goal
@@ -10,8 +9,7 @@ take_scans-requires c =
     (call_passes c.args.steps.now c.args.order.now.items c.args.config.now _ c.args.place c.requires.next
     c.requires.place c.requires.config c.requires.is
     (let e : c.args.config.now.position + 1 ≡ suc c.args.config.now.position = omega arith in e) refl refl
-    (there c.args.config.now.slots.items c.args.place c.index.result.now kept_slot.Free
-    c.requires.place c.index.ensures c.in-Free.is)).config c.requires.config
+    (there _ _ _ _ c.requires.place c.index.ensures c.in-Free.is)).config c.requires.config
 
 pub returns-in_ok-take_scans-in-Free-clause-goes_on : goal.returns-in_ok-take_scans-in-Free-clause-goes_on
 returns-in_ok-take_scans-in-Free-clause-goes_on c =
@@ -19,6 +17,5 @@ returns-in_ok-take_scans-in-Free-clause-goes_on c =
     (call_passes c.args.steps.now c.args.order.now.items c.args.config.now _ c.args.place c.requires.next
     c.requires.place c.requires.config c.requires.is
     (let e : c.args.config.now.position + 1 ≡ suc c.args.config.now.position = omega arith in e) refl refl
-    (there c.args.config.now.slots.items c.args.place c.index.result.now kept_slot.Free
-    c.requires.place c.index.ensures c.in-Free.is))
+    (there _ _ _ _ c.requires.place c.index.ensures c.in-Free.is))
     c.in_ok-take_scans-in-Free.ensures.goes_on

@@ -1,5 +1,5 @@
 -- `enter` of snap_judge (src/branches.rt).
-use Rattle.std.proofs.Common.{ℕ, List, refl, subst}
+use Rattle.std.proofs.Common.{ℕ, List, subst}
 use Rattle.snap_judge.specs.Choices.{HasTaken}
 use Rattle.snap_judge.proofs.Goes.{same_goes}
 use Rattle.snap_judge.proofs.Entering.{has_entered}
@@ -26,5 +26,5 @@ returns c =
           (subst (λ (os : List ℕ). HasTaken c.args.steps.now c.args.update.place os c.in_ok-config.config
           c.take_update.new.order.items c.take_update.new.config) c.truncate.ensures.items c.in_ok-take_update.ensures.taken)
           c.in_ok-at_end.ensures.goes_on c.in_ok-take_update.ensures.kept c.in_ok-at_end.ensures.kept
-          c.in_ok-at_end.ensures.settled refl c.in_ok-at_end.ensures.end c.in_ok-at_end.ensures.stuck;
+          c.in_ok-at_end.ensures.settled c.in_ok-at_end.ensures.end c.in_ok-at_end.ensures.stuck;
     }

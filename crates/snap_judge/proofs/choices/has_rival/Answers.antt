@@ -1,6 +1,5 @@
 -- `has_rival` of snap_judge (src/choices.rt).
 use Rattle.std.proofs.Common.{◌<◌, length, arith}
-use Rattle.snap_judge.specs.declared.config.Slot.TheVariants as kept_slot
 use Rattle.snap_judge.proofs.Goes.{kept_open_within, there}
 use Rattle.snap_judge.proofs.choices.has_rival.Goals as goal
 
@@ -9,8 +8,7 @@ sets_word-requires c =
     let end = c.loop-other.invariant.end in let lt = c.loop-other-test.true in
     let within : c.loop-other.other < length c.args.config.now.slots.items = omega (arith, end, lt) in
     (c.requires.placed c.loop-other.other c.in-Open.call
-    (there c.args.config.now.slots.items c.loop-other.other c.index.result.now (kept_slot.Open c.in-Open.call)
-    within c.index.ensures c.in-Open.is)).1
+    (there _ _ _ _ within c.index.ensures c.in-Open.is)).1
 
 pub returns : goal.returns
 returns c now q j value is act =

@@ -1,6 +1,5 @@
 -- `is_wanted` of snap_judge (src/choices.rt).
 use Rattle.std.proofs.Common.{◌<◌, length, arith}
-use Rattle.snap_judge.specs.declared.config.Slot.TheVariants as kept_slot
 use Rattle.snap_judge.proofs.Goes.{there}
 use Rattle.snap_judge.proofs.choices.is_wanted.Goals as goal
 
@@ -9,5 +8,4 @@ sees_value-requires c =
     let end = c.loop-place.invariant.end in let lt = c.loop-place-test.true in
     let within : c.loop-place.place < length c.args.config.now.slots.items = omega (arith, end, lt) in
     (c.requires.placed c.loop-place.place c.in-Open.call
-    (there c.args.config.now.slots.items c.loop-place.place c.index.result.now (kept_slot.Open c.in-Open.call)
-    within c.index.ensures c.in-Open.is)).1
+    (there _ _ _ _ within c.index.ensures c.in-Open.is)).1

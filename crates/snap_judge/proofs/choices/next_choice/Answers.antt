@@ -1,5 +1,5 @@
 -- `next_choice` of snap_judge (src/choices.rt).
-use Rattle.std.proofs.Common.{◌≡◌, ◌<◌, ◌≤◌, ◌⊎◌, inl, inr, ◌+◌, ℕ, List, length, arith, subst, sym}
+use Rattle.std.proofs.Common.{◌<◌, ◌≤◌, inl, inr, ◌+◌, ℕ, List, length, arith, subst, sym}
 use Rattle.std.proofs.lemmas.Bool.{cases_lt, cases_eq}
 use Rattle.snap_judge.specs.declared.config.Config.{Config}
 use Rattle.snap_judge.specs.declared.config.Step.{Step as KeptStep}
@@ -10,19 +10,17 @@ use Rattle.snap_judge.proofs.choices.next_choice.Goals as goal
 one_more : (steps : List KeptStep) (c : Config) (ending from n : ℕ) →
     ((q : ℕ) → from ≤ q → q < n → NotNowAt steps c ending q) → NotNowAt steps c ending n →
     (q : ℕ) → from ≤ q → q < n + 1 → NotNowAt steps c ending q
-one_more steps c ending from n before now q le lt = by_place (cases_eq q n)
-  where
-    by_place : (q ≡ n) ⊎ (q ≡ n → ⊥) → NotNowAt steps c ending q
-    by_place (inl same) = subst (NotNowAt steps c ending) (sym same) now
-    by_place (inr differ) = before q le (omega (arith, lt, differ))
+one_more steps c ending from n before now q le lt = elim (cases_eq q n) [
+  | inl same ↦ subst (NotNowAt steps c ending) (sym same) now
+  | inr differ ↦ before q le (omega (arith, lt, differ))
+]
 
 all_places : (steps : List KeptStep) (c : Config) (ending from n : ℕ) → length c.slots.items ≤ n →
     ((q : ℕ) → from ≤ q → q < n → NotNowAt steps c ending q) → (q : ℕ) → from ≤ q → NotNowAt steps c ending q
-all_places steps c ending from n all before q le = by_place (cases_lt q n)
-  where
-    by_place : (q < n) ⊎ (n ≤ q) → NotNowAt steps c ending q
-    by_place (inl lt) = before q le lt
-    by_place (inr past) = past_waits steps c ending q (omega (arith, all, past))
+all_places steps c ending from n all before q le = elim (cases_lt q n) [
+  | inl lt ↦ before q le lt
+  | inr past ↦ past_waits steps c ending q (omega (arith, all, past))
+]
 
 pub loop-place-preserved : goal.loop-place-preserved
 loop-place-preserved c = record {

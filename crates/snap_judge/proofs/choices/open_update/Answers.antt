@@ -1,10 +1,8 @@
 -- `open_update` of snap_judge (src/choices.rt).
-use Rattle.snap_judge.specs.declared.config.Slot.TheVariants as kept_slot
 use Rattle.snap_judge.proofs.Goes.{there}
 use Rattle.snap_judge.proofs.choices.open_update.Goals as goal
 
 pub called_update-requires : goal.called_update-requires
 called_update-requires c =
     (c.requires.config.placed c.args.place c.in-Open.call
-    (there c.args.config.now.slots.items c.args.place c.index.result.now (kept_slot.Open c.in-Open.call)
-    c.requires.place c.index.ensures c.in-Open.is)).1
+    (there _ _ _ _ c.requires.place c.index.ensures c.in-Open.is)).1

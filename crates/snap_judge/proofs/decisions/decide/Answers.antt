@@ -15,15 +15,13 @@ returns c =
     let is = history_up_to c.args.history.now c.args.count c.requires.history in
     let steps = c.in_ok-found.field-0-0.items in
     elim c.match-found.branch [
-      | in-Explained w ↦ subst (λ r. IfOk r (IsDecision c.args.most h)) (sym w.result-is) (
+      | in-Explained w ↦ rw w.result-is (
         map (called_at steps) w.in-Explained.field-0.items,
         explained_decides c.args.most h steps w.in-Explained.field-0 is
             (subst (HasFound c.args.most h steps) w.in-Explained.is c.in_ok-found.ensures),
       )
-      | in-Unexplained w ↦ subst (λ r. IfOk r (IsDecision c.args.most h)) (sym w.result-is)
-          (unexplained_decides c.args.most h steps is
+      | in-Unexplained w ↦ rw w.result-is (unexplained_decides c.args.most h steps is
           (subst (HasFound c.args.most h steps) w.in-Unexplained.is c.in_ok-found.ensures))
-      | in-Undecided w ↦ subst (λ r. IfOk r (IsDecision c.args.most h)) (sym w.result-is)
-          (undecided_decides c.args.most h steps
+      | in-Undecided w ↦ rw w.result-is (undecided_decides c.args.most h steps
           (subst (HasFound c.args.most h steps) w.in-Undecided.is c.in_ok-found.ensures))
     ]

@@ -2,15 +2,13 @@
 use Rattle.std.proofs.Common.{◌∙◌, sym, refl, ap}
 use Rattle.snap_runs.specs.Linearization.{after}
 use Rattle.snap_runs.specs.Operation.{Sees}
-use Rattle.snap_judge.specs.declared.config.Slot.TheVariants as kept_slot
 use Rattle.snap_judge.proofs.Goes.{scan_taken, there}
 use Rattle.snap_judge.proofs.scans.take_scan.Goals as goal
 
 pub sees-requires : goal.sees-requires
 sees-requires c =
     (c.requires.config.placed c.args.place c.in-Open.call
-    (there c.args.config.now.slots.items c.args.place c.index.result.now (kept_slot.Open c.in-Open.call)
-    c.requires.place c.index.ensures c.in-Open.is)).1
+    (there _ _ _ _ c.requires.place c.index.ensures c.in-Open.is)).1
 
 pub returns-in_ok-push-clause-goes_on : goal.returns-in_ok-push-clause-goes_on
 returns-in_ok-push-clause-goes_on c =
@@ -18,6 +16,5 @@ returns-in_ok-push-clause-goes_on c =
     scan_taken c.args.steps.now c.args.order.now.items c.args.config.now _ c.args.place c.in-Open.call
     refl (sym (ap (after c.args.config.now.values.items)
     (seen ∙ ap Sees c.as_slice.ensures.value))) refl c.requires.config
-    (there c.args.config.now.slots.items c.args.place c.index.result.now (kept_slot.Open c.in-Open.call)
-    c.requires.place c.index.ensures c.in-Open.is)
+    (there _ _ _ _ c.requires.place c.index.ensures c.in-Open.is)
     c.push.new.self.items c.in_ok-push.ensures.items (seen ∙ ap Sees c.as_slice.ensures.value)

@@ -1,5 +1,5 @@
 -- `take_scans` of snap_judge (src/scans.rt).
-use Rattle.std.proofs.Common.{◌≡◌, ℕ, ◌<◌, ◌+◌, ◌⊎◌, inl, inr, ◌∙◌, sym, arith, subst, List, ap}
+use Rattle.std.proofs.Common.{ℕ, ◌<◌, ◌+◌, inl, inr, ◌∙◌, sym, arith, subst, List, ap}
 use Rattle.std.proofs.lemmas.Bool.{cases_eq}
 use Rattle.snap_runs.specs.Operation.{Sees}
 use Rattle.snap_judge.specs.declared.config.Config.{Config}
@@ -11,14 +11,11 @@ use Rattle.snap_judge.proofs.scans.take_scans.Goals as goal
 -- one more place is settled
 more : (steps : List KeptStep) (c c' : Config) (n : ℕ) → ((p : ℕ) → p < n → IsSettledAt steps c p) →
     ChangesSlotAlone n c c' → IsSettledAt steps c' n → (p : ℕ) → p < n + 1 → IsSettledAt steps c' p
-more steps c c' n before alone now p lt j is sees = by_place (cases_eq p n)
-  where
-    by_place : (p ≡ n) ⊎ (p ≡ n → ⊥) → ⊥
-    by_place (inl same) = subst (IsSettledAt steps c') (sym same) now j is sees
-    by_place (inr differ) =
-        let other = alone.others p differ in
-        let values = alone.alone.values in
-        before p (omega (arith, lt, differ)) j (sym other ∙ is) (sees ∙ ap Sees values)
+more steps c c' n before alone now p lt j is sees = elim (cases_eq p n) [
+  | inl same ↦ subst (IsSettledAt steps c') (sym same) now j is sees
+  | inr differ ↦ before p (omega (arith, lt, differ)) j (sym (alone.others p differ) ∙ is)
+      (sees ∙ ap Sees alone.alone.values)
+]
 
 both : (c c' c'' : Config) → ChangesSlotsAlone c c' → ChangesSlotsAlone c' c'' → ChangesSlotsAlone c c''
 both c c' c'' g h = record {

@@ -1,10 +1,9 @@
 -- `descend` of snap_judge (src/search.rt).
-use Rattle.std.proofs.Common.{ℕ, List, length, subst, ap, take, ◌-◌, ◌∙◌}
-use Rattle.std.specs.List.{All}
+use Rattle.std.proofs.Common.{ℕ, ap, take, ◌-◌, ◌∙◌}
 use Rattle.std.proofs.lemmas.List.{append-nil}
 use Rattle.snap_judge.specs.declared.config.Node.{Node}
-use Rattle.snap_judge.specs.Nodes.{AreNodes, FailsBehind, HasSame}
-use Rattle.snap_judge.proofs.Searching.{all_front, are_front, tried_last, without_nodes}
+use Rattle.snap_judge.specs.Nodes.{HasSame}
+use Rattle.snap_judge.proofs.Searching.{all_front, are_front, fails_last, without_nodes}
 use Rattle.snap_judge.proofs.search.descend.Goals as goal
 
 pub retry-requires-clause-trail : goal.retry-requires-clause-trail
@@ -12,28 +11,25 @@ retry-requires-clause-trail c =
     let trail = c.loop-node.invariant.trail in
     record {
       are_steps = trail.are_steps;
-      nodes = are_front _ _ c.args.steps.now c.loop-node.trail.order.items c.pop.new.self.items c.in-Some.node
-          (subst (AreNodes c.loop-node.trail.processes c.loop-node.trail.words c.args.steps.now
-          c.loop-node.trail.order.items) c.in-Some.ensures.items trail.nodes);
+      nodes = are_front c.pop.new.self.items c.in-Some.node (rw c.in-Some.ensures.items at trail.nodes);
       failed = trail.failed;
       met = trail.met;
       unique = trail.unique;
       apart = (all_front (λ (x : Node). HasSame c.loop-node.trail.failed.keys x.config → ⊥) c.pop.new.self.items
-          c.in-Some.node (subst (All (λ (x : Node). HasSame c.loop-node.trail.failed.keys x.config → ⊥))
-          c.in-Some.ensures.items trail.apart)).0;
+          c.in-Some.node (rw c.in-Some.ensures.items at trail.apart)).0;
     }
 
 pub retry-requires-clause-node : goal.retry-requires-clause-node
 retry-requires-clause-node c = record {
-  nodes = subst (AreNodes c.loop-node.trail.processes c.loop-node.trail.words c.args.steps.now
-      c.loop-node.trail.order.items) c.in-Some.ensures.items c.loop-node.invariant.trail.nodes;
-  tried = tried_last c.loop-node.trail.processes c.loop-node.trail.words c.args.steps.now c.in-Some.node
-      c.pop.new.self.items c.in-Some.node
-      (subst (λ (l : List Node). FailsBehind c.loop-node.trail.processes c.loop-node.trail.words c.args.steps.now
-      c.in-Some.node l (length l)) c.in-Some.ensures.items (c.loop-node.invariant.left.1 c.in-Some.node));
+  nodes = rw c.in-Some.ensures.items at c.loop-node.invariant.trail.nodes;
+  tried = rw (
+    c.in-Some.ensures.items,
+    fails_last c.loop-node.trail.processes c.loop-node.trail.words
+        c.args.steps.now c.in-Some.node c.pop.new.self.items c.in-Some.node,
+  )
+      at (c.loop-node.invariant.left.1 c.in-Some.node);
   apart = (all_front (λ (x : Node). HasSame c.loop-node.trail.failed.keys x.config → ⊥) c.pop.new.self.items
-      c.in-Some.node (subst (All (λ (x : Node). HasSame c.loop-node.trail.failed.keys x.config → ⊥))
-      c.in-Some.ensures.items c.loop-node.invariant.trail.apart)).1;
+      c.in-Some.node (rw c.in-Some.ensures.items at c.loop-node.invariant.trail.apart)).1;
 }
 
 pub returns-clause-none : goal.returns-clause-none

@@ -1,5 +1,5 @@
 -- `enter_node` of snap_judge (src/search.rt).
-use Rattle.std.proofs.Common.{false, refl, rules, subst, sym}
+use Rattle.std.proofs.Common.{false, rules, subst, sym}
 use Rattle.std.specs.List.{All}
 use Rattle.std.proofs.lemmas.List.Elements.{All-push}
 use Rattle.snap_judge.specs.declared.config.Node.{Node}
@@ -28,9 +28,8 @@ returns-clause-trail c =
       are_steps = c.requires.trail.are_steps;
       nodes = subst (AreNodes c.args.trail.now.processes c.args.trail.now.words c.args.steps.now
           c.args.trail.now.order.items) (sym c.in_ok-push.ensures.items)
-          (entered_nodes c.args.trail.now.processes c.args.trail.now.words c.args.steps.now
-          c.args.trail.now.order.items c.args.trail.now.nodes.items c.args.entered node c.requires.trail.nodes
-          c.requires.at.entered c.requires.stuck c.requires.at.deeper refl (search rules) refl c.in-Some.ensures.some
+          (entered_nodes c.args.trail.now.nodes.items c.len-depth.result c.in-Some.ending c.requires.trail.nodes
+          c.requires.at.entered c.requires.stuck c.requires.at.deeper (search rules) c.in-Some.ensures.some
           c.requires.at.left);
       failed = c.requires.trail.failed;
       met = c.requires.trail.met;

@@ -13,8 +13,7 @@ use Rattle.snap_judge.proofs.search.retry.Goals as goal
 
 pub returns-clause-none : goal.returns-clause-none
 returns-clause-none c =
-    behind_last c.loop-node.trail.processes c.loop-node.trail.words c.args.steps.now c.loop-node.trail.order.items
-    c.loop-node.trail.nodes.items c.loop-node.node c.loop-node.invariant.node.nodes
+    behind_last c.loop-node.trail.nodes.items c.loop-node.node c.loop-node.invariant.node.nodes
     (rw c.in_default.is at c.in_ok-entered.ensures.none)
 
 pub returns-clause-trail : goal.returns-clause-trail
@@ -22,11 +21,9 @@ returns-clause-trail c =
     let inv = c.loop-node.invariant in
     let n = c.loop-node.trail.processes in
     let w = c.loop-node.trail.words in
-    let order = c.loop-node.trail.order.items in
     let none = rw c.in_default.is at c.in_ok-entered.ensures.none in
     let kept = rw c.in_default.is at c.in_ok-entered.ensures.kept in
     let same = c.in_ok-entered.ensures.same in
-    let is = last_is n w c.args.steps.now order c.loop-node.trail.nodes.items c.loop-node.node inv.node.nodes in
     record {
       are_steps = inv.trail.are_steps;
       nodes = subst (λ (os : List ℕ). AreNodes n w c.args.steps.now os c.loop-node.trail.nodes.items) (sym kept)
@@ -35,11 +32,11 @@ returns-clause-trail c =
           c.in_ok-insert.ensures.keys inv.trail.failed (λ can. none (subst (Can c.args.steps.now) same can));
       met = put_key (IsMet n w c.args.steps.now) c.loop-node.trail.failed c.insert.new.self _ _
           c.in_ok-insert.ensures.keys inv.trail.met
-          (subst (IsMet n w c.args.steps.now) (sym same) (node_met n w c.args.steps.now order c.loop-node.node is));
+          (subst (IsMet n w c.args.steps.now) (sym same) (node_met _
+          (last_is c.loop-node.trail.nodes.items c.loop-node.node inv.node.nodes)));
       unique = c.in_ok-insert.ensures.unique;
-      apart = still_apart n w c.args.steps.now order c.loop-node.trail.nodes.items c.loop-node.node
-          c.loop-node.trail.failed.keys c.insert.new.self.keys inv.trail.are_steps inv.node.nodes.each
-          inv.node.nodes.rising
+      apart = still_apart c.loop-node.trail.nodes.items c.loop-node.node c.loop-node.trail.failed.keys
+          c.insert.new.self.keys inv.trail.are_steps inv.node.nodes
           (moved_key c.loop-node.trail.failed c.insert.new.self c.try_next.new.node.config c.loop-node.node.config
           c.in_ok-insert.field-0 same c.in_ok-insert.ensures.keys c.in_ok-insert.ensures.added inv.node.apart)
           inv.trail.apart;
@@ -62,14 +59,11 @@ loop-node-preserved c =
     let inv = c.loop-node.invariant in
     let has = rw c.in-Some.is at c.in_ok-entered.ensures.some in
     let is = c.if-not-is_dead.false in
-    let nodes = retried c.loop-node.trail.processes c.loop-node.trail.words c.args.steps.now
-    c.loop-node.trail.order.items c.try_next.new.order.items c.loop-node.trail.nodes.items c.loop-node.node
-    c.try_next.new.node c.in-Some.entered inv.node.nodes has in
+    let nodes = retried c.loop-node.trail.nodes.items inv.node.nodes has in
     record {
       trail = record {
         are_steps = inv.trail.are_steps;
-        nodes = are_front c.loop-node.trail.processes c.loop-node.trail.words c.args.steps.now
-            c.try_next.new.order.items c.loop-node.trail.nodes.items c.try_next.new.node nodes;
+        nodes = are_front c.loop-node.trail.nodes.items c.try_next.new.node nodes;
         failed = inv.trail.failed;
         met = inv.trail.met;
         unique = inv.trail.unique;
@@ -93,9 +87,7 @@ returns-then-not-is_dead-clause-trail c =
       are_steps = inv.trail.are_steps;
       nodes = subst (AreNodes c.loop-node.trail.processes c.loop-node.trail.words c.args.steps.now
           c.try_next.new.order.items) (sym c.in_ok-push.ensures.items)
-          (retried c.loop-node.trail.processes c.loop-node.trail.words c.args.steps.now c.loop-node.trail.order.items
-          c.try_next.new.order.items c.loop-node.trail.nodes.items c.loop-node.node c.try_next.new.node
-          c.in-Some.entered inv.node.nodes has);
+          (retried c.loop-node.trail.nodes.items inv.node.nodes has);
       failed = inv.trail.failed;
       met = inv.trail.met;
       unique = inv.trail.unique;
@@ -112,18 +104,12 @@ returns-then-not-is_dead-clause-some c =
     let has = rw c.in-Some.is at c.in_ok-entered.ensures.some in
     let is = c.if-not-is_dead.true in
     record {
-      entered = retried_entered c.loop-node.trail.processes c.loop-node.trail.words c.args.steps.now
-          c.loop-node.trail.order.items c.try_next.new.order.items c.loop-node.trail.nodes.items c.loop-node.node
-          c.try_next.new.node c.in-Some.entered inv.node.nodes has;
+      entered = retried_entered c.loop-node.trail.nodes.items inv.node.nodes has;
       deeper = subst (λ (l : List Node). (t : ℕ) (d : Node) → t < length l →
           (get_or l t d).depth < length c.try_next.new.order.items) (sym c.in_ok-push.ensures.items)
-          (retried_deeper c.loop-node.trail.processes c.loop-node.trail.words c.args.steps.now
-          c.loop-node.trail.order.items c.try_next.new.order.items c.loop-node.trail.nodes.items c.loop-node.node
-          c.try_next.new.node c.in-Some.entered inv.node.nodes has);
+          (retried_deeper c.loop-node.trail.nodes.items inv.node.nodes has);
       alive = c.is_dead.ensures.alive (search rules);
       left = λ fails. subst (OnlyNodesLeft c.loop-node.trail.processes c.loop-node.trail.words c.args.steps.now)
           (sym c.in_ok-push.ensures.items)
-          (retried_left c.loop-node.trail.processes c.loop-node.trail.words c.args.steps.now
-          c.loop-node.trail.order.items c.try_next.new.order.items c.loop-node.trail.nodes.items c.loop-node.node
-          c.try_next.new.node c.in-Some.entered inv.node.nodes has fails);
+          (retried_left c.loop-node.trail.nodes.items inv.node.nodes has fails);
     }

@@ -1,13 +1,12 @@
 -- `start` of snap_judge (src/search.rt).
-use Rattle.std.proofs.Common.{ℕ, List, [], length, sym, subst, refl, arith, ap, ◌≡◌}
+use Rattle.std.proofs.Common.{List, [], length, sym, subst, refl, arith, ap, ◌≡◌}
 use Rattle.std.specs.List.{All, IsDistinct}
 use Rattle.std.proofs.lemmas.List.Elements.{All-nil}
-use Rattle.snap_judge.specs.Kept.{AreSteps, Can, GoesOn}
+use Rattle.snap_judge.specs.Kept.{AreSteps, Can}
 use Rattle.snap_judge.specs.declared.config.Config.{Config}
 use Rattle.snap_judge.specs.declared.config.Node.{Node}
 use Rattle.snap_judge.specs.declared.config.Step.{Step as KeptStep}
 use Rattle.snap_judge.specs.declared.search.Trail.{Trail}
-use Rattle.snap_judge.specs.declared.config.Entered.{Entered}
 use Rattle.snap_judge.specs.contracts.config.ConfigPartialEq.TheImpl as config_eq
 use Rattle.snap_judge.specs.Nodes.{AreNodes, HasSame, IsMet, IsTrail, OnlyNodesLeft}
 use Rattle.snap_judge.proofs.Searching.{first_config, no_nodes, started, started_fails}
@@ -22,8 +21,7 @@ new_trail : (steps : List KeptStep) (trail : Trail) → AreSteps trail.processes
     trail.nodes.items ≡ [] → trail.failed.keys ≡ [] → IsTrail steps trail
 new_trail steps trail are nodes failed = record {
   are_steps = are;
-  nodes = subst (AreNodes trail.processes trail.words steps trail.order.items) (sym nodes)
-      (no_nodes trail.processes trail.words steps trail.order.items);
+  nodes = subst (AreNodes trail.processes trail.words steps trail.order.items) (sym nodes) no_nodes;
   failed = subst (All (λ (c : Config). Can steps c → ⊥)) (sym failed) (All-nil (λ (c : Config). Can steps c → ⊥));
   met = subst (All (IsMet trail.processes trail.words steps)) (sym failed)
       (All-nil (IsMet trail.processes trail.words steps));
@@ -34,13 +32,10 @@ new_trail steps trail are nodes failed = record {
 
 pub is_dead-requires-clause-config : goal.is_dead-requires-clause-config
 is_dead-requires-clause-config c =
-    let first : Config = record { position = 0; values = c.in_ok-vec.field-0; slots = c.in_ok-vec-2.field-0 } in
     let values = c.in_ok-vec.ensures.items_if_clones_equal (λ y same. same) in
     let slots = c.in_ok-vec-2.ensures.items_if_clones_equal (λ y same. same) in
-    let goes : GoesOn c.args.steps.now [] first c.advance.new.order.items c.advance.new.config =
-    subst (λ (os : List ℕ). GoesOn c.args.steps.now os first c.advance.new.order.items c.advance.new.config)
-    c.requires.order c.in_ok-at_end.ensures.goes_on in
-    goes.config (first_config c.args.trail.now.processes c.args.trail.now.words c.args.steps.now first refl values slots)
+    let goes = rw c.requires.order at c.in_ok-at_end.ensures.goes_on in
+    goes.config (first_config c.args.trail.now.processes c.args.trail.now.words c.args.steps.now _ refl values slots)
 
 pub returns-then-is_dead-clause-trail : goal.returns-then-is_dead-clause-trail
 returns-then-is_dead-clause-trail c = new_trail c.args.steps.now _ c.requires.steps c.requires.nodes c.requires.failed
@@ -50,29 +45,22 @@ returns-clause-trail c = new_trail c.args.steps.now _ c.requires.steps c.require
 
 pub returns-then-is_dead-clause-none : goal.returns-then-is_dead-clause-none
 returns-then-is_dead-clause-none c =
-    let e : Entered = record { config = c.advance.new.config; at_end = c.in_ok-at_end.at_end } in
     let first : Config = record { position = 0; values = c.in_ok-vec.field-0; slots = c.in_ok-vec-2.field-0 } in
     let values = c.in_ok-vec.ensures.items_if_clones_equal (λ y same. same) in
     let slots = c.in_ok-vec-2.ensures.items_if_clones_equal (λ y same. same) in
-    let goes : GoesOn c.args.steps.now [] first c.advance.new.order.items c.advance.new.config =
-    subst (λ (os : List ℕ). GoesOn c.args.steps.now os first c.advance.new.order.items c.advance.new.config)
-    c.requires.order c.in_ok-at_end.ensures.goes_on in
     started_fails c.args.trail.now.processes c.args.trail.now.words c.args.steps.now first refl values slots
-    c.advance.new.config c.advance.new.order.items e goes c.in_ok-at_end.ensures.kept refl
+    c.advance.new.config c.advance.new.order.items (rw c.requires.order at c.in_ok-at_end.ensures.goes_on)
     (c.is_dead.ensures.dead c.if-is_dead.true)
 
 pub returns-clause-some : goal.returns-clause-some
 returns-clause-some c =
-    let e : Entered = record { config = c.advance.new.config; at_end = c.in_ok-at_end.at_end } in
     let first : Config = record { position = 0; values = c.in_ok-vec.field-0; slots = c.in_ok-vec-2.field-0 } in
     let values = c.in_ok-vec.ensures.items_if_clones_equal (λ y same. same) in
     let slots = c.in_ok-vec-2.ensures.items_if_clones_equal (λ y same. same) in
-    let goes : GoesOn c.args.steps.now [] first c.advance.new.order.items c.advance.new.config =
-    subst (λ (os : List ℕ). GoesOn c.args.steps.now os first c.advance.new.order.items c.advance.new.config)
-    c.requires.order c.in_ok-at_end.ensures.goes_on in
+    let goes = rw c.requires.order at c.in_ok-at_end.ensures.goes_on in
     record {
       entered = started c.args.trail.now.processes c.args.trail.now.words c.args.steps.now first refl values slots
-          c.advance.new.config c.advance.new.order.items e goes c.in_ok-at_end.ensures.kept refl
+          c.advance.new.config c.advance.new.order.items goes c.in_ok-at_end.at_end c.in_ok-at_end.ensures.kept
           c.in_ok-at_end.ensures.settled c.in_ok-at_end.ensures.end c.in_ok-at_end.ensures.stuck;
       deeper = λ t d lt. absurd (let none : length c.args.trail.now.nodes.items ≡ 0 = ap length c.requires.nodes in
           omega (arith, lt, none));
@@ -80,6 +68,5 @@ returns-clause-some c =
       left = λ fails. subst (OnlyNodesLeft c.args.trail.now.processes c.args.trail.now.words c.args.steps.now)
           (sym c.requires.nodes)
           (let nothing = started_fails c.args.trail.now.processes c.args.trail.now.words c.args.steps.now first refl
-          values slots c.advance.new.config c.advance.new.order.items e goes c.in_ok-at_end.ensures.kept refl fails in
-          (λ none. nothing, λ d. nothing));
+          values slots c.advance.new.config c.advance.new.order.items goes fails in (λ none. nothing, λ d. nothing));
     }

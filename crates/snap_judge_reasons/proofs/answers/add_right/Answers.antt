@@ -9,11 +9,8 @@ use Rattle.snap_judge_reasons.proofs.answers.add_right.Goals as goal
 pub returns-in_ok-push-clause-right : goal.returns-in_ok-push-clause-right
 returns-in_ok-push-clause-right c =
     let h = c.args.front.now in let e = c.args.event.now in
-    let found = subst
-    (λ (r : Option (List ℕ)). IfSome r (λ view. (view ≡ c.args.values.now) × IsRightNext h e.process e.item view))
-    c.in-Some.is c.in_ok-view.ensures.some in
-    let other = subst (All (λ (view : List ℕ). view ≡ c.args.values.now → ⊥)) c.deref.ensures.value
-    (c.is_among.ensures c.if-is_among.false) in
-    subst (AreRightNext h e.process e.item) (sym c.in_ok-push.ensures.items)
+    let found = rw c.in-Some.is at c.in_ok-view.ensures.some in
+    let other = rw c.deref.ensures.value at (c.is_among.ensures c.if-is_among.false) in
+    rw c.in_ok-push.ensures.items
     (one_more h e.process e.item c.args.views.now.items c.in-Some.view c.requires.right c.requires.few
-    (subst (λ (v : List ℕ). All (λ (view : List ℕ). view ≡ v → ⊥) c.args.views.now.items) (sym found.0) other) found.1)
+    (rw found.0 other) found.1)

@@ -5,7 +5,4 @@ use Rattle.snap_judge.specs.Kept.{action_of}
 use Rattle.snap_judge_reasons.proofs.grounds.came_to_end.Goals as goal
 
 pub returns-in-Some : goal.returns-in-Some
-returns-in-Some c = λ now.
-    let o = c.args.operation.now in
-    subst (λ (n : Option ℕ). CameToEnd c.args.events.now o.process o.call n (action_of o.action)) (sym c.in-Some.is)
-    (c.came_to.ensures now)
+returns-in-Some c = λ now. rw c.in-Some.is (c.came_to.ensures now)

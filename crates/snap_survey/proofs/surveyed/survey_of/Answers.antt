@@ -6,7 +6,7 @@ use Rattle.snap_runs.specs.Run.{Run, state}
 use Rattle.snap_runs.specs.Scan.{count}
 use Rattle.snap_audit.proofs.Watches.{whole_way}
 use Rattle.snap_survey.specs.Tally.{is_open_in, tally_of}
-use Rattle.snap_survey.specs.Survey.{is_skipped}
+use Rattle.snap_walk.specs.Walk.{is_skipped}
 use Rattle.snap_survey.proofs.Surveying.{survey_made}
 use Rattle.snap_survey.proofs.Tallies.{skips_same}
 use Rattle.snap_survey.proofs.surveyed.survey_of.Goals as goal

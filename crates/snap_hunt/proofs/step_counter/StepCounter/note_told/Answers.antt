@@ -12,11 +12,7 @@ use Rattle.snap_hunt.proofs.step_counter.StepCounter.note_told.Goals as goal
 
 pub overflow_add-self : goal.overflow_add-self
 overflow_add-self g c =
-    let h = c.requires.1 in
-    let done = h.done in
-    let few = h.few in
-    let within = h.within in
-    omega (arith, done, few, within)
+    let h = c.requires.1 in omega (arith, h.done, h.few, h.within)
 
 pub note-found-requires-clause-process : goal.note-found-requires-clause-process
 note-found-requires-clause-process g c =
@@ -29,19 +25,13 @@ note-found-requires-clause-few g c =
     let s = c.args.self.now in
     let v = c.requires.0 in
     let h = c.requires.1 in
-    let few = h.few in
-    let within = h.within in
-    few_steps v.run s.most v.at _ s.owns.items s.overrun h.steps c.requires.2.process (omega (arith, few, within))
+    few_steps v.run s.most v.at _ s.owns.items s.overrun h.steps c.requires.2.process (omega (arith, h.few, h.within))
 
 pub index_mut-requires : goal.index_mut-requires
 index_mut-requires g c =
     let s = c.args.self.now in
-    let count = c.requires.1.count in
-    let first = c.requires.2.process.0 in
-    let last = c.requires.2.process.1 in
-    let process = c.who-process.ensures in
     let len : vec_len s.busy ≡ length s.busy.items = search rules in
-    omega (arith, count, first, last, process, len)
+    omega (arith, c.requires.1.count, c.requires.2.process, c.who-process.ensures, len)
 
 pub returns-clause-counted : goal.returns-clause-counted
 returns-clause-counted g c =

@@ -33,13 +33,12 @@ loop-self-preserved c =
     let inv = c.loop-self.invariant in
     let r0 = c.requires.0 in
     let test = c.loop-self-test.true in
-    let begun = inv.begun in
     let done =
     (c.pass_next.ensures.counted r0 c.requires.1
     (subst (λ m. HasCounted r0 m l.done l) (sym inv.most) (inv.counted r0 c.requires.1 c.requires.2 c.requires.3))
     (c.requires.3 l.done inv.begun test)).done in
     record {
-      begun = omega (arith, begun, done);
+      begun = omega (arith, inv.begun, done);
       order = omega (arith, test, done);
       most = c.pass_next.ensures.most ∙ inv.most;
       counted = λ r quiet h untold.
@@ -54,7 +53,5 @@ pub returns-clause-counted : goal.returns-clause-counted
 returns-clause-counted c = λ r quiet h untold order.
     let l = c.loop-self.self in
     let inv = c.loop-self.invariant in
-    let within = inv.order in
-    let past = c.loop-self-test.false in
-    let end : l.done ≡ c.args.until = omega (arith, within, past) in
+    let end : l.done ≡ c.args.until = omega (arith, inv.order, c.loop-self-test.false) in
     subst (λ k. HasCounted r c.args.self.now.most k l) end (inv.counted r quiet h untold)

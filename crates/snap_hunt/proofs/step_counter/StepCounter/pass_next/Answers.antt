@@ -16,10 +16,8 @@ note-found-requires-clause-few c =
     let h = c.requires.2 in
     let u = c.requires.3 in
     let is = (next_left r s.done x s.ahead c.next.new.self u.left h.left c.in-Some.ensures.steps).0 in
-    let few = h.few in
-    let within = h.within in
     few_steps r s.most s.done (who x) s.owns.items s.overrun h.steps
-    (subst (λ y. IsOneOf r.shape.n (who y)) (sym is) u.process) (omega (arith, few, within))
+    (subst (λ y. IsOneOf r.shape.n (who y)) (sym is) u.process) (omega (arith, h.few, h.within))
 
 pub returns-then-runs_line-clause-counted : goal.returns-then-runs_line-clause-counted
 returns-then-runs_line-clause-counted c = λ r quiet h u.

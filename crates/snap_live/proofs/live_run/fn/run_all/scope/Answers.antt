@@ -1,9 +1,9 @@
 -- `fn::run_all::scope` of snap_live (src/live_run.rt): the proof of what its contract says.
 use Rattle.std.proofs.Common.{◌≡◌, ◌-◌, ◌∙◌, List, ap, arith, length, map, rules, sym, vec_len}
+use Rattle.std.proofs.lemmas.List.{length-map}
 use Rattle.std.specs.Prelude.{All}
 use Rattle.snap_live.specs.Shown.{SeatView}
 use Rattle.snap_live.specs.Script.{script_at}
-use Rattle.snap_live.proofs.Handles.{map_length}
 use Rattle.snap_live.proofs.Workers.{new_seats, seats_length, workers_of}
 use Rattle.snap_live.proofs.live_run.fn.run_all.scope.Goals as goal
 
@@ -16,7 +16,7 @@ joined-all-requires-after_bounds g c κs within =
     let seats : map (λ h. h.promise.seat.value) w.handles.items ≡ a.seats.items = search rules in
     let same : vec_len w.handles ≡ length w.handles.items = search rules in
     let many : length w.handles.items ≡ length a.scripts.now.scripts =
-    sym (map_length (λ h. h.promise.seat.value) w.handles.items)
+    sym (length-map w.handles.items (λ h. h.promise.seat.value))
     ∙ ap (λ (l : List SeatView). length l) (seats ∙ c.requires.seats)
     ∙ seats_length a.workers.now.desk.now (length a.scripts.now.scripts) in
     let room = c.requires.worked.1 in

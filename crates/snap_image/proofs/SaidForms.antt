@@ -97,13 +97,13 @@ kind_ok line true = refl
 kind_ok line false = tt
 
 -- a part with an image of its own, which speaks of this and has this form; and one behind its tag
-module _ {A : Type 0} (s : Source) (image : A → List ℕ) (uses : A → List Use) (Form : A → Type 0) where
+module _ {A : Type 0} (s : Source) (image : A → List ℕ) (uses : A → List Use) (IsRight : A → Type 0) where
   abbrev PartIs : Rest → (A × Rest) → Type 0
-  PartIs r x = Part s r.bytes (image x.0) x.1.bytes (uses x.0) (Form x.0)
+  PartIs r x = Part s r.bytes (image x.0) x.1.bytes (uses x.0) (IsRight x.0)
 
   abbrev TaggedIs : TermTag → Rest → (A × Rest) → Type 0
   TaggedIs t r x =
-      (said : List ℕ) × (term_code t ∷ said ≡ image x.0) × Part s r.bytes said x.1.bytes (uses x.0) (Form x.0)
+      (said : List ℕ) × (term_code t ∷ said ≡ image x.0) × Part s r.bytes said x.1.bytes (uses x.0) (IsRight x.0)
 
   tagged_is : (read : ℕ → TermTag → Rest → Read A) →
       ((at : ℕ) (t : TermTag) (r : Rest) → Holds (TaggedIs t r) (read at t r)) → (r : Rest) →

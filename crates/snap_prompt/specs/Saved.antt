@@ -16,13 +16,13 @@ save_reason kind.InvalidInput = codes "no name of a file"
 save_reason _ = codes "cannot be written"
 
 -- what is said of a schedule that was saved under a name, or was not for this reason
-abbrev pub outcome_line : (name : List ℕ) → Result (Unit {0}) ErrorKind → List ℕ
-outcome_line name (Ok done) = codes "saved: " ++ name ++ codes "\n"
-outcome_line name (Err k) = codes "refused: " ++ name ++ codes ": " ++ save_reason k ++ codes "\n"
+abbrev pub saved_line : (name : List ℕ) → Result (Unit {0}) ErrorKind → List ℕ
+saved_line name (Ok done) = codes "saved: " ++ name ++ codes "\n"
+saved_line name (Err k) = codes "refused: " ++ name ++ codes ": " ++ save_reason k ++ codes "\n"
 
 -- a line may be said of a schedule that was to be saved under a name
 abbrev pub IsSavedLine : (name it : List ℕ) → Type 0
-IsSavedLine name it = (done : Result (Unit {0}) ErrorKind) × (it ≡ outcome_line name done)
+IsSavedLine name it = (done : Result (Unit {0}) ErrorKind) × (it ≡ saved_line name done)
 
 -- Whether it says that the schedule was saved: of `saved: ..` and `refused: ..`, only the first begins with an s.
 abbrev pub tells_saved : List ℕ → Bool
@@ -34,5 +34,5 @@ tells_saved (b ∷ bs) = nat_eq b 115
 abbrev pub Saves : (name text : List ℕ) → (before after : Option (List Kept)) → (old new : Drafted) →
     (is_saved : Bool) → Type 0
 Saves name text before after old new is_saved =
-    (done : Result (Unit {0}) ErrorKind) × Keeps done before after name text × Adds old new (outcome_line name done)
+    (done : Result (Unit {0}) ErrorKind) × Keeps done before after name text × Adds old new (saved_line name done)
     × (is_saved ≡ is_ok done)

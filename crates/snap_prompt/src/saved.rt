@@ -1,7 +1,7 @@
 //! `push_saved`: a schedule is saved as a file, and what the debugger's prompt says of that.
 ghost use Rattle.std.specs.Prelude.{◌≡◌, Err};
 ghost use Rattle.snap_text.specs.Drafted.{Adds};
-ghost use Rattle.snap_prompt.specs.Saved.{Saves, outcome_line, save_reason};
+ghost use Rattle.snap_prompt.specs.Saved.{Saves, saved_line, save_reason};
 
 use snap_streams::Folder;
 use snap_text::Draft;
@@ -23,7 +23,7 @@ fn save_reason(kind: ErrorKind) -> &'static [u8]
 
 /// Appends why a schedule was not saved under a name.
 fn push_reason(out: &mut Draft, name: &[u8], kind: ErrorKind)
-    ensures { Adds out.old out.new (outcome_line name.now (Err kind)) }
+    ensures { Adds out.old out.new (saved_line name.now (Err kind)) }
 {
     out.push(b"refused: ");
     out.push(name);
@@ -34,7 +34,7 @@ fn push_reason(out: &mut Draft, name: &[u8], kind: ErrorKind)
 
 /// Appends the text on a schedule that was saved under a name, or was not.
 fn push_outcome(out: &mut Draft, name: &[u8], done: Result<(), ErrorKind>)
-    ensures { Adds out.old out.new (outcome_line name.now done) }
+    ensures { Adds out.old out.new (saved_line name.now done) }
 {
     match done {
         Ok(()) => {

@@ -52,8 +52,8 @@ fn options_for(subject: Subject) -> Options
     }
 }
 
-/// Returns what the name of a subcommand asks for, of this listing. A page cannot run `live`, since it has
-/// one thread, and writes no model.
+/// Returns what the name of a subcommand asks for, of this listing. A page cannot run `live`, since
+/// it has one thread, and writes no model.
 #[tactic(auto, using(crate::proofs::Names::no_task))]
 fn asked_for(subcommand: &[u8], subject: Subject) -> Option<PageRequest>
     ensures { result ≡ asked_for subcommand.now subject }

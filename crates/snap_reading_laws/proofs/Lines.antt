@@ -61,7 +61,11 @@ use Rattle.snap_listing.proofs.Alls.{all_both}
 use Rattle.snap_reading_laws.specs.RefusedForToken.{SpeaksName}
 use Rattle.snap_explanation.specs.TokenUses.{token_uses}
 use Rattle.snap_explanation.specs.declared.token_uses.Slot.TheVariants as slot
-use Rattle.snap_reading_laws.proofs.SpokenTokens.{name_then, one_more, Spoken, first_of_both, second_of_both, close, lone_value, name_as, whole, bracket_reads, place_reads, inside_reads, value_open, expr_reads, where_open, where_reads, pair_reads, some_behind, bank_reads, range_reads, range_open, put_reads, last_expr, last_bracket, tested}
+use Rattle.snap_reading_laws.proofs.SpokenTokens.{name_then, one_more, Spoken, first_of_both, second_of_both, close}
+use Rattle.snap_reading_laws.proofs.SpokenTokens.{lone_value, name_as, whole, bracket_reads, place_reads}
+use Rattle.snap_reading_laws.proofs.SpokenTokens.{inside_reads, value_open, expr_reads, where_open, where_reads}
+use Rattle.snap_reading_laws.proofs.SpokenTokens.{pair_reads, some_behind, bank_reads, range_reads, range_open}
+use Rattle.snap_reading_laws.proofs.SpokenTokens.{put_reads, last_expr, last_bracket, tested}
 
 -- a place that a line takes is there
 pub record IsThere (count k r : ℕ) : Type 0 where

@@ -1,10 +1,11 @@
--- `outcome_line`: the line that says of an item of a run its number, its process, its outcome, and the line of the listing
--- that it ran.
+-- `outcome_line`: the line that says of an item of a run its number, its process, its outcome, and the line of the
+-- listing that it ran.
 use Rattle.std.specs.Prelude.{ℕ, List, [], ◌++◌, Option, Some, None, codes, decimal}
 use Rattle.snap_semantics.specs.declared.process.Outcome.{Outcome}
 use Rattle.snap_listing.specs.LineTexts.{NumberedText, text_with}
 use Rattle.snap_report.specs.OutcomeText.{outcome_text}
 
+-- the text of a line, behind ` at `; nothing where there is no line
 abbrev pub at_text : Option (List ℕ) → List ℕ
 at_text None = []
 at_text (Some text) = codes " at " ++ text

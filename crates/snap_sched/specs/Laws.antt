@@ -19,4 +19,5 @@ ReadsAllSpelled =
 
 -- what is printed of a schedule is read as that schedule
 abbrev pub PrintsAgain : Type 0
-PrintsAgain = (s : Schedule) → IsSchedule s → length (schedule_text s) ≤ max_schedule → schedule_of (schedule_text s) ≡ Ok s
+PrintsAgain = (s : Schedule) → IsSchedule s → length (schedule_text s) ≤ max_schedule →
+    schedule_of (schedule_text s) ≡ Ok s

@@ -201,6 +201,7 @@ impl Items {
     pub fn push(&mut self, item: Item) -> Result<(), AllocError>
         requires { length self.old + 1 < 2 ^ 32 }
         ensures added { OnOk result (self.new ≡ self.old ++ item ∷ []) }
+        ensures fits { AllByRecursion FitsItem self.new }
         ensures unchanged { OnErr result (self.new ≡ self.old) }
     {
         match item {

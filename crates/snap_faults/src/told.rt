@@ -1,5 +1,5 @@
 //! `tell`: says why a program did not do what it was called for, and what explains that.
-ghost use Rattle.std.specs.Prelude.{◌≡◌, ◌++◌, IfOk, false};
+ghost use Rattle.std.specs.Prelude.{◌≡◌, ◌++◌, ℕ, List, IfOk, false};
 ghost use Rattle.snap_faults.specs.FaultText.{fault_line};
 ghost use Rattle.snap_faults.specs.Faults.{fault_status};
 ghost use Rattle.snap_faults.specs.Names.{view_names};
@@ -91,21 +91,24 @@ fn say_more<E: ByteSink>(
     }
 }
 
-/// Says a fault on `errors`, with `more` behind its line if there is memory for that, and returns
+/// Says a fault on `errors`, with `more` behind its line if there is memory for both, and returns
 /// the status for the fault.
 pub fn tell<E: ByteSink>(
     alloc: Global,
     names: &Names<'_>,
     fault: &ProgramFault,
-    more: &[u8],
+    more: &Result<Vec<u8>, AllocError>,
     errors: &mut E,
 ) -> u8
     requires { (E.state errors.old).failed ≡ false }
     ensures status { result ≡ fault_status fault.now }
-    ensures says { TellsMore (view_names names.now) fault.now more.now (E.state errors.old)
-        (E.state errors.new) }
+    ensures says { (text : List ℕ) → IfOk more.now (λ m. m.items ≡ text) →
+        TellsMore (view_names names.now) fault.now text (E.state errors.old) (E.state errors.new) }
 {
-    say_more(alloc, names, fault, more, errors);
+    match more {
+        Ok(more) => say_more(alloc, names, fault, more.as_slice(), errors),
+        Err(_) => complain(alloc, names, fault, errors),
+    }
     fault_status(fault)
 }
 

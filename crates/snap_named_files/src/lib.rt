@@ -2,10 +2,10 @@
 //! what explains why one of them is refused.
 #![tactic(auto)]
 
-mod explained;
 mod named;
 mod texts;
+mod why;
 
-pub use explained::explanation_in;
 pub use named::{Named, named_of, names_of};
 pub use texts::{Texts, read_texts};
+pub use why::explained;

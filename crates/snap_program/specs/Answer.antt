@@ -1,11 +1,12 @@
 -- `AnswersLine`: what snaplab does about its command line, what it reads, writes and says, and the status that it
 -- ends with.
 use Rattle.std.specs.Prelude.{◌≡◌, ℕ, Vec, Bool, true, not, ◌&&◌, List, [], Result, Ok, Err}
-use Rattle.std.specs.Prelude.{if◌then◌else◌, codes, string_bytes}
+use Rattle.std.specs.Prelude.{if◌then◌else◌, codes}
 use Rattle.std.specs.Global.{Global}
-use Rattle.snap_program.specs.declared.command_line.Invocation.{Invocation}
-use Rattle.snap_program.specs.declared.command_line.CommandLine.{CommandLine}
-use Rattle.snap_program.specs.declared.command_line.CommandLine.TheVariants.{Asks, Help, Wrong, NoText}
+use Rattle.snap_options.specs.CommandLines.{AnswersUnasked}
+use Rattle.snap_options.specs.declared.invocation.Invocation.{Invocation}
+use Rattle.snap_options.specs.declared.invocation.Unasked.{Unasked}
+use Rattle.snap_program.specs.declared.arguments.Order.{Order}
 use Rattle.snap_tasks.specs.declared.request.Request.{Request}
 use Rattle.snap_tasks.specs.declared.request.Request.TheVariants as request
 use Rattle.snap_tasks.specs.declared.task.Task.{Task}
@@ -16,7 +17,7 @@ use Rattle.snap_judge.specs.declared.linearizability.Linearizability.{Linearizab
 use Rattle.snap_judge.specs.declared.linearizability.Linearizability.TheVariants as word
 use Rattle.snap_program.specs.WholeRun.{ConductsJudge, ConductsLiveKeeping, ConductsModel}
 use Rattle.snap_faults.specs.Names.{Names, of_program}
-use Rattle.snap_faults.specs.Told.{Helps, SaysWhy, TellsMore, exit_status, no_memory_line, no_text_line, success}
+use Rattle.snap_faults.specs.Told.{SaysWhy, TellsMore, exit_status, success}
 use Rattle.snap_faults.specs.declared.fault.ProgramFault.{ProgramFault}
 use Rattle.snap_faults.specs.declared.fault.ProgramFault.TheVariants.{Refused, History, Live, Model}
 use Rattle.snap_streams.specs.Sent.{Says}
@@ -52,11 +53,11 @@ why asked input (Live (TurnLimit process)) = turn_limit_explanation process
 why asked input (Model r) = model_explanation r
 why asked input _ = []
 
-abbrev pub explained : Invocation → (input : List ℕ) → ProgramFault → List ℕ
-explained asked input fault = if asked.explains then why asked.request input fault else []
+abbrev pub explained : Invocation Order → (input : List ℕ) → ProgramFault → List ℕ
+explained asked input fault = if asked.explains then why asked.request.request input fault else []
 
 -- A whole live run, or one under a schedule: where it was written, what is said of the operations that call nothing.
-abbrev pub SaysUncalled : Invocation → (input : List ℕ) → Result (Vec ℕ Global) ProgramFault →
+abbrev pub SaysUncalled : Invocation Order → (input : List ℕ) → Result (Vec ℕ Global) ProgramFault →
     (errors errors_after : SinkState) → Type 0
 SaysUncalled asked input (Ok uncalled) errors errors_after = Says uncalled.items errors errors_after
 SaysUncalled asked input (Err fault) errors errors_after =
@@ -67,21 +68,21 @@ abbrev pub terminal_line : List ℕ
 terminal_line = codes "reading from the terminal; end with Ctrl-D\n"
 
 -- What is said if the request is for an input, and nothing otherwise.
-abbrev pub SaysTerminal : {E : Type 0} → Result CommandLine E → (errors errors_after : SinkState) → Type 0
-SaysTerminal (Ok (Asks asked)) errors errors_after = Says terminal_line errors errors_after
-SaysTerminal _ errors errors_after = errors ≡ errors_after
+abbrev pub SaysTerminal : Result (Invocation Order) Unasked → (errors errors_after : SinkState) → Type 0
+SaysTerminal (Ok asked) errors errors_after = Says terminal_line errors errors_after
+SaysTerminal (Err unasked) errors errors_after = errors ≡ errors_after
 
 -- What the program does about a task: what it takes of its source, what it gives its sink and its device for
 -- messages, and its status. Where an input is refused, it is the one that is explained.
-abbrev pub AnswersTask : Task → Invocation → (status : ℕ) →
+abbrev pub AnswersTask : Task → Invocation Order → (status : ℕ) →
     (source source_after : SourceState) → (sink sink_after errors errors_after : SinkState) → Type 0
 AnswersTask task asked status source source_after sink sink_after errors errors_after =
-    (done : Result Bool ProgramFault) × (kept : List ℕ) × (status ≡ exit_status (task_status asked.strict) done)
+    (done : Result Bool ProgramFault) × (kept : List ℕ) × (status ≡ exit_status (task_status asked.request.strict) done)
     × ConductsTask done task kept source source_after sink sink_after
     × SaysWhy snaplab (explained asked kept) done errors errors_after
 
 -- What it does about a run under a schedule where refusals are explained: it tells of the calls that the run skipped.
-abbrev pub AnswersTelling : Subject → Invocation → (status : ℕ) →
+abbrev pub AnswersTelling : Subject → Invocation Order → (status : ℕ) →
     (source source_after : SourceState) → (sink sink_after errors errors_after : SinkState) → Type 0
 AnswersTelling subject asked status source source_after sink sink_after errors errors_after =
     (done : Result (Vec ℕ Global) ProgramFault) × (kept : List ℕ) × (status ≡ exit_status success done)
@@ -89,7 +90,7 @@ AnswersTelling subject asked status source source_after sink sink_after errors e
     × SaysUncalled asked kept done errors errors_after
 
 -- What it does about a task, and whether it tells more than why it is not done.
-abbrev pub AnswersTold : (tells : Bool) → Task → Invocation → (status : ℕ) →
+abbrev pub AnswersTold : (tells : Bool) → Task → Invocation Order → (status : ℕ) →
     (source source_after : SourceState) → (sink sink_after errors errors_after : SinkState) → Type 0
 AnswersTold true (task.Run subject) asked status source source_after sink sink_after errors errors_after =
     AnswersTelling subject asked status source source_after sink sink_after errors errors_after
@@ -97,7 +98,7 @@ AnswersTold _ t asked status source source_after sink sink_after errors errors_a
     AnswersTask t asked status source source_after sink sink_after errors errors_after
 
 -- What it does about a live run, at no gate.
-abbrev pub AnswersLively : Subject → (limit : ℕ) → Invocation → (status : ℕ) →
+abbrev pub AnswersLively : Subject → (limit : ℕ) → Invocation Order → (status : ℕ) →
     (source source_after : SourceState) → (sink sink_after errors errors_after : SinkState) → Type 0
 AnswersLively subject limit asked status source source_after sink sink_after errors errors_after =
     (done : Result (Vec ℕ Global) ProgramFault) × (kept : List ℕ) × (status ≡ exit_status success done)
@@ -106,7 +107,7 @@ AnswersLively subject limit asked status source source_after sink sink_after err
     × SaysUncalled asked kept done errors errors_after
 
 -- What it does about what is to be judged.
-abbrev pub AnswersJudge : JudgeRequest → Invocation → (status : ℕ) →
+abbrev pub AnswersJudge : JudgeRequest → Invocation Order → (status : ℕ) →
     (source source_after : SourceState) → (sink sink_after errors errors_after : SinkState) → Type 0
 AnswersJudge judged asked status source source_after sink sink_after errors errors_after =
     (done : Result Linearizability ProgramFault) × (kept : List ℕ) × (status ≡ exit_status word_status done)
@@ -114,7 +115,7 @@ AnswersJudge judged asked status source source_after sink sink_after errors erro
     × SaysWhy snaplab (explained asked kept) done errors errors_after
 
 -- What it does about a model.
-abbrev pub AnswersModelled : Subject → Invocation → (status : ℕ) →
+abbrev pub AnswersModelled : Subject → Invocation Order → (status : ℕ) →
     (source source_after : SourceState) → (sink sink_after errors errors_after : SinkState) → Type 0
 AnswersModelled subject asked status source source_after sink sink_after errors errors_after =
     (done : Result (Unit {0}) ProgramFault) × (kept : List ℕ) × (status ≡ exit_status success done)
@@ -122,7 +123,7 @@ AnswersModelled subject asked status source source_after sink sink_after errors 
     × SaysWhy snaplab (explained asked kept) done errors errors_after
 
 -- What it does about what was asked for.
-abbrev pub AnswersRequest : Request → Invocation → (status : ℕ) →
+abbrev pub AnswersRequest : Request → Invocation Order → (status : ℕ) →
     (source source_after : SourceState) → (sink sink_after errors errors_after : SinkState) → Type 0
 AnswersRequest (request.Do t) asked status source source_after sink sink_after errors errors_after =
     AnswersTold asked.explains t asked status source source_after sink sink_after errors errors_after
@@ -133,17 +134,11 @@ AnswersRequest (request.Judge judged) asked status source source_after sink sink
 AnswersRequest (request.Model subject crashes) asked status source source_after sink sink_after errors errors_after =
     AnswersModelled subject asked status source source_after sink sink_after errors errors_after
 
--- What the program does about a command line, or where there was no memory to read it: what it takes of its source,
--- what it gives its sink and its device for messages, and its status.
-abbrev pub AnswersLine : {E : Type 0} → Result CommandLine E → (status : ℕ) →
+-- What the program does about a command line, or about one that asks for nothing to be done: what it takes of its
+-- source, what it gives its sink and its device for messages, and its status.
+abbrev pub AnswersLine : Result (Invocation Order) Unasked → (status : ℕ) →
     (source source_after : SourceState) → (sink sink_after errors errors_after : SinkState) → Type 0
-AnswersLine (Ok (Asks asked)) status source source_after sink sink_after errors errors_after =
-    AnswersRequest asked.request asked status source source_after sink sink_after errors errors_after
-AnswersLine (Ok (Help text)) status source source_after sink sink_after errors errors_after =
-    (source ≡ source_after) × Helps snaplab (string_bytes text) status sink sink_after errors errors_after
-AnswersLine (Ok (Wrong text)) status source source_after sink sink_after errors errors_after =
-    (status ≡ 2) × (source ≡ source_after) × (sink ≡ sink_after) × Says (string_bytes text) errors errors_after
-AnswersLine (Ok NoText) status source source_after sink sink_after errors errors_after =
-    (status ≡ 2) × (source ≡ source_after) × (sink ≡ sink_after) × Says no_text_line errors errors_after
-AnswersLine (Err e) status source source_after sink sink_after errors errors_after =
-    (status ≡ 1) × (source ≡ source_after) × (sink ≡ sink_after) × Says no_memory_line errors errors_after
+AnswersLine (Ok asked) status source source_after sink sink_after errors errors_after =
+    AnswersRequest asked.request.request asked status source source_after sink sink_after errors errors_after
+AnswersLine (Err unasked) status source source_after sink sink_after errors errors_after =
+    (source ≡ source_after) × AnswersUnasked snaplab unasked status sink sink_after errors errors_after

@@ -1,6 +1,5 @@
 -- The definitions of snap_program, by their modules.
 pub mod ModelOutput
-pub mod Limits
 pub mod Invocations
 pub mod WholeRun
 pub mod Skipped

@@ -1,7 +1,7 @@
 //! `answer`: what snaplab does for its command line, over any source, sink and device for messages,
 //! and its status.
 ghost use Rattle.std.specs.Prelude.{◌≡◌, false, IfOk};
-ghost use Rattle.snap_program.specs.Limits.{HasLimits};
+ghost use Rattle.snap_program.specs.Invocations.{HasLimits};
 ghost use Rattle.snap_faults.specs.FaultText.{fault_line};
 ghost use Rattle.snap_faults.specs.Faults.{fault_status};
 ghost use Rattle.snap_faults.specs.Names.{view_names};
@@ -14,7 +14,7 @@ ghost use Rattle.snap_program.specs.Answer.{AnswersTask, AnswersTelling, Answers
 ghost use Rattle.snap_program.specs.Answer.{SaysTerminal, explained, snaplab};
 ghost use Rattle.snap_program.specs.Answer.{task_status, word_status};
 
-use crate::command_line::{CommandLine, Invocation};
+use crate::arguments::Order;
 use crate::judge_run::conduct_judge;
 use crate::live_run::{LiveTask, conduct_live_keeping};
 use crate::model_run::conduct_model;
@@ -23,17 +23,19 @@ use crate::whole_run::conduct_keeping;
 use snap_explanation::{
     explanation, history_explanation, layout_of, model_explanation, turn_limit_explanation,
 };
-use snap_faults::{
-    Names, ProgramFault, complain, fault_status, help, say_no_memory, say_no_text, tell,
-};
+use snap_faults::{Names, ProgramFault, tell};
 use snap_judge_task::Linearizability;
 use snap_live::NoGate;
+use snap_options::{Invocation, Unasked, answer_unasked};
 use snap_semantics::LiveRefusal;
 use snap_streams::{ByteSink, ByteSource, say};
 use snap_tasks::{JudgeRequest, Request, Subject, Task};
 use std::alloc::{AllocError, Global};
 use std::sync::Wait;
 use std::thread::Threads;
+
+/// What the program is called.
+const PROGRAM: &str = "snaplab";
 
 /// The status of a strict survey where a run is not clean.
 const NOT_CLEAN: u8 = 4;
@@ -53,14 +55,14 @@ const TERMINAL: &[u8] = b"reading from the terminal; end with Ctrl-D\n";
 struct Session<'s, T> {
     rt: &'s T,
     alloc: Global,
-    asked: &'s Invocation,
+    asked: &'s Invocation<Order>,
 }
 
 /// Returns what the program is called; its command line names no files.
 fn names() -> Names<'static>
     ensures { view_names result ≡ snaplab }
 {
-    Names::of_program("snaplab")
+    Names::of_program(PROGRAM)
 }
 
 /// Returns the line that snaplab says for `fault`.
@@ -77,7 +79,7 @@ pub fn fault_line(alloc: Global, fault: &ProgramFault) -> Result<Vec<u8>, AllocE
 /// Returns the text behind the line of a fault, if refusals are explained.
 fn explained(
     alloc: Global,
-    asked: &Invocation,
+    asked: &Invocation<Order>,
     input: &[u8],
     fault: &ProgramFault,
 ) -> Result<Vec<u8>, AllocError>
@@ -85,7 +87,7 @@ fn explained(
 {
     match fault {
         ProgramFault::Refused(refusal) if asked.explains => {
-            explanation(alloc, layout_of(&asked.request), input, refusal)
+            explanation(alloc, layout_of(&asked.request.request), input, refusal)
         }
         ProgramFault::History(refusal) if asked.explains => {
             history_explanation(alloc, input, refusal)
@@ -113,13 +115,8 @@ fn explain<T, E: ByteSink>(
     ensures says { TellsMore snaplab fault.now (explained session.now.asked.now input.now fault.now)
         (E.state errors.old) (E.state errors.new) }
 {
-    match explained(session.alloc, session.asked, input, fault) {
-        Ok(more) => tell(session.alloc, &names(), fault, more.as_slice(), errors),
-        Err(_) => {
-            complain(session.alloc, &names(), fault, errors);
-            fault_status(fault)
-        }
-    }
+    let more = explained(session.alloc, session.asked, input, fault);
+    tell(session.alloc, &names(), fault, &more, errors)
 }
 
 /// Returns the status of a task, all of whose output was written.
@@ -148,7 +145,7 @@ fn do_task<R: ByteSource, W: ByteSink, E: ByteSink>(
 {
     let mut input = Vec::new(session.alloc);
     match conduct_keeping(session.rt, session.alloc, task, source, sink, &mut input) {
-        Ok(clean) => task_status(session.asked.strict, clean),
+        Ok(clean) => task_status(session.asked.request.strict, clean),
         Err(fault) => explain(session, input.as_slice(), &fault, errors),
     }
 }
@@ -303,16 +300,16 @@ fn do_asked<R: ByteSource, W: ByteSink, E: ByteSink>(
     sink: &mut W,
     errors: &mut E,
 ) -> u8
-    requires limit { HasLimit session.now.asked.now.request }
+    requires limit { HasLimit session.now.asked.now.request.request }
     requires source { (R.state source.old).failed ≡ false }
     requires sink { (W.state sink.old).failed ≡ false }
     requires goes_on { (W.state sink.old).stalled ≡ false }
     requires errors { (E.state errors.old).failed ≡ false }
-    ensures { AnswersRequest session.now.asked.now.request session.now.asked.now result
+    ensures { AnswersRequest session.now.asked.now.request.request session.now.asked.now result
         (R.state source.old) (R.state source.new) (W.state sink.old) (W.state sink.new)
         (E.state errors.old) (E.state errors.new) }
 {
-    match session.asked.request {
+    match session.asked.request.request {
         Request::Do(task) => {
             do_told(session, session.asked.explains, &task, source, sink, errors)
         }
@@ -325,13 +322,13 @@ fn do_asked<R: ByteSource, W: ByteSink, E: ByteSink>(
 }
 
 /// Says that the input is read from a terminal, if the command line has a request for one.
-pub fn say_terminal<E: ByteSink>(line: &Result<CommandLine, AllocError>, errors: &mut E)
+pub fn say_terminal<E: ByteSink>(line: &Result<Invocation<Order>, Unasked>, errors: &mut E)
     requires { (E.state errors.old).failed ≡ false }
     ensures { SaysTerminal line.now (E.state errors.old) (E.state errors.new) }
 {
     match line {
-        Ok(CommandLine::Asks(_)) => say(TERMINAL, errors),
-        _ => {}
+        Ok(_) => say(TERMINAL, errors),
+        Err(_) => {}
     }
 }
 
@@ -340,7 +337,7 @@ pub fn say_terminal<E: ByteSink>(line: &Result<CommandLine, AllocError>, errors:
 pub fn answer<R: ByteSource, W: ByteSink, E: ByteSink>(
     rt: &(impl Threads + Wait + Sync),
     alloc: Global,
-    line: &Result<CommandLine, AllocError>,
+    line: &Result<Invocation<Order>, Unasked>,
     source: &mut R,
     sink: &mut W,
     errors: &mut E,
@@ -355,21 +352,7 @@ pub fn answer<R: ByteSource, W: ByteSink, E: ByteSink>(
         (E.state errors.old) (E.state errors.new) }
 {
     match line {
-        Ok(CommandLine::Asks(asked)) => {
-            do_asked(&Session { rt, alloc, asked }, source, sink, errors)
-        }
-        Ok(CommandLine::Help(text)) => help(alloc, &names(), text.as_bytes(), sink, errors),
-        Ok(CommandLine::Wrong(text)) => {
-            say(text.as_bytes(), errors);
-            2
-        }
-        Ok(CommandLine::NoText) => {
-            say_no_text(errors);
-            2
-        }
-        Err(_) => {
-            say_no_memory(errors);
-            1
-        }
+        Ok(asked) => do_asked(&Session { rt, alloc, asked }, source, sink, errors),
+        Err(unasked) => answer_unasked(alloc, PROGRAM, unasked, sink, errors),
     }
 }

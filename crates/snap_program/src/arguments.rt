@@ -1,28 +1,24 @@
-//! `request_of_arguments`: the subcommands and options of snaplab, and the request that they make.
-ghost use Rattle.std.specs.Prelude.{◌≡◌, ◌≤◌, IfOk, IfSome, codes};
-ghost use Rattle.clap.specs.Matches.{first_value, found_of};
+//! `invocation_of`: the subcommands and options of snaplab, and the request that they make.
+ghost use Rattle.std.specs.Prelude.{◌≡◌, ◌≤◌, IfOk, IfSome};
+ghost use Rattle.clap.specs.Matches.{found_of};
 ghost use Rattle.clap.specs.declared.parser.matches.ArgMatches.{ArgMatches};
-ghost use Rattle.snap_tasks.specs.Request.{AreOptions, HasLimit, IsLimit};
-ghost use Rattle.snap_program.specs.Invocations.{AreCrashesIn, AreOptionsIn, IsAsked};
+ghost use Rattle.snap_tasks.specs.Request.{AreOptions, IsLimit};
+ghost use Rattle.snap_program.specs.Invocations.{AreCrashesIn, AreOptionsIn, HasLimits, IsAsked};
 ghost use Rattle.snap_program.specs.Invocations.{IsAskedBy, IsLimitIn, IsMostIn};
 ghost use Rattle.snap_program.specs.Invocations.{crashes_or_none, limit_or_usual};
 ghost use Rattle.snap_program.specs.Invocations.{most_or_usual, subject_of};
 
-use crate::command_line::Invocation;
 use crate::texts::{HELP, JUDGE, LIVE, OF_RUNS, OF_TEXTS, PROMELA, SURVEY, Told};
 use clap::builder::ValueParser;
 use clap::error::ErrorKind;
 use clap::{Arg, ArgAction, ArgMatches, Command, Error};
-use snap_options::{advised, is_given, number_of};
-use snap_tasks::{Options, Subject, kind_of, request_of};
-use snap_words::MAX_ITEMS;
+use snap_options::{Invocation, advised, is_given, kind_given, number_of, shipped};
+use snap_tasks::{Options, Request, Subject, request_of};
+use snap_words::{KindTag, MAX_ITEMS};
 use std::alloc::{AllocError, Global};
 
 /// The version of the program.
 const VERSION: &str = "0.1.0";
-
-/// The kinds that `--shipped` takes.
-const KINDS: &[&str] = &["seq", "bit", "multi"];
 
 /// The most turns of a process if no limit is given.
 const USUAL_LIMIT: u64 = 100_000;
@@ -38,6 +34,14 @@ const NO_FILES: &str = "\
 snaplab takes no names of files, but reads standard input: use `<`,
        as in `snaplab check < FILE`";
 
+/// What is asked for, and whether a survey is strict: ends with a status of its own where a run is
+/// not clean.
+#[derive(Clone, Copy)]
+pub struct Order {
+    pub request: Request,
+    pub strict: bool,
+}
+
 /// Returns a subcommand with its help. The subcommand takes names of files, for which `NO_FILES` is
 /// said.
 fn subcommand<'a>(alloc: Global, told: Told) -> Result<Command<'a>, AllocError> {
@@ -51,12 +55,11 @@ fn subcommand<'a>(alloc: Global, told: Told) -> Result<Command<'a>, AllocError> 
 
 /// Returns a subcommand that runs a listing: one of the input, or a shipped one.
 fn running<'a>(alloc: Global, told: Told) -> Result<Command<'a>, AllocError> {
-    let shipped = Arg::new(alloc, "shipped")
-        .long("shipped")
-        .value_name("KIND")
-        .value_parser(KINDS)
-        .help("Takes the shipped listing of this kind of registers;{n}the input has none");
-    subcommand(alloc, told)?.arg(shipped)
+    let kind = shipped(
+        alloc,
+        "Takes the shipped listing of this kind of registers;{n}the input has none",
+    );
+    subcommand(alloc, told)?.arg(kind)
 }
 
 /// Returns the subcommand that plays scripts.
@@ -213,13 +216,13 @@ fn crashes_of(arguments: &ArgMatches<'_>) -> u64
     crashes_or_none(number_of(arguments, "crashes"))
 }
 
-/// Returns the listing among a subcommand's arguments.
-fn subject_of(arguments: &ArgMatches<'_>) -> Option<Subject>
-    ensures { result ≡ subject_of (first_value (found_of arguments.now) (codes "shipped")) }
+/// Returns the listing that a subcommand runs: the shipped one of a kind if one is given.
+fn subject_of(given: Option<KindTag>) -> Subject
+    ensures { result ≡ subject_of given }
 {
-    match arguments.get_str("shipped") {
-        Some(kind) => Some(Subject::Shipped(kind_of(kind)?)),
-        None => Some(Subject::FirstPart),
+    match given {
+        Some(kind) => Subject::Shipped(kind),
+        None => Subject::FirstPart,
     }
 }
 
@@ -228,7 +231,7 @@ fn options_of(arguments: &ArgMatches<'_>) -> Option<Options>
     ensures given { IfSome result (AreOptionsIn (found_of arguments.now)) }
     ensures right { IfSome result AreOptions }
 {
-    let subject = subject_of(arguments)?;
+    let subject = subject_of(kind_given(arguments)?);
     Some(Options {
         subject,
         limit: limit_of(arguments),
@@ -239,19 +242,16 @@ fn options_of(arguments: &ArgMatches<'_>) -> Option<Options>
 }
 
 /// Returns the request of the subcommand `name`, by its own arguments and by all of them.
-fn asked_by(name: &str, own: &ArgMatches<'_>, all: &ArgMatches<'_>) -> Option<Invocation>
+fn asked_by(name: &str, own: &ArgMatches<'_>, all: &ArgMatches<'_>) -> Option<Invocation<Order>>
     ensures asked { IfSome result (IsAskedBy name.now (found_of own.now) (found_of all.now)) }
-    ensures limit { IfSome result (λ asked. HasLimit asked.request) }
+    ensures limit { IfSome result HasLimits }
 {
     let options = options_of(own)?;
     let request = request_of(name, &options)?;
-    let explains = is_given(all, "explain");
     let strict = is_given(own, "strict");
-    Some(Invocation {
-        request,
-        explains,
-        strict,
-    })
+    let explains = is_given(all, "explain");
+    let request = Order { request, strict };
+    Some(Invocation { request, explains })
 }
 
 /// Returns whether the name of a file stands behind the subcommand.
@@ -263,22 +263,23 @@ fn names_a_file(matches: &ArgMatches<'_>) -> bool {
 }
 
 /// Returns the request of the arguments of a subcommand.
-fn request_by(matches: &ArgMatches<'_>) -> Option<Invocation>
+fn request_by(matches: &ArgMatches<'_>) -> Option<Invocation<Order>>
     ensures asked { IfSome result (IsAsked matches.now) }
-    ensures limit { IfSome result (λ asked. HasLimit asked.request) }
+    ensures limit { IfSome result HasLimits }
 {
     let (name, arguments) = matches.subcommand()?;
     asked_by(name, arguments, matches)
 }
 
-/// Returns the request of the arguments, the program's own name first.
+/// Returns what the arguments ask for, the program's own name first: what matched arguments do. That
+/// `clap` finds what stands there is its own promise.
 ///
 /// # Errors
 ///
 /// The error of `clap` where the arguments are invalid, or ask for help or the version.
-pub fn request_of_arguments<'a>(alloc: Global, arguments: &'a [String]) -> Result<Invocation, Error>
+pub fn invocation_of<'a>(alloc: Global, arguments: &'a [String]) -> Result<Invocation<Order>, Error>
     ensures asked { IfOk result (λ asked. (m : ArgMatches) × IsAsked m asked) }
-    ensures limit { IfOk result (λ asked. HasLimit asked.request) }
+    ensures limit { IfOk result HasLimits }
 {
     let mut command = command(alloc)?;
     let matches = match command.try_get_matches_from_mut(arguments) {

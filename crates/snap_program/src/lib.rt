@@ -4,7 +4,6 @@
 
 mod answers;
 mod arguments;
-mod command_line;
 mod judge_run;
 mod live_run;
 mod model_run;
@@ -16,7 +15,7 @@ mod whole_run;
 mod whole_texts;
 
 pub use answers::{answer, fault_line, say_terminal};
-pub use command_line::{CommandLine, Invocation, read_arguments};
+pub use arguments::{Order, invocation_of};
 pub use judge_run::conduct_judge;
 pub use live_run::{LiveTask, conduct_live, conduct_live_keeping};
 pub use model_run::conduct_model;

@@ -1,24 +1,22 @@
 //! `answer`: what snapdb does for its command line, over any files, console and device for
 //! messages, and its status.
-ghost use Rattle.std.specs.Prelude.{◌≡◌, IfOk, None, false, option_map};
-ghost use Rattle.snap_faults.specs.Faults.{fault_status};
-ghost use Rattle.snap_faults.specs.Told.{SaysWhy, TellsMore, exit_status, success};
+ghost use Rattle.std.specs.Prelude.{◌≡◌, None, false, option_map};
+ghost use Rattle.snap_faults.specs.Told.{SaysWhy, exit_status, success};
+ghost use Rattle.snap_named_files.specs.Explained.{explained};
 ghost use Rattle.snap_named_files.specs.Named.{names_of, view_named};
 ghost use Rattle.snap_named_files.specs.Texts.{OfFiles, OfShipped, view_texts};
-ghost use Rattle.snapdb.specs.Answer.{AnswersLine, AnswersSession, Shown, called, explained};
+ghost use Rattle.snapdb.specs.Answer.{AnswersLine, AnswersSession, AnswersUnasked, Shown, called};
 ghost use Rattle.snapdb.specs.Talk.{TalksIn};
 
 use crate::about::talk_about;
-use crate::arguments::Session;
-use crate::command_line::CommandLine;
-use snap_faults::{Names, ProgramFault, complain, fault_status, say_no_memory, say_no_text, tell};
+use snap_faults::{Names, ProgramFault, complain, tell};
 use snap_input::{program_of, shipped};
-use snap_named_files::{Texts, explanation_in, names_of, read_texts};
+use snap_named_files::{Named, Texts, explained, names_of, read_texts};
+use snap_options::{Invocation, Unasked, say_unread};
 use snap_prompt::Shows;
-use snap_semantics::Refusal;
 use snap_streams::{ByteSink, Console, FileSource, Folder, say};
 use snap_words::KindTag;
-use std::alloc::{AllocError, Global};
+use std::alloc::Global;
 
 /// What the program is called.
 const PROGRAM: &str = "snapdb";
@@ -109,74 +107,35 @@ fn talk<C: Console, S: Folder + Copy>(
     }
 }
 
-/// Returns the text behind the line of a fault, if refusals are explained.
-fn explained(
-    alloc: Global,
-    explains: bool,
-    texts: Option<&Texts>,
-    fault: &ProgramFault,
-) -> Result<Vec<u8>, AllocError>
-    ensures { IfOk result (λ more. more.items
-        ≡ explained explains (option_map (λ t. view_texts t.now) texts.entry) fault.now) }
-{
-    match fault {
-        ProgramFault::Refused(refusal) if explains => explanation_in(alloc, texts, refusal),
-        ProgramFault::TooLong(_) if explains => {
-            explanation_in(alloc, texts, &Refusal::InputTooLong)
-        }
-        _ => Ok(Vec::new(alloc)),
-    }
-}
-
-/// Says why there was no dialog, or no whole one, explains it if that is wanted and there is memory
-/// for it, and returns the status.
-fn explain<E: ByteSink>(
-    alloc: Global,
-    session: &Session<'_>,
-    texts: Option<&Texts>,
-    fault: &ProgramFault,
-    errors: &mut E,
-) -> u8
-    requires { (E.state errors.old).failed ≡ false }
-    ensures status { result ≡ fault_status fault.now }
-    ensures says { TellsMore (names_of called (view_named session.now.named)) fault.now
-        (explained session.now.explains (option_map (λ t. view_texts t.now) texts.entry) fault.now)
-        (E.state errors.old) (E.state errors.new) }
-{
-    let names = names_of(PROGRAM, &session.named);
-    match explained(alloc, session.explains, texts, fault) {
-        Ok(more) => tell(alloc, &names, fault, more.as_slice(), errors),
-        Err(_) => {
-            complain(alloc, &names, fault, errors);
-            fault_status(fault)
-        }
-    }
-}
-
-/// Returns the status of a session, and says its fault if there is one.
+/// Returns the status of a session, and says its fault if there is one, with what explains it if
+/// that is wanted.
 fn finish<E: ByteSink>(
     alloc: Global,
-    session: &Session<'_>,
+    asked: &Invocation<Named<'_>>,
     texts: Option<&Texts>,
     done: &Result<(), ProgramFault>,
     errors: &mut E,
 ) -> u8
     requires { (E.state errors.old).failed ≡ false }
     ensures status { result ≡ exit_status success done.now }
-    ensures says { SaysWhy (names_of called (view_named session.now.named))
-        (explained session.now.explains (option_map (λ t. view_texts t.now) texts.entry)) done.now
+    ensures says { SaysWhy (names_of called (view_named asked.now.request))
+        (explained asked.now.explains (option_map (λ t. view_texts t.now) texts.entry)) done.now
         (E.state errors.old) (E.state errors.new) }
 {
     match done {
         Ok(()) => 0,
-        Err(fault) => explain(alloc, session, texts, fault, errors),
+        Err(fault) => {
+            let names = names_of(PROGRAM, &asked.request);
+            let more = explained(alloc, asked.explains, texts, fault);
+            tell(alloc, &names, fault, &more, errors)
+        }
     }
 }
 
 /// Opens a session, says why if there is no dialog, or no whole one, and returns the status.
 fn open<F: FileSource + Folder + Copy, C: Console, E: ByteSink>(
     alloc: Global,
-    session: &Session<'_>,
+    asked: &Invocation<Named<'_>>,
     shows: Shows,
     files: &mut F,
     console: &mut C,
@@ -184,7 +143,7 @@ fn open<F: FileSource + Folder + Copy, C: Console, E: ByteSink>(
 ) -> u8
     requires console { C.failure console.old ≡ None }
     requires errors { (E.state errors.old).failed ≡ false }
-    ensures { AnswersSession (F.found files.old) session.now result (record {
+    ensures { AnswersSession (F.found files.old) asked.now result (record {
       shows = shows;
       left = C.left console.old;
       shown = C.shown console.old;
@@ -194,12 +153,12 @@ fn open<F: FileSource + Folder + Copy, C: Console, E: ByteSink>(
       failed = C.failure console.new;
     }) (E.state errors.old) (E.state errors.new) }
 {
-    match read_texts(alloc, &*files, &session.named) {
+    match read_texts(alloc, &*files, &asked.request) {
         Ok(texts) => {
             let done = talk(alloc, &texts, shows, console, files);
-            finish(alloc, session, Some(&texts), &done, errors)
+            finish(alloc, asked, Some(&texts), &done, errors)
         }
-        Err(fault) => finish(alloc, session, None, &Err(fault), errors),
+        Err(fault) => finish(alloc, asked, None, &Err(fault), errors),
     }
 }
 
@@ -224,11 +183,33 @@ fn help<C: Console, E: ByteSink>(alloc: Global, text: &[u8], console: &mut C, er
     }
 }
 
+/// Shows the help or the version, or says what is wrong with a command line, and returns the status.
+fn answer_unasked<C: Console, E: ByteSink>(
+    alloc: Global,
+    unasked: &Unasked,
+    console: &mut C,
+    errors: &mut E,
+) -> u8
+    requires console { C.failure console.old ≡ None }
+    requires errors { (E.state errors.old).failed ≡ false }
+    ensures { AnswersUnasked unasked.now result (C.shown console.old) (C.shown console.new)
+        (E.state errors.old) (E.state errors.new) }
+{
+    match unasked {
+        Unasked::Help(text) => help(alloc, text.as_bytes(), console, errors),
+        Unasked::Wrong(text) => {
+            say(text.as_bytes(), errors);
+            2
+        }
+        Unasked::Unread(unread) => say_unread(*unread, errors),
+    }
+}
+
 /// Does what a command line is for, and returns the status. `shows` says what is shown beside the
 /// answers.
 pub(crate) fn answer<F: FileSource + Folder + Copy, C: Console, E: ByteSink>(
     alloc: Global,
-    line: &Result<CommandLine<'_>, AllocError>,
+    line: &Result<Invocation<Named<'_>>, Unasked>,
     shows: Shows,
     files: &mut F,
     console: &mut C,
@@ -247,19 +228,7 @@ pub(crate) fn answer<F: FileSource + Folder + Copy, C: Console, E: ByteSink>(
     }) (E.state errors.old) (E.state errors.new) }
 {
     match line {
-        Ok(CommandLine::Asks(session)) => open(alloc, session, shows, files, console, errors),
-        Ok(CommandLine::Help(text)) => help(alloc, text.as_bytes(), console, errors),
-        Ok(CommandLine::Wrong(text)) => {
-            say(text.as_bytes(), errors);
-            2
-        }
-        Ok(CommandLine::NoText) => {
-            say_no_text(errors);
-            2
-        }
-        Err(_) => {
-            say_no_memory(errors);
-            1
-        }
+        Ok(asked) => open(alloc, asked, shows, files, console, errors),
+        Err(unasked) => answer_unasked(alloc, unasked, console, errors),
     }
 }

@@ -4,42 +4,33 @@
 mod about;
 mod answers;
 mod arguments;
-mod command_line;
 mod saved_files;
 mod system_files;
 
-use crate::command_line::{CommandLine, read_arguments};
 use answers::answer;
+use arguments::invocation_of;
 use saved_files::SavedFiles;
+use snap_named_files::Named;
+use snap_options::{Invocation, Unasked, Unread, unasked_by, words_of};
 use snap_prompt::Shows;
 use snap_streams::{Disk, Messages, Piped, Std, Terminal, end};
-use std::alloc::AllocError;
-use std::io::IsTerminal;
+use std::io::{self, IsTerminal};
 use std::process::ExitCode;
-use std::{env, io};
 use system_files::SystemFiles;
 
-/// Returns the words of the command line, if they are valid UTF-8.
-fn words_of(rt: &HostRuntime) -> Result<Option<Vec<String>>, AllocError> {
-    let arguments = match env::args(rt) {
-        Ok(arguments) => arguments,
-        Err(error) if error.kind() == io::ErrorKind::OutOfMemory => return Err(AllocError),
-        Err(_) => return Ok(None),
-    };
-    match arguments.collect::<Vec<String>>(rt.alloc()) {
-        Ok(words) => Ok(Some(words)),
-        Err(_) => Err(AllocError),
-    }
-}
-
-/// Returns what the words of a command line come to, in which a refusal is explained in any case if
-/// `explains`.
+/// Returns what the words of a command line ask for, in which a refusal is explained in any case at
+/// a terminal.
 fn line_of<'a>(
     rt: &HostRuntime,
-    words: &'a [String],
-    explains: bool,
-) -> Result<CommandLine<'a>, AllocError> {
-    Ok(read_arguments(rt.alloc(), words)?.explained_if(explains))
+    words: &'a Result<Vec<String>, Unread>,
+) -> Result<Invocation<Named<'a>>, Unasked> {
+    match words {
+        Ok(words) => match invocation_of(rt.alloc(), words.as_slice()) {
+            Ok(asked) => Ok(asked.explained_if(rt.stderr().is_terminal())),
+            Err(error) => Err(unasked_by(rt.alloc(), &error)),
+        },
+        Err(unread) => Err(Unasked::Unread(*unread)),
+    }
 }
 
 /// Returns what is shown beside the answers: no greeting unless they are read at a terminal, and no
@@ -54,12 +45,7 @@ fn shows_at(rt: &HostRuntime) -> Shows {
 
 fn main(rt: HostRuntime) -> ExitCode {
     let words = words_of(&rt);
-    let explains = rt.stderr().is_terminal();
-    let line = match &words {
-        Ok(Some(words)) => line_of(&rt, words.as_slice(), explains),
-        Ok(None) => Ok(CommandLine::NoText),
-        Err(_) => Err(AllocError),
-    };
+    let line = line_of(&rt, &words);
     let shows = shows_at(&rt);
     let writer = Piped::new(io::writer(&rt));
     let mut console = Terminal::new(Std::new(rt.reader()), writer);

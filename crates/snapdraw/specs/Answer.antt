@@ -1,7 +1,6 @@
 -- `AnswersLine`: what snapdraw does about its command line: what it writes for the files that are named, what it says,
 -- and the status that it ends with.
-use Rattle.std.specs.Prelude.{◌≡◌, ℕ, Bool, List, [], Option, Some, None, Result, Ok, Err, if◌then◌else◌}
-use Rattle.std.specs.Prelude.{codes}
+use Rattle.std.specs.Prelude.{◌≡◌, ℕ, List, Option, Some, None, Result, Ok, Err, codes}
 use Rattle.std.specs.declared.io.ErrorKind.{ErrorKind}
 use Rattle.snap_streams.specs.Sent.{Sends, unsent}
 use Rattle.snap_streams.specs.declared.sending.Unsent.{Unsent}
@@ -14,11 +13,10 @@ use Rattle.snap_options.specs.CommandLines.{AnswersUnasked}
 use Rattle.snap_options.specs.declared.invocation.Invocation.{Invocation}
 use Rattle.snap_options.specs.declared.invocation.Unasked.{Unasked}
 use Rattle.snap_picture.specs.declared.options.Options.{Options}
-use Rattle.snap_named_files.specs.Explained.{explanation_in}
+use Rattle.snap_named_files.specs.Explained.{explained}
 use Rattle.snap_named_files.specs.Named.{names_of, view_named}
 use Rattle.snap_named_files.specs.Texts.{AreTexts, Read, view_texts}
 use Rattle.snap_named_files.specs.declared.texts.Texts.{Texts}
-use Rattle.snap_semantics.specs.declared.refusal.Refusal.TheVariants.{InputTooLong}
 use Rattle.snapdraw.specs.declared.arguments.Drawing.{Drawing}
 use Rattle.snapdraw.specs.Drawing.{IsDrawing, options_of}
 
@@ -36,16 +34,6 @@ Writes (Err (fault.Write n)) wanted sink sink_after =
     (text : List ℕ) × (wanted ≡ Ok text)
     × ((u : Unsent) × Sends {E = Unsent} unsent (Err u) text sink sink_after × (n ≡ u.count))
 Writes (Err f) wanted sink sink_after = (wanted ≡ Err f) × (sink ≡ sink_after)
-
--- What is said behind the line of a refusal, where refusals are explained. Of a fault that is no refusal of a text,
--- nothing is.
-abbrev pub why : Option Read → ProgramFault → List ℕ
-why texts (fault.Refused r) = explanation_in texts r
-why texts (fault.TooLong w) = explanation_in texts InputTooLong
-why texts _ = []
-
-abbrev pub explained : (explains : Bool) → Option Read → ProgramFault → List ℕ
-explained explains texts f = if explains then why texts f else []
 
 -- A picture is drawn of these texts and written, or a fault is met.
 abbrev pub Draws : Read → Options → (style legend : List ℕ) → Result (Unit {0}) ProgramFault →

@@ -1,23 +1,21 @@
 //! `answer`: what snapdraw does for its command line, over any files, sink and device for messages,
 //! and its status.
-ghost use Rattle.std.specs.Prelude.{◌≡◌, Ok, IfOk, false, option_map};
-ghost use Rattle.snap_faults.specs.Faults.{fault_status};
-ghost use Rattle.snap_faults.specs.Told.{SaysWhy, TellsMore, exit_status, success};
-ghost use Rattle.snapdraw.specs.Answer.{AnswersDrawing, AnswersLine, Draws, Writes, explained};
-ghost use Rattle.snapdraw.specs.Answer.{called};
+ghost use Rattle.std.specs.Prelude.{◌≡◌, Ok, false, option_map};
+ghost use Rattle.snap_faults.specs.Told.{SaysWhy, exit_status, success};
+ghost use Rattle.snapdraw.specs.Answer.{AnswersDrawing, AnswersLine, Draws, Writes, called};
 ghost use Rattle.snapdraw.specs.Drawing.{options_of};
+ghost use Rattle.snap_named_files.specs.Explained.{explained};
 ghost use Rattle.snap_named_files.specs.Named.{names_of, view_named};
 ghost use Rattle.snap_named_files.specs.Texts.{view_texts};
 
 use crate::arguments::Drawing;
 use crate::drawing::draw;
-use snap_faults::{ProgramFault, complain, fault_status, tell};
-use snap_named_files::{Texts, explanation_in, names_of, read_texts};
+use snap_faults::{ProgramFault, tell};
+use snap_named_files::{Texts, explained, names_of, read_texts};
 use snap_options::{Invocation, Unasked, answer_unasked};
 use snap_picture::Look;
-use snap_semantics::Refusal;
 use snap_streams::{ByteSink, FileSource, write_all};
-use std::alloc::{AllocError, Global};
+use std::alloc::Global;
 
 /// What the program is called.
 const PROGRAM: &str = "snapdraw";
@@ -49,51 +47,8 @@ fn draw_and_write<W: ByteSink>(
     write_text(text.as_slice(), sink)
 }
 
-/// Returns the text behind the line of a fault, if refusals are explained.
-fn explained(
-    alloc: Global,
-    explains: bool,
-    texts: Option<&Texts>,
-    fault: &ProgramFault,
-) -> Result<Vec<u8>, AllocError>
-    ensures { IfOk result (λ more. more.items
-        ≡ explained explains (option_map (λ t. view_texts t.now) texts.entry) fault.now) }
-{
-    match fault {
-        ProgramFault::Refused(refusal) if explains => explanation_in(alloc, texts, refusal),
-        ProgramFault::TooLong(_) if explains => {
-            explanation_in(alloc, texts, &Refusal::InputTooLong)
-        }
-        _ => Ok(Vec::new(alloc)),
-    }
-}
-
-/// Says why nothing, or not all, was drawn, explains it if that is wanted and there is memory for
-/// it, and returns the status.
-fn explain<E: ByteSink>(
-    alloc: Global,
-    asked: &Invocation<Drawing<'_>>,
-    texts: Option<&Texts>,
-    fault: &ProgramFault,
-    errors: &mut E,
-) -> u8
-    requires { (E.state errors.old).failed ≡ false }
-    ensures status { result ≡ fault_status fault.now }
-    ensures says { TellsMore (names_of called (view_named asked.now.request.named)) fault.now
-        (explained asked.now.explains (option_map (λ t. view_texts t.now) texts.entry) fault.now)
-        (E.state errors.old) (E.state errors.new) }
-{
-    let names = names_of(PROGRAM, &asked.request.named);
-    match explained(alloc, asked.explains, texts, fault) {
-        Ok(more) => tell(alloc, &names, fault, more.as_slice(), errors),
-        Err(_) => {
-            complain(alloc, &names, fault, errors);
-            fault_status(fault)
-        }
-    }
-}
-
-/// Returns the status of a picture, and says its fault if there is one.
+/// Returns the status of a picture, and says its fault if there is one, with what explains it if
+/// that is wanted.
 fn finish<E: ByteSink>(
     alloc: Global,
     asked: &Invocation<Drawing<'_>>,
@@ -109,7 +64,11 @@ fn finish<E: ByteSink>(
 {
     match done {
         Ok(()) => 0,
-        Err(fault) => explain(alloc, asked, texts, fault, errors),
+        Err(fault) => {
+            let names = names_of(PROGRAM, &asked.request.named);
+            let more = explained(alloc, asked.explains, texts, fault);
+            tell(alloc, &names, fault, &more, errors)
+        }
     }
 }
 

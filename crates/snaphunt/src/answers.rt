@@ -1,9 +1,8 @@
 //! `answer`: what snaphunt does for its command line, over any files, sink and device for messages,
 //! and its status.
 ghost use Rattle.std.specs.Prelude.{◌≡◌, ◌<◌, ◌^◌, Ok, Err, IfOk, false};
-ghost use Rattle.snap_faults.specs.Faults.{fault_status};
 ghost use Rattle.snap_faults.specs.Names.{view_names};
-ghost use Rattle.snap_faults.specs.Told.{SaysWhy, TellsMore, exit_status};
+ghost use Rattle.snap_faults.specs.Told.{SaysWhy, exit_status};
 ghost use Rattle.snaphunt.specs.Answer.{AnswersLine, AnswersSearch, HuntsIn, Prints, explained};
 ghost use Rattle.snaphunt.specs.Answer.{hunted_status, names_of};
 ghost use Rattle.snaphunt.specs.Search.{IsSearch, view_listed};
@@ -11,7 +10,7 @@ ghost use Rattle.snaphunt.specs.Search.{IsSearch, view_listed};
 use crate::arguments::{Listed, Search};
 use crate::searching::{hunted_text, text_of};
 use snap_explanation::{Layout, explanation};
-use snap_faults::{Names, ProgramFault, complain, fault_status, tell};
+use snap_faults::{Names, ProgramFault, tell};
 use snap_hunt::Watcher;
 use snap_hunt_output::{HuntRequest, Hunted, hunt_listing};
 use snap_options::{Invocation, Unasked, answer_unasked};
@@ -116,32 +115,8 @@ fn explained(
     }
 }
 
-/// Says why nothing, or not all, was printed, explains it if that is wanted and there is memory for
-/// it, and returns the status.
-fn explain<E: ByteSink>(
-    alloc: Global,
-    asked: &Invocation<Search<'_>>,
-    listing: &[u8],
-    fault: &ProgramFault,
-    errors: &mut E,
-) -> u8
-    requires { (E.state errors.old).failed ≡ false }
-    ensures status { result ≡ fault_status fault.now }
-    ensures says { TellsMore (names_of (view_listed asked.now.request.listed)) fault.now
-        (explained asked.now.explains listing.now fault.now) (E.state errors.old)
-        (E.state errors.new) }
-{
-    let names = names_of(&asked.request.listed);
-    match explained(alloc, asked.explains, listing, fault) {
-        Ok(more) => tell(alloc, &names, fault, more.as_slice(), errors),
-        Err(_) => {
-            complain(alloc, &names, fault, errors);
-            fault_status(fault)
-        }
-    }
-}
-
-/// Returns the status of a whole hunt, and says its fault if there is one.
+/// Returns the status of a whole hunt, and says its fault if there is one, with what explains it if
+/// that is wanted.
 fn finish<E: ByteSink>(
     alloc: Global,
     asked: &Invocation<Search<'_>>,
@@ -157,7 +132,11 @@ fn finish<E: ByteSink>(
 {
     match done {
         Ok(hunted) => hunted_status(hunted),
-        Err(fault) => explain(alloc, asked, listing, fault, errors),
+        Err(fault) => {
+            let names = names_of(&asked.request.listed);
+            let more = explained(alloc, asked.explains, listing, fault);
+            tell(alloc, &names, fault, &more, errors)
+        }
     }
 }
 

@@ -2,32 +2,33 @@
 #![tactic(auto)]
 
 ghost use Rattle.std.specs.Prelude.{IfOk};
-ghost use Rattle.snap_program.specs.Limits.{HasLimits};
+ghost use Rattle.snap_program.specs.Invocations.{HasLimits};
 
-use snap_program::{CommandLine, Std, answer, read_arguments, say_terminal};
-use snap_streams::{Messages, Piped, end};
-use std::alloc::AllocError;
+use snap_options::{Invocation, Unasked, Unread, unasked_by, words_of};
+use snap_program::{Order, answer, invocation_of, say_terminal};
+use snap_streams::{Messages, Piped, Std, end};
 use std::io::{self, IsTerminal};
 use std::process::ExitCode;
 
-/// Returns what the arguments of the command line come to.
-fn command_line(rt: &HostRuntime) -> Result<CommandLine, AllocError>
+/// Returns what the words of a command line ask for, in which a refusal is explained in any case at
+/// a terminal.
+fn line_of(
+    rt: &HostRuntime,
+    words: &Result<Vec<String>, Unread>,
+) -> Result<Invocation<Order>, Unasked>
     ensures { IfOk result HasLimits }
 {
-    let arguments = match std::env::args(rt) {
-        Ok(arguments) => arguments,
-        Err(error) if error.kind() == io::ErrorKind::OutOfMemory => return Err(AllocError),
-        Err(_) => return Ok(CommandLine::NoText),
-    };
-    let Ok(arguments) = arguments.collect::<Vec<String>>(rt.alloc()) else {
-        return Err(AllocError);
-    };
-    let line = read_arguments(rt.alloc(), arguments.as_slice())?;
-    Ok(line.explained_if(rt.stderr().is_terminal()))
+    match words {
+        Ok(words) => match invocation_of(rt.alloc(), words.as_slice()) {
+            Ok(asked) => Ok(asked.explained_if(rt.stderr().is_terminal())),
+            Err(error) => Err(unasked_by(rt.alloc(), &error)),
+        },
+        Err(unread) => Err(Unasked::Unread(*unread)),
+    }
 }
 
 fn main(rt: HostRuntime) -> ExitCode {
-    let line = command_line(&rt);
+    let line = line_of(&rt, &words_of(&rt));
     let mut source = Std::new(rt.reader());
     let mut sink = Piped::new(io::writer(&rt));
     if rt.stdin().is_terminal() {

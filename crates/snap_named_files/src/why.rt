@@ -1,10 +1,11 @@
-//! `explanation_in`: what explains why one of the texts of named files is refused.
+//! `explained`: what explains why one of the texts of named files is refused.
 ghost use Rattle.std.specs.Prelude.{◌≡◌, IfOk, option_map};
-ghost use Rattle.snap_named_files.specs.Explained.{explanation_in, schedule_alone};
+ghost use Rattle.snap_named_files.specs.Explained.{explained, explanation_in, schedule_alone};
 ghost use Rattle.snap_named_files.specs.Texts.{view_texts};
 
 use crate::texts::Texts;
 use snap_explanation::{Layout, explanation};
+use snap_faults::ProgramFault;
 use snap_semantics::Refusal;
 use snap_tasks::Subject;
 use snap_words::KindTag;
@@ -23,11 +24,7 @@ fn schedule_alone() -> Layout
 /// Returns what explains why one of `texts` is refused, or why none was read: of the listing, or
 /// else of the schedule. For the schedule of a shipped listing it is what `snaplab run --shipped
 /// KIND --explain` says.
-///
-/// # Errors
-///
-/// `AllocError` where memory runs out.
-pub fn explanation_in(
+fn explanation_in(
     alloc: Global,
     texts: Option<&Texts>,
     refusal: &Refusal,
@@ -46,5 +43,29 @@ pub fn explanation_in(
         (Some(Texts::Shipped(_, schedule)), _) => {
             explanation(alloc, schedule_alone(), schedule.as_slice(), refusal)
         }
+    }
+}
+
+/// Returns what explains `fault`, where `explains`: why one of `texts` is refused, or why none was
+/// read since it is too long. Nothing explains another fault.
+///
+/// # Errors
+///
+/// `AllocError` where memory runs out.
+pub fn explained(
+    alloc: Global,
+    explains: bool,
+    texts: Option<&Texts>,
+    fault: &ProgramFault,
+) -> Result<Vec<u8>, AllocError>
+    ensures { IfOk result (λ more. more.items
+        ≡ explained explains (option_map (λ t. view_texts t.now) texts.entry) fault.now) }
+{
+    match fault {
+        ProgramFault::Refused(refusal) if explains => explanation_in(alloc, texts, refusal),
+        ProgramFault::TooLong(_) if explains => {
+            explanation_in(alloc, texts, &Refusal::InputTooLong)
+        }
+        _ => Ok(Vec::new(alloc)),
     }
 }

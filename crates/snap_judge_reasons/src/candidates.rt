@@ -148,6 +148,16 @@ fn add_open(
     Ok(())
 }
 
+/// Adds the view that was answered with 0 in one of its words.
+fn add_zeroed(alloc: Global, candidates: &mut Candidates, view: &[u64]) -> Result<(), AllocError> {
+    for place in 0..view.len() {
+        let mut values = Vec::from_slice(alloc, view)?;
+        set(&mut values, place as u64 + 1, 0);
+        candidates.add(alloc, &values)?;
+    }
+    Ok(())
+}
+
 /// Adds the view that was answered with 0, or with the value of one update, in the word of that
 /// update.
 fn add_exchanged(
@@ -166,12 +176,7 @@ fn add_exchanged(
             candidates.add(alloc, &values)?;
         }
     }
-    for place in 0..view.len() {
-        let mut values = Vec::from_slice(alloc, view)?;
-        set(&mut values, place as u64 + 1, 0);
-        candidates.add(alloc, &values)?;
-    }
-    Ok(())
+    add_zeroed(alloc, candidates, view)
 }
 
 /// Returns the event number of the last call of `process`.

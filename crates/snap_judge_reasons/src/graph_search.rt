@@ -153,20 +153,25 @@ fn is_reached(search: &Search, place: usize) -> bool {
     }
 }
 
-/// Reaches operations from the one at `start` on, until it is itself reached.
-fn reach_back(alloc: Global, graph: &Graph<'_>, start: usize) -> Result<Search, AllocError> {
+/// Returns a search that starts at this operation, and has reached none.
+fn search_from(alloc: Global, graph: &Graph<'_>, start: usize) -> Result<Search, AllocError> {
     let mut unmissed = Vec::new(alloc);
     for updates in &graph.updates {
         unmissed.push(updates.len())?;
     }
     let mut queue = Vec::new(alloc);
     queue.push(start)?;
-    let mut search = Search {
+    Ok(Search {
         parents: vec![in alloc; None; graph.operations.len()]?,
         queue,
         uncalled: graph.operations.len(),
         unmissed,
-    };
+    })
+}
+
+/// Reaches operations from the one at `start` on, until it is itself reached.
+fn reach_back(alloc: Global, graph: &Graph<'_>, start: usize) -> Result<Search, AllocError> {
+    let mut search = search_from(alloc, graph, start)?;
     for turn in 0..graph.operations.len() {
         let Some(place) = search.queue.get(turn) else {
             break;

@@ -148,9 +148,7 @@ impl<'a> Writer<'a> {
         self.say(b" && link == 0 && !upd");
         self.steps(here);
         self.fill(b"printf(\"! $ answer", &[me]);
-        for k in 0..self.w {
-            self.say(b" %d");
-        }
+        self.repeat(self.w, b" %d");
         self.say(b"\\n\"");
         for k in 0..self.w {
             self.say(b", ");

@@ -198,9 +198,7 @@ impl<'a> Writer<'a> {
             self.fill(b" -> $ : ", &[k + 1]);
         }
         self.say(b"0");
-        for k in 0..count {
-            self.say(b")");
-        }
+        self.repeat(count, b")");
     }
 
     /// Appends `first X G: C goto N`.

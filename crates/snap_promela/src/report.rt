@@ -108,17 +108,23 @@ impl<'a> Writer<'a> {
         }
     }
 
-    /// Appends the lines of the locals of a process.
-    fn print_locals(&mut self, me: u64) {
+    /// Appends the lines of the scalars of a process.
+    fn print_scalars(&mut self, me: u64) {
         let listing = self.listing;
-        let places = self.places();
-        let w = self.w;
         for name in listing.scalars() {
             self.fill(b"  printf(\"= $   ", &[me]);
             self.say(name.letters());
             self.local(b" = %d\\n\", X_", name);
             self.say(b");\n");
         }
+    }
+
+    /// Appends the lines of the locals of a process.
+    fn print_locals(&mut self, me: u64) {
+        let listing = self.listing;
+        let places = self.places();
+        let w = self.w;
+        self.print_scalars(me);
         self.print_rows(me, listing.rows(), b"R_", places);
         for name in listing.words() {
             self.print_words(me, name);

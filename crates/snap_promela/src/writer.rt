@@ -101,6 +101,13 @@ impl<'a> Writer<'a> {
         self.draft.push(text);
     }
 
+    /// Appends a text so many times.
+    pub(crate) fn repeat(&mut self, count: u64, text: &[u8]) {
+        for _ in 0..count {
+            self.say(text);
+        }
+    }
+
     /// Appends a number in digits.
     pub(crate) fn number(&mut self, number: u64) {
         self.draft.push_number(number);

@@ -136,13 +136,13 @@ move_well n w me d m p L16 e s h =
     (λ b. (s, omega (arith, e.some), refl))
 move_well n w me d m p L18 e s h =
     either (MoveWell (op_of d) n w) (nat_lt p.k w) _ _ (λ b. (s, omega (arith, lt_from p.k w b), refl))
-    (λ b. (s, omega (arith, e.some), refl))
+    (λ b. (s, omega (arith, e.one, e.some), refl))
 move_well n w me d m p L20 e s h =
     either (MoveWell (op_of d) n w) (nat_lt p.k w) _ _ (λ b. (s, omega (arith, lt_from p.k w b), refl))
-    (λ b. (s, omega (arith, e.one), refl))
+    (λ b. (s, omega (arith, e.one, e.some), refl))
 move_well n w me d m p L23 e s h =
     either (MoveWell (op_of d) n w) (nat_lt p.j n) _ _ (λ b. (s, omega (arith, lt_from p.j n b), refl))
-    (λ b. (s, omega arith, refl))
+    (λ b. (s, omega (arith, e.one, e.some), refl))
 move_well n w me d m p L26 e s h =
     either (MoveWell (op_of d) n w) (same_at p.a p.b p.k) _ _ (λ b. (s, h, refl)) (λ b. (s, h, refl))
 move_well n w me d m p L29 e s h =

@@ -1,20 +1,20 @@
 -- No order of the operations so far goes on in both futures of U's run: if the scan is in it,
 -- its answer is wrong in one of them, and if not, it comes after an update that it does not see.
-use Rattle.std.specs.Prelude.{◌≡◌, ℕ, zero, suc, ◌-◌, ◌<◌, ◌≤◌, ◌≢◌, Bool, true, false, not, ◌&&◌, List, [], ◌∷◌}
+use Rattle.std.specs.Prelude.{◌≡◌, ℕ, zero, suc, ◌-◌, ◌<◌, ◌≢◌, ◌⊎◌, Bool, true, false, not, ◌&&◌, List, [], ◌∷◌}
 use Rattle.std.specs.Prelude.{◌++◌, length, Option, Some, None, nat_eq, slice_index, slice_index_or, slice_set, refl}
 use Rattle.std.specs.List.{AllByRecursion}
 use Rattle.std.proofs.Common.{sym, ◌∙◌, ap, subst, arith, inl, inr}
 use Rattle.std.proofs.lemmas.Bool.{cases_eq, cases_lt}
 use Rattle.std.proofs.lemmas.List.{get_or-set_same, get_or-set_other, length-set}
 use Rattle.std.proofs.lemmas.List.Elements.{recursion_from_All}
-use Rattle.snap_runs.proofs.Common.{IsOneOf, Item, Call, Step, Crash, Answered, Run, item, outcome}
+use Rattle.snap_runs.proofs.Common.{IsOneOf, Item, Call, Answered, Run, item, outcome}
 use Rattle.snap_semantics.specs.declared.process.Op.TheVariants as op
 use Rattle.snap_runs.specs.Update.{PendingUpdate}
 use Rattle.snap_runs.specs.Operation.{Action, Sets, Sees, Operation, TookPlace}
 use Rattle.snap_runs.specs.Linearization.{after, Allows, RunsFrom}
 use Rattle.snap_runs.proofs.Operations.{same_answer}
 use Rattle.snap_runs_of_u.specs.Promises.{run_of}
-use Rattle.snap_strong.specs.StrongLinearization.{IsOpenScan, IsCompleted}
+use Rattle.snap_strong.specs.StrongLinearization.{IsOpenScan, IsCompleted, without_end}
 use Rattle.snap_strong.specs.Futures.{so_far, alone, overtaken, scan_seeing, update, NoneServesBoth}
 use Rattle.snap_strong.proofs.Begins.{begins_at}
 use Rattle.snap_strong.proofs.Futures.{update_took_place, alone_answers, overtaken_answers}
@@ -88,45 +88,28 @@ updates_set_five i word value c e up same =
           (ap sets_other up.call ∙ is_other word value same other)))
     ]
 
-completed_sets_five : (i c : ℕ) (end : Option ℕ) (a : Action) → TookPlace run_alone i c end a → SetsFive a
-completed_sets_five i c (Some e) (Sets word value) took = updates_set_five i word value c e took.0
-completed_sets_five i c None (Sets word value) took = updates_set_five i word value c 60 took.0
-completed_sets_five i c end (Sees view) took = tt
-
-open_sets_five : (i c : ℕ) (end : Option ℕ) (a : Action) → IsOpenScan run_alone i c end a → SetsFive a
-open_sets_five i c None (Sees view) h = tt
-open_sets_five i c _ _ h = absurd h
-
-sets_five : (o : Operation) → IsCompleted run_alone o → SetsFive o.action
-sets_five o (inl took) = completed_sets_five o.process o.call o.end o.action took
-sets_five o (inr h) = open_sets_five o.process o.call o.end o.action h
+sets_five : (i c : ℕ) (end : Option ℕ) (a : Action) → TookPlace run_alone i c end a ⊎ IsOpenScan run_alone i c end a →
+    SetsFive a
+sets_five i c (Some e) (Sets word value) (inl took) = updates_set_five i word value c e took.0
+sets_five i c None (Sets word value) (inl took) = updates_set_five i word value c 60 took.0
+sets_five i c (Some e) (Sets word value) (inr h) = absurd h
+sets_five i c None (Sets word value) (inr h) = absurd h
+sets_five i c end (Sees view) h = tt
 
 -- In the other future the scan does not answer 0 0 0, and is not open.
 abbrev run_overtaken : Run
 run_overtaken = run_of 3 (so_far ++ overtaken)
 
-answers_otherwise : (end : Option ℕ) → TookPlace run_overtaken 1 21 end (Sees (0 ∷ 0 ∷ 0 ∷ [])) → ⊥
-answers_otherwise (Some e) took =
+no_such_scan : (end : Option ℕ) →
+    IsCompleted run_overtaken (record { process = 1; call = 21; end = end; action = Sees (0 ∷ 0 ∷ 0 ∷ []) }) → ⊥
+no_such_scan (Some e) (inl took) =
     let ends : e ≡ 77 = same_answer run_overtaken 1 21 e 77 (0 ∷ 0 ∷ 0 ∷ []) (0 ∷ 5 ∷ 7 ∷ []) took overtaken_answers in
     let out : Answered (0 ∷ 0 ∷ 0 ∷ []) ≡ Answered (0 ∷ 5 ∷ 7 ∷ []) =
     sym took.ends.1 ∙ ap (outcome run_overtaken) ends ∙ overtaken_answers.ends.1 in
     let same : ◌≡◌ {A = ℕ} 0 5 = cc in omega arith
-answers_otherwise None took = took
-
-not_open : (end : Option ℕ) → IsOpenScan run_overtaken 1 21 end (Sees (0 ∷ 0 ∷ 0 ∷ [])) → ⊥
-not_open (Some e) h = h
-not_open None h = h.1 (0 ∷ 5 ∷ 7 ∷ []) overtaken_answers.ends
-
-no_such_scan : (o : Operation) → IsCompleted run_overtaken o → o.process ≡ 1 → o.call ≡ 21 →
-    o.action ≡ Sees (0 ∷ 0 ∷ 0 ∷ []) → ⊥
-no_such_scan o (inl took) process call action =
-    answers_otherwise o.end (subst (TookPlace run_overtaken 1 21 o.end) action
-    (subst (λ y. TookPlace run_overtaken 1 y o.end o.action) call
-    (subst (λ y. TookPlace run_overtaken y o.call o.end o.action) process took)))
-no_such_scan o (inr h) process call action =
-    not_open o.end (subst (IsOpenScan run_overtaken 1 21 o.end) action
-    (subst (λ y. IsOpenScan run_overtaken 1 y o.end o.action) call
-    (subst (λ y. IsOpenScan run_overtaken y o.call o.end o.action) process h)))
+no_such_scan None (inl took) = took
+no_such_scan (Some e) (inr h) = h
+no_such_scan None (inr h) = h.1 (0 ∷ 5 ∷ 7 ∷ []) overtaken_answers.ends
 
 pub none_serves_both_lem : NoneServesBoth
 none_serves_both_lem now one other is_now is_one is_other_one begins_one begins_other =
@@ -136,15 +119,15 @@ none_serves_both_lem now one other is_now is_one is_other_one begins_one begins_
     elim (cases_lt s.0 (length now)) [
       | inl already ↦ (let first = begins_at one now begins_one s.0 scan already in
           let second = begins_at other now begins_other s.0 scan already in
-          no_such_scan (slice_index_or other s.0 scan) (is_other_one.took_place s.0 scan second.there)
-          (second.process ∙ sym first.process ∙ ap (λ (o : Operation). o.process) s.2)
-          (second.call ∙ sym first.call ∙ ap (λ (o : Operation). o.call) s.2)
-          (second.action ∙ sym first.action ∙ ap (λ (o : Operation). o.action) s.2))
-      | inr later ↦ (let update_kept = begins_at one now begins_one u.0 update u.1 in
-          let fives = recursion_from_All (λ o. SetsFive o.action) one
-          (λ k d lt. sets_five (slice_index_or one k d) (is_one.took_place k d lt)) in
+          let o = slice_index_or other s.0 scan in
+          no_such_scan o.end (subst (λ (x : Operation). IsCompleted run_overtaken (record x { end = o.end }))
+          (second.1 ∙ sym first.1 ∙ ap without_end s.2) (is_other_one.took_place s.0 scan second.0)))
+      | inr later ↦ (let kept = begins_at one now begins_one u.0 update u.1 in
+          let fives = recursion_from_All (λ o. SetsFive o.action) one (λ k d lt.
+          let o = slice_index_or one k d in
+          sets_five o.process o.call o.end o.action (is_one.took_place k d lt)) in
           let five : slice_index (0 ∷ 0 ∷ 0 ∷ []) 1 ≡ 5 =
           sees_five (0 ∷ 0 ∷ 0 ∷ []) one fives is_one.runs u.0 s.0 update scan (0 ∷ 0 ∷ 0 ∷ []) (omega arith) s.1
-          (update_kept.action ∙ ap (λ (o : Operation). o.action) u.2) (ap (λ (o : Operation). o.action) s.2) in
+          (ap (λ (o : Operation). o.action) (kept.1 ∙ ap without_end u.2)) (ap (λ (o : Operation). o.action) s.2) in
           omega arith)
     ]

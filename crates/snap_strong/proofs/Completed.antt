@@ -1,13 +1,14 @@
 -- A linearization in which open scans are completed is a linearization
 -- without these scans; so what is strongly linearizable is linearizable.
-use Rattle.std.proofs.Common.{◌≡◌, ℕ, zero, suc, ◌<◌, Bool, true, false, List, [], ◌∷◌, length, Option, Some, None}
+use Rattle.std.proofs.Common.{◌≡◌, ℕ, zero, suc, ◌<◌, ◌⊎◌, Bool, true, false, List, [], ◌∷◌, length, Option, None}
 use Rattle.std.proofs.Common.{cond, filter, slice_index_or, replicate, refl, sym, ◌∙◌, ap, subst, arith, inl, inr}
-use Rattle.std.specs.List.{AllByRecursion, AllPairs, Contains}
-use Rattle.std.proofs.lemmas.List.Elements.{All-from_recursion, recursion_from_All}
+use Rattle.std.specs.List.{All, AllPairs, Contains}
+use Rattle.std.proofs.lemmas.List.Elements.{All-filter, filter_passes, recursion_from_All}
+use Rattle.std.proofs.lemmas.List.Kept.{AllPairs-filter}
 use Rattle.snap_runs.specs.Run.{Run, run_of_items}
-use Rattle.snap_runs.specs.Operation.{Action, Sets, Sees, Operation, IsOperation, EndedBefore}
+use Rattle.snap_runs.specs.Operation.{Action, Sees, Operation, IsOperation, EndedBefore}
 use Rattle.snap_runs.specs.Linearization.{after, Allows, RunsFrom, IsLinearization}
-use Rattle.snap_runs.proofs.Order.{Pairs, Apart, all_pairs, keeps_order}
+use Rattle.snap_runs.proofs.Order.{Pairs, Apart, keeps_order}
 use Rattle.snap_strong.specs.StrongLinearization.{IsOpenScan, IsCompleted, IsCompletedLinearization}
 use Rattle.snap_strong.specs.StrongLinearization.{StrongIsLinearizable}
 
@@ -22,45 +23,19 @@ tells o = is_told o.end o.action
 abbrev told : List Operation → List Operation
 told os = filter tells os
 
-all_if : (Q : Operation → Type 0) (b : Bool) (o : Operation) (os : List Operation) → (b ≡ true → Q o) →
-    AllByRecursion Q os → AllByRecursion Q (cond b (o ∷ os) os)
-all_if Q true o os gives rest = (gives refl, rest)
-all_if Q false o os gives rest = rest
-
-all_told : (P Q : Operation → Type 0) (os : List Operation) → ((o : Operation) → P o → tells o ≡ true → Q o) →
-    AllByRecursion P os → AllByRecursion Q (told os)
-all_told P Q [] gives h = tt
-all_told P Q (o ∷ os) gives h = all_if Q (tells o) o (told os) (gives o h.0) (all_told P Q os gives h.1)
-
-pairs_if : (R : Operation → Operation → Type 0) (b : Bool) (o : Operation) (os : List Operation) →
-    AllByRecursion (R o) os → Pairs R os → Pairs R (cond b (o ∷ os) os)
-pairs_if R true o os h rest = (h, rest)
-pairs_if R false o os h rest = rest
-
-pairs_told : (R : Operation → Operation → Type 0) (os : List Operation) → Pairs R os → Pairs R (told os)
-pairs_told R [] h = tt
-pairs_told R (o ∷ os) h =
-    pairs_if R (tells o) o (told os) (all_told (R o) (R o) os (λ x r is. r) h.0) (pairs_told R os h.1)
-
-later : (x : Operation) (xs : List Operation) (o : Operation) → Contains xs o → Contains (x ∷ xs) o
-later x xs o there = ((suc there.0, omega arith, there.2))
-
-contains_if : (b : Bool) (x : Operation) (xs : List Operation) (o : Operation) → Contains xs o →
-    Contains (cond b (x ∷ xs) xs) o
-contains_if true x xs o there = later x xs o there
-contains_if false x xs o there = there
-
-contains_first : (b : Bool) (x : Operation) (xs : List Operation) (o : Operation) → b ≡ true → x ≡ o →
-    Contains (cond b (x ∷ xs) xs) o
-contains_first true x xs o is same = (0, omega arith, same)
-contains_first false x xs o is same = absurd (cc)
+contains_if : (b : Bool) (x : Operation) (xs : List Operation) (o : Operation) →
+    Contains xs o ⊎ ((b ≡ true) × (x ≡ o)) → Contains (cond b (x ∷ xs) xs) o
+contains_if true x xs o (inl there) = (suc there.0, omega arith, there.2)
+contains_if true x xs o (inr first) = (0, omega arith, first.1)
+contains_if false x xs o (inl there) = there
+contains_if false x xs o (inr first) = absurd (cc)
 
 contains_told : (os : List Operation) (o : Operation) (k : ℕ) → k < length os → slice_index_or os k o ≡ o →
     tells o ≡ true → Contains (told os) o
 contains_told [] o k lt at is = absurd (omega arith)
-contains_told (x ∷ xs) o zero lt at is = contains_first (tells x) x (told xs) o (ap tells at ∙ is) at
+contains_told (x ∷ xs) o zero lt at is = contains_if (tells x) x (told xs) o (inr (ap tells at ∙ is, at))
 contains_told (x ∷ xs) o (suc k) lt at is =
-    contains_if (tells x) x (told xs) o (contains_told xs o k (omega arith) at is)
+    contains_if (tells x) x (told xs) o (inl (contains_told xs o k (omega arith) at is))
 
 -- A scan that is left out changes nothing.
 runs_if : (values : List ℕ) (end : Option ℕ) (b : Action) (o : Operation) (os : List Operation) → o.action ≡ b →
@@ -91,29 +66,25 @@ module _ (r : Run) where
   told_takes_place o (inl took) is = took
   told_takes_place o (inr h) is = absurd (open_is_untold o.process o.call o.end o.action h is)
 
-  ended_is_told : (end : Option ℕ) (e : ℕ) (b : Action) → end ≡ Some e → is_told end b ≡ true
-  ended_is_told (Some d) e b some = refl
-  ended_is_told None e b some = absurd (cc)
-
   pub told_is_linearization : (os : List Operation) → IsCompletedLinearization r os → IsLinearization r (told os)
   told_is_linearization os h =
-      let apart : Pairs Apart os = pairs_from Apart os (λ j k d lt short. (
+      let apart : AllPairs Apart os = λ j k d lt short. (
         h.once j k d lt short,
         λ before. let less : k < j = h.order k j d short (omega arith) before in let no : ⊥ = omega arith in no,
-      )) in
-      let alone : AllByRecursion (λ o. EndedBefore o o → ⊥) os = recursion_from_All (λ o. EndedBefore o o → ⊥) os
-      (λ k d lt before. let less : k < k = h.order k k d lt lt before in let no : ⊥ = omega arith in no) in
-      let kept = pairs_told Apart os apart in
+      ) in
+      let alone : All (λ o. EndedBefore o o → ⊥) os =
+      λ k d lt before. let less : k < k = h.order k k d lt lt before in let no : ⊥ = omega arith in no in
       record {
-        took_place = All-from_recursion (IsOperation r) (told os)
-            (all_told (IsCompleted r) (IsOperation r) os told_takes_place
-            (recursion_from_All (IsCompleted r) os h.took_place));
-        once = λ j k d lt short. (all_pairs Apart (told os) kept j k d lt short).0;
+        took_place = λ k d lt. told_takes_place (slice_index_or (told os) k d)
+            (All-filter tells (IsCompleted r) os h.took_place k d lt) (filter_passes tells os k d lt);
+        once = AllPairs-filter (λ a b. a.call ≡ b.call → ⊥) tells os h.once;
         complete = λ o took some. let there = h.complete o took some in
-            contains_told os o there.0 there.1 there.2 (ended_is_told o.end some.0 o.action some.1);
+            contains_told os o there.0 there.1 there.2 (ap (λ y. is_told y o.action) some.1);
         order =
             keeps_order (told os)
-            (all_told (λ o. EndedBefore o o → ⊥) (λ o. EndedBefore o o → ⊥) os (λ o none is. none) alone) kept;
+            (recursion_from_All (λ o. EndedBefore o o → ⊥) (told os)
+            (All-filter tells (λ o. EndedBefore o o → ⊥) os alone))
+            (pairs_from Apart (told os) (AllPairs-filter Apart tells os apart));
         runs = runs_told (replicate r.shape.w 0) os h.runs;
       }
 

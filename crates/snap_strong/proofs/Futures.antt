@@ -1,9 +1,8 @@
 -- The two futures of a run of U, computed: what the scan answers
 -- in each, and that the update has ended before they part.
-use Rattle.std.proofs.Common.{◌≡◌, ℕ, ◌<◌, ◌≤◌, Bool, true, false, [], ◌∷◌, ◌++◌, None, refl, ap, arith}
-use Rattle.snap_runs.proofs.Common.{Outcome, Answered, Finished, outcome}
+use Rattle.std.proofs.Common.{[], ◌∷◌, ◌++◌, None, refl, arith}
 use Rattle.snap_runs.specs.Operation.{IsOperation}
-use Rattle.snap_runs.specs.Scan.{FinishedScan, count}
+use Rattle.snap_runs.specs.Scan.{FinishedScan}
 use Rattle.snap_runs.proofs.Worked.{finished_scan, finished_update}
 use Rattle.snap_runs_of_u.specs.Promises.{run_of}
 use Rattle.snap_strong.specs.Futures.{so_far, alone, overtaken, update}

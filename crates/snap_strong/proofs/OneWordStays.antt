@@ -6,7 +6,7 @@ use Rattle.std.proofs.lemmas.List.{append-nil, map-append, take-append-le, get_o
 use Rattle.snap_runs.proofs.Common.{Counts, Item, Step, Op, Outcome, State, process_at, values, who, Run, state, item}
 use Rattle.snap_semantics.specs.declared.process.Outcome.TheVariants as outcome
 use Rattle.snap_semantics.specs.declared.process.Status.{Status}
-use Rattle.snap_semantics.specs.declared.process.Status.TheVariants.{Idle, Busy, Trapped, Crashed}
+use Rattle.snap_semantics.specs.declared.process.Status.TheVariants.{Busy}
 use Rattle.snap_semantics.specs.Source.{Source}
 use Rattle.snap_semantics.specs.State.{initial}
 use Rattle.snap_semantics.specs.Run.{after}

@@ -13,6 +13,8 @@ use Rattle.snap_runs.specs.Linearization.{after, Allows, RunsFrom}
 use Rattle.snap_runs.proofs.Calls.{EndsWith, IsEnd}
 use Rattle.snap_runs.proofs.Operations.{ends_done, ends_answer}
 use Rattle.snap_runs.proofs.Order.{Pairs, Apart}
+use Rattle.snap_runs.specs.Scan.{Ends}
+use Rattle.snap_runs.specs.Update.{IsDone}
 use Rattle.snap_strong.specs.StrongLinearization.{IsOpenScan, IsCompleted}
 
 -- the operation that is asked for, and how it ends
@@ -96,14 +98,10 @@ module _ (r : Run) where
   pub placed_longer : (t : ℕ) (o : Operation) →
       (o.end ≡ None → who (item r (suc t)) ≡ o.process → EndsWith (op_of o.action) (outcome_at r (suc t)) → ⊥) →
       Placed t o → Placed (suc t) o
-  placed_longer t o none h = record {
-    one = h.one;
-    call_is = h.call_is;
-    called = h.called;
-    first = h.first;
-    order = omega arith;
-    end = end_longer o.process o.call t o.action o.end none h.end;
-  }
+  placed_longer t o none h =
+      let order : o.call ≤ suc t = omega arith in
+      let end = end_longer o.process o.call t o.action o.end none h.end in
+      assumption
 
   -- where item t + 1 ends the operation
   end_closed : (i c t k : ℕ) (b : Action) (end : Option ℕ) (his : Bool) → nat_eq i k ≡ his → who (item r (suc t)) ≡ k →
@@ -122,14 +120,10 @@ module _ (r : Run) where
   pub placed_closed : (t k : ℕ) (o : Operation) → who (item r (suc t)) ≡ k →
       (o.process ≡ k → o.end ≡ None → outcome_at r (suc t) ≡ outcome_of o.action) → Placed t o →
       Placed (suc t) (ended k (suc t) o)
-  placed_closed t k o at ends h = record {
-    one = h.one;
-    call_is = h.call_is;
-    called = h.called;
-    first = h.first;
-    order = omega arith;
-    end = end_closed o.process o.call t k o.action o.end (nat_eq o.process k) refl at h.order ends h.end;
-  }
+  placed_closed t k o at ends h =
+      let order : o.call ≤ suc t = omega arith in
+      let end = end_closed o.process o.call t k o.action o.end (nat_eq o.process k) refl at h.order ends h.end in
+      assumption
 
   -- An operation that has ended by item t + 1 ended before that item or at it.
   end_shorter : (i c t e : ℕ) (b : Action) (end : Option ℕ) → end ≡ Some e → EndUpTo i c b (suc t) end →
@@ -153,14 +147,8 @@ module _ (r : Run) where
       let end = ended_at (suc t) some.0 o some.1 h in
       elim (end_shorter o.process o.call t some.0 o.action o.end some.1 h.end) [
         | inl sooner ↦ (let there = end_is o.process o.call t some.0 o.action o.end some.1 sooner in
-            inl (record {
-              one = h.one;
-              call_is = h.call_is;
-              called = h.called;
-              first = h.first;
-              order = omega arith;
-              end = sooner;
-            }))
+            let order : o.call ≤ t = omega arith in
+            inl assumption)
         | inr now ↦ inr (some.1 ∙ ap (λ y. Some y) now)
       ]
 
@@ -171,105 +159,63 @@ module _ (r : Run) where
       omega arith
 
   -- At the end of the run it is one of the run's operations, completed.
-  completed_by : (i c : ℕ) (b : Action) (end : Option ℕ) → IsOneOf r.shape.n i → item r c ≡ Call i (op_of b) →
-      outcome_at r c ≡ outcome.Called → 0 < c →
-      c ≤ length r.items → EndUpTo i c b (length r.items) end → TookPlace r i c end b ⊎ IsOpenScan r i c end b
-  completed_by i c (Sets word value) (Some e) one call called first order h = inl (
-    record {
-      process = one;
-      call = call;
-      called = called;
-      first = first;
-      order = (let lt : c < e = h.0 in omega arith);
-      last = h.1;
-      goes_on = λ u lt less done. h.4 u lt less done.0 (subst (EndsWith (Update word value)) (sym done.1) tt);
-    },
-    h.0,
-    (h.2, h.3),
-  )
-  completed_by i c (Sees view) (Some e) one call called first order h = inl (record {
-    scan = record {
-      process = one;
-      starts = (call, called);
-      first = first;
-      order = (let lt : c < e = h.0 in omega arith);
-      last = h.1;
-      goes_on = λ u seen lt less ends. h.4 u lt less ends.0 (subst (EndsWith Scan) (sym ends.1) tt);
-    };
-    order = h.0;
-    ends = (h.2, h.3);
-  })
-  completed_by i c (Sets word value) None one call called first order h = inl (
-    record {
-      process = one;
-      call = call;
-      called = called;
-      first = first;
-      order = order;
-      last = omega arith;
-      goes_on = λ u lt less done. h u lt (omega arith) done.0 (subst (EndsWith (Update word value)) (sym done.1) tt);
-    },
-    λ done. elim (eq-or-lt_of_le order) [
-      | inl same ↦
-          (let out : outcome.Called ≡ outcome.Finished =
-          sym called ∙ ap (outcome_at r) same ∙ done.1 in let q : ⊥ = cc in q)
-      | inr lt ↦ h (length r.items) lt (omega arith) done.0 (subst (EndsWith (Update word value)) (sym done.1) tt)
-    ],
-  )
-  completed_by i c (Sees view) None one call called first order h = inr (
-    record {
-      process = one;
-      starts = (call, called);
-      first = first;
-      order = order;
-      last = omega arith;
-      goes_on = λ u seen lt less ends. h u lt (omega arith) ends.0 (subst (EndsWith Scan) (sym ends.1) tt);
-    },
-    λ seen ends. elim (eq-or-lt_of_le order) [
-      | inl same ↦
-          (let out : outcome.Called ≡ outcome.Answered seen =
-          sym called ∙ ap (outcome_at r) same ∙ ends.1 in let q : ⊥ = cc in q)
-      | inr lt ↦ h (length r.items) lt (omega arith) ends.0 (subst (EndsWith Scan) (sym ends.1) tt)
-    ],
-  )
+  completed_by : (i c : ℕ) (b : Action) (end : Option ℕ) →
+      Placed (length r.items) (record { process = i; call = c; end = end; action = b }) →
+      TookPlace r i c end b ⊎ IsOpenScan r i c end b
+  completed_by i c (Sets word value) (Some e) h =
+      let order : c ≤ e = (let lt : c < e = h.end.0 in omega arith) in
+      let goes_on : (u : ℕ) → c < u → u < e → IsDone r i u → ⊥ =
+      λ u lt less done. h.end.4 u lt less done.0 (subst (EndsWith (Update word value)) (sym done.1) tt) in
+      inl assumption
+  completed_by i c (Sees view) (Some e) h =
+      let order : c ≤ e = (let lt : c < e = h.end.0 in omega arith) in
+      let goes_on : (u : ℕ) (seen : List ℕ) → c < u → u < e → Ends r i u None seen → ⊥ =
+      λ u seen lt less ends. h.end.4 u lt less ends.0 (subst (EndsWith Scan) (sym ends.1) tt) in
+      inl assumption
+  completed_by i c (Sets word value) None h =
+      let goes_on : (u : ℕ) → c < u → u < length r.items → IsDone r i u → ⊥ =
+      λ u lt less done. h.end u lt (omega arith) done.0 (subst (EndsWith (Update word value)) (sym done.1) tt) in
+      let last : length r.items ≤ length r.items = omega arith in
+      inl (
+        assumption,
+        λ done. elim (eq-or-lt_of_le h.order) [
+          | inl same ↦
+              (let out : outcome.Called ≡ outcome.Finished =
+              sym h.called ∙ ap (outcome_at r) same ∙ done.1 in let q : ⊥ = cc in q)
+          | inr lt ↦
+              h.end (length r.items) lt (omega arith) done.0 (subst (EndsWith (Update word value)) (sym done.1) tt)
+        ],
+      )
+  completed_by i c (Sees view) None h =
+      let goes_on : (u : ℕ) (seen : List ℕ) → c < u → u < length r.items → Ends r i u None seen → ⊥ =
+      λ u seen lt less ends. h.end u lt (omega arith) ends.0 (subst (EndsWith Scan) (sym ends.1) tt) in
+      let last : length r.items ≤ length r.items = omega arith in
+      inr (
+        assumption,
+        λ seen ends. elim (eq-or-lt_of_le h.order) [
+          | inl same ↦
+              (let out : outcome.Called ≡ outcome.Answered seen =
+              sym h.called ∙ ap (outcome_at r) same ∙ ends.1 in let q : ⊥ = cc in q)
+          | inr lt ↦ h.end (length r.items) lt (omega arith) ends.0 (subst (EndsWith Scan) (sym ends.1) tt)
+        ],
+      )
 
   pub completed : (o : Operation) → Placed (length r.items) o → IsCompleted r o
-  completed o h = completed_by o.process o.call o.action o.end h.one h.call_is h.called h.first h.order h.end
+  completed o h = completed_by o.process o.call o.action o.end h
 
   -- An operation of the run that has ended has taken place.
   placed_by : (i c e : ℕ) (b : Action) → TookPlace r i c (Some e) b →
       Placed (length r.items) (record { process = i; call = c; end = Some e; action = b })
   placed_by i c e (Sets word value) took =
-      record {
-        one = took.0.process;
-        call_is = took.0.call;
-        called = took.0.called;
-        first = took.0.first;
-        order = omega arith;
-        end = (
-          took.1,
-          took.0.last,
-          took.2.0,
-          took.2.1,
-          (λ u more less his ends. took.0.goes_on u more less (his, ends_done word value (outcome_at r u) ends)),
-        );
-      }
+      let order : c ≤ length r.items = omega arith in
+      let goes_on : GoesOn i c (Update word value) e =
+      λ u more less his ends. took.0.goes_on u more less (his, ends_done word value (outcome_at r u) ends) in
+      assumption
   placed_by i c e (Sees view) took =
-      record {
-        one = took.scan.process;
-        call_is = took.scan.starts.0;
-        called = took.scan.starts.1;
-        first = took.scan.first;
-        order = omega arith;
-        end = (
-          took.order,
-          took.scan.last,
-          took.ends.0,
-          took.ends.1,
-          (λ u more less his ends.
-              let x = ends_answer (outcome_at r u) ends in took.scan.goes_on u x.0 more less (his, x.1)),
-        );
-      }
+      let order : c ≤ length r.items = omega arith in
+      let goes_on : GoesOn i c Scan e = λ u more less his ends.
+      let x = ends_answer (outcome_at r u) ends in took.scan.goes_on u x.0 more less (his, x.1) in
+      assumption
 
   pub placed : (o : Operation) → IsOperation r o → HasEnded o → Placed (length r.items) o
   placed o took some =

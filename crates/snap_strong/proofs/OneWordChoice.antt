@@ -6,20 +6,19 @@ use Rattle.std.proofs.Math.Nat.{eq-or-lt_of_le}
 use Rattle.std.proofs.lemmas.Bool.{cases_eq}
 use Rattle.std.proofs.lemmas.List.{length-replicate, get_or-replicate}
 use Rattle.std.proofs.lemmas.List.Elements.{All-from_recursion, Contains-append_left, Contains-push}
-use Rattle.snap_runs.proofs.Common.{IsOneOf, Word, Activity, Item, Call, Op, Outcome, Process, State, process_at}
+use Rattle.snap_runs.proofs.Common.{IsOneOf, Word, Item, Call, Outcome, Process, State, process_at}
 use Rattle.snap_runs.proofs.Common.{values, who, Run, IsValidRun, state, item}
 use Rattle.snap_words.specs.Kind.{initial_word}
 use Rattle.snap_words.specs.declared.kind.KindTag.TheVariants.{Multi}
 use Rattle.snap_semantics.specs.declared.process.Outcome.TheVariants as outcome
-use Rattle.snap_semantics.specs.declared.process.Status.{Status}
-use Rattle.snap_semantics.specs.declared.process.Status.TheVariants.{Idle, Busy}
+use Rattle.snap_semantics.specs.declared.process.Status.TheVariants.{Idle}
 use Rattle.snap_semantics.specs.State.{nobody, initial_process}
 use Rattle.snap_semantics.specs.Table.{done}
 use Rattle.snap_runs.specs.Audit.{last_call}
 use Rattle.snap_runs.specs.Operation.{Action, Operation, HasEnded, EndedBefore}
 use Rattle.snap_runs.specs.Run.{outcome as outcome_at, run_of_items}
 use Rattle.snap_runs.proofs.Audits.{last_call_under}
-use Rattle.snap_runs.proofs.Calls.{EndsWith, IsEnd, Calls, UnderCall, UnderAt, item_one, one_call, under, status}
+use Rattle.snap_runs.proofs.Calls.{EndsWith, IsEnd, Calls, UnderCall, UnderAt, item_one, one_call, under}
 use Rattle.snap_runs.proofs.Computing.{other_number, same_number}
 use Rattle.snap_runs.proofs.Embedding.{next_state}
 use Rattle.snap_runs_of_u.specs.ListingU.{a, s}
@@ -212,11 +211,6 @@ module _ (n : ℕ) (items : List Item) (fits : IsValidRun (run_of_items one_word
           runs = b.runs;
         }
 
-    -- the call of the operation that takes place
-    called_so : (op : Op) (status : Status) (activity : Activity) → status ≡ Busy activity → activity.op ≡ op →
-        UnderAt r fits i t status → UnderCall r fits i op t
-    called_so op status activity busy is u = subst (λ y. UnderCall r fits i y t) is (subst (UnderAt r fits i t) busy u)
-
     -- the operation has taken place, and has not ended
     now_placed : (g : Action) → UnderCall r fits i (op_of g) t → outcome_at r (suc t) ≡ outcome.Stepped →
         Placed r (suc t) (its i (last_call r i t) g)
@@ -260,8 +254,7 @@ module _ (n : ℕ) (items : List Item) (fits : IsValidRun (run_of_items one_word
         let more : List Operation = os ++ o ∷ [] in
         let leaves = left q.word q.process q.leaves in
         let u : UnderCall r fits i (op_of q.action) t =
-        called_so (op_of q.action) (process_at S i).status q.activity q.busy q.op_is
-        (under r fits t i (omega arith) one) in
+        subst (UnderAt r fits i t) q.busy (under r fits t i (omega arith) one) in
         let now = now_placed q.action u q.stepped in
         let no_end : IsEnd does.1 → ⊥ = λ ends. subst IsEnd q.stepped ends in
         record {

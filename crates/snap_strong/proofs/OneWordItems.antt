@@ -127,9 +127,8 @@ pub record Begins (F : Type 0) (S : State) (i : ℕ) (y : Word) (status : Status
   pub stage : Stage ⊥ (λ b. b ≡ action) process
   pub word : Word
   pub leaves : Leaves S d.0 i word process
-  pub activity : Activity
-  pub busy : status ≡ Busy activity
-  pub op_is : activity.op ≡ op_of action
+  pub line : ℕ
+  pub busy : status ≡ at_line (op_of action) line
   pub stepped : d.1 ≡ outcome.Stepped
   pub booked_is : (c e : ℕ) (os : List Operation) →
       booked i c e (y.datum ∷ []) d.1 status os
@@ -163,6 +162,18 @@ module _ (n : ℕ) (F : Type 0) (T : Action → Type 0) (S : State) (i : ℕ) (y
     leaves = subst (Leaves S S i y) is (leaves_as_was S i y word one);
     booked_is = λ c e now os. refl;
     no_end = λ ends. ends;
+  })
+
+  -- an item that leaves its process so
+  goes_on : (p : Process) (old : Status) (out : Outcome) → Stage F T p → (IsEnd out → ⊥) →
+      ((c e : ℕ) (now : List ℕ) (os : List Operation) → booked i c e now out old os ≡ os) →
+      Case F T S i y old (record { memory = S.memory; processes = slice_set S.processes (i - 1) p }, out)
+  goes_on p old out stage no_end same = inl (record {
+    process = p;
+    stage = stage;
+    leaves = leaves_put S i y word one S.memory y p word;
+    booked_is = same;
+    no_end = no_end;
   })
 
   -- the step of a process that stands so
@@ -206,21 +217,16 @@ module _ (n : ℕ) (F : Type 0) (T : Action → Type 0) (S : State) (i : ℕ) (y
         stage = views seen xs v (ap (λ (u : Word). Sees (u.datum ∷ [])) seen_is);
         word = y;
         leaves = leaves_put S i y word one S.memory y (process (at_line Scan 11) seen xs v) word;
-        activity = record { op = Scan; line = 10; link = None };
+        line = 10;
         busy = refl;
-        op_is = refl;
         stepped = refl;
         booked_is = λ c e os. refl;
         allows = refl;
         after_is = refl;
       })))
-  steps p is (views x xs v took) = inl (record {
-    process = process (at_line Scan 12) x xs (x.datum ∷ []);
-    stage = returns x xs (x.datum ∷ []) took;
-    leaves = leaves_put S i y word one S.memory y (process (at_line Scan 12) x xs (x.datum ∷ [])) word;
-    booked_is = λ c e now os. refl;
-    no_end = λ ends. ends;
-  })
+  steps p is (views x xs v took) =
+      goes_on (process (at_line Scan 12) x xs (x.datum ∷ [])) (at_line Scan 11) outcome.Stepped
+      (returns x xs (x.datum ∷ []) took) (λ ends. ends) (λ c e now os. refl)
   steps p is (returns x xs v took) = inr (inr (record {
     action = Sees v;
     took = took;
@@ -240,9 +246,8 @@ module _ (n : ℕ) (F : Type 0) (T : Action → Type 0) (S : State) (i : ℕ) (y
         leaves_put S i y word one (with_memory_words (slice_set S.memory.words 0 (written value)) S.memory)
         (written value)
         (process (at_line (Update 1 value) 21) x xs v) (ap (λ ws. slice_set ws 0 (written value)) word);
-    activity = record { op = Update 1 value; line = 20; link = None };
+    line = 20;
     busy = refl;
-    op_is = refl;
     stepped = refl;
     booked_is = λ c e os. refl;
     allows = (omega arith, omega arith);
@@ -260,20 +265,15 @@ module _ (n : ℕ) (F : Type 0) (T : Action → Type 0) (S : State) (i : ℕ) (y
   steps p is (crashed was l) = skips p reason.Crashed is (crashed was l)
 
   -- a call that is admitted
-  starts : (p : Process) (status : Status) → Stage F T (record { status = status; locals = p.locals }) →
-      (old : Status) →
+  starts : (p : Process) (status old : Status) → Stage F T (record { status = status; locals = p.locals }) →
       Case F T S i y old (put S.memory (record { status = status; locals = p.locals }), outcome.Called)
-  starts p status stage old = inl (record {
-    process = record { status = status; locals = p.locals };
-    stage = stage;
-    leaves = leaves_put S i y word one S.memory y (record { status = status; locals = p.locals }) word;
-    booked_is = λ c e now os. refl;
-    no_end = λ ends. ends;
-  })
+  starts p status old stage =
+      goes_on (record { status = status; locals = p.locals }) old outcome.Called stage (λ ends. ends)
+      (λ c e now os. refl)
 
   is_called : (p : Process) (op : Op) → process_at S i ≡ p → Stage F T p →
       Case F T S i y p.status (call one_word (shared_by n) S i op p p.status)
-  is_called p Scan is (idle x xs v f) = starts p (at_line Scan 10) (reads x xs v f) Idle
+  is_called p Scan is (idle x xs v f) = starts p (at_line Scan 10) Idle (reads x xs v f)
   is_called p (Update w value) is (idle x xs v f) = by_word (nat_lt 0 w && nat_le w 1) refl
     where
       by_word : (b : Bool) → (nat_lt 0 w && nat_le w 1) ≡ b →
@@ -281,38 +281,23 @@ module _ (n : ℕ) (F : Type 0) (T : Action → Type 0) (S : State) (i : ℕ) (y
           (called one_word S i (process Idle x xs v) (Update w value) (if b then None else Some reason.NoSuchWord))
       by_word true there =
           let only : w ≡ 1 = grind arith in
-          starts (process Idle x xs v) (at_line (Update w value) 20)
+          starts (process Idle x xs v) (at_line (Update w value) 20) Idle
           (subst (λ z. Stage F T (process (at_line (Update z value) 20) x xs v)) (sym only) (writes value x xs v f))
-          Idle
       by_word false there = skips (process Idle x xs v) reason.NoSuchWord is (idle x xs v f)
-  is_called p op is (reads x xs v f) = skips p reason.Busy is (reads x xs v f)
-  is_called p op is (views x xs v t) = skips p reason.Busy is (views x xs v t)
-  is_called p op is (returns x xs v t) = skips p reason.Busy is (returns x xs v t)
-  is_called p op is (writes value x xs v f) = skips p reason.Busy is (writes value x xs v f)
-  is_called p op is (finishes value x xs v t) = skips p reason.Busy is (finishes value x xs v t)
   is_called p op is (crashed was l) = skips p reason.Crashed is (crashed was l)
+  is_called p op is stage = skips p reason.Busy is stage
 
   -- a crash
   stops : (p : Process) (was : Option Activity) (old : Status) →
       Case F T S i y old (put S.memory (record { status = Crashed was; locals = p.locals }), outcome.Crashed)
-  stops p was old = inl (record {
-    process = record { status = Crashed was; locals = p.locals };
-    stage = crashed was p.locals;
-    leaves = leaves_put S i y word one S.memory y (record { status = Crashed was; locals = p.locals }) word;
-    booked_is = λ c e now os. refl;
-    no_end = λ ends. ends;
-  })
+  stops p was old =
+      goes_on (record { status = Crashed was; locals = p.locals }) old outcome.Crashed (crashed was p.locals)
+      (λ ends. ends) (λ c e now os. refl)
 
   crashes : (p : Process) → process_at S i ≡ p → Stage F T p → Case F T S i y p.status (crash S i p p.status)
   crashes p is (idle x xs v f) = stops p None Idle
-  crashes p is (reads x xs v f) = stops p (Some (record { op = Scan; line = 10; link = None })) (at_line Scan 10)
-  crashes p is (views x xs v t) = stops p (Some (record { op = Scan; line = 11; link = None })) (at_line Scan 11)
-  crashes p is (returns x xs v t) = stops p (Some (record { op = Scan; line = 12; link = None })) (at_line Scan 12)
-  crashes p is (writes value x xs v f) =
-      stops p (Some (record { op = Update 1 value; line = 20; link = None })) (at_line (Update 1 value) 20)
-  crashes p is (finishes value x xs v t) =
-      stops p (Some (record { op = Update 1 value; line = 21; link = None })) (at_line (Update 1 value) 21)
   crashes p is (crashed was l) = skips p reason.Crashed is (crashed was l)
+  crashes p is stage = stops p (Some _) p.status
 
   pub item_does : (x : Item) → who x ≡ i → Stage F T (process_at S i) →
       Case F T S i y (process_at S i).status (done one_word (shared_by n) S x)

@@ -1,9 +1,9 @@
 -- The operations of the listing of one word stay in their order however a run goes on.
-use Rattle.std.proofs.Common.{◌≡◌, ℕ, zero, suc, ◌<◌, ◌≤◌, Bool, true, false, ◌&&◌, List, [], ◌∷◌, ◌++◌, map, length}
-use Rattle.std.proofs.Common.{nat_eq, if◌then◌else◌, refl, sym, ◌∙◌, ap, subst, arith, inl, inr, append_assoc}
+use Rattle.std.proofs.Common.{◌≡◌, ℕ, zero, suc, ◌<◌, ◌≤◌, Bool, true, false, List, [], ◌∷◌, ◌++◌, map, length}
+use Rattle.std.proofs.Common.{refl, sym, ◌∙◌, ap, subst, arith, inl, inr, append_assoc}
 use Rattle.std.proofs.Math.Nat.{eq-or-lt_of_le}
 use Rattle.std.proofs.lemmas.List.{append-nil, map-append, take-append-le, get_or_append_left, length-append}
-use Rattle.snap_runs.proofs.Common.{Counts, Item, Step, Op, Outcome, State, process_at, values, who, Run, state, item}
+use Rattle.snap_runs.proofs.Common.{Counts, Item, Step, Op, Outcome, process_at, values, who, Run, state, item}
 use Rattle.snap_semantics.specs.declared.process.Outcome.TheVariants as outcome
 use Rattle.snap_semantics.specs.declared.process.Status.{Status}
 use Rattle.snap_semantics.specs.declared.process.Status.TheVariants.{Busy}
@@ -11,7 +11,7 @@ use Rattle.snap_semantics.specs.Source.{Source}
 use Rattle.snap_semantics.specs.State.{initial}
 use Rattle.snap_semantics.specs.Run.{after}
 use Rattle.snap_semantics.specs.Table.{done}
-use Rattle.snap_runs.specs.Audit.{is_called, last_call}
+use Rattle.snap_runs.specs.Audit.{last_call}
 use Rattle.snap_runs.specs.Operation.{Operation}
 use Rattle.snap_runs.specs.Run.{outcome as outcome_at, run_of_items}
 use Rattle.snap_strong.specs.StrongLinearization.{without_end, BeginsWith}
@@ -81,28 +81,19 @@ module _ (source : Source) (shape : Counts) (xs ys : List Item) where
 
   same_call : (i t : ℕ) → t ≤ length xs → last_call long i t ≡ last_call short i t
   same_call i zero le = refl
-  same_call i (suc t) le =
-      ap (λ x. if nat_eq (who x) i && is_called (outcome_at long (suc t)) then suc t else last_call long i t)
-      (same_item t le)
-      ∙ ap (λ o. if nat_eq (who (item short (suc t))) i && is_called o then suc t else last_call long i t)
-      (same_outcome t le)
-      ∙ ap (λ c. if nat_eq (who (item short (suc t))) i && is_called (outcome_at short (suc t)) then suc t else c)
-      (same_call i t (omega arith))
+  same_call i (suc t) le = cc (same_item t le, same_outcome t le, same_call i t (omega arith))
 
   pub same_taken : (t : ℕ) → t ≤ length xs → taken long t ≡ taken short t
   same_taken zero le = refl
   same_taken (suc t) le =
       let i = who (item short (suc t)) in
-      ap (λ x. next (who x) (last_call long (who x) t) (state long t) (outcome_at long (suc t)) (taken long t))
-      (same_item t le)
-      ∙ ap (λ c. next i c (state long t) (outcome_at long (suc t)) (taken long t)) (same_call i t (omega arith))
-      ∙ ap (λ S. next i (last_call short i t) S (outcome_at long (suc t)) (taken long t)) (same_state t (omega arith))
-      ∙ ap (λ o. next i (last_call short i t) (state short t) o (taken long t)) (same_outcome t le)
-      ∙ ap (λ os. next i (last_call short i t) (state short t) (outcome_at short (suc t)) os)
-      (same_taken t (omega arith))
-    where
-      next : (i c : ℕ) → State → Outcome → List Operation → List Operation
-      next i c S out os = booked i c (suc t) (values S) out (process_at S i).status os
+      cc (
+        same_item t le,
+        same_call i t (omega arith),
+        same_state t (omega arith),
+        same_outcome t le,
+        same_taken t (omega arith),
+      )
 
   pub stays : BeginsWith (taken long (length (xs ++ ys))) (taken short (length xs))
   stays =
